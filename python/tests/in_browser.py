@@ -18,7 +18,7 @@ def browser() -> Any:
     from selenium import webdriver
     from selenium.webdriver.chrome.service import Service
 
-    options = webdriver.ChromeOptions()
+    options: Any = webdriver.ChromeOptions()
     for word in ("--headless=new", "--no-sandbox", "--disable-gpu", "--window-size=1000,700", "--disable-dev-shm-usage"):
         options.add_argument(word)
     options.binary_location = shutil.which("chromium") or ""

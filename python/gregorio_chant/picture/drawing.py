@@ -1,12 +1,12 @@
 """Draws a score: reads it, lays it out, and writes its SVG."""
 from __future__ import annotations
 
-from collections.abc import Iterator, Sequence
+from collections.abc import Iterable, Iterator, Sequence
 from dataclasses import dataclass
 from xml.etree import ElementTree as Xml
 
 from gregorio_chant import library
-from gregorio_chant.dump import Score
+from gregorio_chant.dump import Header, Syllable, read_in_turn
 from gregorio_chant.picture.codes import CODE_ROW, codes_of
 from gregorio_chant.picture.layout import Layout, staff_lines
 from gregorio_chant.picture.marks import Mark, Places, places_of
@@ -38,19 +38,30 @@ class Picture:
         return "".join(self.pieces)
 
 
-def _read(data: bytes) -> Score | None:
-    """Returns the score as far as it was read; nothing where its headers are not whole."""
-    dump = library.compile(data, Format.DUMP).output
-    return Score.read(dump) if dump else None
+class _Headers:
+    """The headers of a score."""
+
+    def __init__(self, headers: Sequence[Header]) -> None:
+        self._headers = headers
+
+    def all(self, name: str) -> list[str]:
+        """Returns the values of the headers `name`."""
+        return [it.value for it in self._headers if it.name == name]
+
+    def last(self, name: str) -> str:
+        """Returns the value of the last header `name`, or nothing."""
+        return next(iter(reversed(self.all(name))), "")
 
 
 def draw(data: bytes, messages: Sequence[Message] | None = None, *, width: float = USUAL_WIDTH, names: Names = Names()) -> Picture:
     """Returns a picture of a score, `width` units wide, with these messages: all of the compiler's where none are given."""
     told = tuple(library.check(data).messages if messages is None else messages)
-    score = _read(data)
-    drawing = _Drawing(score, places_of(data, told, 0 if score is None else len(score.syllables)), max(width, _LEAST_WIDTH), names)
-    body = list(drawing.body())
-    name = (score.header("name") if score else None) or ""
+    dump = library.compile(data, Format.DUMP).output
+    headers, syllables = read_in_turn(dump) if dump else ((), iter(()))
+    places = places_of(data, told, dump.count("\nsyllable "))
+    drawing = _Drawing(_Headers(headers), syllables, places, max(width, _LEAST_WIDTH), names)
+    body = list(drawing.body() if dump else drawing.nothing())
+    name = _Headers(headers).last("name")
     return Picture(name, told, [drawing.head(name), *body, "</svg>\n"], drawing.places)
 
 
@@ -62,14 +73,14 @@ def picture(score: str | bytes, *, width: float = USUAL_WIDTH) -> str:
 class _Drawing:
     """Draws line by line, and knows how high the picture is so far."""
 
-    def __init__(self, score: Score | None, places: Places, width: float, names: Names) -> None:
-        self._score = score
+    def __init__(self, headers: _Headers, syllables: Iterable[Syllable], places: Places, width: float, names: Names) -> None:
+        self._headers = headers
         self._names = names
         self._places = places
         self._width = width
         self._inner = width - 2 * MARGIN
-        staff = staff_lines(score.header("staff-lines")) if score else 4
-        self._layout = Layout(score.syllables if score else (), self._inner, staff)
+        staff = staff_lines(headers.last("staff-lines"))
+        self._layout = Layout(syllables, self._inner, staff)
         self._painter = Painter(names, places, staff)
         self._y = MARGIN
 
@@ -95,6 +106,7 @@ class _Drawing:
 
     def body(self) -> Iterator[str]:
         """Yields the title, each line, and the notes at the end."""
+        yield from self._codes(self._places.before)
         yield from self._title()
         for line in self._layout.lines():
             codes = codes_of(line, self._places)
@@ -103,10 +115,13 @@ class _Drawing:
             yield self._painter.line(line, codes, self._y)
             self._y += line.bottom + _BETWEEN_LINES
         yield from self._codes(self._places.after)
-        if self._score is None:
-            yield self._note(_NO_SCORE)
         if self._layout.not_drawn:
             yield self._note(self._layout.not_drawn)
+
+    def nothing(self) -> Iterator[str]:
+        """Yields the messages of a score of which nothing was read."""
+        yield from self._codes((*self._places.before, *self._places.after))
+        yield self._note(_NO_SCORE)
 
     def _text(self, text: str, x: float, size: float, **attributes: str) -> str:
         element = Xml.Element("text", {"x": number(x), "y": number(self._y), "font-size": number(size), **attributes})
@@ -119,16 +134,13 @@ class _Drawing:
 
     def _title(self) -> Iterator[str]:
         """Yields the name over the score, the annotations at its left and the commentary at its right."""
-        yield from self._codes(self._places.before)
-        if self._score is None:
-            return
-        name = " ".join((self._score.header("name") or "").split())
+        name = self._headers.last("name").strip()
         if name:
             self._y += _NAME_SIZE
             yield self._fitted(name, self._width / 2, _NAME_SIZE, self._inner, "middle")
             self._y += 4.0
-        annotations = [it.value for it in self._score.headers if it.name == "annotation" and it.value]
-        commentary = self._score.header("commentary") or ""
+        annotations = [it for it in self._headers.all("annotation") if it]
+        commentary = self._headers.last("commentary")
         if annotations or commentary:
             self._y += _HEAD_SIZE + 2.0
         if annotations:

@@ -2,7 +2,7 @@
 from __future__ import annotations
 
 import itertools
-from collections.abc import Iterable, Iterator, Sequence
+from collections.abc import Iterable, Iterator
 from dataclasses import dataclass
 
 from gregorio_chant.items import Attribute, Syllable
@@ -20,21 +20,24 @@ def staff_lines(value: str | None) -> int:
     return _STAFFS.get((value or "").strip(), USUAL_LINES)
 
 
-def _pitches_after(syllables: Sequence[Syllable]) -> list[str | None]:
-    """Returns the first pitch after each syllable."""
-    pitches: list[str | None] = []
-    following: str | None = None
-    for it in reversed(syllables):
-        pitches.append(following)
-        following = next((note.pitch for note in it.notes), following)
-    return pitches[::-1]
+def _with_pitches(syllables: Iterable[Syllable]) -> Iterator[tuple[Syllable, str | None]]:
+    """Yields each syllable with the first pitch after it."""
+    waiting: list[Syllable] = []
+    for syllable in syllables:
+        if waiting:
+            pitch = next((note.pitch for note in syllable.notes), None)
+            if pitch is not None:
+                yield from ((it, pitch) for it in waiting)
+                waiting = []
+        waiting.append(syllable)
+    yield from ((it, None) for it in waiting)
 
 
 @dataclass
 class Layout:
-    """Lays out syllables on lines of `width`. What is in no line is counted."""
+    """Lays out syllables on lines of `width`, of which each is read when its turn comes. What is in no line is counted."""
 
-    syllables: Sequence[Syllable]
+    syllables: Iterable[Syllable]
     width: float
     staff: int = USUAL_LINES
     attributes: int = 0
@@ -49,7 +52,7 @@ class Layout:
             yield maker.finish(line, end, None if after is None else _first_pitch(after[0]))
 
     def _parts(self) -> Iterator[Part]:
-        for syllable, pitch in zip(self.syllables, _pitches_after(self.syllables)):
+        for syllable, pitch in _with_pitches(self.syllables):
             parts, text = parts_of(syllable, self.staff, pitch, self._room)
             self.attributes += sum(isinstance(it, Attribute) for it in syllable.items)
             self.raw += text.raw
@@ -75,4 +78,4 @@ def _first_pitch(line: Line) -> str | None:
 
 def lay_out(syllables: Iterable[Syllable], width: float, staff: int = USUAL_LINES) -> list[Line]:
     """Returns all lines of a score."""
-    return list(Layout(list(syllables), width, staff).lines())
+    return list(Layout(syllables, width, staff).lines())

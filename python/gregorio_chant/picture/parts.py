@@ -2,7 +2,7 @@
 from __future__ import annotations
 
 from collections.abc import Iterator
-from dataclasses import dataclass, replace
+from dataclasses import dataclass
 
 from gregorio_chant.items import Syllable
 from gregorio_chant.picture.blocks import blocks_of
@@ -88,14 +88,14 @@ def _part_of(syllable: Syllable, number: int, row: _Row) -> Part:
     )
 
 
-def _with_text(part: Part, line: tuple[Words, ...], middle: float) -> Part:
-    """Returns the part with this text, of which `middle` stands at the anchor, if there is one."""
+def _add_text(part: Part, line: tuple[Words, ...], middle: float) -> None:
+    """Gives the part this text, of which `middle` stands at the anchor, if there is one."""
     if not line:
-        return part
+        return
     has_anchor = any(it.anchor is not None for _, it in part.blocks)
-    left = round(-middle if has_anchor else part.left, 2)
-    texts = tuple(it.moved(left) for it in line)
-    return replace(part, texts=texts, text_left=left, text_right=round(left + line[-1].x + line[-1].width, 2))
+    part.text_left = round(-middle if has_anchor else part.left, 2)
+    part.texts = tuple(it.moved(part.text_left) for it in line)
+    part.text_right = round(part.text_left + line[-1].x + line[-1].width, 2)
 
 
 def parts_of(syllable: Syllable, lines: int, following: str | None, room: float) -> tuple[list[Part], SyllableText]:
@@ -108,27 +108,23 @@ def parts_of(syllable: Syllable, lines: int, following: str | None, room: float)
     texts = _cut(words, room) if words and words[-1].x + words[-1].width > room else [words]
     if len(texts) > 1:
         middle = 0.0
-    parts[0] = _with_text(parts[0], texts[0], middle)
-    for line in texts[1:]:
-        parts.append(_with_text(_part_of(syllable, len(parts), _Row((), 0.0)), line, 0.0))
     first = parts[0]
-    left = first.text_left if first.has_text else first.left
+    _add_text(first, texts[0], middle)
+    for line in texts[1:]:
+        parts.append(_part_of(syllable, len(parts), _Row((), 0.0)))
+        _add_text(parts[-1], line, 0.0)
     if syllable.translation:
-        words_of_it = _shortened(syllable.translation, TRANSLATION_SIZE, room)
-        first = replace(first, translation=words_of_it.moved(left))
-    if text.above:
-        above = tuple(_shortened(it, ABOVE_SIZE, room).moved(first.left) for it in text.above)
-        first = replace(first, above=above)
-    parts[0] = first
-    return list(_with_ends(parts)) if len(parts) > 1 else parts, text
+        left = first.text_left if first.has_text else first.left
+        first.translation = _shortened(syllable.translation, TRANSLATION_SIZE, room).moved(left)
+    first.above = tuple(_shortened(it, ABOVE_SIZE, room).moved(first.left) for it in text.above)
+    _add_ends(parts)
+    return parts, text
 
 
-def _with_ends(parts: list[Part]) -> Iterator[Part]:
-    """Yields the parts, each with where it begins and ends in the canonical text."""
-    begins = [it.blocks[0][1].offset if it.number and it.blocks else None for it in parts]
-    for at, it in enumerate(parts):
-        begin = 0 if at == 0 else begins[at]
-        if begin is not None:
-            yield replace(it, begin=begin, end=next((after for after in begins[at + 1 :] if after is not None), None))
-        else:
-            yield replace(it, end=0)
+def _add_ends(parts: list[Part]) -> None:
+    """Says of each part where it begins and ends in the canonical text: one of text alone holds no place there."""
+    end: int | None = None
+    for part in reversed(parts):
+        part.begin = part.blocks[0][1].offset if part.number and part.blocks else 0
+        part.end = end if part.number == 0 or part.blocks else 0
+        end = part.begin if part.blocks else end

@@ -129,7 +129,7 @@ class Painter:
         for x, block in part.blocks:
             self._signs(group, block.signs, placed.x + x)
             for words in block.neumes:
-                self._words(group, words._replace(y=0.0), placed.x + x, self._row(line, int(words.y)))
+                self._words(group, words, placed.x + x, self._row(line, int(words.y)))
         for words in part.texts:
             self._words(group, words, placed.x, line.text)
         if part.translation is not None:

@@ -59,7 +59,7 @@ class Words(NamedTuple):
     title: str = ""
 
     def moved(self, x: float, y: float = 0.0) -> Words:
-        return self._replace(x=self.x + x, y=self.y + y)
+        return Words(self.text, self.x + x, self.y + y, self.width, self.size, self.styles, self.title)
 
 
 @dataclass(slots=True)
@@ -79,7 +79,7 @@ class Block:
     neumes: tuple[Words, ...] = ()
 
 
-@dataclass(frozen=True, slots=True)
+@dataclass(slots=True)
 class Part:
     """A syllable, or what stands of it on one line: blocks at their places from the anchor, and texts. `left` and `right` bound the notes, `text_left` and
     `text_right` the text, where there is one. It has what stands in the canonical text from `begin` up to `end`, or up to the syllable's end."""
