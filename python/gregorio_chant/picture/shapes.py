@@ -30,9 +30,9 @@ _SHARP = (
 
 def _porrectus(interval: int) -> Shape:
     """Returns the broad stroke that falls by `interval` steps: its origin is that of the first note."""
-    width, fall = 13.0 + 1.4 * interval, 5.0 * interval
+    width, fall = 14.6 + 1.2 * interval, 5.0 * interval
     path = (
-        f"M0,-3.1C{0.3 * width:.2f},{0.6 * fall - 3:.2f} {0.7 * width:.2f},{0.95 * fall - 2.8:.2f} {width:.2f},{fall - 2.3:.2f}"
+        f"M0,-3.1C{0.3 * width:.2f},{0.6 * fall - 3:.2f} {0.7 * width:.2f},{0.95 * fall - 2.4:.2f} {width:.2f},{fall - 1.9:.2f}"
         f"V{fall + 2.7:.2f}C{0.7 * width:.2f},{0.95 * fall + 2.4:.2f} {0.3 * width:.2f},{0.6 * fall + 2.4:.2f} 0,2.6z"
     )
     return Shape(path, width, 3.4, fall + 3.4)
