@@ -1,4 +1,5 @@
-"""The command `show`: pictures of scores with their messages, as one page, as a folder of pages, or one as SVG."""
+"""The command `show`: pictures of scores with their messages, as one page, as a folder of pages,
+or one as SVG."""
 from __future__ import annotations
 
 import os
@@ -26,7 +27,8 @@ _INDEX = "index.html"
 
 @dataclass(frozen=True)
 class Wanted:
-    """What the words of the command ask for. `output` is a file or a folder; nothing is standard output."""
+    """What the words of the command ask for. `output` is a file or a folder; nothing is standard
+    output."""
 
     paths: tuple[str, ...]
     output: str | None = None
@@ -110,7 +112,8 @@ def _refuse_own_input(wanted: Wanted, names: Iterable[str]) -> None:
 
 
 def show(wanted: Wanted) -> int:
-    """Writes what is wanted, and returns the worst status. Raises `CannotWrite`, `UnknownCode`, and `Missing` or `SettingsError` before any score is read."""
+    """Writes what is wanted, and returns the worst status. Raises `CannotWrite`, `UnknownCode`,
+    and `Missing` or `SettingsError` before any score is read."""
     scores = _Scores(wanted)
     names = scores.names()
     if wanted.svg:
@@ -152,7 +155,8 @@ def _show_page(wanted: Wanted, scores: _Scores, names: list[str]) -> None:
 
 
 def _page_names(names: list[str], paths: tuple[str, ...]) -> Iterator[str]:
-    """Yields the file of the page of each score: below the folder that is named as the score is below its own."""
+    """Yields the file of the page of each score: below the folder that is named as the score is
+    below its own."""
     folders = [os.path.join(it, "") for it in paths if it != STDIN and os.path.isdir(it)]
     taken = {_INDEX}
     for name in names:

@@ -1,4 +1,5 @@
-"""Tries the pages of `show` in headless Chromium, and the pictures by rsvg-convert: for `tools/try_show`, which brings both."""
+"""Tries the pages of `show` in headless Chromium, and the pictures by rsvg-convert: for
+`tools/try_show`, which brings both."""
 from __future__ import annotations
 
 import json
@@ -60,7 +61,8 @@ class InBrowser(InFolder):
         self.assertEqual([it for it in addresses if not it.startswith(here)], [])
 
     def test_links(self) -> None:
-        """A click on a message shows it in the picture, one on the code there shows it in the list, and one on its place opens the source at its line."""
+        """A click on a message shows it in the picture, one on the code there shows it in the
+        list, and one on its place opens the source at its line."""
         self.put("long.gabc", SCORE + "Ky(f)ri(g) " * 600)
         self.put("bad.gabc", FAULTY)
         self.open("long.gabc", "bad.gabc")
@@ -87,7 +89,8 @@ class InBrowser(InFolder):
         self.assert_quiet()
 
     def test_narrow_dark_and_printed(self) -> None:
-        """On a narrow screen nothing stands beside it; in the dark the paper is dark and the notes light; the printed page has no source."""
+        """On a narrow screen nothing stands beside it; in the dark the paper is dark and the
+        notes light; the printed page has no source."""
         self.open(str(EXAMPLES / "hymn-verses.gabc"), str(EXAMPLES / "every-finding.gabc"))
         self.browser.execute_cdp_cmd("Emulation.setDeviceMetricsOverride", {"width": 340, "height": 700, "deviceScaleFactor": 1, "mobile": True})
         self.assertLessEqual(self.look("document.documentElement.scrollWidth"), 340)
@@ -125,7 +128,8 @@ class InBrowser(InFolder):
 @unittest.skipUnless(shutil.which("rsvg-convert"), "there is no rsvg-convert")
 class ByConverter(InFolder):
     def test_pictures(self) -> None:
-        """rsvg-convert makes each picture to PNG with no warning, at 100 and at 300 dots per inch."""
+        """rsvg-convert makes each picture to PNG with no warning, at 100 and at 300 dots per
+        inch."""
         kinds = f"name: x;\n%%\n(c4) a({' '.join(KINDS.values()).replace('wg', 'fwg')})\n".encode()
         scores = [*(it.read_bytes() for it in sorted(EXAMPLES.glob("*.gabc"))), HOSTILE.encode(), kinds, *scores_of_tables()[::10]]
         for score in scores:

@@ -1,9 +1,12 @@
-"""Tries the pictures: layouts against kept values, which were looked at once as pictures; neumes against their notes; bad input, hostile text, sizes and times.
+"""Tries the pictures: layouts against kept values, which were looked at once as pictures; neumes
+against their notes; bad input, hostile text, sizes and times.
 
 `python test_picture.py --write` writes the kept values anew: look at the pictures first.
 """
 from __future__ import annotations
 
+import doctest
+import re
 import sys
 import time
 import unittest
@@ -11,10 +14,12 @@ from collections.abc import Callable, Iterable
 from pathlib import Path
 from xml.etree import ElementTree as Xml
 
+import gregorio_chant.picture
 from gregorio_chant import check
 from gregorio_chant.codes import CODES
 from gregorio_chant.dump import Glyph, Score, ScoreError, Syllable
 from gregorio_chant.picture import draw, lay_out, picture
+from gregorio_chant.picture import words
 from gregorio_chant.picture.layout import staff_lines
 from gregorio_chant.picture.neumes import neume_of
 from gregorio_chant.picture.shapes import SHAPES
@@ -37,7 +42,7 @@ KINDS = {
 }
 HOSTILE = (
     'name: <script>alert(1)</script> " \' ]]> \u202e &amp;;\nannotation: </text><script>;\ncommentary: ]]>&lt;;\n%%\n(c4) a$<script$>b$</script$>'
-    '[</svg><script>"]]> \u202e]](fg) x"\'&y\u2066(g) <alt></title><script></alt>k(g) <v></style><script></v>e(f) <sp></style></sp>(g[nv:</svg>]) '
+    '[</svg><script>"]]> \u202e]](fg) x"\'&y\u2066(g) <alt></title><script></alt>k(g) <v></style><script></v>e(f) <sp></style>\x1b\u202e</sp>(g[nv:</svg>]) '
     "<foo onclick=\"x\">z\x01\x1b\x7f\x85(g[<script>]) <b>c(g&)\n"
 )
 
@@ -85,7 +90,8 @@ class Layouts(unittest.TestCase):
         self.assertEqual({it.stem for it in LAYOUTS.glob("*.txt")}, set(NAMES))
 
     def test_nothing_overlaps(self) -> None:
-        """On each line the notes of a syllable stand right of those before it, texts too, and all within the line."""
+        """On each line the notes of a syllable stand right of those before it, texts too, and
+        all within the line."""
         for name in NAMES:
             for width in (700.0, 320.0):
                 for line in layout_of(name, width):
@@ -117,7 +123,8 @@ class Layouts(unittest.TestCase):
             self.assertEqual(len(numbers), len(Score.parse((EXAMPLES / f"{name}.gabc").read_bytes()).syllables))
 
     def test_custos(self) -> None:
-        """At a line's end stands the custos of the next line's first note, and the clef in force stands before it."""
+        """At a line's end stands the custos of the next line's first note, and the clef in force
+        stands before it."""
         lines = lay_out(score_with("fghgf g h i (z) (f3) g(z)").syllables, 700.0)
         lines = lay_out(Score.parse("name: x;\n%%\n(c4) a(f) b(g) (z) c(j) (z-) d(e) (f3) e(f) (Z+) g(g)\n").syllables, 700.0)
         ends = [[it for it in line.signs if not isinstance(it, Rect) and it.shape.startswith("custos")] for line in lines]
@@ -139,7 +146,8 @@ class Layouts(unittest.TestCase):
 
 class Neumes(unittest.TestCase):
     def test_kinds(self) -> None:
-        """Each kind of neume has a head for each of its notes, at its height; heads stand from left to right, or one over the other."""
+        """Each kind of neume has a head for each of its notes, at its height; heads stand from
+        left to right, or one over the other."""
         for kind, all_notes in KINDS.items():
             for notes in all_notes.split():
                 with self.subTest(kind=kind, notes=notes):
@@ -182,7 +190,8 @@ class Neumes(unittest.TestCase):
         self.assertEqual(used, set(SHAPES))
 
     def test_around(self) -> None:
-        """Two dots after a clivis stand at both of its notes, none on a line; the episema of two notes is one line; ledger lines stand outside the staff."""
+        """Two dots after a clivis stand at both of its notes, none on a line; the episema of two
+        notes is one line; ledger lines stand outside the staff."""
         dots = [it for it in _drawn("gf..") if it[0] == "mora"]
         self.assertEqual({y for _, y in dots}, {height_of(3), height_of(1)})
         self.assertEqual({y for shape, y in _drawn("fg..") if shape == "mora"}, {height_of(3), height_of(1)})
@@ -216,7 +225,8 @@ def _rects(notes: str) -> list[Rect]:
 
 class Pictures(unittest.TestCase):
     def test_syllables(self) -> None:
-        """Each syllable is a group with an id, its place in the score that the user has, and its source."""
+        """Each syllable is a group with an id, its place in the score that the user has, and its
+        source."""
         score = "name: x;\r\n%%\n(c4)   KY(f)ri % a comment\n  (g&fg)e(e.)"
         groups = [it for it in Xml.fromstring(picture(score)).iter(f"{SVG}g") if it.get("id")]
         self.assertEqual([(it.get("id"), it.get("data-line"), it.get("data-column")) for it in groups], [
@@ -225,7 +235,8 @@ class Pictures(unittest.TestCase):
         self.assertEqual([it.findtext(f"{SVG}title") for it in groups], ["(c4)", "KY(f)", "ri(gfg)", "e(e.)"])
 
     def test_each_finding(self) -> None:
-        """A score with each code has a picture in which that code stands as text, with its place and what it says."""
+        """A score with each code has a picture in which that code stands as text, with its place
+        and what it says."""
         for code in CODES.values():
             if not code.is_tried:
                 continue
@@ -237,17 +248,23 @@ class Pictures(unittest.TestCase):
                 self.assertIn(f"{message.line}:{message.column}: {message.kind.value}: {code.name}: {message.text}", titles)
 
     def test_mark_is_at_its_syllable(self) -> None:
-        """A message stands over its syllable, which has a field: a broken line goes around warnings alone."""
+        """A message stands over its syllable, which has a field: a broken line goes around
+        warnings alone."""
         root = Xml.fromstring(picture("name: x;\n%%\n(c4) a(f) b(g&) <foo>c(h)\n"))
         fields = {group.get("id"): it.get("class") for group in root.iter(f"{SVG}g") for it in group.findall(f"{SVG}rect")}
         self.assertEqual(fields, {"s3": "mark", "s4": "mark w"})
 
     def test_fatal(self) -> None:
-        """What stands before a fatal fault is there, with the messages of that, and the fault at the end."""
+        """What stands before a fatal fault is there, with the messages of that, and the fault at
+        the end."""
         root = Xml.fromstring(draw(b"name: x;\n%%\n(c4) a(f&) b(g) c\xff(h)").svg)
         self.assertEqual([it.get("id") for it in root.iter(f"{SVG}g") if it.get("id")], ["s1", "s2", "s3"])
         codes = [it.text or "" for it in root.iter(f"{SVG}text") if it.get("class") == "code"]
         self.assertEqual([it.split()[0] for it in codes], ["E1", "F1"])
+
+        long = draw(b"name: x;\n%%\n(c4) a(f&) b(g) c(" + b"f" * 20_000 + b")").svg
+        self.assertEqual([it.get("data-column") for it in Xml.fromstring(long).iter(f"{SVG}g") if it.get("id")], ["1", "6", "12"])
+        self.assertEqual(re.findall('class="code"[^>]*>([EWF][0-9]*)', long), ["E1", "F5"])
 
     def test_no_score(self) -> None:
         for score in ("", "%%", "%%\n", "name: x;", "%%\n(f", "%%\nKY", "%%\n(c4)", "%%\n()", "%%\n(|)"):
@@ -307,6 +324,12 @@ class Pictures(unittest.TestCase):
         self.assertAlmostEqual(middle("llall"), 16 * (0.264 * 2 + 0.457 / 2), 1)
         self.assertAlmostEqual(middle("qui"), 16 * (0.503 + 0.531 + 0.271 / 2), 1)
 
+    def test_examples(self) -> None:
+        for module in (gregorio_chant.picture, words, sys.modules["gregorio_chant.picture.shown"]):
+            tried = doctest.testmod(module)
+            self.assertGreater(tried.attempted, 0)
+            self.assertEqual(tried.failed, 0)
+
     def test_not_drawn(self) -> None:
         self.assertIn("Not drawn: 2 attributes and 1 part of raw TeX.", picture("name: x;\n%%\n(c4) a(f[ob:1;6mm]g[cs:t]) <v>x</v>b(g)\n"))
 
@@ -321,7 +344,8 @@ class Sizes(unittest.TestCase):
         self.assertLess(_least_time(lambda: picture(score.decode())) * 1024 / len(score), 0.06)
 
     def test_time_grows_with_the_score(self) -> None:
-        """Ten times the score takes no more than some twenty times as long, also one with messages alone, on one syllable or each on its own."""
+        """Ten times the score takes no more than some twenty times as long, also one with
+        messages alone, on one syllable or each on its own."""
         for body in ("Ky(fgf)ri(gfg/e) ", "a(f&)b ", "<x>a(g) "):
             times = [_least_time(lambda: picture(f"name: x;\n%%\n(c4) {body * count}\n"), 2) for count in (100, 1000)]
             self.assertLess(times[1], 20 * times[0] + 0.1, body)

@@ -1,4 +1,5 @@
-"""Tries `show`: one page, pages in a folder with an index, one picture; links, hostile text, what cannot be read or written."""
+"""Tries `show`: one page, pages in a folder with an index, one picture; links, hostile text,
+what cannot be read or written."""
 from __future__ import annotations
 
 import re
@@ -6,6 +7,7 @@ import time
 import unittest
 from html.parser import HTMLParser
 from pathlib import Path
+from subprocess import CompletedProcess
 from urllib.parse import unquote_to_bytes
 from xml.etree import ElementTree as Xml
 
@@ -21,7 +23,8 @@ _VOID = ("meta", "br")
 
 
 class Page(HTMLParser):
-    """Reads a page: its elements, ids, links, and text; what is not closed in its place is a fault."""
+    """Reads a page: its elements, ids, links, and text; what is not closed in its place is a
+    fault."""
 
     def __init__(self, text: str) -> None:
         super().__init__()
@@ -79,7 +82,8 @@ class OnePage(InFolder):
         self.assertEqual([it for it in page.ids if re.fullmatch("p1-l[0-9]+", it)], ["p1-l1", "p1-l2", "p1-l3"])
 
     def test_links(self) -> None:
-        """Each link leads to what is there, each id stands once, and each message leads into the picture and back."""
+        """Each link leads to what is there, each id stands once, and each message leads into the
+        picture and back."""
         self.put("a.gabc", FAULTY)
         self.put("b.gabc", WARNED)
         self.put("c.gabc", FATAL)
@@ -108,7 +112,10 @@ class OnePage(InFolder):
         name = "<script>alert(1)</script>\u202e\x1b\"'.gabc".replace("/", "_")
         self.put(name, HOSTILE)
         self.put(b"\xff<b>.gabc", SCORE)
-        ran = command("show", name, b"\xff<b>.gabc")
+        for words in ((), ("--rules",)):
+            self._look_at(command("show", *words, name, b"\xff<b>.gabc"))
+
+    def _look_at(self, ran: CompletedProcess[bytes]) -> None:
         page = Page(ran.stdout.decode())
         self.assertEqual(ran.returncode, 1)
         self.assertEqual({"script", "b", "foo", "img"} & set(page.tags), set())
@@ -161,7 +168,8 @@ class Output(InFolder):
         self.assertEqual(Path("a.gabc").read_text(), SCORE)
 
     def test_folder(self) -> None:
-        """A folder has a page for each score, also for those of one name, and an index that leads to them: those with errors first."""
+        """A folder has a page for each score, also for those of one name, and an index that
+        leads to them: those with errors first."""
         self.put("scores/good.gabc", SCORE)
         self.put("scores/in/bad one.gabc", FAULTY)
         self.put("scores/in/fatal#?.gabc", FATAL)
@@ -213,7 +221,8 @@ class Output(InFolder):
 
 class Times(unittest.TestCase):
     def test_one_kilobyte(self) -> None:
-        """A page of a score of some 1 kB takes no more than a tenth of a second of a processor, once all is loaded."""
+        """A page of a score of some 1 kB takes no more than a tenth of a second of a processor,
+        once all is loaded."""
         data = (EXAMPLES / "introit.gabc").read_bytes()
         data += data.partition(b"%%\n")[2] * 2
         least = 1.0

@@ -22,7 +22,9 @@ def add(commands: argparse._SubParsersAction[Parser]) -> Parser:
     """Adds the words of `show`."""
     it = commands.add_parser(NAME, help="write pictures of scores, with their messages, as a page", description=_ABOUT, epilog=f"{_EXAMPLES}\n\n{STATUSES}")
     add_paths(it, with_staged=None)
-    it.add_argument("-o", "--output", metavar="FILE", help="write the page into this file, or an index and a page a score into this folder, if it ends in / or is one")
+    it.add_argument(
+        "-o", "--output", metavar="FILE", help="write the page into this file, or an index and a page a score into this folder, if it ends in / or is one"
+    )
     it.add_argument("--svg", action="store_true", help="write the picture of one score alone, as SVG")
     it.add_argument("--width", type=positive, default=int(USUAL_WIDTH), metavar="N", help="how wide a picture is, in pixels (as ever %(default)s)")
     it.add_argument("--rules", action="store_true", help="show what the rules find too; they stand outside the proof of the compiler")

@@ -4,7 +4,8 @@
 >>> svg.startswith("<svg "), svg.count("<g id=")
 (True, 5)
 
-It is a view of what was read, and no typesetting. It stands outside the proof, and only its tests show what it draws.
+It is a view of what was read, and no typesetting. It stands outside the proof, and only its
+tests show what it draws.
 """
 from __future__ import annotations
 

@@ -1,4 +1,5 @@
-"""The notes of a syllable as blocks: neumes, clefs, alterations, bars and custodes, each with its signs and the distance after it."""
+"""The notes of a syllable as blocks: neumes, clefs, alterations, bars and custodes, each with
+its signs and the distance after it."""
 from __future__ import annotations
 
 from collections.abc import Iterable
@@ -47,7 +48,8 @@ _kept: dict[tuple[str, str, int], _Drawn] = {}
 
 
 def _drawn(glyph: Glyph, lines: int) -> _Drawn:
-    """Returns a neume with its signs. Those drawn last are kept, since a score has few neumes, and each often."""
+    """Returns a neume with its signs. Those drawn last are kept, since a score has few neumes,
+    and each often."""
     key = (glyph.kind, glyph.spelling, lines)
     drawn = _kept.get(key)
     if drawn is None:
@@ -62,7 +64,8 @@ def _drawn(glyph: Glyph, lines: int) -> _Drawn:
 
 
 class _Writer:
-    """Writes the blocks of one snippet of notes on a staff of `lines` lines; `following` is the pitch that comes after it."""
+    """Writes the blocks of one snippet of notes on a staff of `lines` lines; `following` is the
+    pitch that comes after it."""
 
     def __init__(self, snippet: NoteSnippet, lines: int, following: str | None) -> None:
         self._glyphs: dict[int, Glyph] = {it.notes[0].place.offset: it for element in snippet.elements for it in element.glyphs}
@@ -130,7 +133,8 @@ def _blocks_of_notes(snippet: NoteSnippet, lines: int, following: str | None) ->
 
 
 def _words_of_nabc(snippet: NabcSnippet) -> Words:
-    """Returns a snippet of NABC as its text, with the names of its descriptors as a title; its y is the number of its line."""
+    """Returns a snippet of NABC as its text, with the names of its descriptors as a title; its y
+    is the number of its line."""
     names = " ".join("!".join(it.names) for it in snippet.items if isinstance(it, Descriptor))
     text = shown(snippet.spelling)
     width = width_of(text, NABC_SIZE)

@@ -1,4 +1,5 @@
-"""Where the codes of messages stand above a line: each over what it is about, and none over another one."""
+"""Where the codes of messages stand above a line: each over what it is about, and none over
+another one."""
 from __future__ import annotations
 
 from typing import NamedTuple
@@ -41,7 +42,8 @@ def _x_of(placed: Placed, mark: Mark) -> float:
 
 
 def codes_of(line: Line, places: Places) -> list[Code]:
-    """Returns the codes over a line. Where there are more than rows, the last code says how many are not shown there."""
+    """Returns the codes over a line. Where there are more than rows, the last code says how many
+    are not shown there."""
     if not places.by_syllable:
         return []
     ends: list[float] = []

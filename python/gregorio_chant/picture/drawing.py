@@ -25,8 +25,8 @@ _NO_SCORE = "Nothing of this score was read."
 
 @dataclass(frozen=True)
 class Picture:
-    """A picture of a score, with what it is about. `pieces` are its SVG, in order; `places` has the id of the element where each message stands, by its
-    number from 1."""
+    """A picture of a score, with what it is about. `pieces` are its SVG, in order; `places` has
+    the id of the element where each message stands, by its number from 1."""
 
     name: str
     messages: tuple[Message, ...]
@@ -54,7 +54,8 @@ class _Headers:
 
 
 def draw(data: bytes, messages: Sequence[Message] | None = None, *, width: float = USUAL_WIDTH, names: Names = Names()) -> Picture:
-    """Returns a picture of a score, `width` units wide, with these messages: all of the compiler's where none are given."""
+    """Returns a picture of a score, `width` units wide, with these messages: all of the
+    compiler's where none are given."""
     told = tuple(library.check(data).messages if messages is None else messages)
     dump = library.compile(data, Format.DUMP).output
     headers, syllables = read_in_turn(dump) if dump else ((), iter(()))
@@ -93,7 +94,7 @@ class _Drawing:
         height = number(self._y + MARGIN)
         root = Xml.Element("svg", {
             "xmlns": "http://www.w3.org/2000/svg", "viewBox": f"0 0 {number(self._width)} {height}", "width": number(self._width), "height": height,
-            "class": "chant", "role": "img", "font-size": "16",
+            "class": "chant", "font-size": "16", **({} if self._names.links else {"role": "img"}),
         })
         Xml.SubElement(root, "title").text = shown(name) or "A score without a name"
         if not self._names.links:
@@ -133,7 +134,8 @@ class _Drawing:
         return self._text(text, MARGIN, _NOTE_SIZE)
 
     def _title(self) -> Iterator[str]:
-        """Yields the name over the score, the annotations at its left and the commentary at its right."""
+        """Yields the name over the score, the annotations at its left and the commentary at its
+        right."""
         name = self._headers.last("name").strip()
         if name:
             self._y += _NAME_SIZE
@@ -158,7 +160,8 @@ class _Drawing:
         return self._text(text if most == len(text) else text[:most] + "…", x, size, **{"text-anchor": anchor})
 
     def _codes(self, marks: Sequence[Mark]) -> Iterator[str]:
-        """Yields the codes of messages that belong to no syllable, with their places and texts, a line each."""
+        """Yields the codes of messages that belong to no syllable, with their places and texts,
+        a line each."""
         for mark in marks:
             self._y += CODE_ROW + 2.0
             group = Xml.Element("g")

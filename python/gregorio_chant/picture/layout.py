@@ -16,7 +16,8 @@ _STAFFS = {"2": 2, "3": 3, "4": 4, "5": 5}
 
 
 def staff_lines(value: str | None) -> int:
-    """Returns how many lines a staff has by the header `staff-lines`: 4, unless it is a number from 2 to 5."""
+    """Returns how many lines a staff has by the header `staff-lines`: 4, unless it is a number
+    from 2 to 5."""
     return _STAFFS.get((value or "").strip(), USUAL_LINES)
 
 
@@ -35,7 +36,8 @@ def _with_pitches(syllables: Iterable[Syllable]) -> Iterator[tuple[Syllable, str
 
 @dataclass
 class Layout:
-    """Lays out syllables on lines of `width`, of which each is read when its turn comes. What is in no line is counted."""
+    """Lays out syllables on lines of `width`, of which each is read when its turn comes. What is
+    in no line is counted."""
 
     syllables: Iterable[Syllable]
     width: float

@@ -1,4 +1,5 @@
-"""Parts on lines: where each stands, its hyphens, the clef at the line's begin and the custos at its end, and how high the line is."""
+"""Parts on lines: where each stands, its hyphens, the clef at the line's begin and the custos at
+its end, and how high the line is."""
 from __future__ import annotations
 
 from collections.abc import Iterable, Iterator
@@ -67,7 +68,8 @@ class _Setter:
 
 
 def _units(parts: Iterable[Part]) -> Iterator[list[Part]]:
-    """Yields the parts that no line end should part: a syllable and the bars after it, what is in `<eu>` and in `<nlba>`."""
+    """Yields the parts that no line end should part: a syllable and the bars after it, what is
+    in `<eu>` and in `<nlba>`."""
     unit: list[Part] = []
     for part in parts:
         stays = bool(unit) and not unit[-1].ends_line and part.number == 0 and (
@@ -84,7 +86,8 @@ def _units(parts: Iterable[Part]) -> Iterator[list[Part]]:
 
 
 def _gaps(placed: list[Placed]) -> list[int]:
-    """Returns before which parts a line may be spread: where words or bars begin, and where a hyphen stands."""
+    """Returns before which parts a line may be spread: where words or bars begin, and where a
+    hyphen stands."""
     gaps: list[int] = []
     text: float | None = None
     for at, it in enumerate(placed):
@@ -109,7 +112,8 @@ def _spread(placed: list[Placed], free: float, width: float) -> None:
 
 
 def _hyphens(placed: list[Placed]) -> Iterator[Words]:
-    """Yields a hyphen between the texts of one word, where these do not touch, and after a word that goes on in the next line."""
+    """Yields a hyphen between the texts of one word, where these do not touch, and after a word
+    that goes on in the next line."""
     end: float | None = None
     goes_on = False
     for it in placed:
@@ -151,7 +155,8 @@ class LineMaker:
         self._setter = self._begin(None)
 
     def _begin(self, part: Part | None) -> _Setter:
-        """Returns a setter after the clef in force; none stands where the part begins with its own."""
+        """Returns a setter after the clef in force; none stands where the part begins with its
+        own."""
         begins_with_clef = part is not None and bool(part.blocks) and part.blocks[0][1].clef is not None
         width = 0.0 if self._clef is None or begins_with_clef else staff.clef(self._clef.spelling).width + 8.0
         setter = _Setter(width, self._width - _CUSTOS_ROOM)
@@ -159,7 +164,8 @@ class LineMaker:
         return setter
 
     def lines_of(self, parts: Iterable[Part]) -> Iterator[tuple[Line, str]]:
-        """Yields lines, each with the end that was asked for it: `z`, `Z`, one of these with a sign, or nothing."""
+        """Yields lines, each with the end that was asked for it: `z`, `Z`, one of these with a
+        sign, or nothing."""
         for unit in _units(parts):
             if not self._setter.placed:
                 self._setter = self._begin(unit[0])
@@ -172,7 +178,8 @@ class LineMaker:
             yield self._end(), "last"
 
     def _broken(self, unit: list[Part]) -> Iterator[tuple[Line, str]]:
-        """Begins a line for what does not fit, and yields the lines that are full; what fits on no line is parted."""
+        """Begins a line for what does not fit, and yields the lines that are full; what fits on
+        no line is parted."""
         if self._setter.placed:
             yield self._end(), ""
             self._setter = self._begin(unit[0])
@@ -197,7 +204,8 @@ class LineMaker:
         return line
 
     def finish(self, line: Line, end: str, following: str | None) -> Line:
-        """Spreads the line, and adds its custos, for the pitch that follows, and what depends on places."""
+        """Spreads the line, and adds its custos, for the pitch that follows, and what depends on
+        places."""
         if end[:1] not in ("Z", "l"):
             _spread(line.parts, self._width - _CUSTOS_ROOM - _right_of(line), self._width)
         if following is not None and not end.endswith("-"):

@@ -1,4 +1,5 @@
-"""Where messages and syllables stand in the score that the user has, and which message belongs to which syllable."""
+"""Where messages and syllables stand in the score that the user has, and which message belongs
+to which syllable."""
 from __future__ import annotations
 
 import bisect
@@ -7,14 +8,15 @@ from dataclasses import dataclass, field
 
 from gregorio_chant import library
 from gregorio_chant.losses import Comparison
-from gregorio_chant.results import Kind, Message, Status
+from gregorio_chant.results import Kind, Message
 from gregorio_chant.scan import SyllableSpan
 from gregorio_chant.source import Place, text_of
 
 
 @dataclass(frozen=True, slots=True)
 class Mark:
-    """A message with its number, from 1, and where it stands in the canonical text, if it is in a syllable."""
+    """A message with its number, from 1, and where it stands in the canonical text, if it is in
+    a syllable."""
 
     number: int
     message: Message
@@ -23,7 +25,8 @@ class Mark:
 
 @dataclass
 class Places:
-    """The place of each syllable in the user's score, the marks of each, and those before the first one and after the last one."""
+    """The place of each syllable in the user's score, the marks of each, and those before the
+    first one and after the last one."""
 
     syllables: list[Place] = field(default_factory=list)
     by_syllable: dict[int, list[Mark]] = field(default_factory=dict)
@@ -31,22 +34,25 @@ class Places:
     after: list[Mark] = field(default_factory=list)
 
 
-def _readable(data: bytes, messages: Sequence[Message]) -> bytes:
+_MOST_CUTS = 4
+
+
+def _cut(data: bytes, fault: Message) -> bytes:
     """Returns what of a score stands before the fault that stops its reading."""
-    fatal = next((it for it in messages if it.kind is Kind.FATAL), None)
-    if fatal is None:
-        return data
-    lines = text_of(data).split("\n")[: fatal.line]
-    return "\n".join([*lines[:-1], lines[-1][: max(fatal.column - 1, 0)]]).encode()
+    lines = text_of(data).split("\n")[: fault.line]
+    return "\n".join([*lines[:-1], lines[-1][: max(fault.column - 1, 0)]]).encode()
 
 
-def _comparison_of(data: bytes, messages: Sequence[Message]) -> Comparison | None:
-    """Returns the score beside its canonical text: of one that a fault stops, what stands before that; nothing where that cannot be read either."""
-    readable = _readable(data, messages)
-    result = library.compile(readable)
-    if result.status is Status.FATAL:
-        return None
-    return Comparison(readable, result.output, result.messages)
+def _comparison_of(data: bytes) -> Comparison | None:
+    """Returns the score beside its canonical text: of one that a fault stops, what stands before
+    that, and before the syllable that the cut leaves open; nothing where that cannot be read."""
+    for _ in range(_MOST_CUTS):
+        result = library.compile(data)
+        fault = next((it for it in result.messages if it.kind is Kind.FATAL), None)
+        if fault is None:
+            return Comparison(data, result.output, result.messages)
+        data = _cut(data, fault)
+    return None
 
 
 class _Finder:
@@ -72,7 +78,8 @@ class _Finder:
         return number if 0 <= number and offset < self.spans[number].end else None
 
     def written(self, number: int, offset: int) -> int:
-        """Returns the offset in the canonical text of what stands at `offset` of the score, in this syllable; where it was changed, nearby."""
+        """Returns the offset in the canonical text of what stands at `offset` of the score, in
+        this syllable; where it was changed, nearby."""
         if number not in self._offsets:
             written = self._comparison.written
             there = written.without_comments(written.syllables[number]) if number < len(written.syllables) else []
@@ -85,7 +92,7 @@ class _Finder:
 def places_of(data: bytes, messages: Sequence[Message], count: int) -> Places:
     """Returns where the first `count` syllables and all messages of a score stand."""
     places = Places()
-    comparison = _comparison_of(data, messages)
+    comparison = _comparison_of(data)
     finder = None if comparison is None else _Finder(comparison, count)
     if comparison is None or finder is None:
         places.after = [Mark(at, it) for at, it in enumerate(messages, 1)]

@@ -8,8 +8,10 @@ from gregorio_chant.items import Glyph, Note
 from gregorio_chant.picture.shapes import HEAD, SHAPES, SMALL, STEM
 from gregorio_chant.picture.values import STEP, Rect, Sign, Use, height_of, step_of
 
-# How the notes of a kind follow each other: a letter for each note. n stands right of the note before and is joined to it, o over it; l has a stem at its
-# left, v at its right; s begins a broad stroke with such a stem, t one without, and e is where the stroke ends; i is an inclinatum, a stands by itself.
+# How the notes of a kind follow each other: a letter for each note. n stands right of the note
+# before and is joined to it, o over it; l has a stem at its
+# left, v at its right; s begins a broad stroke with such a stem, t one without, and e is where the
+# stroke ends; i is an inclinatum, a stands by itself.
 _PLANS = {
     "pes": "no", "clivis": "ln", "torculus": "nnn", "porrectus": "seo", "scandicus-flexus": "nnnn", "torculus-resupinus": "nteo", "porrectus-flexus": "senn",
     "torculus-resupinus-flexus": "ntenn",
@@ -25,7 +27,8 @@ _BETWEEN = 1.6
 
 
 class Head(NamedTuple):
-    """Where the head of a note stands. `covered` says whether the next note stands over it, `covers` whether it stands over the one before."""
+    """Where the head of a note stands. `covered` says whether the next note stands over it,
+    `covers` whether it stands over the one before."""
 
     note: Note
     x: float
@@ -61,7 +64,8 @@ def _plan_of(glyph: Glyph) -> str:
 
 
 def _fitting(plan: str, notes: tuple[Note, ...]) -> str:
-    """Returns the plan with no broad stroke where its notes have shapes of their own, and nothing over a quadratum."""
+    """Returns the plan with no broad stroke where its notes have shapes of their own, and
+    nothing over a quadratum."""
     letters = list(plan)
     for at, (letter, note) in enumerate(zip(plan, notes)):
         if letter in "st":
@@ -176,7 +180,8 @@ class _Pen:
 
 
 def _shape_of(note: Note) -> tuple[str, float]:
-    """Returns the shape of a note's head, and its width: a small one for a deminutus and an initio debilis."""
+    """Returns the shape of a note's head, and its width: a small one for a deminutus and an
+    initio debilis."""
     is_small = "~" in note.spelling or note.spelling.startswith("-")
     if note.shape == "inclinatum":
         if "r" in note.spelling:

@@ -1,4 +1,5 @@
-"""A page of HTML with pictures, their messages and sources, and an index of pages. A page needs no script, and asks for no address."""
+"""A page of HTML with pictures, their messages and sources, and an index of pages. A page needs
+no script, and asks for no address."""
 from __future__ import annotations
 
 from collections import Counter
@@ -21,11 +22,14 @@ section{border-top:1px solid #8888;margin-top:2rem}
 .messages{padding-left:2.5rem;overflow-wrap:anywhere}.help{display:block;opacity:.8}
 .kind{font-weight:bold}.error,.fatal{color:#a00}.warning{color:#750}
 a{color:#048}:target{outline:2px solid #06c;outline-offset:2px}
-pre{overflow-x:auto;font-size:.85rem;line-height:1.4}pre span{display:block;padding-left:4.5em;text-indent:-4.5em;white-space:pre-wrap;overflow-wrap:anywhere}
+pre{overflow-x:auto;font-size:.85rem;line-height:1.4}
+pre span{display:block;padding-left:4.5em;text-indent:-4.5em;white-space:pre-wrap;overflow-wrap:anywhere}
 pre span::before{content:attr(data-n);display:inline-block;width:3.5em;margin-right:1em;text-align:right;text-indent:0;opacity:.6}
 table{border-collapse:collapse;margin-bottom:1.5rem}td,th{text-align:left;padding:.2rem .8rem .2rem 0;vertical-align:top}td{overflow-wrap:anywhere}td.n,th.n{text-align:right}
+@media(max-width:36rem){.picture{overflow-x:auto}.chant{max-width:none;width:32rem}}
 @media(prefers-color-scheme:dark){body{color:#ddd;background:#161616}a{color:#8bf}.error,.fatal{color:#f88}.warning{color:#db6}
-.chant{color:#ddd}.chant .paper{fill:#161616}.chant .staff{stroke:#c65}.chant .red,.chant .code{fill:#f88}.chant .mark{fill:#f66;stroke:#f66}.chant .mark.w{fill:#db6;stroke:#db6}}
+.chant{color:#ddd}.chant .paper{fill:#161616}.chant .staff{stroke:#c65}.chant .red,.chant .code{fill:#f88}
+.chant .mark{fill:#f66;stroke:#f66}.chant .mark.w{fill:#db6;stroke:#db6}}
 @media print{details,.back{display:none}body{max-width:none;padding:0;color:#000;background:#fff}section{break-inside:avoid-page}
 .chant{color:#000}.chant .paper{fill:#fff}}
 """
@@ -76,7 +80,8 @@ FOOT = "</body>\n</html>\n"
 
 
 def _messages(score: Shown) -> Iterator[str]:
-    """Yields the list of messages: each leads into the picture and to its line, and the picture leads to it."""
+    """Yields the list of messages: each leads into the picture and to its line, and the picture
+    leads to it."""
     if not score.checked.messages:
         yield "<p>Nothing was found.</p>\n"
         return
@@ -105,7 +110,9 @@ def _source(score: Shown) -> Iterator[str]:
 def section(score: Shown) -> Iterator[str]:
     """Yields the part of a page that a score has."""
     yield f'<section>\n<h2><bdi>{text(score.name)}</bdi></h2>\n'
+    yield '<div class="picture">\n'
     yield from score.picture.pieces
+    yield "</div>\n"
     yield from _messages(score)
     yield from _source(score)
     yield "</section>\n"

@@ -1,4 +1,5 @@
-"""A syllable as parts, of which each stands on one line: its notes and its text, with the first note over the middle of the vowel."""
+"""A syllable as parts, of which each stands on one line: its notes and its text, with the first
+note over the middle of the vowel."""
 from __future__ import annotations
 
 from collections.abc import Iterator
@@ -24,7 +25,8 @@ class _Row:
 
 
 def _rows_of(blocks: list[Block], room: float) -> Iterator[_Row]:
-    """Yields the blocks in rows that are no wider than `room`, a new one after each end of a line."""
+    """Yields the blocks in rows that are no wider than `room`, a new one after each end of a
+    line."""
     row: list[tuple[float, Block]] = []
     x = 0.0
     for block in blocks:
@@ -53,7 +55,8 @@ def _shortened(text: str, size: float, room: float) -> Words:
 
 
 def _cut(words: tuple[Words, ...], room: float) -> list[tuple[Words, ...]]:
-    """Returns the words in lines that are no wider than `room`; the first one begins where they begin."""
+    """Returns the words in lines that are no wider than `room`; the first one begins where they
+    begin."""
     lines: list[tuple[Words, ...]] = []
     line: list[Words] = []
     x = 0.0
@@ -122,7 +125,8 @@ def parts_of(syllable: Syllable, lines: int, following: str | None, room: float)
 
 
 def _add_ends(parts: list[Part]) -> None:
-    """Says of each part where it begins and ends in the canonical text: one of text alone holds no place there."""
+    """Says of each part where it begins and ends in the canonical text: one of text alone holds
+    no place there."""
     end: int | None = None
     for part in reversed(parts):
         part.begin = part.blocks[0][1].offset if part.number and part.blocks else 0

@@ -1,4 +1,5 @@
-"""What stands around the heads of a neume: morae, ictus, episemata, signs over the staff, ledger lines."""
+"""What stands around the heads of a neume: morae, ictus, episemata, signs over the staff, ledger
+lines."""
 from __future__ import annotations
 
 import re
@@ -19,7 +20,8 @@ MORA_ROOM = 5.0
 
 
 def signs_around(neume: Neume, lines: int) -> tuple[list[Sign], float]:
-    """Returns the signs around a neume on a staff of `lines` lines, and the room that they take at its right."""
+    """Returns the signs around a neume on a staff of `lines` lines, and the room that they take
+    at its right."""
     signs: list[Sign] = [*_episemata(neume), *_ledgers(neume, lines)]
     for head in neume.heads:
         signs += _ictus(head)
@@ -31,7 +33,8 @@ def signs_around(neume: Neume, lines: int) -> tuple[list[Sign], float]:
 
 
 def _dot_steps(neume: Neume) -> list[tuple[Head, int]]:
-    """Returns the step of each mora with its head: two of the last note stand at the last two notes. None stands on a line, and no two at one step."""
+    """Returns the step of each mora with its head: two of the last note stand at the last two
+    notes. None stands on a line, and no two at one step."""
     wanted: list[tuple[Head, int]] = []
     for at, head in enumerate(neume.heads):
         dots = head.note.spelling.count(".")

@@ -1,4 +1,5 @@
-"""The table of shapes: each a path of its own around its origin, in the units of a layout. A head's origin is at its left, at the height of its note."""
+"""The table of shapes: each a path of its own around its origin, in the units of a layout. A
+head's origin is at its left, at the height of its note."""
 from __future__ import annotations
 
 from typing import NamedTuple
@@ -29,7 +30,8 @@ _SHARP = (
 
 
 def _porrectus(interval: int) -> Shape:
-    """Returns the broad stroke that falls by `interval` steps: its origin is that of the first note."""
+    """Returns the broad stroke that falls by `interval` steps: its origin is that of the first
+    note."""
     width, fall = 14.6 + 1.2 * interval, 5.0 * interval
     path = (
         f"M0,-3.1C{0.3 * width:.2f},{0.6 * fall - 3:.2f} {0.7 * width:.2f},{0.95 * fall - 2.4:.2f} {width:.2f},{fall - 1.9:.2f}"
@@ -52,7 +54,10 @@ SHAPES: dict[str, Shape] = {
     "tail-up": Shape("M-2.4,-2.4C-.8,-2.6 -.6,-4.2 -.7,-6.4H.1C.2,-3.6 0,-2 -1.4,-.6z", 0.2, 6.5, 0.0),
     "tail-down": Shape("M-2.4,2.4C-.8,2.6 -.6,4.2 -.7,6.4H.1C.2,3.6 0,2 -1.4,.6z", 0.2, 0.0, 6.5),
     "c-clef": Shape(_CLEF, 6.4, 8.5, 8.5),
-    "f-clef": Shape(f"{_VIRGA}M6.6,-5.4C7.2,-7.6 9,-8.6 12.4,-8.4V-2.6C10.8,-3.6 9,-3.4 7.7,-2.2V2.2C9,3.4 10.8,3.6 12.4,2.6V8.4C9,8.6 7.2,7.6 6.6,5.4z", 13.0, 8.5, 14.0),
+    "f-clef": Shape(
+        f"{_VIRGA}M6.6,-5.4C7.2,-7.6 9,-8.6 12.4,-8.4V-2.6C10.8,-3.6 9,-3.4 7.7,-2.2V2.2C9,3.4 10.8,3.6 12.4,2.6V8.4C9,8.6 7.2,7.6 6.6,5.4z",
+        13.0, 8.5, 14.0,
+    ),
     "flat": Shape(_FLAT, 5.0, 9.0, 4.0),
     "natural": Shape(_NATURAL, 4.6, 7.5, 7.5),
     "sharp": Shape(_SHARP, 5.8, 6.8, 6.8),

@@ -1,4 +1,5 @@
-"""Text of a score as a picture and a page can show it: no character of it can end its place or turn what stands around it."""
+"""Text of a score as a picture and a page can show it: no character of it can end its place or
+turn what stands around it."""
 from __future__ import annotations
 
 import re
@@ -17,7 +18,8 @@ def _shown(found: re.Match[str]) -> str:
 
 
 def shown(text: str) -> str:
-    """Returns `text` with its control characters as their pictures, and with the numbers of the marks that turn its direction.
+    """Returns `text` with its control characters as their pictures, and with the numbers of the
+    marks that turn its direction.
 
     >>> shown("a\\x1b\\u202eb")
     'a␛<U+202E>b'

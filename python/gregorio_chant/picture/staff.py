@@ -22,7 +22,8 @@ class Signs(NamedTuple):
 
 
 def clef(spelling: str) -> Signs:
-    """Returns a clef, or two that are joined: these stand beside each other where they are too near to stand one over the other."""
+    """Returns a clef, or two that are joined: these stand beside each other where they are too
+    near to stand one over the other."""
     signs: list[Sign] = []
     x = width = 0.0
     before: int | None = None

@@ -45,7 +45,8 @@ def _kept_blanks(text: str) -> str:
 
 @dataclass(frozen=True)
 class Names:
-    """The names of a picture's parts: `prefix` begins its ids, which no two pictures of a page share, and `links` says whether marks lead to messages."""
+    """The names of a picture's parts: `prefix` begins its ids, which no two pictures of a page
+    share, and `links` says whether marks lead to messages."""
 
     prefix: str = ""
     links: bool = False
@@ -76,7 +77,8 @@ class Painter:
         self.places: dict[int, str] = {}
 
     def line(self, line: Line, codes: Sequence[Code], y: float) -> str:
-        """Returns the group of a line, whose staff has its lowest line at `y`, with the codes above it."""
+        """Returns the group of a line, whose staff has its lowest line at `y`, with the codes
+        above it."""
         group = Xml.Element("g", {"transform": f"translate({number(MARGIN)},{number(y)})"})
         staff = "".join(f"M0,{number(-10.0 * it)}h{number(line.width)}" for it in range(self._staff))
         Xml.SubElement(group, "path", {"class": "staff", "d": staff})
@@ -169,5 +171,5 @@ class Painter:
             parent = Xml.SubElement(parent, "a", {"href": f"#{name}", "id": f"{name}-at"})
             self.places[mark.number] = f"{name}-at"
         element = Xml.SubElement(parent, "text", {"class": "code", "x": number(x), "y": number(y)})
-        element.text = text or message.code
+        element.text = shown(text or message.code)
         _add_title(element, f"{message.line}:{message.column}: {message.kind.value}: {message.code}: {message.text}")

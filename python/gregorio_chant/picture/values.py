@@ -1,4 +1,5 @@
-"""The plain values of a layout: what stands where, in units of which a step of the staff has five. y goes down, from the lowest line of the staff."""
+"""The plain values of a layout: what stands where, in units of which a step of the staff has
+five. y goes down, from the lowest line of the staff."""
 from __future__ import annotations
 
 from dataclasses import dataclass, field
@@ -48,7 +49,8 @@ Sign = Union[Use, Rect]
 
 
 class Words(NamedTuple):
-    """Letters in one style, from x on; y is that of the line that they stand on, and `styles` are names of tags, as `i`."""
+    """Letters in one style, from x on; y is that of the line that they stand on, and `styles`
+    are names of tags, as `i`."""
 
     text: str
     x: float
@@ -64,8 +66,8 @@ class Words(NamedTuple):
 
 @dataclass(slots=True)
 class Block:
-    """Signs that no line end parts. `offset` says where it begins in the canonical text. `anchor` is the middle of its first head, or of a bar; `first` is its
-    first pitch."""
+    """Signs that no line end parts. `offset` says where it begins in the canonical text.
+    `anchor` is the middle of its first head, or of a bar; `first` is its first pitch."""
 
     offset: int
     signs: tuple[Sign, ...]
@@ -81,8 +83,10 @@ class Block:
 
 @dataclass(slots=True)
 class Part:
-    """A syllable, or what stands of it on one line: blocks at their places from the anchor, and texts. `left` and `right` bound the notes, `text_left` and
-    `text_right` the text, where there is one. It has what stands in the canonical text from `begin` up to `end`, or up to the syllable's end."""
+    """A syllable, or what stands of it on one line: blocks at their places from the anchor, and
+    texts. `left` and `right` bound the notes, `text_left` and `text_right` the text, where there
+    is one. It has what stands in the canonical text from `begin` up to `end`, or up to the
+    syllable's end."""
 
     syllable: Syllable
     number: int
@@ -116,8 +120,9 @@ class Placed:
 
 @dataclass(slots=True)
 class Line:
-    """A line of the picture: its staff goes from 0 to `width`. `top` and `bottom` bound all signs, `text` is where the text stands. Above the signs stand
-    `rows` of NABC, and over these texts, if it `has_above`."""
+    """A line of the picture: its staff goes from 0 to `width`. `top` and `bottom` bound all
+    signs, `text` is where the text stands. Above the signs stand `rows` of NABC, and over these
+    texts, if it `has_above`."""
 
     parts: list[Placed]
     signs: list[Sign] = field(default_factory=list)

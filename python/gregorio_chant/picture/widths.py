@@ -1,7 +1,9 @@
-"""How wide text is: a table of numbers of one face, so that a picture needs no font to be laid out.
+"""How wide text is: a table of numbers of one face, so that a picture needs no font to be laid
+out.
 
-The numbers are the advance widths of Linux Libertine O Regular 5.3.0 (Debian: fonts-linuxlibertine), in thousandths of the size of the type. The face is free,
-under the SIL Open Font License 1.1 and the GPL with the font exception. No outline of it stands here.
+The numbers are the advance widths of Linux Libertine O Regular 5.3.0 (Debian:
+fonts-linuxlibertine), in thousandths of the size of the type. The face is free, under the SIL
+Open Font License 1.1 and the GPL with the font exception. No outline of it stands here.
 """
 from __future__ import annotations
 
@@ -23,12 +25,14 @@ _BY_WIDTH = {
 _WIDTHS = {char: width for width, chars in _BY_WIDTH.items() for char in chars}
 _USUAL = 500
 _WIDE = 1000
-# How much wider than the regular face the bold one is, at most, how high small capitals are, and how wide each letter of a typewriter is.
+# How much wider than the regular face the bold one is, at most, how high small capitals are, and
+# how wide each letter of a typewriter is.
 _BOLD, _SMALL_CAPITALS, _TYPEWRITER = 1.06, 0.8, 602
 
 
 def _width_of_other(char: str) -> int:
-    """Returns a guess for what the table lacks: nothing for marks that stand on the letter before."""
+    """Returns a guess for what the table lacks: nothing for marks that stand on the letter
+    before."""
     if unicodedata.category(char) in ("Mn", "Me", "Cf"):
         return 0
     return _WIDE if unicodedata.east_asian_width(char) in ("W", "F") else _USUAL
@@ -40,7 +44,8 @@ def width_of(text: str, size: float) -> float:
 
 
 def styled_width(text: str, size: float, styles: frozenset[str]) -> float:
-    """Returns the width of `text` in type of `size` with these styles, by the names of their tags."""
+    """Returns the width of `text` in type of `size` with these styles, by the names of their
+    tags."""
     if "tt" in styles:
         width = len(text) * size * _TYPEWRITER / 1000
     elif "sc" in styles:

@@ -31,7 +31,8 @@ class Run:
 
 @dataclass(frozen=True, slots=True)
 class SyllableText:
-    """A text as runs. `centre` has the letters of its centre, if braces say where it is; `above` are the texts over the staff; `raw` counts what is raw TeX."""
+    """A text as runs. `centre` has the letters of its centre, if braces say where it is; `above`
+    are the texts over the staff; `raw` counts what is raw TeX."""
 
     runs: tuple[Run, ...]
     centre: tuple[int, int] | None
@@ -54,7 +55,8 @@ class _Reader:
         self.raw = 0
 
     def add(self, text: str) -> None:
-        """Adds letters in the styles that are open; ℣ and ℟ are barred letters, which few faces have."""
+        """Adds letters in the styles that are open; ℣ and ℟ are barred letters, which few faces
+        have."""
         for at, piece in enumerate(_BARRED.split(text.replace("\n", " "))):
             self._add(_LETTERS.get(piece, shown(piece)), self.styles | {"barred"} if at % 2 else self.styles)
 
@@ -97,7 +99,8 @@ def read_text(text: str) -> SyllableText:
 
 
 def first_vowel(text: str) -> tuple[int, int]:
-    """Returns where the first vowel begins and ends: not the u of qu, and not an i before a vowel at the beginning. Without one it is the whole text.
+    """Returns where the first vowel begins and ends: not the u of qu, and not an i before a
+    vowel at the beginning. Without one it is the whole text.
 
     >>> first_vowel("quam"), first_vowel("Iam"), first_vowel("§")
     ((2, 3), (1, 2), (0, 1))
@@ -115,7 +118,8 @@ def first_vowel(text: str) -> tuple[int, int]:
 
 @lru_cache(maxsize=4096)
 def set_text(text: SyllableText, size: float = SIZE) -> tuple[tuple[Words, ...], float]:
-    """Returns the runs side by side from x 0 on, and where the middle of the centre or of the vowel is."""
+    """Returns the runs side by side from x 0 on, and where the middle of the centre or of the
+    vowel is."""
     plain = text.plain
     begin, end = text.centre or first_vowel(plain)
     words: list[Words] = []
