@@ -42,6 +42,11 @@ class Wanted:
     def into_folder(self) -> bool:
         return self.output is not None and (self.output.endswith("/") or os.path.isdir(self.output))
 
+    @property
+    def files(self) -> list[Path]:
+        """The file that is wanted, if it is one."""
+        return [] if self.output is None else [Path(self.output)]
+
 
 class _Scores:
     """Reads the scores, and counts what is found."""
@@ -102,13 +107,21 @@ def _write(wanted: Wanted, pieces: Iterable[str]) -> None:
             write(it)
 
 
-def _refuse_own_input(wanted: Wanted, names: Iterable[str]) -> None:
-    """Raises `UnknownCode` where the page would take the place of a score that it shows."""
-    if wanted.output is None or not os.path.exists(wanted.output):
-        return
-    for name in names:
-        if name != STDIN and os.path.exists(name) and os.path.samefile(name, wanted.output):
-            raise UnknownCode(f"{printable(wanted.output)} is a score that is shown: name another file")
+def _refuse_own_input(outputs: Iterable[Path], names: Iterable[str]) -> None:
+    """Raises `UnknownCode` where a page would take the place of a score that is shown."""
+    shown = {_identity(name) for name in names if name != STDIN} - {None}
+    for output in outputs:
+        if _identity(output) in shown:
+            raise UnknownCode(f"{printable(str(output))} is a score that is shown: name another file")
+
+
+def _identity(path: str | Path) -> tuple[int, int] | None:
+    """Returns what tells a file from all others, by whichever name; nothing where there is none."""
+    try:
+        state = os.stat(path)
+    except OSError:
+        return None
+    return state.st_dev, state.st_ino
 
 
 def show(wanted: Wanted) -> int:
@@ -121,7 +134,6 @@ def show(wanted: Wanted) -> int:
     elif wanted.into_folder:
         _show_folder(wanted, scores, names)
     else:
-        _refuse_own_input(wanted, names)
         _show_page(wanted, scores, names)
     return scores.status
 
@@ -130,13 +142,14 @@ def _show_one(wanted: Wanted, scores: _Scores, names: list[str]) -> None:
     """Writes one picture. Raises `UnknownCode` where there is not one score."""
     if len(names) != 1 or wanted.into_folder:
         raise UnknownCode(f"--svg writes one picture, and here are {counted(len(names), 'score')}" if len(names) != 1 else "--svg writes a file, and no folder")
-    _refuse_own_input(wanted, names)
+    _refuse_own_input(wanted.files, names)
     for checked, data in scores.all(names):
         _write(wanted, draw(data, checked.messages, width=wanted.width).pieces)
 
 
 def _show_page(wanted: Wanted, scores: _Scores, names: list[str]) -> None:
     """Writes one page: each score that is named, and of folders those with messages."""
+    _refuse_own_input(wanted.files, names)
     named = {it for it in wanted.paths if it == STDIN or not os.path.isdir(it)}
     shown: list[Shown] = []
     left_out = from_folders = 0
@@ -174,6 +187,7 @@ def _show_folder(wanted: Wanted, scores: _Scores, names: list[str]) -> None:
     """Writes a page for each score, and an index."""
     folder = Path(wanted.output or ".")
     pages = dict(zip(names, _page_names(names, wanted.paths)))
+    _refuse_own_input([folder / it for it in (*pages.values(), _INDEX)], names)
     entries: list[Entry] = []
     for checked, data in scores.all(names):
         shown = scores.shown(checked, data, "")

@@ -165,7 +165,12 @@ class Output(InFolder):
         Path("b.html").symlink_to("a.gabc")
         for words in (("-o", "a.gabc", "a.gabc"), ("-o", "b.html", "a.gabc"), ("--svg", "-o", "b.html", "a.gabc"), ("-o", "a.gabc", ".")):
             self.assertEqual(command("show", *words).returncode, 3, words)
-        self.assertEqual(Path("a.gabc").read_text(), SCORE)
+        self.put("index.html", SCORE)
+        self.put("a.gabc.html", SCORE)
+        for words in (("-o", "./", "index.html"), ("-o", "./", "a.gabc", "a.gabc.html")):
+            self.assertEqual(command("show", *words).returncode, 3, words)
+        for name in ("a.gabc", "index.html", "a.gabc.html"):
+            self.assertEqual(Path(name).read_text(), SCORE)
 
     def test_folder(self) -> None:
         """A folder has a page for each score, also for those of one name, and an index that
