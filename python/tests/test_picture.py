@@ -254,6 +254,14 @@ class Pictures(unittest.TestCase):
         fields = {group.get("id"): it.get("class") for group in root.iter(f"{SVG}g") for it in group.findall(f"{SVG}rect")}
         self.assertEqual(fields, {"s3": "mark", "s4": "mark w"})
 
+    def test_codes_stand_over_their_notes(self) -> None:
+        """Characters that were left out before do not move the place of a message."""
+        root = Xml.fromstring(picture("name: x;\n%%\n(c4) a(&&&&&f g h i) b(f g&&&& h&)\n"))
+        codes = [float(it.get("x") or 0) for it in root.iter(f"{SVG}text") if it.get("class") == "code"]
+        notes = [float(it.get("x") or 0) for it in root.iter(f"{SVG}use") if it.get("href") == "#punctum"]
+        self.assertEqual(len(notes), 7)
+        self.assertEqual(codes, [notes[0]] * 5 + [notes[6]] * 5)
+
     def test_fatal(self) -> None:
         """What stands before a fatal fault is there, with the messages of that, and the fault at
         the end."""

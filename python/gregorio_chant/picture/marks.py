@@ -35,6 +35,8 @@ class Places:
 
 
 _MOST_CUTS = 4
+# The codes of characters that were left out, which have no place in the canonical text.
+_LEFT_OUT = frozenset(("E1", "E2", "E3"))
 
 
 def _cut(data: bytes, fault: Message) -> bytes:
@@ -63,6 +65,9 @@ class _Finder:
         self.spans: list[SyllableSpan] = comparison.source.syllables[:count]
         self._begins = [it.begin for it in self.spans]
         self._offsets: dict[int, tuple[list[int], list[int]]] = {}
+        lines = comparison.lines
+        left_out = (it for it in comparison.messages if it.code in _LEFT_OUT)
+        self._left_out = sorted(lines.offset(it.line, it.column) for it in left_out)
 
     def place(self, number: int) -> Place:
         """Returns where a syllable stands in the score, without blanks and comments before it."""
@@ -85,7 +90,8 @@ class _Finder:
             there = written.without_comments(written.syllables[number]) if number < len(written.syllables) else []
             self._offsets[number] = self._offsets_of(number), there
         here, there = self._offsets[number]
-        passed = bisect.bisect_left(here, offset)
+        left_out = bisect.bisect_left(self._left_out, offset) - bisect.bisect_left(self._left_out, self._begins[number])
+        passed = max(bisect.bisect_left(here, offset) - left_out, 0)
         return there[min(passed, len(there) - 1)] if there else 0
 
 
