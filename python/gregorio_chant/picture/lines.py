@@ -20,6 +20,8 @@ _HYPHEN_ROOM = _HYPHEN + 2.0
 _NO_GAP = 0.8
 # What the custos at a line's end takes, and the most of a line that is spread between words.
 _CUSTOS_ROOM, _MOST_SPREAD = 9.0, 0.3
+# How the last line ends.
+LAST = "last"
 
 
 class _Setter:
@@ -165,7 +167,7 @@ class LineMaker:
 
     def lines_of(self, parts: Iterable[Part]) -> Iterator[tuple[Line, str]]:
         """Yields lines, each with the end that was asked for it: `z`, `Z`, one of these with a
-        sign, or nothing."""
+        sign, nothing, or `LAST`."""
         for unit in _units(parts):
             if not self._setter.placed:
                 self._setter = self._begin(unit[0])
@@ -175,7 +177,7 @@ class LineMaker:
             if last is not None and last.ends_line:
                 yield self._end(), last.ends_line
         if self._setter.placed:
-            yield self._end(), "last"
+            yield self._end(), LAST
 
     def _broken(self, unit: list[Part]) -> Iterator[tuple[Line, str]]:
         """Begins a line for what does not fit, and yields the lines that are full; what fits on
@@ -206,7 +208,7 @@ class LineMaker:
     def finish(self, line: Line, end: str, following: str | None) -> Line:
         """Spreads the line, and adds its custos, for the pitch that follows, and what depends on
         places."""
-        if end[:1] not in ("Z", "l"):
+        if not end.startswith("Z") and end != LAST:
             _spread(line.parts, self._width - _CUSTOS_ROOM - _right_of(line), self._width)
         if following is not None and not end.endswith("-"):
             signs, width = staff.custos(following, self._lines)
