@@ -13,7 +13,7 @@ it rightly.
 from __future__ import annotations
 
 import re
-from collections.abc import Callable
+from collections.abc import Callable, Iterator
 from dataclasses import dataclass
 
 from gregorio_chant.items import (
@@ -30,6 +30,8 @@ __all__ = [
 ]
 
 _VERSION = "2"
+# How many characters of a dump are cut into lines at a time, at least: all lines of a large one would take many times its room.
+_AT_ONCE = 1 << 16
 _PITCHES = frozenset("abcdefghijklmnp")
 _DEGREES = frozenset(("ut", "re", "mi", "fa", "sol", "la", "si", "-"))
 _ALTERS = frozenset(("none", "flat", "natural", "sharp"))
@@ -87,6 +89,12 @@ class Score:
         return read
 
 
+def read_in_turn(dump: str) -> tuple[tuple[Header, ...], Iterator[Syllable]]:
+    """Reads the headers of a dump, and returns them with its syllables, of which each is read when its turn comes. Raises `DumpError` as `Score.read` does."""
+    reader = _Reader(dump)
+    return reader.headers(), reader.syllables()
+
+
 def unescaped(text: str) -> str:
     """Returns what `text` of a dump stands for."""
     return _ESCAPE.sub(lambda found: "\n" if found[1] == "n" else found[1], text)
@@ -119,13 +127,25 @@ class _Reader:
     """Reads the lines of a dump in order, and writes the canonical text beside it."""
 
     def __init__(self, dump: str) -> None:
-        self._lines = dump.split("\n")
-        self._first_words: list[str] = _FIRST_WORD.findall(dump)
-        self._at = 0
+        self._dump = dump
+        # The lines that are cut, the one that comes, how many stand before them, and where in the dump those after them begin.
+        self._lines: list[str] = []
+        self._first_words: list[str] = []
+        self._at, self._before, self._after = 0, 0, 0
+        self._cut_lines()
+        self.is_whole = False
         self.pen = _Pen()
 
+    def _cut_lines(self) -> None:
+        """Cuts the next lines, up to one that begins a syllable."""
+        self._before += self._at
+        end = self._dump.find("\nsyllable ", self._after + _AT_ONCE) + 1 or len(self._dump)
+        text = self._dump[self._after : end]
+        self._lines, self._first_words = text.split("\n"), _FIRST_WORD.findall(text)
+        self._at, self._after = 0, end
+
     def fail(self, what: str) -> DumpError:
-        return DumpError(f"line {self._at + 1} of the dump: {what}")
+        return DumpError(f"line {self._before + self._at + 1} of the dump: {what}")
 
     def word(self) -> str:
         """Returns the first word of the line that comes; nothing behind the last line."""
@@ -151,25 +171,44 @@ class _Reader:
         self._at += 1
         return unescaped(text)
 
-    def score(self) -> Score:
-        if self.word() != "dump" or self._lines[-1] != "":
+    def headers(self) -> tuple[Header, ...]:
+        """Takes the first line, and the headers."""
+        if self.word() != "dump" or not self._dump.endswith("\n"):
             raise self.fail(f"this is no dump: the first line is not 'dump {_VERSION}', or the last line is not whole")
         if self.words(2)[1] != _VERSION:
             raise DumpError(f"this reader reads dump {_VERSION}, and the text begins with '{self._lines[0]}'")
         headers: list[Header] = []
-        syllables: list[Syllable] = []
         while self.word() == "header":
             headers.append(self._header())
         self.pen.write("%%")
-        while self.word() == "syllable":
-            syllables.append(self._syllable(len(syllables) + 1))
-        self.pen.write("\n")
-        is_whole = self.word() == "end"
-        if is_whole and self.words(2)[1] != str(len(syllables)):
+        return tuple(headers)
+
+    def syllables(self) -> Iterator[Syllable]:
+        """Takes the syllables one by one, then the last line, and lets go what was written before each of them."""
+        number = 0
+        while True:
+            if self._at == len(self._lines) - 1 and self._after < len(self._dump):
+                self._cut_lines()
+            if self.word() != "syllable":
+                break
+            number += 1
+            yield self._syllable(number)
+            self.pen.written.clear()
+        self.is_whole = self.word() == "end"
+        if self.is_whole and self.words(2)[1] != str(number):
             raise self.fail("another number of syllables was awaited")
         if self.word():
             raise self.fail(f"'{self.word()}' was not awaited")
-        return Score("".join(self.pen.written), tuple(headers), tuple(syllables), is_whole)
+
+    def score(self) -> Score:
+        headers = self.headers()
+        written: list[str] = []
+        syllables: list[Syllable] = []
+        for it in self.syllables():
+            syllables.append(it)
+            written += self.pen.written
+        written += [*self.pen.written, "\n"]
+        return Score("".join(written), headers, tuple(syllables), self.is_whole)
 
     def _header(self) -> Header:
         name, colon, value = self.words(2)[1].partition(":")

@@ -11,7 +11,7 @@ from gregorio_chant.source import Place
 _SPECIAL = {
     "ae": "æ", "oe": "œ", "'ae": "ǽ", "'oe": "œ́", "'æ": "ǽ", "'œ": "œ́", "A/": "A", "R/": "℟", "V/": "℣", "*": "*", "+": "†", "-": "", "~": "~",
 }
-_MARKUP = re.compile(r"\$(?P<escaped>.)|<sp>(?P<special>.*?)</sp>|<(?P<raw>v|alt)>.*?</(?P=raw)>|<[^>]*>|[{}]", re.DOTALL)
+MARKUP = re.compile(r"\$(?P<escaped>.)|<sp>(?P<special>.*?)</sp>|<(?P<raw>v|alt)>.*?</(?P=raw)>|<[^>]*>|[{}]", re.DOTALL)
 
 
 @dataclass(frozen=True, slots=True)
@@ -175,6 +175,11 @@ class Header(Item):
     value: str
 
 
+def special_character(name: str) -> str:
+    """Returns what the special character `name` of the manual looks like; one that is not known is its own name."""
+    return _SPECIAL.get(name, name)
+
+
 def plain_text(text: str) -> str:
     """Returns the canonical text of a syllable without its markup.
 
@@ -185,6 +190,6 @@ def plain_text(text: str) -> str:
         if found["escaped"] is not None:
             return found["escaped"]
         if found["special"] is not None:
-            return _SPECIAL.get(found["special"], found["special"])
+            return special_character(found["special"])
         return ""
-    return _MARKUP.sub(plain, text)
+    return MARKUP.sub(plain, text)

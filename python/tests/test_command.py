@@ -38,7 +38,7 @@ class Words(InFolder):
         each, which run."""
         self.put("scores/a.gabc", FAULTY)
         self.put("score.gabc", FAULTY)
-        for words in ((), ("check",), ("format",), ("explain",)):
+        for words in ((), ("check",), ("format",), ("show",), ("explain",)):
             shown = command(*words, "--help").stdout.decode()
             examples = re.findall(r"(?m)^    gregorio-chant (.*)$", shown)
             self.assertEqual(len(examples), 3)

@@ -13,7 +13,7 @@ from gregorio_chant import dump
 from gregorio_chant.codes import CODES
 from gregorio_chant.rules import RULES
 from gregorio_chant.settings import Finder
-from support import ROOT, InFolder, command, has
+from support import ROOT, SCORE, InFolder, command, has
 
 PAGE = (ROOT / "docs" / "PYTHON.md").read_text(encoding="utf-8")
 README = (ROOT / "README.md").read_text(encoding="utf-8")
@@ -37,9 +37,15 @@ class Documents(InFolder):
         os.chdir(ROOT)
         self.assertEqual(command(*first.split()[2:], environment={"COLUMNS": "100"}).stdout.decode(), shown)
 
+    def test_picture_of_the_score(self) -> None:
+        """The picture of the README is what its command makes of its first example. `gregorio-chant show` with these words writes it anew."""
+        score = block(README, "## A score before and after").encode()
+        (words,) = re.findall(r"`gregorio-chant (show .*?) score\.gabc`", README)
+        self.assertEqual(command(*words.split(), "-", data=score).stdout, (ROOT / "docs" / "kyrie.svg").read_bytes())
+
     def test_options(self) -> None:
         """Each option of the command stands in the page, and no other."""
-        helps = "".join(command(*it, "--help").stdout.decode() for it in ((), ("check",), ("format",), ("explain",), ("server",)))
+        helps = "".join(command(*it, "--help").stdout.decode() for it in ((), ("check",), ("format",), ("show",), ("explain",), ("server",)))
         options = set(re.findall(r"(?<![\w.-])--[a-z][a-z-]+", PAGE)) - {"--no-deps"}
         self.assertEqual(set(re.findall(r"--[a-z][a-z-]+", helps)) - {"--help", "--"}, options)
 
@@ -51,6 +57,12 @@ class Documents(InFolder):
     def test_formatted(self) -> None:
         made = command("format", "-", data=block(PAGE, "So this score:").encode())
         self.assertEqual((made.returncode, made.stdout.decode()), (0, block(PAGE, "\nbecomes:")))
+
+    def test_picture_of_python(self) -> None:
+        """The lines of the page write a picture."""
+        self.put("kyrie.gabc", SCORE)
+        exec(block(PAGE, "as `data-line` and `data-column`."), {})
+        self.assertRegex(Path("kyrie.svg").read_text(encoding="utf-8"), r"(?s)^<svg .*</svg>\n$")
 
     def test_settings(self) -> None:
         """The settings of the page are read, and say something for each key."""
@@ -76,7 +88,7 @@ class Documents(InFolder):
         self.assertEqual(re.findall(r"^\| `([a-z]+-[a-z-]+|comment)` \|", PAGE.split("\n## Rules\n")[1], re.MULTILINE), list(RULES))
 
     def test_each_help_says_what_is_not_proved(self) -> None:
-        for words in (["--help"], ["check", "--help"], ["format", "--help"], ["server", "--help"]):
+        for words in (["--help"], ["check", "--help"], ["format", "--help"], ["show", "--help"], ["server", "--help"]):
             self.assertRegex(command(*words).stdout.decode().replace("\n", " "), "outside (that|the) +proof", words)
 
 

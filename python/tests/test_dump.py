@@ -4,10 +4,12 @@ from __future__ import annotations
 import unittest
 from collections import Counter
 from collections.abc import Iterator
+from unittest import mock
 
-from gregorio_chant import Format, compile
+from gregorio_chant import Format, compile, dump
 from gregorio_chant.dump import (
     Attribute, Bar, Custos, DumpError, Element, Glyph, Header, Item, NabcSnippet, Note, NoteSnippet, Place, Score, ScoreError, Space, Syllable,
+    read_in_turn,
 )
 from support import EXAMPLES, ROOT, scores_of_tables
 
@@ -78,6 +80,22 @@ class Places(unittest.TestCase):
                     self.assertEqual(error.message.code[0], "F")
                     self.assertEqual(compile(score).output, "")
         self.assertGreater(read, 300)
+
+    def test_in_turn(self) -> None:
+        """Syllables that are read one by one are those of the whole score, wherever its lines are cut."""
+        faults: dict[str, set[str]] = {}
+        for at_once in (0, 1, 300, 1 << 16):
+            with mock.patch("gregorio_chant.dump._AT_ONCE", at_once):
+                for file in sorted(EXAMPLES.glob("*.gabc")):
+                    text = compile(file.read_bytes(), Format.DUMP).dump
+                    headers, syllables = read_in_turn(text)
+                    score = Score.read(text)
+                    self.assertEqual((headers, tuple(syllables)), (score.headers, score.syllables))
+                    self.assertEqual(score.canonical, compile(file.read_bytes()).canonical)
+                    with self.assertRaises(DumpError) as raised:
+                        Score.read(text.replace("\nend ", "\nend 1"))
+                    faults.setdefault(file.name, set()).add(str(raised.exception))
+        self.assertEqual({len(it) for it in faults.values()}, {1})
 
     def test_values(self) -> None:
         score = Score.parse((EXAMPLES / "introit.gabc").read_bytes())

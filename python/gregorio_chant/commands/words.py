@@ -81,10 +81,11 @@ def examples(lines: Iterable[str]) -> str:
     return "\n".join(["examples:", *(f"    {it}" for it in lines)])
 
 
-def add_paths(parser: Parser, more: str = "", with_staged: str = "") -> None:
-    """Adds the words for files and folders, and for what is staged."""
-    parser.add_argument("paths", nargs="*", metavar="PATH", help=f"{_PATHS}{more}")
-    parser.add_argument("--staged", action="store_true", help=f"{with_staged}{_STAGED}")
+def add_paths(parser: Parser, more: str = "", with_staged: str | None = "") -> None:
+    """Adds the words for files and folders, and for what is staged, unless `with_staged` is `None`."""
+    parser.add_argument("paths", nargs="*" if with_staged is not None else "+", metavar="PATH", help=f"{_PATHS}{more}")
+    if with_staged is not None:
+        parser.add_argument("--staged", action="store_true", help=f"{with_staged}{_STAGED}")
     parser.add_argument(
         "--exclude", action="append", default=[], metavar="PATTERN",
         help="leave out of folders what this names, as a line of .gitignore would; may stand several times",

@@ -1,0 +1,39 @@
+"""The sub-command `show`: its words."""
+from __future__ import annotations
+
+import argparse
+
+from gregorio_chant import showing
+from gregorio_chant.commands.words import OUTSIDE, STATUSES, Parser, add_no_config, add_paths, examples, positive, settings_of
+from gregorio_chant.picture import USUAL_WIDTH
+
+NAME = "show"
+_ABOUT = f"""Writes a page with a picture of each score, its messages and its source. The page stands alone: it needs no script and no network. Of the scores of
+folders those with messages are shown, at most {showing.MOST} of them. With a FOLDER/ to write into, each score has a page, and an index leads to them. The
+picture is a view of what was read, and no typesetting. {OUTSIDE}"""
+_EXAMPLES = examples((
+    "gregorio-chant show -o page.html score.gabc",
+    "gregorio-chant show -o pages/ scores",
+    "gregorio-chant show --svg score.gabc >score.svg",
+))
+
+
+def add(commands: argparse._SubParsersAction[Parser]) -> Parser:
+    """Adds the words of `show`."""
+    it = commands.add_parser(NAME, help="write pictures of scores, with their messages, as a page", description=_ABOUT, epilog=f"{_EXAMPLES}\n\n{STATUSES}")
+    add_paths(it, with_staged=None)
+    it.add_argument(
+        "-o", "--output", metavar="FILE", help="write the page into this file, or an index and a page a score into this folder, if it ends in / or is one"
+    )
+    it.add_argument("--svg", action="store_true", help="write the picture of one score alone, as SVG")
+    it.add_argument("--width", type=positive, default=int(USUAL_WIDTH), metavar="N", help="how wide a picture is, in pixels (as ever %(default)s)")
+    it.add_argument("--rules", action="store_true", help="show what the rules find too; they stand outside the proof of the compiler")
+    add_no_config(it)
+    return it
+
+
+def run(words: argparse.Namespace) -> int:
+    """Writes the page. Raises `UnknownCode`, `CannotWrite`, `Missing` and `SettingsError`."""
+    return showing.show(showing.Wanted(
+        tuple(words.paths), words.output, words.svg, float(words.width), words.rules, tuple(words.exclude), settings_of(words),
+    ))

@@ -1,0 +1,170 @@
+"""Draws a score: reads it, lays it out, and writes its SVG."""
+from __future__ import annotations
+
+from collections.abc import Iterable, Iterator, Sequence
+from dataclasses import dataclass
+from xml.etree import ElementTree as Xml
+
+from gregorio_chant import library
+from gregorio_chant.dump import Header, Syllable, read_in_turn
+from gregorio_chant.picture.codes import CODE_ROW, codes_of
+from gregorio_chant.picture.layout import Layout, staff_lines
+from gregorio_chant.picture.marks import Mark, Places, places_of
+from gregorio_chant.picture.shapes import SHAPES
+from gregorio_chant.picture.shown import shown
+from gregorio_chant.picture.svg import MARGIN, STYLE, Names, Painter, number
+from gregorio_chant.picture.widths import width_of
+from gregorio_chant.results import Format, Message
+
+USUAL_WIDTH = 720.0
+_LEAST_WIDTH = 120.0
+_NAME_SIZE, _HEAD_SIZE, _NOTE_SIZE = 20.0, 12.0, 10.0
+_BETWEEN_LINES = 12.0
+_NO_SCORE = "Nothing of this score was read."
+
+
+@dataclass(frozen=True)
+class Picture:
+    """A picture of a score, with what it is about. `pieces` are its SVG, in order; `places` has
+    the id of the element where each message stands, by its number from 1."""
+
+    name: str
+    messages: tuple[Message, ...]
+    pieces: list[str]
+    places: dict[int, str]
+
+    @property
+    def svg(self) -> str:
+        return "".join(self.pieces)
+
+
+class _Headers:
+    """The headers of a score."""
+
+    def __init__(self, headers: Sequence[Header]) -> None:
+        self._headers = headers
+
+    def all(self, name: str) -> list[str]:
+        """Returns the values of the headers `name`."""
+        return [it.value for it in self._headers if it.name == name]
+
+    def last(self, name: str) -> str:
+        """Returns the value of the last header `name`, or nothing."""
+        return next(iter(reversed(self.all(name))), "")
+
+
+def draw(data: bytes, messages: Sequence[Message] | None = None, *, width: float = USUAL_WIDTH, names: Names = Names()) -> Picture:
+    """Returns a picture of a score, `width` units wide, with these messages: all of the
+    compiler's where none are given."""
+    told = tuple(library.check(data).messages if messages is None else messages)
+    dump = library.compile(data, Format.DUMP).output
+    headers, syllables = read_in_turn(dump) if dump else ((), iter(()))
+    places = places_of(data, told, dump.count("\nsyllable "))
+    drawing = _Drawing(_Headers(headers), syllables, places, max(width, _LEAST_WIDTH), names)
+    body = list(drawing.body() if dump else drawing.nothing())
+    name = _Headers(headers).last("name")
+    return Picture(name, told, [drawing.head(name), *body, "</svg>\n"], drawing.places)
+
+
+def picture(score: str | bytes, *, width: float = USUAL_WIDTH) -> str:
+    """Returns a score with its messages as SVG, which is a file of its own."""
+    return draw(score.encode() if isinstance(score, str) else score, width=width).svg
+
+
+class _Drawing:
+    """Draws line by line, and knows how high the picture is so far."""
+
+    def __init__(self, headers: _Headers, syllables: Iterable[Syllable], places: Places, width: float, names: Names) -> None:
+        self._headers = headers
+        self._names = names
+        self._places = places
+        self._width = width
+        self._inner = width - 2 * MARGIN
+        staff = staff_lines(headers.last("staff-lines"))
+        self._layout = Layout(syllables, self._inner, staff)
+        self._painter = Painter(names, places, staff)
+        self._y = MARGIN
+
+    @property
+    def places(self) -> dict[int, str]:
+        return self._painter.places
+
+    def head(self, name: str) -> str:
+        """Returns what stands before the lines; it is known once they are drawn."""
+        height = number(self._y + MARGIN)
+        root = Xml.Element("svg", {
+            "xmlns": "http://www.w3.org/2000/svg", "viewBox": f"0 0 {number(self._width)} {height}", "width": number(self._width), "height": height,
+            "class": "chant", "font-size": "16", **({} if self._names.links else {"role": "img"}),
+        })
+        Xml.SubElement(root, "title").text = shown(name) or "A score without a name"
+        if not self._names.links:
+            Xml.SubElement(root, "style").text = STYLE
+        shapes = Xml.SubElement(root, "defs")
+        for shape in sorted(self._painter.used):
+            Xml.SubElement(shapes, "path", {"id": self._names.shape(shape), "d": SHAPES[shape].path, "fill-rule": "evenodd"})
+        Xml.SubElement(root, "rect", {"class": "paper", "width": "100%", "height": "100%"})
+        return Xml.tostring(root, encoding="unicode").removesuffix("</svg>") + "\n"
+
+    def body(self) -> Iterator[str]:
+        """Yields the title, each line, and the notes at the end."""
+        yield from self._codes(self._places.before)
+        yield from self._title()
+        for line in self._layout.lines():
+            codes = codes_of(line, self._places)
+            rows = max((it.row + 1 for it in codes), default=0)
+            self._y += rows * CODE_ROW - line.top
+            yield self._painter.line(line, codes, self._y)
+            self._y += line.bottom + _BETWEEN_LINES
+        yield from self._codes(self._places.after)
+        if self._layout.not_drawn:
+            yield self._note(self._layout.not_drawn)
+
+    def nothing(self) -> Iterator[str]:
+        """Yields the messages of a score of which nothing was read."""
+        yield from self._codes((*self._places.before, *self._places.after))
+        yield self._note(_NO_SCORE)
+
+    def _text(self, text: str, x: float, size: float, **attributes: str) -> str:
+        element = Xml.Element("text", {"x": number(x), "y": number(self._y), "font-size": number(size), **attributes})
+        element.text = shown(text)
+        return Xml.tostring(element, encoding="unicode") + "\n"
+
+    def _note(self, text: str) -> str:
+        self._y += _NOTE_SIZE + 4.0
+        return self._text(text, MARGIN, _NOTE_SIZE)
+
+    def _title(self) -> Iterator[str]:
+        """Yields the name over the score, the annotations at its left and the commentary at its
+        right."""
+        name = self._headers.last("name").strip()
+        if name:
+            self._y += _NAME_SIZE
+            yield self._fitted(name, self._width / 2, _NAME_SIZE, self._inner, "middle")
+            self._y += 4.0
+        annotations = [it for it in self._headers.all("annotation") if it]
+        commentary = self._headers.last("commentary")
+        if annotations or commentary:
+            self._y += _HEAD_SIZE + 2.0
+        if annotations:
+            yield self._fitted(" ".join(annotations), MARGIN, _HEAD_SIZE, self._inner / 2, "start")
+        if commentary:
+            yield self._fitted(commentary, self._width - MARGIN, _HEAD_SIZE, self._inner / 2, "end")
+        self._y += 6.0
+
+    def _fitted(self, text: str, x: float, size: float, room: float, anchor: str) -> str:
+        """Returns a text that takes at most `room`."""
+        text = " ".join(text.split())
+        most = len(text)
+        while most > 1 and width_of(text[:most], size) > room:
+            most = most * 9 // 10
+        return self._text(text if most == len(text) else text[:most] + "…", x, size, **{"text-anchor": anchor})
+
+    def _codes(self, marks: Sequence[Mark]) -> Iterator[str]:
+        """Yields the codes of messages that belong to no syllable, with their places and texts,
+        a line each."""
+        for mark in marks:
+            self._y += CODE_ROW + 2.0
+            group = Xml.Element("g")
+            message = mark.message
+            self._painter.code(group, mark, MARGIN, self._y, f"{message.code} {message.line}:{message.column} {message.text}")
+            yield Xml.tostring(group, encoding="unicode") + "\n"

@@ -1,0 +1,83 @@
+"""A score laid out as plain values, line by line."""
+from __future__ import annotations
+
+import itertools
+from collections.abc import Iterable, Iterator
+from dataclasses import dataclass
+
+from gregorio_chant.items import Attribute, Syllable
+from gregorio_chant.picture.lines import LineMaker
+from gregorio_chant.picture.parts import parts_of
+from gregorio_chant.picture.values import Line, Part
+from gregorio_chant.reports import counted
+
+USUAL_LINES = 4
+_STAFFS = {"2": 2, "3": 3, "4": 4, "5": 5}
+
+
+def staff_lines(value: str | None) -> int:
+    """Returns how many lines a staff has by the header `staff-lines`: 4, unless it is a number
+    from 2 to 5."""
+    return _STAFFS.get((value or "").strip(), USUAL_LINES)
+
+
+def _with_pitches(syllables: Iterable[Syllable]) -> Iterator[tuple[Syllable, str | None]]:
+    """Yields each syllable with the first pitch after it."""
+    waiting: list[Syllable] = []
+    for syllable in syllables:
+        if waiting:
+            pitch = next((note.pitch for note in syllable.notes), None)
+            if pitch is not None:
+                yield from ((it, pitch) for it in waiting)
+                waiting = []
+        waiting.append(syllable)
+    yield from ((it, None) for it in waiting)
+
+
+@dataclass
+class Layout:
+    """Lays out syllables on lines of `width`, of which each is read when its turn comes. What is
+    in no line is counted."""
+
+    syllables: Iterable[Syllable]
+    width: float
+    staff: int = USUAL_LINES
+    attributes: int = 0
+    raw: int = 0
+
+    def lines(self) -> Iterator[Line]:
+        """Yields the lines in order."""
+        maker = LineMaker(self.width, self.staff)
+        made, following = itertools.tee(maker.lines_of(self._parts()))
+        next(following, None)
+        for (line, end), after in itertools.zip_longest(made, following):
+            yield maker.finish(line, end, None if after is None else _first_pitch(after[0]))
+
+    def _parts(self) -> Iterator[Part]:
+        for syllable, pitch in _with_pitches(self.syllables):
+            parts, text = parts_of(syllable, self.staff, pitch, self._room)
+            self.attributes += sum(isinstance(it, Attribute) for it in syllable.items)
+            self.raw += text.raw
+            yield from parts
+
+    @property
+    def _room(self) -> float:
+        """What one part may take of a line: all but a clef and a custos."""
+        return max(self.width - 45.0, 20.0)
+
+    @property
+    def not_drawn(self) -> str:
+        """A note on what is not drawn; nothing where all is."""
+        things = [counted(self.attributes, "attribute")] if self.attributes else []
+        things += [f"{counted(self.raw, 'part')} of raw TeX"] if self.raw else []
+        return f"Not drawn: {' and '.join(things)}." if things else ""
+
+
+def _first_pitch(line: Line) -> str | None:
+    """Returns the first pitch of a line."""
+    return next((it.part.first for it in line.parts if it.part.first is not None), None)
+
+
+def lay_out(syllables: Iterable[Syllable], width: float, staff: int = USUAL_LINES) -> list[Line]:
+    """Returns all lines of a score."""
+    return list(Layout(syllables, width, staff).lines())

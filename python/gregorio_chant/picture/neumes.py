@@ -1,0 +1,203 @@
+"""A neume as shapes: where its heads stand, and the stems and joins between them."""
+from __future__ import annotations
+
+import re
+from typing import NamedTuple
+
+from gregorio_chant.items import Glyph, Note
+from gregorio_chant.picture.shapes import HEAD, SHAPES, SMALL, STEM
+from gregorio_chant.picture.values import STEP, Rect, Sign, Use, height_of, step_of
+
+# How the notes of a kind follow each other: a letter for each note. n stands right of the note
+# before and is joined to it, o over it; l has a stem at its
+# left, v at its right; s begins a broad stroke with such a stem, t one without, and e is where the
+# stroke ends; i is an inclinatum, a stands by itself.
+_PLANS = {
+    "pes": "no", "clivis": "ln", "torculus": "nnn", "porrectus": "seo", "scandicus-flexus": "nnnn", "torculus-resupinus": "nteo", "porrectus-flexus": "senn",
+    "torculus-resupinus-flexus": "ntenn",
+}
+_SHAPES = {
+    "punctum": "punctum", "quadratum": "punctum", "oriscus": "oriscus", "oriscus-scapus": "oriscus", "quilisma": "quilisma",
+    "quilisma-quadratum": "quilisma", "stropha": "stropha", "distropha": "stropha", "tristropha": "stropha", "virga": "punctum", "virga-reversa": "punctum",
+    "bivirga": "punctum", "trivirga": "punctum", "cavum": "cavum", "lined": "punctum", "linea": "linea", "inclinatum": "inclinatum",
+}
+_TIMES = {"distropha": 2, "bivirga": 2, "tristropha": 3, "trivirga": 3}
+_LINED_CAVUM = re.compile(r"r0")
+_BETWEEN = 1.6
+
+
+class Head(NamedTuple):
+    """Where the head of a note stands. `covered` says whether the next note stands over it,
+    `covers` whether it stands over the one before."""
+
+    note: Note
+    x: float
+    y: float
+    width: float
+    covers: bool = False
+    covered: bool = False
+
+
+class Neume(NamedTuple):
+    """The shapes of a neume from x 0 on, its heads, and its width."""
+
+    signs: tuple[Sign, ...]
+    heads: tuple[Head, ...]
+    width: float
+
+
+def _plan_of(glyph: Glyph) -> str:
+    """Returns the letter of each note."""
+    count = len(glyph.notes)
+    kind, _, more = glyph.kind.partition("-subpunctis")
+    if kind in ("climacus", "climacus-resupinus", "inclinata"):
+        begin = "" if kind == "inclinata" else "v"
+    elif kind == "scandicus":
+        diamonds = sum(it.shape == "inclinatum" for it in glyph.notes)
+        begin = "n" * (count - diamonds - 1 - more.endswith("resupinus")) + "o"
+    elif kind == "scandicus-flexus":
+        diamonds = sum(it.shape == "inclinatum" for it in glyph.notes)
+        begin = "n" * (count - diamonds - more.endswith("resupinus"))
+    else:
+        begin = _PLANS.get(kind, "a")
+    return begin + "".join("i" if it.shape == "inclinatum" else "a" for it in glyph.notes[len(begin) :])
+
+
+def _fitting(plan: str, notes: tuple[Note, ...]) -> str:
+    """Returns the plan with no broad stroke where its notes have shapes of their own, and
+    nothing over a quadratum."""
+    letters = list(plan)
+    for at, (letter, note) in enumerate(zip(plan, notes)):
+        if letter in "st":
+            following = notes[at + 1]
+            plain = note.shape == following.shape == "punctum" and not note.spelling.startswith("-")
+            if not plain or not 1 <= step_of(note.pitch) - step_of(following.pitch) <= 5:
+                letters[at : at + 2] = ["l" if letter == "s" else "n", "n"]
+        elif letter == "o" and notes[at - 1].shape.endswith("quadratum"):
+            letters[at] = "n"
+    return "".join(letters)
+
+
+class _Pen:
+    """Writes the notes of a neume one after the other."""
+
+    def __init__(self) -> None:
+        self.signs: list[Sign] = []
+        self.heads: list[Head] = []
+        self.x = 0.0
+
+    def note(self, letter: str, note: Note, following: Note | None) -> None:
+        y = height_of(step_of(note.pitch))
+        if letter in "st" and following is not None:
+            self._stroke(letter, note, y, step_of(note.pitch) - step_of(following.pitch))
+        elif letter == "e":
+            self.heads.append(Head(note, self.x - HEAD, y, HEAD))
+        elif letter == "o":
+            self._over(note, y)
+        elif letter == "i":
+            self._diamond(note, y)
+        else:
+            self._head(letter, note, y, following)
+
+    def _join(self, x: float, y: float) -> None:
+        """Joins a head at `y` with the one before, at `x`."""
+        before = self.heads[-1].y
+        self.signs.append(Rect(x - STEM, min(y, before), STEM, abs(y - before)))
+
+    def _stem(self, x: float, y: float, length: float = 2.4) -> None:
+        self.signs.append(Rect(x, y, STEM, STEP * length))
+
+    def _stroke(self, letter: str, note: Note, y: float, interval: int) -> None:
+        if letter == "s":
+            self._stem(self.x, y, 2.2 + 0.4 * interval)
+        elif self.heads:
+            self._join(self.x + STEM, y)
+        shape = f"porrectus-{interval}"
+        self.signs.append(Use(shape, self.x, y))
+        self.heads.append(Head(note, self.x, y, HEAD))
+        self.x += SHAPES[shape].width
+
+    def _over(self, note: Note, y: float) -> None:
+        below = self.heads[-1]
+        self.heads[-1] = below._replace(covered=True)
+        right = below.x + below.width
+        shape, width = _shape_of(note)
+        self._join(right, y)
+        self.signs.append(Use(shape, right - width, y))
+        self._tails(note, right, y)
+        self.heads.append(Head(note, right - width, y, width, covers=True))
+
+    def _diamond(self, note: Note, y: float) -> None:
+        if self.heads:
+            before = self.heads[-1]
+            rise = abs(before.y - y) / STEP
+            self.x += (0.2 if before.note.shape == "inclinatum" else 1.2) + (-1.4 if rise == 1 else 0.0 if rise == 2 else 0.8)
+        shape, width = _shape_of(note)
+        self.signs.append(Use(shape, self.x, y))
+        self.heads.append(Head(note, self.x, y, width))
+        self.x += width
+
+    def _head(self, letter: str, note: Note, y: float, following: Note | None) -> None:
+        shape, width = _shape_of(note)
+        if letter == "a" and self.heads:
+            self.x += _BETWEEN
+        elif letter == "n" and self.heads:
+            self._join(self.x + STEM / 2, y)
+        if letter == "l":
+            fall = step_of(note.pitch) - step_of(following.pitch) if following else 1
+            self._stem(self.x, y, 1.8 + 0.6 * min(fall, 5))
+        if letter == "v" and not note.shape.startswith("virga"):
+            self._stem(self.x + width - STEM, y, 2.6)
+        self._alone(shape, width, note, y)
+
+    def _alone(self, shape: str, width: float, note: Note, y: float) -> None:
+        """Writes a head, as often as its shape has it, with what belongs to it."""
+        times = _TIMES.get(note.shape, 1)
+        first = self.x
+        for time in range(times):
+            self.x += _BETWEEN if time else 0.0
+            lined = note.shape == "lined" or _LINED_CAVUM.search(note.spelling) is not None
+            if lined:
+                self.signs.append(Rect(self.x, y - 4.6, STEM, 9.2))
+                self.x += 1.6
+            self.signs.append(Use(shape, self.x, y))
+            if note.shape in ("virga", "bivirga", "trivirga"):
+                self._stem(self.x + width - STEM, y, 2.6)
+            if note.shape in ("virga-reversa", "oriscus-scapus"):
+                self._stem(self.x, y, 2.6)
+            self.x += width
+            if lined:
+                self.x += 1.6
+                self.signs.append(Rect(self.x - STEM, y - 4.6, STEM, 9.2))
+        self._tails(note, self.x, y)
+        self.heads.append(Head(note, first, y, self.x - first))
+
+    def _tails(self, note: Note, right: float, y: float) -> None:
+        """Writes the tail of a liquescent note."""
+        for sign, shape in (("<", "tail-up"), (">", "tail-down")):
+            if sign in note.spelling and note.shape != "inclinatum":
+                self.signs.append(Use(shape, right, y))
+
+
+def _shape_of(note: Note) -> tuple[str, float]:
+    """Returns the shape of a note's head, and its width: a small one for a deminutus and an
+    initio debilis."""
+    is_small = "~" in note.spelling or note.spelling.startswith("-")
+    if note.shape == "inclinatum":
+        if "r" in note.spelling:
+            return "inclinatum-cavum", SHAPES["inclinatum-cavum"].width
+        shape = "inclinatum-small" if is_small or ">" in note.spelling else "inclinatum"
+        return shape, SHAPES[shape].width
+    shape = _SHAPES.get(note.shape, "punctum")
+    if is_small and shape == "punctum":
+        return "small", SMALL
+    return shape, SHAPES[shape].width
+
+
+def neume_of(glyph: Glyph) -> Neume:
+    """Returns a neume as shapes."""
+    pen = _Pen()
+    plan = _fitting(_plan_of(glyph), glyph.notes)
+    for at, (letter, note) in enumerate(zip(plan, glyph.notes)):
+        pen.note(letter, note, glyph.notes[at + 1] if at + 1 < len(glyph.notes) else None)
+    return Neume(tuple(pen.signs), tuple(pen.heads), max(pen.x, *(it.x + it.width for it in pen.heads)))

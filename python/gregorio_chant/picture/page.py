@@ -1,0 +1,151 @@
+"""A page of HTML with pictures, their messages and sources, and an index of pages. A page needs
+no script, and asks for no address."""
+from __future__ import annotations
+
+from collections import Counter
+from collections.abc import Iterable, Iterator, Sequence
+from dataclasses import dataclass, field
+from html import escape
+
+from gregorio_chant.picture.drawing import Picture
+from gregorio_chant.picture.shown import shown
+from gregorio_chant.picture.svg import STYLE
+from gregorio_chant.reports import Checked, summary_of
+from gregorio_chant.results import Kind
+
+_STYLE = STYLE + """
+:root{color-scheme:light dark}
+body{margin:0 auto;padding:1rem;max-width:60rem;font:1rem/1.5 sans-serif;color:#111;background:#fff}
+h1{font-size:1.4rem}h2{font-size:1.1rem;overflow-wrap:anywhere}
+section{border-top:1px solid #8888;margin-top:2rem}
+.chant{display:block;max-width:100%;height:auto;margin:auto}
+.messages{padding-left:2.5rem;overflow-wrap:anywhere}.help{display:block;opacity:.8}
+.kind{font-weight:bold}.error,.fatal{color:#a00}.warning{color:#750}
+a{color:#048}:target{outline:2px solid #06c;outline-offset:2px}
+pre{overflow-x:auto;font-size:.85rem;line-height:1.4}
+pre span{display:block;padding-left:4.5em;text-indent:-4.5em;white-space:pre-wrap;overflow-wrap:anywhere}
+pre span::before{content:attr(data-n);display:inline-block;width:3.5em;margin-right:1em;text-align:right;text-indent:0;opacity:.6}
+table{border-collapse:collapse;margin-bottom:1.5rem}td,th{text-align:left;padding:.2rem .8rem .2rem 0;vertical-align:top}td{overflow-wrap:anywhere}td.n,th.n{text-align:right}
+@media(max-width:36rem){.picture{overflow-x:auto}.chant{max-width:none;width:32rem}}
+@media(prefers-color-scheme:dark){body{color:#ddd;background:#161616}a{color:#8bf}.error,.fatal{color:#f88}.warning{color:#db6}
+.chant{color:#ddd}.chant .paper{fill:#161616}.chant .staff{stroke:#c65}.chant .red,.chant .code{fill:#f88}
+.chant .mark{fill:#f66;stroke:#f66}.chant .mark.w{fill:#db6;stroke:#db6}}
+@media print{details,.back{display:none}body{max-width:none;padding:0;color:#000;background:#fff}section{break-inside:avoid-page}
+.chant{color:#000}.chant .paper{fill:#fff}}
+"""
+_POLICY = "default-src 'none'; style-src 'unsafe-inline'; base-uri 'none'; form-action 'none'"
+
+
+def text(it: str) -> str:
+    """Returns text as it stands in HTML, within an element or an attribute."""
+    return escape(shown(it))
+
+
+@dataclass(frozen=True)
+class Shown:
+    """A score on a page: what was found in it, its picture, and what begins its ids."""
+
+    checked: Checked
+    name: str
+    picture: Picture
+    source: str
+    prefix: str = ""
+
+
+@dataclass
+class Entry:
+    """A line of an index: `address` leads to the page of the score, `title` is its name header."""
+
+    name: str
+    title: str
+    address: str
+    kinds: Counter[Kind] = field(default_factory=Counter)
+    codes: Counter[str] = field(default_factory=Counter)
+
+    @property
+    def rank(self) -> tuple[int, int, int, str]:
+        """What comes first is less: fatal faults, then errors, then warnings."""
+        return -self.kinds[Kind.FATAL], -self.kinds[Kind.ERROR], -self.kinds[Kind.WARNING], self.name
+
+
+def head(title: str) -> str:
+    """Returns a page up to its body."""
+    return (
+        f'<!DOCTYPE html>\n<html lang="en">\n<head>\n<meta charset="utf-8">\n<meta http-equiv="Content-Security-Policy" content="{_POLICY}">\n'
+        f'<meta name="viewport" content="width=device-width, initial-scale=1">\n<title>{text(title)}</title>\n<style>{_STYLE}</style>\n</head>\n<body>\n'
+    )
+
+
+FOOT = "</body>\n</html>\n"
+
+
+def _messages(score: Shown) -> Iterator[str]:
+    """Yields the list of messages: each leads into the picture and to its line, and the picture
+    leads to it."""
+    if not score.checked.messages:
+        yield "<p>Nothing was found.</p>\n"
+        return
+    yield '<ol class="messages">\n'
+    for number, (message, help) in enumerate(score.checked.helped(), 1):
+        place = score.picture.places.get(number)
+        link = f' <a href="#{place}">in the picture</a>' if place else ""
+        line = f'<a href="#{score.prefix}l{message.line}">{message.line}:{message.column}</a>'
+        told = f'<span class="kind {message.kind.value}">{message.kind.value} {text(message.code)}</span>: {text(message.text)}'
+        more = f'<span class="help">{text(help)}</span>' if help else ""
+        yield f'<li id="{score.prefix}m{number}">{line} {told}{link}{more}</li>\n'
+    yield "</ol>\n"
+
+
+def _source(score: Shown) -> Iterator[str]:
+    """Yields the lines of the source, with that after the last one where a message stands there."""
+    lines = score.source.split("\n")
+    if not lines[-1] and all(it.line < len(lines) for it in score.checked.messages):
+        lines.pop()
+    yield "<details><summary>Source</summary>\n<pre>"
+    for number, line in enumerate(lines, 1):
+        yield f'<span id="{score.prefix}l{number}" data-n="{number}">{text(line)}</span>'
+    yield "</pre>\n</details>\n"
+
+
+def section(score: Shown) -> Iterator[str]:
+    """Yields the part of a page that a score has."""
+    yield f'<section>\n<h2><bdi>{text(score.name)}</bdi></h2>\n'
+    yield '<div class="picture">\n'
+    yield from score.picture.pieces
+    yield "</div>\n"
+    yield from _messages(score)
+    yield from _source(score)
+    yield "</section>\n"
+
+
+def page_of(scores: Iterable[Shown], title: str, note: str = "", back: str = "") -> Iterator[str]:
+    """Yields a page with scores; `back` is the address of its index."""
+    yield head(title)
+    if back:
+        yield f'<p class="back"><a href="{escape(back)}">All scores</a></p>\n'
+    else:
+        yield f"<h1>{text(title)}</h1>\n"
+    for score in scores:
+        yield from section(score)
+    yield f"<p>{text(note)}</p>\n{FOOT}" if note else FOOT
+
+
+def index_of(entries: Sequence[Entry], failed: int) -> Iterator[str]:
+    """Yields an index: scores with errors first, and how often each code was found."""
+    kinds = sum((it.kinds for it in entries), Counter[Kind]())
+    codes = sum((it.codes for it in entries), Counter[str]())
+    title = summary_of(len(entries), failed, kinds)
+    yield head(title)
+    yield f"<h1>{text(title)}</h1>\n"
+    if codes:
+        yield '<table>\n<tr><th>Code<th class="n">Found</tr>\n'
+        yield from (f'<tr><td>{text(code)}<td class="n">{count:,}</tr>\n' for code, count in sorted(codes.items(), key=lambda it: (-it[1], it[0])))
+        yield "</table>\n"
+    yield '<table>\n<tr><th>Score<th>Name<th class="n">Errors<th class="n">Warnings<th>Codes</tr>\n'
+    for it in sorted(entries, key=lambda it: it.rank):
+        errors = it.kinds[Kind.ERROR] + it.kinds[Kind.FATAL]
+        yield (
+            f'<tr><td><a href="{escape(it.address)}"><bdi>{text(it.name)}</bdi></a><td><bdi>{text(it.title)}</bdi><td class="n">{errors:,}'
+            f'<td class="n">{it.kinds[Kind.WARNING]:,}<td>{text(" ".join(sorted(it.codes)))}</tr>\n'
+        )
+    yield f"</table>\n{FOOT}"

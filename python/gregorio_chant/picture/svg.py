@@ -1,0 +1,175 @@
+"""A layout as SVG, in pieces: its head, a group for each line, its foot."""
+from __future__ import annotations
+
+from collections.abc import Iterable, Sequence
+from dataclasses import dataclass
+from xml.etree import ElementTree as Xml
+
+from gregorio_chant.picture.blocks import NABC_ROW
+from gregorio_chant.picture.codes import CODE_ROW, CODE_SIZE, Code, marks_of
+from gregorio_chant.picture.marks import Mark, Places
+from gregorio_chant.picture.parts import ABOVE_SIZE
+from gregorio_chant.picture.shown import shown
+from gregorio_chant.picture.values import Line, Placed, Rect, Sign, Words
+from gregorio_chant.picture.widths import FACES
+from gregorio_chant.picture.words import SIZE
+from gregorio_chant.results import Kind
+
+MARGIN = 12.0
+# The style of pictures: a file of its own holds it, a page has it once.
+STYLE = (
+    f".chant{{color:#000;font-family:{FACES};fill:currentColor}}.chant .paper{{fill:#fff}}.chant .staff{{fill:none;stroke:#a43;stroke-width:.7}}"
+    ".chant .red{fill:#b00}.chant .mark{fill:#c00;fill-opacity:.09;stroke:#c00;stroke-width:.7}.chant .mark.w{fill:#960;stroke:#960;stroke-dasharray:3 2}"
+    f".chant .code{{fill:#a00;font:bold {CODE_SIZE:.0f}px sans-serif}}"
+)
+_ATTRIBUTES = {
+    "b": ("font-weight", "bold"), "i": ("font-style", "italic"), "e": ("font-style", "italic"), "sc": ("font-variant", "small-caps"),
+    "tt": ("font-family", "monospace"), "ul": ("text-decoration", "underline"), "c": ("class", "red"),
+}
+
+
+def number(value: float) -> str:
+    """Returns a number as short as a tenth of a unit needs it."""
+    text = f"{value:.1f}".removesuffix(".0")
+    return "0" if text == "-0" else text
+
+
+def _kept_blanks(text: str) -> str:
+    """Returns the text with blanks that stay where they stand at an end."""
+    inner = text.strip(" ")
+    if len(inner) == len(text):
+        return text
+    at = text.find(inner) if inner else 0
+    return "\u00a0" * (at if inner else len(text)) + inner + "\u00a0" * (len(text) - at - len(inner) if inner else 0)
+
+
+@dataclass(frozen=True)
+class Names:
+    """The names of a picture's parts: `prefix` begins its ids, which no two pictures of a page
+    share, and `links` says whether marks lead to messages."""
+
+    prefix: str = ""
+    links: bool = False
+
+    def shape(self, name: str) -> str:
+        return f"{self.prefix}{name}"
+
+    def syllable(self, index: int, part: int = 0) -> str:
+        return f"{self.prefix}s{index + 1}" + (f"-{part + 1}" if part else "")
+
+    def message(self, index: int) -> str:
+        return f"{self.prefix}m{index}"
+
+
+def _add_title(parent: Xml.Element, text: str) -> None:
+    Xml.SubElement(parent, "title").text = shown(text)
+
+
+class Painter:
+    """Paints lines as groups, and knows which shapes they use."""
+
+    def __init__(self, names: Names, places: Places, staff: int) -> None:
+        self._names = names
+        self._places = places
+        self._staff = staff
+        self.used: set[str] = set()
+        # Where each message stands, by its number: the id of its code, or of its syllable.
+        self.places: dict[int, str] = {}
+
+    def line(self, line: Line, codes: Sequence[Code], y: float) -> str:
+        """Returns the group of a line, whose staff has its lowest line at `y`, with the codes
+        above it."""
+        group = Xml.Element("g", {"transform": f"translate({number(MARGIN)},{number(y)})"})
+        staff = "".join(f"M0,{number(-10.0 * it)}h{number(line.width)}" for it in range(self._staff))
+        Xml.SubElement(group, "path", {"class": "staff", "d": staff})
+        self._signs(group, line.signs, 0.0)
+        for placed in line.parts:
+            self._part(group, line, placed)
+        for code in codes:
+            self._code(group, code, line.top)
+        for hyphen in line.hyphens:
+            self._words(group, hyphen, 0.0, line.text)
+        return Xml.tostring(group, encoding="unicode") + "\n"
+
+    def _signs(self, parent: Xml.Element, signs: Iterable[Sign], x: float) -> None:
+        rects = []
+        for it in signs:
+            if isinstance(it, Rect):
+                rects.append(f"M{number(x + it.x)},{number(it.y)}h{number(it.width)}v{number(it.height)}h-{number(it.width)}z")
+            else:
+                self.used.add(it.shape)
+                Xml.SubElement(parent, "use", {"href": f"#{self._names.shape(it.shape)}", "x": number(x + it.x), "y": number(it.y)})
+        if rects:
+            Xml.SubElement(parent, "path", {"d": "".join(rects)})
+
+    def _words(self, parent: Xml.Element, words: Words, x: float, y: float) -> None:
+        text = _kept_blanks(words.text)
+        attributes = dict(_ATTRIBUTES[it] for it in sorted(words.styles) if it in _ATTRIBUTES)
+        if words.size != SIZE:
+            attributes["font-size"] = number(words.size)
+        if len(words.text) > 1:
+            attributes["textLength"] = number(words.width)
+        element = Xml.SubElement(parent, "text", {"x": number(x + words.x), "y": number(y), **attributes})
+        element.text = text
+        if "barred" in words.styles:
+            rise = number(words.width - 4.0)
+            Xml.SubElement(parent, "path", {"d": f"M{number(x + words.x + 1.5)},{number(y + 2.0)}l{rise},-15h1l-{rise},15z"})
+        if words.title:
+            _add_title(element, words.title)
+
+    def _part(self, parent: Xml.Element, line: Line, placed: Placed) -> None:
+        part = placed.part
+        index = part.syllable.number - 1
+        group = Xml.SubElement(parent, "g", {"id": self._names.syllable(index, part.number)})
+        if part.number == 0 and index < len(self._places.syllables):
+            place = self._places.syllables[index]
+            group.set("data-line", str(place.line))
+            group.set("data-column", str(place.column))
+        if part.number == 0:
+            _add_title(group, part.syllable.spelling)
+        self._field(group, line, placed)
+        for x, block in part.blocks:
+            self._signs(group, block.signs, placed.x + x)
+            for words in block.neumes:
+                self._words(group, words, placed.x + x, self._row(line, int(words.y)))
+        for words in part.texts:
+            self._words(group, words, placed.x, line.text)
+        if part.translation is not None:
+            self._words(group, part.translation._replace(styles=frozenset("i")), placed.x, line.text + 15.0)
+        for words in part.above:
+            self._words(group, words._replace(styles=frozenset("i")), placed.x, line.top + ABOVE_SIZE)
+
+    @staticmethod
+    def _row(line: Line, row: int) -> float:
+        """Returns the y of a row of NABC: the first one stands nearest to the staff."""
+        return line.top + (ABOVE_SIZE if line.has_above else 0.0) + (line.rows - row + 1) * NABC_ROW - 3.0
+
+    def _field(self, parent: Xml.Element, line: Line, placed: Placed) -> None:
+        """Paints a field behind a part that has messages."""
+        marks = marks_of(placed, self._places)
+        if not marks:
+            return
+        part = placed.part
+        name = self._names.syllable(part.syllable.number - 1, part.number)
+        self.places.update({it.number: name for it in marks})
+        left = min(part.left, part.text_left if part.has_text else part.left) - 1.5
+        right = max(part.right, part.text_right if part.has_text else part.right) + 1.5
+        kind = "mark" if any(it.message.kind is not Kind.WARNING for it in marks) else "mark w"
+        Xml.SubElement(parent, "rect", {
+            "class": kind, "x": number(placed.x + left), "y": number(line.top), "width": number(max(right - left, 6.0)),
+            "height": number(line.text + 5.0 - line.top),
+        })
+
+    def _code(self, parent: Xml.Element, code: Code, top: float) -> None:
+        self.code(parent, code.mark, code.x, top - 2.5 - CODE_ROW * code.row, code.text)
+
+    def code(self, parent: Xml.Element, mark: Mark, x: float, y: float, text: str = "") -> None:
+        """Paints the code of a message, as a link where messages stand beside the picture."""
+        message = mark.message
+        if self._names.links:
+            name = self._names.message(mark.number)
+            parent = Xml.SubElement(parent, "a", {"href": f"#{name}", "id": f"{name}-at"})
+            self.places[mark.number] = f"{name}-at"
+        element = Xml.SubElement(parent, "text", {"class": "code", "x": number(x), "y": number(y)})
+        element.text = shown(text or message.code)
+        _add_title(element, f"{message.line}:{message.column}: {message.kind.value}: {message.code}: {message.text}")

@@ -1,0 +1,135 @@
+"""The plain values of a layout: what stands where, in units of which a step of the staff has
+five. y goes down, from the lowest line of the staff."""
+from __future__ import annotations
+
+from dataclasses import dataclass, field
+from typing import NamedTuple, Union
+
+from gregorio_chant.items import Clef, Syllable
+
+STEP = 5.0
+PITCHES = "abcdefghijklmnp"
+_LOWEST_LINE = PITCHES.index("d")
+
+
+def step_of(pitch: str) -> int:
+    """Returns how many steps above the lowest line a pitch stands."""
+    return PITCHES.index(pitch) - _LOWEST_LINE
+
+
+def height_of(step: float) -> float:
+    """Returns the y of a step of the staff."""
+    return -STEP * step
+
+
+class Use(NamedTuple):
+    """A shape of the table `SHAPES`, with its origin at this place."""
+
+    shape: str
+    x: float
+    y: float
+
+    def moved(self, x: float) -> Use:
+        return Use(self.shape, self.x + x, self.y)
+
+
+class Rect(NamedTuple):
+    """A stem, a join, a bar, an episema, a ledger line: a black rectangle."""
+
+    x: float
+    y: float
+    width: float
+    height: float
+
+    def moved(self, x: float) -> Rect:
+        return Rect(self.x + x, self.y, self.width, self.height)
+
+
+Sign = Union[Use, Rect]
+
+
+class Words(NamedTuple):
+    """Letters in one style, from x on; y is that of the line that they stand on, and `styles`
+    are names of tags, as `i`."""
+
+    text: str
+    x: float
+    y: float
+    width: float
+    size: float
+    styles: frozenset[str] = frozenset()
+    title: str = ""
+
+    def moved(self, x: float, y: float = 0.0) -> Words:
+        return Words(self.text, self.x + x, self.y + y, self.width, self.size, self.styles, self.title)
+
+
+@dataclass(slots=True)
+class Block:
+    """Signs that no line end parts. `offset` says where it begins in the canonical text.
+    `anchor` is the middle of its first head, or of a bar; `first` is its first pitch."""
+
+    offset: int
+    signs: tuple[Sign, ...]
+    width: float
+    after: float = 0.0
+    anchor: float | None = None
+    first: str | None = None
+    clef: Clef | None = None
+    is_bar: bool = False
+    ends_line: str = ""
+    neumes: tuple[Words, ...] = ()
+
+
+@dataclass(slots=True)
+class Part:
+    """A syllable, or what stands of it on one line: blocks at their places from the anchor, and
+    texts. `left` and `right` bound the notes, `text_left` and `text_right` the text, where there
+    is one. It has what stands in the canonical text from `begin` up to `end`, or up to the
+    syllable's end."""
+
+    syllable: Syllable
+    number: int
+    blocks: tuple[tuple[float, Block], ...]
+    left: float
+    right: float
+    texts: tuple[Words, ...] = ()
+    text_left: float = 0.0
+    text_right: float = 0.0
+    translation: Words | None = None
+    above: tuple[Words, ...] = ()
+    first: str | None = None
+    clef: Clef | None = None
+    ends_line: str = ""
+    is_bar: bool = False
+    begin: int = 0
+    end: int | None = None
+
+    @property
+    def has_text(self) -> bool:
+        return bool(self.texts)
+
+
+@dataclass(slots=True)
+class Placed:
+    """A part with the place of its anchor on its line."""
+
+    x: float
+    part: Part
+
+
+@dataclass(slots=True)
+class Line:
+    """A line of the picture: its staff goes from 0 to `width`. `top` and `bottom` bound all
+    signs, `text` is where the text stands. Above the signs stand `rows` of NABC, and over these
+    texts, if it `has_above`."""
+
+    parts: list[Placed]
+    signs: list[Sign] = field(default_factory=list)
+    hyphens: list[Words] = field(default_factory=list)
+    width: float = 0.0
+    top: float = 0.0
+    bottom: float = 0.0
+    text: float = 0.0
+    rows: int = 0
+    has_above: bool = False

@@ -1,0 +1,199 @@
+"""The command `show`: pictures of scores with their messages, as one page, as a folder of pages,
+or one as SVG."""
+from __future__ import annotations
+
+import os
+from collections import Counter
+from collections.abc import Iterable, Iterator
+from dataclasses import dataclass
+from pathlib import Path
+from urllib.parse import quote
+
+from gregorio_chant import checking
+from gregorio_chant.files import read
+from gregorio_chant.picture import USUAL_WIDTH, Names, draw
+from gregorio_chant.picture.page import Entry, Shown, index_of, page_of
+from gregorio_chant.reports import Checked, counted, summary_of
+from gregorio_chant.results import Kind
+from gregorio_chant.selection import UnknownCode
+from gregorio_chant.settings import Finder, NoSettings
+from gregorio_chant.source import text_of
+from gregorio_chant.streams import CANNOT_READ_OR_WRITE, STDIN, CannotWrite, printable, reason_of, tell, write
+from gregorio_chant.walk import find_scores
+
+MOST = 200
+_INDEX = "index.html"
+
+
+@dataclass(frozen=True)
+class Wanted:
+    """What the words of the command ask for. `output` is a file or a folder; nothing is standard
+    output."""
+
+    paths: tuple[str, ...]
+    output: str | None = None
+    svg: bool = False
+    width: float = USUAL_WIDTH
+    with_rules: bool = False
+    exclude: tuple[str, ...] = ()
+    settings: Finder = NoSettings()
+
+    @property
+    def into_folder(self) -> bool:
+        return self.output is not None and (self.output.endswith("/") or os.path.isdir(self.output))
+
+    @property
+    def files(self) -> list[Path]:
+        """The file that is wanted, if it is one."""
+        return [] if self.output is None else [Path(self.output)]
+
+
+class _Scores:
+    """Reads the scores, and counts what is found."""
+
+    def __init__(self, wanted: Wanted) -> None:
+        self._wanted = wanted
+        self._checking = checking.Wanted(wanted.paths, with_rules=wanted.with_rules, settings=wanted.settings)
+        self.files, self.failed, self.status = 0, 0, 0
+        self.kinds = Counter[Kind]()
+
+    def names(self) -> list[str]:
+        found = find_scores(self._wanted.paths, lambda name, error: self._fail(name, reason_of(error)), self._wanted.exclude)
+        return self._wanted.settings.kept(found, self._wanted.paths)
+
+    def _fail(self, name: str, reason: str) -> None:
+        self.failed += 1
+        self.status = max(self.status, CANNOT_READ_OR_WRITE)
+        tell(f"cannot read {printable(name)}: {reason}")
+
+    def all(self, names: Iterable[str]) -> Iterator[tuple[Checked, bytes]]:
+        """Yields what is found in each score, and its bytes."""
+        for name in names:
+            try:
+                content = read(name)
+            except OSError as error:
+                self._fail(name, reason_of(error))
+                continue
+            checked = checking.check_file(name, self._checking, lambda _: content)
+            self.files += 1
+            self.status = max(self.status, checked.status)
+            self.kinds.update(it.kind for it in checked.messages)
+            yield checked, content.data
+
+    def shown(self, checked: Checked, data: bytes, prefix: str) -> Shown:
+        picture = draw(data, checked.messages, width=self._wanted.width, names=Names(prefix, links=True))
+        return Shown(checked, printable(checked.shown_name), picture, text_of(data), prefix)
+
+    def summary(self) -> str:
+        return summary_of(self.files, self.failed, self.kinds)
+
+
+def _put(path: Path, pieces: Iterable[str]) -> None:
+    """Writes a file anew. Raises `CannotWrite`."""
+    try:
+        path.parent.mkdir(parents=True, exist_ok=True)
+        with open(path, "w", encoding="utf-8", newline="\n") as file:
+            file.writelines(pieces)
+    except OSError as error:
+        raise CannotWrite(error) from None
+
+
+def _write(wanted: Wanted, pieces: Iterable[str]) -> None:
+    """Writes the page to where it is wanted. Raises `CannotWrite`."""
+    if wanted.output is not None:
+        _put(Path(wanted.output), pieces)
+    else:
+        for it in pieces:
+            write(it)
+
+
+def _refuse_own_input(outputs: Iterable[Path], names: Iterable[str]) -> None:
+    """Raises `UnknownCode` where a page would take the place of a score that is shown."""
+    shown = {_identity(name) for name in names if name != STDIN} - {None}
+    for output in outputs:
+        if _identity(output) in shown:
+            raise UnknownCode(f"{printable(str(output))} is a score that is shown: name another file")
+
+
+def _identity(path: str | Path) -> tuple[int, int] | None:
+    """Returns what tells a file from all others, by whichever name; nothing where there is none."""
+    try:
+        state = os.stat(path)
+    except OSError:
+        return None
+    return state.st_dev, state.st_ino
+
+
+def show(wanted: Wanted) -> int:
+    """Writes what is wanted, and returns the worst status. Raises `CannotWrite`, `UnknownCode`,
+    and `Missing` or `SettingsError` before any score is read."""
+    scores = _Scores(wanted)
+    names = scores.names()
+    if wanted.svg:
+        _show_one(wanted, scores, names)
+    elif wanted.into_folder:
+        _show_folder(wanted, scores, names)
+    else:
+        _show_page(wanted, scores, names)
+    return scores.status
+
+
+def _show_one(wanted: Wanted, scores: _Scores, names: list[str]) -> None:
+    """Writes one picture. Raises `UnknownCode` where there is not one score."""
+    if len(names) != 1 or wanted.into_folder:
+        raise UnknownCode(f"--svg writes one picture, and here are {counted(len(names), 'score')}" if len(names) != 1 else "--svg writes a file, and no folder")
+    _refuse_own_input(wanted.files, names)
+    for checked, data in scores.all(names):
+        _write(wanted, draw(data, checked.messages, width=wanted.width).pieces)
+
+
+def _show_page(wanted: Wanted, scores: _Scores, names: list[str]) -> None:
+    """Writes one page: each score that is named, and of folders those with messages."""
+    _refuse_own_input(wanted.files, names)
+    named = {it for it in wanted.paths if it == STDIN or not os.path.isdir(it)}
+    shown: list[Shown] = []
+    left_out = from_folders = 0
+    for checked, data in scores.all(names):
+        if checked.name not in named:
+            if not checked.messages:
+                continue
+            from_folders += 1
+            if from_folders > MOST:
+                left_out += 1
+                continue
+        shown.append(scores.shown(checked, data, f"p{len(shown) + 1}-"))
+    note = f"{counted(left_out, 'score')} more with messages: -o FOLDER/ writes a page for each." if left_out else ""
+    title = shown[0].picture.name or shown[0].name if len(names) == len(shown) == 1 else scores.summary()
+    _write(wanted, page_of(shown, title, note))
+
+
+def _page_names(names: list[str], paths: tuple[str, ...]) -> Iterator[str]:
+    """Yields the file of the page of each score: below the folder that is named as the score is
+    below its own."""
+    folders = [os.path.join(it, "") for it in paths if it != STDIN and os.path.isdir(it)]
+    taken = {_INDEX}
+    for name in names:
+        folder = next((it for it in folders if name.startswith(it)), None)
+        whole = "stdin" if name == STDIN else os.path.basename(name) if folder is None else name[len(folder) :].lstrip("/")
+        page, number = f"{whole}.html", 1
+        while page in taken:
+            number += 1
+            page = f"{whole}-{number}.html"
+        taken.add(page)
+        yield page
+
+
+def _show_folder(wanted: Wanted, scores: _Scores, names: list[str]) -> None:
+    """Writes a page for each score, and an index."""
+    folder = Path(wanted.output or ".")
+    pages = dict(zip(names, _page_names(names, wanted.paths)))
+    _refuse_own_input([folder / it for it in (*pages.values(), _INDEX)], names)
+    entries: list[Entry] = []
+    for checked, data in scores.all(names):
+        shown = scores.shown(checked, data, "")
+        page = pages[checked.name]
+        _put(folder / page, page_of([shown], shown.picture.name or shown.name, back="../" * page.count("/") + _INDEX))
+        kinds, codes = Counter(it.kind for it in checked.messages), Counter(it.code for it in checked.messages)
+        entries.append(Entry(shown.name, shown.picture.name, quote(os.fsencode(page)), kinds, codes))
+    _put(folder / _INDEX, index_of(entries, scores.failed))
+    tell(scores.summary())
