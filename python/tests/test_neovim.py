@@ -7,7 +7,7 @@ import shutil
 import subprocess
 import unittest
 
-from support import FAULTY, ROOT, InFolder, has
+from support import FAULTY, ROOT, InFolder
 
 # Writes what neovim shows to the file `shown`, each time once the server has told something new.
 TRIAL = """
@@ -50,7 +50,6 @@ def recipe(name: str) -> str:
 
 
 @unittest.skipUnless(shutil.which("nvim"), "there is no neovim")
-@unittest.skipUnless(has("pylsp_jsonrpc"), "there is no python-lsp-jsonrpc")
 class Neovim(InFolder):
     def test_recipe(self) -> None:
         self.put("init.lua", recipe("neovim"))

@@ -1,0 +1,79 @@
+"""A score that is open in an editor, with all that is found in it, each asked for once."""
+from __future__ import annotations
+
+from collections.abc import Callable
+from functools import cached_property
+
+from gregorio_chant.compiled import Compiled
+from gregorio_chant.dump import Score
+from gregorio_chant.formatting import Style, style_by
+from gregorio_chant.helps import Subject, helps_for
+from gregorio_chant.results import Message
+from gregorio_chant.rules import messages_with_rules, unsilenced
+from gregorio_chant.scan import Scan, scan
+from gregorio_chant.selection import Selection
+from gregorio_chant.server.text import Text
+from gregorio_chant.settings import Settings
+
+
+class Document:
+    """A score as it stands in an editor. It does not change: a change makes another one."""
+
+    def __init__(self, uri: str, name: str, text: Text, version: int | None, settings: Settings, with_rules: bool) -> None:
+        """Takes the text, and the name and the settings of its file."""
+        self.uri, self.name, self.text, self.version = uri, name, text, version
+        self._settings = settings
+        self.with_rules = with_rules or settings.rules is True
+
+    def changed(self, change: Callable[[Text], Text], version: int | None) -> Document:
+        """Returns the score with another text."""
+        return Document(self.uri, self.name, change(self.text), version, self._settings, self.with_rules)
+
+    @property
+    def selection(self) -> Selection:
+        return self._settings.selection(self.name)
+
+    @property
+    def style(self) -> Style:
+        return style_by(self._settings)
+
+    @cached_property
+    def compiled(self) -> Compiled:
+        return Compiled(self.text.data)
+
+    @cached_property
+    def found(self) -> tuple[Message, ...]:
+        """All that is found, by the rules too where they are wanted."""
+        return messages_with_rules(self.text.data) if self.with_rules else unsilenced(self.text.data, self.compiled.messages)
+
+    @cached_property
+    def messages(self) -> tuple[Message, ...]:
+        """The messages that are reported."""
+        return self.selection.of(self.found)
+
+    def helps(self) -> tuple[str | None, ...]:
+        """Returns the help for each message that is reported."""
+        return helps_for(self.text.plain, self.found, self.messages) if self.messages else ()
+
+    @cached_property
+    def subject(self) -> Subject:
+        """The text beside the messages of the compiler."""
+        return Subject(self.text.plain, self.compiled.messages)
+
+    @cached_property
+    def score(self) -> Score:
+        """The score as objects, up to a fatal fault."""
+        return Score.read(self.compiled.dump)
+
+    @property
+    def scan(self) -> Scan:
+        """Where headers, syllables and comments stand, also where a fatal fault stops the score."""
+        return self.subject.scan
+
+    def offset(self, message: Message) -> int:
+        return self.subject.offset(message)
+
+
+def scan_before(document: Document, offset: int) -> Scan:
+    """Returns where all stands in the text before an offset."""
+    return scan(document.text.plain[:offset], document.subject.left_out)
