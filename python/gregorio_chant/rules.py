@@ -23,7 +23,7 @@ _MODE = re.compile(r"[1-8](?![0-9])")
 _TAG = re.compile(r"<[^>]*>")
 _SPECIAL = re.compile(r"\$.|<(v|alt)>.*?</\1>|<sp>(.*?)</sp>", re.DOTALL)
 # The special characters that GregorioTeX defines by default.
-_SPECIALS = frozenset(("ae", "oe", "'ae", "'oe", "'\u00e6", "'\u0153", "A/", "R/", "V/", "*", "+", "-", "\\", "&", "#", "_", "~"))
+SPECIALS = ("ae", "oe", "'ae", "'oe", "'\u00e6", "'\u0153", "A/", "R/", "V/", "*", "+", "-", "\\", "&", "#", "_", "~")
 
 
 @dataclass(frozen=True)
@@ -164,7 +164,7 @@ def _inclinata(subject: Subject) -> frozenset[int]:
 def _unknown_special(subject: Subject) -> Iterator[Found]:
     for syllable in subject.score.syllables:
         for it in _SPECIAL.finditer(syllable.text):
-            if it[2] is not None and it[2] not in _SPECIALS:
+            if it[2] is not None and it[2] not in SPECIALS:
                 yield Found(subject.comparison.source_offset(syllable.place.offset + it.start()), f"<sp>{it[2]}</sp> is none of GregorioTeX's special characters")
 
 

@@ -80,7 +80,7 @@ class Abuse(Served):
     def test_bad_parameters(self) -> None:
         self.open(SCORE)
         here: dict[str, Any] = {"textDocument": {"uri": self.uri}}
-        methods = [f"textDocument/{it}" for it in ("hover", "formatting")]
+        methods = [f"textDocument/{it}" for it in ("hover", "formatting", "rangeFormatting", "codeAction", "completion", "documentSymbol", "foldingRange", "semanticTokens/full")]
         for number, method in enumerate(methods):
             wrong: list[Any] = [None, [], {}, {"textDocument": {}}, {"textDocument": {"uri": 4}}, {"textDocument": {"uri": "file:///none.gabc"}}]
             for params in wrong:
@@ -107,8 +107,8 @@ class Abuse(Served):
         """A text of halves of characters, and one of 1 MB of nonsense, are scores with a fault."""
         for text in ("name: a;\n%%\n(c4) \ud834(g5)", "\0<(%[|" * 170_000):
             self.assertNotEqual(self.open(text), [])
-            for it in ("hover", "formatting"):
-                self.ask_here(it, position={"line": 2, "character": 6}, options={})
+            for it in ("hover", "formatting", "documentSymbol", "foldingRange", "completion", "codeAction", "semanticTokens/full"):
+                self.ask_here(it, position={"line": 2, "character": 6}, options={}, range=span(2, 0, 2, 9), context={})
         self.told.clear()
         self.check_serves()
 

@@ -23,8 +23,8 @@ def diagnostic(document: Document, message: Message, help: str | None) -> Json:
 
 def diagnostics(document: Document) -> Json:
     """Returns what an editor is told of a score, with the version of the text that it belongs to."""
-    shown = [diagnostic(document, it, help) for it, help in zip(document.messages, document.helps())]
-    return {"uri": document.uri, "diagnostics": shown} | ({} if document.version is None else {"version": document.version})
+    shown = [diagnostic(document, it, help) for it, help in zip(document.messages, document.helps)]
+    return {"uri": document.file.uri, "diagnostics": shown} | ({} if document.version is None else {"version": document.version})
 
 
 def no_diagnostics(uri: str) -> Json:

@@ -2,6 +2,7 @@
 from __future__ import annotations
 
 from collections.abc import Callable
+from dataclasses import dataclass
 from functools import cached_property
 
 from gregorio_chant.compiled import Compiled
@@ -16,26 +17,34 @@ from gregorio_chant.server.text import Text
 from gregorio_chant.settings import Settings
 
 
-class Document:
-    """A score as it stands in an editor. It does not change: a change makes another one."""
+@dataclass(frozen=True)
+class File:
+    """What stays the same as long as a score is open: its file, what is wanted there, and whether its editor takes edits with a version."""
 
-    def __init__(self, uri: str, name: str, text: Text, version: int | None, settings: Settings, with_rules: bool) -> None:
-        """Takes the text, and the name and the settings of its file."""
-        self.uri, self.name, self.text, self.version = uri, name, text, version
-        self._settings = settings
-        self.with_rules = with_rules or settings.rules is True
-
-    def changed(self, change: Callable[[Text], Text], version: int | None) -> Document:
-        """Returns the score with another text."""
-        return Document(self.uri, self.name, change(self.text), version, self._settings, self.with_rules)
+    uri: str
+    name: str
+    settings: Settings
+    with_rules: bool
+    takes_versions: bool
 
     @property
     def selection(self) -> Selection:
-        return self._settings.selection(self.name)
+        return self.settings.selection(self.name)
 
     @property
     def style(self) -> Style:
-        return style_by(self._settings)
+        return style_by(self.settings)
+
+
+class Document:
+    """A score as it stands in an editor. It does not change: a change makes another one."""
+
+    def __init__(self, file: File, text: Text, version: int | None) -> None:
+        self.file, self.text, self.version = file, text, version
+
+    def changed(self, change: Callable[[Text], Text], version: int | None) -> Document:
+        """Returns the score with another text."""
+        return Document(self.file, change(self.text), version)
 
     @cached_property
     def compiled(self) -> Compiled:
@@ -44,15 +53,16 @@ class Document:
     @cached_property
     def found(self) -> tuple[Message, ...]:
         """All that is found, by the rules too where they are wanted."""
-        return messages_with_rules(self.text.data) if self.with_rules else unsilenced(self.text.data, self.compiled.messages)
+        return messages_with_rules(self.text.data) if self.file.with_rules else unsilenced(self.text.data, self.compiled.messages)
 
     @cached_property
     def messages(self) -> tuple[Message, ...]:
         """The messages that are reported."""
-        return self.selection.of(self.found)
+        return self.file.selection.of(self.found)
 
+    @cached_property
     def helps(self) -> tuple[str | None, ...]:
-        """Returns the help for each message that is reported."""
+        """The help for each message that is reported."""
         return helps_for(self.text.plain, self.found, self.messages) if self.messages else ()
 
     @cached_property

@@ -7,7 +7,7 @@ from collections.abc import Callable
 from urllib.parse import unquote_to_bytes, urlsplit
 
 from gregorio_chant.server.diagnostics import diagnostics, no_diagnostics
-from gregorio_chant.server.document import Document
+from gregorio_chant.server.document import Document, File
 from gregorio_chant.server.features import CAPABILITIES, FEATURES, Refused
 from gregorio_chant.server.inbox import Inbox, Message
 from gregorio_chant.server.protocol import Code, Json, Params, ProtocolError
@@ -47,7 +47,7 @@ class Session:
         # The documents that have changed since they were checked, the first one first.
         self._unchecked: dict[str, None] = {}
         self._phase = _Phase.BEFORE
-        self._versions_edits = False
+        self._takes_versions = False
         self._told: dict[str, Callable[[Params], None]] = {
             "textDocument/didOpen": self._opened, "textDocument/didChange": self._changed, "textDocument/didClose": self._closed,
         }
@@ -129,14 +129,17 @@ class Session:
         if self._phase is not _Phase.BEFORE:
             raise ProtocolError(Code.NO_REQUEST, "the server is initialized")
         self._phase = _Phase.OPEN
+        self._takes_versions = params.flag("capabilities", "workspace", "workspaceEdit", "documentChanges")
         return CAPABILITIES
 
     # ---- documents
 
     def _opened(self, params: Params) -> None:
-        it = params["textDocument"]
-        uri, text, name = params.uri(), it["text"].text(), name_of(params.uri())
-        self._keep(Document(uri, name, Text(text), it.version(), self._settings_of(name), self._with_rules))
+        it, uri = params["textDocument"], params.uri()
+        text, name = Text(it["text"].text()), name_of(uri)
+        settings = self._settings_of(name)
+        file = File(uri, name, settings, self._with_rules or settings.rules is True, self._takes_versions)
+        self._keep(Document(file, text, it.version()))
 
     def _settings_of(self, name: str) -> Settings:
         try:
@@ -159,8 +162,8 @@ class Session:
         self._keep(document.changed(change, params["textDocument"].version()))
 
     def _keep(self, document: Document) -> None:
-        self._documents[document.uri] = document
-        self._unchecked[document.uri] = None
+        self._documents[document.file.uri] = document
+        self._unchecked[document.file.uri] = None
 
     def _closed(self, params: Params) -> None:
         uri = params.uri()

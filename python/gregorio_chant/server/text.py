@@ -40,6 +40,11 @@ class Text:
         """How the first line ends."""
         return self.raw[slice(*self._ends[0])] if self._ends else "\n"
 
+    def lines(self) -> list[str]:
+        """Returns the lines, each with its end."""
+        ends = [0, *(it[1] for it in self._ends), len(self.raw)]
+        return [self.raw[begin:end] for begin, end in zip(ends, ends[1:]) if begin < end]
+
     def end(self) -> Position:
         """Returns the position after the last character."""
         return self._position(len(self.raw))
@@ -82,6 +87,10 @@ class Text:
     def range(self, begin: int, end: int) -> Range:
         """Returns the range of the characters from `begin` up to `end`, as the compiler counts them."""
         return Range(self.position(begin), self.position(end))
+
+    def raw_range(self, begin: int, end: int) -> Range:
+        """Returns the range of the characters from `begin` up to `end`, all counted."""
+        return Range(self._position(begin), self._position(end))
 
     def character(self, offset: int) -> Range:
         """Returns the range of one character; an empty one at the end of a line or of the text."""
