@@ -41,6 +41,14 @@ _BLANKS = re.compile(r"[ \t\n]+")
 _FIRST_WORD = re.compile(r"^[^ :\n]*", re.MULTILINE)
 
 
+# Is called now and then in long work, and may raise to break it off.
+Pause = Callable[[], None]
+
+
+def go_on() -> None:
+    """Pauses for nothing."""
+
+
 class DumpError(ValueError):
     """A text is no dump that this reader reads."""
 
@@ -71,9 +79,9 @@ class Score:
         return tuple(note for it in self.syllables for note in it.notes)
 
     @classmethod
-    def read(cls, dump: str) -> Score:
-        """Reads a dump. Raises `DumpError` where it is none, or of another version."""
-        return _Reader(dump).score()
+    def read(cls, dump: str, pause: Pause = go_on) -> Score:
+        """Reads a dump, with a pause before each syllable. Raises `DumpError` where it is none, or of another version."""
+        return _Reader(dump).score(pause)
 
     @classmethod
     def parse(cls, score: str | bytes | bytearray | memoryview) -> Score:
@@ -151,7 +159,7 @@ class _Reader:
         self._at += 1
         return unescaped(text)
 
-    def score(self) -> Score:
+    def score(self, pause: Pause) -> Score:
         if self.word() != "dump" or self._lines[-1] != "":
             raise self.fail(f"this is no dump: the first line is not 'dump {_VERSION}', or the last line is not whole")
         if self.words(2)[1] != _VERSION:
@@ -162,6 +170,7 @@ class _Reader:
             headers.append(self._header())
         self.pen.write("%%")
         while self.word() == "syllable":
+            pause()
             syllables.append(self._syllable(len(syllables) + 1))
         self.pen.write("\n")
         is_whole = self.word() == "end"

@@ -8,7 +8,7 @@ from dataclasses import dataclass
 
 from gregorio_chant import library
 from gregorio_chant.codes import CODES
-from gregorio_chant.dump import Alteration, Attribute, Bar, Clef, Custos, Item, Note, NoteSnippet, Score, Space, Syllable
+from gregorio_chant.dump import Alteration, Attribute, Bar, Clef, Custos, Item, Note, NoteSnippet, Pause, Score, Space, Syllable, go_on
 from gregorio_chant.ignores import silenced
 from gregorio_chant.losses import Comparison
 from gregorio_chant.reports import counted
@@ -249,17 +249,18 @@ RULES: dict[str, Rule] = {it.name: it for it in _ALL}
 _KNOWN = frozenset((*CODES, *RULES))
 
 
-def messages_with_rules(data: bytes) -> tuple[Message, ...]:
+def messages_with_rules(data: bytes, pause: Pause = go_on) -> tuple[Message, ...]:
     """Returns what the compiler and the rules find in a score, in the order of their places, without what is silenced. Where a fatal fault stops it, no rule is
-    tried."""
+    tried. There is a pause before each rule, and more while the score is read."""
     result = library.compile(data)
     if result.status is Status.FATAL:
         return unsilenced(data, result.messages)
-    score = Score.read(library.compile(data, Format.DUMP).output)
+    score = Score.read(library.compile(data, Format.DUMP).output, pause)
     messages = result.messages
     subject = Subject(score, Comparison(data, result.output, messages), messages)
     found = []
     for rule in _ALL:
+        pause()
         for it in rule.find(subject):
             place = subject.comparison.lines.place(it.offset)
             found.append(Message(place.line, place.column, rule.kind, rule.name, it.text))

@@ -6,7 +6,7 @@ from dataclasses import dataclass
 from functools import cached_property
 
 from gregorio_chant.compiled import Compiled
-from gregorio_chant.dump import Score
+from gregorio_chant.dump import Pause, Score, go_on
 from gregorio_chant.formatting import Style, style_by
 from gregorio_chant.helps import Subject, helps_for
 from gregorio_chant.results import Message
@@ -41,6 +41,7 @@ class Document:
 
     def __init__(self, file: File, text: Text, version: int | None) -> None:
         self.file, self.text, self.version = file, text, version
+        self._found: tuple[Message, ...] | None = None
 
     def changed(self, change: Callable[[Text], Text], version: int | None) -> Document:
         """Returns the score with another text."""
@@ -50,20 +51,22 @@ class Document:
     def compiled(self) -> Compiled:
         return Compiled(self.text.data)
 
-    @cached_property
-    def found(self) -> tuple[Message, ...]:
-        """All that is found, by the rules too where they are wanted."""
-        return messages_with_rules(self.text.data) if self.file.with_rules else unsilenced(self.text.data, self.compiled.messages)
+    def find(self, pause: Pause = go_on) -> tuple[Message, ...]:
+        """Returns all that is found, by the rules too where they are wanted."""
+        if self._found is None:
+            data = self.text.data
+            self._found = messages_with_rules(data, pause) if self.file.with_rules else unsilenced(data, self.compiled.messages)
+        return self._found
 
     @cached_property
     def messages(self) -> tuple[Message, ...]:
         """The messages that are reported."""
-        return self.file.selection.of(self.found)
+        return self.file.selection.of(self.find())
 
     @cached_property
     def helps(self) -> tuple[str | None, ...]:
         """The help for each message that is reported."""
-        return helps_for(self.text.plain, self.found, self.messages) if self.messages else ()
+        return helps_for(self.text.plain, self.find(), self.messages) if self.messages else ()
 
     @cached_property
     def subject(self) -> Subject:

@@ -6,6 +6,7 @@ import os
 from collections.abc import Callable
 from urllib.parse import unquote_to_bytes, urlsplit
 
+from gregorio_chant.dump import Pause
 from gregorio_chant.server.diagnostics import diagnostics, no_diagnostics
 from gregorio_chant.server.document import Document, File
 from gregorio_chant.server.features import CAPABILITIES, FEATURES, Refused
@@ -25,6 +26,10 @@ class _Phase(enum.Enum):
     BEFORE = enum.auto()
     OPEN = enum.auto()
     SHUT_DOWN = enum.auto()
+
+
+class _Overtaken(Exception):
+    """Another message came while a score was checked."""
 
 
 def name_of(uri: str) -> str:
@@ -57,7 +62,11 @@ class Session:
         return self._phase is _Phase.SHUT_DOWN
 
     def run(self, inbox: Inbox) -> None:
-        """Answers until nothing more comes. A change that is followed by another message is not checked before that."""
+        """Answers until nothing more comes. A message that comes while a score is checked is answered first, and the check begins again after it."""
+        def pause() -> None:
+            if not inbox.is_empty or inbox.is_closed:
+                raise _Overtaken
+
         while True:
             message = inbox.take(waits=not self._unchecked)
             if message is not None:
@@ -65,7 +74,7 @@ class Session:
             elif inbox.is_closed:
                 return
             else:
-                self._check(next(iter(self._unchecked)))
+                self._check(next(iter(self._unchecked)), pause)
 
     def _notify(self, method: str, params: Json) -> None:
         self._send({"jsonrpc": "2.0", "method": method, "params": params})
@@ -171,11 +180,16 @@ class Session:
         if self._documents.pop(uri, None) is not None:
             self._notify("textDocument/publishDiagnostics", no_diagnostics(uri))
 
-    def _check(self, uri: str) -> None:
-        del self._unchecked[uri]
+    def _check(self, uri: str, pause: Pause) -> None:
+        document = self._documents[uri]
         try:
-            told = diagnostics(self._documents[uri])
+            document.find(pause)
+            told = diagnostics(document)
+            del self._unchecked[uri]
+        except _Overtaken:
+            return
         except Exception:
+            del self._unchecked[uri]
             self._warn("this score could not be checked, which is a defect of gregorio-chant")
             return
         self._notify("textDocument/publishDiagnostics", told)
