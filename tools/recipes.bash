@@ -38,12 +38,7 @@ if [ "${#missing[@]}" -gt 0 ]; then
   if bring "$room/apt" "${missing[@]}"; then
     files="$room/apt/files"
     has_tool jq || brought_command "$room/brought" jq "$files/usr/bin/jq"
-    has_tool vim || brought_command "$room/brought" vim "$files/usr/bin/vim.basic" "VIMRUNTIME=$(echo "$files"/usr/share/vim/vim[0-9]*)"
-    has_tool nvim || brought_command "$room/brought" nvim "$files/usr/bin/nvim" "VIMRUNTIME=$files/usr/share/nvim/runtime"
-    lisp="$(echo "$files"/usr/share/emacs/[0-9]*)"
-    has_tool emacs || brought_command "$room/brought" emacs "$files/usr/bin/emacs-nox" \
-      "EMACSLOADPATH=$lisp/lisp:$lisp/lisp/emacs-lisp:$lisp/lisp/progmodes" "EMACSDATA=$lisp/etc" "EMACSDOC=$lisp/etc" \
-      "--dump-file=$(find "$files" -name emacs.pdmp | head -n 1)"
+    brought_editors "$room/brought" "$files"
     hash -r
   else
     echo "try_program: ${missing[*]} could not be brought: no apt-get, or no network"

@@ -128,7 +128,8 @@ async function main() {
   results.all = await providers.act.provideCodeActions(document, line, { diagnostics: [], only: new Kind("source.fixAll") }, token);
   results.format = await providers.format.provideDocumentFormattingEdits(document, { tabSize: 2 }, token);
   results.formatLines = await providers.formatLines.provideDocumentRangeFormattingEdits(document, new Range(0, 0, 0, 1), {}, token);
-  results.hover = await providers.hover.provideHover(document, at, cancelled);
+  await providers.hover.provideHover(document, at, cancelled);
+  results.hover = await providers.hover.provideHover(document, at, token);
   results.outline = await providers.outline.provideDocumentSymbols(document, token);
   results.fold = await providers.fold.provideFoldingRanges(document, {}, token);
   results.colour = [...(await providers.colour.provideDocumentSemanticTokens(document, token)).data];
