@@ -9,9 +9,8 @@ import unittest
 from pathlib import Path
 from typing import Any
 
-from support import FAULTY, ROOT, InFolder
+from support import FAULTY, InFolder, lines_for
 
-MODE = ROOT / "editors" / "emacs" / "gabc-mode.el"
 SCORE = "name: a: b;\n% b\n%%\n(c4) <i>K</i>$<(f.[x]|viS1|g) %c\ny(;) <sp>R/</sp>(::) a:(f)\n"
 # The colours at places of this score, by line and column from 1.
 FACES = {
@@ -82,9 +81,10 @@ class Emacs(InFolder):
     maxDiff = None
 
     def run_emacs(self, trial: str) -> list[Any]:
+        self.put("init.el", lines_for("emacs"))
         self.put("trial.el", trial)
         ran = subprocess.run(
-            ["emacs", "--batch", "-l", str(MODE), "-l", "trial.el"], env={**os.environ, "HOME": str(self.room)},
+            ["emacs", "--batch", "-l", "init.el", "-l", "trial.el"], env={**os.environ, "HOME": str(self.room)},
             stdin=subprocess.DEVNULL, capture_output=True, timeout=100, check=False,
         )
         if ran.returncode == 77:

@@ -8,9 +8,8 @@ import subprocess
 import unittest
 from typing import Any
 
-from support import FAULTY, ROOT, InFolder
+from support import FAULTY, InFolder, lines_for
 
-PLUGIN = ROOT / "editors" / "vim"
 SCORE = "name: a;\nnabc-lines: 1; % b\n%%\n(c4) <i>K</i>$<(f.[x]|viS1|g)%c\ny(;) <sp>R/</sp>(::)\n"
 # The names of the colours at places of this score, by line and column from 1.
 COLOURS = {
@@ -85,10 +84,7 @@ class Editing(InFolder):
         self.put("a.gabc", SCORE)
         self.put("b.gabc", FAULTY)
         names = ", ".join(f"synIDattr(synID({line}, {column}, 1), 'name')" for line, column in COLOURS)
-        self.put("trial.vim", f"""set runtimepath^={PLUGIN}
-filetype plugin on
-syntax on
-edit a.gabc
+        self.put("trial.vim", f"""edit a.gabc
 call writefile([json_encode([&filetype, &commentstring]), json_encode([{names}])], 'shown')
 edit b.gabc
 silent make!
@@ -102,19 +98,21 @@ qall!
 
     @unittest.skipUnless(shutil.which("vim") and shutil.which("gregorio-chant"), "there is no vim, or no gregorio-chant on the path")
     def test_vim(self) -> None:
-        self.check_colours("vim", "-N", "-es", "-n", "-u", "NONE")
+        self.put("vimrc", lines_for("vim"))
+        self.check_colours("vim", "-N", "-es", "-n", "-u", "vimrc")
 
     @unittest.skipUnless(shutil.which("nvim") and shutil.which("gregorio-chant"), "there is no neovim, or no gregorio-chant on the path")
     def test_neovim_by_itself(self) -> None:
-        self.check_colours("nvim", "--headless", "-n", "-u", "NONE")
+        self.put("init.lua", lines_for("neovim"))
+        self.check_colours("nvim", "--headless", "-n", "-u", "init.lua")
 
     @unittest.skipUnless(shutil.which("nvim") and shutil.which("gregorio-chant"), "there is no neovim, or no gregorio-chant on the path")
     def test_neovim(self) -> None:
-        self.put("init.vim", f"set runtimepath^={PLUGIN}\n")
+        self.put("init.lua", lines_for("neovim"))
         self.put("trial.lua", TRIAL)
         self.put("a b.gabc", FAULTY)
         self.put("b.gabc", "%%\n")
-        shown = self.run_editor("nvim", "--headless", "-u", "init.vim", "-n", "a b.gabc", "-c", "luafile trial.lua")
+        shown = self.run_editor("nvim", "--headless", "-u", "init.lua", "-n", "a b.gabc", "-c", "luafile trial.lua")
         head = ["name: Kyrie;", "%%"]
         no_clef = "note before any clef"
         self.assertEqual(
