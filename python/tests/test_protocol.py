@@ -24,13 +24,18 @@ def long_score(size: int) -> str:
 
 
 class Abuse(Served):
+    def setUp(self) -> None:
+        super().setUp()
+        self.logged: list[str] = []
+
     def error(self, message: object) -> int:
         """Sends a message, and returns the code of the error that answers it."""
         self.send(message)
         return self.refused()
 
     def refused(self) -> int:
-        answer = self.receive()
+        while (answer := self.receive()).get("method") == "window/logMessage":
+            self.logged.append(answer["params"]["message"])
         self.assertEqual(set(answer), {"jsonrpc", "id", "error"}, answer)
         self.assertEqual(set(answer["error"]), {"code", "message"})
         for it in ("Traceback", "/gregorio_chant", ".py"):
@@ -75,6 +80,9 @@ class Abuse(Served):
         self.send({"method": "textDocument/didClose"})
         self.send({"method": "$/cancelRequest", "params": {"id": {}}})
         self.assertEqual(self.error({"id": 3, "method": "textDocument/none", "params": {}}), NO_METHOD)
+        self.assertEqual(self.logged, [
+            "textDocument/didChange: params.textDocument: an object with uri is wanted", "textDocument/didClose: params: an object with textDocument is wanted",
+        ])
         self.check_serves()
 
     def test_bad_parameters(self) -> None:
@@ -102,6 +110,11 @@ class Abuse(Served):
             self.put(b"Content-Length: %d\r\n\r\n%s" % (len(body), body))
             self.assertEqual(self.refused(), NO_JSON, body[:20])
         self.check_serves()
+
+    def test_names_that_are_none(self) -> None:
+        for uri in ("", "file://[", "file:///a%00b", "file:///a\0b", "untitled:Untitled-1", "file:", "http://a/b", "file:///" + "a/" * 5000, "file:///%ff"):
+            self.uri = uri
+            self.assertEqual([it["code"] for it in self.open(FAULTY)], ["E1"], uri)
 
     def test_text_that_is_none(self) -> None:
         """A text of halves of characters, and one of 1 MB of nonsense, are scores with a fault."""
@@ -148,7 +161,6 @@ class Typing(Served):
             told = self.receive()["params"]
             checked.append(told["version"])
         seconds = time.monotonic() - last
-        print(f"30 keystrokes: {len(checked)} checks, the last one {seconds:.2f} s after the last keystroke", flush=True)
         self.assertEqual(checked, sorted(set(checked)))
         self.assertIn("W6", [it["code"] for it in told["diagnostics"]])
         self.assertLess(len(checked), 20)

@@ -26,12 +26,16 @@ class Message:
         return it if isinstance(it, (str, int, float)) and not isinstance(it, bool) else None
 
     @property
-    def wants_answer(self) -> bool:
-        """Whether it is no notification, and no answer to what the server told."""
+    def is_answer(self) -> bool:
+        """Whether it answers something that the server has asked."""
         it = self.value
-        if not isinstance(it, dict):
-            return True
-        return "id" in it and ("method" in it or not ("result" in it or "error" in it)) or "method" not in it and "id" not in it
+        return isinstance(it, dict) and "id" in it and "method" not in it and ("result" in it or "error" in it)
+
+    @property
+    def wants_answer(self) -> bool:
+        """Whether it is no notification and no answer: what is no message at all is answered too."""
+        it = self.value
+        return not self.is_answer and (not isinstance(it, dict) or "id" in it or "method" not in it)
 
 
 class Inbox:

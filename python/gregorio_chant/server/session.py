@@ -7,6 +7,7 @@ from collections.abc import Callable
 from urllib.parse import unquote_to_bytes, urlsplit
 
 from gregorio_chant.dump import Pause
+from gregorio_chant.needs import Missing
 from gregorio_chant.server.diagnostics import diagnostics, no_diagnostics
 from gregorio_chant.server.document import Document, File
 from gregorio_chant.server.features import CAPABILITIES, FEATURES, Refused
@@ -17,7 +18,7 @@ from gregorio_chant.server.wire import Unreadable
 from gregorio_chant.settings import Finder, Settings, SettingsError
 from gregorio_chant.streams import STDIN
 
-_WARNING = 2
+_ERROR, _WARNING = 1, 2
 
 
 class _Phase(enum.Enum):
@@ -38,7 +39,8 @@ def name_of(uri: str) -> str:
         parts = urlsplit(uri)
     except ValueError:
         return STDIN
-    return os.fsdecode(unquote_to_bytes(parts.path)) if parts.scheme == "file" and "%00" not in parts.path else STDIN
+    path = unquote_to_bytes(parts.path)
+    return os.fsdecode(path) if parts.scheme == "file" and path and b"\0" not in path else STDIN
 
 
 class Session:
@@ -86,19 +88,25 @@ class Session:
 
     def _take(self, message: Message) -> None:
         """Answers a message. Whatever goes wrong is an error of the protocol, and the next message is answered."""
+        key, told = "error", ""
         try:
             key, answer = "result", self._answer(message)
         except ProtocolError as error:
-            key, answer = "error", error.to_json()
+            answer, told = error.to_json(), str(error)
         except Exception:
-            key, answer = "error", ProtocolError(Code.INTERNAL, "the server failed here, which is a defect of gregorio-chant").to_json()
+            told = "the server failed here, which is a defect of gregorio-chant"
+            answer = ProtocolError(Code.INTERNAL, told).to_json()
         if message.wants_answer:
             self._send({"jsonrpc": "2.0", "id": message.id, key: answer})
+        elif key == "error":
+            self._notify("window/logMessage", {"type": _ERROR, "message": f"{message.method}: {told}"})
 
     def _answer(self, message: Message) -> Json:
         value = message.value
         if isinstance(value, Unreadable):
             raise ProtocolError(Code.NO_JSON, value.reason)
+        if message.is_answer:
+            return None
         if not isinstance(value, dict) or value.get("jsonrpc") != "2.0":
             raise ProtocolError(Code.NO_REQUEST, "a message is an object with jsonrpc 2.0")
         if message.is_cancelled:
@@ -153,7 +161,7 @@ class Session:
     def _settings_of(self, name: str) -> Settings:
         try:
             return self._settings.of(name)
-        except SettingsError as error:
+        except (SettingsError, Missing) as error:
             self._warn(str(error))
             return Settings()
 
