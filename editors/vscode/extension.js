@@ -6,9 +6,10 @@ const vscode = require("vscode");
 
 const SELECTOR = { language: "gabc" };
 const FIX_ALL = "source.fixAll.gregorio-chant";
+const TRIGGERS = ["<", ">", "|"];
 const TOKENS = ["property", "comment", "keyword", "parameter", "class", "operator", "variable", "function"];
 
-// The server as a process: requests are promises, and what it tells goes to `told`.
+// The server as a process: requests are promises, and its notifications go to `told`.
 class Connection {
   constructor(command, told, ended) {
     this.told = told;
@@ -225,7 +226,7 @@ function providers(client) {
     languages.registerDocumentFormattingEditProvider(SELECTOR, { provideDocumentFormattingEdits: format }),
     languages.registerDocumentRangeFormattingEditProvider(SELECTOR, { provideDocumentRangeFormattingEdits: formatLines }),
     languages.registerHoverProvider(SELECTOR, { provideHover: hover }),
-    languages.registerCompletionItemProvider(SELECTOR, { provideCompletionItems: complete }, "<", ">", "|"),
+    languages.registerCompletionItemProvider(SELECTOR, { provideCompletionItems: complete }, ...TRIGGERS),
     languages.registerDocumentSymbolProvider(SELECTOR, { provideDocumentSymbols: outline }),
     languages.registerFoldingRangeProvider(SELECTOR, { provideFoldingRanges: fold }),
     languages.registerDocumentSemanticTokensProvider(SELECTOR, { provideDocumentSemanticTokens: colour }, legend),

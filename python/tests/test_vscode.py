@@ -11,9 +11,12 @@ import zipfile
 from pathlib import Path
 from typing import Any
 
-from gregorio_chant.results import Status
 from gregorio_chant.helps import Subject
 from gregorio_chant.library import compile
+from gregorio_chant.results import Status
+from gregorio_chant.server.actions import FIX_ALL
+from gregorio_chant.server.completion import TRIGGERS
+from gregorio_chant.server.tokens import KINDS as TOKENS
 from support import EXAMPLES, ROOT, InFolder
 
 EXTENSION = ROOT / "editors" / "vscode"
@@ -107,6 +110,13 @@ class Extension(InFolder):
         self.assertEqual(change["contentChanges"], [{"range": ends_of_range, "text": "\U0001d11e<sp>"}])
         self.assertIn("$/cancelRequest", [it["method"] for it in said])
         self.assertLessEqual(set(WANTED), {it["method"] for it in said})
+
+    def test_words_of_the_server(self) -> None:
+        """What the extension has to know before the server answers is what the server says."""
+        script = (EXTENSION / "extension.js").read_text(encoding="utf-8")
+        for name, words in (("TOKENS", TOKENS), ("TRIGGERS", TRIGGERS), ("FIX_ALL", FIX_ALL)):
+            found = re.search(rf"^const {name} = (.*);$", script, re.MULTILINE)
+            self.assertEqual(found and json.loads(found[1]), words)
 
     def test_server_that_is_missing(self) -> None:
         trial = TRIAL.read_text(encoding="utf-8").replace("results.opened = await next;", "await new Promise((go) => setTimeout(go, 300)); console.log(warnings[0]); process.exit();")

@@ -99,7 +99,7 @@ class Session:
         if message.wants_answer:
             self._send({"jsonrpc": "2.0", "id": message.id, key: answer})
         elif key == "error":
-            self._notify("window/logMessage", {"type": _ERROR, "message": f"{message.method}: {told}"})
+            self._notify("window/logMessage", {"type": _ERROR, "message": f"{(message.method or '')[:80]}: {told}"})
 
     def _answer(self, message: Message) -> Json:
         value = message.value
