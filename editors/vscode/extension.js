@@ -112,7 +112,6 @@ function symbolOf(it) {
 function completionOf(it) {
   const made = new vscode.CompletionItem(it.label, it.kind - 1);
   made.detail = it.detail;
-  made.filterText = it.filterText;
   made.insertText = it.textEdit.newText;
   made.range = rangeOf(it.textEdit.range);
   return made;

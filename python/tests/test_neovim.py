@@ -61,6 +61,15 @@ put("repaired", await(0))
 put("symbols", ask("documentSymbol", {}))
 line(2, "(c4) <sp>")
 put("completed", vim.list_slice(ask("completion", { position = { line = 2, character = 9 } }), 1, 2))
+line(2, "(c4) <s")
+vim.api.nvim_win_set_cursor(0, { 3, 7 })
+local offered
+vim.fn.complete = function(column, items) offered = { column, items[1].word, items[2].word } end
+vim.fn.mode = function() return "i" end
+vim.cmd("startinsert!")
+vim.lsp.omnifunc(1, "")
+vim.wait(20000, function() return offered end, 20)
+put("completed by omnifunc", offered)
 vim.cmd("edit! b.gabc")
 put("another score", await(1))
 put("servers", #(vim.lsp.get_clients or vim.lsp.get_active_clients)())
@@ -126,6 +135,7 @@ qall!
                 ["repaired", [], [*head, "(c4) Ky$>(f)ri(g)"]],
                 ["symbols", ["name: Kyrie", "1. Ky>ri"], [*head, "(c4) Ky$>(f)ri(g)"]],
                 ["completed", ["ae", "oe"], [*head, "(c4) <sp>"]],
+                ["completed by omnifunc", [6, "<sc>", "<sp>"], [*head, "(c4) <s"]],
                 ["another score", [[0, 0, "W1", "no name header"]], ["%%"]],
                 ["servers", 1, ["%%"]],
             ],

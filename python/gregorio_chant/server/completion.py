@@ -35,7 +35,7 @@ def completion(document: Document, params: Params) -> Json:
 
 def _item(document: Document, label: str, kind: int, detail: str, new: str, begin: int, end: int) -> Json:
     edit = {"range": document.text.range(begin, end).to_json(), "newText": new}
-    return {"label": label, "kind": kind, "detail": detail, "textEdit": edit, "filterText": label}
+    return {"label": label, "kind": kind, "detail": detail, "textEdit": edit}
 
 
 def _headers(document: Document, before: str) -> Json:
