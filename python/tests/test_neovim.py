@@ -55,7 +55,7 @@ put("formatted", messages())
 line(2, "(c4) Ky>(f)ri(g)")
 put("a repair is wanted", await(1))
 vim.ui.select = function(items, _, choose) choose(items[1]) end
-vim.api.nvim_win_set_cursor(0, { 3, 7 })
+vim.api.nvim_win_set_cursor(0, { 3, 0 })
 vim.lsp.buf.code_action()
 put("repaired", await(0))
 put("symbols", ask("documentSymbol", {}))

@@ -31,6 +31,7 @@ class Actions(Served):
         self.assertEqual(applied(STYLES, self.edits_of(repair)).split("\n")[2], "(c4) <i>Ky</i>(f)<i>ri</i>(g) e>(h) <x>lei(g)")
         self.assertEqual([it["title"] for it in others], ["Silence W3 on this line", "Silence W3 in this score", "Make all safe repairs"])
         self.assertEqual(self.offered(0, 0, 0, 3), [])
+        self.assertEqual(self.offered(0, 0, 0, 3, diagnostics=shown[:1])[0]["title"], repair["title"])
 
     def test_all(self) -> None:
         self.open(STYLES)

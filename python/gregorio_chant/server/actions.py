@@ -20,10 +20,12 @@ KINDS = [_QUICK, FIX_ALL]
 
 
 def actions(document: Document, params: Params) -> Json:
-    """Returns what can be done about the messages in a range. What would change the score otherwise than it says is not offered."""
+    """Returns what can be done about the messages in a range, and about those that the editor names. What would change the score otherwise than it says is not
+    offered."""
     where, context = params["range"].range(), params["context"]
     only = [it.text() for it in context["only"].parts()] if context.has("only") else []
-    here = [it for it in document.messages if range_of(document, it).meets(where)]
+    named = [it["range"].range() for it in context["diagnostics"].parts()] if context.has("diagnostics") else []
+    here = [it for it in document.messages if range_of(document, it).meets(where) or range_of(document, it) in named]
     made: list[Json] = []
     if _is_wanted(_QUICK, only):
         made += [*_repairs(document, here), *_silences(document, here)]
