@@ -118,7 +118,7 @@ class Abuse(Served):
 
     def test_text_that_is_none(self) -> None:
         """A text of halves of characters, and one of 1 MB of nonsense, are scores with a fault."""
-        for text in ("name: a;\n%%\n(c4) \ud834(g5)", "\0<(%[|" * 170_000):
+        for text in ("name: a;\n%%\n(c4) <x>\ud834(g5)", "\0<(%[|" * 170_000):
             self.assertNotEqual(self.open(text), [])
             for it in ("hover", "formatting", "documentSymbol", "foldingRange", "completion", "codeAction", "semanticTokens/full"):
                 self.ask_here(it, position={"line": 2, "character": 6}, options={}, range=span(2, 0, 2, 9), context={})

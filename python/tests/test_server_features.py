@@ -4,9 +4,14 @@ from __future__ import annotations
 import tempfile
 import unittest
 from pathlib import Path
-from typing import Any
+from typing import Any, cast
 
 from client import Served, Told, applied, place, span
+from gregorio_chant.server.actions import actions
+from gregorio_chant.server.document import Document, File
+from gregorio_chant.server.protocol import Params
+from gregorio_chant.server.text import Text
+from gregorio_chant.settings import Settings
 from support import EXAMPLES, FAULTY, scores_of_tables
 
 STYLES = "name: a;\n%%\n(c4) <i>Ky(f)ri</i>(g) e>(h) <x>lei(g)\n"
@@ -195,6 +200,27 @@ class Lines(Served):
             text = "name: a;\n%%\n(c4) a(f) b(g)\nc(h)  d(i)\n"
             self.open(text)
             self.assertEqual(self.formatted(text, 2, 0, 2, 1), "name: a;\n%%\n(c4)\na(f)\nb(g)\nc(h)\nd(i)\n")
+
+
+class WhatActionsDo(unittest.TestCase):
+    def test_each_action_of_each_score(self) -> None:
+        """Each action does what it says: its message goes, and to silence one changes no canonical form."""
+        number = 0
+        for data in sorted(set(scores_of_tables()))[::4]:
+            document = Document(File("file:///a", "a", Settings(), False, False), Text(data.decode("utf-8", "replace")), 1)
+            asked = {"range": span(0, 0, 10**6, 0), "context": {}}
+            for action in cast("list[Told]", actions(document, Params(asked))):
+                text = document.text
+                for it in sorted(action["edit"]["changes"]["file:///a"], key=lambda it: tuple(it["range"]["start"].values()), reverse=True):
+                    text = text.changed(Params(it["range"]).range(), it["newText"])
+                made = Document(document.file, text, 2)
+                for told in action.get("diagnostics", []):
+                    codes = [[it.code for it in them.messages].count(told["code"]) for them in (document, made)]
+                    self.assertLess(codes[1], codes[0], (action["title"], document.text.raw))
+                if action["title"].startswith("Silence"):
+                    self.assertEqual(made.compiled.canonical, document.compiled.canonical, (action["title"], document.text.raw))
+                number += 1
+        self.assertGreater(number, 500)
 
 
 class Everything(Served):

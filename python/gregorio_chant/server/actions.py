@@ -25,6 +25,8 @@ def actions(document: Document, params: Params) -> Json:
     where, context = params["range"].range(), params["context"]
     only = [it.text() for it in context["only"].parts()] if context.has("only") else []
     named = [it["range"].range() for it in context["diagnostics"].parts()] if context.has("diagnostics") else []
+    if not document.is_text:
+        return []
     here = [it for it in document.messages if range_of(document, it).meets(where) or range_of(document, it) in named]
     made: list[Json] = []
     if _is_wanted(_QUICK, only):

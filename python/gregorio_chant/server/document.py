@@ -51,6 +51,11 @@ class Document:
     def compiled(self) -> Compiled:
         return Compiled(self.text.data)
 
+    @property
+    def is_text(self) -> bool:
+        """Whether it is UTF-8: half a character of UTF-16, which an editor may send, is none."""
+        return self.compiled.fault is None or self.compiled.fault.code != "F1"
+
     def find(self, pause: Pause = go_on) -> tuple[Message, ...]:
         """Returns all that is found, by the rules too where they are wanted."""
         if self._found is None:
