@@ -117,12 +117,12 @@ qall!
 
     @unittest.skipUnless(shutil.which("nvim") and shutil.which("gregorio-chant"), "there is no neovim, or no gregorio-chant on the path")
     def test_neovim(self) -> None:
-        self.put("init.lua", lines_for("neovim"))
+        self.put("init.lua", 'vim.g.gregorio_chant_server = { "gregorio-chant", "server", "--rules" }\n' + lines_for("neovim"))
         self.put("trial.lua", TRIAL)
         self.put("a b.gabc", FAULTY)
-        self.put("b.gabc", "%%\n")
+        self.put("b.gabc", "name: a;\n%%\n(c5)\n")
         shown = self.run_editor("nvim", "--headless", "-u", "init.lua", "-n", "a b.gabc", "-c", "luafile trial.lua")
-        head = ["name: Kyrie;", "%%"]
+        head, other = ["name: Kyrie;", "%%"], ["name: a;", "%%", "(c5)"]
         no_clef = "note before any clef"
         self.assertEqual(
             shown,
@@ -136,8 +136,8 @@ qall!
                 ["symbols", ["name: Kyrie", "1. Ky>ri"], [*head, "(c4) Ky$>(f)ri(g)"]],
                 ["completed", ["ae", "oe"], [*head, "(c4) <sp>"]],
                 ["completed by omnifunc", [6, "<sc>", "<sp>"], [*head, "(c4) <s"]],
-                ["another score", [[0, 0, "W1", "no name header"]], ["%%"]],
-                ["servers", 1, ["%%"]],
+                ["another score", [[2, 1, "clef-off-staff", "the clef c5 wants a line 5, and the staff has 4 lines"]], other],
+                ["servers", 1, other],
             ],
         )
 
