@@ -1,5 +1,5 @@
-# Runs each recipe of docs/USE.md, on scores that could lose something, and of docs/EDITORS.md. For tools/try_program, which sources it: `room`, `program`, `check` and the rest
-# are its own.
+# Runs each recipe of docs/USE.md, on scores that could lose something, and of docs/EDITORS.md. For tools/try_program, which sources it: `room`, `program`,
+# `check` and the rest are its own.
 
 # shellcheck source=tools/bring.bash
 . "$here/tools/bring.bash"
