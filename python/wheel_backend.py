@@ -1,6 +1,7 @@
 """Builds the wheel with the standard library alone (Python 3.11 or newer), so that `pip install` needs no network.
 
-The wheel holds the package, and the library for C with the file BUILD, which `tools/build_c` has to have built. It is tagged for this machine's platform. Its version is that of the
+The wheel holds the package, the library for C with the file BUILD, which `tools/build_c` has to have built, and the files for editors, which pip puts into the
+folder `share` of an environment. It is tagged for this machine's platform. Its version is that of the
 file VERSION, its license that of the file LICENSE, and the rest of its metadata that of pyproject.toml.
 """
 from __future__ import annotations
@@ -8,6 +9,7 @@ from __future__ import annotations
 import base64
 import hashlib
 import re
+import runpy
 import sysconfig
 import tomllib
 import zipfile
@@ -18,6 +20,7 @@ HERE = Path(__file__).resolve().parent
 ROOT = HERE.parent
 LIBRARY = ROOT / "crates" / "gregorio_c" / "out" / "c" / "libgregorio.so"
 PACKAGE = "gregorio_chant"
+EDITORS = ROOT / "editors"
 
 
 def _project() -> dict[str, Any]:
@@ -36,6 +39,14 @@ def _files() -> dict[str, bytes]:
         if it.exists():
             files[f"{PACKAGE}/{it.name}"] = it.read_bytes()
     return files
+
+
+def _for_editors() -> dict[str, bytes]:
+    """Returns the files for editors by their names: those for vim and emacs, and the packed extension for VS Code."""
+    sources = [it for it in sorted(EDITORS.rglob("*")) if it.suffix in (".vim", ".lua", ".el")]
+    files = {it.relative_to(EDITORS).as_posix(): it.read_bytes() for it in sources}
+    vsix: bytes = runpy.run_path(str(ROOT / "tools" / "pack_vsix"))["packed"]()
+    return files | {"gregorio-chant.vsix": vsix}
 
 
 def _metadata(project: dict[str, Any], version: str) -> str:
@@ -62,6 +73,8 @@ def build_wheel(wheel_directory: str, config_settings: object = None, metadata_d
     tag = f"py3-none-{re.sub(r'[-.]', '_', sysconfig.get_platform())}"
     info = f"{PACKAGE}-{version}.dist-info"
     files = _files()
+    data = f"{PACKAGE}-{version}.data/data/share/{project['name']}/editors"
+    files |= {f"{data}/{name}": content for name, content in _for_editors().items()}
     files[f"{info}/METADATA"] = _metadata(project, version).encode()
     files[f"{info}/licenses/LICENSE"] = (ROOT / "LICENSE").read_bytes()
     scripts = "".join(f"{name} = {call}\n" for name, call in project["scripts"].items())

@@ -44,3 +44,14 @@ brought_command() {
   } >"$folder/$name"
   chmod +x -- "$folder/$name"
 }
+
+# Writes the commands of the editors vim, nvim and emacs that are not on the path into the folder $1; $2 has the files of their packages.
+brought_editors() {
+  local folder="$1" files="$2" lisp
+  command -v vim >/dev/null || brought_command "$folder" vim "$files/usr/bin/vim.basic" "VIMRUNTIME=$(echo "$files"/usr/share/vim/vim[0-9]*)"
+  command -v nvim >/dev/null || brought_command "$folder" nvim "$files/usr/bin/nvim" "VIMRUNTIME=$files/usr/share/nvim/runtime"
+  lisp="$(echo "$files"/usr/share/emacs/[0-9]*)"
+  command -v emacs >/dev/null || brought_command "$folder" emacs "$files/usr/bin/emacs-nox" \
+    "EMACSLOADPATH=$lisp/lisp:$lisp/lisp/emacs-lisp:$lisp/lisp/progmodes" "EMACSDATA=$lisp/etc" "EMACSDOC=$lisp/etc" \
+    "--dump-file=$(find "$files" -name emacs.pdmp | head -n 1)"
+}

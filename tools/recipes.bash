@@ -1,13 +1,14 @@
-# Runs each recipe of docs/USE.md, on scores that could lose something. For tools/try_program, which sources it: `room`, `program`, `check` and the rest
-# are its own.
+# Runs each recipe of docs/USE.md, on scores that could lose something, and of docs/EDITORS.md. For tools/try_program, which sources it: `room`, `program`,
+# `check` and the rest are its own.
 
 # shellcheck source=tools/bring.bash
 . "$here/tools/bring.bash"
 
-# Writes the recipe with this name into the file `recipe`.
+# Writes the recipe with this name of the page $2, or of docs/USE.md, into the file `recipe`.
 recipe() {
-  awk -v name="$1" -f "$here/tools/recipe.awk" "$here/docs/USE.md" >recipe
-  check "docs/USE.md has the recipe $1" test -s recipe
+  local page="${2:-docs/USE.md}"
+  awk -v name="$1" -f "$here/tools/recipe.awk" "$here/$page" >recipe
+  check "$page has the recipe $1" test -s recipe
   recipes_run+=("$1")
 }
 recipes_run=()
@@ -38,12 +39,7 @@ if [ "${#missing[@]}" -gt 0 ]; then
   if bring "$room/apt" "${missing[@]}"; then
     files="$room/apt/files"
     has_tool jq || brought_command "$room/brought" jq "$files/usr/bin/jq"
-    has_tool vim || brought_command "$room/brought" vim "$files/usr/bin/vim.basic" "VIMRUNTIME=$(echo "$files"/usr/share/vim/vim[0-9]*)"
-    has_tool nvim || brought_command "$room/brought" nvim "$files/usr/bin/nvim" "VIMRUNTIME=$files/usr/share/nvim/runtime"
-    lisp="$(echo "$files"/usr/share/emacs/[0-9]*)"
-    has_tool emacs || brought_command "$room/brought" emacs "$files/usr/bin/emacs-nox" \
-      "EMACSLOADPATH=$lisp/lisp:$lisp/lisp/emacs-lisp:$lisp/lisp/progmodes" "EMACSDATA=$lisp/etc" "EMACSDOC=$lisp/etc" \
-      "--dump-file=$(find "$files" -name emacs.pdmp | head -n 1)"
+    brought_editors "$room/brought" "$files"
     hash -r
   else
     echo "try_program: ${missing[*]} could not be brought: no apt-get, or no network"
@@ -255,11 +251,11 @@ cat "$room/messages" >>list
 wanted='Kyrie è.gabc 1 1 w
 Kyrie è.gabc 2 3 e
 empty.gabc 1 1 f'
-recipe emacs
+recipe emacs docs/EDITORS.md
 mv recipe emacs.el
-recipe vim
+recipe vim docs/EDITORS.md
 mv recipe vim.vim
-recipe vscode
+recipe vscode docs/EDITORS.md
 mv recipe tasks.json
 
 # What :make in this editor lists of the score, and that it leaves other files alone.
@@ -315,6 +311,6 @@ else
   skip 'the pattern in emacs: there is no emacs'
 fi
 
-# Each recipe of the page was run.
-check 'each recipe of docs/USE.md is tried' is "$(printf '%s\n' "${recipes_run[@]}" | sort -u)" \
-  "$(sed -n 's/^<!-- recipe: \(.*\) -->$/\1/p' "$here/docs/USE.md" | sort -u)"
+# Each recipe of the pages was run.
+check 'each recipe of docs/USE.md and docs/EDITORS.md is tried' is "$(printf '%s\n' "${recipes_run[@]}" | sort -u)" \
+  "$(sed -n 's/^<!-- recipe: \(.*\) -->$/\1/p' "$here/docs/USE.md" "$here/docs/EDITORS.md" | sort -u)"

@@ -43,6 +43,14 @@ _BLANKS = re.compile(r"[ \t\n]+")
 _FIRST_WORD = re.compile(r"^[^ :\n]*", re.MULTILINE)
 
 
+# Is called now and then in long work, and may raise to break it off.
+Pause = Callable[[], None]
+
+
+def go_on() -> None:
+    """Pauses for nothing."""
+
+
 class DumpError(ValueError):
     """A text is no dump that this reader reads."""
 
@@ -73,9 +81,9 @@ class Score:
         return tuple(note for it in self.syllables for note in it.notes)
 
     @classmethod
-    def read(cls, dump: str) -> Score:
-        """Reads a dump. Raises `DumpError` where it is none, or of another version."""
-        return _Reader(dump).score()
+    def read(cls, dump: str, pause: Pause = go_on) -> Score:
+        """Reads a dump, with a pause before each syllable. Raises `DumpError` where it is none, or of another version."""
+        return _Reader(dump).score(pause)
 
     @classmethod
     def parse(cls, score: str | bytes | bytearray | memoryview) -> Score:
@@ -183,14 +191,15 @@ class _Reader:
         self.pen.write("%%")
         return tuple(headers)
 
-    def syllables(self) -> Iterator[Syllable]:
-        """Takes the syllables one by one, then the last line, and lets go what was written before each of them."""
+    def syllables(self, pause: Pause = go_on) -> Iterator[Syllable]:
+        """Takes the syllables one by one, with a pause before each, then the last line, and lets go what was written before each of them."""
         number = 0
         while True:
             if self._at == len(self._lines) - 1 and self._after < len(self._dump):
                 self._cut_lines()
             if self.word() != "syllable":
                 break
+            pause()
             number += 1
             yield self._syllable(number)
             self.pen.written.clear()
@@ -200,11 +209,11 @@ class _Reader:
         if self.word():
             raise self.fail(f"'{self.word()}' was not awaited")
 
-    def score(self) -> Score:
+    def score(self, pause: Pause) -> Score:
         headers = self.headers()
         written: list[str] = []
         syllables: list[Syllable] = []
-        for it in self.syllables():
+        for it in self.syllables(pause):
             syllables.append(it)
             written += self.pen.written
         written += [*self.pen.written, "\n"]

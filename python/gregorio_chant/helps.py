@@ -17,8 +17,8 @@ from gregorio_chant.source import Lines
 
 _LEFT_OUT = frozenset(("E1", "E2", "E3"))
 _STYLES = ("b", "c", "e", "i", "sc", "tt", "ul")
-_TAGS = (*_STYLES, "eu", "nlba", "v", "sp", "alt")
-_CODES = "vi pu ta gr cl pe po to ci sc pf sf tr st ds ts tg bv tv pr pi vs or sa pq pt ql qi un oc ni".split()
+TAGS = (*_STYLES, "eu", "nlba", "v", "sp", "alt")
+NABC_CODES = "vi pu ta gr cl pe po to ci sc pf sf tr st ds ts tg bv tv pr pi vs or sa pq pt ql qi un oc ni".split()
 _STYLE_TAG = re.compile(r"\$.|<(/?)(b|c|e|i|sc|tt|ul)>", re.DOTALL)
 _TAG = re.compile(r"<(/?)([^>]*)>")
 _CLOSERS = {"(": ")", "[": "]", "<": ">"}
@@ -189,14 +189,14 @@ def _unknown_tag(subject: Subject, at: int) -> str:
         return "write $< for the character itself"
     if "(" in tag[2] or "\n" in tag[2]:
         return "this < takes all up to the next > for its tag: write $< for the character itself, or the > that lacks"
-    near = difflib.get_close_matches(tag[2], _TAGS, 1, 0.6)
+    near = difflib.get_close_matches(tag[2], TAGS, 1, 0.6)
     return f"there is no tag {named(tag[0])}" + (f": did you mean <{tag[1]}{near[0]}>?" if near else "; it is kept as it stands")
 
 
 def _unknown_code(subject: Subject, at: int) -> str:
     code = subject.text[max(at - 1, 0) : at + 1]
     turned = code[::-1]
-    return f"{named(code)} is no code of the manual" + (f": did you mean {turned}?" if turned in _CODES else "; it is kept as it stands")
+    return f"{named(code)} is no code of the manual" + (f": did you mean {turned}?" if turned in NABC_CODES else "; it is kept as it stands")
 
 
 def _macro(subject: Subject, at: int) -> str:

@@ -12,7 +12,7 @@ from gregorio_chant.selection import KINDS, RULES, group_of
 from gregorio_chant.source import Lines, Place, text_of
 
 _WORD = b"gregorio:"
-_IGNORE = re.compile(r"%[ \t]*gregorio:[ \t]*(ignore-file|ignore)(?![\w-])([^%\n]*)")
+IGNORE = re.compile(r"%[ \t]*gregorio:[ \t]*(ignore-file|ignore)(?![\w-])([^%\n]*)")
 _CODE = re.compile(r"[^\s,]+")
 _LEFT_OUT = frozenset(("E1", "E2", "E3"))
 
@@ -63,7 +63,7 @@ def _ignores_in(data: bytes, messages: Iterable[Message]) -> Iterator[_Ignore]:
     lines = Lines(text_of(data))
     left_out = {lines.offset(it.line, it.column) for it in messages if it.code in _LEFT_OUT}
     for comment in scan(lines.text, left_out).comments:
-        for found in _IGNORE.finditer(lines.text, comment.begin, comment.end):
+        for found in IGNORE.finditer(lines.text, comment.begin, comment.end):
             in_file = found[1] == "ignore-file"
             codes = list(_CODE.finditer(lines.text, *found.span(2)))
             yield from (_Ignore(lines.place(it.start()), it[0], in_file) for it in codes)

@@ -9,7 +9,7 @@ import bisect
 import itertools
 import re
 from collections import Counter
-from collections.abc import Callable, Iterator, Sequence
+from collections.abc import Callable, Iterable, Iterator, Sequence
 from dataclasses import dataclass
 
 from gregorio_chant.compiled import Compiled
@@ -264,7 +264,8 @@ def _is_repaired(old: Compiled, new: Compiled, edits: _Edits, targets: Sequence[
 # ---- what is made of a score
 
 
-def _with_edits(data: bytes, edits: Sequence[Edit]) -> bytes:
+def with_edits(data: bytes, edits: Sequence[Edit]) -> bytes:
+    """Returns the score with these edits, of which none begins before the one before it ends."""
     raw = data.decode("utf-8")
     offsets = raw_offsets(raw)
     line_end = re.search("\r\n|\n|\r", raw)
@@ -284,27 +285,42 @@ class How:
     selection: Selection = Selection()
 
 
-_Proposal = tuple[Message, _Edits]
+@dataclass(frozen=True)
+class Proposal:
+    """The edits that a repair would make for a message, the first one first."""
+
+    message: Message
+    repair: Repair
+    edits: _Edits
 
 
-def _proposals(score: Compiled, how: How) -> Iterator[_Proposal]:
+def _proposals(score: Compiled, messages: Iterable[Message], allow_unsafe: bool) -> Iterator[Proposal]:
     subject = Subject(text_of(score.data), score.messages)
-    for message in how.selection.of(_found(score, how.with_rules)):
+    for message in messages:
         for repair in REPAIRS.values():
-            if message.code in repair.codes and (repair.is_safe or how.allow_unsafe):
+            if message.code in repair.codes and (repair.is_safe or allow_unsafe):
                 edits = repair.find(subject, subject.offset(message))
                 if edits:
-                    yield message, tuple(sorted(edits))
+                    yield Proposal(message, repair, tuple(sorted(edits)))
 
 
-def _together(proposals: Sequence[_Proposal]) -> tuple[list[Message], _Edits]:
+def repairs_of(score: Compiled, messages: Iterable[Message], with_rules: bool) -> Iterator[Proposal]:
+    """Yields each repair of these messages that may be made by itself, unsafe ones too."""
+    if score.fault is not None and score.fault.code == "F1":
+        return
+    for it in _proposals(score, messages, allow_unsafe=True):
+        if _is_repaired(score, Compiled(with_edits(score.data, it.edits)), it.edits, [it.message], with_rules):
+            yield it
+
+
+def _together(proposals: Sequence[Proposal]) -> tuple[list[Message], _Edits]:
     """Returns the messages and edits of as many proposals as can be made together: none begins before the one before it ends."""
     targets: list[Message] = []
     edits: list[Edit] = []
-    for message, its in sorted(proposals, key=lambda it: it[1]):
-        if not edits or edits[-1].end < its[0].offset:
-            targets.append(message)
-            edits += its
+    for it in sorted(proposals, key=lambda it: it.edits):
+        if not edits or edits[-1].end < it.edits[0].offset:
+            targets.append(it.message)
+            edits += it.edits
     return targets, tuple(edits)
 
 
@@ -322,11 +338,12 @@ def repaired_once(data: bytes, how: How) -> bytes:
     old = Compiled(data)
     if old.fault is not None and old.fault.code == "F1":
         return data
-    proposals = list(itertools.islice(_proposals(old, how), _MOST_TRIED))
+    messages = how.selection.of(_found(old, how.with_rules))
+    proposals = list(itertools.islice(_proposals(old, messages, how.allow_unsafe), _MOST_TRIED))
     tries = [_together(proposals)] if len(proposals) > 1 else []
-    tries += [([message], edits) for message, edits in proposals]
+    tries += [([it.message], it.edits) for it in proposals]
     for targets, edits in tries:
-        made = _with_edits(data, edits)
+        made = with_edits(data, edits)
         if _is_repaired(old, Compiled(made), edits, targets, how.with_rules):
             return made
     return data

@@ -8,7 +8,7 @@ from dataclasses import dataclass
 
 from gregorio_chant import library
 from gregorio_chant.codes import CODES
-from gregorio_chant.dump import Alteration, Attribute, Bar, Clef, Custos, Item, Note, NoteSnippet, Score, Space, Syllable
+from gregorio_chant.dump import Alteration, Attribute, Bar, Clef, Custos, Item, Note, NoteSnippet, Pause, Score, Space, Syllable, go_on
 from gregorio_chant.ignores import silenced
 from gregorio_chant.losses import Comparison
 from gregorio_chant.reports import counted
@@ -23,7 +23,7 @@ _MODE = re.compile(r"[1-8](?![0-9])")
 _TAG = re.compile(r"<[^>]*>")
 _SPECIAL = re.compile(r"\$.|<(v|alt)>.*?</\1>|<sp>(.*?)</sp>", re.DOTALL)
 # The special characters that GregorioTeX defines by default.
-_SPECIALS = frozenset(("ae", "oe", "'ae", "'oe", "'\u00e6", "'\u0153", "A/", "R/", "V/", "*", "+", "-", "\\", "&", "#", "_", "~"))
+SPECIALS = ("ae", "oe", "'ae", "'oe", "'\u00e6", "'\u0153", "A/", "R/", "V/", "*", "+", "-", "\\", "&", "#", "_", "~")
 
 
 @dataclass(frozen=True)
@@ -164,7 +164,7 @@ def _inclinata(subject: Subject) -> frozenset[int]:
 def _unknown_special(subject: Subject) -> Iterator[Found]:
     for syllable in subject.score.syllables:
         for it in _SPECIAL.finditer(syllable.text):
-            if it[2] is not None and it[2] not in _SPECIALS:
+            if it[2] is not None and it[2] not in SPECIALS:
                 yield Found(subject.comparison.source_offset(syllable.place.offset + it.start()), f"<sp>{it[2]}</sp> is none of GregorioTeX's special characters")
 
 
@@ -249,17 +249,18 @@ RULES: dict[str, Rule] = {it.name: it for it in _ALL}
 _KNOWN = frozenset((*CODES, *RULES))
 
 
-def messages_with_rules(data: bytes) -> tuple[Message, ...]:
+def messages_with_rules(data: bytes, pause: Pause = go_on) -> tuple[Message, ...]:
     """Returns what the compiler and the rules find in a score, in the order of their places, without what is silenced. Where a fatal fault stops it, no rule is
-    tried."""
+    tried. There is a pause before each rule, and more while the score is read."""
     result = library.compile(data)
     if result.status is Status.FATAL:
         return unsilenced(data, result.messages)
-    score = Score.read(library.compile(data, Format.DUMP).output)
+    score = Score.read(library.compile(data, Format.DUMP).output, pause)
     messages = result.messages
     subject = Subject(score, Comparison(data, result.output, messages), messages)
     found = []
     for rule in _ALL:
+        pause()
         for it in rule.find(subject):
             place = subject.comparison.lines.place(it.offset)
             found.append(Message(place.line, place.column, rule.kind, rule.name, it.text))

@@ -1,94 +1,19 @@
-"""Tries the language server by a client that says what editors say."""
+"""Tries the language server: messages, changes, formatting, hover, settings and its end."""
 from __future__ import annotations
 
-import json
-import subprocess
-import sys
 import tempfile
 import unittest
 from pathlib import Path
-from typing import Any
 
-from support import FAULTY, SCORE, has
+from client import Served, span
+from support import FAULTY, SCORE
 
 HELP = "'5' is no sign of the note before it: remove it"
-URI = "file:///a%20b.gabc"
 
 
-@unittest.skipUnless(has("pylsp_jsonrpc"), "there is no python-lsp-jsonrpc")
-class Serving(unittest.TestCase):
-    def setUp(self) -> None:
-        self.uri = URI
-        self.start()
-
-    def start(self, *words: str) -> None:
-        self.server = subprocess.Popen(
-            [sys.executable, "-m", "gregorio_chant", "server", *words], stdin=subprocess.PIPE, stdout=subprocess.PIPE, stderr=subprocess.PIPE
-        )
-        self.addCleanup(self.stop, self.server)
-        self.number = 0
-        self.told: list[dict[str, Any]] = []
-        self.capabilities = self.ask("initialize", {"processId": None, "rootUri": None, "capabilities": {}})["capabilities"]
-        self.tell("initialized", {})
-
-    @staticmethod
-    def stop(server: subprocess.Popen[bytes]) -> None:
-        server.kill()
-        server.wait()
-        for it in (server.stdin, server.stdout, server.stderr):
-            if it is not None:
-                it.close()
-
-    def send(self, message: dict[str, Any]) -> None:
-        body = json.dumps({"jsonrpc": "2.0", **message}).encode()
-        assert self.server.stdin
-        self.server.stdin.write(b"Content-Length: %d\r\n\r\n%s" % (len(body), body))
-        self.server.stdin.flush()
-
-    def receive(self) -> dict[str, Any]:
-        length = 0
-        assert self.server.stdout
-        while line := self.server.stdout.readline().strip():
-            if line.lower().startswith(b"content-length:"):
-                length = int(line.split(b":")[1])
-        received: dict[str, Any] = json.loads(self.server.stdout.read(length))
-        return received
-
-    def tell(self, method: str, params: object) -> None:
-        self.send({"method": method, "params": params})
-
-    def ask(self, method: str, params: object) -> Any:
-        self.number += 1
-        self.send({"id": self.number, "method": method, "params": params})
-        while "id" not in (answer := self.receive()):
-            self.told.append(answer)
-        self.assertEqual(answer["id"], self.number)
-        return answer["result"]
-
-    def open(self, text: str) -> list[dict[str, Any]]:
-        """Opens a score, and returns the messages that come."""
-        self.tell("textDocument/didOpen", {"textDocument": {"uri": self.uri, "languageId": "gabc", "version": 1, "text": text}})
-        return self.shown()
-
-    def change(self, text: str) -> list[dict[str, Any]]:
-        self.tell("textDocument/didChange", {"textDocument": {"uri": self.uri, "version": 2}, "contentChanges": [{"text": text}]})
-        return self.shown()
-
-    def shown(self) -> list[dict[str, Any]]:
-        message = self.receive()
-        self.assertEqual((message["method"], message["params"]["uri"]), ("textDocument/publishDiagnostics", self.uri))
-        diagnostics: list[dict[str, Any]] = message["params"]["diagnostics"]
-        return diagnostics
-
-    def format(self) -> Any:
-        return self.ask("textDocument/formatting", {"textDocument": {"uri": self.uri}, "options": {"tabSize": 2, "insertSpaces": True}})
-
-    def hover(self, line: int, character: int) -> str | None:
-        answer = self.ask("textDocument/hover", {"textDocument": {"uri": self.uri}, "position": {"line": line, "character": character}})
-        return None if answer is None else answer["contents"]["value"]
-
+class Serving(Served):
     def test_messages(self) -> None:
-        self.assertEqual(self.capabilities["textDocumentSync"], {"openClose": True, "change": 1})
+        self.assertEqual(self.capabilities["textDocumentSync"], {"openClose": True, "change": 2})
         (message,) = self.open(FAULTY)
         place = {"start": {"line": 2, "character": 9}, "end": {"line": 2, "character": 10}}
         self.assertEqual(
@@ -137,6 +62,7 @@ class Serving(unittest.TestCase):
             (edit,) = self.format()
             self.assertEqual(edit["newText"], "name: a;\n%%\n(c4)\na(n)\nb(g)\n")
             self.start()
+            self.version = 1
             Path(folder, "gregorio-chant.toml").write_text("rules = 3")
             self.tell("textDocument/didOpen", {"textDocument": {"uri": self.uri, "languageId": "gabc", "version": 1, "text": FAULTY}})
             self.assertIn("gregorio-chant.toml:1: rules: true or false is wanted", self.receive()["params"]["message"])
@@ -147,13 +73,31 @@ class Serving(unittest.TestCase):
         self.tell("exit", None)
         self.assertEqual(self.server.wait(20), 0)
 
+    def test_end_alone(self) -> None:
+        self.tell("exit", None)
+        self.assertEqual(self.server.wait(20), 1)
+
     def test_client_that_goes(self) -> None:
         self.open(FAULTY)
         assert self.server.stdin
         self.server.stdin.close()
         self.assertEqual(self.server.wait(20), 1)
 
-    def test_unknown_method(self) -> None:
-        self.send({"id": 9, "method": "textDocument/none", "params": {}})
-        self.assertEqual(self.receive()["error"]["code"], -32601)
-        self.assertEqual(self.open(SCORE), [])
+    def test_changes_of_parts(self) -> None:
+        self.open("name: a;\r\n%%\r\n(c4) \U0001d11e\ufeff\u00e9(f) b(g)\r\n")
+        whole = self.change({"range": span(2, 10, 2, 10), "text": "5"}, {"range": span(2, 14, 2, 15), "text": "<x>"})
+        self.assertEqual([(it["code"], it["range"]["start"]) for it in whole], [("E1", {"line": 2, "character": 10}), ("W6", {"line": 2, "character": 14})])
+        self.assertEqual(self.change({"range": span(2, 10, 2, 11), "text": ""}, {"range": span(2, 12, 99, 5), "text": ""}), [])
+        self.assertEqual(self.format()[0]["newText"], "name: a;\r\n%%\r\n(c4) \U0001d11e\ufeff\u00e9(f)")
+        self.assertEqual(self.change({"range": span(7, 0, 8, 0), "text": " a(g)"}, "name: b;\n%%\n(c4) a(g5)", {"range": span(2, 900, 2, 2), "text": ""})[0]["code"], "F6")
+
+    def test_versions(self) -> None:
+        self.open(FAULTY)
+        self.version = 41
+        self.assertEqual(self.change(SCORE), [])
+        self.tell("textDocument/didChange", {"textDocument": {"uri": self.uri, "version": None}, "contentChanges": []})
+        self.assertNotIn("version", self.receive()["params"])
+
+
+if __name__ == "__main__":
+    unittest.main()

@@ -89,9 +89,6 @@ class WithoutPackages(InFolder):
             ran = command("check", "--quiet", "--output-format", form, "a.gabc", environment=without(self.room, "rich"))
             self.assertEqual((ran.returncode, ran.stderr), (1, b""))
 
-    def test_jsonrpc(self) -> None:
-        self.check_missing("pylsp_jsonrpc", "python3-pylsp-jsonrpc", "server")
-
     def check_missing(self, module: str, package: str, *words: str) -> None:
         ran = command(*words, environment=without(self.room, module))
         self.assertEqual((ran.returncode, ran.stdout), (3, b""))

@@ -4,7 +4,6 @@ from __future__ import annotations
 import argparse
 
 from gregorio_chant.commands.words import OUTSIDE, Parser, add_no_config, settings_of
-from gregorio_chant.needs import Missing
 
 NAME = "server"
 _ABOUT = f"Serves an editor by the language server protocol over standard input and output. {OUTSIDE}"
@@ -19,9 +18,6 @@ def add(commands: argparse._SubParsersAction[Parser]) -> Parser:
 
 
 def run(words: argparse.Namespace) -> int:
-    """Serves until the editor ends it. Raises `Missing`."""
-    try:
-        from gregorio_chant.server import serve
-    except ImportError:
-        raise Missing(NAME, "python-lsp-jsonrpc") from None
+    """Serves until the editor ends it."""
+    from gregorio_chant.server.serving import serve
     return serve(words.rules, settings_of(words))

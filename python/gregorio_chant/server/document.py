@@ -1,0 +1,97 @@
+"""A score that is open in an editor, with all that is found in it, each asked for once."""
+from __future__ import annotations
+
+from collections.abc import Callable
+from dataclasses import dataclass
+from functools import cached_property
+
+from gregorio_chant.compiled import Compiled
+from gregorio_chant.dump import Pause, Score, go_on
+from gregorio_chant.formatting import Style, style_by
+from gregorio_chant.helps import Subject, helps_for
+from gregorio_chant.results import Message
+from gregorio_chant.rules import messages_with_rules, unsilenced
+from gregorio_chant.scan import Scan, scan
+from gregorio_chant.selection import Selection
+from gregorio_chant.server.text import Text
+from gregorio_chant.settings import Settings
+
+
+@dataclass(frozen=True)
+class File:
+    """What stays the same as long as a score is open: its file, what is wanted there, and whether its editor takes edits with a version."""
+
+    uri: str
+    name: str
+    settings: Settings
+    with_rules: bool
+    takes_versions: bool
+
+    @property
+    def selection(self) -> Selection:
+        return self.settings.selection(self.name)
+
+    @property
+    def style(self) -> Style:
+        return style_by(self.settings)
+
+
+class Document:
+    """A score as it stands in an editor. It does not change: a change makes another one."""
+
+    def __init__(self, file: File, text: Text, version: int | None) -> None:
+        self.file, self.text, self.version = file, text, version
+        self._found: tuple[Message, ...] | None = None
+
+    def changed(self, change: Callable[[Text], Text], version: int | None) -> Document:
+        """Returns the score with another text."""
+        return Document(self.file, change(self.text), version)
+
+    @cached_property
+    def compiled(self) -> Compiled:
+        return Compiled(self.text.data)
+
+    @property
+    def is_text(self) -> bool:
+        """Whether it is UTF-8: half a character of UTF-16, which an editor may send, is none."""
+        return self.compiled.fault is None or self.compiled.fault.code != "F1"
+
+    def find(self, pause: Pause = go_on) -> tuple[Message, ...]:
+        """Returns all that is found, by the rules too where they are wanted."""
+        if self._found is None:
+            data = self.text.data
+            self._found = messages_with_rules(data, pause) if self.file.with_rules else unsilenced(data, self.compiled.messages)
+        return self._found
+
+    @cached_property
+    def messages(self) -> tuple[Message, ...]:
+        """The messages that are reported."""
+        return self.file.selection.of(self.find())
+
+    @cached_property
+    def helps(self) -> tuple[str | None, ...]:
+        """The help for each message that is reported."""
+        return helps_for(self.text.plain, self.find(), self.messages) if self.messages else ()
+
+    @cached_property
+    def subject(self) -> Subject:
+        """The text beside the messages of the compiler."""
+        return Subject(self.text.plain, self.compiled.messages)
+
+    @cached_property
+    def score(self) -> Score:
+        """The score as objects, up to a fatal fault."""
+        return Score.read(self.compiled.dump)
+
+    @property
+    def scan(self) -> Scan:
+        """Where headers, syllables and comments stand, also where a fatal fault stops the score."""
+        return self.subject.scan
+
+    def offset(self, message: Message) -> int:
+        return self.subject.offset(message)
+
+
+def scan_before(document: Document, offset: int) -> Scan:
+    """Returns where all stands in the text before an offset."""
+    return scan(document.text.plain[:offset], document.subject.left_out)

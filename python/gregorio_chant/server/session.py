@@ -1,0 +1,203 @@
+"""What the server says to one editor: it answers messages in their order, and checks what has changed when nothing else waits."""
+from __future__ import annotations
+
+import enum
+import os
+from collections.abc import Callable
+from urllib.parse import unquote_to_bytes, urlsplit
+
+from gregorio_chant.dump import Pause
+from gregorio_chant.needs import Missing
+from gregorio_chant.server.diagnostics import diagnostics, no_diagnostics
+from gregorio_chant.server.document import Document, File
+from gregorio_chant.server.features import CAPABILITIES, FEATURES, Refused
+from gregorio_chant.server.inbox import Inbox, Message
+from gregorio_chant.server.protocol import Code, Json, Params, ProtocolError
+from gregorio_chant.server.text import Text
+from gregorio_chant.server.wire import Unreadable
+from gregorio_chant.settings import Finder, Settings, SettingsError
+from gregorio_chant.streams import STDIN
+
+_ERROR, _WARNING = 1, 2
+
+
+class _Phase(enum.Enum):
+    """How far the editor and the server are."""
+
+    BEFORE = enum.auto()
+    OPEN = enum.auto()
+    SHUT_DOWN = enum.auto()
+
+
+class _Overtaken(Exception):
+    """Another message came while a score was checked."""
+
+
+def name_of(uri: str) -> str:
+    """Returns the name of the file at a URI; that of standard input where it is the URI of none."""
+    try:
+        parts = urlsplit(uri)
+    except ValueError:
+        return STDIN
+    path = unquote_to_bytes(parts.path)
+    return os.fsdecode(path) if parts.scheme == "file" and path and b"\0" not in path else STDIN
+
+
+class Session:
+    """Answers an editor about the scores that it has open. `send` sends it a message."""
+
+    def __init__(self, send: Callable[[Json], None], with_rules: bool, settings: Finder) -> None:
+        self._send = send
+        self._with_rules = with_rules
+        self._settings = settings
+        self._documents: dict[str, Document] = {}
+        # The documents that have changed since they were checked, the first one first.
+        self._unchecked: dict[str, None] = {}
+        self._phase = _Phase.BEFORE
+        self._takes_versions = False
+        self._told: dict[str, Callable[[Params], None]] = {
+            "textDocument/didOpen": self._opened, "textDocument/didChange": self._changed, "textDocument/didClose": self._closed,
+        }
+
+    @property
+    def is_shut_down(self) -> bool:
+        return self._phase is _Phase.SHUT_DOWN
+
+    def run(self, inbox: Inbox) -> None:
+        """Answers until nothing more comes. A message that comes while a score is checked is answered first, and the check begins again after it."""
+        def pause() -> None:
+            if not inbox.is_empty or inbox.is_closed:
+                raise _Overtaken
+
+        while True:
+            message = inbox.take(waits=not self._unchecked)
+            if message is not None:
+                self._take(message)
+            elif inbox.is_closed:
+                return
+            else:
+                self._check(next(iter(self._unchecked)), pause)
+
+    def _notify(self, method: str, params: Json) -> None:
+        self._send({"jsonrpc": "2.0", "method": method, "params": params})
+
+    def _warn(self, text: str) -> None:
+        self._notify("window/showMessage", {"type": _WARNING, "message": text})
+
+    # ---- messages
+
+    def _take(self, message: Message) -> None:
+        """Answers a message. Whatever goes wrong is an error of the protocol, and the next message is answered."""
+        key, told = "error", ""
+        try:
+            key, answer = "result", self._answer(message)
+        except ProtocolError as error:
+            answer, told = error.to_json(), str(error)
+        except Exception:
+            told = "the server failed here, which is a defect of gregorio-chant"
+            answer = ProtocolError(Code.INTERNAL, told).to_json()
+        if message.wants_answer:
+            self._send({"jsonrpc": "2.0", "id": message.id, key: answer})
+        elif key == "error":
+            self._notify("window/logMessage", {"type": _ERROR, "message": f"{(message.method or '')[:80]}: {told}"})
+
+    def _answer(self, message: Message) -> Json:
+        value = message.value
+        if isinstance(value, Unreadable):
+            raise ProtocolError(Code.NO_JSON, value.reason)
+        if message.is_answer:
+            return None
+        if not isinstance(value, dict) or value.get("jsonrpc") != "2.0":
+            raise ProtocolError(Code.NO_REQUEST, "a message is an object with jsonrpc 2.0")
+        if message.is_cancelled:
+            raise ProtocolError(Code.CANCELLED, "the request was cancelled")
+        if message.method is None or message.id is None and "id" in value:
+            raise ProtocolError(Code.NO_REQUEST, "a request has a method, and an id that is a text or a number")
+        params = Params(value.get("params"))
+        if message.id is not None:
+            return self._ask(message.method, params)
+        if self._phase is _Phase.OPEN and message.method in self._told:
+            self._told[message.method](params)
+        return None
+
+    def _ask(self, method: str, params: Params) -> Json:
+        if method == "initialize":
+            return self._initialize(params)
+        if self._phase is _Phase.BEFORE:
+            raise ProtocolError(Code.NOT_INITIALIZED, "the first request is initialize")
+        if self._phase is _Phase.SHUT_DOWN:
+            raise ProtocolError(Code.NO_REQUEST, "the server is shut down")
+        if method == "shutdown":
+            self._phase = _Phase.SHUT_DOWN
+            self._unchecked.clear()
+            return None
+        if method not in FEATURES:
+            raise ProtocolError(Code.NO_METHOD, f"there is no method {method[:80]}")
+        document = self._documents.get(params.uri())
+        if document is None:
+            raise ProtocolError(Code.BAD_PARAMETERS, "this document is not open")
+        try:
+            return FEATURES[method](document, params)
+        except Refused as refused:
+            self._warn(str(refused))
+            return []
+
+    def _initialize(self, params: Params) -> Json:
+        if self._phase is not _Phase.BEFORE:
+            raise ProtocolError(Code.NO_REQUEST, "the server is initialized")
+        self._phase = _Phase.OPEN
+        self._takes_versions = params.flag("capabilities", "workspace", "workspaceEdit", "documentChanges")
+        return CAPABILITIES
+
+    # ---- documents
+
+    def _opened(self, params: Params) -> None:
+        it, uri = params["textDocument"], params.uri()
+        text, name = Text(it["text"].text()), name_of(uri)
+        settings = self._settings_of(name)
+        file = File(uri, name, settings, self._with_rules or settings.rules is True, self._takes_versions)
+        self._keep(Document(file, text, it.version()))
+
+    def _settings_of(self, name: str) -> Settings:
+        try:
+            return self._settings.of(name)
+        except (SettingsError, Missing) as error:
+            self._warn(str(error))
+            return Settings()
+
+    def _changed(self, params: Params) -> None:
+        document = self._documents.get(params.uri())
+        changes = [(it["range"].range() if it.has("range") else None, it["text"].text()) for it in params["contentChanges"].parts()]
+        if document is None:
+            return
+
+        def change(text: Text) -> Text:
+            for where, new in changes:
+                text = text.changed(where, new)
+            return text
+
+        self._keep(document.changed(change, params["textDocument"].version()))
+
+    def _keep(self, document: Document) -> None:
+        self._documents[document.file.uri] = document
+        self._unchecked[document.file.uri] = None
+
+    def _closed(self, params: Params) -> None:
+        uri = params.uri()
+        self._unchecked.pop(uri, None)
+        if self._documents.pop(uri, None) is not None:
+            self._notify("textDocument/publishDiagnostics", no_diagnostics(uri))
+
+    def _check(self, uri: str, pause: Pause) -> None:
+        document = self._documents[uri]
+        try:
+            document.find(pause)
+            told = diagnostics(document)
+            del self._unchecked[uri]
+        except _Overtaken:
+            return
+        except Exception:
+            del self._unchecked[uri]
+            self._warn("this score could not be checked, which is a defect of gregorio-chant")
+            return
+        self._notify("textDocument/publishDiagnostics", told)
