@@ -2,10 +2,10 @@
 from __future__ import annotations
 
 import re
-from dataclasses import dataclass
-from typing import Union
+from dataclasses import dataclass, field
+from typing import Protocol, Union
 
-from gregorio_chant.source import Place
+from gregorio_chant.source import Place, Source
 
 # What the special characters of the manual look like; those that are not here are read as they are spelled.
 _SPECIAL = {
@@ -14,12 +14,26 @@ _SPECIAL = {
 _MARKUP = re.compile(r"\$(?P<escaped>.)|<sp>(?P<special>.*?)</sp>|<(?P<raw>v|alt)>.*?</(?P=raw)>|<[^>]*>|[{}]", re.DOTALL)
 
 
+class Sources(Protocol):
+    """Where items stand in the file that was read."""
+
+    def of(self, item: Item) -> Source:
+        """Returns where `item` stands in the file, and how it is spelled there."""
+
+
 @dataclass(frozen=True, slots=True)
 class Item:
     """A thing in the canonical text: it stands at `place`, and is spelled `spelling` there."""
 
     place: Place
     spelling: str
+    _sources: Sources | None = field(default=None, kw_only=True, repr=False, compare=False)
+
+    @property
+    def source(self) -> Source:
+        """Where it stands in the file that was read, and how it is spelled there, with all comments in it and all that was left out of it. Of a dump that is the
+        canonical text."""
+        return Source(self.place, self.spelling) if self._sources is None else self._sources.of(self)
 
 
 @dataclass(frozen=True, slots=True)
