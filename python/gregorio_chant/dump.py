@@ -16,9 +16,10 @@ import re
 from collections.abc import Callable
 from dataclasses import dataclass, field
 
+from gregorio_chant.heights import Interval, Range, interval, intervals, range_of
 from gregorio_chant.items import (
-    Alteration, Attribute, Bar, Break, Clef, Custos, Descriptor, Element, Fusion, Glyph, Header, Item, NabcSnippet, Note, NoteSnippet, Snippet,
-    Space, Syllable, plain_text,
+    PITCHES, Alteration, Attribute, Bar, Break, Clef, Custos, Descriptor, Element, Fusion, Glyph, Header, Item, NabcGlyph, NabcLetters, NabcPart,
+    NabcPoints, NabcSnippet, Note, NoteSnippet, Snippet, Space, Syllable, plain_text,
 )
 from gregorio_chant.library import compile
 from gregorio_chant.memory import bytes_of
@@ -28,12 +29,13 @@ from gregorio_chant.source import Place, Source
 from gregorio_chant.sources import FileSources, LeftOut
 
 __all__ = [
-    "Alteration", "Attribute", "Bar", "Break", "Clef", "Custos", "Descriptor", "DumpError", "Element", "Fusion", "Glyph", "Header", "Item", "LeftOut",
-    "Limits", "NabcSnippet", "Note", "NoteSnippet", "Place", "Score", "ScoreError", "Snippet", "Source", "Space", "Syllable", "plain_text",
+    "Alteration", "Attribute", "Bar", "Break", "Clef", "Custos", "Descriptor", "DumpError", "Element", "Fusion", "Glyph", "Header", "Interval", "Item",
+    "LeftOut", "Limits", "NabcGlyph", "NabcLetters", "NabcPart", "NabcPoints", "NabcSnippet", "Note", "NoteSnippet", "Place", "Range", "Score",
+    "ScoreError", "Snippet", "Source", "Space", "Syllable", "interval", "intervals", "plain_text",
 ]
 
 _VERSION = "2"
-_PITCHES = frozenset("abcdefghijklmnp")
+_PITCHES = frozenset(PITCHES)
 _DEGREES = frozenset(("ut", "re", "mi", "fa", "sol", "la", "si", "-"))
 _ALTERS = frozenset(("none", "flat", "natural", "sharp"))
 _POSITIONS = frozenset(("one", "beginning", "middle", "end"))
@@ -76,6 +78,16 @@ class Score:
     @property
     def notes(self) -> tuple[Note, ...]:
         return tuple(note for it in self.syllables for note in it.notes)
+
+    @property
+    def range(self) -> Range | None:
+        """The lowest and the highest note; nothing where all stand before any clef."""
+        return range_of(self.notes)
+
+    @property
+    def final(self) -> Note | None:
+        """The last note."""
+        return self.notes[-1] if self.notes else None
 
     @property
     def left_out(self) -> tuple[LeftOut, ...]:
@@ -148,6 +160,8 @@ class _Reader:
         self._first_words: list[str] = _FIRST_WORD.findall(dump)
         self._at = 0
         self.pen = _Pen()
+        # The clef in force.
+        self.clef: Clef | None = None
 
     def fail(self, what: str) -> DumpError:
         return DumpError(f"line {self._at + 1} of the dump: {what}")
@@ -348,7 +362,7 @@ class _NotesReader:
         sounds = self._word_of(degree, _DEGREES)
         return Note(
             *self._write(spelling), self._word_of(pitch, _PITCHES), shape, None if sounds == "-" else sounds, self._word_of(alteration, _ALTERS),
-            _sources=self._sources,
+            self._reader.clef, _sources=self._sources,
         )
 
     def alteration(self) -> Alteration:
@@ -356,7 +370,9 @@ class _NotesReader:
         return Alteration(*self._write(spelling), self._word_of(pitch, _PITCHES), self._word_of(sign, _ALTERS), _sources=self._sources)
 
     def clef(self) -> Clef:
-        return Clef(*self._rest(), _sources=self._sources)
+        clef = Clef(*self._rest(), _sources=self._sources)
+        self._reader.clef = clef
+        return clef
 
     def bar(self) -> Bar:
         _, name, spelling = self._reader.words(3)
