@@ -23,6 +23,7 @@ from gregorio_chant.items import (
 )
 from gregorio_chant.library import compile
 from gregorio_chant.memory import bytes_of
+from gregorio_chant.passages import FINALIS, Phrase, Word, phrases_of, words_of
 from gregorio_chant.results import Format, Message, Result
 from gregorio_chant.runs import Limits, Run
 from gregorio_chant.source import Place, Source
@@ -30,8 +31,8 @@ from gregorio_chant.sources import FileSources, LeftOut
 
 __all__ = [
     "Alteration", "Attribute", "Bar", "Break", "Clef", "Custos", "Descriptor", "DumpError", "Element", "Fusion", "Glyph", "Header", "Interval", "Item",
-    "LeftOut", "Limits", "NabcGlyph", "NabcLetters", "NabcPart", "NabcPoints", "NabcSnippet", "Note", "NoteSnippet", "Place", "Range", "Score",
-    "ScoreError", "Snippet", "Source", "Space", "Syllable", "interval", "intervals", "plain_text",
+    "LeftOut", "Limits", "NabcGlyph", "NabcLetters", "NabcPart", "NabcPoints", "NabcSnippet", "Note", "NoteSnippet", "Phrase", "Place", "Range",
+    "Score", "ScoreError", "Snippet", "Source", "Space", "Syllable", "Word", "interval", "intervals", "plain_text",
 ]
 
 _VERSION = "2"
@@ -78,6 +79,25 @@ class Score:
     @property
     def notes(self) -> tuple[Note, ...]:
         return tuple(note for it in self.syllables for note in it.notes)
+
+    @property
+    def words(self) -> tuple[Word, ...]:
+        """The words: all that have a letter or a digit."""
+        return words_of(self.syllables)
+
+    @property
+    def phrases(self) -> tuple[Phrase, ...]:
+        """What stands between bars of any kind, if there is a note or a word in it."""
+        return phrases_of(self.syllables)
+
+    @property
+    def verses(self) -> tuple[Phrase, ...]:
+        """What stands between final bars."""
+        return self.phrases_at(FINALIS)
+
+    def phrases_at(self, *kinds: str) -> tuple[Phrase, ...]:
+        """Returns what stands between bars of these kinds, if there is a note or a word in it."""
+        return phrases_of(self.syllables, kinds)
 
     @property
     def range(self) -> Range | None:
