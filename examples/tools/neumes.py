@@ -11,6 +11,6 @@ for name in sys.argv[1:]:
     for syllable in Score.parse(Path(name).read_bytes()).syllables:
         for glyph in syllable.glyphs:
             count[glyph.kind] += 1
-            first.setdefault(glyph.kind, f"{syllable.plain}({glyph.spelling}) in {name}, syllable {syllable.number}")
+            first.setdefault(glyph.kind, f"{name}:{glyph.source}: {syllable.plain}({glyph.spelling})")
 for kind, number in count.most_common():
     print(f"{number:6}  {kind:28}  {first[kind]}")

@@ -60,8 +60,8 @@ class Tools(InFolder):
         ran = run("neumes.py", "a.gabc", "b.gabc")
         self.assertEqual(
             [it.split() for it in ran.stdout.decode().split("\n")[:-1]],
-            [["3", "pes", "a(fg)", "in", "a.gabc,", "syllable", "2"], ["1", "torculus", "b(fgf)", "in", "a.gabc,", "syllable", "3"],
-             ["1", "scandicus-subpunctis", "b(fghGF)", "in", "a.gabc,", "syllable", "3"]], ran.stderr,
+            [["3", "pes", "a.gabc:2:8:", "a(fg)"], ["1", "torculus", "a.gabc:2:14:", "b(fgf)"], ["1", "scandicus-subpunctis", "a.gabc:2:18:", "b(fghGF)"]],
+            ran.stderr,
         )
 
 
