@@ -6,6 +6,9 @@ _gregorio_chant_options() {
     check) echo '--staged --exclude --output-format --select --ignore --fail-on --rules --fix --unsafe-fixes --diff --jobs --no-config --quiet --help' ;;
     format) echo '--staged --exclude --check --diff --wrap --canonical --allow --jobs --no-config --quiet --help' ;;
     explain) echo '--all --help' ;;
+    find) echo '--interval --neume --text --semitones --exclude --output-format --jobs --no-config --quiet --help' ;;
+    index) echo '--exclude --output-format --jobs --no-config --quiet --help' ;;
+    neumes) echo '--each --exclude --output-format --jobs --no-config --quiet --help' ;;
     server) echo '--rules --no-config --help' ;;
     version) echo '--help' ;;
     *) echo '--version --help' ;;
@@ -36,21 +39,25 @@ _gregorio_chant() {
   local rules='outside-staff bracket-in-attribute nabc-without-header comment asterisk-without-bar clef-off-staff unknown-mode blank-before-notes lone-capital unknown-special unused-ignore'
   COMPREPLY=()
   if [ "$COMP_CWORD" = 1 ] && [[ $word != -* ]]; then
-    mapfile -t COMPREPLY < <(compgen -W 'check format explain server version' -- "$word")
+    mapfile -t COMPREPLY < <(compgen -W 'check format explain find index neumes server version' -- "$word")
     return
   fi
   case "$before" in
-    --output-format) mapfile -t COMPREPLY < <(compgen -W 'text lines json github sarif' -- "$word") ;;
+    --output-format)
+      local forms='text csv json'
+      [ "$command" = check ] && forms='text lines json github sarif'
+      mapfile -t COMPREPLY < <(compgen -W "$forms" -- "$word")
+      ;;
     --select | --ignore | --fail-on) _gregorio_chant_list "$word" "$codes rules $rules" ;;
     --allow) _gregorio_chant_list "$word" 'E1 E2 E3 E4 E5 E6 W2 W3 W4 W5 W9 comments spelling' ;;
     --exclude) mapfile -t COMPREPLY < <(compgen -f -- "$word") ;;
-    --jobs | --wrap) ;;
+    --jobs | --wrap | --interval | --neume | --text) ;;
     *)
       if [[ $word == -* ]]; then
         mapfile -t COMPREPLY < <(compgen -W "$(_gregorio_chant_options "$command")" -- "$word")
       elif [ "$command" = explain ]; then
         mapfile -t COMPREPLY < <(compgen -W "$codes $rules" -- "$word")
-      elif [ "$command" = check ] || [ "$command" = format ]; then
+      elif [[ $command != server && $command != version ]]; then
         _gregorio_chant_scores "$word"
       fi
       ;;

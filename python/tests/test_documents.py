@@ -11,6 +11,7 @@ from pathlib import Path
 
 from gregorio_chant import dump
 from gregorio_chant.codes import CODES
+from gregorio_chant.command import COMMANDS
 from gregorio_chant.rules import RULES
 from gregorio_chant.settings import Finder
 from support import ROOT, InFolder, command, has
@@ -40,8 +41,8 @@ class Documents(InFolder):
 
     def test_options(self) -> None:
         """Each option of the command stands in the page, and no other."""
-        helps = "".join(command(*it, "--help").stdout.decode() for it in ((), ("check",), ("format",), ("explain",), ("server",)))
-        options = set(re.findall(r"(?<![\w.-])--[a-z][a-z-]+", PAGE)) - {"--no-deps"}
+        helps = "".join(command(*it, "--help").stdout.decode() for it in ((), *((it.NAME,) for it in COMMANDS)))
+        options = set(re.findall(r"(?<![\w.-])--[a-z][a-z-]+", PAGE + OBJECTS)) - {"--no-deps"}
         self.assertEqual(set(re.findall(r"--[a-z][a-z-]+", helps)) - {"--help", "--"}, options)
 
     def test_example(self) -> None:
@@ -77,7 +78,7 @@ class Documents(InFolder):
         self.assertEqual(re.findall(r"^\| `([a-z]+-[a-z-]+|comment)` \|", PAGE.split("\n## Rules\n")[1], re.MULTILINE), list(RULES))
 
     def test_each_help_says_what_is_not_proved(self) -> None:
-        for words in (["--help"], ["check", "--help"], ["format", "--help"], ["server", "--help"]):
+        for words in (["--help"], *([it.NAME, "--help"] for it in COMMANDS if it.NAME not in ("explain", "version"))):
             self.assertRegex(command(*words).stdout.decode().replace("\n", " "), "outside (that|the) +proof", words)
 
 
