@@ -16,10 +16,11 @@ import re
 from collections.abc import Callable
 from dataclasses import dataclass, field
 
+from gregorio_chant.edits import Edited, EditError
 from gregorio_chant.heights import Interval, Range, interval, intervals, range_of
 from gregorio_chant.items import (
     PITCHES, Alteration, Attribute, Bar, Break, Clef, Custos, Descriptor, Element, Fusion, Glyph, Header, Item, NabcGlyph, NabcLetters, NabcPart,
-    NabcPoints, NabcSnippet, Note, NoteSnippet, Snippet, Space, Syllable, plain_text,
+    NabcPoints, NabcSnippet, Note, NoteSnippet, Snippet, Space, Syllable, header_spelling, plain_text,
 )
 from gregorio_chant.library import compile
 from gregorio_chant.memory import bytes_of
@@ -30,7 +31,7 @@ from gregorio_chant.source import Place, Source
 from gregorio_chant.sources import FileSources, LeftOut
 
 __all__ = [
-    "Alteration", "Attribute", "Bar", "Break", "Clef", "Custos", "Descriptor", "DumpError", "Element", "Fusion", "Glyph", "Header", "Interval", "Item",
+    "Alteration", "Attribute", "Bar", "Break", "Clef", "Custos", "Descriptor", "DumpError", "EditError", "Edited", "Element", "Fusion", "Glyph", "Header", "Interval", "Item",
     "LeftOut", "Limits", "NabcGlyph", "NabcLetters", "NabcPart", "NabcPoints", "NabcSnippet", "Note", "NoteSnippet", "Phrase", "Place", "Range",
     "Score", "ScoreError", "Snippet", "Source", "Space", "Syllable", "Word", "interval", "intervals", "plain_text",
 ]
@@ -41,8 +42,6 @@ _DEGREES = frozenset(("ut", "re", "mi", "fa", "sol", "la", "si", "-"))
 _ALTERS = frozenset(("none", "flat", "natural", "sharp"))
 _POSITIONS = frozenset(("one", "beginning", "middle", "end"))
 _ESCAPE = re.compile(r"\\(.)", re.DOTALL)
-# A run of `;` that ends a value: such a value stands on lines of its own.
-_MARK = re.compile(r";[ \t]*(?:%|$)", re.MULTILINE)
 _BLANKS = re.compile(r"[ \t\n]+")
 _FIRST_WORD = re.compile(r"^[^ :\n]*", re.MULTILINE)
 
@@ -108,6 +107,14 @@ class Score:
     def final(self) -> Note | None:
         """The last note."""
         return self.notes[-1] if self.notes else None
+
+    def edited(self) -> Edited:
+        """Returns changes of this score, to be collected: none yet. Raises `EditError` where a fatal fault stops it."""
+        return Edited(self)
+
+    def source_offset(self, written: int) -> int:
+        """Returns how many characters stand in the file before the character of notes that has `written` others before it in the canonical text."""
+        return written if self._sources is None else self._sources.offset_of(written)
 
     @property
     def left_out(self) -> tuple[LeftOut, ...]:
@@ -239,12 +246,7 @@ class _Reader:
         if not colon:
             raise self.fail("a colon was awaited")
         name, value = unescaped(name), unescaped(value)
-        if not value:
-            spelling = f"{name}:;"
-        elif "\n" in value or _MARK.search(value):
-            spelling = f"{name}:\n {value};;"
-        else:
-            spelling = f"{name}: {value};"
+        spelling = header_spelling(name, value)
         place = self.pen.write(spelling)
         self.pen.write("\n")
         return Header(place, spelling, name, value, _sources=self.sources)

@@ -16,6 +16,8 @@ _ALTERED = {"none": 0, "flat": -1, "natural": 0, "sharp": 1}
 # The step of what a clef stands for.
 _CLEF_STEPS = {"c": 7, "f": 3}
 
+# A run of `;` that ends a value: such a value stands on lines of its own.
+_MARK = re.compile(r";[ \t]*(?:%|$)", re.MULTILINE)
 # What the special characters of the manual look like; those that are not here are read as they are spelled.
 _SPECIAL = {
     "ae": "æ", "oe": "œ", "'ae": "ǽ", "'oe": "œ́", "'æ": "ǽ", "'œ": "œ́", "A/": "A", "R/": "℟", "V/": "℣", "*": "*", "+": "†", "-": "", "~": "~",
@@ -313,6 +315,15 @@ class Header(Item):
 
     name: str
     value: str
+
+
+def header_spelling(name: str, value: str) -> str:
+    """Returns the canonical line of a header, or its lines, without the last LF."""
+    if not value:
+        return f"{name}:;"
+    if "\n" in value or _MARK.search(value):
+        return f"{name}:\n {value};;"
+    return f"{name}: {value};"
 
 
 def plain_text(text: str) -> str:

@@ -50,6 +50,11 @@ class Documents(InFolder):
             exec(block(OBJECTS, "is only tested ([PYTHON.md](PYTHON.md))."), {})
         self.assertEqual(written.getvalue(), block(OBJECTS, "of the `&` that the compiler left out:"))
 
+    def test_edits(self) -> None:
+        with contextlib.redirect_stdout(io.StringIO()) as written:
+            exec(block(OBJECTS, "comments, a byte order mark, and what the compiler\nleaves out."), {})
+        self.assertEqual(written.getvalue(), block(OBJECTS, "\nThis prints:"))
+
     def test_formatted(self) -> None:
         made = command("format", "-", data=block(PAGE, "So this score:").encode())
         self.assertEqual((made.returncode, made.stdout.decode()), (0, block(PAGE, "\nbecomes:")))
@@ -65,7 +70,7 @@ class Documents(InFolder):
     def test_classes(self) -> None:
         """Each field of each class stands in the page, and each name that stands there is one."""
         rows = {name: row for names, row in re.findall(r"^\| (`[A-Z]\w+`(?:, `[A-Z]\w+`)*) \| (.*) \|$", OBJECTS, re.MULTILINE) for name in re.findall(r"\w+", names)}
-        told = {it for it in dump.__all__ if isinstance(getattr(dump, it), type)} - {"DumpError", "ScoreError", "Item", "Place"}
+        told = {it for it in dump.__all__ if isinstance(getattr(dump, it), type)} - {"DumpError", "EditError", "Edited", "ScoreError", "Item", "Place"}
         self.assertEqual(set(rows), told)
         for name, row in rows.items():
             its = getattr(dump, name)
