@@ -6,6 +6,7 @@ _gregorio_chant_options() {
     check) echo '--staged --exclude --output-format --select --ignore --fail-on --rules --fix --unsafe-fixes --diff --jobs --no-config --quiet --help' ;;
     format) echo '--staged --exclude --check --diff --wrap --canonical --allow --jobs --no-config --quiet --help' ;;
     explain) echo '--all --help' ;;
+    export) echo '--to --exclude --folder --force --tempo --no-config --quiet --help' ;;
     find) echo '--interval --neume --text --semitones --exclude --output-format --jobs --no-config --quiet --help' ;;
     index) echo '--exclude --output-format --jobs --no-config --quiet --help' ;;
     neumes) echo '--each --exclude --output-format --jobs --no-config --quiet --help' ;;
@@ -39,7 +40,7 @@ _gregorio_chant() {
   local rules='outside-staff bracket-in-attribute nabc-without-header comment asterisk-without-bar clef-off-staff unknown-mode blank-before-notes lone-capital unknown-special unused-ignore'
   COMPREPLY=()
   if [ "$COMP_CWORD" = 1 ] && [[ $word != -* ]]; then
-    mapfile -t COMPREPLY < <(compgen -W 'check format explain find index neumes server version' -- "$word")
+    mapfile -t COMPREPLY < <(compgen -W 'check format explain export find index neumes server version' -- "$word")
     return
   fi
   case "$before" in
@@ -51,7 +52,9 @@ _gregorio_chant() {
     --select | --ignore | --fail-on) _gregorio_chant_list "$word" "$codes rules $rules" ;;
     --allow) _gregorio_chant_list "$word" 'E1 E2 E3 E4 E5 E6 W2 W3 W4 W5 W9 comments spelling' ;;
     --exclude) mapfile -t COMPREPLY < <(compgen -f -- "$word") ;;
-    --jobs | --wrap | --interval | --neume | --text) ;;
+    --to) mapfile -t COMPREPLY < <(compgen -W midi -- "$word") ;;
+    --folder) mapfile -t COMPREPLY < <(compgen -d -- "$word") ;;
+    --jobs | --wrap | --interval | --neume | --text | --tempo) ;;
     *)
       if [[ $word == -* ]]; then
         mapfile -t COMPREPLY < <(compgen -W "$(_gregorio_chant_options "$command")" -- "$word")
