@@ -7,8 +7,8 @@
 Ky [('fa', 3, 9)]
 ri [('sol', 3, 14), ('fa', 3, 15), ('sol', 3, 16)]
 
-A `place` is one in the canonical text, and `source` is in the file that was read. The reader takes `dump 2`, from `Score.parse` or of the program, and only its
-tests show that it reads it rightly.
+A `place` is one in the canonical text, and `source` is in the file that was read. The reader takes
+`dump 2`, from `Score.parse` or of the program, and only its tests show that it reads it rightly.
 """
 from __future__ import annotations
 
@@ -60,8 +60,9 @@ class ScoreError(ValueError):
 
 @dataclass(frozen=True)
 class Score:
-    """A score, with its canonical text, and the text and messages of the file that was read. Where a fault stopped the reading it is not whole, and has the
-    syllables before that. Of a dump the canonical text is the file, and there are no messages."""
+    """A score, with its canonical text, and the text and messages of the file that was read. Where
+    a fault stopped the reading it is not whole, and has the syllables before that. Of a dump the
+    canonical text is the file, and there are no messages."""
 
     canonical: str
     headers: tuple[Header, ...]
@@ -109,11 +110,13 @@ class Score:
         return self.notes[-1] if self.notes else None
 
     def edited(self) -> Edited:
-        """Returns changes of this score, to be collected: none yet. Raises `EditError` where a fatal fault stops it."""
+        """Returns changes of this score, to be collected: none yet. Raises `EditError` where a
+        fatal fault stops it."""
         return Edited(self)
 
     def source_offset(self, written: int) -> int:
-        """Returns how many characters stand in the file before the character of notes that has `written` others before it in the canonical text."""
+        """Returns how many characters stand in the file before the character of notes that has
+        `written` others before it in the canonical text."""
         return written if self._sources is None else self._sources.offset_of(written)
 
     @property
@@ -128,8 +131,9 @@ class Score:
 
     @classmethod
     def parse(cls, score: str | bytes | bytearray | memoryview, limits: Limits | None = None) -> Score:
-        """Reads a score, under the usual limits where none are given, and compares the canonical text of its dump with the compiler's. Raises `ScoreError`
-        where its headers are not whole, and `ValueError` for limits that are out of range."""
+        """Reads a score, under the usual limits where none are given, and compares the canonical
+        text of its dump with the compiler's. Raises `ScoreError` where its headers are not whole,
+        and `ValueError` for limits that are out of range."""
         data = bytes(bytes_of(score))
         dump = _compiled(data, Format.DUMP, limits)
         messages = dump.messages

@@ -38,7 +38,8 @@ class EditError(ValueError):
 
 @dataclass(frozen=True, slots=True)
 class Change:
-    """A text in the place of what stands from `begin` up to `end` in the file, and from `written` up to `written_end` in the canonical text."""
+    """A text in the place of what stands from `begin` up to `end` in the file, and from `written`
+    up to `written_end` in the canonical text."""
 
     begin: int
     end: int
@@ -52,14 +53,16 @@ class Change:
         return len(self.text) - (self.end - self.begin)
 
     def overlaps(self, begin: int, end: int) -> bool:
-        """Returns whether it changes what stands from `begin` up to `end`; at the bounds of that it may insert."""
+        """Returns whether it changes what stands from `begin` up to `end`; at the bounds of that it
+        may insert."""
         if self.begin == self.end:
             return begin < self.begin < end
         return self.begin < end and begin < self.end if begin < end else self.begin < begin < self.end
 
 
 class Edited:
-    """Changes of a score, which are collected and then made all at once. Each call returns these changes themselves, so that calls can be joined."""
+    """Changes of a score, which are collected and then made all at once. Each call returns these
+    changes themselves, so that calls can be joined."""
 
     def __init__(self, score: Score) -> None:
         """Takes a score. Raises `EditError` where a fatal fault stops it."""
@@ -79,7 +82,8 @@ class Edited:
         return EditError(Source(Place(offset, fault.line, fault.column), ""), f"the score is not whole: {fault.code}: {fault.text}")
 
     def replace(self, item: Item, text: str) -> Edited:
-        """Writes `text` in the place of `item`. Raises `EditError` where that would end what the item stands in, or where another change overlaps."""
+        """Writes `text` in the place of `item`. Raises `EditError` where that would end what the
+        item stands in, or where another change overlaps."""
         source = item.source
         begin, end, written, written_end = source.place.offset, source.end, item.place.offset, item.place.offset + len(item.spelling)
         if isinstance(item, Header) and not text:
@@ -88,17 +92,20 @@ class Edited:
         return self._add(item, Change(begin, end, self._with_line_ends(text), written, written_end, source))
 
     def remove(self, item: Item) -> Edited:
-        """Removes `item`, and the line of a header on which nothing else stands. Raises `EditError` as `replace` does."""
+        """Removes `item`, and the line of a header on which nothing else stands. Raises `EditError`
+        as `replace` does."""
         return self.replace(item, "")
 
     def insert(self, item: Item, text: str, *, after: bool = False) -> Edited:
-        """Inserts `text` directly before `item`, or directly after it. Raises `EditError` as `replace` does."""
+        """Inserts `text` directly before `item`, or directly after it. Raises `EditError` as
+        `replace` does."""
         source = item.source
         at, written = (source.end, item.place.offset + len(item.spelling)) if after else (source.place.offset, item.place.offset)
         return self._add(item, Change(at, at, self._with_line_ends(text), written, written, source))
 
     def set_header(self, name: str, value: str | None) -> Edited:
-        """Gives the last header `name` this value, adds it after the others where there is none, or removes it for `None`. Raises `EditError` as `replace` does."""
+        """Gives the last header `name` this value, adds it after the others where there is none, or
+        removes it for `None`. Raises `EditError` as `replace` does."""
         header = next((it for it in reversed(self._score.headers) if it.name == name), None)
         if header is not None:
             return self.replace(header, "" if value is None else header_spelling(name, value))
@@ -112,15 +119,17 @@ class Edited:
         return self
 
     def transpose(self, steps: int) -> Edited:
-        """Writes each note, alteration and custos so many steps higher, or lower below 0. Raises `EditError` at the first one for which there is no room."""
+        """Writes each note, alteration and custos so many steps higher, or lower below 0. Raises
+        `EditError` at the first one for which there is no room."""
         for it in (it for syllable in self._score.syllables for it in syllable.items):
             if steps and isinstance(it, (Note, Alteration, Custos)) and it.pitch:
                 self._move(it, it.pitch, steps)
         return self
 
     def text(self) -> str:
-        """Returns the file with these changes. Raises `EditError` where the compiler would read something otherwise that was not changed, would leave out something
-        of a new text, or where the neumes of NABC would lose their note."""
+        """Returns the file with these changes. Raises `EditError` where the compiler would read
+        something otherwise that was not changed, would leave out something of a new text, or where
+        the neumes of NABC would lose their note."""
         from gregorio_chant.verdict import look_at
 
         text = _applied(self._score.text, [(it.begin, it.end, it.text) for it in self._changes])
@@ -141,7 +150,8 @@ class Edited:
         return self._put(change)
 
     def _put(self, change: Change) -> Edited:
-        """Adds a change to the others, which are in order: of those at one place the first comes first."""
+        """Adds a change to the others, which are in order: of those at one place the first comes
+        first."""
         at = bisect.bisect_right(self._changes, (change.begin, change.end), key=lambda it: (it.begin, it.end))
         for other in self._changes[max(at - 1, 0) : at + 1]:
             if change.overlaps(other.begin, other.end) or other.overlaps(change.begin, change.end):
@@ -159,7 +169,8 @@ class Edited:
         self._add(item, Change(begin, begin + 1, letter, written, written + 1, item.source))
 
     def _line_of(self, begin: int, end: int) -> tuple[int, int]:
-        """Returns the bounds of the whole line, or lines, if only blanks stand beside what goes from `begin` up to `end`."""
+        """Returns the bounds of the whole line, or lines, if only blanks stand beside what goes
+        from `begin` up to `end`."""
         text = self._score.text
         first = max(text.rfind("\n", 0, begin), text.rfind("\r", 0, begin)) + 1
         found = _LINE_END.search(text, end)

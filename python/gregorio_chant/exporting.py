@@ -21,7 +21,8 @@ Write = Callable[[Score], bytes]
 
 @dataclass(frozen=True)
 class Wanted:
-    """What the words of the command ask for: `ending` is that of the new files, `folder` where they go, if not beside their scores."""
+    """What the words of the command ask for: `ending` is that of the new files, `folder` where they
+    go, if not beside their scores."""
 
     paths: tuple[str, ...]
     write: Write
@@ -39,7 +40,8 @@ def _target(name: str, wanted: Wanted) -> Path:
 
 
 def _put(path: Path, data: bytes, is_forced: bool) -> None:
-    """Writes a new file; one that is there already only where that is forced. Raises `OSError`. What could not be written whole is removed."""
+    """Writes a new file; one that is there already only where that is forced. Raises `OSError`.
+    What could not be written whole is removed."""
     with path.open("wb" if is_forced else "xb") as file:
         try:
             file.write(data)
@@ -70,7 +72,8 @@ def _export(name: str, wanted: Wanted) -> tuple[int, str | None]:
 
 
 def export(wanted: Wanted) -> int:
-    """Exports the scores, and returns the worst status. Raises `CannotWrite`, and `SettingsError` or `Missing` before any score is read."""
+    """Exports the scores, and returns the worst status. Raises `CannotWrite`, and `SettingsError`
+    or `Missing` before any score is read."""
     status = number = 0
 
     def fail(name: str, error: OSError) -> None:

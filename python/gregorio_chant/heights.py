@@ -9,7 +9,8 @@ from gregorio_chant.items import Note
 
 @dataclass(frozen=True, slots=True)
 class Interval:
-    """How far it is up from one note to another, below 0 for down: `steps` from degree to degree, and `semitones` with what alters both notes."""
+    """How far it is up from one note to another, below 0 for down: `steps` from degree to degree,
+    and `semitones` with what alters both notes."""
 
     steps: int
     semitones: int
@@ -24,7 +25,8 @@ class Range:
 
 
 def interval(first: Note, second: Note) -> Interval | None:
-    """Returns how far it is from `first` up to `second`; nothing where one of them stands before any clef."""
+    """Returns how far it is from `first` up to `second`; nothing where one of them stands before
+    any clef."""
     if first.step is None or second.step is None or first.semitones is None or second.semitones is None:
         return None
     return Interval(second.step - first.step, second.semitones - first.semitones)
@@ -36,7 +38,8 @@ def intervals(notes: Sequence[Note]) -> tuple[Interval | None, ...]:
 
 
 def range_of(notes: Iterable[Note]) -> Range | None:
-    """Returns the lowest and the highest of the notes; nothing where all stand before any clef, or there are none."""
+    """Returns the lowest and the highest of the notes; nothing where all stand before any clef, or
+    there are none."""
     by_height = [(it.semitones, it) for it in notes if it.semitones is not None]
     if not by_height:
         return None

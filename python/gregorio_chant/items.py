@@ -49,8 +49,8 @@ class Item:
 
     @property
     def source(self) -> Source:
-        """Where it stands in the file that was read, and how it is spelled there, with all comments in it and all that was left out of it. Of a dump that is the
-        canonical text."""
+        """Where it stands in the file that was read, and how it is spelled there, with all comments
+        in it and all that was left out of it. Of a dump that is the canonical text."""
         return Source(self.place, self.spelling) if self._sources is None else self._sources.of(self)
 
 
@@ -88,8 +88,8 @@ class Clef(Item):
 
 @dataclass(frozen=True, slots=True)
 class Note(Item):
-    """A note. `pitch` is its small letter, `degree` how it sounds (`None` before any clef), `alteration` one of none, flat, natural, sharp; `clef` is the one in
-    force."""
+    """A note. `pitch` is its small letter, `degree` how it sounds (`None` before any clef),
+    `alteration` one of none, flat, natural, sharp; `clef` is the one in force."""
 
     pitch: str
     shape: str
@@ -104,8 +104,8 @@ class Note(Item):
 
     @property
     def step(self) -> int | None:
-        """How many degrees it stands above the ut an octave below that of a c clef: 7 is what a c clef stands for, and 3 what an f clef does. `None` before any
-        clef."""
+        """How many degrees it stands above the ut an octave below that of a c clef: 7 is what a c
+        clef stands for, and 3 what an f clef does. `None` before any clef."""
         return None if self.clef is None else self.clef.step(self.height)
 
     @property
@@ -177,7 +177,8 @@ class NabcPart(Item):
 
 @dataclass(frozen=True, slots=True)
 class NabcGlyph(NabcPart):
-    """A glyph: two letters of `code`, the `name` that they have, and `modifiers`, each with its number if it has one."""
+    """A glyph: two letters of `code`, the `name` that they have, and `modifiers`, each with its
+    number if it has one."""
 
     code: str
     name: str
@@ -186,7 +187,8 @@ class NabcGlyph(NabcPart):
 
 @dataclass(frozen=True, slots=True)
 class NabcPoints(NabcPart):
-    """Points after a glyph, `su`, or before it, `pp`: `letter` says which, and is empty where none stands; `count` is how many they are."""
+    """Points after a glyph, `su`, or before it, `pp`: `letter` says which, and is empty where none
+    stands; `count` is how many they are."""
 
     kind: str
     letter: str
@@ -195,7 +197,8 @@ class NabcPoints(NabcPart):
 
 @dataclass(frozen=True, slots=True)
 class NabcLetters(NabcPart):
-    """Significant letters, `ls`, or Tironian notes, `lt`: their `text`, and a number from 1 to 9 for the place around the glyph."""
+    """Significant letters, `ls`, or Tironian notes, `lt`: their `text`, and a number from 1 to 9
+    for the place around the glyph."""
 
     kind: str
     text: str

@@ -1,4 +1,5 @@
-"""A score as a file of MIDI: its notes all of one length, for listening. It stands on the package `mido`."""
+"""A score as a file of MIDI: its notes all of one length, for listening. It stands on the package
+`mido`."""
 from __future__ import annotations
 
 import io
@@ -30,7 +31,8 @@ class NoSound(ValueError):
 
 @dataclass(frozen=True, slots=True)
 class Sound:
-    """A note, or a rest where it has no `key`. `text` is sung from here on; `ticks` is how long it is."""
+    """A note, or a rest where it has no `key`. `text` is sung from here on; `ticks` is how long it
+    is."""
 
     key: int | None
     ticks: int
@@ -38,7 +40,8 @@ class Sound:
 
 
 def _lengths(snippet: NoteSnippet) -> dict[int, int]:
-    """Returns how many notes long each note is, by its offset: two where a mora stands at it, or two of them at the next note."""
+    """Returns how many notes long each note is, by its offset: two where a mora stands at it, or
+    two of them at the next note."""
     lengths: dict[int, int] = {}
     before: Note | None = None
     for it in snippet.items:
@@ -52,7 +55,8 @@ def _lengths(snippet: NoteSnippet) -> dict[int, int]:
 
 
 def _lyric(syllable: Syllable) -> str | None:
-    """Returns the text of a syllable, with a hyphen where its word goes on, and with a blank where it ends."""
+    """Returns the text of a syllable, with a hyphen where its word goes on, and with a blank where
+    it ends."""
     text = syllable.plain.strip()
     if not text:
         return None

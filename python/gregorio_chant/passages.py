@@ -48,8 +48,8 @@ class Word:
 
 @dataclass(frozen=True, slots=True)
 class Phrase:
-    """What stands between two bars: the items of notes, and the syllables whose first note is one of these. `bar` is the one that ends it, or `None` at the end
-    of the score."""
+    """What stands between two bars: the items of notes, and the syllables whose first note is one
+    of these. `bar` is the one that ends it, or `None` at the end of the score."""
 
     syllables: tuple[Syllable, ...]
     items: tuple[Item, ...]
@@ -92,7 +92,8 @@ def words_of(syllables: Sequence[Syllable]) -> tuple[Word, ...]:
 
 
 def _divided(syllables: Sequence[Syllable], kinds: Collection[str] | None) -> Iterator[Phrase]:
-    """Yields all that ends at bars of these kinds, or of any kind where none are given, also where nothing stands in it."""
+    """Yields all that ends at bars of these kinds, or of any kind where none are given, also where
+    nothing stands in it."""
     inside: list[Syllable] = []
     items: list[Item] = []
     for syllable in syllables:
@@ -114,5 +115,6 @@ def _divided(syllables: Sequence[Syllable], kinds: Collection[str] | None) -> It
 
 
 def phrases_of(syllables: Sequence[Syllable], kinds: Collection[str] | None = None) -> tuple[Phrase, ...]:
-    """Returns what stands between bars of these kinds, or of any kind where none are given, if there is a note or a word in it."""
+    """Returns what stands between bars of these kinds, or of any kind where none are given, if
+    there is a note or a word in it."""
     return tuple(it for it in _divided(syllables, kinds) if it.notes or _has_letters(it.text))

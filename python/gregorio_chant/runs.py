@@ -46,7 +46,8 @@ _MOST = (1 << 32) - 1
 
 @dataclass(frozen=True)
 class Limits:
-    """The limits of a run, in bytes: of all headers and of a syllable, 64 to 16,777,216, and of the whole input, at least 64."""
+    """The limits of a run, in bytes: of all headers and of a syllable, 64 to 16,777,216, and of the
+    whole input, at least 64."""
 
     header: int = 65_536
     syllable: int = 16_384
@@ -57,7 +58,8 @@ class Limits:
         return (_Options * 1)(_Options(*astuple(self), 0, new_key()))
 
     def _bound(self) -> int:
-        """Returns how many bytes a state has at most. Raises `ValueError` where a limit is out of range."""
+        """Returns how many bytes a state has at most. Raises `ValueError` where a limit is out of
+        range."""
         bound: int = LIBRARY.gregorio_state_bound(self._options(), 1) if all(0 <= it <= _MOST for it in astuple(self)) else 0
         if not bound:
             raise ValueError(f"limits out of range: {self}")
@@ -123,7 +125,8 @@ class Run:
     """
 
     def __init__(self, format: str | Format = Format.GABC, *, all_warnings: bool = True, limits: Limits = USUAL) -> None:
-        """Begins a run. Raises `ValueError` for another format and for limits that are out of range."""
+        """Begins a run. Raises `ValueError` for another format and for limits that are out of
+        range."""
         self._format = Format(format)
         self._all_warnings = all_warnings
         self._limits, self._bound = limits, limits._bound()
@@ -139,9 +142,11 @@ class Run:
     def restore(
         cls, state: bytes | bytearray | memoryview, format: str | Format = Format.GABC, *, all_warnings: bool = True, limits: Limits = USUAL,
     ) -> Run:
-        """Returns a run that goes on from `state`, in this process or another than that which saved it.
+        """Returns a run that goes on from `state`, in this process or another than that which saved
+        it.
 
-        Raises `StateError`, a `ValueError`, for bytes that are no state, and for the state of a run with another format, other warnings or other limits.
+        Raises `StateError`, a `ValueError`, for bytes that are no state, and for the state of a run
+        with another format, other warnings or other limits.
         """
         run = cls(format, all_warnings=all_warnings, limits=limits)
         run._state = bytes(state)

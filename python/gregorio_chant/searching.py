@@ -138,7 +138,8 @@ def folded(text: str) -> str:
 
 @dataclass(frozen=True)
 class TextSearch:
-    """Finds words that follow each other and match these patterns, in which `*` stands for anything: accents, capitals and punctuation do not count."""
+    """Finds words that follow each other and match these patterns, in which `*` stands for
+    anything: accents, capitals and punctuation do not count."""
 
     patterns: tuple[str, ...]
 

@@ -20,8 +20,9 @@ class Place(NamedTuple):
 
 @dataclass(frozen=True, slots=True)
 class Source:
-    """A part of a file that was read: it stands at `place`, and is spelled `spelling` there. The line and the column are as in messages; the offset counts the
-    characters of the file's text, with each CR and U+FEFF. As text it is `LINE:COLUMN`."""
+    """A part of a file that was read: it stands at `place`, and is spelled `spelling` there. The
+    line and the column are as in messages; the offset counts the characters of the file's text,
+    with each CR and U+FEFF. As text it is `LINE:COLUMN`."""
 
     place: Place
     spelling: str

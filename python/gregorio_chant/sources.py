@@ -1,4 +1,5 @@
-"""Where the items of a score stand in the file that was read: each of their characters, also where something was left out or a comment stands among them."""
+"""Where the items of a score stand in the file that was read: each of their characters, also where
+something was left out or a comment stands among them."""
 from __future__ import annotations
 
 import bisect
@@ -26,7 +27,8 @@ class SourceError(ValueError):
 
 @dataclass(frozen=True, slots=True)
 class LeftOut:
-    """What the compiler left out of a score, with the code of its message; `W2` is the earlier value of a header."""
+    """What the compiler left out of a score, with the code of its message; `W2` is the earlier
+    value of a header."""
 
     code: str
     source: Source
@@ -34,8 +36,8 @@ class LeftOut:
 
 @dataclass(frozen=True, slots=True)
 class _Notes:
-    """The notes of a syllable: where each character stands that is written from `begin` on, the `|` and `)` included; what the end of a snippet cut off, by the
-    place of this end."""
+    """The notes of a syllable: where each character stands that is written from `begin` on, the `|`
+    and `)` included; what the end of a snippet cut off, by the place of this end."""
 
     begin: int
     offsets: list[int]
@@ -43,7 +45,8 @@ class _Notes:
 
 
 class FileSources:
-    """The places of a score's items in its file. All offsets are those of the compiler's text, but for the last step to the file."""
+    """The places of a score's items in its file. All offsets are those of the compiler's text, but
+    for the last step to the file."""
 
     def __init__(self, data: bytes, messages: Sequence[Message]) -> None:
         self.text = data.decode("utf-8", "replace")
@@ -62,7 +65,8 @@ class FileSources:
 
     @cached_property
     def _raw(self) -> list[int] | None:
-        """Where each character stands in the file; nothing where all stand as in the compiler's text."""
+        """Where each character stands in the file; nothing where all stand as in the compiler's
+        text."""
         return None if self.text == self._comparison.lines.text else raw_offsets(self.text)
 
     @cached_property
@@ -90,7 +94,8 @@ class FileSources:
         return self._source(notes.offsets[first], notes.offsets[first + len(item.spelling) - 1] + 1)
 
     def offset_of(self, written: int) -> int:
-        """Returns where the character of notes stands in the file that is written after `written` others."""
+        """Returns where the character of notes stands in the file that is written after `written`
+        others."""
         notes = self._notes_at(written)
         return self._in_file(notes.offsets[written - notes.begin])
 
@@ -117,7 +122,8 @@ class FileSources:
             yield self._source(cut[0], cut[-1] + 1) if cut else self._source(at, at)
 
     def _cut_before(self, at: int) -> list[int]:
-        """Returns where the characters stand that the end of a snippet at this offset cut off; nothing where its syllable was not written."""
+        """Returns where the characters stand that the end of a snippet at this offset cut off;
+        nothing where its syllable was not written."""
         spans = self._comparison.source.syllables
         number = bisect.bisect_right(spans, at, key=lambda it: it.begin) - 1
         return self._notes_of(number).cuts.get(at, []) if 0 <= number < len(self._syllables) else []
@@ -184,7 +190,8 @@ class FileSources:
         return notes
 
     def _kept(self, span: Span) -> Iterator[int]:
-        """Yields where the characters of notes stand that were not left out and lie in no comment."""
+        """Yields where the characters of notes stand that were not left out and lie in no
+        comment."""
         comments = self._comparison.source.comments
         first = bisect.bisect_left(comments, span.begin, key=lambda it: it.begin)
         at = span.begin

@@ -30,7 +30,8 @@ Cell = Union[str, int, None]
 
 @dataclass(frozen=True, slots=True)
 class Row:
-    """A row: the line and the column that it stands at, and its cells; `count` is how many things it stands for."""
+    """A row: the line and the column that it stands at, and its cells; `count` is how many things
+    it stands for."""
 
     line: int
     column: int
@@ -43,7 +44,8 @@ class Row:
 
 
 class Maker(Protocol):
-    """Makes the rows of a score. It goes to other processes, so it is a function or an object of a module."""
+    """Makes the rows of a score. It goes to other processes, so it is a function or an object of a
+    module."""
 
     def __call__(self, score: Score) -> Iterable[Row]:
         """Returns the rows, in order."""
@@ -63,7 +65,8 @@ class Wanted:
 
 @dataclass(frozen=True, slots=True)
 class Made:
-    """The rows of a file; `fault` is what stopped its reading, `failure` says why it was not read at all."""
+    """The rows of a file; `fault` is what stopped its reading, `failure` says why it was not read
+    at all."""
 
     name: str
     rows: tuple[Row, ...] = ()
@@ -189,8 +192,9 @@ def form_of(name: str, columns: Sequence[str]) -> Form:
 
 
 def for_each(wanted: Wanted, make: Maker, take: Callable[[Made], str]) -> int:
-    """Makes the rows of all files by all processors, writes what `take` returns for each in order, and returns the worst status. Raises `CannotWrite`, and
-    `SettingsError` or `Missing` before any score is read."""
+    """Makes the rows of all files by all processors, writes what `take` returns for each in order,
+    and returns the worst status. Raises `CannotWrite`, and `SettingsError` or `Missing` before any
+    score is read."""
     status = count = number = 0
 
     def fail(name: str, error: OSError) -> None:

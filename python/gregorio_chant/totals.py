@@ -33,7 +33,8 @@ class Totals:
 
 
 def write_totals(wanted: Wanted) -> int:
-    """Writes how often each kind of neume stands in all files, and returns the worst status. Raises as `for_each` does."""
+    """Writes how often each kind of neume stands in all files, and returns the worst status. Raises
+    as `for_each` does."""
     totals = Totals()
     status = for_each(wanted, counted_neumes, totals.add)
     form = form_of(wanted.form, COUNT)

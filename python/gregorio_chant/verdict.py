@@ -1,4 +1,5 @@
-"""Judges changes of a score: whether the compiler reads them as they are meant, and all else as before."""
+"""Judges changes of a score: whether the compiler reads them as they are meant, and all else as
+before."""
 from __future__ import annotations
 
 import bisect
@@ -17,8 +18,8 @@ if TYPE_CHECKING:
 
 
 def look_at(old: Score, changes: Sequence[Change], text: str, canonical: str) -> None:
-    """Looks at the file `text` that `changes` make of a score, and at `canonical`, which they make of its canonical text. Raises `EditError` at the first thing
-    that is not as it has to be."""
+    """Looks at the file `text` that `changes` make of a score, and at `canonical`, which they make
+    of its canonical text. Raises `EditError` at the first thing that is not as it has to be."""
     if changes:
         new = _parsed(changes, text)
         moved = _Moved(changes)
@@ -42,7 +43,8 @@ def _parsed(changes: Sequence[Change], text: str) -> Score:
 
 
 class _Moved:
-    """Where what was not changed stands after the changes, which are in order and do not overlap."""
+    """Where what was not changed stands after the changes, which are in order and do not
+    overlap."""
 
     def __init__(self, changes: Sequence[Change]) -> None:
         self.changes = changes
@@ -71,7 +73,8 @@ class _Moved:
         return found is not None and found.begin <= source.place.offset and source.end <= found.end
 
     def change_of(self, offset: int) -> Change | None:
-        """Returns the change whose new text stands at this offset of the new file, or ends there."""
+        """Returns the change whose new text stands at this offset of the new file, or ends
+        there."""
         places = ((it.begin + grown, it) for it, grown in zip(self.changes, self._grown))
         return next((it for begin, it in places if begin <= offset <= begin + len(it.text)), None)
 
@@ -94,7 +97,8 @@ def _look_at_messages(old: Score, new: Score, moved: _Moved) -> None:
 
 
 def _look_at_rest(old: Score, new: Score, moved: _Moved) -> None:
-    """Each header, each syllable and each item of a changed syllable that was not changed itself has to be there again."""
+    """Each header, each syllable and each item of a changed syllable that was not changed itself
+    has to be there again."""
     _look_at_items(old.headers, new.headers, moved)
     there = _look_at_items(old.syllables, new.syllables, moved)
     for it in new.syllables:
@@ -109,7 +113,8 @@ def _look_at_rest(old: Score, new: Score, moved: _Moved) -> None:
 
 
 def _look_at_items(old: Sequence[Item], new: Sequence[Item], moved: _Moved) -> dict[int, tuple[int, Syllable]]:
-    """Compares what was not changed. Returns the syllables that are there again, by their offsets, each with its number from 0 before."""
+    """Compares what was not changed. Returns the syllables that are there again, by their offsets,
+    each with its number from 0 before."""
     now = {it.source.place.offset: it for it in new}
     there: dict[int, tuple[int, Syllable]] = {}
     for number, it in enumerate(old):
