@@ -83,8 +83,9 @@ class Edited:
 
     def replace(self, item: Item, text: str) -> Edited:
         """Writes `text` in the place of `item`. Raises `EditError` where that would end what the
-        item stands in, or where another change overlaps."""
-        source = item.source
+        item stands in, or where another change overlaps, and `ValueError` for an object of
+        another score."""
+        source = self._source_of(item)
         begin, end, written, written_end = source.place.offset, source.end, item.place.offset, item.place.offset + len(item.spelling)
         if isinstance(item, Header) and not text:
             begin, end = self._line_of(begin, end)
@@ -99,7 +100,7 @@ class Edited:
     def insert(self, item: Item, text: str, *, after: bool = False) -> Edited:
         """Inserts `text` directly before `item`, or directly after it. Raises `EditError` as
         `replace` does."""
-        source = item.source
+        source = self._source_of(item)
         at, written = (source.end, item.place.offset + len(item.spelling)) if after else (source.place.offset, item.place.offset)
         return self._add(item, Change(at, at, self._with_line_ends(text), written, written, source))
 
@@ -114,7 +115,7 @@ class Edited:
             at = found.end(1) if found else len(self._score.text)
             last = self._score.headers[-1:]
             written = last[0].place.offset + len(last[0].spelling) + 1 if last else 0
-            source = Source(Place(at, self._score.text.count("\n", 0, at) + 1, 1), "")
+            source = Source(Place(at, len(_LINE_END.findall(self._score.text, 0, at)) + 1, 1), "")
             self._put(Change(at, at, self._with_line_ends(f"{header_spelling(name, value)}\n"), written, written, source))
         return self
 
@@ -138,6 +139,11 @@ class Edited:
         return text
 
     # ---- one change
+
+    def _source_of(self, item: Item) -> Source:
+        if item._sources is not self._score._sources:
+            raise ValueError("the object is one of another score")
+        return item.source
 
     def _with_line_ends(self, text: str) -> str:
         return _LINE_END.sub(self._line_end, text)

@@ -146,7 +146,12 @@ class ByHand(unittest.TestCase):
     def test_texts_that_end_what_they_stand_in(self) -> None:
         for text in ("h)", "h%", "h|", "h[a]%"):
             self.assertRegex(self.refused("%%\na(f)", lambda it: it.edited().replace(it.notes[0], text)), r"^2:3: a [)%|] would end")
-        self.assertEqual(Score.parse("%%\na(f)").edited().replace(Score.parse("%%\na(f)").notes[0], "f[x:)%|]").text(), "%%\na(f[x:)%|])")
+        score = Score.parse("%%\na(f)")
+        self.assertEqual(score.edited().replace(score.notes[0], "f[x:)%|]").text(), "%%\na(f[x:)%|])")
+
+    def test_objects_of_other_scores(self) -> None:
+        with self.assertRaisesRegex(ValueError, "one of another score"):
+            self.score.edited().remove(Score.parse(SCORE).notes[0])
 
     def test_what_is_read_otherwise(self) -> None:
         first: Callable[[Score], Note] = lambda it: it.notes[0]
