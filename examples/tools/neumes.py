@@ -1,16 +1,10 @@
-"""Prints how often each neume stands in scores, and where first: python neumes.py SCORE.."""
+"""Prints each neume of scores, with its place: python neumes.py SCORE.."""
 import sys
-from collections import Counter
 from pathlib import Path
 
 from gregorio_chant.dump import Score
 
-count: Counter[str] = Counter()
-first: dict[str, str] = {}
 for name in sys.argv[1:]:
     for syllable in Score.parse(Path(name).read_bytes()).syllables:
         for glyph in syllable.glyphs:
-            count[glyph.kind] += 1
-            first.setdefault(glyph.kind, f"{syllable.plain}({glyph.spelling}) in {name}, syllable {syllable.number}")
-for kind, number in count.most_common():
-    print(f"{number:6}  {kind:28}  {first[kind]}")
+            print(f"{name}:{glyph.source}: {glyph.kind} {glyph.spelling} {syllable.plain}")

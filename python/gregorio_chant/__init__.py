@@ -22,9 +22,9 @@ from importlib.metadata import version
 
 from gregorio_chant.library import check, compile
 from gregorio_chant.results import Format, Kind, Message, Report, Result, RunOverError, StateError, Status, Step
-from gregorio_chant.runs import Run, pieces
+from gregorio_chant.runs import Limits, Run, pieces
 
 __version__ = version("gregorio-chant")
 __all__ = [
-    "Format", "Kind", "Message", "Report", "Result", "Run", "RunOverError", "StateError", "Status", "Step", "check", "compile", "pieces",
+    "Format", "Kind", "Limits", "Message", "Report", "Result", "Run", "RunOverError", "StateError", "Status", "Step", "check", "compile", "pieces",
 ]

@@ -2,43 +2,48 @@
 
 >>> score = Score.parse("name: Kyrie;\\n%%\\n(c4) Ky(f)ri(gfg)")
 >>> for syllable in score.syllables:
-...     print(syllable.plain, [(note.degree, note.place.line, note.place.column) for note in syllable.notes])
+...     print(syllable.plain, [(note.degree, note.source.line, note.source.column) for note in syllable.notes])
  []
-Ky [('fa', 4, 4)]
-ri [('sol', 4, 9), ('fa', 4, 10), ('sol', 4, 11)]
+Ky [('fa', 3, 9)]
+ri [('sol', 3, 14), ('fa', 3, 15), ('sol', 3, 16)]
 
-The places are those of a file that is canonical. The reader takes `dump 2`, from `Score.parse` or of the program, and only its tests show that it reads
-it rightly.
+A `place` is one in the canonical text, and `source` is in the file that was read. The reader takes
+`dump 2`, from `Score.parse` or of the program, and only its tests show that it reads it rightly.
 """
 from __future__ import annotations
 
 import re
 from collections.abc import Callable, Iterator
-from dataclasses import dataclass
+from dataclasses import dataclass, field
 
+from gregorio_chant.edits import Edited, EditError
+from gregorio_chant.heights import Interval, Range, interval, intervals, range_of
 from gregorio_chant.items import (
-    Alteration, Attribute, Bar, Break, Clef, Custos, Descriptor, Element, Fusion, Glyph, Header, Item, NabcSnippet, Note, NoteSnippet, Snippet,
-    Space, Syllable, plain_text,
+    PITCHES, Alteration, Attribute, Bar, Break, Clef, Custos, Descriptor, Element, Fusion, Glyph, Header, Item, NabcGlyph, NabcLetters, NabcPart,
+    NabcPoints, NabcSnippet, Note, NoteSnippet, Snippet, Space, Syllable, header_spelling, plain_text,
 )
 from gregorio_chant.library import compile
-from gregorio_chant.results import Format, Message
-from gregorio_chant.source import Place
+from gregorio_chant.memory import bytes_of
+from gregorio_chant.passages import FINALIS, Phrase, Word, phrases_of, words_of
+from gregorio_chant.results import Format, Message, Result
+from gregorio_chant.runs import Limits, Run
+from gregorio_chant.source import Place, Source
+from gregorio_chant.sources import FileSources, LeftOut
 
 __all__ = [
-    "Alteration", "Attribute", "Bar", "Break", "Clef", "Custos", "Descriptor", "DumpError", "Element", "Fusion", "Glyph", "Header", "Item",
-    "NabcSnippet", "Note", "NoteSnippet", "Place", "Score", "ScoreError", "Snippet", "Space", "Syllable", "plain_text",
+    "Alteration", "Attribute", "Bar", "Break", "Clef", "Custos", "Descriptor", "DumpError", "EditError", "Edited", "Element", "Fusion", "Glyph", "Header", "Interval", "Item",
+    "LeftOut", "Limits", "NabcGlyph", "NabcLetters", "NabcPart", "NabcPoints", "NabcSnippet", "Note", "NoteSnippet", "Phrase", "Place", "Range",
+    "Score", "ScoreError", "Snippet", "Source", "Space", "Syllable", "Word", "interval", "intervals", "plain_text",
 ]
 
 _VERSION = "2"
 # How many characters of a dump are cut into lines at a time, at least: all lines of a large one would take many times its room.
 _AT_ONCE = 1 << 16
-_PITCHES = frozenset("abcdefghijklmnp")
+_PITCHES = frozenset(PITCHES)
 _DEGREES = frozenset(("ut", "re", "mi", "fa", "sol", "la", "si", "-"))
 _ALTERS = frozenset(("none", "flat", "natural", "sharp"))
 _POSITIONS = frozenset(("one", "beginning", "middle", "end"))
 _ESCAPE = re.compile(r"\\(.)", re.DOTALL)
-# A run of `;` that ends a value: such a value stands on lines of its own.
-_MARK = re.compile(r";[ \t]*(?:%|$)", re.MULTILINE)
 _BLANKS = re.compile(r"[ \t\n]+")
 _FIRST_WORD = re.compile(r"^[^ :\n]*", re.MULTILINE)
 
@@ -65,12 +70,17 @@ class ScoreError(ValueError):
 
 @dataclass(frozen=True)
 class Score:
-    """A score, with its canonical text. Where a fault stopped the reading it is not whole, and has the syllables before that."""
+    """A score, with its canonical text, and the text and messages of the file that was read. Where
+    a fault stopped the reading it is not whole, and has the syllables before that. Of a dump the
+    canonical text is the file, and there are no messages."""
 
     canonical: str
     headers: tuple[Header, ...]
     syllables: tuple[Syllable, ...]
     is_whole: bool
+    text: str = field(repr=False)
+    messages: tuple[Message, ...] = ()
+    _sources: FileSources | None = field(default=None, repr=False, compare=False)
 
     def header(self, name: str) -> str | None:
         """Returns the value of the last header `name`, or `None` where there is none."""
@@ -80,19 +90,67 @@ class Score:
     def notes(self) -> tuple[Note, ...]:
         return tuple(note for it in self.syllables for note in it.notes)
 
+    @property
+    def words(self) -> tuple[Word, ...]:
+        """The words: all that have a letter or a digit."""
+        return words_of(self.syllables)
+
+    @property
+    def phrases(self) -> tuple[Phrase, ...]:
+        """What stands between bars of any kind, if there is a note or a word in it."""
+        return phrases_of(self.syllables)
+
+    @property
+    def verses(self) -> tuple[Phrase, ...]:
+        """What stands between final bars."""
+        return self.phrases_at(FINALIS)
+
+    def phrases_at(self, *kinds: str) -> tuple[Phrase, ...]:
+        """Returns what stands between bars of these kinds, if there is a note or a word in it."""
+        return phrases_of(self.syllables, kinds)
+
+    @property
+    def range(self) -> Range | None:
+        """The lowest and the highest note; nothing where all stand before any clef."""
+        return range_of(self.notes)
+
+    @property
+    def final(self) -> Note | None:
+        """The last note."""
+        return self.notes[-1] if self.notes else None
+
+    def edited(self) -> Edited:
+        """Returns changes of this score, to be collected: none yet. Raises `EditError` where a
+        fatal fault stops it."""
+        return Edited(self)
+
+    def source_offset(self, written: int) -> int:
+        """Returns how many characters stand in the file before the character of notes that has
+        `written` others before it in the canonical text."""
+        return written if self._sources is None else self._sources.offset_of(written)
+
+    @property
+    def left_out(self) -> tuple[LeftOut, ...]:
+        """What the compiler left out of the file, in order, each with the code of its message."""
+        return self._sources.left_out() if self._sources else ()
+
     @classmethod
     def read(cls, dump: str, pause: Pause = go_on) -> Score:
         """Reads a dump, with a pause before each syllable. Raises `DumpError` where it is none, or of another version."""
         return _Reader(dump).score(pause)
 
     @classmethod
-    def parse(cls, score: str | bytes | bytearray | memoryview) -> Score:
-        """Reads a score, and compares the canonical text of its dump with the compiler's. Raises `ScoreError` where its headers are not whole."""
-        result = compile(score, Format.DUMP)
-        if not result.output:
-            raise ScoreError(result.messages[-1])
-        read = cls.read(result.output)
-        if read.canonical != compile(score, all_warnings=False).output:
+    def parse(cls, score: str | bytes | bytearray | memoryview, limits: Limits | None = None) -> Score:
+        """Reads a score, under the usual limits where none are given, and compares the canonical
+        text of its dump with the compiler's. Raises `ScoreError` where its headers are not whole,
+        and `ValueError` for limits that are out of range."""
+        data = bytes(bytes_of(score))
+        dump = _compiled(data, Format.DUMP, limits)
+        messages = dump.messages
+        if not dump.output:
+            raise ScoreError(messages[-1])
+        read = _Reader(dump.output, FileSources(data, messages), messages).score()
+        if read.canonical != _compiled(data, Format.GABC, limits).output:
             raise DumpError("the dump and the canonical text of the score differ")
         return read
 
@@ -101,6 +159,15 @@ def read_in_turn(dump: str) -> tuple[tuple[Header, ...], Iterator[Syllable]]:
     """Reads the headers of a dump, and returns them with its syllables, of which each is read when its turn comes. Raises `DumpError` as `Score.read` does."""
     reader = _Reader(dump)
     return reader.headers(), reader.syllables()
+
+
+def _compiled(data: bytes, format: Format, limits: Limits | None) -> Result:
+    if limits is None:
+        return compile(data, format)
+    steps = list(Run(format, limits=limits).steps([data]))
+    status = steps[-1].status
+    assert status is not None
+    return Result("".join(it.output for it in steps), status, "".join(it.messages_text for it in steps), format)
 
 
 def unescaped(text: str) -> str:
@@ -134,7 +201,8 @@ class _Pen:
 class _Reader:
     """Reads the lines of a dump in order, and writes the canonical text beside it."""
 
-    def __init__(self, dump: str) -> None:
+    def __init__(self, dump: str, sources: FileSources | None = None, messages: tuple[Message, ...] = ()) -> None:
+        self.sources, self._messages = sources, messages
         self._dump = dump
         # The lines that are cut, the one that comes, how many stand before them, and where in the dump those after them begin.
         self._lines: list[str] = []
@@ -143,6 +211,8 @@ class _Reader:
         self._cut_lines()
         self.is_whole = False
         self.pen = _Pen()
+        # The clef in force.
+        self.clef: Clef | None = None
 
     def _cut_lines(self) -> None:
         """Cuts the next lines, up to one that begins a syllable."""
@@ -209,7 +279,7 @@ class _Reader:
         if self.word():
             raise self.fail(f"'{self.word()}' was not awaited")
 
-    def score(self, pause: Pause) -> Score:
+    def score(self, pause: Pause = go_on) -> Score:
         headers = self.headers()
         written: list[str] = []
         syllables: list[Syllable] = []
@@ -217,22 +287,21 @@ class _Reader:
             syllables.append(it)
             written += self.pen.written
         written += [*self.pen.written, "\n"]
-        return Score("".join(written), headers, tuple(syllables), self.is_whole)
+        canonical = "".join(written)
+        if self.sources is None:
+            return Score(canonical, headers, tuple(syllables), self.is_whole, canonical)
+        self.sources.take(canonical, syllables)
+        return Score(canonical, headers, tuple(syllables), self.is_whole, self.sources.text, self._messages, self.sources)
 
     def _header(self) -> Header:
         name, colon, value = self.words(2)[1].partition(":")
         if not colon:
             raise self.fail("a colon was awaited")
         name, value = unescaped(name), unescaped(value)
-        if not value:
-            spelling = f"{name}:;"
-        elif "\n" in value or _MARK.search(value):
-            spelling = f"{name}:\n {value};;"
-        else:
-            spelling = f"{name}: {value};"
+        spelling = header_spelling(name, value)
         place = self.pen.write(spelling)
         self.pen.write("\n")
-        return Header(place, spelling, name, value)
+        return Header(place, spelling, name, value, _sources=self.sources)
 
     def _syllable(self, number: int) -> Syllable:
         words = self._lines[self._at].split(" ")
@@ -252,7 +321,9 @@ class _Reader:
             snippets.append(_NotesReader(self).snippet() if self.word() == "notes" else _read_nabc(self))
         self.pen.write(")" if snippets else "()")
         spelling = "".join(self.pen.written[first:])
-        return Syllable(place, spelling, number, words[2], "eu" in words[3:], "nlba" in words[3:], text, translation, tuple(snippets))
+        return Syllable(
+            place, spelling, number, words[2], "eu" in words[3:], "nlba" in words[3:], text, translation, tuple(snippets), _sources=self.sources,
+        )
 
 
 def _read_nabc(reader: _Reader) -> NabcSnippet:
@@ -265,13 +336,13 @@ def _read_nabc(reader: _Reader) -> NabcSnippet:
     while reader.word() in ("descriptor", "space"):
         if reader.word() == "space":
             text = unescaped(reader.words(2)[1])
-            items.append(Space(reader.pen.write(text), text))
+            items.append(Space(reader.pen.write(text), text, _sources=reader.sources))
         else:
             _, text, names = reader.words(3)
-            items.append(Descriptor(reader.pen.write(text), text, tuple(names.split("!"))))
+            items.append(Descriptor(reader.pen.write(text), text, tuple(names.split("!")), _sources=reader.sources))
     if "".join(it.spelling for it in items) != spelling:
         raise reader.fail("the snippet before this line is not spelled by its parts")
-    return NabcSnippet(place, spelling, int(line), tuple(items))
+    return NabcSnippet(place, spelling, int(line), tuple(items), _sources=reader.sources)
 
 
 class _NotesReader:
@@ -279,6 +350,7 @@ class _NotesReader:
 
     def __init__(self, reader: _Reader) -> None:
         self._reader = reader
+        self._sources = reader.sources
         self._spelling = reader.text()
         self._place = reader.pen.place()
         self._items: list[Item] = []
@@ -304,7 +376,7 @@ class _NotesReader:
         self._close_element()
         if "".join(it.spelling for it in self._items) != self._spelling:
             raise self._reader.fail("the snippet before this line is not spelled by its items")
-        return NoteSnippet(self._place, self._spelling, tuple(self._items), tuple(self._elements))
+        return NoteSnippet(self._place, self._spelling, tuple(self._items), tuple(self._elements), _sources=self._sources)
 
     def _between(self, first: Item, last: Item) -> str:
         begin = self._place.offset
@@ -332,7 +404,7 @@ class _NotesReader:
         self._wanted -= 1
         if not self._wanted:
             first = self._notes[0]
-            self._glyphs.append(Glyph(first.place, self._between(first, note), self._kind, tuple(self._notes)))
+            self._glyphs.append(Glyph(first.place, self._between(first, note), self._kind, tuple(self._notes), _sources=self._sources))
             self._notes = []
 
     def _close_element(self) -> None:
@@ -341,7 +413,7 @@ class _NotesReader:
         if self._inside:
             first = self._inside[0]
             spelling = self._between(first, self._inside[-1])
-            self._elements.append(Element(first.place, spelling, tuple(self._inside), tuple(self._glyphs)))
+            self._elements.append(Element(first.place, spelling, tuple(self._inside), tuple(self._glyphs), _sources=self._sources))
         self._inside, self._glyphs = [], []
 
     # ---- the line of each item
@@ -364,18 +436,21 @@ class _NotesReader:
         sounds = self._word_of(degree, _DEGREES)
         return Note(
             *self._write(spelling), self._word_of(pitch, _PITCHES), shape, None if sounds == "-" else sounds, self._word_of(alteration, _ALTERS),
+            self._reader.clef, _sources=self._sources,
         )
 
     def alteration(self) -> Alteration:
         _, pitch, sign, spelling = self._reader.words(4)
-        return Alteration(*self._write(spelling), self._word_of(pitch, _PITCHES), self._word_of(sign, _ALTERS))
+        return Alteration(*self._write(spelling), self._word_of(pitch, _PITCHES), self._word_of(sign, _ALTERS), _sources=self._sources)
 
     def clef(self) -> Clef:
-        return Clef(*self._rest())
+        clef = Clef(*self._rest(), _sources=self._sources)
+        self._reader.clef = clef
+        return clef
 
     def bar(self) -> Bar:
         _, name, spelling = self._reader.words(3)
-        return Bar(*self._write(spelling), name)
+        return Bar(*self._write(spelling), name, _sources=self._sources)
 
     def space(self) -> Space:
         text = unescaped(self._reader.words(2)[1])
@@ -383,23 +458,23 @@ class _NotesReader:
             here = self._reader.pen.place().offset - self._place.offset
             blanks = _BLANKS.match(self._spelling, here)
             text = blanks[0] if blanks else ""
-        return Space(*self._write(text))
+        return Space(*self._write(text), _sources=self._sources)
 
     def custos(self) -> Custos:
         pitch = self._reader.words(2)[1]
         if pitch == "auto":
-            return Custos(*self._write("z0"), None)
-        return Custos(*self._write(f"{pitch}+"), self._word_of(pitch, _PITCHES))
+            return Custos(*self._write("z0"), None, _sources=self._sources)
+        return Custos(*self._write(f"{pitch}+"), self._word_of(pitch, _PITCHES), _sources=self._sources)
 
     def line_end(self) -> Break:
-        return Break(*self._rest())
+        return Break(*self._rest(), _sources=self._sources)
 
     def attribute(self) -> Attribute:
         raw = unescaped(self._reader.words(2)[1])
-        return Attribute(*self._write(f"[{raw}]"), raw)
+        return Attribute(*self._write(f"[{raw}]"), raw, _sources=self._sources)
 
     def fusion(self) -> Fusion:
-        return Fusion(*self._rest())
+        return Fusion(*self._rest(), _sources=self._sources)
 
 
 _ITEMS: dict[str, Callable[[_NotesReader], Item]] = {

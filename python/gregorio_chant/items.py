@@ -2,16 +2,41 @@
 from __future__ import annotations
 
 import re
-from dataclasses import dataclass
-from typing import Union
+from collections.abc import Iterator
+from dataclasses import dataclass, field
+from typing import Protocol, Union
 
-from gregorio_chant.source import Place
+from gregorio_chant.source import Place, Source
 
+# The letters of pitches, from low to high.
+PITCHES = "abcdefghijklmnp"
+# How many semitones each degree stands above ut, and what alters a note.
+_SEMITONES = (0, 2, 4, 5, 7, 9, 11)
+_ALTERED = {"none": 0, "flat": -1, "natural": 0, "sharp": 1}
+# The step of what a clef stands for.
+_CLEF_STEPS = {"c": 7, "f": 3}
+
+# A run of `;` that ends a value: such a value stands on lines of its own.
+_MARK = re.compile(r";[ \t]*(?:%|$)", re.MULTILINE)
 # What the special characters of the manual look like; those that are not here are read as they are spelled.
 _SPECIAL = {
     "ae": "æ", "oe": "œ", "'ae": "ǽ", "'oe": "œ́", "'æ": "ǽ", "'œ": "œ́", "A/": "A", "R/": "℟", "V/": "℣", "*": "*", "+": "†", "-": "", "~": "~",
 }
+# The parts of a descriptor, and a modifier.
+_PITCH = "(?:h([a-np]))?"
+_PART = re.compile(
+    rf"(?P<points>su|pp)(?P<kind>[a-zA-Z]?)(?P<count>[1-9]){_PITCH}|(?P<letters>ls|lt)(?P<text>[a-zA-Z][a-zA-Z-]*)(?P<at>[1-9]){_PITCH}"
+    rf"|(?P<code>[a-z]{{2}})(?P<modifiers>(?:[SGM>~-][1-9]?)*){_PITCH}|!"
+)
+_MODIFIER = re.compile("[SGM>~-][1-9]?")
 MARKUP = re.compile(r"\$(?P<escaped>.)|<sp>(?P<special>.*?)</sp>|<(?P<raw>v|alt)>.*?</(?P=raw)>|<[^>]*>|[{}]", re.DOTALL)
+
+
+class Sources(Protocol):
+    """Where items stand in the file that was read."""
+
+    def of(self, item: Item) -> Source:
+        """Returns where `item` stands in the file, and how it is spelled there."""
 
 
 @dataclass(frozen=True, slots=True)
@@ -20,16 +45,74 @@ class Item:
 
     place: Place
     spelling: str
+    _sources: Sources | None = field(default=None, kw_only=True, repr=False, compare=False)
+
+    @property
+    def source(self) -> Source:
+        """Where it stands in the file that was read, and how it is spelled there, with all comments
+        in it and all that was left out of it. Of a dump that is the canonical text."""
+        return Source(self.place, self.spelling) if self._sources is None else self._sources.of(self)
+
+
+@dataclass(frozen=True, slots=True)
+class Clef(Item):
+    """A clef, or two that are joined: then the first one counts."""
+
+    @property
+    def letter(self) -> str:
+        """c or f."""
+        return self.spelling[0]
+
+    @property
+    def has_flat(self) -> bool:
+        return self.spelling[1] == "b"
+
+    @property
+    def line(self) -> int:
+        """The line that it stands on, from 1."""
+        return int(self.spelling.partition("@")[0][-1])
+
+    @property
+    def second(self) -> Clef | None:
+        """The clef that is joined to it."""
+        first, joined, second = self.spelling.partition("@")
+        if not joined:
+            return None
+        at = len(first) + 1
+        return Clef(Place(self.place.offset + at, self.place.line, self.place.column + at), second, _sources=self._sources)
+
+    def step(self, height: int) -> int:
+        """Returns the step of what stands at this height."""
+        return height - 2 * self.line - 1 + _CLEF_STEPS[self.letter]
 
 
 @dataclass(frozen=True, slots=True)
 class Note(Item):
-    """A note. `pitch` is its small letter, `degree` how it sounds (`None` before any clef), `alteration` one of none, flat, natural, sharp."""
+    """A note. `pitch` is its small letter, `degree` how it sounds (`None` before any clef),
+    `alteration` one of none, flat, natural, sharp; `clef` is the one in force."""
 
     pitch: str
     shape: str
     degree: str | None
     alteration: str
+    clef: Clef | None = field(repr=False)
+
+    @property
+    def height(self) -> int:
+        """Its height on the staff: 0 for `a`, a step for each letter."""
+        return PITCHES.index(self.pitch)
+
+    @property
+    def step(self) -> int | None:
+        """How many degrees it stands above the ut an octave below that of a c clef: 7 is what a c
+        clef stands for, and 3 what an f clef does. `None` before any clef."""
+        return None if self.clef is None else self.clef.step(self.height)
+
+    @property
+    def semitones(self) -> int | None:
+        """The same in semitones, with what alters it."""
+        step = self.step
+        return None if step is None else 12 * (step // 7) + _SEMITONES[step % 7] + _ALTERED[self.alteration]
 
 
 @dataclass(frozen=True, slots=True)
@@ -38,11 +121,6 @@ class Alteration(Item):
 
     pitch: str
     sign: str
-
-
-@dataclass(frozen=True, slots=True)
-class Clef(Item):
-    """A clef, or two that are joined."""
 
 
 @dataclass(frozen=True, slots=True)
@@ -91,10 +169,77 @@ class Fusion(Item):
 
 
 @dataclass(frozen=True, slots=True)
+class NabcPart(Item):
+    """A part of a descriptor; `pitch` is the small letter after its `h`, or `None`."""
+
+    pitch: str | None
+
+
+@dataclass(frozen=True, slots=True)
+class NabcGlyph(NabcPart):
+    """A glyph: two letters of `code`, the `name` that they have, and `modifiers`, each with its
+    number if it has one."""
+
+    code: str
+    name: str
+    modifiers: tuple[str, ...]
+
+
+@dataclass(frozen=True, slots=True)
+class NabcPoints(NabcPart):
+    """Points after a glyph, `su`, or before it, `pp`: `letter` says which, and is empty where none
+    stands; `count` is how many they are."""
+
+    kind: str
+    letter: str
+    count: int
+
+
+@dataclass(frozen=True, slots=True)
+class NabcLetters(NabcPart):
+    """Significant letters, `ls`, or Tironian notes, `lt`: their `text`, and a number from 1 to 9
+    for the place around the glyph."""
+
+    kind: str
+    text: str
+    position: int
+
+
+@dataclass(frozen=True, slots=True)
 class Descriptor(Item):
     """A descriptor of NABC, with the names of its codes."""
 
     names: tuple[str, ...]
+
+    @property
+    def parts(self) -> tuple[NabcGlyph | NabcPoints | NabcLetters, ...]:
+        """Its glyphs, points and letters, in order."""
+        return tuple(self._parts())
+
+    @property
+    def glyphs(self) -> tuple[NabcGlyph, ...]:
+        return tuple(it for it in self._parts() if isinstance(it, NabcGlyph))
+
+    @property
+    def points(self) -> tuple[NabcPoints, ...]:
+        return tuple(it for it in self._parts() if isinstance(it, NabcPoints))
+
+    @property
+    def letters(self) -> tuple[NabcLetters, ...]:
+        return tuple(it for it in self._parts() if isinstance(it, NabcLetters))
+
+    def _parts(self) -> Iterator[NabcGlyph | NabcPoints | NabcLetters]:
+        place, sources, waiting = self.place, self._sources, iter(self.names)
+        for found in _PART.finditer(self.spelling):
+            at, spelling = found.start(), found[0]
+            where = Place(place.offset + at, place.line, place.column + at)
+            if found["points"]:
+                yield NabcPoints(where, spelling, found[4], found["points"], found["kind"], int(found["count"]), _sources=sources)
+            elif found["letters"]:
+                yield NabcLetters(where, spelling, found[8], found["letters"], found["text"], int(found["at"]), _sources=sources)
+            elif found["code"]:
+                modifiers = tuple(_MODIFIER.findall(found["modifiers"]))
+                yield NabcGlyph(where, spelling, found[11], found["code"], next(waiting), modifiers, _sources=sources)
 
 
 @dataclass(frozen=True, slots=True)
@@ -173,6 +318,15 @@ class Header(Item):
 
     name: str
     value: str
+
+
+def header_spelling(name: str, value: str) -> str:
+    """Returns the canonical line of a header, or its lines, without the last LF."""
+    if not value:
+        return f"{name}:;"
+    if "\n" in value or _MARK.search(value):
+        return f"{name}:\n {value};;"
+    return f"{name}: {value};"
 
 
 def special_character(name: str) -> str:

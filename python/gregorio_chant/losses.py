@@ -38,7 +38,8 @@ class Comparison:
     """A score beside its canonical text."""
 
     def __init__(self, score: bytes, canonical: str, messages: Sequence[Message]) -> None:
-        """Takes a score that no fatal fault stops, what the compiler wrote, and all of its messages."""
+        """Takes a score, what the compiler wrote, and all of its messages. Where a fatal fault stops
+        the score, the pairs of what was written are right, and there are no `losses` to ask for."""
         self._score = score
         self.messages = messages
         self.lines = Lines(text_of(score))

@@ -3,7 +3,7 @@ names the package."""
 from __future__ import annotations
 
 # How Debian calls them.
-_DEBIAN = {"pathspec": "python3-pathspec", "rich": "python3-rich", "tomli": "python3-tomli"}
+_DEBIAN = {"mido": "python3-mido", "pathspec": "python3-pathspec", "rich": "python3-rich", "tomli": "python3-tomli"}
 
 
 class Missing(Exception):

@@ -10,11 +10,11 @@ from gregorio_chant import library
 from gregorio_chant.codes import CODES
 from gregorio_chant.dump import Alteration, Attribute, Bar, Clef, Custos, Item, Note, NoteSnippet, Pause, Score, Space, Syllable, go_on
 from gregorio_chant.ignores import silenced
+from gregorio_chant.items import PITCHES
 from gregorio_chant.losses import Comparison
 from gregorio_chant.reports import counted
 from gregorio_chant.results import Format, Kind, Message, Status
 
-_PITCHES = "abcdefghijklmnp"
 _STAFFS = ("2", "3", "4", "5")
 _SCORE = "name: Kyrie;\n%%\n(c4) "
 _CLEF = re.compile(r"[cf]b?([1-5])")
@@ -75,8 +75,8 @@ def _outside_staff(subject: Subject) -> Iterator[Found]:
         return
     highest = 2 * int(lines) + 4
     for item in _items(subject.score):
-        if isinstance(item, (Note, Alteration, Custos)) and item.pitch and _PITCHES.index(item.pitch) > highest:
-            yield subject.found(item, f"pitch {item.pitch} is outside a staff of {lines} lines, which goes from a to {_PITCHES[highest]}")
+        if isinstance(item, (Note, Alteration, Custos)) and item.pitch and PITCHES.index(item.pitch) > highest:
+            yield subject.found(item, f"pitch {item.pitch} is outside a staff of {lines} lines, which goes from a to {PITCHES[highest]}")
 
 
 def _bracket_in_attribute(subject: Subject) -> Iterator[Found]:

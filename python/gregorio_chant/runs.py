@@ -3,6 +3,7 @@ from __future__ import annotations
 
 import ctypes
 from collections.abc import Callable, Iterable, Iterator
+from dataclasses import astuple, dataclass
 from typing import Protocol
 
 from gregorio_chant.library import LEAST, LIBRARY, NO_MEMORY, NUMBERS, TIMES, Key, Lengths, new_key, truth
@@ -40,8 +41,32 @@ _end.argtypes = _broken.argtypes = [
 _begin.restype = _feed.restype = _end.restype = _broken.restype = ctypes.c_uint32
 LIBRARY.gregorio_state_bound.restype = ctypes.c_size_t
 LIBRARY.gregorio_state_bound.argtypes = [ctypes.POINTER(_Options), ctypes.c_size_t]
-# How many bytes a state has at most.
-_BOUND: int = LIBRARY.gregorio_state_bound(None, 0)
+_MOST = (1 << 32) - 1
+
+
+@dataclass(frozen=True)
+class Limits:
+    """The limits of a run, in bytes: of all headers and of a syllable, 64 to 16,777,216, and of the
+    whole input, at least 64."""
+
+    header: int = 65_536
+    syllable: int = 16_384
+    input: int = _MOST
+
+    def _options(self) -> ctypes.Array[_Options]:
+        """Returns the options of a step, with a new key."""
+        return (_Options * 1)(_Options(*astuple(self), 0, new_key()))
+
+    def _bound(self) -> int:
+        """Returns how many bytes a state has at most. Raises `ValueError` where a limit is out of
+        range."""
+        bound: int = LIBRARY.gregorio_state_bound(self._options(), 1) if all(0 <= it <= _MOST for it in astuple(self)) else 0
+        if not bound:
+            raise ValueError(f"limits out of range: {self}")
+        return bound
+
+
+USUAL = Limits()
 
 
 class _Source(Protocol):
@@ -80,7 +105,7 @@ def _raise_where_wrong(answer: int) -> None:
 
 
 class Run:
-    """A run over a score that comes in pieces, under the default limits.
+    """A run over a score that comes in pieces, under the usual limits where none are given.
 
     The outputs of all steps joined, and their messages joined, are those of one `compile` over the whole score, and so is the last status.
     `format` and `all_warnings` are as for `compile`. A run holds nothing but its state, and need not be closed. One thread at a time may feed a
@@ -99,11 +124,14 @@ class Run:
     (['E1'], <Status.ERRORS: 1>)
     """
 
-    def __init__(self, format: str | Format = Format.GABC, *, all_warnings: bool = True) -> None:
+    def __init__(self, format: str | Format = Format.GABC, *, all_warnings: bool = True, limits: Limits = USUAL) -> None:
+        """Begins a run. Raises `ValueError` for another format and for limits that are out of
+        range."""
         self._format = Format(format)
         self._all_warnings = truth("all_warnings", all_warnings)
+        self._limits, self._bound = limits, limits._bound()
         self._status: Status | None = None
-        state, step = Room.lend(_BOUND), _Step()
+        state, step = Room.lend(self._bound), _Step()
         try:
             _raise_where_wrong(_begin(*self._what(), state.address(), len(state.content), ctypes.byref(step)))
             self._state = state.head(step.state)
@@ -111,15 +139,19 @@ class Run:
             state.give_back()
 
     @classmethod
-    def restore(cls, state: bytes | bytearray | memoryview, format: str | Format = Format.GABC, *, all_warnings: bool = True) -> Run:
-        """Returns a run that goes on from `state`, in this process or another than that which saved it.
+    def restore(
+        cls, state: bytes | bytearray | memoryview, format: str | Format = Format.GABC, *, all_warnings: bool = True, limits: Limits = USUAL,
+    ) -> Run:
+        """Returns a run that goes on from `state`, in this process or another than that which saved
+        it.
 
-        Raises `TypeError` for a state that is not bytes, and `StateError`, a `ValueError`, for bytes that are no state, and for the state of a run
-        with another format or other warnings.
+        Raises `TypeError` for a state that is not bytes, and `StateError`, a `ValueError`, for bytes
+        that are no state, and for the state of a run with another format, other warnings or other
+        limits.
         """
         if not isinstance(state, (bytes, bytearray, memoryview)):
             raise TypeError(f"a state is bytes, not {type(state).__name__}")
-        run = cls(format, all_warnings=all_warnings)
+        run = cls(format, all_warnings=all_warnings, limits=limits)
         run._state = bytes(state)
         run.feed(b"")
         return run
@@ -172,8 +204,7 @@ class Run:
 
     def _what(self) -> tuple[int, int, ctypes.Array[_Options], int]:
         """Returns what each step is told: format, flags, limits and a new key."""
-        options = (_Options * 1)(_Options(65_536, 16_384, 4_294_967_295, 0, new_key()))
-        return NUMBERS[self._format], int(self._all_warnings), options, 1
+        return NUMBERS[self._format], int(self._all_warnings), self._limits._options(), 1
 
     def _look_whether_over(self) -> None:
         if self._status is not None:
@@ -181,7 +212,7 @@ class Run:
 
     def _lend(self, length: int) -> tuple[Room, Room, Room]:
         """Returns rooms for the messages, the output and the state of a step over `length` bytes. The room that is given back last is lent first."""
-        state, output = Room.lend(_BOUND), Room.lend(TIMES[self._format] * length + LEAST)
+        state, output = Room.lend(self._bound), Room.lend(TIMES[self._format] * length + LEAST)
         return Room.lend(length + LEAST), output, state
 
     def _feed(self, data: Borrowed, messages: Room, output: Room, state: Room) -> Step:

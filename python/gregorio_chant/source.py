@@ -3,6 +3,7 @@ from __future__ import annotations
 
 import bisect
 import re
+from dataclasses import dataclass
 from typing import NamedTuple
 
 _MARK = "\ufeff"
@@ -15,6 +16,32 @@ class Place(NamedTuple):
     offset: int
     line: int
     column: int
+
+
+@dataclass(frozen=True, slots=True)
+class Source:
+    """A part of a file that was read: it stands at `place`, and is spelled `spelling` there. The
+    line and the column are as in messages; the offset counts the characters of the file's text,
+    with each CR and U+FEFF. As text it is `LINE:COLUMN`."""
+
+    place: Place
+    spelling: str
+
+    @property
+    def line(self) -> int:
+        return self.place.line
+
+    @property
+    def column(self) -> int:
+        return self.place.column
+
+    @property
+    def end(self) -> int:
+        """The offset after it."""
+        return self.place.offset + len(self.spelling)
+
+    def __str__(self) -> str:
+        return f"{self.line}:{self.column}"
 
 
 def text_of(score: bytes) -> str:

@@ -36,8 +36,13 @@ def _bytes_of(text: str) -> bytes:
 
 def write(text: str) -> None:
     """Writes `text` to standard output. Raises `CannotWrite` where it takes no more."""
+    write_bytes(_bytes_of(text))
+
+
+def write_bytes(content: bytes) -> None:
+    """Writes bytes to standard output. Raises `CannotWrite` where it takes no more."""
     try:
-        _send(sys.__stdout__.fileno() if sys.__stdout__ else 1, _bytes_of(text))
+        _send(sys.__stdout__.fileno() if sys.__stdout__ else 1, content)
     except OSError as error:
         raise CannotWrite(error) from None
 

@@ -38,7 +38,7 @@ class Words(InFolder):
         each, which run."""
         self.put("scores/a.gabc", FAULTY)
         self.put("score.gabc", FAULTY)
-        for words in ((), ("check",), ("format",), ("show",), ("explain",)):
+        for words in ((), ("check",), ("format",), ("show",), ("explain",), ("find",), ("index",), ("neumes",)):
             shown = command(*words, "--help").stdout.decode()
             examples = re.findall(r"(?m)^    gregorio-chant (.*)$", shown)
             self.assertEqual(len(examples), 3)
@@ -62,7 +62,7 @@ class SameWords(unittest.TestCase):
 
     def test_page(self) -> None:
         """The page has a section for each sub-command, with each option."""
-        page = (ROOT / "docs" / "PYTHON.md").read_text(encoding="utf-8")
+        page = "".join((ROOT / "docs" / it).read_text(encoding="utf-8") for it in ("PYTHON.md", "OBJECTS.md"))
         for name, known in options().items():
             heading = {"server": "Messages while you type"}.get(name, name.capitalize())
             (section,) = re.findall(rf"(?ms)^## {heading}\n(.*?)(?:^## |\Z)", page)

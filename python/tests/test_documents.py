@@ -11,11 +11,13 @@ from pathlib import Path
 
 from gregorio_chant import dump
 from gregorio_chant.codes import CODES
+from gregorio_chant.command import COMMANDS
 from gregorio_chant.rules import RULES
 from gregorio_chant.settings import Finder
 from support import ROOT, SCORE, InFolder, command, has
 
 PAGE = (ROOT / "docs" / "PYTHON.md").read_text(encoding="utf-8")
+OBJECTS = (ROOT / "docs" / "OBJECTS.md").read_text(encoding="utf-8")
 README = (ROOT / "README.md").read_text(encoding="utf-8")
 
 
@@ -45,14 +47,19 @@ class Documents(InFolder):
 
     def test_options(self) -> None:
         """Each option of the command stands in the page, and no other."""
-        helps = "".join(command(*it, "--help").stdout.decode() for it in ((), ("check",), ("format",), ("show",), ("explain",), ("server",)))
-        options = set(re.findall(r"(?<![\w.-])--[a-z][a-z-]+", PAGE)) - {"--no-deps"}
+        helps = "".join(command(*it, "--help").stdout.decode() for it in ((), *((it.NAME,) for it in COMMANDS)))
+        options = set(re.findall(r"(?<![\w.-])--[a-z][a-z-]+", PAGE + OBJECTS)) - {"--no-deps"}
         self.assertEqual(set(re.findall(r"--[a-z][a-z-]+", helps)) - {"--help", "--"}, options)
 
     def test_example(self) -> None:
         with contextlib.redirect_stdout(io.StringIO()) as written:
-            exec(block(PAGE, "since nothing is written then."), {})
-        self.assertEqual(written.getvalue().split("\n"), ["4 4 Ky f fa", "4 9 ri g sol", "4 10 ri f fa", "4 11 ri g sol", ""])
+            exec(block(OBJECTS, "is only tested ([PYTHON.md](PYTHON.md))."), {})
+        self.assertEqual(written.getvalue(), block(OBJECTS, "of the `&` that the compiler left out:"))
+
+    def test_edits(self) -> None:
+        with contextlib.redirect_stdout(io.StringIO()) as written:
+            exec(block(OBJECTS, "comments, a byte order mark, and what the compiler\nleaves out."), {})
+        self.assertEqual(written.getvalue(), block(OBJECTS, "\nThis prints:"))
 
     def test_formatted(self) -> None:
         made = command("format", "-", data=block(PAGE, "So this score:").encode())
@@ -74,13 +81,13 @@ class Documents(InFolder):
 
     def test_classes(self) -> None:
         """Each field of each class stands in the page, and each name that stands there is one."""
-        rows = {name: row for names, row in re.findall(r"^\| (`[A-Z]\w+`(?:, `[A-Z]\w+`)*) \| (.*) \|$", PAGE, re.MULTILINE) for name in re.findall(r"\w+", names)}
-        told = {it for it in dump.__all__ if isinstance(getattr(dump, it), type)} - {"DumpError", "ScoreError", "Item", "Place"}
+        rows = {name: row for names, row in re.findall(r"^\| (`[A-Z]\w+`(?:, `[A-Z]\w+`)*) \| (.*) \|$", OBJECTS, re.MULTILINE) for name in re.findall(r"\w+", names)}
+        told = {it for it in dump.__all__ if isinstance(getattr(dump, it), type)} - {"DumpError", "EditError", "Edited", "ScoreError", "Item", "Place"}
         self.assertEqual(set(rows), told)
         for name, row in rows.items():
             its = getattr(dump, name)
-            words = set(re.findall(r"`([a-z]\w*)[`(]", row)) - {"z0"}
-            self.assertLessEqual({it.name for it in fields(its)} - {"place", "spelling"}, words, name)
+            words = set(re.findall(r"`([a-z]\w*)[`(]", row)) - {"z0", "h", "su", "pp", "ls", "lt"}
+            self.assertLessEqual({it.name for it in fields(its) if it.name[0] != "_"} - {"place", "spelling"}, words, name)
             for word in words:
                 self.assertTrue(hasattr(its, word) or word in {it.name for it in fields(its)}, f"{name}.{word}")
 
@@ -88,7 +95,7 @@ class Documents(InFolder):
         self.assertEqual(re.findall(r"^\| `([a-z]+-[a-z-]+|comment)` \|", PAGE.split("\n## Rules\n")[1], re.MULTILINE), list(RULES))
 
     def test_each_help_says_what_is_not_proved(self) -> None:
-        for words in (["--help"], ["check", "--help"], ["format", "--help"], ["show", "--help"], ["server", "--help"]):
+        for words in (["--help"], *([it.NAME, "--help"] for it in COMMANDS if it.NAME not in ("explain", "version"))):
             self.assertRegex(command(*words).stdout.decode().replace("\n", " "), "outside (that|the) +proof", words)
 
 

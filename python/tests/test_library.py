@@ -7,7 +7,7 @@ import tracemalloc
 import unittest
 
 import gregorio_chant
-from gregorio_chant import Kind, Message, Report, Status, check, compile, dump, items, library
+from gregorio_chant import Kind, Message, Report, Status, check, compile, dump, edits, items, library
 from support import EXAMPLES
 
 
@@ -50,7 +50,7 @@ class Calls(unittest.TestCase):
             self.assertTrue(hasattr(gregorio_chant, name))
 
     def test_examples(self) -> None:
-        for module in (gregorio_chant, library, dump, items):
+        for module in (gregorio_chant, library, dump, edits, items):
             tried = doctest.testmod(module)
             self.assertGreater(tried.attempted, 0, module)
             self.assertEqual(tried.failed, 0, module)

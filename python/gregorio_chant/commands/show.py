@@ -4,7 +4,7 @@ from __future__ import annotations
 import argparse
 
 from gregorio_chant import showing
-from gregorio_chant.commands.words import OUTSIDE, STATUSES, Parser, add_no_config, add_paths, examples, positive, settings_of
+from gregorio_chant.commands.words import OUTSIDE, STATUSES, Parser, add_files, add_no_config, examples, paths_of, positive, settings_of
 from gregorio_chant.picture import USUAL_WIDTH
 
 NAME = "show"
@@ -21,7 +21,7 @@ _EXAMPLES = examples((
 def add(commands: argparse._SubParsersAction[Parser]) -> Parser:
     """Adds the words of `show`."""
     it = commands.add_parser(NAME, help="write pictures of scores, with their messages, as a page", description=_ABOUT, epilog=f"{_EXAMPLES}\n\n{STATUSES}")
-    add_paths(it, with_staged=None)
+    add_files(it)
     it.add_argument(
         "-o", "--output", metavar="FILE", help="write the page into this file, or an index and a page a score into this folder, if it ends in / or is one"
     )
@@ -35,5 +35,5 @@ def add(commands: argparse._SubParsersAction[Parser]) -> Parser:
 def run(words: argparse.Namespace) -> int:
     """Writes the page. Raises `UnknownCode`, `CannotWrite`, `Missing` and `SettingsError`."""
     return showing.show(showing.Wanted(
-        tuple(words.paths), words.output, words.svg, float(words.width), words.rules, tuple(words.exclude), settings_of(words),
+        paths_of(words), words.output, words.svg, float(words.width), words.rules, tuple(words.exclude), settings_of(words),
     ))

@@ -16,6 +16,7 @@ from gregorio_chant.selection import UnknownCode
 from gregorio_chant.settings import NAME as SETTINGS
 from gregorio_chant.settings import Finder, NoSettings
 from gregorio_chant.streams import STDIN, tell, write
+from gregorio_chant.tables import FORMS, Wanted
 
 REFUSED = 3
 # All codes and rules.
@@ -81,15 +82,19 @@ def examples(lines: Iterable[str]) -> str:
     return "\n".join(["examples:", *(f"    {it}" for it in lines)])
 
 
-def add_paths(parser: Parser, more: str = "", with_staged: str | None = "") -> None:
-    """Adds the words for files and folders, and for what is staged, unless `with_staged` is `None`."""
-    parser.add_argument("paths", nargs="*" if with_staged is not None else "+", metavar="PATH", help=f"{_PATHS}{more}")
-    if with_staged is not None:
-        parser.add_argument("--staged", action="store_true", help=f"{with_staged}{_STAGED}")
+def add_files(parser: Parser, more: str = "") -> None:
+    """Adds the words for files and folders."""
+    parser.add_argument("paths", nargs="*", metavar="PATH", help=f"{_PATHS}{more}")
     parser.add_argument(
         "--exclude", action="append", default=[], metavar="PATTERN",
         help="leave out of folders what this names, as a line of .gitignore would; may stand several times",
     )
+
+
+def add_paths(parser: Parser, more: str = "", with_staged: str = "") -> None:
+    """Adds the words for files and folders, and for what is staged."""
+    add_files(parser, more)
+    parser.add_argument("--staged", action="store_true", help=f"{with_staged}{_STAGED}")
 
 
 def add_jobs(parser: Parser) -> None:
@@ -112,9 +117,23 @@ def settings_of(words: argparse.Namespace) -> Finder:
 def paths_of(words: argparse.Namespace) -> tuple[str, ...]:
     """Returns the files and folders that are named. Raises `UnknownCode` where there is none,
     and what is staged is not asked for."""
-    if not words.paths and not words.staged:
-        raise UnknownCode("a PATH is needed, or --staged")
+    if not words.paths and not getattr(words, "staged", False):
+        raise UnknownCode("a PATH is needed, or --staged" if "staged" in words else "a PATH is needed")
     return tuple(words.paths)
+
+
+def add_table(parser: Parser) -> None:
+    """Adds the words of a table over files."""
+    add_files(parser)
+    parser.add_argument("--output-format", choices=FORMS, default="text", metavar="FORM", help="text (as ever), csv or json")
+    add_jobs(parser)
+    add_no_config(parser)
+    parser.add_argument("--quiet", action="store_true", help="write no summary")
+
+
+def table_of(words: argparse.Namespace) -> Wanted:
+    """Returns what the words of a table ask for. Raises `UnknownCode` where no path is named."""
+    return Wanted(paths_of(words), words.output_format, words.jobs, tuple(words.exclude), settings_of(words), words.quiet)
 
 
 def positive(word: str) -> int:

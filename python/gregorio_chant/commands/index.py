@@ -1,0 +1,27 @@
+"""The sub-command `index`: its words."""
+from __future__ import annotations
+
+import argparse
+
+from gregorio_chant.commands.words import OUTSIDE, STATUSES, Parser, add_table, examples, table_of
+from gregorio_chant.searching import INDEX, index_row
+from gregorio_chant.tables import write_table
+
+NAME = "index"
+_ABOUT = f"""Writes a row for each score: its name, office part and mode, its first words and degrees, its last degree, the lowest and the highest one, and how
+many steps lie between these. {OUTSIDE}"""
+_EXAMPLES = examples((
+    "gregorio-chant index scores", "gregorio-chant index --output-format csv scores >index.csv", "gregorio-chant index --output-format json --quiet scores",
+))
+
+
+def add(commands: argparse._SubParsersAction[Parser]) -> Parser:
+    """Adds the words of `index`."""
+    it = commands.add_parser(NAME, help="write a row for each score, with its first words and degrees", description=_ABOUT, epilog=f"{_EXAMPLES}\n\n{STATUSES}")
+    add_table(it)
+    return it
+
+
+def run(words: argparse.Namespace) -> int:
+    """Writes the rows. Raises `UnknownCode`, `CannotWrite`, `Missing` and `SettingsError`."""
+    return write_table(table_of(words), INDEX, index_row)

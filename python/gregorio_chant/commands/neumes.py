@@ -1,0 +1,29 @@
+"""The sub-command `neumes`: its words."""
+from __future__ import annotations
+
+import argparse
+
+from gregorio_chant.commands.words import OUTSIDE, STATUSES, Parser, add_table, examples, table_of
+from gregorio_chant.searching import NEUME, each_neume
+from gregorio_chant.tables import write_table
+from gregorio_chant.totals import write_totals
+
+NAME = "neumes"
+_ABOUT = f"""Counts the neumes of scores: writes a row for each kind, the most frequent first, with the place of its first one. {OUTSIDE}"""
+_EXAMPLES = examples((
+    "gregorio-chant neumes scores", "gregorio-chant neumes --each --output-format csv scores >neumes.csv", "gregorio-chant neumes --quiet scores",
+))
+
+
+def add(commands: argparse._SubParsersAction[Parser]) -> Parser:
+    """Adds the words of `neumes`."""
+    it = commands.add_parser(NAME, help="count the neumes of scores", description=_ABOUT, epilog=f"{_EXAMPLES}\n\n{STATUSES}")
+    it.add_argument("--each", action="store_true", help="write a row for each neume, in order")
+    add_table(it)
+    return it
+
+
+def run(words: argparse.Namespace) -> int:
+    """Writes the rows. Raises `UnknownCode`, `CannotWrite`, `Missing` and `SettingsError`."""
+    wanted = table_of(words)
+    return write_table(wanted, NEUME, each_neume) if words.each else write_totals(wanted)

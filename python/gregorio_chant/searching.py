@@ -1,0 +1,161 @@
+"""What is looked for in scores: neumes, intervals, words, and what an index says of each score."""
+from __future__ import annotations
+
+import fnmatch
+import re
+import unicodedata
+from collections import Counter
+from collections.abc import Iterator, Sequence
+from dataclasses import dataclass
+
+from gregorio_chant.dump import Glyph, Note, Score, Syllable
+from gregorio_chant.nearest import did_you_mean
+from gregorio_chant.passages import text_of_syllables
+from gregorio_chant.selection import UnknownCode
+from gregorio_chant.tables import Row
+
+_JOINED = (
+    "pes", "clivis", "torculus", "porrectus", "scandicus", "scandicus-flexus", "torculus-resupinus", "porrectus-flexus", "torculus-resupinus-flexus",
+)
+_SHAPES = (
+    "punctum", "virga", "virga-reversa", "bivirga", "trivirga", "stropha", "distropha", "tristropha", "oriscus", "oriscus-scapus", "quilisma",
+    "quilisma-quadratum", "quadratum", "cavum", "lined", "linea",
+)
+# All kinds of neumes.
+KINDS = (
+    *(f"{it}{end}" for it in _JOINED for end in ("", "-subpunctis", "-subpunctis-resupinus")), "climacus", "climacus-resupinus", "inclinata", *_SHAPES,
+)
+_SIGNS = {"none": "", "natural": "", "flat": "\u266d", "sharp": "\u266f"}
+_STEP = re.compile(r"[+-]?[0-9]{1,2}")
+# How much of a score an index shows.
+_NOTES, _WORDS = 12, 6
+
+NEUME = ("neume", "spelling", "degrees", "text")
+COUNT = ("neume", "count", "spelling", "text")
+INDEX = ("name", "office_part", "mode", "text", "degrees", "final", "lowest", "highest", "steps")
+FOUND = ("notes", "degrees", "text")
+
+
+def degree_of(note: Note) -> str:
+    """Returns how a note sounds, with its alteration, or `-` before any clef."""
+    return f"{note.degree}{_SIGNS[note.alteration]}" if note.degree else "-"
+
+
+def degrees_of(notes: Sequence[Note]) -> str:
+    return " ".join(map(degree_of, notes))
+
+
+def _neumes(score: Score) -> Iterator[tuple[Syllable, Glyph]]:
+    return ((syllable, glyph) for syllable in score.syllables for glyph in syllable.glyphs)
+
+
+def each_neume(score: Score) -> Iterator[Row]:
+    """Yields a row for each neume."""
+    for syllable, it in _neumes(score):
+        yield Row.at(it.source, it.kind, it.spelling, degrees_of(it.notes), syllable.plain)
+
+
+def counted_neumes(score: Score) -> Iterator[Row]:
+    """Yields a row for each kind of neume: how many there are, and the first one."""
+    count = Counter(it.kind for _, it in _neumes(score))
+    first: dict[str, tuple[Syllable, Glyph]] = {}
+    for syllable, it in _neumes(score):
+        first.setdefault(it.kind, (syllable, it))
+    for kind, (syllable, it) in first.items():
+        yield Row(it.source.line, it.source.column, (kind, count[kind], it.spelling, syllable.plain), count[kind])
+
+
+def index_row(score: Score) -> Iterator[Row]:
+    """Yields one row for the score, at its first note or else its first line of notes."""
+    notes, reach = score.notes, score.range
+    first = notes[0] if notes else score.syllables[0] if score.syllables else None
+    line, column = (first.source.line, first.source.column) if first else (1, 1)
+    words = [it.text for it in score.words[:_WORDS]]
+    yield Row(line, column, (
+        score.header("name"), score.header("office-part"), score.header("mode"), " ".join(words), degrees_of(notes[:_NOTES]),
+        degree_of(notes[-1]) if notes else None, degree_of(reach.low) if reach else None, degree_of(reach.high) if reach else None,
+        (reach.high.step or 0) - (reach.low.step or 0) if reach else None,
+    ))
+
+
+@dataclass(frozen=True)
+class NeumeSearch:
+    """Finds neumes of the kinds that match a pattern, in which `*` stands for anything."""
+
+    pattern: str
+
+    @classmethod
+    def of(cls, word: str) -> NeumeSearch:
+        """Raises `UnknownCode` where no kind matches."""
+        pattern = word.casefold()
+        if not fnmatch.filter(KINDS, pattern):
+            raise UnknownCode(f"{word} is no kind of neume: {did_you_mean(word, KINDS, 'docs/LANGUAGE.md lists them')}")
+        return cls(pattern)
+
+    def __call__(self, score: Score) -> Iterator[Row]:
+        for syllable, it in _neumes(score):
+            if fnmatch.fnmatchcase(it.kind, self.pattern):
+                yield Row.at(it.source, it.spelling, degrees_of(it.notes), syllable.plain)
+
+
+@dataclass(frozen=True)
+class IntervalSearch:
+    """Finds notes that follow each other at these intervals, in steps or in semitones."""
+
+    wanted: tuple[int, ...]
+    in_semitones: bool
+
+    @classmethod
+    def of(cls, words: str, in_semitones: bool) -> IntervalSearch:
+        """Raises `UnknownCode` for what is no row of numbers."""
+        steps = words.split()
+        if not steps or not all(_STEP.fullmatch(it) for it in steps):
+            raise UnknownCode(f'--interval {words}: numbers are needed, as in "+2 +1 -3"')
+        return cls(tuple(map(int, steps)), in_semitones)
+
+    def __call__(self, score: Score) -> Iterator[Row]:
+        of_notes = [(syllable, note) for syllable in score.syllables for note in syllable.notes]
+        heights = [note.semitones if self.in_semitones else note.step for _, note in of_notes]
+        count = len(self.wanted)
+        rises = tuple(None if a is None or b is None else b - a for a, b in zip(heights, heights[1:]))
+        for at in range(len(rises) - count + 1):
+            if rises[at : at + count] == self.wanted:
+                yield self._row(of_notes[at : at + count + 1])
+
+    @staticmethod
+    def _row(found: Sequence[tuple[Syllable, Note]]) -> Row:
+        notes = [note for _, note in found]
+        syllables = list({it.number: it for it, _ in found}.values())
+        return Row.at(notes[0].source, "".join(it.pitch for it in notes), degrees_of(notes), text_of_syllables(syllables))
+
+
+def folded(text: str) -> str:
+    """Returns `text` in small letters without accents and without the signs at both ends."""
+    letters = "".join(it for it in unicodedata.normalize("NFD", text) if not unicodedata.combining(it)).casefold()
+    inside = [at for at, it in enumerate(letters) if it.isalnum()]
+    return letters[inside[0] : inside[-1] + 1] if inside else ""
+
+
+@dataclass(frozen=True)
+class TextSearch:
+    """Finds words that follow each other and match these patterns, in which `*` stands for
+    anything: accents, capitals and punctuation do not count."""
+
+    patterns: tuple[str, ...]
+
+    @classmethod
+    def of(cls, words: str) -> TextSearch:
+        """Raises `UnknownCode` where there is no word."""
+        patterns = tuple("".join(c for c in unicodedata.normalize("NFD", it) if not unicodedata.combining(c)).casefold() for it in words.split())
+        if not patterns:
+            raise UnknownCode('--text needs a word, as in "Kyri*"')
+        return cls(patterns)
+
+    def __call__(self, score: Score) -> Iterator[Row]:
+        words = score.words
+        texts = [folded(it.text) for it in words]
+        for at in range(len(words) - len(self.patterns) + 1):
+            if all(fnmatch.fnmatchcase(text, it) for text, it in zip(texts[at:], self.patterns)):
+                found = words[at : at + len(self.patterns)]
+                notes = [note for it in found for note in it.notes]
+                yield Row.at(found[0].source, "".join(it.pitch for it in notes), degrees_of(notes), " ".join(it.text for it in found))

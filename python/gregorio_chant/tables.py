@@ -1,0 +1,226 @@
+"""Tables over many scores, as text, CSV and JSON: each row stands at a place in a file."""
+from __future__ import annotations
+
+import csv
+import io
+import json
+from collections.abc import Callable, Iterable, Sequence
+from contextlib import nullcontext
+from dataclasses import dataclass
+from functools import partial
+from typing import Protocol, Union
+
+from gregorio_chant import files
+from gregorio_chant.dump import Score, ScoreError
+from gregorio_chant.processes import by_processes
+from gregorio_chant.progress import bar
+from gregorio_chant.reports import counted
+from gregorio_chant.results import Kind, Message, Status
+from gregorio_chant.settings import Finder
+from gregorio_chant.source import Source
+from gregorio_chant.streams import CANNOT_READ_OR_WRITE, STDIN, printable, reason_of, tell, write
+from gregorio_chant.walk import find_scores
+
+FORMS = ("text", "csv", "json")
+_NO_MEMORY = 5
+_PLACE = ("file", "line", "column")
+
+Cell = Union[str, int, None]
+
+
+@dataclass(frozen=True, slots=True)
+class Row:
+    """A row: the line and the column that it stands at, and its cells; `count` is how many things
+    it stands for."""
+
+    line: int
+    column: int
+    cells: tuple[Cell, ...]
+    count: int = 1
+
+    @classmethod
+    def at(cls, source: Source, *cells: Cell) -> Row:
+        return cls(source.line, source.column, cells)
+
+
+class Maker(Protocol):
+    """Makes the rows of a score. It goes to other processes, so it is a function or an object of a
+    module."""
+
+    def __call__(self, score: Score) -> Iterable[Row]:
+        """Returns the rows, in order."""
+
+
+@dataclass(frozen=True)
+class Wanted:
+    """What the words of the command ask for."""
+
+    paths: tuple[str, ...]
+    form: str
+    jobs: int
+    exclude: tuple[str, ...]
+    settings: Finder
+    quiet: bool
+
+
+@dataclass(frozen=True, slots=True)
+class Made:
+    """The rows of a file; `fault` is what stopped its reading, `failure` says why it was not read
+    at all."""
+
+    name: str
+    rows: tuple[Row, ...] = ()
+    fault: Message | None = None
+    failure: str | None = None
+    status: int = 0
+
+    @property
+    def shown_name(self) -> str:
+        return "<stdin>" if self.name == STDIN else self.name
+
+    def told(self) -> str | None:
+        """Returns what is said of the file on standard error, if something is."""
+        if self.failure is not None:
+            return f"cannot read {printable(self.name)}: {self.failure}"
+        if self.fault is not None:
+            return f"{printable(self.shown_name)}:{self.fault.line}:{self.fault.column}: {self.fault.code}: {self.fault.text}; nothing after it was read"
+        return None
+
+
+def made_of(name: str, make: Maker) -> Made:
+    """Returns the rows of a file."""
+    try:
+        score = Score.parse(files.read(name).data)
+        fault = next((it for it in score.messages if it.kind is Kind.FATAL), None)
+        return Made(name, tuple(make(score)), fault, None, int(Status.FATAL) if fault else 0)
+    except ScoreError as error:
+        return Made(name, fault=error.message, status=int(Status.FATAL))
+    except OSError as error:
+        return Made(name, failure=reason_of(error), status=CANNOT_READ_OR_WRITE)
+    except MemoryError:
+        return Made(name, failure="there is no memory for it", status=_NO_MEMORY)
+
+
+# ---- how rows are written
+
+
+class Form(Protocol):
+    """Makes a text of rows."""
+
+    def begin(self) -> str:
+        """Returns what is written first."""
+
+    def add(self, made: Made) -> str:
+        """Returns what is written of a file."""
+
+    def end(self) -> str:
+        """Returns what is written last."""
+
+
+class Text:
+    """Lines `NAME:LINE:COLUMN: CELLS`, for editors and people."""
+
+    def begin(self) -> str:
+        return ""
+
+    def add(self, made: Made) -> str:
+        name = printable(made.shown_name)
+        return "".join(f"{name}:{it.line}:{it.column}: {self._cells(it)}\n" for it in made.rows)
+
+    @staticmethod
+    def _cells(row: Row) -> str:
+        return "  ".join(printable(str(it)) for it in row.cells if it not in (None, ""))
+
+    def end(self) -> str:
+        return ""
+
+
+class Csv:
+    """CSV with the names of the columns in its first line."""
+
+    def __init__(self, columns: Sequence[str]) -> None:
+        self._columns = columns
+
+    def begin(self) -> str:
+        return _csv_line((*_PLACE, *self._columns))
+
+    def add(self, made: Made) -> str:
+        return "".join(_csv_line((made.shown_name, it.line, it.column, *it.cells)) for it in made.rows)
+
+    def end(self) -> str:
+        return ""
+
+
+def _csv_line(cells: Iterable[Cell]) -> str:
+    line = io.StringIO()
+    csv.writer(line, lineterminator="\n").writerow(cells)
+    return line.getvalue()
+
+
+class Json:
+    """One array, with an object for each row."""
+
+    def __init__(self, columns: Sequence[str]) -> None:
+        self._columns = columns
+        self._is_first = True
+
+    def begin(self) -> str:
+        return "["
+
+    def add(self, made: Made) -> str:
+        written = []
+        for it in made.rows:
+            row = dict(zip((*_PLACE, *self._columns), (made.shown_name, it.line, it.column, *it.cells)))
+            written.append(("\n" if self._is_first else ",\n") + json.dumps(row))
+            self._is_first = False
+        return "".join(written)
+
+    def end(self) -> str:
+        return "]\n" if self._is_first else "\n]\n"
+
+
+def form_of(name: str, columns: Sequence[str]) -> Form:
+    """Returns the form of this name."""
+    if name == "text":
+        return Text()
+    if name == "csv":
+        return Csv(columns)
+    return Json(columns)
+
+
+# ---- the run over files
+
+
+def for_each(wanted: Wanted, make: Maker, take: Callable[[Made], str]) -> int:
+    """Makes the rows of all files by all processors, writes what `take` returns for each in order,
+    and returns the worst status. Raises `CannotWrite`, and `SettingsError` or `Missing` before any
+    score is read."""
+    status = count = number = 0
+
+    def fail(name: str, error: OSError) -> None:
+        nonlocal status
+        status = max(status, CANNOT_READ_OR_WRITE)
+        tell(f"cannot read {printable(name)}: {reason_of(error)}")
+
+    names = wanted.settings.kept(find_scores(wanted.paths, fail, wanted.exclude), wanted.paths)
+    with by_processes(partial(made_of, make=make), names, wanted.jobs) as all_made, bar("reading", len(names)) as shown:
+        for it in all_made:
+            status, count, number = max(status, it.status), count + sum(row.count for row in it.rows), number + (it.failure is None)
+            text, told = take(it), it.told()
+            with shown.aside(told=told is not None) if text or told else nullcontext():
+                write(text)
+                if told:
+                    tell(told)
+            shown.advance()
+    if not wanted.quiet:
+        tell(f"{counted(number, 'file')}: {count:,} found")
+    return status
+
+
+def write_table(wanted: Wanted, columns: Sequence[str], make: Maker) -> int:
+    """Writes the rows of all files, and returns the worst status. Raises as `for_each` does."""
+    form = form_of(wanted.form, columns)
+    write(form.begin())
+    status = for_each(wanted, make, form.add)
+    write(form.end())
+    return status
