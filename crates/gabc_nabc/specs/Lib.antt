@@ -8,6 +8,7 @@ pub mod NabcRead
 pub mod Names
 pub mod Parts
 pub mod ReadAgain
+pub mod Regular
 pub mod SnippetRead
 pub mod Table
 pub mod TakenAtOnce

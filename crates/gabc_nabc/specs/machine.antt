@@ -1,3 +1,4 @@
 pub mod BuiltNabc
 pub mod DescriptorMachine
 pub mod Parts
+pub mod Regular

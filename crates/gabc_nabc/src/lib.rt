@@ -9,6 +9,7 @@
 //!   characters of that kept text with their places in the source.
 //! - `is_nabc` tells whether a text is an NABC snippet. `parts_in` goes over its descriptors and spaces, and `codes_in` over the codes of
 //!   one of them; `descriptors_whole`, `descriptors_into` and `codes_into` gather them. Spans count its bytes. `name_of` names a code.
+//!   `regular_nabc` says how far a text is an NABC snippet in which nothing is left out or found.
 //! - `NabcStage` reads the characters of a snippet one at a time. Its `take_kept` is a short way for a character that is kept and
 //!   brings no finding: it needs no room for events. `NabcStage::in_comment` tells what matters of a stage beside the text that it kept
 //!   (`specs/Keeps.antt`).
@@ -45,6 +46,7 @@ mod kept;
 pub mod laws;
 mod name;
 mod names;
+mod regular;
 mod stage;
 mod state;
 mod whole;
@@ -56,5 +58,6 @@ pub use descriptor::{Descriptor, Descriptors};
 pub use descriptors::{PartReader, descriptors_into, descriptors_whole, parts_in};
 pub use kept::is_nabc;
 pub use name::name_of;
+pub use regular::regular_nabc;
 pub use stage::NabcStage;
 pub use whole::nabc_whole;

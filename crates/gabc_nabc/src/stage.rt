@@ -50,7 +50,7 @@ pub(crate) struct NabcEvents {
 }
 
 /// Returns the first letter of a code whose second letter is to come: the last letter, in these states.
-fn first_letter(state: DescriptorState, letter: char) -> Option<char>
+pub(crate) fn first_letter(state: DescriptorState, letter: char) -> Option<char>
     ensures { result ≡ first_at state letter }
 {
     match state {
@@ -77,7 +77,7 @@ fn makes_code(first: char, second: char) -> bool
 }
 
 /// Returns whether a character ends a code that has no name, where `first` is the first letter of one.
-fn lacks_name(first: Option<char>, c: char) -> bool
+pub(crate) fn lacks_name(first: Option<char>, c: char) -> bool
     ensures { result ≡ is_missing first c }
 {
     match first {

@@ -4,5 +4,6 @@ pub mod FreshStageEmitsEventsByPoint
 pub mod LoopOverBody
 pub mod MachineReadsTable
 pub mod OneCharacterMore
+pub mod RegularPrefixes
 pub mod ShortWays
 pub mod StageEmitsItsEvents

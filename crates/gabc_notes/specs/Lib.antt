@@ -9,6 +9,7 @@ pub mod Notes
 pub mod NotesRead
 pub mod Raw
 pub mod ReadAgain
+pub mod Regular
 pub mod SnippetRead
 pub mod StageTells
 pub mod Table

@@ -7,7 +7,8 @@
 //! - `snippet_whole` reads the snippet with which a text begins: its kept text, its findings and its end. `kept_chars` gives the
 //!   characters of that kept text with their places in the source.
 //! - `is_snippet` tells whether a text is a snippet. `items_in` goes over the items of a kept text as far as an item begins, of a
-//!   snippet to its end; `items_whole` and `items_into` gather them. `note_of` reads an item. `first_note_or_clef` tells which of the
+//!   snippet to its end; `items_whole` and `items_into` gather them. `regular_notes` says how far a text is a snippet in which nothing is
+//!   left out or found. `note_of` reads an item. `first_note_or_clef` tells which of the
 //!   two comes first. Spans count bytes of the kept text.
 //! - `NoteStage` reads the characters of a snippet one at a time: it emits those that are kept, the findings, and the end. What it
 //!   emits is `note_events` of `specs/Events.antt`, a definition without states: what is emitted of a character depends on it and
@@ -51,6 +52,7 @@ mod kept;
 pub mod laws;
 mod macro_prefix;
 mod note;
+mod regular;
 mod snippet_read;
 mod stage;
 mod state;
@@ -61,6 +63,7 @@ pub use item::{Item, ItemKind, Items};
 pub use items::{ItemReader, first_note_or_clef, items_in, items_into, items_whole};
 pub use kept::is_snippet;
 pub use note::{Note, Shape, height_of, note_of};
+pub use regular::regular_notes;
 pub use snippet_read::{SnippetEnding, SnippetRead};
 pub use stage::{NoteEnd, NoteEvent, NoteOut, NoteStage};
 pub use whole::snippet_whole;

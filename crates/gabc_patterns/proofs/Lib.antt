@@ -16,6 +16,7 @@ pub mod ItemsFunctionReads
 pub mod ItemsOneByOne
 pub mod KeptTextIsKeptAgain
 pub mod LongestMunchByCharacter
+pub mod LongestPrefixIsFound
 pub mod LongestPrefixIsOne
 pub mod OneReading
 pub mod ReadingExists

@@ -6,3 +6,4 @@ pub mod ItemsRead
 pub mod Kept
 pub mod Pattern
 pub mod LongestItems
+pub mod LongestPrefix

@@ -24,6 +24,16 @@ pub length_placed : (p : Place) (cs : List ℕ) → length (placed_characters_fr
 length_placed p [] = refl
 length_placed p (c ∷ cs) = ap (λ n. suc n) (length_placed (next_place p c) cs)
 
+-- the place after two texts
+pub place_append : (p : Place) (a b : List ℕ) → place_past p (a ++ b) ≡ place_past (place_past p a) b
+place_append p [] b = refl
+place_append p (c ∷ a) b = place_append (next_place p c) a b
+
+-- the characters of two texts
+pub placed_append : (p : Place) (a b : List ℕ) → placed_characters_from p (a ++ b) ≡ placed_characters_from p a ++ placed_characters_from (place_past p a) b
+placed_append p [] b = refl
+placed_append p (c ∷ a) b = ap (λ (xs : List Char). record { c = c; place = p } ∷ xs) (placed_append (next_place p c) a b)
+
 -- no count of a place grows by more than the bytes that were read
 module _ (p : Place) (n m lines columns : ℕ) (less : m + 1 ≤ n) (line : p.line + n ≤ lines) (column : p.column + n ≤ columns) where
   within_by : (b : Bool) → ((cond {A = Place} b (record { line = p.line + 1; column = 1 }) (record { line = p.line; column = p.column + 1 })).line + m ≤ lines)

@@ -6,7 +6,7 @@ use crate::printed::Printed;
 use crate::show::show_spelled;
 use gabc_nabc::{
     Descriptor, GlyphCode, NabcStage, codes_into, descriptors_into, descriptors_whole, is_nabc,
-    nabc_whole, name_of,
+    nabc_whole, name_of, regular_nabc,
 };
 use gabc_places::{Place, Room, Span, Stage, outputs_of};
 use std::alloc::{AllocError, Global};
@@ -111,6 +111,7 @@ pub(crate) fn answer(
     match (call, span_of(first)) {
         ("nabc", _) => answer_snippet(alloc, input, out)?,
         ("descriptors", _) => answer_descriptors(alloc, input, out)?,
+        ("regular_nabc", _) => out.show(&regular_nabc(input)),
         ("is_nabc", _) => out.put(if is_nabc(input) { "yes" } else { "no" }),
         ("name_of", _) => out.put(name_of(input).unwrap_or("none")),
         ("codes", Some(span)) => answer_codes(alloc, span, input, out)?,

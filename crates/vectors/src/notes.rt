@@ -5,7 +5,7 @@ use crate::printed::Printed;
 use crate::show::{show_findings, show_note_event, show_snippet_how, show_span, show_spelled};
 use gabc_notes::{
     Item, ItemKind, NoteEvent, NoteStage, SnippetRead, is_snippet, items_into, items_whole,
-    note_of, snippet_whole,
+    note_of, regular_notes, snippet_whole,
 };
 use gabc_places::{Place, Room, Span, Stage, outputs_of};
 use std::alloc::{AllocError, Global};
@@ -124,6 +124,7 @@ pub(crate) fn answer(
     let macros = second.parse::<u16>().unwrap_or(0);
     match call {
         "items" => answer_items(alloc, input, out)?,
+        "regular_notes" => out.show(&regular_notes(input)),
         "note_of" if first == "Custos" => answer_note(ItemKind::Custos, input, out),
         "note_of" => answer_note(ItemKind::Note, input, out),
         "snippet" => answer_snippet(alloc, split, macros, input, out)?,

@@ -51,7 +51,7 @@ pub record GoesOn (u : List ℕ) (c : ℕ) : Type 0 where
   pub no_end : is_end u c ≡ false
   pub kept_is : kept_of (u ++ c ∷ []) ≡ u ++ c ∷ []
 
-goes_on : (u : List ℕ) (c : ℕ) → in_comment u ≡ false → kept_of u ≡ u → IsViable nabc (u ++ c ∷ []) → GoesOn u c
+pub goes_on : (u : List ℕ) (c : ℕ) → in_comment u ≡ false → kept_of u ≡ u → IsViable nabc (u ++ c ∷ []) → GoesOn u c
 goes_on u c n k v = record {
   comment = comment_more u c ∙ rw (n, other 37 refl) refl;
   character = character;
@@ -96,7 +96,7 @@ chars_append (Ended h n ∷ a) b = chars_append a b
 
 -- ---- the characters of a snippet, and its mark
 
-mark_is : (how : NoteEnd) (c : ℕ) → IsMarkOf true how c → ((c == 41) || (c == 124)) ≡ true
+pub mark_is : (how : NoteEnd) (c : ℕ) → IsMarkOf true how c → ((c == 41) || (c == 124)) ≡ true
 mark_is Close c e = rw e refl
 mark_is Next c h = rw h.0 refl
 mark_is (Cut place) c h = absurd h

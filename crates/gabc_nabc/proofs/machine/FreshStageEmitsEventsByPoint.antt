@@ -244,8 +244,11 @@ goes_on_emitted (x ∷ xs) t st r =
         (goes_on t st x.c z r no_end character n))
 
 -- a fresh stage
-pub fresh : (xs : List Char) → events_left (record { state = Start; letter = 47; comment = false; kept = 0; whole = 0; ended = false }) xs ≡ nabc_events_behind [] xs
-fresh xs = goes_on_emitted xs [] (record { state = Start; letter = 47; comment = false; kept = 0; whole = 0; ended = false }) (record {
+abbrev pub fresh_stage : NabcStage
+fresh_stage = record { state = Start; letter = 47; comment = false; kept = 0; whole = 0; ended = false }
+
+pub fresh_reached : Reached [] fresh_stage
+fresh_reached = record {
   running = refl;
   unended = refl;
   comment = refl;
@@ -254,4 +257,7 @@ fresh xs = goes_on_emitted xs [] (record { state = Start; letter = 47; comment =
   whole = refl;
   first = refl;
   joined = refl;
-})
+}
+
+pub fresh : (xs : List Char) → events_left fresh_stage xs ≡ nabc_events_behind [] xs
+fresh xs = goes_on_emitted xs [] fresh_stage fresh_reached

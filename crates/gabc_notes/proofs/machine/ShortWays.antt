@@ -85,7 +85,7 @@ ends_otherwise true false x kept e = cc
 ends_otherwise true true x kept e = cc
 
 -- it is not kept, or a warning comes with it
-emits_otherwise : (r : CharRole) (macros : ℕ) (b : Before) (e : CharFacts) (x : Char) (w : Option NoteEvent) → w ≡ warning_in macros b e x → (r ≡ Keep → w ≡ None → ⊥)
+pub emits_otherwise : (r : CharRole) (macros : ℕ) (b : Before) (e : CharFacts) (x : Char) (w : Option NoteEvent) → w ≡ warning_in macros b e x → (r ≡ Keep → w ≡ None → ⊥)
     → event_list (events_in r macros b e x) ≡ Kept x ∷ [] → ⊥
 emits_otherwise Keep macros b e x None m h k = h refl refl
 emits_otherwise Keep macros b e x (Some v) m h k =
@@ -128,7 +128,7 @@ close_emits st x old new f comment outside close p =
 
 -- ---- the end at a `|`
 
-not_raw : (s : ItemState) → whole_at s ≡ true → raw_state s ≡ false
+pub not_raw : (s : ItemState) → whole_at s ≡ true → raw_state s ≡ false
 not_raw Raw e = absurd (cc)
 not_raw SlashRaw e = absurd (cc)
 not_raw _ e = refl

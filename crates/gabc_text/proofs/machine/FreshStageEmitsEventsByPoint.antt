@@ -33,7 +33,8 @@ use Rattle.gabc_text.specs.machine.TextStage.{progress_after}
 use Rattle.gabc_text.specs.witness.FactsPast.{facts_past, past, bytes_past}
 use Rattle.gabc_text.specs.witness.EventsLeft.{parts_by, codes_by, kept_behind, findings_there, codes_last, kept_by, each_kept, lists_kept, last_by, token_events_by, early_events_by, end_events_by, facts_at, progress_at, read_at, ahead_at, owed_events_at, token_events_at, end_at_text, lists_past, lists_last, events_left, characters_left}
 use Rattle.gabc_text.proofs.machine.FactsOfTokens.{facts_of, facts_more, has_of}
-use Rattle.gabc_text.proofs.tokens.CountsOfTexts.{bytes_append, place_append, up_is, later_is, place_small, kept_small, kept_at_small, pieces_small, some_bytes}
+use Rattle.gabc_places.proofs.PlacesOfAText.{place_append}
+use Rattle.gabc_text.proofs.tokens.CountsOfTexts.{bytes_append, up_is, later_is, place_small, kept_small, kept_at_small, pieces_small, some_bytes}
 use Rattle.gabc_text.proofs.machine.ProgressAfterToken.{progress_of, spot_emitted}
 use Rattle.gabc_text.proofs.machine.TokensOneAfterAnother.{onto}
 use Rattle.gabc_text.proofs.machine.FactsPastTokens.{facts_step, progress_step, spot_after, behind, read_none}

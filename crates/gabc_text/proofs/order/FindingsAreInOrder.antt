@@ -13,7 +13,7 @@ use Rattle.gabc_text.specs.declared.token.TagEffect.{TagEffect}
 use Rattle.gabc_text.specs.declared.token.TagEffect.TheVariants.{Opens, Closes, Mark, Begins, Other}
 use Rattle.gabc_text.specs.Token.{Token, spelling, tokens}
 use Rattle.gabc_text.specs.View.{along, effect, is_open, all_styles, has_begin, has_end, has_translation, is_cut, early_codes, late_codes, found_at, findings_at, findings_at_end, findings, place_of, text_of}
-use Rattle.gabc_text.proofs.tokens.CountsOfTexts.{place_append}
+use Rattle.gabc_places.proofs.PlacesOfAText.{place_append}
 use Rattle.gabc_text.proofs.machine.TokensOneAfterAnother.{onto}
 
 -- p stands before q

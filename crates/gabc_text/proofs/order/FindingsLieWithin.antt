@@ -16,7 +16,7 @@ use Rattle.gabc_text.specs.View.{along, effect, is_left_out, is_space, follows_s
 use Rattle.gabc_text.specs.Events.{events_by_point, after_tokens, end_events, lists_at, lists_end, with_first, with_last, no_events_each, kept_each, kept_lists_by, owed_events, last_char_events, early_events, token_events, finding_events, is_lone, parts_at, option_list_of, centre_of, end_after}
 use Rattle.gabc_text.specs.BuiltText.{found_in}
 use Rattle.gabc_text.specs.Printed.{text_of_tokens}
-use Rattle.gabc_text.proofs.tokens.CountsOfTexts.{place_append}
+use Rattle.gabc_places.proofs.PlacesOfAText.{place_append}
 use Rattle.gabc_text.proofs.machine.TokensOneAfterAnother.{onto, after_is, size}
 use Rattle.gabc_text.proofs.tokens.TokensByCharacter.{drop_past}
 use Rattle.gabc_text.proofs.tokens.TextIsTokensAndRest.{Goes, AllGo, Parted, parted}

@@ -15,16 +15,6 @@ pub bytes_append : (s t : List ℕ) → bytes_of (s ++ t) ≡ bytes_of s + bytes
 bytes_append [] t = omega arith
 bytes_append (c ∷ s) t = omega (arith, bytes_append s t)
 
--- the place behind two texts
-pub place_append : (p : Place) (s t : List ℕ) → place_past p (s ++ t) ≡ place_past (place_past p s) t
-place_append p [] t = refl
-place_append p (c ∷ s) t = place_append (next_place p c) s t
-
--- the characters of two texts
-pub placed_append : (p : Place) (s t : List ℕ) → placed_characters_from p (s ++ t) ≡ placed_characters_from p s ++ placed_characters_from (place_past p s) t
-placed_append p [] t = refl
-placed_append p (c ∷ s) t = ap (λ (cs : List Char). record { c = c; place = p } ∷ cs) (placed_append (next_place p c) s t)
-
 -- a character has a byte at least
 pub some_bytes : (c : ℕ) → 0 < len_utf8 c
 some_bytes c = by (nat_lt c 128) (nat_lt c 2048) (nat_lt c 65536)

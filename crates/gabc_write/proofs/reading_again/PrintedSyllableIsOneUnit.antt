@@ -21,7 +21,8 @@ use Rattle.gabc_score.specs.Events.{InText, texts_by_definition, text_from, snip
 use Rattle.gabc_score.specs.Units.{Opens, Closes, BodyUnit, LastUnit, JustText, OpenNotes, CutPart, cut_part, snippets_with, last_characters, units_pieces, whole, EndsBehind, Cuts}
 use Rattle.gabc_score.specs.SyllablesOfUnits.{with_ends, snippets_in, characters_in, characters_from}
 use Rattle.gabc_write.specs.SyllableAgain.{barred, printed_syllable, AreSnippets, AreSnippetsFrom, AreUnitsFrom, IsOneUnit}
-use Rattle.gabc_write.proofs.reading_again.PlacedCharacters.{placed_append, past_append, codes_placed}
+use Rattle.gabc_places.proofs.PlacesOfAText.{place_append, placed_append}
+use Rattle.gabc_write.proofs.reading_again.PlacedCharacters.{codes_placed}
 use Rattle.gabc_write.proofs.reading_again.PartsEndAtTheirMarks.{text_ends}
 use Rattle.gabc_write.proofs.reading_again.SnippetsAreReadAgain.{nexts_of, final_of, spelled, snippets_spelled, whole_nexts, ends_with, Several, snippets_cut, snippets_again}
 
@@ -88,7 +89,7 @@ module _ (ends_once : (at : Place) (t : List ℕ) → EndsOnce at t)
     text_is = append_assoc text (40 ∷ (barred (s ∷ ss) ++ 41 ∷ [])) rest ∙ ap (λ (x : List ℕ). text ++ 40 ∷ x) (append_assoc (barred (s ∷ ss)) (41 ∷ []) rest)
 
     past_is : place_past at all ≡ place_past notes (barred (s ∷ ss) ++ 41 ∷ [])
-    past_is = past_append at text (40 ∷ (barred (s ∷ ss) ++ 41 ∷ []))
+    past_is = place_append at text (40 ∷ (barred (s ∷ ss) ++ 41 ∷ []))
 
     behind_is : behind ≡ placed_characters_from (place_past notes (barred (s ∷ ss) ++ 41 ∷ [])) rest
     behind_is = ap (λ (q : Place). placed_characters_from q rest) past_is

@@ -27,7 +27,8 @@ use Rattle.gabc_score.specs.Holding.{IsSnippetOf, kept_on_line}
 use Rattle.gabc_score.specs.SyllablesOfUnits.{with_ends}
 use Rattle.gabc_score.specs.FoundInParts.{snippet_events}
 use Rattle.gabc_write.specs.SyllableAgain.{barred, AreSnippetsFrom, IsSnippetAgain, AreSnippetsAgain}
-use Rattle.gabc_write.proofs.reading_again.PlacedCharacters.{placed_append, past_append, codes_placed}
+use Rattle.gabc_places.proofs.PlacesOfAText.{place_append, placed_append}
+use Rattle.gabc_write.proofs.reading_again.PlacedCharacters.{codes_placed}
 use Rattle.gabc_write.proofs.reading_again.PartsEndAtTheirMarks.{mark_of, snippet_ends}
 
 -- ---- the parts
@@ -51,11 +52,11 @@ pub snippets_spelled : (p : Place) (s : List ℕ) (ss : List (List ℕ)) (rest :
     → placed_characters_from p (barred (s ∷ ss) ++ 41 ∷ rest) ≡ spelled (nexts_of p (s ∷ ss)) (final_of p (s ∷ ss)) (placed_characters_from (place_past p (barred (s ∷ ss) ++ 41 ∷ [])) rest)
 snippets_spelled p s [] rest =
     placed_append p s (41 ∷ rest)
-    ∙ ap (λ (q : Place). placed_characters_from p s ++ record { c = 41; place = place_past p s } ∷ placed_characters_from q rest) (sym (past_append p s (41 ∷ [])))
+    ∙ ap (λ (q : Place). placed_characters_from p s ++ record { c = 41; place = place_past p s } ∷ placed_characters_from q rest) (sym (place_append p s (41 ∷ [])))
 snippets_spelled p s (t ∷ ss) rest =
     let q : Place = next_place (place_past p s) 124 in
     let far : Place = place_past q (barred (t ∷ ss) ++ 41 ∷ []) in
-    let past : place_past p (barred (s ∷ t ∷ ss) ++ 41 ∷ []) ≡ far = ap (place_past p) (append_assoc s (124 ∷ barred (t ∷ ss)) (41 ∷ [])) ∙ past_append p s (124 ∷ (barred (t ∷ ss) ++ 41 ∷ [])) in
+    let past : place_past p (barred (s ∷ t ∷ ss) ++ 41 ∷ []) ≡ far = ap (place_past p) (append_assoc s (124 ∷ barred (t ∷ ss)) (41 ∷ [])) ∙ place_append p s (124 ∷ (barred (t ∷ ss) ++ 41 ∷ [])) in
     ap (placed_characters_from p) (append_assoc s (124 ∷ barred (t ∷ ss)) (41 ∷ rest))
     ∙ placed_append p s (124 ∷ (barred (t ∷ ss) ++ 41 ∷ rest))
     ∙ ap (λ (xs : List Char). placed_characters_from p s ++ record { c = 124; place = place_past p s } ∷ xs) (snippets_spelled q t ss rest)
@@ -184,7 +185,7 @@ module _ (gabc_again : (split : Bool) (macros : ℕ) (at : Place) (how : NoteEnd
       let later : List ℕ = barred (t ∷ ss) ++ 41 ∷ rest in
       let parts : List CutPart = snippets_with lines (next_line lines line) opened (nexts_of q (t ∷ ss)) (cut_part (final_of q (t ∷ ss)) unit.Closes ∷ pieces) in
       let past : place_past p (barred (s ∷ t ∷ ss) ++ 41 ∷ []) ≡ place_past q (barred (t ∷ ss) ++ 41 ∷ []) =
-      ap (place_past p) (append_assoc s (124 ∷ barred (t ∷ ss)) (41 ∷ [])) ∙ past_append p s (124 ∷ (barred (t ∷ ss) ++ 41 ∷ [])) in
+      ap (place_past p) (append_assoc s (124 ∷ barred (t ∷ ss)) (41 ∷ [])) ∙ place_append p s (124 ∷ (barred (t ∷ ss) ++ 41 ∷ [])) in
       let behind : whole pieces last ≡ placed_characters_from (place_past q (barred (t ∷ ss) ++ 41 ∷ [])) rest = w ∙ ap (λ (z : Place). placed_characters_from z rest) past in
       let more = snippets_cut (next_line lines line) opened q t ss rest pieces last (several_later s t ss several) h.1 behind cut in
       let all : placed_characters_from q later ≡ whole parts last = snippets_spelled q t ss rest
@@ -199,12 +200,12 @@ module _ (gabc_again : (split : Bool) (macros : ℕ) (at : Place) (how : NoteEnd
   pub snippets_again : (line : ℕ) (p : Place) (s : List ℕ) (ss : List (List ℕ)) (rest : List ℕ) (behind : List Char) → Several (s ∷ ss) → AreSnippetsFrom lines line (s ∷ ss)
       → behind ≡ placed_characters_from (place_past p (barred (s ∷ ss) ++ 41 ∷ [])) rest → AreSnippetsAgain lines macros line (nexts_of p (s ∷ ss) ++ final_of p (s ∷ ss) ∷ []) behind (s ∷ ss)
   snippets_again line p s [] rest behind several h e =
-      (part_again line p s 41 Close rest behind (read_again line p s 41 Close rest h.0 closing) (e ∙ ap (λ (z : Place). placed_characters_from z rest) (past_append p s (41 ∷ []))), tt)
+      (part_again line p s 41 Close rest behind (read_again line p s 41 Close rest h.0 closing) (e ∙ ap (λ (z : Place). placed_characters_from z rest) (place_append p s (41 ∷ []))), tt)
   snippets_again line p s (t ∷ ss) rest behind several h e =
       let q : Place = next_from p s in
       let later : List ℕ = barred (t ∷ ss) ++ 41 ∷ rest in
       let past : place_past p (barred (s ∷ t ∷ ss) ++ 41 ∷ []) ≡ place_past q (barred (t ∷ ss) ++ 41 ∷ []) =
-      ap (place_past p) (append_assoc s (124 ∷ barred (t ∷ ss)) (41 ∷ [])) ∙ past_append p s (124 ∷ (barred (t ∷ ss) ++ 41 ∷ [])) in
+      ap (place_past p) (append_assoc s (124 ∷ barred (t ∷ ss)) (41 ∷ [])) ∙ place_append p s (124 ∷ (barred (t ∷ ss) ++ 41 ∷ [])) in
       let after : behind ≡ placed_characters_from (place_past q (barred (t ∷ ss) ++ 41 ∷ [])) rest = e ∙ ap (λ (z : Place). placed_characters_from z rest) past in
       let all : with_ends (nexts_of q (t ∷ ss) ++ final_of q (t ∷ ss) ∷ []) ++ behind ≡ placed_characters_from q later =
       ends_with (nexts_of q (t ∷ ss)) (final_of q (t ∷ ss)) behind ∙ ap (λ (xs : List Char). spelled (nexts_of q (t ∷ ss)) (final_of q (t ∷ ss)) xs) after ∙ sym (snippets_spelled q t ss rest) in (
