@@ -1,11 +1,27 @@
 """A score beside all that the compiler answers of it, each asked for once."""
 from __future__ import annotations
 
+from collections.abc import Iterator
 from functools import cached_property
 
 from gregorio_chant import library
 from gregorio_chant.losses import Comparison
 from gregorio_chant.results import Format, Message, Status
+from gregorio_chant.runs import Run
+
+
+# So many bytes of a score are compiled to a dump at once.
+_PIECE = 1 << 17
+
+
+def dump_in_pieces(data: bytes) -> Iterator[str]:
+    """Yields the dump of a score, of a large one piece by piece: no more of it is held than a piece brings."""
+    if len(data) <= _PIECE:
+        yield library.compile(data, Format.DUMP).output
+        return
+    whole = memoryview(data)
+    for step in Run(Format.DUMP).steps(whole[at : at + _PIECE] for at in range(0, len(data), _PIECE)):
+        yield step.output
 
 
 class Compiled:
@@ -30,7 +46,7 @@ class Compiled:
 
     @cached_property
     def dump(self) -> str:
-        return library.compile(self.data, Format.DUMP).output
+        return "".join(dump_in_pieces(self.data))
 
     @cached_property
     def comparison(self) -> Comparison:

@@ -10,7 +10,7 @@ from functools import partial
 
 from gregorio_chant import files
 from gregorio_chant.compiled import Compiled
-from gregorio_chant.judge import objection
+from gregorio_chant.judge import Reading, objection
 from gregorio_chant.layout import laid_out
 from gregorio_chant.losses import Loss
 from gregorio_chant.processes import by_processes
@@ -103,7 +103,11 @@ def formatted(data: bytes, style: Style, allow: frozenset[str] = frozenset()) ->
         return _canonical(score, allow)
     write_it = partial(laid_out, width=style.width)
     new = write_it(score)
-    return Formatted(new, objection=None if new == data else objection(score, Compiled(new), write_it))
+    if new == data:
+        return Formatted(new)
+    before = Reading.of(score)
+    del score
+    return Formatted(new, objection=objection(before, Compiled(new), write_it))
 
 
 def _canonical(score: Compiled, allow: frozenset[str]) -> Formatted:

@@ -58,8 +58,8 @@ class Subject:
         return f"{place.line}:{place.column}"
 
     def syllable_at(self, offset: int) -> SyllableSpan | None:
-        number = bisect.bisect_right(self.scan.syllables, offset, key=lambda it: it.begin) - 1
-        return self.scan.syllables[number] if number >= 0 else None
+        number = self.scan.syllables.number_at(offset)
+        return None if number is None else self.scan.syllables[number]
 
     def header_at(self, offset: int) -> HeaderSpan | None:
         number = bisect.bisect_right(self.scan.headers, offset, key=lambda it: it.begin) - 1

@@ -7,10 +7,11 @@ of blanks one.
 from __future__ import annotations
 
 import bisect
+import io
 import re
 from collections.abc import Iterator
 from dataclasses import dataclass
-from itertools import zip_longest
+from itertools import islice, zip_longest
 
 from gregorio_chant.compiled import Compiled
 from gregorio_chant.losses import Comparison
@@ -46,13 +47,16 @@ class _Word:
 class _Source:
     """The text of a score, its marks U+FEFF included, by the offsets that the compiler counts without them."""
 
-    def __init__(self, data: bytes) -> None:
-        text = data.decode("utf-8")
-        line_end = _LINE_END.search(text)
-        self.line_end = line_end[0] if line_end else "\n"
-        self._text = text.replace("\r\n", "\n").replace("\r", "\n")
+    def __init__(self, data: bytes, plain: str) -> None:
+        """Takes a score, and its text without marks and with LF for each line end: where that says all, there is no second text."""
+        self.line_end, self._text = "\n", plain
+        if b"\r" in data or _MARK.encode() in data:
+            text = data.decode("utf-8")
+            line_end = _LINE_END.search(text)
+            self.line_end = line_end[0] if line_end else "\n"
+            self._text = text.replace("\r\n", "\n").replace("\r", "\n")
         self._offsets = None
-        if _MARK in text:
+        if _MARK in self._text:
             self._offsets = [at for at, it in enumerate(self._text) if it != _MARK]
             self._offsets.append(len(self._text))
 
@@ -69,12 +73,15 @@ class _Source:
 
 def laid_out(score: Compiled, width: int | None = None) -> bytes:
     """Returns the score as it is laid out. With a `width` a line longer than this many characters is broken where words begin."""
-    source = _Source(score.data)
+    source = _Source(score.data, score.comparison.lines.text)
     words = _words(source, score.comparison)
     if width is not None:
-        _wrap(words, width)
-    text = source.marks() + "".join(it.lead + it.text for it in words)
-    return text.replace("\n", source.line_end).encode("utf-8")
+        words = _wrapped(words, width)
+    data = io.BytesIO()
+    data.write(source.marks().encode("utf-8"))
+    for it in words:
+        data.write(f"{it.lead}{it.text}".replace("\n", source.line_end).encode("utf-8"))
+    return data.getvalue()
 
 
 # ---- the parts of a score
@@ -83,14 +90,14 @@ def laid_out(score: Compiled, width: int | None = None) -> bytes:
 def _parts(comparison: Comparison) -> Iterator[_Part]:
     source = comparison.source
     told = sorted(comparison.lines.offset(it.line, it.column) for it in comparison.messages)
-    headers = {it.source: it.written for it in comparison.pairs if isinstance(it.source, HeaderSpan)}
+    headers = {it.source: it.written for it in comparison.header_pairs if isinstance(it.source, HeaderSpan)}
     for header in source.headers:
         end = header.begin + len(source.text[header.begin : header.end].rstrip(_BLANKS))
         yield _part(comparison, header, Span(header.begin, end), headers[header], told)
     line_end = source.text.find("\n", source.score)
     first_line = source.text[source.score : len(source.text) if line_end < 0 else line_end]
     yield _Part(source.score, source.score + len(first_line.rstrip(_BLANKS)))
-    for syllable, written in zip_longest(source.syllables, comparison.written.syllables[: len(source.syllables)]):
+    for syllable, written in zip_longest(source.syllables, islice(comparison.written.syllables, len(source.syllables))):
         yield _part(comparison, syllable, Span(after_lead(source.text, syllable), syllable.end), written, told)
 
 
@@ -128,22 +135,26 @@ def _holds_comment(comparison: Comparison, body: Span) -> bool:
 # ---- what is written of them
 
 
-def _words(source: _Source, comparison: Comparison) -> list[_Word]:
-    words: list[_Word] = []
+def _words(source: _Source, comparison: Comparison) -> Iterator[_Word]:
+    """Yields the words of a score one by one, since a large score has millions."""
+    word: _Word | None = None
     at = 0
     for part in _parts(comparison):
         lead, text = source.between(at, part.begin), source.between(part.begin, part.end)
-        space = _spaced(lead) if words else _begin_of_file(lead)
+        space = _spaced(lead) if word else _begin_of_file(lead)
         if part.spelling is not None and _MARK not in text:
             text = part.spelling
-        if space or not words:
-            words.append(_Word(space, [text]))
+        if word is None or space:
+            if word:
+                yield word
+            word = _Word(space, [text])
         else:
-            words[-1].parts.append(text)
+            word.parts.append(text)
         at = part.end
+    if word:
+        yield word
     text = comparison.source.text
-    words.append(_Word(_end_of_file(source.between(at, len(text)), text.rstrip(_BLANKS).endswith("\n")), []))
-    return words
+    yield _Word(_end_of_file(source.between(at, len(text)), text.rstrip(_BLANKS).endswith("\n")), [])
 
 
 def _spaced(lead: str) -> str:
@@ -175,8 +186,8 @@ def _end_of_file(lead: str, ends_line: bool) -> str:
     return _spaced(f"{lead}\n").rstrip("\n") + ("\n" if ends_line else "")
 
 
-def _wrap(words: list[_Word], width: int) -> None:
-    """Breaks each line longer than `width` characters where a word begins on it."""
+def _wrapped(words: Iterator[_Word], width: int) -> Iterator[_Word]:
+    """Yields the words, and breaks each line longer than `width` characters where one begins on it."""
     column = 0
     for word in words:
         if word.lead == " " and column + 1 + len(word.text.partition("\n")[0]) > width:
@@ -184,3 +195,4 @@ def _wrap(words: list[_Word], width: int) -> None:
         written = word.lead + word.text
         line_end = written.rfind("\n")
         column = column + len(written) if line_end < 0 else len(written) - line_end - 1
+        yield word

@@ -2,8 +2,9 @@
 from __future__ import annotations
 
 import bisect
-from collections.abc import Sequence
+from collections.abc import Iterator, Sequence
 from dataclasses import dataclass
+from itertools import chain, zip_longest
 
 from gregorio_chant.results import Message
 from gregorio_chant.scan import HeaderSpan, Scan, Span, scan, without_blanks
@@ -34,6 +35,10 @@ class Pair:
     written: Span | None
 
 
+# What stands in one of two texts, and what stands for it in the other.
+_Way = tuple["Span | None", "Span | None"]
+
+
 class Comparison:
     """A score beside its canonical text."""
 
@@ -46,7 +51,7 @@ class Comparison:
         left_out = {self.lines.offset(it.line, it.column) for it in messages if it.code in _LEFT_OUT}
         self.source: Scan = scan(self.lines.text, left_out)
         self.written: Scan = scan(canonical)
-        self.pairs = self._header_pairs() + self._syllable_pairs()
+        self.header_pairs = self._header_pairs()
 
     def _header_pairs(self) -> list[Pair]:
         """Pairs each header with the last one of its name; each `annotation` stands for itself. What is left out has no pair."""
@@ -62,12 +67,10 @@ class Comparison:
         paired = {it.source for it in pairs}
         return pairs + [Pair(it, None) for it in self.source.headers if it not in paired]
 
-    def _syllable_pairs(self) -> list[Pair]:
+    def _syllable_pairs(self) -> Iterator[Pair]:
         """Pairs the syllables one by one."""
-        source, written = self.source.syllables, self.written.syllables
-        pairs = [Pair(a, b) for a, b in zip(source, written)]
-        both = len(pairs)
-        return pairs + [Pair(it, None) for it in source[both:]] + [Pair(None, it) for it in written[both:]]
+        for source, written in zip_longest(self.source.syllables, self.written.syllables):
+            yield Pair(source, written)
 
     def losses(self) -> list[Loss]:
         """Returns what more than blanks would change, in order; nothing where only blanks would."""
@@ -79,7 +82,7 @@ class Comparison:
         if "\ufeff" in text:
             found.append(self._loss(0, SPELLING, "a byte order mark would go"))
         told = sorted(self.lines.offset(it.line, it.column) for it in self.messages if it.code in _CHANGING)
-        found += [it for pair in self.pairs for it in self._loss_of(pair, told)]
+        found += [it for pair in chain(self.header_pairs, self._syllable_pairs()) for it in self._loss_of(pair, told)]
         return sorted(set(found), key=lambda it: (it.place, it.reason))
 
     def _loss(self, offset: int, reason: str, text: str) -> Loss:
@@ -107,19 +110,28 @@ class Comparison:
 
     def source_offset(self, offset: int) -> int:
         """Returns where in the score the character stands that is written behind `offset` others; where it was changed, nearby."""
-        return _follow(offset, [(it.written, it.source) for it in self.pairs], self.written, self.source)
+        return _follow(offset, [(it.written, it.source) for it in self.header_pairs], self.written, self.source)
 
     def written_offset(self, offset: int) -> int:
         """Returns where the character is written that stands in the score behind `offset` others; where it was changed, nearby."""
-        return _follow(offset, [(it.source, it.written) for it in self.pairs], self.source, self.written)
+        return _follow(offset, [(it.source, it.written) for it in self.header_pairs], self.source, self.written)
 
 
-def _follow(offset: int, ways: list[tuple[Span | None, Span | None]], here: Scan, there: Scan) -> int:
-    for begin, end in ways:
+def _follow(offset: int, headers: list[_Way], here: Scan, there: Scan) -> int:
+    begin, end = _way_at(offset, headers, here, there)
+    if begin is None or end is None:
+        return min(offset, len(there.text))
+    passed = sum(1 for it in here.without_comments(begin) if it < offset)
+    offsets = there.without_comments(end)
+    return offsets[min(passed, len(offsets) - 1)] if offsets else end.begin
+
+
+def _way_at(offset: int, headers: list[_Way], here: Scan, there: Scan) -> _Way:
+    """Returns the header or syllable that holds this offset of `here`, and what stands for it in `there`."""
+    for begin, end in headers:
         if begin is not None and begin.begin <= offset < begin.end:
-            if end is None:
-                break
-            passed = sum(1 for it in here.without_comments(begin) if it < offset)
-            offsets = there.without_comments(end)
-            return offsets[min(passed, len(offsets) - 1)] if offsets else end.begin
-    return min(offset, len(there.text))
+            return begin, end
+    number = here.syllables.number_at(offset)
+    if number is None or offset >= here.syllables[number].end:
+        return None, None
+    return here.syllables[number], there.syllables[number] if number < len(there.syllables) else None

@@ -75,8 +75,8 @@ def _escape(subject: Subject, at: int) -> _Edits:
 def _style_in_each_syllable(subject: Subject, at: int) -> _Edits:
     """Closes the styles that are open where a text ends, and opens them again in each text up to the one that closes them."""
     syllables = subject.scan.syllables
-    number = bisect.bisect_right(syllables, at, key=lambda it: it.begin) - 1
-    if number < 0 or subject.text[at : at + 1] != "(":
+    number = syllables.number_at(at)
+    if number is None or subject.text[at : at + 1] != "(":
         return ()
     first = syllables[number]
     edits: list[Edit] = []

@@ -3,8 +3,10 @@ from __future__ import annotations
 
 import bisect
 import re
-from collections.abc import Collection
+from array import array
+from collections.abc import Collection, Iterator, Sequence
 from dataclasses import dataclass, field
+from typing import overload
 
 _FIRST_MARK = re.compile(r";+[ \t]*(?=%|$)")
 _LATER_MARK = re.compile(r";;+[ \t]*(?=%|$)", re.MULTILINE)
@@ -48,13 +50,46 @@ class SyllableSpan(Span):
     notes: int
 
 
+class SyllableSpans(Sequence[SyllableSpan]):
+    """The syllables of a text, in order. A large score has millions, so each is three numbers, and an object when it is asked for."""
+
+    def __init__(self) -> None:
+        self._begins, self._ends, self._notes = array("I"), array("I"), array("I")
+
+    def add(self, begin: int, end: int, notes: int) -> None:
+        """Adds a syllable after all others."""
+        self._begins.append(begin)
+        self._ends.append(end)
+        self._notes.append(notes)
+
+    def __len__(self) -> int:
+        return len(self._begins)
+
+    @overload
+    def __getitem__(self, number: int) -> SyllableSpan: ...
+    @overload
+    def __getitem__(self, number: slice) -> list[SyllableSpan]: ...
+    def __getitem__(self, number: int | slice) -> SyllableSpan | list[SyllableSpan]:
+        if isinstance(number, slice):
+            return list(map(SyllableSpan, self._begins[number], self._ends[number], self._notes[number]))
+        return SyllableSpan(self._begins[number], self._ends[number], self._notes[number])
+
+    def __iter__(self) -> Iterator[SyllableSpan]:
+        return map(SyllableSpan, self._begins, self._ends, self._notes)
+
+    def number_at(self, offset: int) -> int | None:
+        """Returns which syllable is the last that begins at `offset` or before it."""
+        number = bisect.bisect_right(self._begins, offset) - 1
+        return number if number >= 0 else None
+
+
 @dataclass
 class Scan:
     """Where all stands in a text, in order."""
 
     text: str
     headers: list[HeaderSpan] = field(default_factory=list)
-    syllables: list[SyllableSpan] = field(default_factory=list)
+    syllables: SyllableSpans = field(default_factory=SyllableSpans)
     comments: list[Span] = field(default_factory=list)
     # Where the line `%%` begins; where there is none, the end.
     score: int = 0
@@ -133,7 +168,7 @@ def _scan_score(found: Scan, left_out: Collection[int]) -> None:
         notes = _scan_text(found, at)
         end = _scan_notes(found, notes, left_out)
         if notes < len(text) or found.without_comments(Span(at, end)):
-            found.syllables.append(SyllableSpan(at, end, notes))
+            found.syllables.add(at, end, notes)
         at = end
 
 

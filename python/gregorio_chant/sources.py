@@ -75,7 +75,7 @@ class FileSources:
 
     @cached_property
     def _headers(self) -> dict[int, Span]:
-        pairs = self._comparison.pairs
+        pairs = self._comparison.header_pairs
         return {it.written.begin: it.source for it in pairs if it.written and isinstance(it.source, HeaderSpan)}
 
     def _offset(self, message: Message) -> int:
@@ -103,7 +103,7 @@ class FileSources:
         """Returns what the compiler left out, in order."""
         found = [LeftOut(it.code, source) for it in self._messages for source in self._gone(it)]
         bad = {self._offset(it) for it in self._messages if it.code in _OF_HEADERS}
-        for pair in self._comparison.pairs:
+        for pair in self._comparison.header_pairs:
             if pair.written is None and isinstance(pair.source, HeaderSpan) and pair.source.begin not in bad:
                 found.append(LeftOut("W2", self._source(*self._trimmed(pair.source))))
         return tuple(sorted(found, key=lambda it: (it.source.place, it.code)))
@@ -124,9 +124,8 @@ class FileSources:
     def _cut_before(self, at: int) -> list[int]:
         """Returns where the characters stand that the end of a snippet at this offset cut off;
         nothing where its syllable was not written."""
-        spans = self._comparison.source.syllables
-        number = bisect.bisect_right(spans, at, key=lambda it: it.begin) - 1
-        return self._notes_of(number).cuts.get(at, []) if 0 <= number < len(self._syllables) else []
+        number = self._comparison.source.syllables.number_at(at)
+        return self._notes_of(number).cuts.get(at, []) if number is not None and number < len(self._syllables) else []
 
     # ---- from the compiler's text to the file
 

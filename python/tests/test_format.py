@@ -3,6 +3,8 @@ from __future__ import annotations
 
 import os
 import stat
+import subprocess
+import sys
 import unittest
 from pathlib import Path
 
@@ -226,6 +228,24 @@ class Words(InFolder):
             ran = command("format", *words.split())
             self.assertEqual((ran.returncode, ran.stdout), (3, b""), words)
             self.assertRegex(ran.stderr.decode(), r"^gregorio-chant: .*\n$")
+
+
+# Prints the most memory that `format --check` took for the file that is named, in MB.
+_MEASURED = """
+import resource, sys
+from gregorio_chant.formatting import Wanted, format_files
+assert format_files(Wanted((sys.argv[1],), checks=True, quiet=True)) == 1
+print(resource.getrusage(resource.RUSAGE_SELF).ru_maxrss // 1024)
+"""
+
+
+class Large(InFolder):
+    def test_memory(self) -> None:
+        """A score of 1.2 MB, of which nearly each line is written anew, takes little more than its texts: 24 MB take 260."""
+        score = Path("large.gabc")
+        score.write_text("name: L;\n%%\n(c4) " + "Ký(fg)ri(h)  e(ixjvIH) lé(gf..)i(f)son(::)\n" * 28_000, encoding="utf-8")
+        done = subprocess.run([sys.executable, "-c", _MEASURED, str(score)], capture_output=True, text=True, check=True)
+        self.assertLess(int(done.stdout), 60)
 
 
 if __name__ == "__main__":

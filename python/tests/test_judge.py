@@ -37,7 +37,7 @@ class Judge(unittest.TestCase):
         self.reading = Reading.of(self.score)
 
     def test_same(self) -> None:
-        self.assertIsNone(objection(self.score, Compiled(SCORE.encode()), lambda score: score.data))
+        self.assertIsNone(objection(self.reading, Compiled(SCORE.encode()), lambda score: score.data))
 
     def test_each_part(self) -> None:
         """The canonical form and the dump tell each other, so no writer breaks one of them alone: here each part of a reading is changed by itself."""
@@ -57,17 +57,17 @@ class Judge(unittest.TestCase):
                 reading = Reading.of(new)
                 differs = [it.name for it in fields(Reading) if getattr(reading, it.name) != getattr(self.reading, it.name)]
                 self.assertEqual(len(differs), 0 if broken is None else 1, differs)
-                told = objection(self.score, new, lambda score: score.data)
+                told = objection(self.reading, new, lambda score: score.data)
                 self.assertIn(broken or "", told or "")
                 self.assertEqual(told is None, broken is None)
 
     def test_other_music(self) -> None:
-        told = objection(self.score, Compiled(writer("c(h)", "c(i)")(self.score)), lambda score: score.data)
+        told = objection(self.reading, Compiled(writer("c(h)", "c(i)")(self.score)), lambda score: score.data)
         self.assertIn(CANONICAL, told or "")
 
     def test_what_is_left_out_by_a_message(self) -> None:
         for old, new in (("g5", "5g"), ("[y]", "[z]")):
-            told = objection(self.score, Compiled(writer(old, new)(self.score)), lambda score: score.data)
+            told = objection(self.reading, Compiled(writer(old, new)(self.score)), lambda score: score.data)
             self.assertIsNotNone(told, (old, new))
 
     def test_second_pass(self) -> None:
@@ -75,13 +75,13 @@ class Judge(unittest.TestCase):
         def write(score: Compiled) -> bytes:
             return score.data.replace(b"(h) ", b"(h)\n ")
 
-        told = objection(self.score, Compiled(write(self.score)), write)
+        told = objection(self.reading, Compiled(write(self.score)), write)
         self.assertIsNone(told)
-        told = objection(self.score, Compiled(write(self.score)), lambda score: score.data + b"\n")
+        told = objection(self.reading, Compiled(write(self.score)), lambda score: score.data + b"\n")
         self.assertEqual(told, "it would change when it is formatted again")
 
     def test_fatal(self) -> None:
-        told = objection(self.score, Compiled(writer("(i)", "(i")(self.score)), lambda score: score.data)
+        told = objection(self.reading, Compiled(writer("(i)", "(i")(self.score)), lambda score: score.data)
         self.assertEqual(told, "it would not be whole")
 
     def test_what_the_command_says(self) -> None:
