@@ -109,7 +109,7 @@ module _ (split : Bool) (macros : ℕ) (s : NoteStage) (k : List ℕ) (h : Behin
   pub raw_behind : raw_state s.state ≡ in_raw k
   raw_behind = sym (raw_by k ∙ ap raw_at (sym h.stands.reads) ∙ raw_is s.state)
 
-  viable_behind : (c : ℕ) → is_some (next_of s c) ≡ is_viable gabc (k ++ c ∷ [])
+  pub viable_behind : (c : ℕ) → is_some (next_of s c) ≡ is_viable gabc (k ++ c ∷ [])
   viable_behind c = by (next_of s c) ∙ sym (viable_next gabc machine snippets_read s.state k c h.stands)
     where
       by : (o : Option ItemState) → is_some o ≡ is_alive (reading_of gabc machine o)

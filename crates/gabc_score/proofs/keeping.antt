@@ -1,0 +1,5 @@
+pub mod EndsOfParts
+pub mod KeptIsKeptAgain
+pub mod PartsTakeCharacters
+pub mod ReadByItself
+pub mod StageLaws

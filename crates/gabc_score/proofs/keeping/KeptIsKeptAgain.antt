@@ -1,0 +1,214 @@
+-- What a stage reports of a syllable that it reads is kept again, where it is read by itself.
+use Rattle.std.proofs.Common.{◌≡◌, ◌+◌, ◌<◌, ◌^◌, ℕ, suc, Bool, true, false, cond, if◌then◌else◌, List, [], ◌∷◌, ◌++◌, length, take, drop, Option, Some, None, is_some, encode_utf8_all, refl, sym, ap, ◌∙◌, subst, arith, append-nil, length-append}
+use lib.Utf8.{encode}
+use Rattle.std.proofs.lemmas.Str.{encodes-append, encodes_same, length-le-encodes}
+use Rattle.std.proofs.Math.Seq.{take-append_seam, take-append-add, drop-append_seam}
+use Rattle.std.specs.List.{list_any}
+use Rattle.gabc_places.specs.Place.{place_past, placed_characters_from}
+use Rattle.gabc_places.specs.StageLaw.{concat_of}
+use Rattle.gabc_places.specs.declared.place.Char.{Char}
+use Rattle.gabc_places.specs.declared.place.Place.{Place}
+use Rattle.gabc_places.proofs.PlacesOfAText.{length_placed}
+use Rattle.gabc_text.specs.Events.{CountsFit}
+use Rattle.gabc_text.specs.TextStage.{fresh_stage}
+use Rattle.gabc_text.specs.witness.Keeps as text
+use Rattle.gabc_score.specs.declared.body_stage.BodyPart.{BodyPart}
+use Rattle.gabc_score.specs.declared.body_stage.BodyPart.TheVariants as part
+use Rattle.gabc_score.specs.declared.body_tells.Openers.{Openers}
+use Rattle.gabc_score.specs.declared.events.BodyEvent.{BodyEvent}
+use Rattle.gabc_score.specs.Body.{cut_of, events_onto}
+use Rattle.gabc_score.specs.Events.{events_at_end, events_from, text_from, texts_by_definition}
+use Rattle.gabc_score.specs.KeptAgain.{IsKeptAgain, emitted, is_other, lists, notes_at, opens, placed, with_comment}
+use Rattle.gabc_score.specs.ReadAgain.{TellsOfReading}
+use Rattle.gabc_score.specs.ScoreEvents.{first_place}
+use Rattle.gabc_score.specs.ScoreTells.{is_in_comment, is_in_front, openers_of}
+use Rattle.gabc_score.specs.Syllable.{UnplacedSyllable, all_syllables, closes, kept_of, since_close, syllable_by, is_eu, is_nlba}
+use Rattle.gabc_score.specs.machine.PartKeeps.{KeptParts, in_text, joined, IsReading, PartKeeps}
+use Rattle.gabc_score.specs.machine.ReadAgain.{BeginsComment, Reads}
+use Rattle.gabc_score.specs.witness.BodyStage.{BodyStageState, part_with, running_events_left, texts_by_stage}
+use Rattle.gabc_score.specs.witness.ReadAgain.{CanBeReadAgain}
+use Rattle.gabc_score.specs.witness.ScoreStage.{ScoreStageState}
+use Rattle.gabc_score.proofs.building.EventsOfSyllableParts.{onto_append}
+use Rattle.gabc_score.proofs.keeping.EndsOfParts.{cut_is, inner_by, is_behind_text, is_open_in, notes_by}
+use Rattle.gabc_score.proofs.keeping.PartsTakeCharacters.{TakesOne, takes_one}
+use Rattle.gabc_score.proofs.keeping.ReadByItself.{AddsAfter, HasRoom, ReadsOn, StandsAfter, adds_after, gathered_of, no_spans, reads_on}
+use Rattle.gabc_score.proofs.keeping.StageLaws.{StageLaws}
+use Rattle.gabc_score.proofs.order.FindingsOfParts.{joined_append}
+use Rattle.gabc_score.proofs.resuming.MachinesPassAgain.{begins}
+use Rattle.gabc_score.proofs.resuming.PartsAreOne.{parts_are_one}
+use Rattle.gabc_score.proofs.resuming.ScoresAgree.{reads_in_body}
+use Rattle.gabc_score.proofs.stopped_scores.ScoreOfThePrefix.{placed_apart}
+use Rattle.gabc_score.proofs.texts_of_body.StageAndDefinitionAgree.{bytes_encodes}
+
+-- ---- where no syllable is whole, all events are those of the one that is read
+
+pub since_all : (ts : List BodyEvent) → all_syllables ts ≡ [] → since_close ts ≡ ts
+since_all [] e = refl
+since_all (t ∷ ts) e = by (closes t) e (since_all ts)
+  where
+    none : (ms : List UnplacedSyllable) (m : UnplacedSyllable) → ms ++ m ∷ [] ≡ [] → ⊥
+    none [] m h = cc
+    none (n ∷ ms) m h = cc
+
+    by : (b : Bool) → cond b (all_syllables ts ++ syllable_by (t ∷ since_close ts) (is_eu ts) (is_nlba ts) ∷ []) (all_syllables ts) ≡ [] → (all_syllables ts ≡ [] → since_close ts ≡ ts) → cond b [] (t ∷ since_close ts) ≡ t ∷ ts
+    by true h later = absurd (none (all_syllables ts) (syllable_by (t ∷ since_close ts) (is_eu ts) (is_nlba ts)) h)
+    by false h later = ap (λ (us : List BodyEvent). t ∷ us) (later h)
+
+-- lists of other characters say nothing of where these open notes
+pub notes_more : (xs : List Char) (ls more : List (List BodyEvent)) → length ls ≡ length xs → notes_at xs (ls ++ more) ≡ notes_at xs ls
+notes_more [] ls more e = refl
+notes_more (x ∷ xs) [] more e = absurd (let l : 0 ≡ suc (length xs) = e in omega (arith, l))
+notes_more (x ∷ xs) (l ∷ ls) more e = ap (λ (o : Option Place). if list_any opens l then Some x.place else o) (notes_more xs ls more (let h : suc (length ls) ≡ suc (length xs) = e in omega (arith, h)))
+
+-- few characters have few bytes
+pub counts_fit : (t : List ℕ) → length (encode_utf8_all t) + 1 < 2 ^ 64 → CountsFit first_place t
+counts_fit t few = let less = length-le-encodes t in let bytes = bytes_encodes t in record { line = omega (arith, few, less); column = omega (arith, few, less); bytes = omega (arith, few, bytes) }
+
+-- a stage over a body that begins a text
+abbrev pub FromBeginning : Type 0
+FromBeginning = (r : BodyStageState) (at : Place) (t : List ℕ) → r.part ≡ part.Text (fresh_stage at) → CountsFit at t
+    → (let xs = placed_characters_from at t in running_events_left r xs ≡ events_from texts_by_definition r.nabc_lines r.macros (text_from texts_by_definition at xs) xs)
+
+module _ (laws : StageLaws) (reads : FromBeginning) (lines macros : ℕ) where
+  abbrev pub begun_text : BodyPart
+  begun_text = part.Text (fresh_stage first_place)
+
+  -- where a text begins nothing is kept
+  pub begins_text : StandsAfter lines macros first_place begun_text [] []
+  unfolding text.said_of
+  begins_text = record {
+    reading = record { parts = in_text []; keeps = laws.steps.text_fresh first_place; said = record { builder = refl; eu = refl; nlba = refl }; kept = refl; from = refl; uncut = refl };
+    kept = refl;
+    none = refl;
+    outside = refl;
+    front = refl;
+    stands = refl;
+    place = record { line = omega arith; column = omega arith; in_64_bits = omega arith };
+    openers = record { notes = tt; inner = tt; in_order = tt };
+  }
+
+  -- what is emitted by definition is what the machine emits
+  pub lists_by : (t : List ℕ) → CountsFit first_place t → lists lines macros t ≡ events_from texts_by_stage lines macros (part_with begun_text (placed lines macros t)) (placed lines macros t)
+  lists_by t fits = sym (reads (record { nabc_lines = lines; macros = macros; part = begun_text; over = false; events = [] }) first_place t refl fits)
+
+  module _ (t : List ℕ) (told : BodyPart) (p : KeptParts) (keeps : PartKeeps lines macros told p) (front : is_in_front told ≡ false) (is : joined p ≡ t) (few : length (encode_utf8_all t) < 2 ^ 63) where
+    r : ReadsOn laws.steps lines macros first_place begun_text [] [] t
+    r = reads_on laws.steps lines macros laws.again told p keeps (let e = ap (λ (k : List ℕ). length (encode_utf8_all k)) is in omega (arith, e, few)) t first_place begun_text [] [] begins_text
+        (let less = length-le-encodes t in record { line = omega (arith, few, less); column = omega (arith, few, less) }) (sym is)
+
+    xs : List Char
+    xs = placed_characters_from first_place t
+
+    last : List BodyEvent
+    last = events_at_end (part_with r.after [])
+
+    same : r.stands.reading.parts ≡ p
+    same =
+        parts_are_one laws.again.text_kept laws.again.text_ends laws.again.gabc_kept lines macros r.after told r.stands.reading.parts p r.stands.reading.keeps keeps
+        (encodes_same (joined r.stands.reading.parts) (joined p) (sym r.stands.reading.kept ∙ r.stands.kept ∙ ap encode_utf8_all (sym is)))
+
+    keeps_same : PartKeeps lines macros r.after p
+    keeps_same = subst (PartKeeps lines macros r.after) same r.stands.reading.keeps
+
+    lists_are : lists lines macros t ≡ r.lists ++ events_at_end (part_with r.after []) ∷ []
+    unfolding xs
+    lists_are =
+        lists_by t (counts_fit t (omega (arith, few)))
+        ∙ ap (λ (ys : List Char). events_from texts_by_stage lines macros (part_with begun_text ys) ys) (sym (append-nil xs))
+        ∙ r.emits []
+
+    -- ---- what is kept
+
+    kept_before : (before : List BodyEvent) (bytes : List ℕ) → (gathered_of before).builder.kept ≡ bytes → all_syllables before ≡ [] → kept_of before ≡ bytes
+    kept_before before bytes e none = ap kept_of (sym (since_all before none)) ∙ e
+
+    emitted_plain : emitted lines macros t ≡ events_onto (concat_of r.lists) []
+    unfolding last
+    emitted_plain =
+        ap (λ (ls : List (List BodyEvent)). events_onto (concat_of (take (length t) ls)) []) lists_are
+        ∙ ap (λ (n : ℕ). events_onto (concat_of (take n (r.lists ++ last ∷ []))) []) (sym r.each)
+        ∙ ap (λ (ls : List (List BodyEvent)). events_onto (concat_of ls) []) (take-append_seam r.lists (last ∷ []))
+
+    -- with the `%` of a comment behind the text
+    abbrev percent : Char
+    percent = record { c = 37; place = place_past first_place t }
+
+    one : TakesOne lines macros r.after percent
+    one = takes_one laws.steps lines macros r.after r.stands.reading.parts r.stands.reading.keeps r.stands.front percent
+
+    lists_with : lists lines macros (t ++ 37 ∷ []) ≡ r.lists ++ one.now ∷ events_from texts_by_stage lines macros (part_with one.after []) []
+    unfolding xs one encode
+    lists_with =
+        lists_by (t ++ 37 ∷ [])
+        (counts_fit (t ++ 37 ∷ []) (let all = ap length (encodes-append t (37 ∷ [])) in let both = length-append (encode_utf8_all t) (encode_utf8_all (37 ∷ [])) in let l : length (encode_utf8_all (37 ∷ [])) ≡ 1 = refl in omega (arith, few, all, both, l)))
+        ∙ ap (λ (ys : List Char). events_from texts_by_stage lines macros (part_with begun_text ys) ys) (placed_apart first_place t (37 ∷ []))
+        ∙ r.emits (percent ∷ [])
+        ∙ ap (λ (ls : List (List BodyEvent)). r.lists ++ ls) (one.emits [])
+
+    emitted_with : emitted lines macros (t ++ 37 ∷ []) ≡ events_onto one.now (events_onto (concat_of r.lists) [])
+    emitted_with =
+        let more : List (List BodyEvent) = events_from texts_by_stage lines macros (part_with one.after []) [] in
+        ap (λ (ls : List (List BodyEvent)). events_onto (concat_of (take (length (t ++ 37 ∷ [])) ls)) []) lists_with
+        ∙ ap (λ (n : ℕ). events_onto (concat_of (take n (r.lists ++ one.now ∷ more))) []) (length-append t (37 ∷ []) ∙ ap (λ (n : ℕ). n + 1) (sym r.each))
+        ∙ ap (λ (ls : List (List BodyEvent)). events_onto (concat_of ls) []) (take-append-add r.lists (one.now ∷ more) 1)
+        ∙ ap (λ (es : List BodyEvent). events_onto es []) (joined_append r.lists (one.now ∷ []) ∙ ap (λ (es : List BodyEvent). concat_of r.lists ++ es) (append-nil one.now))
+        ∙ onto_append (concat_of r.lists) one.now []
+
+    adds : is_in_comment told ≡ true → AddsAfter laws.steps lines macros (events_onto (concat_of r.lists) []) one.now []
+    unfolding one
+    adds open_comment =
+        let reads : Reads r.after r.stands.reading.parts percent [] true one.after one.now =
+        one.again.comment r.stands.reading.parts r.stands.reading.keeps r.stands.outside refl
+        (subst (BeginsComment lines) (sym same) (begins laws.again.text_comments laws.ends.text_comment lines macros told p keeps front open_comment)) in
+        adds_after laws.steps lines macros (events_onto (concat_of r.lists) []) one.now []
+        (reads.adds (gathered_of (events_onto (concat_of r.lists) [])) r.stands.reading.kept r.stands.reading.from (let e = ap length r.stands.kept in omega (arith, e, few)))
+
+    kept_by : (comment : Bool) → is_in_comment told ≡ comment → (kept_of (emitted lines macros (with_comment t comment)) ≡ encode_utf8_all t) × (all_syllables (emitted lines macros (with_comment t comment)) ≡ [])
+    kept_by false e = (
+      ap kept_of emitted_plain ∙ kept_before (events_onto (concat_of r.lists) []) (encode_utf8_all t) r.stands.kept r.stands.none,
+      ap all_syllables emitted_plain ∙ r.stands.none,
+    )
+    kept_by true e =
+        let a = adds e in
+        let none : all_syllables (events_onto one.now (events_onto (concat_of r.lists) [])) ≡ [] = a.none ∙ r.stands.none in (
+          ap kept_of emitted_with ∙ kept_before (events_onto one.now (events_onto (concat_of r.lists) [])) (encode_utf8_all t) (a.kept ∙ append-nil (gathered_of (events_onto (concat_of r.lists) [])).builder.kept ∙ r.stands.kept) none,
+          ap all_syllables emitted_with ∙ none,
+        )
+
+    -- ---- what is open
+
+    notes_at_all : notes_at (placed lines macros t) (lists lines macros t) ≡ (openers_of r.after).notes
+    unfolding xs last
+    notes_at_all =
+        ap (notes_at xs) lists_are
+        ∙ notes_more xs r.lists (last ∷ []) (r.each ∙ sym (length_placed first_place t))
+        ∙ r.notes
+
+    end_is : concat_of (drop (length t) (lists lines macros t)) ≡ events_at_end (part_with r.after []) ++ []
+    unfolding last
+    end_is =
+        ap (λ (ls : List (List BodyEvent)). concat_of (drop (length t) ls)) lists_are
+        ∙ ap (λ (n : ℕ). concat_of (drop n (r.lists ++ last ∷ []))) (sym r.each)
+        ∙ ap concat_of (drop-append_seam r.lists (last ∷ []))
+
+    inside_is : is_other (cut_of (concat_of (drop (length t) (lists lines macros t)))) (notes_at (placed lines macros t) (lists lines macros t)) ≡ is_some (openers_of r.after).inner
+    inside_is =
+        ap (λ (es : List BodyEvent). is_other (cut_of es) (notes_at (placed lines macros t) (lists lines macros t))) end_is
+        ∙ ap (is_other (cut_of (events_at_end (part_with r.after []) ++ []))) notes_at_all
+        ∙ cut_is laws.ends lines macros r.after p keeps_same r.stands.front (place_past first_place t) r.stands.openers
+
+    pub kept_again : IsKeptAgain lines macros t (openers_of told) (is_in_comment told)
+    kept_again = record {
+      kept = (kept_by (is_in_comment told) refl).0;
+      none = (kept_by (is_in_comment told) refl).1;
+      notes = notes_by laws.ends lines macros told p keeps front ∙ sym (notes_by laws.ends lines macros r.after p keeps_same r.stands.front) ∙ ap (λ (o : Option Place). is_some o) (sym notes_at_all);
+      inner = inner_by laws.ends lines macros told p keeps front ∙ sym (inner_by laws.ends lines macros r.after p keeps_same r.stands.front) ∙ sym inside_is;
+    }
+
+pub told_is_kept_again : (laws : StageLaws) → FromBeginning → (s : ScoreStageState) (t : List ℕ) (openers : Openers) (comment : Bool) → CanBeReadAgain s → TellsOfReading s (encode_utf8_all t) openers comment
+    → length (encode_utf8_all t) < 2 ^ 63 → IsKeptAgain s.body.nabc_lines s.body.macros t openers comment
+told_is_kept_again laws reads s t openers comment can tells few =
+    subst (λ (o : Openers). IsKeptAgain s.body.nabc_lines s.body.macros t o comment) tells.openers_are
+    (subst (IsKeptAgain s.body.nabc_lines s.body.macros t (openers_of s.body.part)) tells.comment_is
+    (kept_again laws reads s.body.nabc_lines s.body.macros t s.body.part can.told.parts can.told.keeps tells.front
+    (encodes_same (joined can.told.parts) t (sym can.told.is ∙ sym (reads_in_body s.part s.held.gathered.builder.kept can.body) ∙ tells.reading)) few))
