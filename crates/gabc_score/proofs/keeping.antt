@@ -1,5 +1,6 @@
 pub mod EndsOfParts
 pub mod KeptIsKeptAgain
+pub mod PartsKeepOne
 pub mod PartsTakeCharacters
 pub mod ReadByItself
 pub mod StageLaws

@@ -1,4 +1,4 @@
--- The kept text of a syllable that is not whole, read by itself: all of it is kept again, no syllable is whole, and this is open after it.
+-- The kept text of a syllable that is not whole, read by itself: all of it is kept again, and this is open after it.
 use Rattle.std.specs.Prelude.{◌≡◌, ℕ, List, [], ◌∷◌, ◌++◌, length, take, drop, Bool, true, false, not, ◌&&◌, ◌==◌, if◌then◌else◌, Option, Some, None, is_some, encode_utf8_all}
 use Rattle.std.specs.List.{list_any}
 use Rattle.gabc_places.specs.declared.place.Char.{Char}
@@ -53,13 +53,11 @@ module _ (lines macros : ℕ) (t : List ℕ) where
   abbrev pub is_inside : Bool
   is_inside = is_other (cut_of (concat_of (drop (length t) lists))) (notes_at placed lists)
 
--- the text, with the `%` of the comment that is open after it
-abbrev pub with_comment : List ℕ → Bool → List ℕ
-with_comment t comment = if comment then t ++ 37 ∷ [] else t
-
--- The text is what is kept of it, and no syllable is whole. The `%` of a comment is not kept. Where openers are told, something is open.
+-- Read by itself the text is what is kept of it, and no syllable is whole. A comment is open after it only where a `%` there is not kept. What is open
+-- is told.
 pub record IsKeptAgain (lines macros : ℕ) (t : List ℕ) (openers : Openers) (comment : Bool) : Type 0 where
-  pub kept : kept_of (emitted lines macros (with_comment t comment)) ≡ encode_utf8_all t
-  pub none : all_syllables (emitted lines macros (with_comment t comment)) ≡ []
+  pub kept : kept_of (emitted lines macros t) ≡ encode_utf8_all t
+  pub none : all_syllables (emitted lines macros t) ≡ []
+  pub percent : comment ≡ true → kept_of (emitted lines macros (t ++ 37 ∷ [])) ≡ encode_utf8_all t
   pub notes : is_some openers.notes ≡ is_in_notes lines macros t
   pub inner : is_some openers.inner ≡ is_inside lines macros t

@@ -1,6 +1,6 @@
 //! Laws of kept texts that are read by themselves. The functions call the laws that they stand on: each is there for its clauses.
 
-ghost use Rattle.std.specs.Prelude.{◌<◌, ◌^◌, ℕ, List, Bool, length, encode_utf8_all};
+ghost use Rattle.std.specs.Prelude.{ℕ, List, Bool, encode_utf8_all};
 ghost use Rattle.gabc_score.specs.declared.body_tells.Openers.{Openers};
 ghost use Rattle.gabc_score.specs.KeptAgain.{IsKeptAgain};
 ghost use Rattle.gabc_score.specs.ReadAgain.{TellsOfReading};
@@ -9,12 +9,11 @@ ghost use Rattle.gabc_score.specs.witness.ScoreStage.{ScoreStageState};
 
 use crate::stage_laws::a_text_is_read_from_its_beginning;
 
-/// Law: what a stage reports of the syllable that it reads, a text of less than 2^63 bytes, is kept
-/// again where it is read by itself, and what is open after it is what the stage reports.
+/// Law: what a stage reports of the syllable that it reads is kept again where it is read by
+/// itself, and what is open after it is what the stage reports.
 pub fn what_is_told_is_kept_again()
     ensures { (s : ScoreStageState) (t : List ℕ) (openers : Openers) (comment : Bool) →
         CanBeReadAgain s → TellsOfReading s (encode_utf8_all t) openers comment →
-        length (encode_utf8_all t) < 2 ^ 63 →
         IsKeptAgain s.body.nabc_lines s.body.macros t openers comment }
 {
     gabc_text::laws::a_stage_takes_each_character();

@@ -18,7 +18,7 @@ use Rattle.gabc_score.specs.declared.body_tells.Openers.{Openers}
 use Rattle.gabc_score.specs.declared.events.BodyEvent.{BodyEvent}
 use Rattle.gabc_score.specs.Body.{cut_of, events_onto}
 use Rattle.gabc_score.specs.Events.{events_at_end, events_from, text_from, texts_by_definition}
-use Rattle.gabc_score.specs.KeptAgain.{IsKeptAgain, emitted, is_other, lists, notes_at, opens, placed, with_comment}
+use Rattle.gabc_score.specs.KeptAgain.{IsKeptAgain, emitted, is_other, lists, notes_at, opens, placed}
 use Rattle.gabc_score.specs.ReadAgain.{TellsOfReading}
 use Rattle.gabc_score.specs.ScoreEvents.{first_place}
 use Rattle.gabc_score.specs.ScoreTells.{is_in_comment, is_in_front, openers_of}
@@ -163,17 +163,11 @@ module _ (laws : StageLaws) (reads : FromBeginning) (lines macros : ℕ) where
         adds_after laws.steps lines macros (events_onto (concat_of r.lists) []) one.now []
         (reads.adds (gathered_of (events_onto (concat_of r.lists) [])) r.stands.reading.kept r.stands.reading.from (let e = ap length r.stands.kept in omega (arith, e, few)))
 
-    kept_by : (comment : Bool) → is_in_comment told ≡ comment → (kept_of (emitted lines macros (with_comment t comment)) ≡ encode_utf8_all t) × (all_syllables (emitted lines macros (with_comment t comment)) ≡ [])
-    kept_by false e = (
-      ap kept_of emitted_plain ∙ kept_before (events_onto (concat_of r.lists) []) (encode_utf8_all t) r.stands.kept r.stands.none,
-      ap all_syllables emitted_plain ∙ r.stands.none,
-    )
-    kept_by true e =
+    kept_with : is_in_comment told ≡ true → kept_of (emitted lines macros (t ++ 37 ∷ [])) ≡ encode_utf8_all t
+    kept_with e =
         let a = adds e in
-        let none : all_syllables (events_onto one.now (events_onto (concat_of r.lists) [])) ≡ [] = a.none ∙ r.stands.none in (
-          ap kept_of emitted_with ∙ kept_before (events_onto one.now (events_onto (concat_of r.lists) [])) (encode_utf8_all t) (a.kept ∙ append-nil (gathered_of (events_onto (concat_of r.lists) [])).builder.kept ∙ r.stands.kept) none,
-          ap all_syllables emitted_with ∙ none,
-        )
+        ap kept_of emitted_with
+        ∙ kept_before (events_onto one.now (events_onto (concat_of r.lists) [])) (encode_utf8_all t) (a.kept ∙ append-nil (gathered_of (events_onto (concat_of r.lists) [])).builder.kept ∙ r.stands.kept) (a.none ∙ r.stands.none)
 
     -- ---- what is open
 
@@ -199,16 +193,23 @@ module _ (laws : StageLaws) (reads : FromBeginning) (lines macros : ℕ) where
 
     pub kept_again : IsKeptAgain lines macros t (openers_of told) (is_in_comment told)
     kept_again = record {
-      kept = (kept_by (is_in_comment told) refl).0;
-      none = (kept_by (is_in_comment told) refl).1;
+      kept = ap kept_of emitted_plain ∙ kept_before (events_onto (concat_of r.lists) []) (encode_utf8_all t) r.stands.kept r.stands.none;
+      none = ap all_syllables emitted_plain ∙ r.stands.none;
+      percent = kept_with;
       notes = notes_by laws.ends lines macros told p keeps front ∙ sym (notes_by laws.ends lines macros r.after p keeps_same r.stands.front) ∙ ap (λ (o : Option Place). is_some o) (sym notes_at_all);
       inner = inner_by laws.ends lines macros told p keeps front ∙ sym (inner_by laws.ends lines macros r.after p keeps_same r.stands.front) ∙ sym inside_is;
     }
 
 pub told_is_kept_again : (laws : StageLaws) → FromBeginning → (s : ScoreStageState) (t : List ℕ) (openers : Openers) (comment : Bool) → CanBeReadAgain s → TellsOfReading s (encode_utf8_all t) openers comment
-    → length (encode_utf8_all t) < 2 ^ 63 → IsKeptAgain s.body.nabc_lines s.body.macros t openers comment
-told_is_kept_again laws reads s t openers comment can tells few =
+    → IsKeptAgain s.body.nabc_lines s.body.macros t openers comment
+told_is_kept_again laws reads s t openers comment can tells =
     subst (λ (o : Openers). IsKeptAgain s.body.nabc_lines s.body.macros t o comment) tells.openers_are
     (subst (IsKeptAgain s.body.nabc_lines s.body.macros t (openers_of s.body.part)) tells.comment_is
     (kept_again laws reads s.body.nabc_lines s.body.macros t s.body.part can.told.parts can.told.keeps tells.front
-    (encodes_same (joined can.told.parts) t (sym can.told.is ∙ sym (reads_in_body s.part s.held.gathered.builder.kept can.body) ∙ tells.reading)) few))
+    (encodes_same (joined can.told.parts) t (sym can.told.is ∙ kept)) few))
+  where
+    kept : s.held.gathered.builder.kept ≡ encode_utf8_all t
+    kept = sym (reads_in_body s.part s.held.gathered.builder.kept can.body) ∙ tells.reading
+
+    few : length (encode_utf8_all t) < 2 ^ 63
+    few = let same = ap length kept in let short = can.told.short in let most = s.limits.in_range.syllable_most in omega (arith, same, short, most)

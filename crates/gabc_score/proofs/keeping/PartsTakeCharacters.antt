@@ -40,6 +40,7 @@ use Rattle.gabc_score.proofs.building.PartsKeepOn.{gabc_keeps_on, gabc_ends_on, 
 use Rattle.gabc_score.proofs.building.PartsOfKeptText.{of_notes, text_keeps_on, text_ends_on}
 use Rattle.gabc_score.proofs.building.PartsOpenOn.{same_open, notes_open, next_opens, none_open, text_opens_on, gabc_opens_on}
 use Rattle.gabc_score.proofs.building.PartsStandOn.{text_stands_on, gabc_closes_at, nabc_closes_at}
+use Rattle.gabc_score.proofs.keeping.PartsKeepOne.{KeepsOne, text_one, text_end_one, gabc_one, gabc_next_one, gabc_close_one, nabc_one, nabc_next_one, nabc_close_one}
 use Rattle.gabc_score.proofs.keeping.StageLaws.{Steps}
 use Rattle.gabc_score.proofs.resuming.PartsReadAgain.{text_reads, text_end_reads, gabc_reads, gabc_end_reads, gabc_close_reads, nabc_reads, nabc_end_reads, nabc_close_reads}
 use Rattle.gabc_score.proofs.stopped_scores.ClosedWithin.{close_count, count_one}
@@ -83,6 +84,7 @@ pub record TakesOne (lines macros : ℕ) (before : BodyPart) (x : Char) : Type 0
   pub opens_on : PartOpensOn lines macros x before after
   pub stands : PartStandsOn lines macros x before after
   pub front : is_in_front after ≡ false
+  pub keeps_one : KeepsOne lines macros x before after now
   pub notes_are : close_count now ≡ 0 → (openers_of after).notes ≡ (if list_any opens now then Some x.place else (openers_of before).notes)
   pub opens_once : is_some (openers_of before).notes ≡ true → list_any opens now ≡ false
 
@@ -149,6 +151,7 @@ module _ (laws : Steps) (lines macros : ℕ) where
       opens_on = text_opens_on lines macros x s t.after t.events t.keeps e;
       stands = text_stands_on lines macros x s t.after t.events t.keeps e;
       front = refl;
+      keeps_one = text_one lines macros s x t e;
       notes_are = λ none. ap (λ (b : Bool). if b then Some x.place else None) (sym (text_opens t.events ∙ e));
       opens_once = λ some. absurd (false≢true some);
     }
@@ -165,6 +168,7 @@ module _ (laws : Steps) (lines macros : ℕ) where
           opens_on = notes_open lines macros x (part.Text s) n.snippet n.opens_there;
           stands = n.stands x (part.Text s);
           front = n.front;
+          keeps_one = text_end_one lines macros s x t e n.snippet n.outside;
           notes_are = λ none. ap (λ (o : Openers). o.notes) n.opens_there ∙ ap (λ (b : Bool). if b then Some x.place else None) (sym (text_opens t.events ∙ e));
           opens_once = λ some. absurd (false≢true some);
         }
@@ -196,6 +200,7 @@ module _ (laws : Steps) (lines macros : ℕ) where
       opens_on = gabc_opens_on lines macros x opened s t.after t.events t.keeps next close;
       stands = λ p keeps at. tt;
       front = refl;
+      keeps_one = gabc_one lines macros opened s x t next close;
       notes_are = λ none. still_opened 0 opened x t.events;
       opens_once = λ some. none_opens 0 opened t.events;
     }
@@ -212,6 +217,7 @@ module _ (laws : Steps) (lines macros : ℕ) where
           opens_on = next_opens lines macros x opened (part.Notes opened s) n.snippet refl n.opens_there;
           stands = n.stands x (part.Notes opened s);
           front = n.front;
+          keeps_one = gabc_next_one lines macros opened s x t n.snippet n.outside next;
           notes_are = λ none. ap (λ (o : Openers). o.notes) n.opens_there ∙ still_opened 0 opened x t.events;
           opens_once = λ some. none_opens 0 opened t.events;
         }
@@ -228,6 +234,7 @@ module _ (laws : Steps) (lines macros : ℕ) where
           opens_on = none_open lines macros x (part.Notes opened s) b refl;
           stands = gabc_closes_at lines macros x opened s t.after t.events b t.keeps close refl;
           front = refl;
+          keeps_one = gabc_close_one lines macros opened s x t b refl close;
           notes_are = none_closes (close_count (of_notes 0 opened t.events)) (one_closes 0 opened t.events close);
           opens_once = λ some. none_opens 0 opened t.events;
         }
@@ -257,6 +264,7 @@ module _ (laws : Steps) (lines macros : ℕ) where
       opens_on = λ p keeps at. same_open x.place (openers_of (part.Nabc line opened s));
       stands = λ p keeps at. tt;
       front = refl;
+      keeps_one = nabc_one lines macros line opened s x t next close;
       notes_are = λ none. still_opened line opened x t.events;
       opens_once = λ some. none_opens line opened t.events;
     }
@@ -273,6 +281,7 @@ module _ (laws : Steps) (lines macros : ℕ) where
           opens_on = next_opens lines macros x opened (part.Nabc line opened s) n.snippet refl n.opens_there;
           stands = n.stands x (part.Nabc line opened s);
           front = n.front;
+          keeps_one = nabc_next_one lines macros line opened s x t n.snippet n.outside next;
           notes_are = λ none. ap (λ (o : Openers). o.notes) n.opens_there ∙ still_opened line opened x t.events;
           opens_once = λ some. none_opens line opened t.events;
         }
@@ -289,6 +298,7 @@ module _ (laws : Steps) (lines macros : ℕ) where
           opens_on = none_open lines macros x (part.Nabc line opened s) b refl;
           stands = nabc_closes_at lines macros x line opened s t.after t.events b t.keeps close refl;
           front = refl;
+          keeps_one = nabc_close_one lines macros line opened s x t b refl close;
           notes_are = none_closes (close_count (of_notes line opened t.events)) (one_closes line opened t.events close);
           opens_once = λ some. none_opens line opened t.events;
         }
