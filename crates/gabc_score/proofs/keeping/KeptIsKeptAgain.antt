@@ -30,6 +30,7 @@ use Rattle.gabc_score.specs.witness.ReadAgain.{CanBeReadAgain}
 use Rattle.gabc_score.specs.witness.ScoreStage.{ScoreStageState}
 use Rattle.gabc_score.proofs.building.EventsOfSyllableParts.{onto_append}
 use Rattle.gabc_score.proofs.keeping.EndsOfParts.{cut_is, inner_by, is_behind_text, is_open_in, notes_by}
+use Rattle.gabc_score.proofs.keeping.ReadByDefinition.{FromBeginning, begun_text, emitted_plain, emitted_with, end_is, notes_all, since_all}
 use Rattle.gabc_score.proofs.keeping.PartsTakeCharacters.{TakesOne, takes_one}
 use Rattle.gabc_score.proofs.keeping.ReadByItself.{AddsAfter, HasRoom, ReadsOn, StandsAfter, adds_after, gathered_of, no_spans, reads_on}
 use Rattle.gabc_score.proofs.keeping.StageLaws.{StageLaws}
@@ -40,39 +41,7 @@ use Rattle.gabc_score.proofs.resuming.ScoresAgree.{reads_in_body}
 use Rattle.gabc_score.proofs.stopped_scores.ScoreOfThePrefix.{placed_apart}
 use Rattle.gabc_score.proofs.texts_of_body.StageAndDefinitionAgree.{bytes_encodes}
 
--- ---- where no syllable is whole, all events are those of the one that is read
-
-pub since_all : (ts : List BodyEvent) → all_syllables ts ≡ [] → since_close ts ≡ ts
-since_all [] e = refl
-since_all (t ∷ ts) e = by (closes t) e (since_all ts)
-  where
-    none : (ms : List UnplacedSyllable) (m : UnplacedSyllable) → ms ++ m ∷ [] ≡ [] → ⊥
-    none [] m h = cc
-    none (n ∷ ms) m h = cc
-
-    by : (b : Bool) → cond b (all_syllables ts ++ syllable_by (t ∷ since_close ts) (is_eu ts) (is_nlba ts) ∷ []) (all_syllables ts) ≡ [] → (all_syllables ts ≡ [] → since_close ts ≡ ts) → cond b [] (t ∷ since_close ts) ≡ t ∷ ts
-    by true h later = absurd (none (all_syllables ts) (syllable_by (t ∷ since_close ts) (is_eu ts) (is_nlba ts)) h)
-    by false h later = ap (λ (us : List BodyEvent). t ∷ us) (later h)
-
--- lists of other characters say nothing of where these open notes
-pub notes_more : (xs : List Char) (ls more : List (List BodyEvent)) → length ls ≡ length xs → notes_at xs (ls ++ more) ≡ notes_at xs ls
-notes_more [] ls more e = refl
-notes_more (x ∷ xs) [] more e = absurd (let l : 0 ≡ suc (length xs) = e in omega (arith, l))
-notes_more (x ∷ xs) (l ∷ ls) more e = ap (λ (o : Option Place). if list_any opens l then Some x.place else o) (notes_more xs ls more (let h : suc (length ls) ≡ suc (length xs) = e in omega (arith, h)))
-
--- few characters have few bytes
-pub counts_fit : (t : List ℕ) → length (encode_utf8_all t) + 1 < 2 ^ 64 → CountsFit first_place t
-counts_fit t few = let less = length-le-encodes t in let bytes = bytes_encodes t in record { line = omega (arith, few, less); column = omega (arith, few, less); bytes = omega (arith, few, bytes) }
-
--- a stage over a body that begins a text
-abbrev pub FromBeginning : Type 0
-FromBeginning = (r : BodyStageState) (at : Place) (t : List ℕ) → r.part ≡ part.Text (fresh_stage at) → CountsFit at t
-    → (let xs = placed_characters_from at t in running_events_left r xs ≡ events_from texts_by_definition r.nabc_lines r.macros (text_from texts_by_definition at xs) xs)
-
 module _ (laws : StageLaws) (reads : FromBeginning) (lines macros : ℕ) where
-  abbrev pub begun_text : BodyPart
-  begun_text = part.Text (fresh_stage first_place)
-
   -- where a text begins nothing is kept
   pub begins_text : StandsAfter lines macros first_place begun_text [] []
   unfolding text.said_of
@@ -87,117 +56,60 @@ module _ (laws : StageLaws) (reads : FromBeginning) (lines macros : ℕ) where
     openers = record { notes = tt; inner = tt; in_order = tt };
   }
 
-  -- what is emitted by definition is what the machine emits
-  pub lists_by : (t : List ℕ) → CountsFit first_place t → lists lines macros t ≡ events_from texts_by_stage lines macros (part_with begun_text (placed lines macros t)) (placed lines macros t)
-  lists_by t fits = sym (reads (record { nabc_lines = lines; macros = macros; part = begun_text; over = false; events = [] }) first_place t refl fits)
-
   module _ (t : List ℕ) (told : BodyPart) (p : KeptParts) (keeps : PartKeeps lines macros told p) (front : is_in_front told ≡ false) (is : joined p ≡ t) (few : length (encode_utf8_all t) < 2 ^ 63) where
     r : ReadsOn laws.steps lines macros first_place begun_text [] [] t
     r = reads_on laws.steps lines macros laws.again told p keeps (let e = ap (λ (k : List ℕ). length (encode_utf8_all k)) is in omega (arith, e, few)) t first_place begun_text [] [] begins_text
         (let less = length-le-encodes t in record { line = omega (arith, few, less); column = omega (arith, few, less) }) (sym is)
 
-    xs : List Char
-    xs = placed_characters_from first_place t
-
-    last : List BodyEvent
-    last = events_at_end (part_with r.after [])
-
     same : r.stands.reading.parts ≡ p
     same =
-        parts_are_one laws.again.text_kept laws.again.text_ends laws.again.gabc_kept lines macros r.after told r.stands.reading.parts p r.stands.reading.keeps keeps
+        parts_are_one laws.again.text_kept laws.again.text_ends laws.again.gabc_kept lines macros r.read.after told r.stands.reading.parts p r.stands.reading.keeps keeps
         (encodes_same (joined r.stands.reading.parts) (joined p) (sym r.stands.reading.kept ∙ r.stands.kept ∙ ap encode_utf8_all (sym is)))
 
-    keeps_same : PartKeeps lines macros r.after p
-    keeps_same = subst (PartKeeps lines macros r.after) same r.stands.reading.keeps
-
-    lists_are : lists lines macros t ≡ r.lists ++ events_at_end (part_with r.after []) ∷ []
-    unfolding xs
-    lists_are =
-        lists_by t (counts_fit t (omega (arith, few)))
-        ∙ ap (λ (ys : List Char). events_from texts_by_stage lines macros (part_with begun_text ys) ys) (sym (append-nil xs))
-        ∙ r.emits []
+    keeps_same : PartKeeps lines macros r.read.after p
+    keeps_same = subst (PartKeeps lines macros r.read.after) same r.stands.reading.keeps
 
     -- ---- what is kept
 
     kept_before : (before : List BodyEvent) (bytes : List ℕ) → (gathered_of before).builder.kept ≡ bytes → all_syllables before ≡ [] → kept_of before ≡ bytes
     kept_before before bytes e none = ap kept_of (sym (since_all before none)) ∙ e
 
-    emitted_plain : emitted lines macros t ≡ events_onto (concat_of r.lists) []
-    unfolding last
-    emitted_plain =
-        ap (λ (ls : List (List BodyEvent)). events_onto (concat_of (take (length t) ls)) []) lists_are
-        ∙ ap (λ (n : ℕ). events_onto (concat_of (take n (r.lists ++ last ∷ []))) []) (sym r.each)
-        ∙ ap (λ (ls : List (List BodyEvent)). events_onto (concat_of ls) []) (take-append_seam r.lists (last ∷ []))
+    one : TakesOne lines macros r.read.after (record { c = 37; place = place_past first_place t })
+    one = takes_one laws.steps lines macros r.read.after r.stands.reading.parts r.stands.reading.keeps r.stands.front (record { c = 37; place = place_past first_place t })
 
-    -- with the `%` of a comment behind the text
-    abbrev percent : Char
-    percent = record { c = 37; place = place_past first_place t }
-
-    one : TakesOne lines macros r.after percent
-    one = takes_one laws.steps lines macros r.after r.stands.reading.parts r.stands.reading.keeps r.stands.front percent
-
-    lists_with : lists lines macros (t ++ 37 ∷ []) ≡ r.lists ++ one.now ∷ events_from texts_by_stage lines macros (part_with one.after []) []
-    unfolding xs one encode
-    lists_with =
-        lists_by (t ++ 37 ∷ [])
-        (counts_fit (t ++ 37 ∷ []) (let all = ap length (encodes-append t (37 ∷ [])) in let both = length-append (encode_utf8_all t) (encode_utf8_all (37 ∷ [])) in let l : length (encode_utf8_all (37 ∷ [])) ≡ 1 = refl in omega (arith, few, all, both, l)))
-        ∙ ap (λ (ys : List Char). events_from texts_by_stage lines macros (part_with begun_text ys) ys) (placed_apart first_place t (37 ∷ []))
-        ∙ r.emits (percent ∷ [])
-        ∙ ap (λ (ls : List (List BodyEvent)). r.lists ++ ls) (one.emits [])
-
-    emitted_with : emitted lines macros (t ++ 37 ∷ []) ≡ events_onto one.now (events_onto (concat_of r.lists) [])
-    emitted_with =
-        let more : List (List BodyEvent) = events_from texts_by_stage lines macros (part_with one.after []) [] in
-        ap (λ (ls : List (List BodyEvent)). events_onto (concat_of (take (length (t ++ 37 ∷ [])) ls)) []) lists_with
-        ∙ ap (λ (n : ℕ). events_onto (concat_of (take n (r.lists ++ one.now ∷ more))) []) (length-append t (37 ∷ []) ∙ ap (λ (n : ℕ). n + 1) (sym r.each))
-        ∙ ap (λ (ls : List (List BodyEvent)). events_onto (concat_of ls) []) (take-append-add r.lists (one.now ∷ more) 1)
-        ∙ ap (λ (es : List BodyEvent). events_onto es []) (joined_append r.lists (one.now ∷ []) ∙ ap (λ (es : List BodyEvent). concat_of r.lists ++ es) (append-nil one.now))
-        ∙ onto_append (concat_of r.lists) one.now []
-
-    adds : is_in_comment told ≡ true → AddsAfter laws.steps lines macros (events_onto (concat_of r.lists) []) one.now []
+    adds : is_in_comment told ≡ true → AddsAfter laws.steps lines macros (events_onto (concat_of r.read.lists) []) one.now []
     unfolding one
     adds open_comment =
-        let reads : Reads r.after r.stands.reading.parts percent [] true one.after one.now =
+        let reads : Reads r.read.after r.stands.reading.parts (record { c = 37; place = place_past first_place t }) [] true one.after one.now =
         one.again.comment r.stands.reading.parts r.stands.reading.keeps r.stands.outside refl
         (subst (BeginsComment lines) (sym same) (begins laws.again.text_comments laws.ends.text_comment lines macros told p keeps front open_comment)) in
-        adds_after laws.steps lines macros (events_onto (concat_of r.lists) []) one.now []
-        (reads.adds (gathered_of (events_onto (concat_of r.lists) [])) r.stands.reading.kept r.stands.reading.from (let e = ap length r.stands.kept in omega (arith, e, few)))
+        adds_after laws.steps lines macros (events_onto (concat_of r.read.lists) []) one.now []
+        (reads.adds (gathered_of (events_onto (concat_of r.read.lists) [])) r.stands.reading.kept r.stands.reading.from (let e = ap length r.stands.kept in omega (arith, e, few)))
 
     kept_with : is_in_comment told ≡ true → kept_of (emitted lines macros (t ++ 37 ∷ [])) ≡ encode_utf8_all t
     kept_with e =
         let a = adds e in
-        ap kept_of emitted_with
-        ∙ kept_before (events_onto one.now (events_onto (concat_of r.lists) [])) (encode_utf8_all t) (a.kept ∙ append-nil (gathered_of (events_onto (concat_of r.lists) [])).builder.kept ∙ r.stands.kept) (a.none ∙ r.stands.none)
+        ap kept_of (emitted_with reads laws.steps lines macros t few r.read one)
+        ∙ kept_before (events_onto one.now (events_onto (concat_of r.read.lists) [])) (encode_utf8_all t) (a.kept ∙ append-nil (gathered_of (events_onto (concat_of r.read.lists) [])).builder.kept ∙ r.stands.kept) (a.none ∙ r.stands.none)
 
     -- ---- what is open
 
-    notes_at_all : notes_at (placed lines macros t) (lists lines macros t) ≡ (openers_of r.after).notes
-    unfolding xs last
-    notes_at_all =
-        ap (notes_at xs) lists_are
-        ∙ notes_more xs r.lists (last ∷ []) (r.each ∙ sym (length_placed first_place t))
-        ∙ r.notes
+    notes_at_all : notes_at (placed lines macros t) (lists lines macros t) ≡ (openers_of r.read.after).notes
+    notes_at_all = notes_all reads laws.steps lines macros t few r.read ∙ r.notes
 
-    end_is : concat_of (drop (length t) (lists lines macros t)) ≡ events_at_end (part_with r.after []) ++ []
-    unfolding last
-    end_is =
-        ap (λ (ls : List (List BodyEvent)). concat_of (drop (length t) ls)) lists_are
-        ∙ ap (λ (n : ℕ). concat_of (drop n (r.lists ++ last ∷ []))) (sym r.each)
-        ∙ ap concat_of (drop-append_seam r.lists (last ∷ []))
-
-    inside_is : is_other (cut_of (concat_of (drop (length t) (lists lines macros t)))) (notes_at (placed lines macros t) (lists lines macros t)) ≡ is_some (openers_of r.after).inner
+    inside_is : is_other (cut_of (concat_of (drop (length t) (lists lines macros t)))) (notes_at (placed lines macros t) (lists lines macros t)) ≡ is_some (openers_of r.read.after).inner
     inside_is =
-        ap (λ (es : List BodyEvent). is_other (cut_of es) (notes_at (placed lines macros t) (lists lines macros t))) end_is
-        ∙ ap (is_other (cut_of (events_at_end (part_with r.after []) ++ []))) notes_at_all
-        ∙ cut_is laws.ends lines macros r.after p keeps_same r.stands.front (place_past first_place t) r.stands.openers
+        ap (λ (es : List BodyEvent). is_other (cut_of es) (notes_at (placed lines macros t) (lists lines macros t))) (end_is reads laws.steps lines macros t few r.read)
+        ∙ ap (is_other (cut_of (events_at_end (part_with r.read.after []) ++ []))) notes_at_all
+        ∙ cut_is laws.ends lines macros r.read.after p keeps_same r.stands.front (place_past first_place t) r.stands.openers
 
     pub kept_again : IsKeptAgain lines macros t (openers_of told) (is_in_comment told)
     kept_again = record {
-      kept = ap kept_of emitted_plain ∙ kept_before (events_onto (concat_of r.lists) []) (encode_utf8_all t) r.stands.kept r.stands.none;
-      none = ap all_syllables emitted_plain ∙ r.stands.none;
+      kept = ap kept_of (emitted_plain reads laws.steps lines macros t few r.read) ∙ kept_before (events_onto (concat_of r.read.lists) []) (encode_utf8_all t) r.stands.kept r.stands.none;
+      none = ap all_syllables (emitted_plain reads laws.steps lines macros t few r.read) ∙ r.stands.none;
       percent = kept_with;
-      notes = notes_by laws.ends lines macros told p keeps front ∙ sym (notes_by laws.ends lines macros r.after p keeps_same r.stands.front) ∙ ap (λ (o : Option Place). is_some o) (sym notes_at_all);
-      inner = inner_by laws.ends lines macros told p keeps front ∙ sym (inner_by laws.ends lines macros r.after p keeps_same r.stands.front) ∙ sym inside_is;
+      notes = notes_by laws.ends lines macros told p keeps front ∙ sym (notes_by laws.ends lines macros r.read.after p keeps_same r.stands.front) ∙ ap (λ (o : Option Place). is_some o) (sym notes_at_all);
+      inner = inner_by laws.ends lines macros told p keeps front ∙ sym (inner_by laws.ends lines macros r.read.after p keeps_same r.stands.front) ∙ sym inside_is;
     }
 
 pub told_is_kept_again : (laws : StageLaws) → FromBeginning → (s : ScoreStageState) (t : List ℕ) (openers : Openers) (comment : Bool) → CanBeReadAgain s → TellsOfReading s (encode_utf8_all t) openers comment

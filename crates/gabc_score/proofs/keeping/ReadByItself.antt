@@ -153,14 +153,29 @@ module _ (steps : Steps) (lines macros : ℕ) where
 
   -- ---- all characters
 
-  -- the reading of these characters: what they emit, and the part that stands after them
-  pub record ReadsOn (at : Place) (b : BodyPart) (before : List BodyEvent) (done rest : List ℕ) : Type 0 where
+  -- what these characters emit, whatever follows, and the part that stands after them
+  pub record Emits (at : Place) (b : BodyPart) (rest : List ℕ) : Type 0 where
     pub lists : List (List BodyEvent)
     pub after : BodyPart
     pub each : length lists ≡ length rest
     pub emits : (ys : List Char) → (let xs = placed_characters_from at rest in events_from texts_by_stage lines macros (part_with b (xs ++ ys)) (xs ++ ys) ≡ lists ++ events_from texts_by_stage lines macros (part_with after ys) ys)
-    pub stands : StandsAfter lines macros (place_past at rest) after (events_onto (concat_of lists) before) (done ++ rest)
-    pub notes : option_or (openers_of b).notes (notes_at (placed_characters_from at rest) lists) ≡ (openers_of after).notes
+
+  pub emits_none : (at : Place) (b : BodyPart) → Emits at b []
+  emits_none at b = record { lists = []; after = b; each = refl; emits = λ ys. refl }
+
+  pub emits_one : (at : Place) (b : BodyPart) (c : ℕ) (rest : List ℕ) (t : TakesOne lines macros b (char_at at c)) → Emits (next_place at c) t.after rest → Emits at b (c ∷ rest)
+  emits_one at b c rest t r = record {
+    lists = t.now ∷ r.lists;
+    after = r.after;
+    each = ap (λ (n : ℕ). suc n) r.each;
+    emits = λ ys. t.emits (placed_characters_from (next_place at c) rest ++ ys) ∙ ap (λ (lists : List (List BodyEvent)). t.now ∷ lists) (r.emits ys);
+  }
+
+  -- the reading of the characters that are kept again
+  pub record ReadsOn (at : Place) (b : BodyPart) (before : List BodyEvent) (done rest : List ℕ) : Type 0 where
+    pub read : Emits at b rest
+    pub stands : StandsAfter lines macros (place_past at rest) read.after (events_onto (concat_of read.lists) before) (done ++ rest)
+    pub notes : option_or (openers_of b).notes (notes_at (placed_characters_from at rest) read.lists) ≡ (openers_of read.after).notes
 
   no_other_notes : (o : Option Place) → option_or o None ≡ o
   no_other_notes None = refl
@@ -189,11 +204,9 @@ module _ (steps : Steps) (lines macros : ℕ) where
         omega (arith, all, parts, both, fits)
 
     pub reads_on : (rest : List ℕ) (at : Place) (b : BodyPart) (before : List BodyEvent) (done : List ℕ) → StandsAfter lines macros at b before done → HasRoom at (length rest) → done ++ rest ≡ joined p → ReadsOn at b before done rest
+    unfolding emits_none emits_one
     reads_on [] at b before done h room is = record {
-      lists = [];
-      after = b;
-      each = refl;
-      emits = λ ys. refl;
+      read = emits_none at b;
       stands = subst (StandsAfter lines macros at b before) (sym (append-nil done)) h;
       notes = no_other_notes (openers_of b).notes;
     }
@@ -205,12 +218,9 @@ module _ (steps : Steps) (lines macros : ℕ) where
         let r = reads_on rest (next_place at c) t.after (events_onto t.now before) (done ++ c ∷ []) on (room_behind at c (length rest) room) (append_assoc done (c ∷ []) rest ∙ is) in
         let xs : List Char = placed_characters_from (next_place at c) rest in
         record {
-          lists = t.now ∷ r.lists;
-          after = r.after;
-          each = ap (λ (n : ℕ). suc n) r.each;
-          emits = λ ys. t.emits (xs ++ ys) ∙ ap (λ (lists : List (List BodyEvent)). t.now ∷ lists) (r.emits ys);
-          stands = subst (StandsAfter lines macros (place_past (next_place at c) rest) r.after (events_onto (t.now ++ concat_of r.lists) before)) (append_assoc done (c ∷ []) rest)
-              (subst (λ (es : List BodyEvent). StandsAfter lines macros (place_past (next_place at c) rest) r.after es ((done ++ c ∷ []) ++ rest)) (sym (onto_append t.now (concat_of r.lists) before)) r.stands);
-          notes = notes_on (openers_of b).notes (openers_of t.after).notes (list_any opens t.now) at (notes_at xs r.lists) (openers_of r.after).notes
+          read = emits_one at b c rest t r.read;
+          stands = subst (StandsAfter lines macros (place_past (next_place at c) rest) r.read.after (events_onto (t.now ++ concat_of r.read.lists) before)) (append_assoc done (c ∷ []) rest)
+              (subst (λ (es : List BodyEvent). StandsAfter lines macros (place_past (next_place at c) rest) r.read.after es ((done ++ c ∷ []) ++ rest)) (sym (onto_append t.now (concat_of r.read.lists) before)) r.stands);
+          notes = notes_on (openers_of b).notes (openers_of t.after).notes (list_any opens t.now) at (notes_at xs r.read.lists) (openers_of r.read.after).notes
               (t.notes_are (none_closed t.now before h.none on.none)) t.opens_once r.notes;
         }
