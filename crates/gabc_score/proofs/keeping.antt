@@ -1,5 +1,8 @@
+pub mod AnyTextIsRead
 pub mod EndsOfParts
+pub mod KeptAgainIsReported
 pub mod KeptIsKeptAgain
+pub mod OpenersStandAnywhere
 pub mod PartsKeepOne
 pub mod PartsTakeCharacters
 pub mod ReadByDefinition

@@ -160,10 +160,10 @@ module _ (steps : Steps) (lines macros : ℕ) where
     pub each : length lists ≡ length rest
     pub emits : (ys : List Char) → (let xs = placed_characters_from at rest in events_from texts_by_stage lines macros (part_with b (xs ++ ys)) (xs ++ ys) ≡ lists ++ events_from texts_by_stage lines macros (part_with after ys) ys)
 
-  pub emits_none : (at : Place) (b : BodyPart) → Emits at b []
+  unfoldable pub emits_none : (at : Place) (b : BodyPart) → Emits at b []
   emits_none at b = record { lists = []; after = b; each = refl; emits = λ ys. refl }
 
-  pub emits_one : (at : Place) (b : BodyPart) (c : ℕ) (rest : List ℕ) (t : TakesOne lines macros b (char_at at c)) → Emits (next_place at c) t.after rest → Emits at b (c ∷ rest)
+  unfoldable pub emits_one : (at : Place) (b : BodyPart) (c : ℕ) (rest : List ℕ) (t : TakesOne lines macros b (char_at at c)) → Emits (next_place at c) t.after rest → Emits at b (c ∷ rest)
   emits_one at b c rest t r = record {
     lists = t.now ∷ r.lists;
     after = r.after;

@@ -40,6 +40,11 @@ pub record Ends : Type 0 where
   pub gabc_opener : (split : Bool) (macros : ℕ) (s : NoteStage) (k : List ℕ) → notes.Keeps split macros s k → is_some (note_tells.opener_of s) ≡ in_raw k
   pub gabc_cut : (s : NoteStage) → s.ended ≡ false → notes.IsCutAtOpener s
 
+-- What is open may stand anywhere.
+pub record Moves : Type 0 where
+  pub text_there : (s : TextStage) (k : List ℕ) (at : Place) → text.Keeps s k → is_some (text_tells.opener_of s) ≡ true → text.OpensThere s k at
+  pub gabc_there : (split : Bool) (macros : ℕ) (s : NoteStage) (k : List ℕ) (at : Place) → notes.Keeps split macros s k → is_some (note_tells.opener_of s) ≡ true → notes.OpensThere split macros s k at
+
 pub record StageLaws : Type 0 where
   pub steps : Steps
   pub again : Again
