@@ -1,3 +1,4 @@
+mod KeptAgainExamples
 pub mod AnyTextIsRead
 pub mod EndsOfParts
 pub mod KeptAgainIsReported

@@ -1,4 +1,4 @@
-//! Laws of kept texts that are read by themselves. The functions call the laws that they stand on: each is there for its clauses.
+//! Laws of kept texts that are read by themselves. Each function is there for its clauses, and calls the laws that it stands on.
 
 ghost use Rattle.std.specs.Prelude.{◌≤◌, ℕ, List, Bool, length, encode_utf8_all};
 ghost use Rattle.gabc_places.specs.declared.limits.Limits.{Limits};
@@ -11,11 +11,14 @@ ghost use Rattle.gabc_score.specs.witness.ScoreStage.{ScoreStageState};
 use crate::stage_laws::a_text_is_read_from_its_beginning;
 
 /// Law: what a stage reports of the syllable that it reads is kept again where it is read by
-/// itself, and what is open after it is what the stage reports.
+/// itself, what is open after it is what the stage reports, and it is no longer than a syllable may be.
 pub fn what_is_told_is_kept_again()
-    ensures { (s : ScoreStageState) (t : List ℕ) (openers : Openers) (comment : Bool) →
+    ensures again { (s : ScoreStageState) (t : List ℕ) (openers : Openers) (comment : Bool) →
         CanBeReadAgain s → TellsOfReading s (encode_utf8_all t) openers comment →
         IsKeptAgain s.body.nabc_lines s.body.macros t openers comment }
+    ensures short { (s : ScoreStageState) (t : List ℕ) (openers : Openers) (comment : Bool) →
+        CanBeReadAgain s → TellsOfReading s (encode_utf8_all t) openers comment →
+        length (encode_utf8_all t) ≤ s.limits.syllable }
 {
     gabc_text::laws::a_stage_takes_each_character();
     gabc_text::laws::a_kept_character_is_kept_again();

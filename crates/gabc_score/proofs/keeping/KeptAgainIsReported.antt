@@ -1,10 +1,9 @@
 -- A text that is kept again, read by itself, is what some stage reports of the syllable that it reads.
-use Rattle.std.proofs.Common.{◌≡◌, ◌+◌, ◌<◌, ◌≤◌, ◌^◌, ℕ, Bool, true, false, List, [], ◌∷◌, ◌++◌, length, Some, None, is_some, encode_utf8_all, refl, sym, ap, ◌∙◌, subst, arith}
+use Rattle.std.proofs.Common.{◌≡◌, ◌<◌, ◌≤◌, ◌^◌, ℕ, Bool, true, false, List, [], length, encode_utf8_all, refl, sym, ap, ◌∙◌, arith}
 use Rattle.std.proofs.lemmas.Str.{encodes_same}
 use Rattle.gabc_places.specs.Place.{place_past}
 use Rattle.gabc_places.specs.StageLaw.{concat_of}
 use Rattle.gabc_places.specs.declared.limits.Limits.{Limits}
-use Rattle.gabc_places.specs.declared.place.Place.{Place}
 use Rattle.gabc_text.specs.BuiltText.{empty_view}
 use Rattle.gabc_score.specs.declared.body_stage.BodyPart.{BodyPart}
 use Rattle.gabc_score.specs.declared.body_tells.Openers.{Openers}
@@ -13,7 +12,7 @@ use Rattle.gabc_score.specs.declared.score_machine.ScorePart.TheVariants as scor
 use Rattle.gabc_score.specs.declared.syllable.Position.TheVariants as position
 use Rattle.gabc_score.specs.Before.{no_syllable}
 use Rattle.gabc_score.specs.Body.{events_onto}
-use Rattle.gabc_score.specs.KeptAgain.{IsKeptAgain, emitted}
+use Rattle.gabc_score.specs.KeptAgain.{IsKeptAgain}
 use Rattle.gabc_score.specs.ReadAgain.{IsReported}
 use Rattle.gabc_score.specs.ScoreEvents.{first_place}
 use Rattle.gabc_score.specs.ScoreTells.{is_in_comment, is_in_front, openers_of}

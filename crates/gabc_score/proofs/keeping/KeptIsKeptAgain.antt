@@ -1,45 +1,33 @@
 -- What a stage reports of a syllable that it reads is kept again, where it is read by itself.
-use Rattle.std.proofs.Common.{◌≡◌, ◌+◌, ◌<◌, ◌^◌, ℕ, suc, Bool, true, false, cond, if◌then◌else◌, List, [], ◌∷◌, ◌++◌, length, take, drop, Option, Some, None, is_some, encode_utf8_all, refl, sym, ap, ◌∙◌, subst, arith, append-nil, length-append}
-use lib.Utf8.{encode}
-use Rattle.std.proofs.lemmas.Str.{encodes-append, encodes_same, length-le-encodes}
-use Rattle.std.proofs.Math.Seq.{take-append_seam, take-append-add, drop-append_seam}
-use Rattle.std.specs.List.{list_any}
-use Rattle.gabc_places.specs.Place.{place_past, placed_characters_from}
+use Rattle.std.proofs.Common.{◌≡◌, ◌<◌, ◌≤◌, ◌^◌, ℕ, Bool, true, false, List, [], ◌∷◌, ◌++◌, length, drop, Option, is_some, encode_utf8_all, refl, sym, ap, ◌∙◌, subst, arith, append-nil}
+use Rattle.std.proofs.lemmas.Str.{encodes_same, length-le-encodes}
+use Rattle.gabc_places.specs.Place.{place_past}
 use Rattle.gabc_places.specs.StageLaw.{concat_of}
-use Rattle.gabc_places.specs.declared.place.Char.{Char}
 use Rattle.gabc_places.specs.declared.place.Place.{Place}
-use Rattle.gabc_places.proofs.PlacesOfAText.{length_placed}
-use Rattle.gabc_text.specs.Events.{CountsFit}
-use Rattle.gabc_text.specs.TextStage.{fresh_stage}
 use Rattle.gabc_text.specs.witness.Keeps as text
 use Rattle.gabc_score.specs.declared.body_stage.BodyPart.{BodyPart}
-use Rattle.gabc_score.specs.declared.body_stage.BodyPart.TheVariants as part
 use Rattle.gabc_score.specs.declared.body_tells.Openers.{Openers}
 use Rattle.gabc_score.specs.declared.events.BodyEvent.{BodyEvent}
 use Rattle.gabc_score.specs.Body.{cut_of, events_onto}
-use Rattle.gabc_score.specs.Events.{events_at_end, events_from, text_from, texts_by_definition}
-use Rattle.gabc_score.specs.KeptAgain.{IsKeptAgain, emitted, is_other, lists, notes_at, opens, placed}
+use Rattle.gabc_score.specs.Events.{events_at_end}
+use Rattle.gabc_score.specs.KeptAgain.{IsKeptAgain, emitted, is_other, lists, notes_at, placed}
 use Rattle.gabc_score.specs.ReadAgain.{TellsOfReading}
 use Rattle.gabc_score.specs.ScoreEvents.{first_place}
 use Rattle.gabc_score.specs.ScoreTells.{is_in_comment, is_in_front, openers_of}
-use Rattle.gabc_score.specs.Syllable.{UnplacedSyllable, all_syllables, closes, kept_of, since_close, syllable_by, is_eu, is_nlba}
-use Rattle.gabc_score.specs.machine.PartKeeps.{KeptParts, in_text, joined, IsReading, PartKeeps}
+use Rattle.gabc_score.specs.Syllable.{all_syllables, kept_of}
+use Rattle.gabc_score.specs.machine.PartKeeps.{KeptParts, in_text, joined, PartKeeps}
 use Rattle.gabc_score.specs.machine.ReadAgain.{BeginsComment, Reads}
-use Rattle.gabc_score.specs.witness.BodyStage.{BodyStageState, part_with, running_events_left, texts_by_stage}
+use Rattle.gabc_score.specs.witness.BodyStage.{part_with}
 use Rattle.gabc_score.specs.witness.ReadAgain.{CanBeReadAgain}
 use Rattle.gabc_score.specs.witness.ScoreStage.{ScoreStageState}
-use Rattle.gabc_score.proofs.building.EventsOfSyllableParts.{onto_append}
-use Rattle.gabc_score.proofs.keeping.EndsOfParts.{cut_is, inner_by, is_behind_text, is_open_in, notes_by}
+use Rattle.gabc_score.proofs.keeping.EndsOfParts.{cut_is, inner_by, notes_by}
 use Rattle.gabc_score.proofs.keeping.ReadByDefinition.{FromBeginning, begun_text, emitted_plain, emitted_with, end_is, notes_all, since_all}
 use Rattle.gabc_score.proofs.keeping.PartsTakeCharacters.{TakesOne, takes_one}
-use Rattle.gabc_score.proofs.keeping.ReadByItself.{AddsAfter, HasRoom, ReadsOn, StandsAfter, adds_after, gathered_of, no_spans, reads_on}
+use Rattle.gabc_score.proofs.keeping.ReadByItself.{AddsAfter, ReadsOn, StandsAfter, adds_after, gathered_of, reads_on}
 use Rattle.gabc_score.proofs.keeping.StageLaws.{StageLaws}
-use Rattle.gabc_score.proofs.order.FindingsOfParts.{joined_append}
 use Rattle.gabc_score.proofs.resuming.MachinesPassAgain.{begins}
 use Rattle.gabc_score.proofs.resuming.PartsAreOne.{parts_are_one}
 use Rattle.gabc_score.proofs.resuming.ScoresAgree.{reads_in_body}
-use Rattle.gabc_score.proofs.stopped_scores.ScoreOfThePrefix.{placed_apart}
-use Rattle.gabc_score.proofs.texts_of_body.StageAndDefinitionAgree.{bytes_encodes}
 
 module _ (laws : StageLaws) (reads : FromBeginning) (lines macros : ℕ) where
   -- where a text begins nothing is kept
@@ -112,16 +100,16 @@ module _ (laws : StageLaws) (reads : FromBeginning) (lines macros : ℕ) where
       inner = inner_by laws.ends lines macros told p keeps front ∙ sym (inner_by laws.ends lines macros r.read.after p keeps_same r.stands.front) ∙ sym inside_is;
     }
 
-pub told_is_kept_again : (laws : StageLaws) → FromBeginning → (s : ScoreStageState) (t : List ℕ) (openers : Openers) (comment : Bool) → CanBeReadAgain s → TellsOfReading s (encode_utf8_all t) openers comment
-    → IsKeptAgain s.body.nabc_lines s.body.macros t openers comment
-told_is_kept_again laws reads s t openers comment can tells =
-    subst (λ (o : Openers). IsKeptAgain s.body.nabc_lines s.body.macros t o comment) tells.openers_are
-    (subst (IsKeptAgain s.body.nabc_lines s.body.macros t (openers_of s.body.part)) tells.comment_is
-    (kept_again laws reads s.body.nabc_lines s.body.macros t s.body.part can.told.parts can.told.keeps tells.front
-    (encodes_same (joined can.told.parts) t (sym can.told.is ∙ kept)) few))
-  where
-    kept : s.held.gathered.builder.kept ≡ encode_utf8_all t
-    kept = sym (reads_in_body s.part s.held.gathered.builder.kept can.body) ∙ tells.reading
+module _ (s : ScoreStageState) (t : List ℕ) (openers : Openers) (comment : Bool) (can : CanBeReadAgain s) (tells : TellsOfReading s (encode_utf8_all t) openers comment) where
+  kept_text : s.held.gathered.builder.kept ≡ encode_utf8_all t
+  kept_text = sym (reads_in_body s.part s.held.gathered.builder.kept can.body) ∙ tells.reading
 
-    few : length (encode_utf8_all t) < 2 ^ 63
-    few = let same = ap length kept in let short = can.told.short in let most = s.limits.in_range.syllable_most in omega (arith, same, short, most)
+  pub told_is_short : length (encode_utf8_all t) ≤ s.limits.syllable
+  told_is_short = let same = ap length kept_text in let short = can.told.short in omega (arith, same, short)
+
+  pub told_is_kept_again : StageLaws → FromBeginning → IsKeptAgain s.body.nabc_lines s.body.macros t openers comment
+  told_is_kept_again laws reads =
+      subst (λ (o : Openers). IsKeptAgain s.body.nabc_lines s.body.macros t o comment) tells.openers_are
+      (subst (IsKeptAgain s.body.nabc_lines s.body.macros t (openers_of s.body.part)) tells.comment_is
+      (kept_again laws reads s.body.nabc_lines s.body.macros t s.body.part can.told.parts can.told.keeps tells.front
+      (encodes_same (joined can.told.parts) t (sym can.told.is ∙ kept_text)) (let short = told_is_short in let most = s.limits.in_range.syllable_most in omega (arith, short, most))))

@@ -1,5 +1,5 @@
 -- What is open in a part that keeps parts of a kept text may stand anywhere.
-use Rattle.std.proofs.Common.{◌≡◌, ℕ, nat_lt, Bool, true, false, List, Option, Some, None, is_some, refl, sym, ap, ◌∙◌}
+use Rattle.std.proofs.Common.{◌≡◌, ℕ, nat_lt, true, false, List, Option, Some, None, is_some, refl, sym, ap}
 use Rattle.std.proofs.lemmas.Bool.{false≢true, true≢false}
 use Rattle.gabc_places.specs.declared.place.Place.{Place}
 use Rattle.gabc_text.specs.StageTells as text_tells
@@ -7,7 +7,6 @@ use Rattle.gabc_text.specs.declared.stage.TextStage.{TextStage}
 use Rattle.gabc_text.specs.witness.Keeps as text
 use Rattle.gabc_notes.specs.StageTells as note_tells
 use Rattle.gabc_notes.specs.declared.stage.NoteStage.{NoteStage}
-use Rattle.gabc_notes.specs.witness.Keeps as notes
 use Rattle.gabc_score.specs.declared.body_stage.BodyPart.{BodyPart}
 use Rattle.gabc_score.specs.declared.body_stage.BodyPart.TheVariants as part
 use Rattle.gabc_score.specs.declared.body_tells.Openers.{Openers}

@@ -1,5 +1,5 @@
 -- A part of a body that keeps parts of a kept text takes a character.
-use Rattle.std.proofs.Common.{◌≡◌, ◌≢◌, ◌≤◌, ◌+◌, ◌==◌, ℕ, zero, suc, nat_lt, Bool, true, false, if◌then◌else◌, List, [], ◌∷◌, map, Option, Some, None, is_some, refl, sym, ap, ◌∙◌, subst, arith}
+use Rattle.std.proofs.Common.{◌≡◌, ◌≤◌, ◌==◌, ℕ, zero, suc, nat_lt, Bool, true, false, if◌then◌else◌, List, [], ◌∷◌, Option, Some, None, is_some, refl, sym, ap, ◌∙◌, arith}
 use Rattle.std.proofs.lemmas.Bool.{false≢true}
 use Rattle.std.specs.List.{list_any}
 use Rattle.gabc_places.specs.declared.place.Char.{Char}
@@ -31,7 +31,7 @@ use Rattle.gabc_score.specs.declared.events.BodyEvent.TheVariants as event
 use Rattle.gabc_score.specs.Events.{PartAhead, InText, InNotes, behind_mark, events_from, is_close, is_next, is_text_end, next_line, note_event, snippet_from}
 use Rattle.gabc_score.specs.KeptAgain.{opens}
 use Rattle.gabc_score.specs.ScoreTells.{is_in_comment, is_in_front, openers_of}
-use Rattle.gabc_score.specs.machine.PartKeeps.{KeptParts, in_text, in_notes, text_events, AreBehind, BeginsSnippet, PartKeeps, PartKeepsOn, PartStandsOn}
+use Rattle.gabc_score.specs.machine.PartKeeps.{KeptParts, in_text, in_notes, text_events, BeginsSnippet, PartKeeps, PartKeepsOn, PartStandsOn}
 use Rattle.gabc_score.specs.machine.PartOpens.{PartOpensOn}
 use Rattle.gabc_score.specs.machine.ReadAgain.{ReadsAgain}
 use Rattle.gabc_score.specs.witness.BodyStage.{part_with, texts_by_stage}

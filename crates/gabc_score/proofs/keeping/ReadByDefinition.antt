@@ -1,7 +1,7 @@
 -- A text that is read by itself, as the definition says and as its stages do.
-use Rattle.std.proofs.Common.{◌≡◌, ◌+◌, ◌<◌, ◌^◌, ℕ, suc, Bool, true, false, cond, if◌then◌else◌, List, [], ◌∷◌, ◌++◌, length, take, drop, Option, Some, None, is_some, encode_utf8_all, refl, sym, ap, ◌∙◌, subst, arith, append-nil, length-append}
+use Rattle.std.proofs.Common.{◌≡◌, ◌+◌, ◌<◌, ◌^◌, ℕ, suc, Bool, true, false, cond, if◌then◌else◌, List, [], ◌∷◌, ◌++◌, length, take, drop, Option, Some, encode_utf8_all, refl, sym, ap, ◌∙◌, arith, append-nil, length-append}
 use lib.Utf8.{encode}
-use Rattle.std.proofs.lemmas.Str.{encodes-append, encodes_same, length-le-encodes}
+use Rattle.std.proofs.lemmas.Str.{encodes-append, length-le-encodes}
 use Rattle.std.proofs.Math.Seq.{take-append_seam, take-append-add, drop-append_seam}
 use Rattle.std.specs.List.{list_any}
 use Rattle.gabc_places.specs.Place.{place_past, placed_characters_from}
@@ -11,32 +11,20 @@ use Rattle.gabc_places.specs.declared.place.Place.{Place}
 use Rattle.gabc_places.proofs.PlacesOfAText.{length_placed}
 use Rattle.gabc_text.specs.Events.{CountsFit}
 use Rattle.gabc_text.specs.TextStage.{fresh_stage}
-use Rattle.gabc_text.specs.witness.Keeps as text
 use Rattle.gabc_score.specs.declared.body_stage.BodyPart.{BodyPart}
 use Rattle.gabc_score.specs.declared.body_stage.BodyPart.TheVariants as part
-use Rattle.gabc_score.specs.declared.body_tells.Openers.{Openers}
 use Rattle.gabc_score.specs.declared.events.BodyEvent.{BodyEvent}
-use Rattle.gabc_score.specs.Body.{cut_of, events_onto}
+use Rattle.gabc_score.specs.Body.{events_onto}
 use Rattle.gabc_score.specs.Events.{events_at_end, events_from, text_from, texts_by_definition}
-use Rattle.gabc_score.specs.KeptAgain.{IsKeptAgain, emitted, is_other, lists, notes_at, opens, placed}
-use Rattle.gabc_score.specs.ReadAgain.{TellsOfReading}
+use Rattle.gabc_score.specs.KeptAgain.{emitted, lists, notes_at, opens, placed}
 use Rattle.gabc_score.specs.ScoreEvents.{first_place}
-use Rattle.gabc_score.specs.ScoreTells.{is_in_comment, is_in_front, openers_of}
-use Rattle.gabc_score.specs.Syllable.{UnplacedSyllable, all_syllables, closes, kept_of, since_close, syllable_by, is_eu, is_nlba}
-use Rattle.gabc_score.specs.machine.PartKeeps.{KeptParts, in_text, joined, IsReading, PartKeeps}
-use Rattle.gabc_score.specs.machine.ReadAgain.{BeginsComment, Reads}
+use Rattle.gabc_score.specs.Syllable.{UnplacedSyllable, all_syllables, closes, since_close, syllable_by, is_eu, is_nlba}
 use Rattle.gabc_score.specs.witness.BodyStage.{BodyStageState, part_with, running_events_left, texts_by_stage}
-use Rattle.gabc_score.specs.witness.ReadAgain.{CanBeReadAgain}
-use Rattle.gabc_score.specs.witness.ScoreStage.{ScoreStageState}
 use Rattle.gabc_score.proofs.building.EventsOfSyllableParts.{onto_append}
-use Rattle.gabc_score.proofs.keeping.EndsOfParts.{cut_is, inner_by, is_behind_text, is_open_in, notes_by}
-use Rattle.gabc_score.proofs.keeping.PartsTakeCharacters.{TakesOne, takes_one}
+use Rattle.gabc_score.proofs.keeping.PartsTakeCharacters.{TakesOne}
 use Rattle.gabc_score.proofs.keeping.ReadByItself.{Emits}
 use Rattle.gabc_score.proofs.keeping.StageLaws.{Steps}
 use Rattle.gabc_score.proofs.order.FindingsOfParts.{joined_append}
-use Rattle.gabc_score.proofs.resuming.MachinesPassAgain.{begins}
-use Rattle.gabc_score.proofs.resuming.PartsAreOne.{parts_are_one}
-use Rattle.gabc_score.proofs.resuming.ScoresAgree.{reads_in_body}
 use Rattle.gabc_score.proofs.stopped_scores.ScoreOfThePrefix.{placed_apart}
 use Rattle.gabc_score.proofs.texts_of_body.StageAndDefinitionAgree.{bytes_encodes}
 

@@ -1,8 +1,8 @@
 -- A kept text that is read by itself: each character is kept, and no syllable is whole.
-use Rattle.std.proofs.Common.{◌≡◌, ◌+◌, ◌-◌, ◌<◌, ◌≤◌, ◌^◌, ◌==◌, min, ℕ, suc, Bool, true, false, if◌then◌else◌, List, [], ◌∷◌, ◌++◌, length, Option, Some, None, is_some, encode_utf8, encode_utf8_all, refl, sym, ap, ◌∙◌, subst, arith, append-nil, append_assoc, length-append}
+use Rattle.std.proofs.Common.{◌≡◌, ◌+◌, ◌-◌, ◌<◌, ◌^◌, min, ℕ, suc, Bool, true, false, if◌then◌else◌, List, [], ◌∷◌, ◌++◌, length, Option, Some, None, is_some, encode_utf8_all, refl, sym, ap, ◌∙◌, subst, arith, append-nil, append_assoc, length-append}
 use Rattle.std.specs.Option.{option_or}
 use Rattle.std.specs.List.{list_any}
-use Rattle.std.proofs.lemmas.Str.{encodes-append, encodes_same, length-encode}
+use Rattle.std.proofs.lemmas.Str.{encodes-append, encodes_same}
 use Rattle.std.proofs.lemmas.Bool.{true≢false}
 use Rattle.gabc_places.specs.Place.{is_line_feed, next_place, place_past, placed_characters_from, saturating_next_place}
 use Rattle.gabc_places.specs.PlacesInOrder.{IsEarlier}
@@ -29,7 +29,6 @@ use Rattle.gabc_score.proofs.building.EventsOfSyllableParts.{onto_append}
 use Rattle.gabc_score.proofs.building.PartsOfKeptText.{stays}
 use Rattle.gabc_score.proofs.keeping.PartsTakeCharacters.{TakesOne, takes_one}
 use Rattle.gabc_score.proofs.keeping.StageLaws.{Again, Steps}
-use Rattle.gabc_score.proofs.order.FindingsOfParts.{joined_append}
 use Rattle.gabc_score.proofs.resuming.NextIsKept.{next_is}
 use Rattle.gabc_score.proofs.score_events.OpenersInOrder.{opens_in_order, place_behind}
 use Rattle.gabc_score.proofs.stopped_scores.ClosedWithin.{close_count, made_count}

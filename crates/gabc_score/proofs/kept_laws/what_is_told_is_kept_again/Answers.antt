@@ -1,8 +1,11 @@
-use Rattle.gabc_score.proofs.keeping.KeptIsKeptAgain.{told_is_kept_again}
+use Rattle.gabc_score.proofs.keeping.KeptIsKeptAgain.{told_is_kept_again, told_is_short}
 use Rattle.gabc_score.proofs.kept_laws.what_is_told_is_kept_again.Goals as goal
 
-pub returns : goal.returns
-returns c = told_is_kept_again
+pub returns-clause-short : goal.returns-clause-short
+returns-clause-short c = told_is_short
+
+pub returns-clause-again : goal.returns-clause-again
+returns-clause-again c = λ s t openers comment can tells. told_is_kept_again s t openers comment can tells
     (record {
       steps = record {
         text_fresh = c.a_stage_takes_each_character.ensures.fresh;
