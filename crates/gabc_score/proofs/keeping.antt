@@ -8,4 +8,3 @@ pub mod PartsKeepOne
 pub mod PartsTakeCharacters
 pub mod ReadByDefinition
 pub mod ReadByItself
-pub mod StageLaws

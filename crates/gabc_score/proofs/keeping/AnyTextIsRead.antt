@@ -17,7 +17,7 @@ use Rattle.gabc_score.proofs.building.EventsOfOnePoint.{gathered_all}
 use Rattle.gabc_score.proofs.building.EventsOfSyllableParts.{onto_append}
 use Rattle.gabc_score.proofs.keeping.PartsTakeCharacters.{TakesOne, takes_one}
 use Rattle.gabc_score.proofs.keeping.ReadByItself.{Emits, emits_none, emits_one, gathered_of}
-use Rattle.gabc_score.proofs.keeping.StageLaws.{Steps}
+use Rattle.gabc_score.specs.machine.StageLaws.{Steps}
 
 -- how many bytes were kept of these events, the nearest first
 abbrev pub kept_bytes : List BodyEvent → ℕ

@@ -27,7 +27,7 @@ use Rattle.gabc_score.specs.ScoreTells.{is_in_front, openers_of}
 use Rattle.gabc_score.specs.ToldWithin.{AreOpenersBefore}
 use Rattle.gabc_score.specs.machine.PartKeeps.{KeptParts, in_text, in_notes, line_behind, text_events, PartKeeps}
 use Rattle.gabc_score.specs.witness.BodyStage.{part_with}
-use Rattle.gabc_score.proofs.keeping.StageLaws.{Ends}
+use Rattle.gabc_score.specs.machine.StageLaws.{Ends}
 
 -- ---- what is open, by the parts of the kept text
 

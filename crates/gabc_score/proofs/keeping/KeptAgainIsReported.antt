@@ -27,7 +27,7 @@ use Rattle.gabc_score.proofs.keeping.OpenersStandAnywhere.{OpensSo, opens_so}
 use Rattle.gabc_score.proofs.keeping.PartsTakeCharacters.{TakesOne}
 use Rattle.gabc_score.proofs.keeping.ReadByDefinition.{FromBeginning, begun_text, emitted_plain, emitted_with, since_all}
 use Rattle.gabc_score.proofs.keeping.ReadByItself.{gathered_of, no_spans}
-use Rattle.gabc_score.proofs.keeping.StageLaws.{Moves, StageLaws}
+use Rattle.gabc_score.specs.machine.StageLaws.{StageLaws}
 
 -- ---- a part that keeps the text
 
@@ -125,9 +125,9 @@ stage_of limits lines macros part kept = record {
   second = no_syllable_lent;
 }
 
-pub is_reported : StageLaws → Moves → FromBeginning → (limits : Limits) (lines macros : ℕ) (t : List ℕ) (openers : Openers) (comment : Bool) → IsKeptAgain lines macros t openers comment
+pub is_reported : StageLaws → FromBeginning → (limits : Limits) (lines macros : ℕ) (t : List ℕ) (openers : Openers) (comment : Bool) → IsKeptAgain lines macros t openers comment
     → length (encode_utf8_all t) ≤ limits.syllable → IsReported limits lines macros t openers comment
-is_reported laws moves reads limits lines macros t openers comment h short = record {
+is_reported laws reads limits lines macros t openers comment h short = record {
   stage = stage_of limits lines macros there.there (encode_utf8_all t);
   again = record { body = refl; told = record { parts = b.parts; keeps = there.keeps; is = ap encode_utf8_all (sym b.is); short = short } };
   limits_are = refl;
@@ -146,4 +146,4 @@ is_reported laws moves reads limits lines macros t openers comment h short = rec
     again = kept_again laws reads lines macros t b.part b.parts b.keeps b.front b.is few
 
     there : OpensSo lines macros b.part b.parts openers
-    there = opens_so moves lines macros b.part b.parts openers b.keeps b.front (h.notes ∙ sym again.notes) (h.inner ∙ sym again.inner)
+    there = opens_so laws.moves lines macros b.part b.parts openers b.keeps b.front (h.notes ∙ sym again.notes) (h.inner ∙ sym again.inner)

@@ -24,7 +24,7 @@ use Rattle.gabc_score.proofs.keeping.EndsOfParts.{cut_is, inner_by, notes_by}
 use Rattle.gabc_score.proofs.keeping.ReadByDefinition.{FromBeginning, begun_text, emitted_plain, emitted_with, end_is, notes_all, since_all}
 use Rattle.gabc_score.proofs.keeping.PartsTakeCharacters.{TakesOne, takes_one}
 use Rattle.gabc_score.proofs.keeping.ReadByItself.{AddsAfter, ReadsOn, StandsAfter, adds_after, gathered_of, reads_on}
-use Rattle.gabc_score.proofs.keeping.StageLaws.{StageLaws}
+use Rattle.gabc_score.specs.machine.StageLaws.{StageLaws}
 use Rattle.gabc_score.proofs.resuming.MachinesPassAgain.{begins}
 use Rattle.gabc_score.proofs.resuming.PartsAreOne.{parts_are_one}
 use Rattle.gabc_score.proofs.resuming.ScoresAgree.{reads_in_body}

@@ -12,7 +12,7 @@ use Rattle.gabc_score.specs.declared.body_stage.BodyPart.TheVariants as part
 use Rattle.gabc_score.specs.declared.body_tells.Openers.{Openers}
 use Rattle.gabc_score.specs.ScoreTells.{is_in_comment, is_in_front, openers_of}
 use Rattle.gabc_score.specs.machine.PartKeeps.{KeptParts, in_text, in_notes, PartKeeps}
-use Rattle.gabc_score.proofs.keeping.StageLaws.{Moves}
+use Rattle.gabc_score.specs.machine.StageLaws.{Moves}
 
 -- The part keeps the same, and these are its openers.
 pub record OpensSo (lines macros : ℕ) (b : BodyPart) (p : KeptParts) (o : Openers) : Type 0 where

@@ -41,7 +41,7 @@ use Rattle.gabc_score.proofs.building.PartsOfKeptText.{of_notes, text_keeps_on, 
 use Rattle.gabc_score.proofs.building.PartsOpenOn.{same_open, notes_open, next_opens, none_open, text_opens_on, gabc_opens_on}
 use Rattle.gabc_score.proofs.building.PartsStandOn.{text_stands_on, gabc_closes_at, nabc_closes_at}
 use Rattle.gabc_score.proofs.keeping.PartsKeepOne.{KeepsOne, text_one, text_end_one, gabc_one, gabc_next_one, gabc_close_one, nabc_one, nabc_next_one, nabc_close_one}
-use Rattle.gabc_score.proofs.keeping.StageLaws.{Steps}
+use Rattle.gabc_score.specs.machine.StageLaws.{Steps}
 use Rattle.gabc_score.proofs.resuming.PartsReadAgain.{text_reads, text_end_reads, gabc_reads, gabc_end_reads, gabc_close_reads, nabc_reads, nabc_end_reads, nabc_close_reads}
 use Rattle.gabc_score.proofs.stopped_scores.ClosedWithin.{close_count, count_one}
 

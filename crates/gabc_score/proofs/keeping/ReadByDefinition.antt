@@ -23,7 +23,7 @@ use Rattle.gabc_score.specs.witness.BodyStage.{BodyStageState, part_with, runnin
 use Rattle.gabc_score.proofs.building.EventsOfSyllableParts.{onto_append}
 use Rattle.gabc_score.proofs.keeping.PartsTakeCharacters.{TakesOne}
 use Rattle.gabc_score.proofs.keeping.ReadByItself.{Emits}
-use Rattle.gabc_score.proofs.keeping.StageLaws.{Steps}
+use Rattle.gabc_score.specs.machine.StageLaws.{Steps}
 use Rattle.gabc_score.proofs.order.FindingsOfParts.{joined_append}
 use Rattle.gabc_score.proofs.stopped_scores.ScoreOfThePrefix.{placed_apart}
 use Rattle.gabc_score.proofs.texts_of_body.StageAndDefinitionAgree.{bytes_encodes}

@@ -28,7 +28,7 @@ use Rattle.gabc_score.proofs.building.EventsOfOnePoint.{gathered_all}
 use Rattle.gabc_score.proofs.building.EventsOfSyllableParts.{onto_append}
 use Rattle.gabc_score.proofs.building.PartsOfKeptText.{stays}
 use Rattle.gabc_score.proofs.keeping.PartsTakeCharacters.{TakesOne, takes_one}
-use Rattle.gabc_score.proofs.keeping.StageLaws.{Again, Steps}
+use Rattle.gabc_score.specs.machine.StageLaws.{Again, Steps}
 use Rattle.gabc_score.proofs.resuming.NextIsKept.{next_is}
 use Rattle.gabc_score.proofs.score_events.OpenersInOrder.{opens_in_order, place_behind}
 use Rattle.gabc_score.proofs.stopped_scores.ClosedWithin.{close_count, made_count}

@@ -17,7 +17,7 @@ use Rattle.gabc_text.specs.machine.TextStage.{push_stage, events_of_push}
 use Rattle.gabc_text.proofs.machine.EventsLeftAreThoseAhead.{rest_is}
 use Rattle.gabc_text.proofs.resuming.EndsAndKept.{done_is, ended_at, kept_is, none_kept_at_end}
 use Rattle.gabc_text.proofs.resuming.KeptCharactersSuffice.{comment_kept}
-use Rattle.gabc_text.proofs.resuming.StagesKeep.{comment_not_kept, push_keeps}
+use Rattle.gabc_text.proofs.resuming.StagesKeep.{begins_is, comment_is, comment_not_kept, kept_with_is, push_keeps}
 
 -- ---- what is kept of a character
 
@@ -31,22 +31,6 @@ one_kept s c on = by (push_stage s c).done refl
     by : (d : Bool) → (push_stage s c).done ≡ d → length (kept_in (events_of_push s c)) ≤ 1
     by true e = subst (λ (k : List ℕ). length k ≤ 1) (sym (none_kept_at_end s c on e)) (omega arith)
     by false e = subst (λ (k : List ℕ). length k ≤ 1) (sym (kept_is s c on e)) (few (kept_at s c))
-
-comment_state : (m : TokenState) → is_comment m ≡ true → m ≡ Comment
-comment_state Plain e = absurd (false≢true e)
-comment_state Dollar e = absurd (false≢true e)
-comment_state Comment e = refl
-comment_state (Tag name) e = absurd (false≢true e)
-comment_state (Raw part m) e = absurd (false≢true e)
-comment_state Translation e = absurd (false≢true e)
-
-begins_is : (k : List ℕ) → begins_comment k ≡ is_plain (stage_behind k).state
-unfolding begins_comment
-begins_is k = refl
-
-kept_with_is : (k : List ℕ) (c : ℕ) → kept_with k c ≡ kept_in (events_of_push (stage_behind k) c)
-unfolding kept_with
-kept_with_is k c = refl
 
 never_comment : (m : TokenState) → outside m ≡ Comment → ⊥
 never_comment Plain e = cc
@@ -107,7 +91,7 @@ module _ (s : TextStage) (k : List ℕ) (keeps : Keeps s k) where
     none_kept opened = by (push_stage s c).done refl
       where
         inside : (b : Bool) → is_in_comment s ≡ b → comment_with k b c ≡ true → (push_stage s c).done ≡ false → kept_in (events_of_push s c) ≡ []
-        inside true e f g = kept_is s c keeps.goes_on g ∙ ap option_to_list (comment_kept s c (comment_state s.state e) (no_feed (c == 10) f))
+        inside true e f g = kept_is s c keeps.goes_on g ∙ ap option_to_list (comment_kept s c (comment_is s.state e) (no_feed (c == 10) f))
           where
             no_feed : (b : Bool) → not b ≡ true → b ≡ false
             no_feed true h = absurd (false≢true h)

@@ -1,5 +1,5 @@
--- The laws of the stages of texts and snippets that the reading of a kept text stands on.
-use Rattle.std.proofs.Common.{◌≡◌, ℕ, ◌+◌, List, [], ◌∷◌, ◌++◌, length, Bool, true, false, is_some}
+-- The laws of the stages of texts and snippets on which the reading of a kept text by itself stands.
+use Rattle.std.specs.Prelude.{◌≡◌, ℕ, ◌+◌, List, [], ◌∷◌, ◌++◌, length, Bool, true, false, is_some}
 use Rattle.gabc_places.specs.declared.place.Char.{Char}
 use Rattle.gabc_places.specs.declared.place.Place.{Place}
 use Rattle.gabc_places.specs.StageLaw.{concat_of}
@@ -49,3 +49,4 @@ pub record StageLaws : Type 0 where
   pub steps : Steps
   pub again : Again
   pub ends : Ends
+  pub moves : Moves
