@@ -1,7 +1,6 @@
 -- A stage takes each character, is cut at its opener, and that may stand anywhere.
 use Rattle.std.proofs.Common.{◌≡◌, ◌==◌, ◌&&◌, ◌||◌, not, ℕ, List, [], ◌∷◌, ◌++◌, length, length-append, Bool, true, false, Option, Some, None, is_some, unwrap_or, refl, sym, ap, ◌∙◌, arith, append-nil, if◌then◌else◌}
 use Rattle.std.proofs.lemmas.Bool.{false≢true}
-use Rattle.std.proofs.lemmas.List.{append_cancel_left}
 use Rattle.gabc_places.specs.declared.place.Char.{Char}
 use Rattle.gabc_places.specs.declared.place.Place.{Place}
 use Rattle.gabc_places.specs.StageLaw.{silence}
@@ -9,13 +8,12 @@ use Rattle.gabc_patterns.specs.Derivative.{is_viable}
 use Rattle.gabc_notes.specs.Table.{gabc}
 use Rattle.gabc_notes.specs.Events.{in_raw}
 use Rattle.gabc_notes.specs.SnippetRead.{kept_of}
-use Rattle.gabc_notes.specs.witness.ItemMachine.{example, example_prefix, events_left}
+use Rattle.gabc_notes.specs.witness.ItemMachine.{example, example_prefix}
 use Rattle.gabc_notes.specs.witness.Keeps.{GoesOn, IsCutAtOpener, Keeps, OpensThere, Takes, is_comment_behind, is_end_behind, kept_behind}
 use Rattle.gabc_notes.specs.witness.StageEvents.{events_behind}
 use Rattle.gabc_notes.specs.StageTells.{comment_of, opener_of}
 use Rattle.gabc_notes.specs.machine.StageBehind.{events_of_push, next_of, stage_behind}
 use Rattle.gabc_notes.specs.declared.stage.NoteEnd.TheVariants.{Cut}
-use Rattle.gabc_notes.specs.declared.stage.NoteEvent.{NoteEvent}
 use Rattle.gabc_notes.specs.declared.stage.NoteEvent.TheVariants.{Ended}
 use Rattle.gabc_notes.specs.declared.stage.NoteStage.{NoteStage}
 use Rattle.gabc_notes.specs.declared.state.ItemState.{ItemState}

@@ -1,6 +1,6 @@
 -- A stage takes each character, and its opener may stand anywhere.
 use Rattle.std.proofs.Common.{◌≡◌, ◌==◌, ◌&&◌, ◌≤◌, not, ℕ, List, [], ◌∷◌, length, Bool, true, false, Option, Some, None, is_some, option_to_list, refl, sym, ap, ◌∙◌, subst, arith, if◌then◌else◌}
-use Rattle.std.proofs.lemmas.Bool.{eqb-true, false≢true, true≢false}
+use Rattle.std.proofs.lemmas.Bool.{eqb-true, false≢true}
 use Rattle.gabc_places.specs.declared.place.Place.{Place}
 use Rattle.gabc_text.specs.declared.progress.Progress.{Progress}
 use Rattle.gabc_text.specs.declared.text_facts.TextFacts.{TextFacts}
@@ -9,8 +9,8 @@ use Rattle.gabc_text.specs.declared.token_state.TokenState.TheVariants.{Plain, D
 use Rattle.gabc_text.specs.declared.text_event.TextEvent.{TextEvent}
 use Rattle.gabc_text.specs.declared.stage.TextStage.{TextStage}
 use Rattle.gabc_text.specs.BuiltText.{kept_in}
-use Rattle.gabc_text.specs.StageTells.{is_open, is_comment, opener_of, is_in_comment}
-use Rattle.gabc_text.specs.witness.Keeps.{Keeps, OpensThere, Takes, begins_comment, comment_with, end_text, kept_with, stage_behind, GoesOn}
+use Rattle.gabc_text.specs.StageTells.{is_open, opener_of, is_in_comment}
+use Rattle.gabc_text.specs.witness.Keeps.{Keeps, OpensThere, Takes, begins_comment, comment_with, kept_with, stage_behind, GoesOn}
 use Rattle.gabc_text.specs.machine.Resuming.{kept_at, outside}
 use Rattle.gabc_text.specs.machine.TokenState.{is_plain}
 use Rattle.gabc_text.specs.machine.TextStage.{push_stage, events_of_push}
