@@ -22,7 +22,8 @@ ghost use Rattle.gabc_notes.specs.declared.stage.NoteEnd.{NoteEnd};
 ghost use Rattle.gabc_places.specs.Place.{place_past, placed_characters_from};
 ghost use Rattle.gabc_notes.specs.witness.Keeps.{set_down};
 ghost use Rattle.gabc_nabc.specs.witness.DescriptorMachine.{events_left};
-ghost use Rattle.gabc_nabc.specs.witness.Keeps.{comment_of, IsKeptAgain, Keeps};
+ghost use Rattle.gabc_nabc.specs.declared.stage.NabcStage.{NabcStage};
+ghost use Rattle.gabc_nabc.specs.witness.Keeps.{comment_of, Begins, IsKeptAgain, Keeps, Takes};
 ghost use Rattle.gabc_nabc.specs.ReadAgain.{IsNabcReadAgain};
 ghost use Rattle.gabc_nabc.specs.SnippetRead.{before_end, from_end, kept_before, end_before, AreAtMostOne, IsComputed};
 ghost use Rattle.gabc_nabc.specs.NabcRead.{IsNabcRead};
@@ -160,6 +161,12 @@ pub fn stages_behind_one_text_agree()
     ensures { (one other : NabcStage) (k : List ℕ) → Keeps one k → Keeps other k →
         comment_of one ≡ comment_of other →
         (xs : List Char) → events_left one xs ≡ events_left other xs }
+{}
+
+/// Law: a stage takes each character, and a fresh one keeps nothing yet.
+pub fn a_stage_takes_each_character()
+    ensures fresh { Begins }
+    ensures takes { (s : NabcStage) (x : Char) → Takes s x }
 {}
 
 /// A kept text gives the stage back. A fresh stage keeps it again whole, and behind it, and a `%` where a comment is open, placed anywhere,

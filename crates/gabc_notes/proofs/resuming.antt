@@ -2,3 +2,4 @@ pub mod CallsKeep
 pub mod KeptTextGivesStage
 pub mod StagesAgree
 pub mod StagesKeep
+pub mod StagesTake

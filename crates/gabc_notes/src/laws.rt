@@ -26,7 +26,7 @@ ghost use Rattle.gabc_notes.specs.declared.item.ItemKind.{ItemKind};
 ghost use Rattle.gabc_notes.specs.declared.stage.NoteEnd.{NoteEnd};
 ghost use Rattle.gabc_notes.specs.declared.stage.NoteEvent.{NoteEvent};
 ghost use Rattle.gabc_notes.specs.witness.ItemMachine.{events_left};
-ghost use Rattle.gabc_notes.specs.witness.Keeps.{Keeps, set_down, OpensAt, IsKeptAgain};
+ghost use Rattle.gabc_notes.specs.witness.Keeps.{Begins, IsCutAtOpener, Keeps, OpensThere, Takes, set_down, OpensAt, IsKeptAgain};
 ghost use Rattle.gabc_notes.specs.StageTells.{opener_of, comment_of, told};
 
 use crate::stage::{NoteEvent, NoteStage};
@@ -200,6 +200,21 @@ pub fn an_opener_is_told_inside_raw()
 pub fn a_kept_character_is_kept_again()
     ensures { (split : Bool) (macros : ℕ) (s : NoteStage) (k more : List ℕ) (c : ℕ) →
         Keeps split macros s (k ++ c ∷ more) → IsKeptAgain split k c }
+{}
+
+/// Law: a stage that has not ended takes each character, and is cut at its opener. A fresh one
+/// keeps nothing yet.
+pub fn a_stage_takes_each_character()
+    ensures fresh { (split : Bool) (macros : ℕ) → Begins split macros }
+    ensures takes { (s : NoteStage) (x : Char) → s.ended ≡ false → Takes s x }
+    ensures cut { (s : NoteStage) → s.ended ≡ false → IsCutAtOpener s }
+{}
+
+/// Law: the bracket that is open in a stage may stand at any place, and the stage keeps the same text.
+pub fn an_opener_may_stand_anywhere()
+    ensures { (split : Bool) (macros : ℕ) (s : NoteStage) (k : List ℕ) (at : Place) →
+        Keeps split macros s k → is_some (opener_of s) ≡ true →
+        OpensThere split macros s k at }
 {}
 
 /// A kept text gives the stage back. Behind it, each character placed at the bracket that is open, and a `%` where a comment is open, a fresh

@@ -1,5 +1,6 @@
 pub mod building
 pub mod holding
+pub mod keeping
 pub mod order
 pub mod resuming
 pub mod score_events

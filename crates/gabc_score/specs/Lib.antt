@@ -7,6 +7,7 @@ pub mod Events
 pub mod FoundInParts
 pub mod HeldAside
 pub mod HeldAgain
+pub mod KeptAgain
 pub mod Holding
 pub mod Marks
 pub mod NoNotes

@@ -1,6 +1,7 @@
 -- A kept text that is read again: what a stage tells before it, and behind it.
-use Rattle.std.specs.Prelude.{◌≡◌, ℕ, List, [], Bool, true, false, Some, None, is_some}
+use Rattle.std.specs.Prelude.{◌≡◌, ℕ, List, [], Bool, true, false, Some, None, is_some, encode_utf8_all}
 use Rattle.gabc_places.specs.declared.place.Place.{Place}
+use Rattle.gabc_places.specs.declared.limits.Limits.{Limits}
 use Rattle.gabc_score.specs.declared.body_tells.Openers.{Openers}
 use Rattle.gabc_score.specs.ScoreTells.{StandsAt, before_of, held_of, is_in_comment, is_in_front, next_of, openers_of, reading_of}
 use Rattle.gabc_score.specs.witness.ReadAgain.{CanBeReadAgain}
@@ -39,3 +40,12 @@ pub record CanBeReadInText (s : ScoreStageState) : Type 0 where
   pub macros : told.body.macros ≡ s.body.macros
   pub before : before_of told ≡ before_of s
   pub tells : TellsOfReading told [] no_openers true
+
+-- Some stage reports this of the syllable that it reads, under these limits, with these lines and macros.
+pub record IsReported (limits : Limits) (lines macros : ℕ) (t : List ℕ) (openers : Openers) (comment : Bool) : Type 0 where
+  pub stage : ScoreStageState
+  pub again : CanBeReadAgain stage
+  pub limits_are : stage.limits ≡ limits
+  pub lines_are : stage.body.nabc_lines ≡ lines
+  pub macros_are : stage.body.macros ≡ macros
+  pub tells : TellsOfReading stage (encode_utf8_all t) openers comment

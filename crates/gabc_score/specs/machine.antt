@@ -20,5 +20,6 @@ pub mod ScoreMachine
 pub mod ScoreStage
 pub mod Slot
 pub mod SlotPair
+pub mod StageLaws
 pub mod SyllableBuilder
 pub mod SyllableText

@@ -26,6 +26,7 @@ mod ending;
 mod events;
 mod giving;
 mod in_front;
+pub mod kept_laws;
 mod kept_text;
 pub mod laws;
 mod moving;

@@ -5,5 +5,6 @@ pub mod KeptTextIsSaidInFull
 pub mod PlacesAside
 pub mod ReachedStages
 pub mod StagesKeep
+pub mod StagesTake
 pub mod ToldSuffices
 pub mod WhatStagesTell

@@ -23,7 +23,7 @@ ghost use Rattle.gabc_text.specs.BuiltText.{with_events, empty_text, text_built_
 ghost use Rattle.gabc_text.specs.Ends.{EndsOnce};
 ghost use Rattle.std.specs.Prelude.{◌*◌, ◌≤◌, ◌==◌, is_some};
 ghost use Rattle.gabc_places.specs.BoundedList.{Fits, extended_by};
-ghost use Rattle.gabc_text.specs.witness.Keeps.{Keeps, is_open_behind, begins_comment, ends_behind, kept_with};
+ghost use Rattle.gabc_text.specs.witness.Keeps.{Keeps, OpensThere, Takes, is_open_behind, begins_comment, ends_behind, kept_with};
 ghost use Rattle.gabc_text.specs.StageTells.{opener_of, is_in_comment, next_of, moved_to, told, cut_place};
 ghost use Rattle.gabc_text.specs.witness.SaidInFull.{IsSaidInFull};
 
@@ -211,6 +211,18 @@ pub fn a_kept_character_is_kept_again()
         kept_with a c ≡ c ∷ [] }
     ensures comments { (k : List ℕ) → begins_comment k ≡ true → kept_with k 37 ≡ [] }
     ensures ends { (k : List ℕ) → ends_behind k ≡ true → kept_with k 40 ≡ [] }
+{}
+
+/// Law: a stage that has not ended takes each character, and a fresh one keeps nothing yet.
+pub fn a_stage_takes_each_character()
+    ensures fresh { (at : Place) → Keeps (fresh_stage at) [] }
+    ensures takes { (s : TextStage) (c : ℕ) → s.done ≡ false → Takes s c }
+{}
+
+/// Law: the opener of a stage may stand at any place, and the stage keeps the same text.
+pub fn an_opener_may_stand_anywhere()
+    ensures { (s : TextStage) (k : List ℕ) (at : Place) → Keeps s k →
+        is_some (opener_of s) ≡ true → OpensThere s k at }
 {}
 
 /// What was said of a text that a stage keeps, and that a `(` behind it ends, is all that is said of it in front of this `(`, whatever

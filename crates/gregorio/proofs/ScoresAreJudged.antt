@@ -1,5 +1,5 @@
 -- The texts of a score are read under limits that are enough for them as under those of their state.
-use Rattle.std.proofs.Common.{◌≡◌, ◌↔◌, ◌*◌, ◌≤◌, inl, inr, ℕ, List, [], ◌∷◌, length, refl, sym, ap, subst, ◌∙◌, arith}
+use Rattle.std.proofs.Common.{◌≡◌, ◌↔◌, ◌*◌, ◌≤◌, inl, inr, ℕ, List, [], ◌∷◌, length, sym, ap, subst, ◌∙◌, arith}
 use Rattle.std.specs.Str.{chars}
 use Rattle.std.specs.Char.{len_utf8}
 use Rattle.std.proofs.lemmas.List.Sums.{sum_by-cons}
@@ -10,11 +10,8 @@ use Rattle.gabc_places.specs.declared.limits.Limits.{Limits}
 use Rattle.gabc_places.specs.declared.place.Place.{Place}
 use Rattle.gabc_places.specs.TextOfAnInput.{IsText}
 use Rattle.gabc_score.specs.HeldAgain.{IsOneSyllable}
-use Rattle.gabc_score.specs.ScoreTells.{reading_in_body}
 use Rattle.gabc_score.specs.Syllable.{UnplacedSyllable}
 use Rattle.gabc_score.specs.declared.before.Spans.{Spans}
-use Rattle.gabc_score.specs.declared.score_machine.ScorePart.{ScorePart}
-use Rattle.gabc_score.specs.declared.score_machine.ScorePart.TheVariants as score_part
 use Rattle.gabc_places.specs.DecoderTells.{MayBeTold}
 use Rattle.gregorio_state.specs.Conditions.{ArePhaseFields, AreScoreFields, AreStateFields}
 use Rattle.gregorio_state.specs.Fields.{InScore, ScoreFields, StateFields}
@@ -50,24 +47,8 @@ module _ (law : (lines macros : ℕ) (at : Place) (text : List ℕ) (spans : Spa
         is = h.is;
       }
 
-  -- in the body what is read is what is kept
-  kept_is : (part : ScorePart) (kept text : List ℕ) → part ≡ score_part.Body → reading_in_body part kept ≡ text → kept ≡ text
-  kept_is part kept text body is = subst (λ (p : ScorePart). reading_in_body p kept ≡ text) body is
-
   kept_alike : (limits other : Limits) (f : ScoreFields) → LetsTexts f other → IsKeptRead limits f → IsKeptRead other f
-  kept_alike limits other f lets k =
-      let s = k.stage in
-      let told = k.keeps.told in
-      let size = ap length (kept_is s.part s.held.gathered.builder.kept f.kept k.keeps.body k.tells.reading) in
-      let short : length s.held.gathered.builder.kept ≤ other.syllable = omega (arith, size, lets.kept) in
-      record {
-        stage = record s { limits = other };
-        keeps = record { body = k.keeps.body; told = record { parts = told.parts; keeps = told.keeps; is = told.is; short = short } };
-        limits_are = refl;
-        lines = k.lines;
-        macros = k.macros;
-        tells = record { front = k.tells.front; reading = k.tells.reading; openers_are = k.tells.openers_are; comment_is = k.tells.comment_is };
-      }
+  kept_alike limits other f lets k = record { again = k.again; short = lets.kept }
 
   read_alike : (limits other : Limits) (f : ScoreFields) → length (chars f.held) ≤ length f.held → LetsTexts f other → other.input ≡ limits.input → IsScoreRead limits f → IsScoreRead other f
   read_alike limits other f few lets input r = record { held = λ some. held_alike limits other f few lets input (r.held some); kept = kept_alike limits other f lets r.kept }

@@ -1,4 +1,5 @@
 -- A stage over a score is set down again from the fields of a state.
 pub mod HeldIsRead
+pub mod KeptAsReported
 pub mod KeptIsRead
 pub mod StateIsRead

@@ -1,16 +1,14 @@
 -- What a saved state is: fields that meet their conditions, and texts that are read as the fields say. It is judged by the limits that it tells
 -- itself.
-use Rattle.std.specs.Prelude.{◌≡◌, ◌≢◌, ℕ, ◌-◌, List, [], length}
+use Rattle.std.specs.Prelude.{◌≡◌, ◌≢◌, ◌≤◌, ℕ, ◌-◌, List, [], length}
 use Rattle.std.specs.Str.{chars}
 use Rattle.gabc_places.specs.declared.limits.Limits.{Limits}
 use Rattle.gabc_score.specs.Before.{preceding_of}
 use Rattle.gabc_score.specs.HeldAgain.{MayBeHeld}
-use Rattle.gabc_score.specs.ReadAgain.{TellsOfReading}
+use Rattle.gabc_score.specs.KeptAgain.{IsKeptAgain}
 use Rattle.gabc_score.specs.Syllable.{UnplacedSyllable}
 use Rattle.gabc_score.specs.ToldWithin.{written_behind}
 use Rattle.gabc_score.specs.declared.before.Before.{Before}
-use Rattle.gabc_score.specs.witness.ReadAgain.{CanBeReadAgain}
-use Rattle.gabc_score.specs.witness.ScoreStage.{ScoreStageState}
 use Rattle.gregorio_jobs.specs.declared.job.Job.{Job}
 use Rattle.gregorio_state.specs.Conditions.{AreStateFields}
 use Rattle.gregorio_state.specs.Fields.{PhaseFields, ScoreFields, StateFields, InHeaders, InScore}
@@ -45,15 +43,10 @@ pub record IsHeldRead (limits : Limits) (f : ScoreFields) : Type 0 where
 
 -- ---- the kept text
 
--- The kept text is what a stage over a score keeps that reads a syllable behind the comment in front: read again, all of it is kept. This is open in
--- it, and a comment is or is not.
+-- Read by itself all of the kept text is kept again, and what is open after it is what the fields say. It is no longer than a syllable may be.
 pub record IsKeptRead (limits : Limits) (f : ScoreFields) : Type 0 where
-  pub stage : ScoreStageState
-  pub keeps : CanBeReadAgain stage
-  pub limits_are : stage.limits ≡ limits
-  pub lines : stage.body.nabc_lines ≡ f.nabc_lines
-  pub macros : stage.body.macros ≡ f.macros
-  pub tells : TellsOfReading stage f.kept (record { notes = f.notes_opener; inner = f.inner_opener }) f.in_comment
+  pub again : IsKeptAgain f.nabc_lines f.macros (chars f.kept) (record { notes = f.notes_opener; inner = f.inner_opener }) f.in_comment
+  pub short : length f.kept ≤ limits.syllable
 
 -- ---- a state
 

@@ -16,6 +16,7 @@ use crate::comparison::Comparison;
 use crate::saving::HeldSyllable;
 use crate::state_fault::StateFault;
 use gabc_places::{Memory, Room};
+use gabc_score::kept_laws::{what_is_kept_again_is_told, what_is_told_is_kept_again};
 use gabc_score::stage_laws::{
     a_comment_in_front_can_be_read_in_a_text, a_resumed_stage_tells_of_a_text,
     a_text_is_one_syllable, what_is_read_can_be_read_again, whole_syllables_are_given_or_held,
@@ -133,6 +134,8 @@ fn read_kept(stage: &mut ScoreStage, state: &StateFields<'_>, fields: &ScoreFiel
         ReadsOn state.now.place (score_of fields.now) stage.new }
 {
     a_comment_in_front_can_be_read_in_a_text();
+    what_is_told_is_kept_again();
+    what_is_kept_again_is_told();
     if !stage.read_again(fields.kept, openers(fields), fields.in_comment, state.place) {
         return false;
     }

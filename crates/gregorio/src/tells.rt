@@ -3,7 +3,7 @@
 ghost use Rattle.std.specs.Prelude.{◌≡◌, ℕ, List, true, None, is_some, IsUtf8};
 ghost use Rattle.gabc_headers.specs.witness.HeadEvents.{IsInHeaders, reading};
 ghost use Rattle.gabc_neumes.specs.InForce.{InForce};
-ghost use Rattle.gabc_score.specs.ScoreTells.{before_of, held_of};
+ghost use Rattle.gabc_score.specs.ScoreTells.{before_of, held_of, reading_of};
 ghost use Rattle.gabc_score.specs.declared.score_machine.ScorePart.TheVariants.{Body};
 ghost use Rattle.gregorio_state.specs.Conditions.{AreStateFields};
 ghost use Rattle.gregorio.specs.Engine.{is_running};
@@ -14,6 +14,7 @@ ghost use Rattle.gregorio.specs.machine.PartsOfStates.{AreBeforeHeldIn, AreHeade
 use crate::engine::Engine;
 use gabc_places::laws::what_a_decoder_tells_may_be_told;
 use gabc_score::ScoreStage;
+use gabc_score::kept_laws::what_is_told_is_kept_again;
 use gabc_score::stage_laws::{
     a_comment_in_front_can_be_read_in_a_text, a_stage_may_stand, in_front_nothing_is_read,
     what_is_read_can_be_read_again,
@@ -23,7 +24,8 @@ use gabc_write::laws::what_is_held_may_be_held_by_its_text;
 /// Does nothing but call laws. Its contract is one: the texts that a stage over a score tells in the body are read as it says.
 fn texts_of_a_score_are_read(score: &ScoreStage)
     requires body { is_some (before_of score.now) ≡ true }
-    requires text { IsUtf8 (held_text score.now.before (held_of score.now)) }
+    requires texts { IsUtf8 (held_text score.now.before (held_of score.now))
+        × IsUtf8 (reading_of score.now) }
     ensures { (force : InForce) → IsScoreRead score.now.limits (score_fields force score.now) }
 {
     what_is_held_may_be_held_by_its_text(score);
@@ -31,6 +33,7 @@ fn texts_of_a_score_are_read(score: &ScoreStage)
     a_stage_may_stand(score);
     in_front_nothing_is_read();
     a_comment_in_front_can_be_read_in_a_text();
+    what_is_told_is_kept_again();
 }
 
 impl Engine {

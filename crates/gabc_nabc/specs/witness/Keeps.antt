@@ -8,7 +8,7 @@ use Rattle.gabc_notes.specs.Events.{end_by_mark}
 use Rattle.gabc_notes.specs.SnippetRead.{kept_of, ends_of}
 use Rattle.gabc_notes.specs.declared.stage.NoteEvent.{NoteEvent}
 use Rattle.gabc_nabc.specs.Table.{nabc}
-use Rattle.gabc_nabc.specs.Events.{bytes_in, nabc_events_behind}
+use Rattle.gabc_nabc.specs.Events.{bytes_in, nabc_events, nabc_events_behind}
 use Rattle.gabc_nabc.specs.witness.DescriptorMachine.{comment_in, events_left}
 use Rattle.gabc_nabc.specs.declared.stage.NabcStage.{NabcStage}
 
@@ -64,3 +64,19 @@ pub record EndsBehind (k : List ℕ) (c : ℕ) (events : List NoteEvent) : Type 
 pub record KeepsOn (before : NabcStage) (x : Char) (events : List NoteEvent) (after : NabcStage) : Type 0 where
   pub goes : (k : List ℕ) → Keeps before k → is_end_behind (comment_of before) x.c ≡ false → GoesOn k before x events after
   pub ends : (k : List ℕ) → Keeps before k → is_end_behind (comment_of before) x.c ≡ true → EndsBehind k x.c events
+
+-- ---- a stage and each character
+
+-- A fresh stage keeps nothing yet.
+pub record Begins : Type 0 where
+  pub stage : NabcStage
+  pub emits : (xs : List Char) → events_left stage xs ≡ nabc_events xs
+  pub keeps : Keeps stage []
+  pub outside : comment_of stage ≡ false
+
+-- The stage takes a character: with these events it stands there, and emits from then on what follows them.
+pub record Takes (before : NabcStage) (x : Char) : Type 0 where
+  pub events : List NoteEvent
+  pub after : NabcStage
+  pub emits : (xs : List Char) → events_left before (x ∷ xs) ≡ events ∷ events_left after xs
+  pub keeps : KeepsOn before x events after

@@ -1,15 +1,18 @@
 -- A stage stands behind the text that it kept. Of what it has read nothing else matters but what it tells.
-use Rattle.std.specs.Prelude.{◌≡◌, ℕ, List, [], ◌∷◌, ◌++◌, Bool, true, false, not, ◌&&◌, ◌||◌, ◌==◌, if◌then◌else◌, Option, Some, None, map}
+use Rattle.std.specs.Prelude.{◌≡◌, ℕ, List, [], ◌∷◌, ◌++◌, Bool, true, false, not, ◌&&◌, ◌||◌, ◌==◌, if◌then◌else◌, Option, Some, None, unwrap_or, map}
 use Rattle.gabc_places.specs.declared.place.Char.{Char}
 use Rattle.gabc_places.specs.declared.place.Place.{Place}
 use Rattle.gabc_patterns.specs.Derivative.{is_viable}
 use Rattle.gabc_patterns.specs.Function.{trim}
 use Rattle.gabc_notes.specs.Table.{gabc}
-use Rattle.gabc_notes.specs.Events.{in_raw, end_by_mark, bytes_of}
+use Rattle.gabc_notes.specs.Events.{in_raw, end_by_mark, bytes_of, note_events}
 use Rattle.gabc_notes.specs.SnippetRead.{kept_of, ends_of}
 use Rattle.gabc_notes.specs.StageTells.{opener_of, comment_of}
 use Rattle.gabc_notes.specs.machine.StageBehind.{aside, fresh_stage, stage_past, AreKept}
+use Rattle.gabc_notes.specs.witness.ItemMachine.{events_left}
+use Rattle.gabc_notes.specs.declared.stage.NoteEnd.TheVariants.{Cut}
 use Rattle.gabc_notes.specs.declared.stage.NoteEvent.{NoteEvent}
+use Rattle.gabc_notes.specs.declared.stage.NoteEvent.TheVariants.{Ended}
 use Rattle.gabc_notes.specs.declared.stage.NoteStage.{NoteStage}
 
 -- It goes on, and stands where a fresh stage does that has read k, but for a place and a comment; of k all is kept.
@@ -73,3 +76,33 @@ pub record IsKeptAgain (split : Bool) (k : List ℕ) (c : ℕ) : Type 0 where
   pub no_comment : is_comment_behind k false c ≡ false
   pub goes_on : is_end_behind split k false c ≡ false
   pub kept : kept_behind k false c ≡ k ++ c ∷ []
+
+-- ---- a stage and each character
+
+-- A fresh stage keeps nothing yet.
+pub record Begins (split : Bool) (macros : ℕ) : Type 0 where
+  pub stage : NoteStage
+  pub emits : (xs : List Char) → events_left stage xs ≡ note_events split macros xs
+  pub keeps : Keeps split macros stage []
+  pub opens_nothing : opener_of stage ≡ None
+  pub outside : comment_of stage ≡ false
+
+-- The stage takes a character: with these events it stands there, and emits from then on what follows them. A `%` that is not kept opens a comment.
+pub record Takes (before : NoteStage) (x : Char) : Type 0 where
+  pub events : List NoteEvent
+  pub after : NoteStage
+  pub emits : (xs : List Char) → events_left before (x ∷ xs) ≡ events ∷ events_left after xs
+  pub keeps : KeepsOn before x events after
+  pub percent : (split : Bool) (macros : ℕ) (k : List ℕ) → Keeps split macros before k → x.c ≡ 37 → kept_of events ≡ [] → comment_of after ≡ true
+
+-- Where the characters end before the snippet does, it is cut at the bracket that is open, or at no place.
+pub record IsCutAtOpener (s : NoteStage) : Type 0 where
+  pub bytes : ℕ
+  pub emits : events_left s [] ≡ (Ended (Cut (unwrap_or (opener_of s) (record { line = 0; column = 0 }))) bytes ∷ []) ∷ []
+
+-- It keeps the same with the place of its bracket here.
+pub record OpensThere (split : Bool) (macros : ℕ) (s : NoteStage) (k : List ℕ) (at : Place) : Type 0 where
+  pub stage : NoteStage
+  pub keeps : Keeps split macros stage k
+  pub opener : opener_of stage ≡ Some at
+  pub comment : comment_of stage ≡ comment_of s

@@ -95,7 +95,7 @@ module _ (es : List NoteEvent) (c n : ℕ) where
       by true g h = absurd (true≢false (sym h))
       by false g h = refl
 
-  close_ends : ends_of es ≡ (end_by_mark c, n) ∷ [] → list_any is_close es ≡ true → ends_of es ≡ (note_end.Close, n) ∷ []
+  pub close_ends : ends_of es ≡ (end_by_mark c, n) ∷ [] → list_any is_close es ≡ true → ends_of es ≡ (note_end.Close, n) ∷ []
   close_ends e f = e ∙ ap (λ (how : NoteEnd). (how, n) ∷ []) (by (c == 124) (sym (any_close es ∙ ap (list_any (λ (e : NoteEnd × ℕ). is_close_end e.0)) e) ∙ f))
     where
       by : (b : Bool) → list_any (λ (e : NoteEnd × ℕ). is_close_end e.0) ((if b then note_end.Next else note_end.Close, n) ∷ []) ≡ true → (if b then note_end.Next else note_end.Close) ≡ note_end.Close

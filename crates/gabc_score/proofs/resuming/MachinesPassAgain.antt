@@ -184,6 +184,22 @@ pub record PassesBy (m : ScoreMachine) (x : Char) (more : List ℕ) (comment : B
   pub front : is_in_front b ≡ false
   pub openers : (outer inner : Place) → x.place ≡ place_in outer inner m.body.part → StandsAt x.place m.body.part → OpenAt outer inner m.body.part → OpenAt outer inner b
 
+-- where a comment is told, a `%` begins one
+module _ (text_comments : (k : List ℕ) → text.begins_comment k ≡ true → text.kept_with k 37 ≡ [])
+    (text_open : (s : TextStage) (k : List ℕ) → text.Keeps s k → text_tells.is_in_comment s ≡ true → text.begins_comment k ≡ true) (lines macros : ℕ) where
+  pub begins : (told : BodyPart) (p : KeptParts) → PartKeeps lines macros told p → is_in_front told ≡ false → is_in_comment told ≡ true → BeginsComment lines p
+  begins part.Comment p keeps front comment_open = absurd (true≢false front)
+  begins (part.Text s) (in_text k) keeps front comment_open = let e = text_open s k keeps comment_open in (e, text_comments k e)
+  begins (part.Text s) (in_notes u earlier k) keeps front comment_open = absurd keeps
+  begins (part.Notes opened s) (in_text k) keeps front comment_open = absurd keeps
+  begins (part.Notes opened s) (in_notes u earlier k) keeps front comment_open = subst (λ (l : ℕ). BeginsIn l k) (sym keeps.0.line_is) (keeps.1.outside comment_open)
+  begins (part.Nabc line opened s) (in_text k) keeps front comment_open = absurd keeps
+  begins (part.Nabc line opened s) (in_notes u earlier k) keeps front comment_open = subst (λ (l : ℕ). BeginsIn l k) (sym keeps.0.line_is) (by line keeps.1.0)
+    where
+      by : (l : ℕ) → (l ≡ 0 → ⊥) → BeginsIn l k
+      by zero some = absurd (some refl)
+      by (suc l) some = tt
+
 module _ (text_kept : (s : TextStage) (a b : List ℕ) (c : ℕ) → text.Keeps s (a ++ c ∷ b) → text.kept_with a c ≡ c ∷ [])
     (text_comments : (k : List ℕ) → text.begins_comment k ≡ true → text.kept_with k 37 ≡ [])
     (text_ends : (k : List ℕ) → text.ends_behind k ≡ true → text.kept_with k 40 ≡ [])
@@ -240,23 +256,10 @@ module _ (text_kept : (s : TextStage) (a b : List ℕ) (c : ℕ) → text.Keeps 
           let short = t.short in
           omega (arith, all, one, mine, char, short)
 
-  begins : (told : BodyPart) (p : KeptParts) → PartKeeps lines macros told p → is_in_front told ≡ false → is_in_comment told ≡ true → BeginsComment lines p
-  begins part.Comment p keeps front comment_open = absurd (true≢false front)
-  begins (part.Text s) (in_text k) keeps front comment_open = let e = text_open s k keeps comment_open in (e, text_comments k e)
-  begins (part.Text s) (in_notes u earlier k) keeps front comment_open = absurd keeps
-  begins (part.Notes opened s) (in_text k) keeps front comment_open = absurd keeps
-  begins (part.Notes opened s) (in_notes u earlier k) keeps front comment_open = subst (λ (l : ℕ). BeginsIn l k) (sym keeps.0.line_is) (keeps.1.outside comment_open)
-  begins (part.Nabc line opened s) (in_text k) keeps front comment_open = absurd keeps
-  begins (part.Nabc line opened s) (in_notes u earlier k) keeps front comment_open = subst (λ (l : ℕ). BeginsIn l k) (sym keeps.0.line_is) (by line keeps.1.0)
-    where
-      by : (l : ℕ) → (l ≡ 0 → ⊥) → BeginsIn l k
-      by zero some = absurd (some refl)
-      by (suc l) some = tt
-
   pub comment_passes : (told : BodyPart) (kept : List ℕ) → IsToldBy lines macros m.limits.syllable told kept → is_in_front told ≡ false → is_in_comment told ≡ true → is_in_comment m.body.part ≡ false
       → old.builder.kept ≡ kept → x.c ≡ 37 → PassesBy m x [] true b (with_all old now)
   comment_passes told kept t front comment_open outside is percent =
-      passes_by [] true (reads.comment h.reading.parts h.reading.keeps outside percent (subst (BeginsComment lines) (sym same) (begins told t.parts t.keeps front comment_open))) few
+      passes_by [] true (reads.comment h.reading.parts h.reading.keeps outside percent (subst (BeginsComment lines) (sym same) (begins text_comments text_open lines macros told t.parts t.keeps front comment_open))) few
     where
       same : h.reading.parts ≡ t.parts
       same =

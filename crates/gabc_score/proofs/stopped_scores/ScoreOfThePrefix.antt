@@ -58,7 +58,7 @@ placed_prefix f (c ∷ cs) (x ∷ xs) ys e =
     let rest : placed_characters_behind (f ++ c ∷ []) cs ≡ xs ++ ys = cc in
     subst (λ (y : Char). placed_characters_behind f (y.c ∷ codes_of xs) ≡ y ∷ xs) first (ap (λ zs. here ∷ zs) (placed_prefix (f ++ c ∷ []) cs xs ys rest))
 
-placed_apart : (p : Place) (a b : List ℕ) → placed_characters_from p (a ++ b) ≡ placed_characters_from p a ++ placed_characters_from (place_past p a) b
+pub placed_apart : (p : Place) (a b : List ℕ) → placed_characters_from p (a ++ b) ≡ placed_characters_from p a ++ placed_characters_from (place_past p a) b
 placed_apart p [] b = refl
 placed_apart p (c ∷ a) b = ap (λ xs. record { c = c; place = p } ∷ xs) (placed_apart (next_place p c) a b)
 

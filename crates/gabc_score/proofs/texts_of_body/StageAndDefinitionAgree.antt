@@ -35,7 +35,7 @@ fits_next at c t f = fits_by at c t (is_line_feed c) f
 fits_behind : (at : Place) (c : ℕ) (t : List ℕ) → CountsFit at (c ∷ t) → CountsFit (behind_mark at) t
 fits_behind at c t f = record { line = omega (arith, f.line); column = omega (arith, f.column); bytes = omega (arith, f.bytes) }
 
-bytes_encodes : (t : List ℕ) → bytes_of t ≡ length (encodes t)
+pub bytes_encodes : (t : List ℕ) → bytes_of t ≡ length (encodes t)
 bytes_encodes [] = refl
 bytes_encodes (c ∷ t) = rw (bytes_encodes t, length-append (encode c) (encodes t), length-encode c) refl
 

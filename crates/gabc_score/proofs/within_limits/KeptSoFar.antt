@@ -34,7 +34,7 @@ kept_append (t ∷ ts) us = let h : all_kept (ts ++ us) ≡ all_kept ts + all_ke
 take_few : (n : ℕ) (bytes : List ℕ) → length (take n bytes) ≤ length bytes
 take_few n bytes = let e = length-take n bytes in omega arith
 
-prefix_few : (n : ℕ) (bytes : List ℕ) → length (prefix_of n bytes) ≤ length bytes
+pub prefix_few : (n : ℕ) (bytes : List ℕ) → length (prefix_of n bytes) ≤ length bytes
 prefix_few n bytes = by (is_seam (drop n bytes))
   where
     by : (b : Bool) → length (cond b (take n bytes) bytes) ≤ length bytes

@@ -74,11 +74,11 @@ open_is : (k : List ℕ) → is_open_behind k ≡ is_open (stage_behind k).state
 unfolding is_open_behind
 open_is k = refl
 
-begins_is : (k : List ℕ) → begins_comment k ≡ is_plain (stage_behind k).state
+pub begins_is : (k : List ℕ) → begins_comment k ≡ is_plain (stage_behind k).state
 unfolding begins_comment
 begins_is k = refl
 
-kept_with_is : (k : List ℕ) (c : ℕ) → kept_with k c ≡ kept_in (events_of_push (stage_behind k) c)
+pub kept_with_is : (k : List ℕ) (c : ℕ) → kept_with k c ≡ kept_in (events_of_push (stage_behind k) c)
 unfolding kept_with
 kept_with_is k c = refl
 
@@ -264,7 +264,7 @@ opener_open s k h = by (is_open s.state) ∙ sym (open_is k ∙ ap is_open (stat
     still (Raw part m) = refl
     still Translation = refl
 
-comment_is : (m : TokenState) → is_comment m ≡ true → m ≡ Comment
+pub comment_is : (m : TokenState) → is_comment m ≡ true → m ≡ Comment
 comment_is Plain e = absurd (false≢true e)
 comment_is Dollar e = absurd (false≢true e)
 comment_is Comment e = refl

@@ -1,5 +1,5 @@
 -- A stage keeps a text: it stands where the characters lead that it has kept, whatever it has read.
-use Rattle.std.specs.Prelude.{◌≡◌, ◌⊎◌, ◌==◌, ◌&&◌, not, ℕ, List, [], ◌∷◌, ◌++◌, map, Bool, true, false, Some, if◌then◌else◌}
+use Rattle.std.specs.Prelude.{◌≡◌, ◌≤◌, ◌⊎◌, ◌==◌, ◌&&◌, not, ℕ, List, [], ◌∷◌, ◌++◌, length, map, Bool, true, false, Some, if◌then◌else◌}
 use Rattle.std.specs.List.{All, list_any}
 use Rattle.gabc_places.specs.Place.{saturating_next_place}
 use Rattle.gabc_places.specs.declared.place.Place.{Place}
@@ -16,6 +16,7 @@ use Rattle.gabc_text.specs.machine.RawPart.{stage_past, events_of_pushes}
 use Rattle.gabc_text.specs.machine.Resuming.{nowhere, IsAlike, IsReached, kept_past}
 use Rattle.gabc_text.specs.machine.TextStage.{push_stage, events_of_push}
 use Rattle.gabc_text.specs.machine.TokenState.{is_plain}
+use Rattle.gabc_text.specs.witness.EventsLeft.{events_left}
 
 -- what is said by these, but for findings and places: the characters kept, the parts of the view and the end
 abbrev pub said : List TextEvent → List TextEvent
@@ -102,3 +103,21 @@ pub record KeepsOn (before : TextStage) (c : ℕ) (events : List TextEvent) (aft
   pub goes : (k : List ℕ) → Keeps before k → end_text events ≡ false → GoesOn before k c events after
   pub ends : (k : List ℕ) → Keeps before k → end_text events ≡ true → EndsBehind k events after
   pub only : (k : List ℕ) → Keeps before k → All (IsKeptOf c) (kept_in events)
+
+-- The stage takes a character: with these events it stands there, and emits from then on what follows them. No more than one character is kept,
+-- and none where a comment is open then. A `%` that is not kept opens one.
+pub record Takes (before : TextStage) (c : ℕ) : Type 0 where
+  pub events : List TextEvent
+  pub after : TextStage
+  pub emits : (t : List ℕ) → events_left before (c ∷ t) ≡ events ∷ events_left after t
+  pub keeps : KeepsOn before c events after
+  pub one : (k : List ℕ) → Keeps before k → length (kept_in events) ≤ 1
+  pub none : (k : List ℕ) → Keeps before k → is_in_comment after ≡ true → kept_in events ≡ []
+  pub percent : (k : List ℕ) → Keeps before k → c ≡ 37 → kept_in events ≡ [] → is_in_comment after ≡ true
+
+-- It keeps the same with its opener at this place.
+pub record OpensThere (s : TextStage) (k : List ℕ) (at : Place) : Type 0 where
+  pub stage : TextStage
+  pub keeps : Keeps stage k
+  pub opener : opener_of stage ≡ Some at
+  pub comment : is_in_comment stage ≡ is_in_comment s

@@ -9,7 +9,7 @@ use Rattle.gabc_neumes.specs.InForce.{InForce}
 use Rattle.gabc_score.specs.Before.{preceding_of}
 use Rattle.gabc_score.specs.HeldAgain.{MayBeHeld}
 use Rattle.gabc_score.specs.ReadAgain.{CanBeReadInText, TellsOfReading, no_openers}
-use Rattle.gabc_score.specs.ScoreTells.{StandsInFront, before_with, held_of, is_in_comment, is_in_front, openers_of}
+use Rattle.gabc_score.specs.ScoreTells.{StandsInFront, before_with, held_of, is_in_comment, is_in_front, openers_of, reading_of}
 use Rattle.gabc_score.specs.Syllable.{UnplacedSyllable}
 use Rattle.gabc_score.specs.ToldWithin.{written_behind}
 use Rattle.gabc_score.specs.declared.before.Before.{Before}
@@ -24,10 +24,12 @@ use Rattle.gabc_write.specs.SetDown.{MayBeHeldByItsText}
 use Rattle.gregorio_state.specs.Conditions.{ArePhaseFields, AreStateFields}
 use Rattle.gregorio_state.specs.Fields.{ScoreFields}
 use Rattle.gregorio.specs.Saved.{GivesHeaders, held_count, held_text, phase_fields, score_fields, state_of}
-use Rattle.gregorio.specs.SavedState.{AreOfState, IsHeldRead, IsKeptRead, IsPhaseRead, IsScoreRead, before_held}
+use Rattle.gregorio.specs.SavedState.{AreOfState, IsHeldRead, IsPhaseRead, IsScoreRead, before_held}
 use Rattle.gregorio.specs.witness.Engine.{EngineState}
 use Rattle.gregorio.specs.machine.InStep.{AreInOnePart}
+use Rattle.gregorio.specs.machine.SettingDown.{IsReportedSo}
 use Rattle.gregorio.proofs.pieces.StatesOfInputs.{behind_is_headed}
+use Rattle.gregorio.proofs.setting_down.KeptAsReported.{KeptAgain, KeptShort, kept_read}
 
 -- ---- the syllable that is held
 
@@ -74,7 +76,7 @@ is_a_comment (part.Notes opened stage) front = absurd (cc front)
 is_a_comment (part.Nabc line opened stage) front = absurd (cc front)
 
 module _ (force : InForce) (s : ScoreStageState) (again : CanBeReadAgain s) (in_front : is_in_front s.body.part ≡ true → StandsInFront s × CanBeReadInText s) where
-  front_is_read : is_in_front s.body.part ≡ true → IsKeptRead s.limits (score_fields force s)
+  front_is_read : is_in_front s.body.part ≡ true → IsReportedSo s.limits (score_fields force s)
   front_is_read front =
       let stands = (in_front front).0 in
       let r = (in_front front).1 in
@@ -90,7 +92,7 @@ module _ (force : InForce) (s : ScoreStageState) (again : CanBeReadAgain s) (in_
             (subst (λ (comment : Bool). TellsOfReading r.told [] no_openers comment) (sym (is_a_comment s.body.part front)) r.tells));
       }
 
-  kept_is_read : (front : Bool) → is_in_front s.body.part ≡ front → IsKeptRead s.limits (score_fields force s)
+  kept_is_read : (front : Bool) → is_in_front s.body.part ≡ front → IsReportedSo s.limits (score_fields force s)
   kept_is_read true front = front_is_read front
   kept_is_read false front = record {
     stage = s;
@@ -101,10 +103,11 @@ module _ (force : InForce) (s : ScoreStageState) (again : CanBeReadAgain s) (in_
     tells = record { front = front; reading = refl; openers_are = refl; comment_is = refl };
   }
 
-  pub score_is_read : IfSome (held_of s) (MayBeHeldByItsText s.limits (before_with s.body s.before)) → IsUtf8 (held_text s.before (held_of s)) → IsScoreRead s.limits (score_fields force s)
-  score_is_read by utf8 = record {
+  pub score_is_read : KeptAgain → KeptShort → IfSome (held_of s) (MayBeHeldByItsText s.limits (before_with s.body s.before)) → IsUtf8 (held_text s.before (held_of s)) → IsUtf8 (reading_of s)
+      → IsScoreRead s.limits (score_fields force s)
+  score_is_read kept_again kept_short by utf8 kept_utf8 = record {
     held = held_is_read force s (held_of s) by utf8;
-    kept = kept_is_read (is_in_front s.body.part) refl;
+    kept = kept_read s.limits (score_fields force s) kept_utf8 kept_again kept_short (kept_is_read (is_in_front s.body.part) refl);
   }
 
 -- ---- what is saved
@@ -123,18 +126,18 @@ module _ (e : EngineState) where
       → IsPhaseRead e.score.limits (state_of e) (state_of e).phase
   state_is_read parts fields gives score = phase_is_read e.heads.progress parts fields.phase gives score
 
-  -- where the headers are written, the held text is one
-  pub held_is_utf8 : e.written.headed ≡ true → AreInOnePart e.heads.progress e.score.part e.written.headed → AreStateFields (state_of e) → IsUtf8 (held_text e.score.before (held_of e.score))
-  held_is_utf8 headed parts fields = by e.heads.progress parts fields.phase
+  -- where the headers are written, the held text and the kept text are texts
+  pub texts_are_utf8 : e.written.headed ≡ true → AreInOnePart e.heads.progress e.score.part e.written.headed → AreStateFields (state_of e) → IsUtf8 (held_text e.score.before (held_of e.score)) × IsUtf8 (reading_of e.score)
+  texts_are_utf8 headed parts fields = by e.heads.progress parts fields.phase
     where
       in_headers : (t : List ℕ) (part : ScorePart) (headed : Bool) → AreInOnePart (reading t) part headed → headed ≡ false
       in_headers t score_part.Heads headed parts = parts
       in_headers t score_part.Body headed parts = absurd parts
       in_headers t score_part.Over headed parts = absurd parts
 
-      by : (p : HeadProgress) → AreInOnePart p e.score.part e.written.headed → ArePhaseFields (state_of e) (phase_fields p e.written.force e.score) → IsUtf8 (held_text e.score.before (held_of e.score))
+      by : (p : HeadProgress) → AreInOnePart p e.score.part e.written.headed → ArePhaseFields (state_of e) (phase_fields p e.written.force e.score) → IsUtf8 (held_text e.score.before (held_of e.score)) × IsUtf8 (reading_of e.score)
       by (reading t) parts fields = absurd (false≢true (sym (in_headers t e.score.part e.written.headed parts) ∙ headed))
-      by (behind book) parts fields = fields.held.is_text.utf8
+      by (behind book) parts fields = (fields.held.is_text.utf8, fields.kept.utf8)
       by over parts fields = absurd parts
 
   pub is_a_state : AreStateFields (state_of e) → IsPhaseRead e.score.limits (state_of e) (state_of e).phase → AreOfState (state_of e)

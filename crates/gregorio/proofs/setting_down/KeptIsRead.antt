@@ -19,8 +19,8 @@ use Rattle.gabc_score.specs.witness.ScoreStage.{ScoreStageState}
 use Rattle.gregorio_state.specs.Conditions.{AreOpeners}
 use Rattle.gregorio_state.specs.Fields.{ScoreFields}
 use Rattle.gregorio.specs.Saved.{held_count, held_text}
-use Rattle.gregorio.specs.SavedState.{IsKeptRead, before_held}
-use Rattle.gregorio.specs.machine.SettingDown.{HasRead, HoldsHeld, ReadsOn, openers_told}
+use Rattle.gregorio.specs.SavedState.{before_held}
+use Rattle.gregorio.specs.machine.SettingDown.{HasRead, HoldsHeld, IsReportedSo, ReadsOn, openers_told}
 use Rattle.gregorio.proofs.setting_down.HeldIsRead.{before_told, told_in_body}
 
 -- ---- in front of the first text
@@ -68,7 +68,7 @@ module _ (f : ScoreFields) (old : ScoreStageState) (holds : HoldsHeld f old) whe
         → (result ≡ true) × TellsOfReading new f.kept o f.in_comment
 
     -- where the kept text is read so, all of it is kept
-    pub is_kept_again : ReadsAgain → IsKeptRead old.limits f → (result ≡ true) × TellsOfReading new f.kept (openers_told f) f.in_comment
+    pub is_kept_again : ReadsAgain → IsReportedSo old.limits f → (result ≡ true) × TellsOfReading new f.kept (openers_told f) f.in_comment
     is_kept_again again kept =
         let h = again told (record { body = kept.keeps.body; told = kept.keeps.told }) kept.limits_are same_before (subst (λ (x : Openers). TellsOfReading told f.kept x f.in_comment) (sym open_at) tells) stands_before in
         (h.0, subst (λ (x : Openers). TellsOfReading new f.kept x f.in_comment) open_at h.1)
@@ -122,7 +122,7 @@ module _ (f : ScoreFields) (old : ScoreStageState) (holds : HoldsHeld f old) whe
       macros : new.body.macros ≡ f.macros
       macros = ap (λ (b : Before). b.macros) new_before
 
-      behind_front : is_in_front new.body.part ≡ false → IsKeptRead old.limits f
+      behind_front : is_in_front new.body.part ≡ false → IsReportedSo old.limits f
       behind_front front = record {
         stage = new;
         keeps = can;
@@ -134,7 +134,7 @@ module _ (f : ScoreFields) (old : ScoreStageState) (holds : HoldsHeld f old) whe
 
       module _ (law : (s : ScoreStageState) → is_some (before_of s) ≡ true → StandsInFront s → CanBeReadInText s) where
         -- it stands in front, and what it tells is told in a text too
-        told_in_front : is_in_front new.body.part ≡ true → IsKeptRead old.limits f
+        told_in_front : is_in_front new.body.part ≡ true → IsReportedSo old.limits f
         told_in_front front =
             let in_text : CanBeReadInText (at_outset new) = law (at_outset new) refl (stands_in_front new front) in
             let comment : new.body.part ≡ part.Comment = in_front new.body.part front in
@@ -152,12 +152,12 @@ module _ (f : ScoreFields) (old : ScoreStageState) (holds : HoldsHeld f old) whe
                   (subst (λ (o : Openers). TellsOfReading in_text.told [] o f.in_comment) openers (subst (λ (b : Bool). TellsOfReading in_text.told [] no_openers b) comment_open in_text.tells));
             }
 
-        by_front : (front : Bool) → is_in_front new.body.part ≡ front → IsKeptRead old.limits f
+        by_front : (front : Bool) → is_in_front new.body.part ≡ front → IsReportedSo old.limits f
         by_front true is = told_in_front is
         by_front false is = behind_front is
 
-        pub is_kept_read : IsKeptRead old.limits f
-        is_kept_read = by_front (is_in_front new.body.part) refl
+        pub is_reported_so : IsReportedSo old.limits f
+        is_reported_so = by_front (is_in_front new.body.part) refl
 
     -- it goes on there
     module _ (read : HasRead f new) (open_there : AreOpeners place f) where

@@ -1,10 +1,13 @@
 -- A stage over a score on its way to be set down from the fields of a state.
 use Rattle.std.specs.Prelude.{◌≡◌, ◌+◌, ◌-◌, false, Some}
+use Rattle.gabc_places.specs.declared.limits.Limits.{Limits}
 use Rattle.gabc_places.specs.declared.place.Place.{Place}
+use Rattle.gabc_score.specs.ReadAgain.{TellsOfReading}
 use Rattle.gabc_score.specs.Resumed.{BeginsText}
 use Rattle.gabc_score.specs.ScoreTells.{StandsAt, before_of, held_of, is_in_comment, is_in_front, openers_of, reading_of}
 use Rattle.gabc_score.specs.ToldWithin.{TellsOfText}
 use Rattle.gabc_score.specs.declared.body_tells.Openers.{Openers}
+use Rattle.gabc_score.specs.witness.ReadAgain.{CanBeReadAgain}
 use Rattle.gabc_score.specs.witness.ScoreStage.{ScoreStageState}
 use Rattle.gregorio_state.specs.Fields.{ScoreFields}
 use Rattle.gregorio.specs.Saved.{held_count, held_text}
@@ -31,6 +34,15 @@ pub record HasRead (f : ScoreFields) (stage : ScoreStageState) : Type 0 where
   pub kept : reading_of stage ≡ f.kept
   pub openers_are : openers_of stage.body.part ≡ openers_told f
   pub comment : is_in_comment stage.body.part ≡ f.in_comment
+
+-- Some stage under these limits that reads a syllable behind the comment in front reports the kept text, and what is open after it.
+pub record IsReportedSo (limits : Limits) (f : ScoreFields) : Type 0 where
+  pub stage : ScoreStageState
+  pub keeps : CanBeReadAgain stage
+  pub limits_are : stage.limits ≡ limits
+  pub lines : stage.body.nabc_lines ≡ f.nabc_lines
+  pub macros : stage.body.macros ≡ f.macros
+  pub tells : TellsOfReading stage f.kept (openers_told f) f.in_comment
 
 -- It has read the kept text, behind the comment in front, and the next character stands there.
 pub record ReadsOn (place : Place) (f : ScoreFields) (stage : ScoreStageState) : Type 0 where

@@ -2,14 +2,14 @@ use Rattle.std.proofs.Common.{◌≡◌, ℕ, List, true, is_some, ap, sym, subs
 use Rattle.std.specs.Prelude.{IsUtf8}
 use Rattle.std.proofs.lemmas.Bool.{false≢true}
 use Rattle.gabc_headers.specs.witness.HeadEvents.{reading}
-use Rattle.gabc_score.specs.ScoreTells.{before_of, held_of}
+use Rattle.gabc_score.specs.ScoreTells.{before_of, held_of, reading_of}
 use Rattle.gabc_score.specs.witness.ScoreStage.{ScoreStageState}
 use Rattle.gregorio_state.specs.Conditions.{AreStateFields}
 use Rattle.gregorio.specs.Engine.{is_running}
 use Rattle.gregorio.specs.Saved.{GivesHeaders, held_text, score_fields, state_of}
 use Rattle.gregorio.specs.SavedState.{IsPhaseRead, IsScoreRead}
 use Rattle.gregorio.specs.witness.Engine.{EngineState}
-use Rattle.gregorio.proofs.pieces.StatesAreRead.{held_is_utf8, state_is_read}
+use Rattle.gregorio.proofs.pieces.StatesAreRead.{state_is_read, texts_are_utf8}
 use Rattle.gregorio.proofs.pieces.StatesOfScores.{score_in_body}
 use Rattle.gregorio.proofs.engine.Engine.tells_what_is_read.Goals as goal
 
@@ -20,8 +20,8 @@ texts_of_a_score_are_read-requires-clause-body c =
     subst (λ (s : ScoreStageState). is_some (before_of s) ≡ true) (sym c.score.ensures)
     (score_in_body i.decoder i.heads i.writer.score i.writer.writer.written (c.self.invariant.step.runs running) (sym c.headed.ensures ∙ c.if-headed.true))
 
-pub texts_of_a_score_are_read-requires-clause-text : goal.texts_of_a_score_are_read-requires-clause-text
-texts_of_a_score_are_read-requires-clause-text c =
+pub texts_of_a_score_are_read-requires-clause-texts : goal.texts_of_a_score_are_read-requires-clause-texts
+texts_of_a_score_are_read-requires-clause-texts c =
     let i = c.self.inside in
     let here : EngineState = record {
       decoder = i.decoder;
@@ -32,8 +32,8 @@ texts_of_a_score_are_read-requires-clause-text c =
       messages = i.writer.writer.messages.items;
     } in
     let running = ap (λ (s : EngineState). is_running s) c.self.view_is ∙ c.requires.runs in
-    subst (λ (s : ScoreStageState). IsUtf8 (held_text s.before (held_of s))) (sym c.score.ensures)
-    (held_is_utf8 here (sym c.headed.ensures ∙ c.if-headed.true) (c.self.invariant.step.runs running).parts
+    subst (λ (s : ScoreStageState). IsUtf8 (held_text s.before (held_of s)) × IsUtf8 (reading_of s)) (sym c.score.ensures)
+    (texts_are_utf8 here (sym c.headed.ensures ∙ c.if-headed.true) (c.self.invariant.step.runs running).parts
     (subst (λ (s : EngineState). AreStateFields (state_of s)) (sym c.self.view_is) c.requires.fields))
 
 pub returns-then-headed : goal.returns-then-headed

@@ -1,0 +1,159 @@
+-- A stage takes each character, and its opener may stand anywhere.
+use Rattle.std.proofs.Common.{◌≡◌, ◌==◌, ◌&&◌, ◌≤◌, not, ℕ, List, [], ◌∷◌, length, Bool, true, false, Option, Some, None, is_some, option_to_list, refl, sym, ap, ◌∙◌, subst, arith, if◌then◌else◌}
+use Rattle.std.proofs.lemmas.Bool.{eqb-true, false≢true}
+use Rattle.gabc_places.specs.declared.place.Place.{Place}
+use Rattle.gabc_text.specs.declared.progress.Progress.{Progress}
+use Rattle.gabc_text.specs.declared.text_facts.TextFacts.{TextFacts}
+use Rattle.gabc_text.specs.declared.token_state.TokenState.{TokenState}
+use Rattle.gabc_text.specs.declared.token_state.TokenState.TheVariants.{Plain, Dollar, Comment, Tag, Raw, Translation}
+use Rattle.gabc_text.specs.declared.text_event.TextEvent.{TextEvent}
+use Rattle.gabc_text.specs.declared.stage.TextStage.{TextStage}
+use Rattle.gabc_text.specs.BuiltText.{kept_in}
+use Rattle.gabc_text.specs.StageTells.{is_open, opener_of, is_in_comment}
+use Rattle.gabc_text.specs.witness.Keeps.{Keeps, OpensThere, Takes, begins_comment, comment_with, kept_with, stage_behind, GoesOn}
+use Rattle.gabc_text.specs.machine.Resuming.{kept_at, outside}
+use Rattle.gabc_text.specs.machine.TokenState.{is_plain}
+use Rattle.gabc_text.specs.machine.TextStage.{push_stage, events_of_push}
+use Rattle.gabc_text.proofs.machine.EventsLeftAreThoseAhead.{rest_is}
+use Rattle.gabc_text.proofs.resuming.EndsAndKept.{done_is, ended_at, kept_is, none_kept_at_end}
+use Rattle.gabc_text.proofs.resuming.KeptCharactersSuffice.{comment_kept}
+use Rattle.gabc_text.proofs.resuming.StagesKeep.{begins_is, comment_is, comment_not_kept, kept_with_is, push_keeps}
+
+-- ---- what is kept of a character
+
+few : (o : Option ℕ) → length (option_to_list o) ≤ 1
+few None = omega arith
+few (Some c) = omega arith
+
+one_kept : (s : TextStage) (c : ℕ) → s.done ≡ false → length (kept_in (events_of_push s c)) ≤ 1
+one_kept s c on = by (push_stage s c).done refl
+  where
+    by : (d : Bool) → (push_stage s c).done ≡ d → length (kept_in (events_of_push s c)) ≤ 1
+    by true e = subst (λ (k : List ℕ). length k ≤ 1) (sym (none_kept_at_end s c on e)) (omega arith)
+    by false e = subst (λ (k : List ℕ). length k ≤ 1) (sym (kept_is s c on e)) (few (kept_at s c))
+
+never_comment : (m : TokenState) → outside m ≡ Comment → ⊥
+never_comment Plain e = cc
+never_comment Dollar e = cc
+never_comment Comment e = cc
+never_comment (Tag name) e = cc
+never_comment (Raw part m) e = cc
+never_comment Translation e = cc
+
+-- another character than a `(` ends no text
+goes_past : (r : TextStage) (c : ℕ) → r.done ≡ false → (c ≡ 40 → ⊥) → (push_stage r c).done ≡ false
+goes_past r c on apart = by (push_stage r c).done refl
+  where
+    by : (d : Bool) → (push_stage r c).done ≡ d → d ≡ false
+    by false e = refl
+    by true e = absurd (apart (ended_at r c on e).mark)
+
+-- a `%` is kept but between tokens
+percent_at : (facts : TextFacts) (p : Progress) (done : Bool) (m : TokenState) → (m ≡ Comment → ⊥) → kept_at (record { state = m; facts = facts; progress = p; done = done }) 37 ≡ None → is_plain m ≡ true
+percent_at facts p done Plain apart e = refl
+percent_at facts p done Dollar apart e = cc
+percent_at facts p done Comment apart e = absurd (apart refl)
+percent_at facts p done (Tag name) apart e = cc
+percent_at facts p done (Raw part m) apart e = cc
+percent_at facts p done Translation apart e = cc
+
+none_at : (o : Option ℕ) → option_to_list o ≡ [] → o ≡ None
+none_at None e = refl
+none_at (Some c) e = cc
+
+percent_between : (r : TextStage) (c : ℕ) → c ≡ 37 → r.done ≡ false → (r.state ≡ Comment → ⊥) → kept_in (events_of_push r c) ≡ [] → is_plain r.state ≡ true
+percent_between r c is on apart none =
+    percent_at r.facts r.progress r.done r.state apart
+    (ap (kept_at r) (sym is) ∙ none_at (kept_at r c) (sym (kept_is r c on (goes_past r c on (λ e. cc (sym is ∙ e)))) ∙ none))
+
+module _ (s : TextStage) (k : List ℕ) (keeps : Keeps s k) where
+  percent_begins : (c : ℕ) → c ≡ 37 → kept_with k c ≡ [] → begins_comment k ≡ true
+  percent_begins c is none =
+      begins_is k
+      ∙ percent_between (stage_behind k) c is (ap (λ (x : TextStage). x.done) keeps.alike.same ∙ keeps.goes_on)
+      (λ e. never_comment s.state (sym (ap (λ (x : TextStage). x.state) keeps.alike.same) ∙ e)) (sym (kept_with_is k c) ∙ none)
+
+  module _ (c : ℕ) where
+    abbrev after : TextStage
+    after = push_stage s c
+
+    abbrev events : List TextEvent
+    events = events_of_push s c
+
+    goes : (push_stage s c).done ≡ false → GoesOn s k c (events_of_push s c) (push_stage s c)
+    goes e = (push_keeps s (push_stage s c) c (events_of_push s c) refl refl).goes k keeps (sym (done_is s c keeps.goes_on) ∙ e)
+
+    kept_now : is_in_comment s ≡ false → kept_in (events_of_push s c) ≡ kept_with k c
+    kept_now e = (push_keeps s (push_stage s c) c (events_of_push s c) refl refl).kept k keeps e
+
+    -- where a comment is open behind it, nothing is kept of it
+    none_kept : is_in_comment (push_stage s c) ≡ true → kept_in (events_of_push s c) ≡ []
+    none_kept opened = by (push_stage s c).done refl
+      where
+        inside : (b : Bool) → is_in_comment s ≡ b → comment_with k b c ≡ true → (push_stage s c).done ≡ false → kept_in (events_of_push s c) ≡ []
+        inside true e f g = kept_is s c keeps.goes_on g ∙ ap option_to_list (comment_kept s c (comment_is s.state e) (no_feed (c == 10) f))
+          where
+            no_feed : (b : Bool) → not b ≡ true → b ≡ false
+            no_feed true h = absurd (false≢true h)
+            no_feed false h = refl
+        inside false e f g = kept_now e ∙ begun (c == 37) refl f
+          where
+            begun : (b : Bool) → (c == 37) ≡ b → (b && begins_comment k) ≡ true → kept_with k c ≡ []
+            begun true h i = ap (kept_with k) (eqb-true c 37 h) ∙ comment_not_kept k i
+            begun false h i = absurd (false≢true i)
+
+        by : (d : Bool) → (push_stage s c).done ≡ d → kept_in (events_of_push s c) ≡ []
+        by true e = none_kept_at_end s c keeps.goes_on e
+        by false e = inside (is_in_comment s) refl (sym (goes e).comment ∙ opened) e
+
+    -- a `%` that is not kept opens a comment
+    percent_opens : c ≡ 37 → kept_in (events_of_push s c) ≡ [] → is_in_comment (push_stage s c) ≡ true
+    percent_opens is none = (goes going).comment ∙ ap (comment_with k (is_in_comment s)) is ∙ by (is_in_comment s) refl
+      where
+        going : (push_stage s c).done ≡ false
+        going = goes_past s c keeps.goes_on (λ e. cc (sym is ∙ e))
+
+        by : (b : Bool) → is_in_comment s ≡ b → comment_with k b 37 ≡ true
+        by true e = refl
+        by false e = percent_begins c is (sym (kept_now e) ∙ none)
+
+pub takes : (s : TextStage) (c : ℕ) → Takes s c
+takes s c = record {
+  events = events_of_push s c;
+  after = push_stage s c;
+  emits = λ t. rest_is s (c ∷ t) ∙ ap (λ (lists : List (List TextEvent)). events_of_push s c ∷ lists) (sym (rest_is (push_stage s c) t));
+  keeps = push_keeps s (push_stage s c) c (events_of_push s c) refl refl;
+  one = λ k h. one_kept s c h.goes_on;
+  none = λ k h. none_kept s k h c;
+  percent = λ k h. percent_opens s k h c;
+}
+
+-- ---- where its opener stands
+
+pub opens_there : (s : TextStage) (k : List ℕ) (at : Place) → Keeps s k → is_some (opener_of s) ≡ true → OpensThere s k at
+opens_there s k at h opened = record {
+  stage = record s { progress = record s.progress { place = at } };
+  keeps = record {
+    goes_on = h.goes_on;
+    reached = record { between = λ e. absurd (apart s.state is_opened e); start = h.reached.start; blank = h.reached.blank; starts = h.reached.starts };
+    alike = record { place = h.alike.place; next = h.alike.next; same = h.alike.same };
+    whole = h.whole;
+  };
+  opener = ap (λ (b : Bool). if b then Some at else None) is_opened;
+  comment = refl;
+}
+  where
+    is_opened : is_open s.state ≡ true
+    is_opened = by (is_open s.state) opened
+      where
+        by : (b : Bool) → is_some (if b then Some s.progress.place else None) ≡ true → b ≡ true
+        by true e = refl
+        by false e = absurd (false≢true e)
+
+    apart : (m : TokenState) → is_open m ≡ true → is_plain m ≡ true → ⊥
+    apart Plain e f = false≢true e
+    apart Dollar e f = false≢true e
+    apart Comment e f = false≢true e
+    apart (Tag name) e f = false≢true f
+    apart (Raw part m) e f = false≢true f
+    apart Translation e f = false≢true f
