@@ -9,3 +9,4 @@ pub mod EndedStages
 pub mod KeptCharacters
 pub mod NothingBehindTheEnd
 pub mod PiecesFollowCharacters
+pub mod RegularBytes

@@ -1,6 +1,6 @@
 //! Laws of the definitions that contracts speak of. Each function is there for its clauses: all but two do nothing, and these drive a fresh stage.
 
-ghost use Rattle.std.specs.Prelude.{◌≡◌, ℕ, ◌+◌, ◌<◌, List, [], ◌∷◌, ◌++◌, length, take, drop, true, false, cond, codes, Decides, encode_utf8_all};
+ghost use Rattle.std.specs.Prelude.{◌≡◌, ℕ, ◌+◌, ◌<◌, List, [], ◌∷◌, ◌++◌, length, take, drop, true, false, cond, codes, Decides, None, encode_utf8_all};
 ghost use Rattle.gabc_places.specs.StageLaw.{concat_of};
 ghost use Rattle.std.specs.List.{All};
 ghost use Rattle.gabc_places.specs.Findings.{AreInOrder, LieBetween};
@@ -17,6 +17,7 @@ ghost use Rattle.gabc_text.specs.TextRead.{view_in};
 ghost use Rattle.gabc_text.specs.ViewFacts.{StandsForView, StandsFor, view_facts, has_error};
 ghost use Rattle.gabc_text.specs.Printed.{print, text_tokens, translation_tokens, text_of_tokens};
 ghost use Rattle.gabc_text.specs.PrintedView.{printed_view};
+ghost use Rattle.gabc_text.specs.RegularText.{IsRegularText};
 ghost use Rattle.gabc_text.specs.Canonical.{span_bytes, canonical_text};
 ghost use Rattle.gabc_places.specs.declared.place.Span.{Span};
 ghost use Rattle.gabc_text.specs.BuiltText.{with_events, empty_text, text_built_at, kept_in, found_in};
@@ -145,6 +146,27 @@ pub fn view_again()
         StandsForView other (view_in again) again →
         printed_view (view_in again) (encode_utf8_all other)
         ≡ printed_view (view_in t) (encode_utf8_all whole) }
+{}
+
+/// A regular text says in front of a `(` what it says alone, whatever follows: it ends at that `(`,
+/// all of it is kept, and nothing is found in it, whatever place it begins at. What is printed of its
+/// view is the text itself, whatever whole text the spans count the bytes of. So is its canonical
+/// text, if it has no translation.
+pub fn a_regular_text_is_printed_as_it_stands()
+    ensures says { (t rest : List ℕ) → IsRegularText t →
+        view_facts (t ++ 40 ∷ rest) ≡ view_facts t }
+    ensures found { (at : Place) (t rest : List ℕ) → IsRegularText t →
+        findings at (t ++ 40 ∷ rest) ≡ [] }
+    ensures ends { (t rest : List ℕ) → IsRegularText t →
+        after_tokens (t ++ 40 ∷ rest) ≡ 40 ∷ rest }
+    ensures kept { (t rest : List ℕ) → IsRegularText t → kept (t ++ 40 ∷ rest) ≡ t }
+    ensures printed { (whole t rest : List ℕ) → IsRegularText t →
+        let all = t ++ 40 ∷ rest in StandsForView whole (view_in all) all →
+        printed_view (view_in all) (encode_utf8_all whole) ≡ encode_utf8_all t }
+    ensures canonical { (whole t rest : List ℕ) → IsRegularText t →
+        (view_facts t).translation ≡ None →
+        let all = t ++ 40 ∷ rest in StandsForView whole (view_in all) all →
+        canonical_text (view_in all) (encode_utf8_all whole) ≡ encode_utf8_all t }
 {}
 
 /// The kept text of a text is read again as itself, and says the same.

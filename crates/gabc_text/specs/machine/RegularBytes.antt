@@ -1,0 +1,76 @@
+-- The bytes of a regular text, with the pieces that they spell.
+use Rattle.std.specs.Prelude.{◌≡◌, ℕ, ◌<◌, List, [], ◌∷◌, Bool, true, false, ◌&&◌, ◌||◌, nat_lt, length, map, Some, encode_utf8_all}
+use Rattle.std.specs.Str.{all_scalars}
+use Rattle.std.specs.List.{All}
+use Rattle.gabc_places.specs.TextOfAnInput.{IsPlain}
+use Rattle.gabc_text.specs.declared.view.PieceKind.{PieceKind}
+use Rattle.gabc_text.specs.declared.view.PieceKind.TheVariants as piece
+use Rattle.gabc_text.specs.Token.{Token, spelling}
+use Rattle.gabc_text.specs.View.{PieceFacts, is_word_kind, is_blank_piece}
+use Rattle.gabc_text.specs.Printed.{printed_piece, text_of_tokens}
+use Rattle.gabc_text.specs.machine.PrintedPieces.{Stable, Says, AllGood}
+
+-- ---- pieces
+
+-- a piece that is a tag of no known name
+abbrev pub is_unknown : PieceKind → Bool
+is_unknown piece.Tag = true
+is_unknown _ = false
+
+abbrev pub AllKnown : List PieceFacts → Type 0
+AllKnown [] = Unit {0}
+AllKnown (p ∷ ps) = (is_unknown p.kind ≡ false) × AllKnown ps
+
+-- a piece but a span mark stands among these, or before them
+abbrev pub word_after : Bool → List PieceFacts → Bool
+word_after w [] = w
+word_after w (p ∷ ps) = word_after (is_word_kind (Some p.kind) || w) ps
+
+-- the last of these is a blank, or, if there is none, what stands before them
+abbrev pub blank_after : Bool → List PieceFacts → Bool
+blank_after b [] = b
+blank_after b (p ∷ ps) = blank_after (is_blank_piece p.kind) ps
+
+abbrev pub printed_as : PieceFacts → Token
+printed_as p = printed_piece p.kind p.text
+
+-- the pieces as they are printed, but for tags and braces
+abbrev pub printed_text : List PieceFacts → List ℕ
+printed_text ps = text_of_tokens (map printed_as ps)
+
+-- ---- bytes
+
+-- a byte within a character of several bytes, the first byte of one of two bytes, and that of one from U+1000 to U+CFFF
+abbrev pub is_continuation : ℕ → Bool
+is_continuation b = nat_lt 127 b && nat_lt b 192
+
+abbrev pub is_first_of_two : ℕ → Bool
+is_first_of_two b = nat_lt 193 b && nat_lt b 224
+
+abbrev pub is_first_of_three : ℕ → Bool
+is_first_of_three b = nat_lt 224 b && nat_lt b 237
+
+-- the bytes of these characters in UTF-8, none of which is a CR or U+FEFF
+pub record IsSpelled (t : List ℕ) (bytes : List ℕ) : Type 0 where
+  pub spelled : bytes ≡ encode_utf8_all t
+  pub scalars : all_scalars t ≡ true
+  pub plain : All IsPlain t
+
+-- the bytes of a piece in no style, but a blank, a span mark or an unknown tag
+pub record IsWord (bytes : List ℕ) : Type 0 where
+  pub kind : PieceKind
+  pub text : List ℕ
+  pub spells : IsSpelled (spelling (printed_piece kind text)) bytes
+  pub stable : Stable (printed_piece kind text)
+  pub says : (w b : Bool) → Says kind text w b
+  pub word : is_word_kind (Some kind) ≡ true
+  pub known : is_unknown kind ≡ false
+
+-- the bytes of such pieces, with single blanks between them
+pub record IsRun (bytes : List ℕ) : Type 0 where
+  pub pieces : List PieceFacts
+  pub spells : IsSpelled (printed_text pieces) bytes
+  pub good : AllGood false false pieces
+  pub known : AllKnown pieces
+  pub no_blank : blank_after false pieces ≡ false
+  pub word : 0 < length bytes → word_after false pieces ≡ true
