@@ -10,3 +10,4 @@ pub mod KeptCharacters
 pub mod NothingBehindTheEnd
 pub mod PiecesFollowCharacters
 pub mod RegularBytes
+pub mod RegularParts

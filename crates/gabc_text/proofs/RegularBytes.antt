@@ -1,9 +1,9 @@
 -- Bytes of letters and of runs, one after another.
-use Rattle.std.proofs.Common.{◌≡◌, ℕ, ◌<◌, List, [], ◌∷◌, ◌++◌, Bool, true, false, not, ◌||◌, ◌&&◌, ◌==◌, length, refl, sym, ap, ap₂, subst, ◌∙◌, arith, ◌+◌, ◌-◌, ◌≤◌, take, drop, get_or, append-nil, take_all, length-drop, drop-cons, ◌*◌, ◌/◌, ◌%◌, nat_lt, mod-lt, Some, None, map}
-use Rattle.std.specs.List.{All}
+use Rattle.std.proofs.Common.{◌≡◌, ℕ, ◌<◌, List, [], ◌∷◌, ◌++◌, Bool, true, false, not, ◌||◌, ◌&&◌, ◌==◌, length, refl, sym, ap, ap₂, subst, ◌∙◌, arith, ◌+◌, ◌-◌, ◌≤◌, take, drop, get_or, append-nil, take_all, length-drop, drop-cons, ◌*◌, ◌/◌, ◌%◌, nat_lt, mod-lt, Some}
+use Rattle.std.specs.List.{All, list_all}
 use Rattle.std.specs.Str.{chars, all_scalars}
 use Rattle.std.proofs.lemmas.List.Elements.{All-append, All-from_recursion}
-use Rattle.std.proofs.lemmas.Bool.{eqb-true, ltb-true, ltb-false, lt-ltb, true≢false}
+use Rattle.std.proofs.lemmas.Bool.{eqb-true, eqb-false, ltb-true, ltb-false, lt-ltb, true≢false}
 use Rattle.std.proofs.Math.Nat.{div-add-mod}
 use Rattle.std.proofs.Math.Seq.{take-add}
 use Rattle.std.proofs.lemmas.List.{length-take-le}
@@ -15,17 +15,14 @@ use Rattle.gabc_text.specs.declared.view.PieceKind.{PieceKind}
 use Rattle.gabc_text.specs.declared.view.PieceKind.TheVariants as piece
 use Rattle.gabc_text.specs.Token.{is_blank, is_special, spelling}
 use Rattle.gabc_text.specs.View.{PieceFacts, is_word_kind, is_blank_piece}
-use Rattle.gabc_text.specs.ViewFacts.{ViewFacts}
-use Rattle.gabc_text.specs.Printed.{printed_piece, print, print_from, text_of_tokens}
-use Rattle.gabc_text.specs.RegularText.{IsRegularText, is_letter_byte}
-use Rattle.gabc_text.specs.machine.PrintedPieces.{Good, AllGood, Says}
+use Rattle.gabc_text.specs.Printed.{printed_piece}
+use Rattle.gabc_text.specs.RegularText.{is_letter_byte}
+use Rattle.gabc_text.specs.machine.PrintedPieces.{Good, Says}
 use Rattle.gabc_text.specs.machine.RegularBytes.{is_continuation, is_first_of_two, is_first_of_three, word_after, blank_after, printed_text, IsSpelled, IsWord, IsRun}
 use Rattle.gabc_text.proofs.tokens.CasesOfCharacters.{and_both}
 use Rattle.gabc_text.proofs.printing.TokensAreReadAgain.{letter_stable}
 use Rattle.gabc_text.proofs.printing.PiecesPrintWell.{letter_emits, special_no_blank}
-use Rattle.gabc_text.proofs.printing.PrintedPiecesAreJoined.{printed_join, good_join, known_join, word_join, blank_join, in_styles, good_in, known_in, blank_in, none_taken, plain_printed}
-use Rattle.gabc_text.proofs.printing.PrintedTextIsReadAgain.{Sound}
-use Rattle.gabc_text.proofs.printing.PrintedViewIsRegular.{regular_is}
+use Rattle.gabc_text.proofs.printing.PrintedPiecesAreJoined.{printed_join, good_join, known_join, word_join, blank_join}
 
 no_or : (a b : Bool) → (a || b) ≡ false → (a ≡ false) × (b ≡ false)
 no_or true b e = absurd (cc)
@@ -63,6 +60,17 @@ one_spelled b less n = record {
   plain = one_plain b (n, (λ e. omega arith));
 }
 
+abbrev pub is_low : ℕ → Bool
+is_low b = nat_lt b 128 && not (b == 13)
+
+-- characters of one byte
+pub ascii_spelled : (t : List ℕ) → list_all is_low t ≡ true → IsSpelled t t
+ascii_spelled [] h = none_spelled
+ascii_spelled (b ∷ t) h =
+    let f = and_both (is_low b) (list_all is_low t) h in
+    let g = and_both (nat_lt b 128) (not (b == 13)) f.0 in
+    spelled_join (b ∷ []) t (b ∷ []) t (one_spelled b (ltb-true b 128 g.0) (eqb-false b 13 (no_not (b == 13) g.1))) (ascii_spelled t f.1)
+
 -- ---- pieces and runs
 
 no_blank_kind : (k : PieceKind) (t : List ℕ) → ((w b : Bool) → Says k t w b) → is_blank_piece k ≡ false
@@ -78,10 +86,10 @@ plain_piece bytes p = record { kind = p.kind; styles = []; text = p.text }
 word_good : (bytes : List ℕ) (p : IsWord bytes) (w b : Bool) → Good (plain_piece bytes p) w b
 word_good bytes p w b = record { test = λ s. false; styles_are = refl; stable = p.stable; reads_so = p.says w b }
 
-abbrev blank : PieceFacts
+abbrev pub blank : PieceFacts
 blank = record { kind = piece.Blank; styles = []; text = [] }
 
-blank_good : Good blank true false
+pub blank_good : Good blank true false
 blank_good = record { test = λ s. false; styles_are = refl; stable = λ u. refl; reads_so = (refl, refl, refl) }
 
 after_word : (bs : List ℕ) (p : IsWord bs) (w : Bool) → (is_word_kind (Some p.kind) || w) ≡ true
@@ -284,7 +292,7 @@ three_at (a ∷ b ∷ []) n h g k = absurd (omega arith)
 three_at (a ∷ b ∷ d ∷ l) n h g k = triple_is a b d h g k
 
 -- all that is behind so many bytes
-behind_is : (l : List ℕ) (n : ℕ) → take (length l - n) (drop n l) ≡ drop n l
+pub behind_is : (l : List ℕ) (n : ℕ) → take (length l - n) (drop n l) ≡ drop n l
 behind_is l n = take_all (length l - n) (drop n l) (omega (arith, length-drop n l))
 
 pub word_step : (l : List ℕ) (n r : ℕ) → IsWord (take r (take (length l - n) (drop n l))) → IsRun (take n l) → IsRun (take (n + r) l)
@@ -293,7 +301,7 @@ word_step l n r h s =
     (run_more (take n l) (take r (drop n l)) (subst (λ (xs : List ℕ). IsWord (take r xs)) (behind_is l n) h) s)
 
 -- from where a blank stands
-at_blank : (l : List ℕ) (n r : ℕ) → n < length l → get_or l n 0 ≡ 32 → take (r + 1) (drop n l) ≡ 32 ∷ take r (drop (n + 1) l)
+pub at_blank : (l : List ℕ) (n r : ℕ) → n < length l → get_or l n 0 ≡ 32 → take (r + 1) (drop n l) ≡ 32 ∷ take r (drop (n + 1) l)
 at_blank l n r less e = grind (arith, common_steps, drop-cons)
 
 pub blank_step : (l : List ℕ) (n r : ℕ) → 0 < n → n < length l → get_or l n 0 ≡ 32 → IsWord (take r (take (length l - (n + 1)) (drop (n + 1) l)))
@@ -303,27 +311,10 @@ blank_step l n r some less e h s =
     subst IsRun (sym (take-add n (r + 1) l ∙ ap (λ (xs : List ℕ). take n l ++ xs) cut))
     (run_blank (take n l) (take r (drop (n + 1) l)) (omega (arith, length-take-le n l (omega arith))) (subst (λ (xs : List ℕ). IsWord (take r xs)) (behind_is l (n + 1)) h) s)
 
--- ---- what a run is
-
-sound_of : (ps : List PieceFacts) → AllGood false false ps → blank_after false ps ≡ false → Sound (record { word_start = false; pieces = map (in_styles []) ps; centre = None; translation = None })
-sound_of ps g e = record {
-  good = good_in [] (λ s. false) false false ps refl g;
-  no_last = none_taken (map (in_styles []) ps) (blank_in [] false ps ∙ e);
-  centre_in = tt;
-  translation_in = tt;
-}
+-- ---- what they are
 
 pub chars_of : (t bs : List ℕ) → IsSpelled t bs → chars bs ≡ t
 chars_of t bs s = ap chars s.spelled ∙ chars-encodes t s.scalars
 
 pub is_text : (t bs : List ℕ) → IsSpelled t bs → IsText bs
 is_text t bs s = record { utf8 = (t, (s.scalars, sym s.spelled)); plain = subst (All IsPlain) (sym (chars_of t bs s)) s.plain }
-
-pub run_text : (bs : List ℕ) → IsRun bs → IsText bs
-run_text bs r = is_text (printed_text r.pieces) bs r.spells
-
-pub run_regular : (bs : List ℕ) → IsRun bs → IsRegularText (chars bs)
-run_regular bs r =
-    let v : ViewFacts = record { word_start = false; pieces = map (in_styles []) r.pieces; centre = None; translation = None } in
-    let e : print v ≡ chars bs = ap text_of_tokens (append-nil (print_from None 0 [] (map (in_styles []) r.pieces))) ∙ plain_printed r.pieces ∙ sym (chars_of (printed_text r.pieces) bs r.spells) in
-    subst IsRegularText e (regular_is v (sound_of r.pieces r.good r.no_blank) (known_in [] r.pieces r.known) refl)

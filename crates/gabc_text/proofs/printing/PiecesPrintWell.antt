@@ -136,7 +136,7 @@ good_by _ c s before w b p f e = absurd (cc)
 
 -- ---- the pieces of a text
 
-any_blank : (b d : Bool) (ps : List PieceFacts) → AllGood false b ps → AllGood false d ps
+pub any_blank : (b d : Bool) (ps : List PieceFacts) → AllGood false b ps → AllGood false d ps
 any_blank b d [] h = tt
 any_blank b d (p ∷ ps) h = (record { test = (h.0).test; styles_are = (h.0).styles_are; stable = (h.0).stable; reads_so = by p.kind (h.0).reads_so }, h.1)
   where

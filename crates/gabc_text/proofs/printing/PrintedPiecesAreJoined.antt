@@ -1,16 +1,19 @@
 -- Pieces one after another are printed one after another, if no style stays open between them.
-use Rattle.std.proofs.Common.{◌≡◌, ℕ, ◌+◌, List, [], ◌∷◌, ◌++◌, Bool, true, false, ◌||◌, refl, sym, ap, ◌∙◌, map, reverse, filter, append-nil, append_assoc, Some, None}
+use Rattle.std.proofs.lemmas.Bool.{eqb-true}
+use Rattle.std.proofs.Common.{◌≡◌, ℕ, ◌+◌, ◌<◌, ◌==◌, List, [], ◌∷◌, ◌++◌, Bool, true, false, ◌||◌, refl, sym, ap, ap₂, ◌∙◌, map, reverse, filter, append-nil, append_assoc, Option, Some, None, length, length-append, arith}
+use Rattle.gabc_places.specs.declared.place.Span.{Span}
 use Rattle.gabc_text.specs.declared.styles.Style.{Style}
 use Rattle.gabc_text.specs.declared.view.PieceKind.{PieceKind}
 use Rattle.gabc_text.specs.declared.view.PieceKind.TheVariants as piece
 use Rattle.gabc_text.specs.Token.{Token, spelling}
-use Rattle.gabc_text.specs.View.{PieceFacts, all_styles, is_word_kind, is_blank_piece}
-use Rattle.gabc_text.specs.ViewFacts.{but_blank}
+use Rattle.gabc_text.specs.View.{PieceFacts, is_same, all_styles, is_word_kind, is_blank_piece}
+use Rattle.gabc_text.specs.ViewFacts.{but_blank, LiesAmong}
 use Rattle.gabc_text.specs.Canonical.{after_common}
-use Rattle.gabc_text.specs.Printed.{closing_tag, tokens_between, print_from, text_of_tokens}
+use Rattle.gabc_text.specs.Printed.{opening_tag, closing_tag, brace_tokens, tokens_between, print_from, text_of_tokens}
 use Rattle.gabc_text.specs.machine.PrintedPieces.{AllGood, Says}
-use Rattle.gabc_text.specs.machine.RegularBytes.{AllKnown, word_after, blank_after, printed_as, printed_text}
+use Rattle.gabc_text.specs.machine.RegularBytes.{AllKnown, word_after, blank_after, first_styles, last_styles, AreApart, printed_as, printed_text}
 use Rattle.gabc_text.proofs.printing.NothingIsFoundInPrintedText.{itself}
+use Rattle.gabc_text.proofs.printing.PrintedTextIsKept.{written_append}
 
 -- ---- lists of pieces
 
@@ -112,3 +115,104 @@ word_in ss w (p ∷ ps) = word_in ss (is_word_kind (Some p.kind) || w) ps
 -- pieces in no style
 pub plain_printed : (ps : List PieceFacts) → text_of_tokens (print_from None 0 [] (map (in_styles []) ps)) ≡ printed_text ps
 plain_printed ps = ap text_of_tokens (run_behind 0 [] ps ∙ append-nil (map printed_as ps))
+
+-- ---- pieces behind others
+
+-- no brace stands from the position i on
+abbrev pub IsPast : Option Span → ℕ → Type 0
+IsPast None i = Unit {0}
+IsPast (Some c) i = (c.from < i) × (c.to < i)
+
+other : (d c : ℕ) → d < c → (d == c) ≡ false
+other d c h = by (d == c) refl
+  where
+    by : (b : Bool) → (d == c) ≡ b → b ≡ false
+    by false e = refl
+    by true e = absurd (let f = eqb-true d c e in omega arith)
+
+no_braces : (centre : Option Span) (i : ℕ) → IsPast centre i → brace_tokens centre i ≡ []
+no_braces None i h = refl
+no_braces (Some c) i h = rw (other c.from i h.0, other c.to i h.1) refl
+
+past_more : (centre : Option Span) (i : ℕ) → IsPast centre i → IsPast centre (i + 1)
+past_more None i h = tt
+past_more (Some c) i h = (omega (arith, h.0), omega (arith, h.1))
+
+pub past_braces : (centre : Option Span) (i k : ℕ) (old : List Style) (ps : List PieceFacts) → IsPast centre i → print_from centre i old ps ≡ print_from None k old ps
+past_braces centre i k old [] h = ap (λ (ks : List Token). tokens_between old [] ks) (no_braces centre i h)
+past_braces centre i k old (p ∷ ps) h =
+    ap₂ (λ (ks ls : List Token). tokens_between old p.styles ks ++ printed_as p ∷ ls) (no_braces centre i h) (past_braces centre (i + 1) (k + 1) p.styles ps (past_more centre i h))
+
+pub behind : (centre : Option Span) (i j : ℕ) (old : List Style) (ps : List PieceFacts) (q : PieceFacts) (qs : List PieceFacts) → i + length ps ≡ j → AreApart (last_styles old ps) q.styles
+    → print_from centre i old (ps ++ q ∷ qs) ≡ print_from centre i old ps ++ (map opening_tag q.styles ++ printed_as q ∷ print_from centre (j + 1) q.styles qs)
+behind centre i j old [] q qs e h =
+    let same : i ≡ j = omega (arith, e) in
+    let middle = brace_tokens centre i in
+    let more = printed_as q ∷ print_from centre (i + 1) q.styles qs in
+    ap (λ (left : List Style × List Style). (closings left.0 ++ middle ++ map opening_tag left.1) ++ more) h
+    ∙ append_assoc (closings old ++ middle) (map opening_tag q.styles) more
+    ∙ ap₂ (λ (ks : List Token) (n : ℕ). ks ++ (map opening_tag q.styles ++ printed_as q ∷ print_from centre (n + 1) q.styles qs)) (sym (at_end old middle)) same
+behind centre i j old (p ∷ ps) q qs e h =
+    let gap = tokens_between old p.styles (brace_tokens centre i) in
+    ap (λ (ks : List Token). gap ++ printed_as p ∷ ks) (behind centre (i + 1) j p.styles ps q qs (omega (arith, e)) h)
+    ∙ sym (append_assoc gap (printed_as p ∷ print_from centre (i + 1) p.styles ps) (map opening_tag q.styles ++ printed_as q ∷ print_from centre (j + 1) q.styles qs))
+
+past_all : (centre : Option Span) (n : ℕ) → LiesAmong n centre → IsPast centre (n + 1)
+past_all None n h = tt
+past_all (Some c) n h = (omega (arith, h.0, h.1), omega (arith, h.1))
+
+-- what is printed of pieces in a row
+pub text_join : (centre : Option Span) (ps qs : List PieceFacts) → LiesAmong (length ps) centre → blank_after true qs ≡ false → AreApart (last_styles [] ps) (first_styles qs)
+    → text_of_tokens (print_from centre 0 [] (ps ++ qs)) ≡ text_of_tokens (print_from centre 0 [] ps) ++ text_of_tokens (print_from None 0 [] qs)
+text_join centre ps [] l e h = absurd (cc)
+text_join centre ps (q ∷ qs) l e h =
+    let first = map opening_tag q.styles in
+    ap text_of_tokens (behind centre 0 (length ps) [] ps q qs (omega arith) h)
+    ∙ written_append (print_from centre 0 [] ps) (first ++ printed_as q ∷ print_from centre (length ps + 1) q.styles qs)
+    ∙ ap (λ (ks : List Token). text_of_tokens (print_from centre 0 [] ps) ++ text_of_tokens (first ++ printed_as q ∷ ks)) (past_braces centre (length ps + 1) (0 + 1) q.styles qs (past_all centre (length ps) l))
+
+pub among_more : (centre : Option Span) (ps qs : List PieceFacts) → LiesAmong (length ps) centre → LiesAmong (length (ps ++ qs)) centre
+among_more None ps qs h = tt
+among_more (Some c) ps qs h = (h.0, omega (arith, h.1, length-append ps qs))
+
+pub last_join : (old : List Style) (ps qs : List PieceFacts) → blank_after true qs ≡ false → last_styles old (ps ++ qs) ≡ last_styles [] qs
+last_join old ps [] e = absurd (cc)
+last_join old [] (q ∷ qs) e = refl
+last_join old (p ∷ ps) (q ∷ qs) e = last_join p.styles ps (q ∷ qs) e
+
+-- a blank in front changes nothing of what is printed behind it
+pub after_blank : (ps : List PieceFacts) → text_of_tokens (print_from None 0 [] (record { kind = piece.Blank; styles = []; text = [] } ∷ ps)) ≡ 32 ∷ text_of_tokens (print_from None 0 [] ps)
+after_blank ps = ap (λ (ks : List Token). 32 ∷ text_of_tokens ks) (past_braces None (0 + 1) 0 [] ps tt)
+
+pub some_blank : (b : Bool) (ps : List PieceFacts) → blank_after true ps ≡ false → blank_after b ps ≡ false
+some_blank b [] e = absurd (cc)
+some_blank b (p ∷ ps) e = e
+
+pub apart_none : (old : List Style) → AreApart old []
+apart_none old = old_alone old
+
+-- ---- a run in a style
+
+one_style : (s : Style) → Style → Bool
+one_style s r = is_same r s
+
+pub styled_printed : (s : Style) (ps : List PieceFacts) → blank_after true ps ≡ false
+    → text_of_tokens (print_from None 0 [] (map (in_styles (s ∷ [])) ps)) ≡ spelling (opening_tag s) ++ (printed_text ps ++ spelling (closing_tag s))
+styled_printed s [] e = absurd (cc)
+styled_printed s (p ∷ ps) e =
+    ap (λ (ks : List Token). spelling (opening_tag s) ++ (spelling (printed_as p) ++ text_of_tokens ks)) (run_behind (0 + 1) (s ∷ []) ps)
+    ∙ ap (λ (t : List ℕ). spelling (opening_tag s) ++ (spelling (printed_as p) ++ t)) (written_append (map printed_as ps) (closing_tag s ∷ []))
+    ∙ ap (λ (t : List ℕ). spelling (opening_tag s) ++ (spelling (printed_as p) ++ (printed_text ps ++ t))) (append-nil (spelling (closing_tag s)))
+    ∙ ap (λ (t : List ℕ). spelling (opening_tag s) ++ t) (sym (append_assoc (spelling (printed_as p)) (printed_text ps) (spelling (closing_tag s))))
+
+pub first_in : (ss : List Style) (ps : List PieceFacts) → blank_after true ps ≡ false → first_styles (map (in_styles ss) ps) ≡ ss
+first_in ss [] e = absurd (cc)
+first_in ss (p ∷ ps) e = refl
+
+pub last_in : (ss : List Style) (ps : List PieceFacts) → blank_after true ps ≡ false → last_styles [] (map (in_styles ss) ps) ≡ ss
+last_in ss [] e = absurd (cc)
+last_in ss (p ∷ ps) e = by ps
+  where
+    by : (ps : List PieceFacts) → last_styles ss (map (in_styles ss) ps) ≡ ss
+    by [] = refl
+    by (q ∷ ps) = by ps

@@ -1,13 +1,20 @@
 -- The bytes of a regular text, with the pieces that they spell.
-use Rattle.std.specs.Prelude.{◌≡◌, ℕ, ◌<◌, List, [], ◌∷◌, Bool, true, false, ◌&&◌, ◌||◌, nat_lt, length, map, Some, encode_utf8_all}
+use Rattle.std.specs.Prelude.{◌≡◌, ℕ, ◌<◌, List, [], ◌∷◌, ◌++◌, Bool, true, false, ◌&&◌, ◌||◌, nat_lt, length, map, Option, Some, None, encode_utf8_all}
 use Rattle.std.specs.Str.{all_scalars}
 use Rattle.std.specs.List.{All}
 use Rattle.gabc_places.specs.TextOfAnInput.{IsPlain}
+use Rattle.gabc_places.specs.declared.place.Span.{Span}
+use Rattle.gabc_text.specs.declared.styles.Style.{Style}
+use Rattle.gabc_text.specs.declared.styles.Styles.{Styles}
+use Rattle.gabc_text.specs.declared.regular.Before.{Before}
+use Rattle.gabc_text.specs.declared.regular.Part.{Part}
 use Rattle.gabc_text.specs.declared.view.PieceKind.{PieceKind}
 use Rattle.gabc_text.specs.declared.view.PieceKind.TheVariants as piece
 use Rattle.gabc_text.specs.Token.{Token, spelling}
 use Rattle.gabc_text.specs.View.{PieceFacts, is_word_kind, is_blank_piece}
-use Rattle.gabc_text.specs.Printed.{printed_piece, text_of_tokens}
+use Rattle.gabc_text.specs.ViewFacts.{LiesAmong}
+use Rattle.gabc_text.specs.Canonical.{after_common, listed_styles}
+use Rattle.gabc_text.specs.Printed.{printed_piece, print_from, text_of_tokens}
 use Rattle.gabc_text.specs.machine.PrintedPieces.{Stable, Says, AllGood}
 
 -- ---- pieces
@@ -30,6 +37,19 @@ word_after w (p ∷ ps) = word_after (is_word_kind (Some p.kind) || w) ps
 abbrev pub blank_after : Bool → List PieceFacts → Bool
 blank_after b [] = b
 blank_after b (p ∷ ps) = blank_after (is_blank_piece p.kind) ps
+
+-- the styles of the first of these, and of the last, or, if there is none, of what stands before them
+abbrev pub first_styles : List PieceFacts → List Style
+first_styles [] = []
+first_styles (p ∷ ps) = p.styles
+
+abbrev pub last_styles : List Style → List PieceFacts → List Style
+last_styles old [] = old
+last_styles old (p ∷ ps) = last_styles p.styles ps
+
+-- no style stays open between them
+abbrev pub AreApart : List Style → List Style → Type 0
+AreApart old new = after_common old new ≡ (old, new)
 
 abbrev pub printed_as : PieceFacts → Token
 printed_as p = printed_piece p.kind p.text
@@ -74,3 +94,37 @@ pub record IsRun (bytes : List ℕ) : Type 0 where
   pub known : AllKnown pieces
   pub no_blank : blank_after false pieces ≡ false
   pub word : 0 < length bytes → word_after false pieces ≡ true
+
+-- the bytes of a run with something, between these
+pub record IsEnclosed (opening closing bytes : List ℕ) : Type 0 where
+  pub inner : List ℕ
+  pub run : IsRun inner
+  pub some : 0 < length inner
+  pub parts : bytes ≡ opening ++ (inner ++ closing)
+
+-- the bytes of some pieces, from the first of which to the last no style stays open but these
+pub record IsPart (styles : Styles) (word : Bool) (bytes : List ℕ) : Type 0 where
+  pub pieces : List PieceFacts
+  pub spells : IsSpelled (text_of_tokens (print_from None 0 [] pieces)) bytes
+  pub good : AllGood false false pieces
+  pub known : AllKnown pieces
+  pub some : blank_after true pieces ≡ false
+  pub first_are : first_styles pieces ≡ listed_styles styles
+  pub last_are : last_styles [] pieces ≡ listed_styles styles
+  pub word_is : word ≡ true → word_after false pieces ≡ true
+
+-- what is known of a text with a part behind it
+abbrev pub through : Before → Part → Before
+through b p = record { styles = p.styles; word = b.word || p.word }
+
+-- the bytes of a regular text that has no translation, of which this is known
+pub record IsBegun (before : Before) (bytes : List ℕ) : Type 0 where
+  pub pieces : List PieceFacts
+  pub middle : Option Span
+  pub spells : IsSpelled (text_of_tokens (print_from middle 0 [] pieces)) bytes
+  pub good : AllGood false false pieces
+  pub known : AllKnown pieces
+  pub no_blank : blank_after false pieces ≡ false
+  pub last_are : last_styles [] pieces ≡ listed_styles before.styles
+  pub word_is : before.word ≡ true → word_after false pieces ≡ true
+  pub middle_in : LiesAmong (length pieces) middle
