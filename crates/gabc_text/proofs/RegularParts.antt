@@ -1,12 +1,12 @@
 -- Parts of a regular text, one after another.
-use Rattle.std.proofs.Common.{◌≡◌, ℕ, ◌<◌, ◌≤◌, ◌+◌, ◌-◌, ◌==◌, List, [], ◌∷◌, ◌++◌, Bool, true, false, not, ◌||◌, ◌&&◌, length, refl, sym, ap, ap₂, subst, ◌∙◌, arith, take, drop, get_or, map, append-nil, append_assoc, Option, Some, None}
+use Rattle.std.proofs.Common.{◌≡◌, ℕ, ◌<◌, ◌≤◌, ◌+◌, ◌-◌, ◌==◌, List, [], ◌∷◌, ◌++◌, Bool, true, false, not, ◌||◌, ◌&&◌, length, refl, sym, ap, ap₂, subst, ◌∙◌, arith, take, drop, get_or, map, append-nil, append_assoc, length-append, Option, Some, None}
 use Rattle.std.specs.Str.{chars}
 use Rattle.std.specs.Cmp.Lexicographic.{pointwise}
 use Rattle.std.proofs.lemmas.Bool.{true≢false}
 use Rattle.std.proofs.lemmas.Bool.Decides.{Decides-eqb}
 use Rattle.std.proofs.lemmas.Slice.Eq.{starts_is}
 use Rattle.std.proofs.Math.Seq.{take-add}
-use Rattle.std.proofs.lemmas.List.{length-take-le}
+use Rattle.std.proofs.lemmas.List.{length-take-le, length-map}
 use Rattle.gabc_places.specs.declared.place.Span.{Span}
 use Rattle.gabc_places.specs.TextOfAnInput.{IsText}
 use Rattle.gabc_text.specs.declared.styles.Style.{Style}
@@ -28,7 +28,7 @@ use Rattle.gabc_text.proofs.RegularBytes.{ascii_spelled, spelled_join, one_spell
 use Rattle.gabc_text.proofs.printing.PrintedTagsOpenStyles.{member, member_filter}
 use Rattle.gabc_text.proofs.printing.PrintedTextIsReadAgain.{Sound, IsCentre}
 use Rattle.gabc_text.proofs.printing.PrintedViewIsRegular.{regular_is}
-use Rattle.gabc_text.proofs.printing.PrintedPiecesAreJoined.{in_styles, good_in, known_in, blank_in, word_in, first_in, last_in, none_taken, plain_printed, styled_printed, text_join, good_join, good_behind, known_join, word_join, word_stays, blank_join, among_more, last_join, after_blank, some_blank, apart_none}
+use Rattle.gabc_text.proofs.printing.PrintedPiecesAreJoined.{in_styles, good_in, known_in, blank_in, word_in, first_in, last_in, none_taken, plain_printed, styled_printed, text_join, good_join, good_behind, known_join, word_join, word_stays, blank_join, among_more, centre_text, last_join, after_blank, some_blank, apart_none}
 
 -- ---- sets of styles
 
@@ -163,7 +163,7 @@ enclosed_is l a b n x y e f g h some less r =
 -- ---- a part behind others
 
 pub more_begun : (b : Before) (ss : Styles) (w : Bool) (bs more : List ℕ) → IsBegun b bs → IsPart ss w more → AreApart (listed_styles b.styles) (listed_styles ss)
-    → IsBegun (record { styles = ss; word = b.word || w }) (bs ++ more)
+    → IsBegun (record { styles = ss; word = b.word || w; centre = b.centre }) (bs ++ more)
 more_begun b ss w bs more x p h =
     let apart : AreApart (last_styles [] x.pieces) (first_styles p.pieces) = subst (λ (u : List Style). AreApart u (first_styles p.pieces)) (sym x.last_are) (subst (λ (u : List Style). AreApart (listed_styles b.styles) u) (sym p.first_are) h) in
     record {
@@ -177,6 +177,7 @@ more_begun b ss w bs more x p h =
       last_are = last_join [] x.pieces p.pieces p.some ∙ p.last_are;
       word_is = λ e. word_join false x.pieces p.pieces ∙ word b.word refl e;
       middle_in = among_more x.middle x.pieces p.pieces x.middle_in;
+      no_middle = x.no_middle;
     }
   where
     up : (z : Bool) → word_after false p.pieces ≡ true → word_after z p.pieces ≡ true
@@ -188,7 +189,7 @@ more_begun b ss w bs more x p h =
     word false e f = up (word_after false x.pieces) (p.word_is f)
 
 pub blank_begun : (b : Before) (ss : Styles) (w : Bool) (bs more : List ℕ) → b.word ≡ true → IsBegun b bs → IsPart ss w more
-    → IsBegun (record { styles = ss; word = b.word || w }) (bs ++ 32 ∷ more)
+    → IsBegun (record { styles = ss; word = b.word || w; centre = b.centre }) (bs ++ 32 ∷ more)
 blank_begun b ss w bs more e x p =
     let word = x.word_is e in
     record {
@@ -207,6 +208,7 @@ blank_begun b ss w bs more e x p =
       last_are = last_join [] x.pieces (blank ∷ p.pieces) (some_blank true p.pieces p.some) ∙ p.last_are;
       word_is = λ _. word_join false x.pieces (blank ∷ p.pieces) ∙ word_stays p.pieces;
       middle_in = among_more x.middle x.pieces (blank ∷ p.pieces) x.middle_in;
+      no_middle = x.no_middle;
     }
 
 pub no_text : (b : Before) → b.styles ≡ no_styles → b.word ≡ false → IsBegun b []
@@ -220,7 +222,41 @@ no_text b e f = record {
   last_are = sym (none_listed b.styles e);
   word_is = λ g. absurd (true≢false (sym g ∙ f));
   middle_in = tt;
+  no_middle = λ g. refl;
 }
+
+-- the centre, whose pieces have no style
+centre_begun : (b : Before) (a : Before) (bs more : List ℕ) → IsBegun b bs → b.centre ≡ false → IsEnclosed (123 ∷ []) (125 ∷ []) more → a.styles ≡ no_styles → a.centre ≡ true → IsBegun a (bs ++ more)
+centre_begun b a bs more x h m e f =
+    let r = m.run in
+    let some = run_some m.inner m.run m.some in
+    let n = length x.pieces in
+    let c : Span = record { from = length x.pieces; to = length x.pieces + length (m.run).pieces } in
+    let none = x.no_middle h in
+    let qs = map (in_styles []) (m.run).pieces in
+    let before : IsSpelled (text_of_tokens (print_from None 0 [] x.pieces)) bs = subst (λ (o : Option Span). IsSpelled (text_of_tokens (print_from o 0 [] x.pieces)) bs) none x.spells in
+    let inner = printed_text (m.run).pieces in
+    record {
+      pieces = x.pieces ++ map (in_styles []) (m.run).pieces;
+      middle = Some c;
+      spells = subst (λ (t : List ℕ). IsSpelled t (bs ++ more)) (sym (centre_text c x.pieces (m.run).pieces some refl refl))
+          (subst (λ (u : List ℕ). IsSpelled (text_of_tokens (print_from None 0 [] x.pieces) ++ 123 ∷ (printed_text (m.run).pieces ++ 125 ∷ [])) (bs ++ u)) (sym m.parts)
+          (spelled_join (text_of_tokens (print_from None 0 [] x.pieces)) (123 ∷ (inner ++ 125 ∷ [])) bs (123 ∷ (m.inner ++ 125 ∷ [])) before
+          (spelled_join (123 ∷ []) (inner ++ 125 ∷ []) (123 ∷ []) (m.inner ++ 125 ∷ []) (ascii_spelled (123 ∷ []) refl)
+          (spelled_join inner (125 ∷ []) m.inner (125 ∷ []) (m.run).spells (ascii_spelled (125 ∷ []) refl)))));
+      good = good_join false false x.pieces qs x.good (subst (λ (z : Bool). AllGood (word_after false x.pieces) z qs) (sym x.no_blank)
+          (good_behind false (word_after false x.pieces) false qs (good_in [] (λ s. false) false false (m.run).pieces refl (m.run).good) (λ g. absurd (cc))));
+      known = known_join x.pieces qs x.known (known_in [] (m.run).pieces (m.run).known);
+      no_blank = blank_join false x.pieces qs ∙ some_blank (blank_after false x.pieces) qs (blank_in [] true (m.run).pieces ∙ some);
+      last_are = last_join [] x.pieces qs (blank_in [] true (m.run).pieces ∙ some) ∙ last_in [] (m.run).pieces some ∙ sym (none_listed a.styles e);
+      word_is = λ _. word_join false x.pieces qs ∙ up (word_after false x.pieces) (word_in [] false (m.run).pieces ∙ (m.run).word m.some);
+      middle_in = (omega arith, omega (arith, length-append x.pieces qs, length-map (m.run).pieces (in_styles [])));
+      no_middle = λ g. absurd (true≢false (sym f ∙ g));
+    }
+  where
+    up : (z : Bool) → word_after false (map (in_styles []) (m.run).pieces) ≡ true → word_after z (map (in_styles []) (m.run).pieces) ≡ true
+    up true e = word_stays (map (in_styles []) (m.run).pieces)
+    up false e = e
 
 -- ---- what the whole is
 
@@ -245,16 +281,22 @@ begun_regular b bs x =
 -- ---- where they stand
 
 pub more_step : (b : Before) (ss : Styles) (w : Bool) (l : List ℕ) (n r : ℕ) → IsPart ss w (take r (take (length l - n) (drop n l))) → AreApart (listed_styles b.styles) (listed_styles ss) → IsBegun b (take n l)
-    → IsBegun (record { styles = ss; word = b.word || w }) (take (n + r) l)
+    → IsBegun (record { styles = ss; word = b.word || w; centre = b.centre }) (take (n + r) l)
 more_step b ss w l n r h g x =
-    subst (IsBegun (record { styles = ss; word = b.word || w })) (sym (take-add n r l))
+    subst (IsBegun (record { styles = ss; word = b.word || w; centre = b.centre })) (sym (take-add n r l))
     (more_begun b ss w (take n l) (take r (drop n l)) x (subst (λ (xs : List ℕ). IsPart ss w (take r xs)) (behind_is l n) h) g)
 
+pub centre_step : (b a : Before) (l : List ℕ) (n r : ℕ) → IsEnclosed (123 ∷ []) (125 ∷ []) (take r (take (length l - n) (drop n l))) → b.centre ≡ false → a.styles ≡ no_styles → a.centre ≡ true → IsBegun b (take n l)
+    → IsBegun a (take (n + r) l)
+centre_step b a l n r h g e f x =
+    subst (IsBegun a) (sym (take-add n r l))
+    (centre_begun b a (take n l) (take r (drop n l)) x g (subst (λ (xs : List ℕ). IsEnclosed (123 ∷ []) (125 ∷ []) (take r xs)) (behind_is l n) h) e f)
+
 pub blank_more_step : (b : Before) (ss : Styles) (w : Bool) (l : List ℕ) (n r : ℕ) → not b.word ≡ false → n < length l → get_or l n 0 ≡ 32 → IsPart ss w (take r (take (length l - (n + 1)) (drop (n + 1) l)))
-    → IsBegun b (take n l) → IsBegun (record { styles = ss; word = b.word || w }) (take (n + (r + 1)) l)
+    → IsBegun b (take n l) → IsBegun (record { styles = ss; word = b.word || w; centre = b.centre }) (take (n + (r + 1)) l)
 blank_more_step b ss w l n r some less e h x =
     let cut : take (r + 1) (drop n l) ≡ 32 ∷ take r (drop (n + 1) l) = at_blank l n r less e in
-    subst (IsBegun (record { styles = ss; word = b.word || w })) (sym (take-add n (r + 1) l ∙ ap (λ (xs : List ℕ). take n l ++ xs) cut))
+    subst (IsBegun (record { styles = ss; word = b.word || w; centre = b.centre })) (sym (take-add n (r + 1) l ∙ ap (λ (xs : List ℕ). take n l ++ xs) cut))
     (blank_begun b ss w (take n l) (take r (drop (n + 1) l)) (yes b.word some) x (subst (λ (xs : List ℕ). IsPart ss w (take r xs)) (behind_is l (n + 1)) h))
   where
     yes : (a : Bool) → not a ≡ false → a ≡ true

@@ -170,6 +170,8 @@ struct Before {
     styles: Styles,
     /// Whether a piece but a span mark stands in it, so that a blank may follow.
     word: bool,
+    /// Whether it has a centre.
+    centre: bool,
 }
 
 /// A part of a text: some pieces with the same styles.
@@ -187,6 +189,7 @@ impl Before {
     const NOTHING: Before = Before {
         styles: Styles::NONE,
         word: false,
+        centre: false,
     };
 
     /// Returns what stands before what follows `part`.
@@ -196,6 +199,7 @@ impl Before {
         Before {
             styles: part.styles,
             word: self.word || part.word,
+            ..self
         }
     }
 }
@@ -268,6 +272,28 @@ fn step_after_blank(bytes: &[u8], end: usize, before: Before) -> Option<Step>
     })
 }
 
+/// Returns what a text goes on with from `end`, of which `before` is known, if that is its centre: a
+/// run within braces.
+fn centre_step(bytes: &[u8], end: usize, before: Before) -> Option<Step>
+    requires { end < length bytes.now }
+    ensures within { IfSome result (λ s. (0 < s.len) × (end + s.len ≤ length bytes.now)) }
+    ensures goes_on { IfSome result (λ s. IsBegun before (take end bytes.now) →
+        IsBegun s.before (take (end + s.len) bytes.now)) }
+{
+    let len = enclosed_len(&bytes[end..], b"{", b"}");
+    if len == 0 || before.centre {
+        return None;
+    }
+    Some(Step {
+        len,
+        before: Before {
+            styles: Styles::NONE,
+            word: true,
+            centre: true,
+        },
+    })
+}
+
 /// Returns what a text goes on with from `end`, of which `before` is known.
 fn next_step(bytes: &[u8], end: usize, before: Before) -> Option<Step>
     requires { end < length bytes.now }
@@ -277,18 +303,19 @@ fn next_step(bytes: &[u8], end: usize, before: Before) -> Option<Step>
     ensures stops { result ≡ None → is_letter_byte (get_or bytes.now end 0) ≡ false }
 {
     match next_part(&bytes[end..], before.styles) {
-        None => step_after_blank(bytes, end, before),
         Some(part) => Some(Step {
             len: part.len,
             before: before.through(part),
         }),
+        None if bytes[end] == b' ' => step_after_blank(bytes, end, before),
+        None => centre_step(bytes, end, before),
     }
 }
 
 /// Returns how many of the first of `bytes` are a text that is printed as it stands in front of a
 /// `(`, and in which nothing is found (`laws::a_regular_text_is_printed_as_it_stands`): letters, with
-/// single blanks between them, some of them within the tags of a style. It goes past each letter of
-/// ASCII.
+/// single blanks between them, some of them within the tags of a style, some in one centre. It goes
+/// past each letter of ASCII.
 pub fn regular_text(bytes: &[u8]) -> usize
     ensures within { result ≤ length bytes.now }
     ensures text { IsText (take result bytes.now) }

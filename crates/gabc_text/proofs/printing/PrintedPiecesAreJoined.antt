@@ -1,6 +1,6 @@
 -- Pieces one after another are printed one after another, if no style stays open between them.
 use Rattle.std.proofs.lemmas.Bool.{eqb-true}
-use Rattle.std.proofs.Common.{◌≡◌, ℕ, ◌+◌, ◌<◌, ◌==◌, List, [], ◌∷◌, ◌++◌, Bool, true, false, ◌||◌, refl, sym, ap, ap₂, ◌∙◌, map, reverse, filter, append-nil, append_assoc, Option, Some, None, length, length-append, arith}
+use Rattle.std.proofs.Common.{◌≡◌, ℕ, ◌+◌, ◌<◌, ◌==◌, List, [], ◌∷◌, ◌++◌, Bool, true, false, ◌||◌, refl, sym, ap, ap₂, ◌∙◌, map, reverse, filter, append-nil, append_assoc, Option, Some, None, length, length-append, eq-eqb, arith}
 use Rattle.gabc_places.specs.declared.place.Span.{Span}
 use Rattle.gabc_text.specs.declared.styles.Style.{Style}
 use Rattle.gabc_text.specs.declared.view.PieceKind.{PieceKind}
@@ -9,7 +9,7 @@ use Rattle.gabc_text.specs.Token.{Token, spelling}
 use Rattle.gabc_text.specs.View.{PieceFacts, is_same, all_styles, is_word_kind, is_blank_piece}
 use Rattle.gabc_text.specs.ViewFacts.{but_blank, LiesAmong}
 use Rattle.gabc_text.specs.Canonical.{after_common}
-use Rattle.gabc_text.specs.Printed.{opening_tag, closing_tag, brace_tokens, tokens_between, print_from, text_of_tokens}
+use Rattle.gabc_text.specs.Printed.{opening_tag, closing_tag, begin_brace, end_brace, brace_tokens, tokens_between, print_from, text_of_tokens}
 use Rattle.gabc_text.specs.machine.PrintedPieces.{AllGood, Says}
 use Rattle.gabc_text.specs.machine.RegularBytes.{AllKnown, word_after, blank_after, first_styles, last_styles, AreApart, printed_as, printed_text}
 use Rattle.gabc_text.proofs.printing.NothingIsFoundInPrintedText.{itself}
@@ -216,3 +216,51 @@ last_in ss (p ∷ ps) e = by ps
     by : (ps : List PieceFacts) → last_styles ss (map (in_styles ss) ps) ≡ ss
     by [] = refl
     by (q ∷ ps) = by ps
+
+-- ---- the centre
+
+differs : (d c : ℕ) → (d ≡ c → ⊥) → (d == c) ≡ false
+differs d c h = by (d == c) refl
+  where
+    by : (b : Bool) → (d == c) ≡ b → b ≡ false
+    by false e = refl
+    by true e = absurd (h (eqb-true d c e))
+
+-- in front of the centre
+begun_centre : (c : Span) (i : ℕ) (old : List Style) (ps : List PieceFacts) → i + length ps ≡ c.from → c.from < c.to
+    → print_from (Some c) i old ps ≡ print_from None i old ps ++ begin_brace ∷ []
+begun_centre c i old [] e h =
+    let at_from : (c.from == i) ≡ true = eq-eqb c.from i (omega (arith, e)) in
+    let no_to : (c.to == i) ≡ false = differs c.to i (λ f. omega (arith, e, h, f)) in
+    let brace : brace_tokens (Some c) i ≡ begin_brace ∷ [] = rw (at_from, no_to) refl in
+    at_end old (brace_tokens (Some c) i) ∙ ap (λ (ks : List Token). closings old ++ ks) brace ∙ ap (λ (ks : List Token). ks ++ begin_brace ∷ []) (sym (at_end old [] ∙ append-nil (closings old)))
+begun_centre c i old (p ∷ ps) e h =
+    let no_from : (c.from == i) ≡ false = differs c.from i (λ f. omega (arith, e, f)) in
+    let no_to : (c.to == i) ≡ false = differs c.to i (λ f. omega (arith, e, h, f)) in
+    let none : brace_tokens (Some c) i ≡ [] = rw (no_from, no_to) refl in
+    let gap = tokens_between old p.styles [] in
+    ap₂ (λ (ks ls : List Token). tokens_between old p.styles ks ++ printed_as p ∷ ls) none (begun_centre c (i + 1) p.styles ps (omega (arith, e)) h)
+    ∙ sym (append_assoc gap (printed_as p ∷ print_from None (i + 1) p.styles ps) (begin_brace ∷ []))
+
+-- within it
+ended_centre : (c : Span) (j : ℕ) (rs : List PieceFacts) → c.from < j → j + length rs ≡ c.to
+    → print_from (Some c) j [] (map (in_styles []) rs) ≡ map printed_as rs ++ end_brace ∷ []
+ended_centre c j [] h e =
+    let no_from : (c.from == j) ≡ false = differs c.from j (λ f. omega (arith, h, f)) in
+    let at_to : (c.to == j) ≡ true = eq-eqb c.to j (omega (arith, e)) in
+    rw (no_from, at_to) refl
+ended_centre c j (r ∷ rs) h e =
+    let no_from : (c.from == j) ≡ false = differs c.from j (λ f. omega (arith, h, f)) in
+    let no_to : (c.to == j) ≡ false = differs c.to j (λ f. omega (arith, e, f)) in
+    rw (no_from, no_to) (ap (λ (ks : List Token). printed_as r ∷ ks) (ended_centre c (j + 1) rs (omega (arith, h)) (omega (arith, e))))
+
+pub centre_text : (c : Span) (ps rs : List PieceFacts) → blank_after true rs ≡ false → c.from ≡ length ps → c.to ≡ length ps + length rs
+    → text_of_tokens (print_from (Some c) 0 [] (ps ++ map (in_styles []) rs)) ≡ text_of_tokens (print_from None 0 [] ps) ++ 123 ∷ (printed_text rs ++ 125 ∷ [])
+centre_text c ps [] e f g = absurd (cc)
+centre_text c ps (r ∷ rs) e f g =
+    let before = print_from None 0 [] ps in
+    ap text_of_tokens (behind (Some c) 0 (length ps) [] ps (in_styles [] r) (map (in_styles []) rs) (omega arith) (apart_none (last_styles [] ps))
+    ∙ ap₂ (λ (ks ls : List Token). ks ++ printed_as r ∷ ls) (begun_centre c 0 [] ps (omega (arith, f)) (omega (arith, f, g))) (ended_centre c (length ps + 1) rs (omega (arith, f)) (omega (arith, g))))
+    ∙ written_append (before ++ begin_brace ∷ []) (printed_as r ∷ map printed_as rs ++ end_brace ∷ [])
+    ∙ ap₂ (λ (t u : List ℕ). t ++ u) (written_append before (begin_brace ∷ [])) (written_append (printed_as r ∷ map printed_as rs) (end_brace ∷ []))
+    ∙ append_assoc (text_of_tokens before) (123 ∷ []) (printed_text (r ∷ rs) ++ 125 ∷ [])

@@ -115,7 +115,7 @@ pub record IsPart (styles : Styles) (word : Bool) (bytes : List ℕ) : Type 0 wh
 
 -- what is known of a text with a part behind it
 abbrev pub through : Before → Part → Before
-through b p = record { styles = p.styles; word = b.word || p.word }
+through b p = record { styles = p.styles; word = b.word || p.word; centre = b.centre }
 
 -- the bytes of a regular text that has no translation, of which this is known
 pub record IsBegun (before : Before) (bytes : List ℕ) : Type 0 where
@@ -128,3 +128,4 @@ pub record IsBegun (before : Before) (bytes : List ℕ) : Type 0 where
   pub last_are : last_styles [] pieces ≡ listed_styles before.styles
   pub word_is : before.word ≡ true → word_after false pieces ≡ true
   pub middle_in : LiesAmong (length pieces) middle
+  pub no_middle : before.centre ≡ false → middle ≡ None
