@@ -11,3 +11,4 @@ pub mod NothingBehindTheEnd
 pub mod PiecesFollowCharacters
 pub mod RegularBytes
 pub mod RegularParts
+pub mod RegularRawParts

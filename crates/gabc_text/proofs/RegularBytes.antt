@@ -18,7 +18,7 @@ use Rattle.gabc_text.specs.View.{PieceFacts, is_word_kind, is_blank_piece}
 use Rattle.gabc_text.specs.Printed.{printed_piece}
 use Rattle.gabc_text.specs.RegularText.{is_letter_byte}
 use Rattle.gabc_text.specs.machine.PrintedPieces.{Good, Says}
-use Rattle.gabc_text.specs.machine.RegularBytes.{is_continuation, is_first_of_two, is_first_of_three, word_after, blank_after, printed_text, IsSpelled, IsWord, IsRun}
+use Rattle.gabc_text.specs.machine.RegularBytes.{is_low, is_continuation, is_first_of_two, is_first_of_three, word_after, blank_after, printed_text, IsSpelled, IsWord, IsRun}
 use Rattle.gabc_text.proofs.tokens.CasesOfCharacters.{and_both}
 use Rattle.gabc_text.proofs.printing.TokensAreReadAgain.{letter_stable}
 use Rattle.gabc_text.proofs.printing.PiecesPrintWell.{letter_emits, special_no_blank}
@@ -59,9 +59,6 @@ one_spelled b less n = record {
   scalars = rw (low_scalar b (omega arith)) refl;
   plain = one_plain b (n, (λ e. omega arith));
 }
-
-abbrev pub is_low : ℕ → Bool
-is_low b = nat_lt b 128 && not (b == 13)
 
 -- characters of one byte
 pub ascii_spelled : (t : List ℕ) → list_all is_low t ≡ true → IsSpelled t t

@@ -22,7 +22,7 @@ use Rattle.gabc_text.specs.Canonical.{listed_styles}
 use Rattle.gabc_text.specs.Printed.{print_from, text_of_tokens, opening_tag, closing_tag}
 use Rattle.gabc_text.specs.RegularText.{IsRegularText}
 use Rattle.gabc_text.specs.machine.PrintedPieces.{Good, AllGood}
-use Rattle.gabc_text.specs.machine.RegularBytes.{word_after, blank_after, first_styles, last_styles, AreApart, printed_text, IsSpelled, IsRun, IsEnclosed, IsPart, IsBegun}
+use Rattle.gabc_text.specs.machine.RegularBytes.{no_styles, word_after, blank_after, first_styles, last_styles, AreApart, printed_text, IsSpelled, IsRun, IsEnclosed, IsPart, IsBegun}
 use Rattle.gabc_text.proofs.printing.PiecesPrintWell.{any_blank}
 use Rattle.gabc_text.proofs.RegularBytes.{ascii_spelled, spelled_join, one_spelled, none_spelled, chars_of, is_text, behind_is, at_blank, blank, blank_good}
 use Rattle.gabc_text.proofs.printing.PrintedTagsOpenStyles.{member, member_filter}
@@ -31,9 +31,6 @@ use Rattle.gabc_text.proofs.printing.PrintedViewIsRegular.{regular_is}
 use Rattle.gabc_text.proofs.printing.PrintedPiecesAreJoined.{in_styles, good_in, known_in, blank_in, word_in, first_in, last_in, none_taken, plain_printed, styled_printed, text_join, good_join, good_behind, known_join, word_join, word_stays, blank_join, among_more, centre_text, last_join, after_blank, some_blank, apart_none}
 
 -- ---- sets of styles
-
-abbrev no_styles : Styles
-no_styles = record { b = false; c = false; e = false; i = false; sc = false; tt = false; ul = false }
 
 pub none_listed : (ss : Styles) → ss ≡ no_styles → listed_styles ss ≡ []
 unfolding listed_styles
@@ -135,30 +132,34 @@ pub apart_plain : (last ss : Styles) → ss ≡ no_styles → AreApart (listed_s
 apart_plain last ss e = subst (λ (new : List Style). AreApart (listed_styles last) new) (sym (none_listed ss e)) (apart_none (listed_styles last))
 
 -- what stands between two texts that are found
-starts_so : (l a : List ℕ) (r : Bool) → r ≡ pointwise (λ x y. x == y) a (take (length a) l) → r ≡ true → l ≡ a ++ drop (length a) l
+pub starts_so : (l a : List ℕ) (r : Bool) → r ≡ pointwise (λ x y. x == y) a (take (length a) l) → r ≡ true → l ≡ a ++ drop (length a) l
 starts_so l a r e f = (starts_is Decides-eqb l a r e).0 f
 
-taken_first : (l a : List ℕ) → l ≡ a ++ drop (length a) l → take (length a) l ≡ a
+pub taken_first : (l a : List ℕ) → l ≡ a ++ drop (length a) l → take (length a) l ≡ a
 taken_first l a e = ap (take (length a)) e ∙ first a (drop (length a) l)
   where
     first : (a u : List ℕ) → take (length a) (a ++ u) ≡ a
     first [] u = refl
     first (c ∷ a) u = ap (λ (x : List ℕ). c ∷ x) (first a u)
 
+pub between_is : (l a b : List ℕ) (n : ℕ) (x y : Bool) → x ≡ pointwise (λ u v. u == v) a (take (length a) l) → x ≡ true
+    → y ≡ pointwise (λ u v. u == v) b (take (length b) (take (length l - (length a + n)) (drop (length a + n) l))) → y ≡ true
+    → take (length a + n + length b) l ≡ a ++ (take n (drop (length a) l) ++ b)
+between_is l a b n x y e f g h =
+    let first = taken_first l a (starts_so l a x e f) in
+    let last = taken_first (drop (length a + n) l) b (starts_so (drop (length a + n) l) b y (g ∙ ap (λ (u : List ℕ). pointwise (λ u v. u == v) b (take (length b) u)) (behind_is l (length a + n))) h) in
+    take-add (length a + n) (length b) l ∙ ap₂ (λ (u v : List ℕ). u ++ v) (take-add (length a) n l ∙ ap (λ (u : List ℕ). u ++ take n (drop (length a) l)) first) last
+    ∙ append_assoc a (take n (drop (length a) l)) b
+
 pub enclosed_is : (l a b : List ℕ) (n : ℕ) (x y : Bool) → x ≡ pointwise (λ u v. u == v) a (take (length a) l) → x ≡ true
     → y ≡ pointwise (λ u v. u == v) b (take (length b) (take (length l - (length a + n)) (drop (length a + n) l))) → y ≡ true
     → 0 < n → n ≤ length (take (length l - length a) (drop (length a) l)) → IsRun (take n (take (length l - length a) (drop (length a) l))) → IsEnclosed a b (take (length a + n + length b) l)
-enclosed_is l a b n x y e f g h some less r =
-    let rest = drop (length a) l in
-    let first = taken_first l a (starts_so l a x e f) in
-    let last = taken_first (drop (length a + n) l) b (starts_so (drop (length a + n) l) b y (g ∙ ap (λ (u : List ℕ). pointwise (λ u v. u == v) b (take (length b) u)) (behind_is l (length a + n))) h) in
-    record {
-      inner = take n (drop (length a) l);
-      run = subst (λ (u : List ℕ). IsRun (take n u)) (behind_is l (length a)) r;
-      some = omega (arith, length-take-le n (drop (length a) l) (omega (arith, ap (λ (u : List ℕ). length u) (behind_is l (length a)))));
-      parts = take-add (length a + n) (length b) l ∙ ap₂ (λ (u v : List ℕ). u ++ v) (take-add (length a) n l ∙ ap (λ (u : List ℕ). u ++ take n (drop (length a) l)) first) last
-          ∙ append_assoc a (take n (drop (length a) l)) b;
-    }
+enclosed_is l a b n x y e f g h some less r = record {
+  inner = take n (drop (length a) l);
+  run = subst (λ (u : List ℕ). IsRun (take n u)) (behind_is l (length a)) r;
+  some = omega (arith, length-take-le n (drop (length a) l) (omega (arith, ap (λ (u : List ℕ). length u) (behind_is l (length a)))));
+  parts = between_is l a b n x y e f g h;
+}
 
 -- ---- a part behind others
 
@@ -260,10 +261,10 @@ centre_begun b a bs more x h m e f =
 
 -- ---- what the whole is
 
-abbrev view_of : (b : Before) (bs : List ℕ) → IsBegun b bs → ViewFacts
+abbrev pub view_of : (b : Before) (bs : List ℕ) → IsBegun b bs → ViewFacts
 view_of b bs x = record { word_start = false; pieces = x.pieces; centre = x.middle; translation = None }
 
-begun_sound : (b : Before) (bs : List ℕ) (x : IsBegun b bs) → Sound (view_of b bs x)
+pub begun_sound : (b : Before) (bs : List ℕ) (x : IsBegun b bs) → Sound (view_of b bs x)
 begun_sound b bs x = record { good = x.good; no_last = none_taken x.pieces x.no_blank; centre_in = centre x.middle x.middle_in; translation_in = tt }
   where
     centre : (m : Option Span) → LiesAmong (length x.pieces) m → IsCentre (length x.pieces) m

@@ -19,6 +19,7 @@ mod kept;
 pub mod laws;
 mod progress;
 mod regular;
+mod regular_runs;
 mod stage;
 mod stage_tells;
 mod styles;

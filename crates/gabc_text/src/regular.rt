@@ -1,138 +1,16 @@
 //! How far a text goes that is printed as it stands.
 
-ghost use Rattle.std.specs.Prelude.{◌≡◌, ◌+◌, ◌≤◌, ◌<◌, length, take, get_or, true, false, IfSome, None};
+ghost use Rattle.std.specs.Prelude.{◌≡◌, ◌+◌, ◌≤◌, ◌<◌, length, take, get_or, false, IfSome, None, codes};
 ghost use Rattle.std.specs.Str.{chars};
 ghost use Rattle.gabc_places.specs.TextOfAnInput.{IsText};
-ghost use Rattle.gabc_text.specs.Token.{is_special};
-ghost use Rattle.gabc_text.specs.RegularText.{IsRegularText, is_letter_byte};
-ghost use Rattle.gabc_text.specs.machine.RegularBytes.{IsWord, IsRun, IsEnclosed, IsPart, IsBegun, AreApart, through, is_continuation, is_first_of_two, is_first_of_three};
 ghost use Rattle.gabc_text.specs.Token.{spelling};
 ghost use Rattle.gabc_text.specs.Canonical.{listed_styles};
 ghost use Rattle.gabc_text.specs.Printed.{opening_tag, closing_tag};
+ghost use Rattle.gabc_text.specs.RegularText.{IsRegularText, is_letter_byte};
+ghost use Rattle.gabc_text.specs.machine.RegularBytes.{no_styles, IsBracketed, IsMark, IsPart, IsBegun, AreApart, through};
 
+use crate::regular_runs::{bracketed_len, enclosed_len, run_len};
 use crate::styles::{Style, Styles};
-use crate::token::is_special;
-
-/// Whether `byte` is of ASCII, and a character that a `$` makes a letter.
-fn is_special_byte(byte: u8) -> bool
-    ensures { result ≡ is_special byte }
-{
-    is_special(char::from(byte))
-}
-
-/// Whether `byte` is a letter by itself: it is of ASCII, and printed as it stands.
-fn is_letter_byte(byte: u8) -> bool
-    ensures { result ≡ is_letter_byte byte }
-{
-    !is_special_byte(byte) && byte > b' ' && byte < 0x7F
-}
-
-/// Whether `byte` goes on with a character of several bytes.
-fn is_continuation(byte: u8) -> bool
-    ensures { result ≡ is_continuation byte }
-{
-    byte > 0x7F && byte < 0xC0
-}
-
-/// Whether a character of two bytes may begin with `byte`.
-fn is_first_of_two(byte: u8) -> bool
-    ensures { result ≡ is_first_of_two byte }
-{
-    byte > 0xC1 && byte < 0xE0
-}
-
-/// Whether a character from U+1000 to U+CFFF may begin with `byte`.
-fn is_first_of_three(byte: u8) -> bool
-    ensures { result ≡ is_first_of_three byte }
-{
-    byte > 0xE0 && byte < 0xED
-}
-
-/// Returns how many bytes the letter has that `bytes` begin with, with its `$` if it has one; 0, if
-/// none is known to be there.
-fn letter_len(bytes: &[u8]) -> usize
-    ensures within { result ≤ length bytes.now }
-    ensures letter { 0 < result → IsWord (take result bytes.now) }
-    ensures none { result ≡ 0 → 0 < length bytes.now →
-        is_letter_byte (get_or bytes.now 0 0) ≡ false }
-{
-    if !bytes.is_empty() && is_letter_byte(bytes[0]) {
-        return 1;
-    }
-    if bytes.len() > 1 && bytes[0] == b'$' && is_special_byte(bytes[1]) {
-        return 2;
-    }
-    if bytes.len() > 1 && is_first_of_two(bytes[0]) && is_continuation(bytes[1]) {
-        return 2;
-    }
-    if bytes.len() > 2
-        && is_first_of_three(bytes[0])
-        && is_continuation(bytes[1])
-        && is_continuation(bytes[2])
-    {
-        return 3;
-    }
-    0
-}
-
-/// Returns how many bytes a run goes on with from `end`: those of a letter, or of a blank and a letter
-/// where a letter stands before; 0, if it goes on with neither.
-fn more_of_run(bytes: &[u8], end: usize) -> usize
-    requires { end ≤ length bytes.now }
-    ensures within { end + result ≤ length bytes.now }
-    ensures goes_on { 0 < result → IsRun (take end bytes.now) →
-        IsRun (take (end + result) bytes.now) }
-    ensures stops { result ≡ 0 → end < length bytes.now →
-        is_letter_byte (get_or bytes.now end 0) ≡ false }
-{
-    let letter = letter_len(&bytes[end..]);
-    if letter > 0 {
-        return letter;
-    }
-    if end == 0 || end == bytes.len() || bytes[end] != b' ' {
-        return 0;
-    }
-    let after = letter_len(&bytes[end + 1..]);
-    if after > 0 { after + 1 } else { 0 }
-}
-
-/// Returns how many bytes the run has that `bytes` begin with: letters, with single blanks between
-/// them.
-fn run_len(bytes: &[u8]) -> usize
-    ensures within { result ≤ length bytes.now }
-    ensures run { IsRun (take result bytes.now) }
-    ensures stops { result < length bytes.now →
-        is_letter_byte (get_or bytes.now result 0) ≡ false }
-{
-    let mut end = 0;
-    while end < bytes.len() {
-        let more = more_of_run(bytes, end);
-        if more == 0 {
-            return end;
-        }
-        end += more;
-    }
-    end
-}
-
-/// Returns how many bytes `opening`, a run with something in it and `closing` have, if `bytes` begin
-/// with these; else 0.
-fn enclosed_len(bytes: &[u8], opening: &[u8], closing: &[u8]) -> usize
-    ensures within { result ≤ length bytes.now }
-    ensures enclosed { 0 < result →
-        IsEnclosed opening.now closing.now (take result bytes.now) }
-{
-    if !bytes.starts_with(opening) {
-        return 0;
-    }
-    let inner = run_len(&bytes[opening.len()..]);
-    let end = opening.len() + inner;
-    if inner > 0 && bytes[end..].starts_with(closing) {
-        end + closing.len()
-    } else {
-        0
-    }
-}
 
 /// Returns the tags of `style`.
 fn tags_of(style: Style) -> (&'static str, &'static str)
@@ -227,6 +105,52 @@ fn styled_part(bytes: &[u8], last: Styles) -> Option<Part>
     })
 }
 
+/// Returns the span mark with which `bytes` begin, if they begin with one.
+fn mark_by(bytes: &[u8]) -> &'static str
+    ensures { IsMark result.now }
+{
+    if bytes.starts_with(b"<e") {
+        "<eu>"
+    } else if bytes.starts_with(b"</e") {
+        "</eu>"
+    } else if bytes.starts_with(b"<n") {
+        "<nlba>"
+    } else {
+        "</nlba>"
+    }
+}
+
+/// Returns how many bytes the span mark has that `bytes` begin with; 0, if they begin with none.
+fn mark_len(bytes: &[u8]) -> usize
+    ensures within { result ≤ length bytes.now }
+    ensures part { 0 < result → IsPart no_styles false (take result bytes.now) }
+{
+    let mark = mark_by(bytes).as_bytes();
+    if bytes.starts_with(mark) {
+        mark.len()
+    } else {
+        0
+    }
+}
+
+/// Returns the part in tags that `bytes` begin with, where the piece before has the styles `last`: a
+/// span mark or a styled part.
+fn tagged_part(bytes: &[u8], last: Styles) -> Option<Part>
+    ensures within { IfSome result (λ p. (0 < p.len) × (p.len ≤ length bytes.now)) }
+    ensures part { IfSome result (λ p. IsPart p.styles p.word (take p.len bytes.now)) }
+    ensures apart { IfSome result (λ p. AreApart (listed_styles last) (listed_styles p.styles)) }
+{
+    let len = mark_len(bytes);
+    if len == 0 {
+        return styled_part(bytes, last);
+    }
+    Some(Part {
+        len,
+        styles: Styles::NONE,
+        word: false,
+    })
+}
+
 /// Returns the part that `bytes` begin with, where the piece before has the styles `last`.
 fn next_part(bytes: &[u8], last: Styles) -> Option<Part>
     ensures within { IfSome result (λ p. (0 < p.len) × (p.len ≤ length bytes.now)) }
@@ -237,7 +161,7 @@ fn next_part(bytes: &[u8], last: Styles) -> Option<Part>
 {
     let len = run_len(bytes);
     if len == 0 {
-        return styled_part(bytes, last);
+        return tagged_part(bytes, last);
     }
     Some(Part {
         len,
@@ -312,14 +236,10 @@ fn next_step(bytes: &[u8], end: usize, before: Before) -> Option<Step>
     }
 }
 
-/// Returns how many of the first of `bytes` are a text that is printed as it stands in front of a
-/// `(`, and in which nothing is found (`laws::a_regular_text_is_printed_as_it_stands`): letters, with
-/// single blanks between them, some of them within the tags of a style, some in one centre. It goes
-/// past each letter of ASCII.
-pub fn regular_text(bytes: &[u8]) -> usize
+/// Returns how many of the first of `bytes` are a regular text without a translation.
+fn untranslated_len(bytes: &[u8]) -> usize
     ensures within { result ≤ length bytes.now }
-    ensures text { IsText (take result bytes.now) }
-    ensures regular { IsRegularText (chars (take result bytes.now)) }
+    ensures begun { (before : Before) × IsBegun before (take result bytes.now) }
     ensures stops { result < length bytes.now →
         is_letter_byte (get_or bytes.now result 0) ≡ false }
 {
@@ -335,4 +255,34 @@ pub fn regular_text(bytes: &[u8]) -> usize
         }
     }
     end
+}
+
+/// Returns how many bytes the translation has that `bytes` begin with, if it is of printable ASCII and
+/// a `(` follows; else 0.
+fn translation_len(bytes: &[u8]) -> usize
+    ensures within { result ≤ length bytes.now }
+    ensures bracketed { 0 < result → IsBracketed (codes "[") 93 (codes "]") (take result bytes.now) }
+    ensures notes { 0 < result → get_or bytes.now result 0 ≡ 40 }
+{
+    let len = bracketed_len(bytes, b"[", b']', b"]");
+    if len < bytes.len() && bytes[len] == b'(' {
+        len
+    } else {
+        0
+    }
+}
+
+/// Returns how many of the first of `bytes` are a text that is printed as it stands in front of a
+/// `(`, and in which nothing is found (`laws::a_regular_text_is_printed_as_it_stands`): letters and raw
+/// parts, with single blanks between them, some of them within the tags of a style, some in one
+/// centre; span marks; and a translation, if a `(` follows. It goes past each letter of ASCII.
+pub fn regular_text(bytes: &[u8]) -> usize
+    ensures within { result ≤ length bytes.now }
+    ensures text { IsText (take result bytes.now) }
+    ensures regular { IsRegularText (chars (take result bytes.now)) }
+    ensures stops { result < length bytes.now →
+        is_letter_byte (get_or bytes.now result 0) ≡ false }
+{
+    let end = untranslated_len(bytes);
+    end + translation_len(&bytes[end..])
 }

@@ -1,7 +1,7 @@
 -- The bytes of a regular text, with the pieces that they spell.
-use Rattle.std.specs.Prelude.{◌≡◌, ℕ, ◌<◌, List, [], ◌∷◌, ◌++◌, Bool, true, false, ◌&&◌, ◌||◌, nat_lt, length, map, Option, Some, None, encode_utf8_all}
+use Rattle.std.specs.Prelude.{◌≡◌, ℕ, ◌<◌, ◌==◌, not, List, [], ◌∷◌, ◌++◌, Bool, true, false, ◌&&◌, ◌||◌, nat_lt, length, map, Option, Some, None, encode_utf8_all}
 use Rattle.std.specs.Str.{all_scalars}
-use Rattle.std.specs.List.{All}
+use Rattle.std.specs.List.{All, list_all}
 use Rattle.gabc_places.specs.TextOfAnInput.{IsPlain}
 use Rattle.gabc_places.specs.declared.place.Span.{Span}
 use Rattle.gabc_text.specs.declared.styles.Style.{Style}
@@ -70,6 +70,14 @@ is_first_of_two b = nat_lt 193 b && nat_lt b 224
 abbrev pub is_first_of_three : ℕ → Bool
 is_first_of_three b = nat_lt 224 b && nat_lt b 237
 
+-- a byte of ASCII, and no CR
+abbrev pub is_low : ℕ → Bool
+is_low b = nat_lt b 128 && not (b == 13)
+
+-- a byte of printable ASCII but this one
+abbrev pub is_plain_byte : ℕ → ℕ → Bool
+is_plain_byte but b = (nat_lt 31 b && nat_lt b 127) && not (but == b)
+
 -- the bytes of these characters in UTF-8, none of which is a CR or U+FEFF
 pub record IsSpelled (t : List ℕ) (bytes : List ℕ) : Type 0 where
   pub spelled : bytes ≡ encode_utf8_all t
@@ -95,12 +103,29 @@ pub record IsRun (bytes : List ℕ) : Type 0 where
   pub no_blank : blank_after false pieces ≡ false
   pub word : 0 < length bytes → word_after false pieces ≡ true
 
+-- printable ASCII between these, the second of which begins with a character that does not stand in it
+pub record IsBracketed (opening : List ℕ) (stop : ℕ) (closing bytes : List ℕ) : Type 0 where
+  pub inner : List ℕ
+  pub plain : list_all (is_plain_byte stop) inner ≡ true
+  pub parts : bytes ≡ opening ++ (inner ++ closing)
+
+-- a tag that is a span mark
+pub record IsMark (t : List ℕ) : Type 0 where
+  pub some : 0 < length t
+  pub low : list_all is_low t ≡ true
+  pub spelled : spelling (printed_piece piece.Mark t) ≡ t
+  pub stable : Stable (printed_piece piece.Mark t)
+  pub says : (w b : Bool) → Says piece.Mark t w b
+
 -- the bytes of a run with something, between these
 pub record IsEnclosed (opening closing bytes : List ℕ) : Type 0 where
   pub inner : List ℕ
   pub run : IsRun inner
   pub some : 0 < length inner
   pub parts : bytes ≡ opening ++ (inner ++ closing)
+
+abbrev pub no_styles : Styles
+no_styles = record { b = false; c = false; e = false; i = false; sc = false; tt = false; ul = false }
 
 -- the bytes of some pieces, from the first of which to the last no style stays open but these
 pub record IsPart (styles : Styles) (word : Bool) (bytes : List ℕ) : Type 0 where

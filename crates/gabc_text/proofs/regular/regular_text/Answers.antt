@@ -1,18 +1,12 @@
-use Rattle.std.proofs.Common.{arith, refl}
-use Rattle.gabc_text.proofs.RegularParts.{no_text, begun_text, begun_regular}
+use Rattle.gabc_text.proofs.RegularRawParts.{whole}
 use Rattle.gabc_text.proofs.regular.regular_text.Goals as goal
 
-pub loop-end-init : goal.loop-end-init
-loop-end-init c = record { within = omega arith; begun = no_text _ refl refl }
-
-pub returns-in-None-clause-text : goal.returns-in-None-clause-text
-returns-in-None-clause-text c = begun_text _ _ c.loop-end.invariant.begun
-
-pub returns-in-None-clause-regular : goal.returns-in-None-clause-regular
-returns-in-None-clause-regular c = begun_regular _ _ c.loop-end.invariant.begun
-
 pub returns-clause-text : goal.returns-clause-text
-returns-clause-text c = begun_text _ _ c.loop-end.invariant.begun
+returns-clause-text c =
+    let b = c.untranslated_len-end.ensures.begun in
+    (whole b.0 c.args.bytes.now c.untranslated_len-end.result c.translation_len.result b.1 c.translation_len.ensures.bracketed).text
 
 pub returns-clause-regular : goal.returns-clause-regular
-returns-clause-regular c = begun_regular _ _ c.loop-end.invariant.begun
+returns-clause-regular c =
+    let b = c.untranslated_len-end.ensures.begun in
+    (whole b.0 c.args.bytes.now c.untranslated_len-end.result c.translation_len.result b.1 c.translation_len.ensures.bracketed).regular

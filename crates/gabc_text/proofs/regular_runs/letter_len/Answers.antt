@@ -1,6 +1,6 @@
 use Rattle.std.proofs.Common.{sym, ◌∙◌}
 use Rattle.gabc_text.proofs.RegularBytes.{one_at, escaped_at, two_at, three_at}
-use Rattle.gabc_text.proofs.regular.letter_len.Goals as goal
+use Rattle.gabc_text.proofs.regular_runs.letter_len.Goals as goal
 
 pub returns-then-is_letter_byte-clause-letter : goal.returns-then-is_letter_byte-clause-letter
 returns-then-is_letter_byte-clause-letter c = λ _. one_at c.args.bytes.now (sym c.is_empty.ensures ∙ c.if-not-is_empty.true) (sym c.is_letter_byte.ensures ∙ c.if-is_letter_byte.true)
