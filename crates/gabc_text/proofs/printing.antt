@@ -1,4 +1,5 @@
 pub mod BehindTheLastPiece
+pub mod BlanksBeforeRegularText
 pub mod CanonicalTextIsPrinted
 pub mod ChangedStylesCloseFromTheFirst
 pub mod KeptTextIsReadAgain

@@ -2,7 +2,7 @@
 
 ghost use Rattle.std.specs.Prelude.{◌≡◌, ℕ, ◌+◌, ◌<◌, List, [], ◌∷◌, ◌++◌, length, take, drop, true, false, cond, codes, Decides, None, encode_utf8_all};
 ghost use Rattle.gabc_places.specs.StageLaw.{concat_of};
-ghost use Rattle.std.specs.List.{All};
+ghost use Rattle.std.specs.List.{All, list_all};
 ghost use Rattle.gabc_places.specs.Findings.{AreInOrder, LieBetween};
 ghost use Rattle.gabc_places.specs.Place.{place_past, saturating_next_place};
 ghost use Rattle.gabc_places.specs.Code.{rank_of, severity_of};
@@ -18,6 +18,7 @@ ghost use Rattle.gabc_text.specs.ViewFacts.{StandsForView, StandsFor, view_facts
 ghost use Rattle.gabc_text.specs.Printed.{print, text_tokens, translation_tokens, text_of_tokens};
 ghost use Rattle.gabc_text.specs.PrintedView.{printed_view};
 ghost use Rattle.gabc_text.specs.RegularText.{IsRegularText};
+ghost use Rattle.gabc_text.specs.Token.{is_blank};
 ghost use Rattle.gabc_text.specs.Canonical.{span_bytes, canonical_text};
 ghost use Rattle.gabc_places.specs.declared.place.Span.{Span};
 ghost use Rattle.gabc_text.specs.BuiltText.{with_events, empty_text, text_built_at, kept_in, found_in};
@@ -166,6 +167,30 @@ pub fn a_regular_text_is_printed_as_it_stands()
     ensures canonical { (whole t rest : List ℕ) → IsRegularText t →
         (view_facts t).translation ≡ None →
         let all = t ++ 40 ∷ rest in StandsForView whole (view_in all) all →
+        canonical_text (view_in all) (encode_utf8_all whole) ≡ encode_utf8_all t }
+{}
+
+/// Blanks before a regular text begin a word. Nothing else that it says changes by them, nothing is
+/// found in it, and they are kept as one U+0020, and printed as one LF.
+pub fn blanks_before_a_regular_text_begin_a_word()
+    ensures says { (b : ℕ) (gap t rest : List ℕ) → list_all is_blank (b ∷ gap) ≡ true →
+        IsRegularText t → view_facts (b ∷ gap ++ (t ++ 40 ∷ rest))
+        ≡ record (view_facts t) { word_start = true } }
+    ensures found { (at : Place) (b : ℕ) (gap t rest : List ℕ) →
+        list_all is_blank (b ∷ gap) ≡ true → IsRegularText t →
+        findings at (b ∷ gap ++ (t ++ 40 ∷ rest)) ≡ [] }
+    ensures ends { (b : ℕ) (gap t rest : List ℕ) → list_all is_blank (b ∷ gap) ≡ true →
+        IsRegularText t → after_tokens (b ∷ gap ++ (t ++ 40 ∷ rest)) ≡ 40 ∷ rest }
+    ensures kept { (b : ℕ) (gap t rest : List ℕ) → list_all is_blank (b ∷ gap) ≡ true →
+        IsRegularText t → kept (b ∷ gap ++ (t ++ 40 ∷ rest)) ≡ 32 ∷ t }
+    ensures printed { (whole : List ℕ) (b : ℕ) (gap t rest : List ℕ) →
+        list_all is_blank (b ∷ gap) ≡ true → IsRegularText t →
+        let all = b ∷ gap ++ (t ++ 40 ∷ rest) in StandsForView whole (view_in all) all →
+        printed_view (view_in all) (encode_utf8_all whole) ≡ encode_utf8_all (10 ∷ t) }
+    ensures canonical { (whole : List ℕ) (b : ℕ) (gap t rest : List ℕ) →
+        list_all is_blank (b ∷ gap) ≡ true → IsRegularText t →
+        (view_facts t).translation ≡ None →
+        let all = b ∷ gap ++ (t ++ 40 ∷ rest) in StandsForView whole (view_in all) all →
         canonical_text (view_in all) (encode_utf8_all whole) ≡ encode_utf8_all t }
 {}
 

@@ -317,7 +317,7 @@ brace_fine before k h e = by k.kind (effect k) h e
     by kind.OpenTag so g f = f
     by kind.OpenTranslation so g f = f
 
-no_head : {X : Type 0} (xs ys : List X) → xs ++ ys ≡ [] → (xs ≡ []) × (ys ≡ [])
+pub no_head : {X : Type 0} (xs ys : List X) → xs ++ ys ≡ [] → (xs ≡ []) × (ys ≡ [])
 no_head [] ys e = (refl, e)
 no_head (x ∷ xs) ys e = absurd (cc)
 

@@ -7,7 +7,7 @@ use Rattle.gabc_text.specs.Events.{after_tokens}
 use Rattle.gabc_text.specs.ViewFacts.{ViewFacts, view_facts, view_facts_by, StandsForView}
 use Rattle.gabc_text.specs.TextRead.{view_in}
 use Rattle.gabc_text.specs.Canonical.{canonical_text}
-use Rattle.gabc_text.specs.Printed.{print, text_of_tokens, text_tokens, translation_tokens, word_break}
+use Rattle.gabc_text.specs.Printed.{print, text_of_tokens, text_tokens, translation_tokens, word_break, print_tokens}
 use Rattle.gabc_text.specs.PrintedView.{printed_view}
 use Rattle.gabc_text.specs.RegularText.{IsRegularText}
 use Rattle.gabc_text.proofs.printing.ViewFromFirstToken.{view}
@@ -18,12 +18,16 @@ use Rattle.gabc_text.proofs.printing.PrintedTextEndsBeforeNotes.{printed_ends}
 use Rattle.gabc_text.proofs.printing.PrintedViewIsReadAgain.{printed_is}
 use Rattle.gabc_text.proofs.printing.CanonicalTextIsPrinted.{canonical_is}
 
+pub own_form : (t : List ℕ) → IsRegularText t → print (view t) ≡ t
+own_form t r = ap print (sym (facts_is t)) ∙ r.printed
+
+pub own_tokens : (t : List ℕ) → IsRegularText t → tokens t ≡ print_tokens (view t)
+own_tokens t r =
+    ap tokens (sym (append-nil t)) ∙ ap (λ (x : List ℕ). tokens (x ++ [])) (sym (own_form t r)) ∙ tokens_before (view t) (view_sound t) [] refl
+
 -- the `(` behind it takes no token away
-same_tokens : (t rest : List ℕ) → IsRegularText t → tokens (t ++ 40 ∷ rest) ≡ tokens t
-same_tokens t rest r =
-    let e : t ≡ print (view t) = sym (ap print (sym (facts_is t)) ∙ r.printed) in
-    ap (λ (x : List ℕ). tokens (x ++ 40 ∷ rest)) e ∙ tokens_printed t rest
-    ∙ sym (ap tokens (sym (append-nil t)) ∙ ap (λ (x : List ℕ). tokens (x ++ [])) e ∙ tokens_before (view t) (view_sound t) [] refl)
+pub same_tokens : (t rest : List ℕ) → IsRegularText t → tokens (t ++ 40 ∷ rest) ≡ tokens t
+same_tokens t rest r = ap (λ (x : List ℕ). tokens (x ++ 40 ∷ rest)) (sym (own_form t r)) ∙ tokens_printed t rest ∙ sym (own_tokens t r)
 
 pub says_alone : (t rest : List ℕ) → IsRegularText t → view_facts (t ++ 40 ∷ rest) ≡ view_facts t
 says_alone t rest r = ap view_facts_by (same_tokens t rest r)
