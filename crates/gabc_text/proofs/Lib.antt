@@ -9,3 +9,6 @@ pub mod EndedStages
 pub mod KeptCharacters
 pub mod NothingBehindTheEnd
 pub mod PiecesFollowCharacters
+pub mod RegularBytes
+pub mod RegularParts
+pub mod RegularRawParts

@@ -1,10 +1,13 @@
 pub mod BehindTheLastPiece
+pub mod BlanksBeforeRegularText
 pub mod CanonicalTextIsPrinted
 pub mod ChangedStylesCloseFromTheFirst
 pub mod KeptTextIsReadAgain
 pub mod LineFeedBeginsWord
+pub mod NothingIsFoundInPrintedText
 pub mod PiecesPrintWell
 pub mod PrintedBracesGiveCentre
+pub mod PrintedPiecesAreJoined
 pub mod PrintedPiecesAreReadAgain
 pub mod PrintedTagsOpenStyles
 pub mod PrintedTextEndsBeforeNotes
@@ -12,6 +15,8 @@ pub mod PrintedTextHasNoErrors
 pub mod PrintedTextIsKept
 pub mod PrintedTextIsReadAgain
 pub mod PrintedViewIsReadAgain
+pub mod PrintedViewIsRegular
+pub mod RegularTextIsPrinted
 pub mod RunsOfKeptBytes
 pub mod TagsOfStyleSets
 pub mod TokensAreReadAgain

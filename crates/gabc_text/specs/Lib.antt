@@ -9,6 +9,7 @@ pub mod ExampleTexts
 pub mod PiecesOwed
 pub mod Printed
 pub mod PrintedView
+pub mod RegularText
 pub mod StageTells
 pub mod TagNames
 pub mod TakenAtOnce

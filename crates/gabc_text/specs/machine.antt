@@ -1,6 +1,8 @@
 pub mod BuiltText
 pub mod ChangedStyles
+pub mod PrintedPieces
 pub mod RawPart
+pub mod RegularBytes
 pub mod Runs
 pub mod TagPrefix
 pub mod TextFacts

@@ -1,8 +1,8 @@
 //! Laws of the definitions that contracts speak of. Each function is there for its clauses: all but two do nothing, and these drive a fresh stage.
 
-ghost use Rattle.std.specs.Prelude.{◌≡◌, ℕ, ◌+◌, ◌<◌, List, [], ◌∷◌, ◌++◌, length, take, drop, true, false, cond, codes, Decides, encode_utf8_all};
+ghost use Rattle.std.specs.Prelude.{◌≡◌, ℕ, ◌+◌, ◌<◌, List, [], ◌∷◌, ◌++◌, length, take, drop, true, false, cond, codes, Decides, None, encode_utf8_all};
 ghost use Rattle.gabc_places.specs.StageLaw.{concat_of};
-ghost use Rattle.std.specs.List.{All};
+ghost use Rattle.std.specs.List.{All, list_all};
 ghost use Rattle.gabc_places.specs.Findings.{AreInOrder, LieBetween};
 ghost use Rattle.gabc_places.specs.Place.{place_past, saturating_next_place};
 ghost use Rattle.gabc_places.specs.Code.{rank_of, severity_of};
@@ -17,6 +17,8 @@ ghost use Rattle.gabc_text.specs.TextRead.{view_in};
 ghost use Rattle.gabc_text.specs.ViewFacts.{StandsForView, StandsFor, view_facts, has_error};
 ghost use Rattle.gabc_text.specs.Printed.{print, text_tokens, translation_tokens, text_of_tokens};
 ghost use Rattle.gabc_text.specs.PrintedView.{printed_view};
+ghost use Rattle.gabc_text.specs.RegularText.{IsRegularText};
+ghost use Rattle.gabc_text.specs.Token.{is_blank};
 ghost use Rattle.gabc_text.specs.Canonical.{span_bytes, canonical_text};
 ghost use Rattle.gabc_places.specs.declared.place.Span.{Span};
 ghost use Rattle.gabc_text.specs.BuiltText.{with_events, empty_text, text_built_at, kept_in, found_in};
@@ -145,6 +147,51 @@ pub fn view_again()
         StandsForView other (view_in again) again →
         printed_view (view_in again) (encode_utf8_all other)
         ≡ printed_view (view_in t) (encode_utf8_all whole) }
+{}
+
+/// A regular text says in front of a `(` what it says alone, whatever follows: it ends at that `(`,
+/// all of it is kept, and nothing is found in it, whatever place it begins at. What is printed of its
+/// view is the text itself, whatever whole text the spans count the bytes of. So is its canonical
+/// text, if it has no translation.
+pub fn a_regular_text_is_printed_as_it_stands()
+    ensures says { (t rest : List ℕ) → IsRegularText t →
+        view_facts (t ++ 40 ∷ rest) ≡ view_facts t }
+    ensures found { (at : Place) (t rest : List ℕ) → IsRegularText t →
+        findings at (t ++ 40 ∷ rest) ≡ [] }
+    ensures ends { (t rest : List ℕ) → IsRegularText t →
+        after_tokens (t ++ 40 ∷ rest) ≡ 40 ∷ rest }
+    ensures kept { (t rest : List ℕ) → IsRegularText t → kept (t ++ 40 ∷ rest) ≡ t }
+    ensures printed { (whole t rest : List ℕ) → IsRegularText t →
+        let all = t ++ 40 ∷ rest in StandsForView whole (view_in all) all →
+        printed_view (view_in all) (encode_utf8_all whole) ≡ encode_utf8_all t }
+    ensures canonical { (whole t rest : List ℕ) → IsRegularText t →
+        (view_facts t).translation ≡ None →
+        let all = t ++ 40 ∷ rest in StandsForView whole (view_in all) all →
+        canonical_text (view_in all) (encode_utf8_all whole) ≡ encode_utf8_all t }
+{}
+
+/// Blanks before a regular text begin a word. Nothing else that it says changes by them, nothing is
+/// found in it, and they are kept as one U+0020, and printed as one LF.
+pub fn blanks_before_a_regular_text_begin_a_word()
+    ensures says { (b : ℕ) (gap t rest : List ℕ) → list_all is_blank (b ∷ gap) ≡ true →
+        IsRegularText t → view_facts (b ∷ gap ++ (t ++ 40 ∷ rest))
+        ≡ record (view_facts t) { word_start = true } }
+    ensures found { (at : Place) (b : ℕ) (gap t rest : List ℕ) →
+        list_all is_blank (b ∷ gap) ≡ true → IsRegularText t →
+        findings at (b ∷ gap ++ (t ++ 40 ∷ rest)) ≡ [] }
+    ensures ends { (b : ℕ) (gap t rest : List ℕ) → list_all is_blank (b ∷ gap) ≡ true →
+        IsRegularText t → after_tokens (b ∷ gap ++ (t ++ 40 ∷ rest)) ≡ 40 ∷ rest }
+    ensures kept { (b : ℕ) (gap t rest : List ℕ) → list_all is_blank (b ∷ gap) ≡ true →
+        IsRegularText t → kept (b ∷ gap ++ (t ++ 40 ∷ rest)) ≡ 32 ∷ t }
+    ensures printed { (whole : List ℕ) (b : ℕ) (gap t rest : List ℕ) →
+        list_all is_blank (b ∷ gap) ≡ true → IsRegularText t →
+        let all = b ∷ gap ++ (t ++ 40 ∷ rest) in StandsForView whole (view_in all) all →
+        printed_view (view_in all) (encode_utf8_all whole) ≡ encode_utf8_all (10 ∷ t) }
+    ensures canonical { (whole : List ℕ) (b : ℕ) (gap t rest : List ℕ) →
+        list_all is_blank (b ∷ gap) ≡ true → IsRegularText t →
+        (view_facts t).translation ≡ None →
+        let all = b ∷ gap ++ (t ++ 40 ∷ rest) in StandsForView whole (view_in all) all →
+        canonical_text (view_in all) (encode_utf8_all whole) ≡ encode_utf8_all t }
 {}
 
 /// The kept text of a text is read again as itself, and says the same.

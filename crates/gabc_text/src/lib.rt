@@ -18,6 +18,8 @@ mod emit;
 mod kept;
 pub mod laws;
 mod progress;
+mod regular;
+mod regular_runs;
 mod stage;
 mod stage_tells;
 mod styles;
@@ -32,6 +34,7 @@ mod whole;
 
 pub use canonical::{text_len, text_span, write_text};
 pub use kept::kept_chars;
+pub use regular::regular_text;
 pub use stage::TextStage;
 pub use styles::{Style, Styles};
 pub use text_event::{TextEnd, TextEvent, TextOut, TextPart};

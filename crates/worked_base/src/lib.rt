@@ -15,6 +15,8 @@ mod headers;
 #[cfg(test)]
 mod patterns;
 #[cfg(test)]
+mod regular_texts;
+#[cfg(test)]
 mod room;
 #[cfg(test)]
 mod saved_state;

@@ -19,10 +19,10 @@ use Rattle.gabc_text.specs.ViewFacts.{piece_facts_in, view_facts, StandsForView,
 use Rattle.gabc_text.specs.Printed.{opening_tag, closing_tag, begin_brace, end_brace, brace_tokens, tokens_between, letter, spelled_as, printed_piece, print_from, text_tokens, text_of_tokens}
 use Rattle.gabc_text.proofs.tokens.CasesOfCharacters.{by_case}
 use Rattle.gabc_text.proofs.machine.TokenStateByCharacter.{turned}
-use Rattle.gabc_text.proofs.printing.PrintedPiecesAreReadAgain.{Good, AllGood, Says}
 use Rattle.gabc_text.proofs.printing.PiecesPrintWell.{pieces_good}
 use Rattle.gabc_text.proofs.spans.SpansStandForView.{pieces_facts}
 use Rattle.gabc_text.proofs.spans.CentreLiesAmongPieces.{spanned_is}
+use Rattle.gabc_text.specs.machine.PrintedPieces.{AllGood, Good, Says}
 
 written_append : (ks ls : List Token) → text_of_tokens (ks ++ ls) ≡ text_of_tokens ks ++ text_of_tokens ls
 written_append [] ls = refl

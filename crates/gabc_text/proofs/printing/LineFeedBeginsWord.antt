@@ -1,12 +1,12 @@
--- A text that begins with an LF begins a word, and says nothing else that it would not say without this LF.
-use Rattle.std.proofs.Common.{◌≡◌, ℕ, ◌+◌, List, [], ◌∷◌, ◌++◌, Bool, true, false, not, ◌||◌, ◌&&◌, is_some, length, Option, Some, None, refl, ap, ap₂}
+-- A text that begins with a blank, as an LF, begins a word, and says nothing else that it would not say without it.
+use Rattle.std.proofs.Common.{◌≡◌, ℕ, ◌+◌, List, [], ◌∷◌, ◌++◌, Bool, true, false, not, ◌||◌, ◌&&◌, is_some, length, Option, Some, None, refl, ap, ap₂, arith}
 use Rattle.gabc_text.specs.declared.styles.Style.{Style}
 use Rattle.gabc_text.specs.declared.styles.Style.TheVariants.{B, C, E, I, Sc, Tt, Ul}
 use Rattle.gabc_text.specs.declared.view.PieceKind.{PieceKind}
 use Rattle.gabc_text.specs.declared.token.TokenKind.TheVariants as kind
 use Rattle.gabc_text.specs.Token.{Token, tokens, tokens_after}
 use Rattle.gabc_text.specs.View.{along, PieceFacts, effect, kind_of, piece_of, pieces_at, is_space, is_begin, is_open, is_open_after, open_styles, has_word, has_begin, has_end, has_translation, is_word_kind, follows_blank, starts_word, count_pieces, begin_of, end_of, centre_by}
-use Rattle.gabc_text.specs.ViewFacts.{ViewFacts, view_facts, but_blank, translation_text}
+use Rattle.gabc_text.specs.ViewFacts.{ViewFacts, view_facts, view_facts_by, but_blank, translation_text}
 use Rattle.gabc_text.proofs.machine.TokensOneAfterAnother.{onto}
 
 stays : (ks before : List Token) → starts_word before ≡ true → starts_word (onto ks before) ≡ true
@@ -17,26 +17,27 @@ stays (k ∷ ks) before h = stays ks (k ∷ before) (rw h (either _))
     either true = refl
     either false = refl
 
-abbrev line_feed : Token
-line_feed = record { kind = kind.Blank; first = 10; more = [] }
+-- a blank in front of a text
+abbrev pub gap : ℕ → Token
+gap b = record { kind = kind.Blank; first = b; more = [] }
 
 pub begins_word : (t : List ℕ) → (view_facts (10 ∷ t)).word_start ≡ true
-begins_word t = stays (tokens_after 0 t) (line_feed ∷ []) refl
+begins_word t = stays (tokens_after 0 t) (gap 10 ∷ []) refl
 
 -- ---- two lists of tokens that say the same, but for the blank before all of them
 
 -- behind a piece they follow a blank alike
-record Alike (b c : List Token) : Type 0 where
-  styles : (s : Style) → is_open s b ≡ is_open s c
-  word : has_word b ≡ has_word c
-  blank : has_word c ≡ true → follows_blank b ≡ follows_blank c
-  begun : has_begin b ≡ has_begin c
-  ended : has_end b ≡ has_end c
-  translated : has_translation b ≡ has_translation c
-  count : count_pieces b ≡ count_pieces c
-  begin : begin_of b ≡ begin_of c
-  end : end_of b ≡ end_of c
-  translation : translation_text b ≡ translation_text c
+pub record Alike (b c : List Token) : Type 0 where
+  pub styles : (s : Style) → is_open s b ≡ is_open s c
+  pub word : has_word b ≡ has_word c
+  pub blank : has_word c ≡ true → follows_blank b ≡ follows_blank c
+  pub begun : has_begin b ≡ has_begin c
+  pub ended : has_end b ≡ has_end c
+  pub translated : has_translation b ≡ has_translation c
+  pub count : count_pieces b ≡ count_pieces c
+  pub begin : begin_of b ≡ begin_of c
+  pub end : end_of b ≡ end_of c
+  pub translation : translation_text b ≡ translation_text c
 
 alike_pieces : (b c : List Token) (k : Token) → Alike b c → pieces_at b k ≡ pieces_at c k
 alike_pieces b c k h = by (kind_of k)
@@ -54,7 +55,7 @@ alike_pieces b c k h = by (kind_of k)
     by None = rw (open_alike, h.word, follows (is_space k.kind) (has_word c) refl) refl
 
 -- a token that both have
-alike_more : (b c : List Token) (k : Token) → Alike b c → Alike (k ∷ b) (k ∷ c)
+pub alike_more : (b c : List Token) (k : Token) → Alike b c → Alike (k ∷ b) (k ∷ c)
 alike_more b c k h = record {
   styles = λ s. ap (is_open_after s (effect k)) (h.styles s);
   word = ap (λ (x : Bool). is_word_kind (kind_of k) || x) h.word;
@@ -80,30 +81,36 @@ alike_along : (ks b c : List Token) → Alike b c → along pieces_at b ks ≡ a
 alike_along [] b c h = refl
 alike_along (k ∷ ks) b c h = ap₂ (λ (xs ys : List PieceFacts). xs ++ ys) (alike_pieces b c k h) (alike_along ks (k ∷ b) (k ∷ c) (alike_more b c k h))
 
--- ---- the LF
+-- ---- blanks before all
 
-behind_line_feed : Alike (line_feed ∷ []) []
-behind_line_feed = record {
-  styles = λ s. refl;
-  word = refl;
+pub gap_alike : (b : ℕ) (before : List Token) → Alike before [] → Alike (gap b ∷ before) []
+gap_alike b before h = record {
+  styles = h.styles;
+  word = h.word;
   blank = λ e. absurd (cc e);
-  begun = refl;
-  ended = refl;
-  translated = refl;
-  count = refl;
-  begin = refl;
-  end = refl;
-  translation = refl;
+  begun = h.begun;
+  ended = h.ended;
+  translated = h.translated;
+  count = rw (h.word) (let e : count_pieces before + 0 ≡ 0 = omega (arith, h.count) in e);
+  begin = h.begin;
+  end = h.end;
+  translation = h.translation;
 }
 
-pub begins_word_alone : (t : List ℕ) → view_facts (10 ∷ t) ≡ record (view_facts t) { word_start = true }
-begins_word_alone t =
-    let ks = tokens t in
-    let h : Alike (onto ks (line_feed ∷ [])) (onto ks []) = alike_onto ks (line_feed ∷ []) [] behind_line_feed in
-    let pieces : along pieces_at (line_feed ∷ []) ks ≡ along pieces_at [] ks = alike_along ks (line_feed ∷ []) [] behind_line_feed in
-    all (begins_word t) (ap but_blank pieces) (ap (λ (ps : List PieceFacts). length (but_blank ps)) pieces) h.begin h.end h.translation
+pub none_alike : Alike [] []
+none_alike = record { styles = λ s. refl; word = refl; blank = λ e. refl; begun = refl; ended = refl; translated = refl; count = refl; begin = refl; end = refl; translation = refl }
+
+pub gap_begins_word : (b : ℕ) (ks : List Token) → view_facts_by (gap b ∷ ks) ≡ record (view_facts_by ks) { word_start = true }
+gap_begins_word b ks =
+    let front : Alike (gap b ∷ []) [] = gap_alike b [] none_alike in
+    let h : Alike (onto ks (gap b ∷ [])) (onto ks []) = alike_onto ks (gap b ∷ []) [] front in
+    let pieces : along pieces_at (gap b ∷ []) ks ≡ along pieces_at [] ks = alike_along ks (gap b ∷ []) [] front in
+    all (stays ks (gap b ∷ []) refl) (ap but_blank pieces) (ap (λ (ps : List PieceFacts). length (but_blank ps)) pieces) h.begin h.end h.translation
   where
     all : {w w' : Bool} {ps ps' : List PieceFacts} {n n' : ℕ} {b b' e e' : Option ℕ} {t t' : Option (List ℕ)} → w ≡ w' → ps ≡ ps' → n ≡ n' → b ≡ b' → e ≡ e' → t ≡ t'
         → (let one : ViewFacts = record { word_start = w; pieces = ps; centre = centre_by n b e; translation = t } in
         let other : ViewFacts = record { word_start = w'; pieces = ps'; centre = centre_by n' b' e'; translation = t' } in one ≡ other)
     all c d f g h i = rw (c, d, f, g, h, i) refl
+
+pub begins_word_alone : (t : List ℕ) → view_facts (10 ∷ t) ≡ record (view_facts t) { word_start = true }
+begins_word_alone t = gap_begins_word 10 (tokens t)

@@ -13,7 +13,7 @@ use Rattle.gabc_text.specs.ViewFacts.{but_blank}
 use Rattle.gabc_text.proofs.tokens.CasesOfCharacters.{by_case}
 use Rattle.gabc_text.proofs.machine.TokenStateByCharacter.{turned}
 use Rattle.gabc_text.proofs.printing.TokensAreReadAgain.{IsReadAgain, token_again, letter_stable}
-use Rattle.gabc_text.proofs.printing.PrintedPiecesAreReadAgain.{Good, AllGood, Says}
+use Rattle.gabc_text.specs.machine.PrintedPieces.{AllGood, Good, Says}
 
 -- ---- letters
 
@@ -29,7 +29,7 @@ LetterAt t c = (token_at c t).kind ≡ kind.Letter → IsLetter (token_at c t)
 abbrev NoBlank : ℕ → Type 0
 NoBlank c = is_special c ≡ true → is_blank c ≡ false
 
-special_no_blank : (c : ℕ) → is_special c ≡ true → is_blank c ≡ false
+pub special_no_blank : (c : ℕ) → is_special c ≡ true → is_blank c ≡ false
 special_no_blank c e =
     by_case 32 c NoBlank (λ e. absurd (cc)) (λ e32.
     by_case 9 c NoBlank (λ e. absurd (cc)) (λ e9.
@@ -101,7 +101,7 @@ tokens_fine zero (c ∷ t) = by (c == 40) (record { again = token_again c t; let
 abbrev lettered : Bool → ℕ → Token
 lettered x c = cond x (record { kind = kind.Letter; first = 36; more = c ∷ [] }) (record { kind = kind.Letter; first = c; more = [] })
 
-letter_emits : (c : ℕ) (w b : Bool) → Says piece.Char (c ∷ []) w b
+pub letter_emits : (c : ℕ) (w b : Bool) → Says piece.Char (c ∷ []) w b
 letter_emits c w b = by (is_special c)
   where
     by : (x : Bool) → (kind_of (lettered x c) ≡ Some piece.Char) × (text_of_piece piece.Char (lettered x c) ≡ c ∷ []) × (is_space (lettered x c).kind ≡ false)
@@ -136,7 +136,7 @@ good_by _ c s before w b p f e = absurd (cc)
 
 -- ---- the pieces of a text
 
-any_blank : (b d : Bool) (ps : List PieceFacts) → AllGood false b ps → AllGood false d ps
+pub any_blank : (b d : Bool) (ps : List PieceFacts) → AllGood false b ps → AllGood false d ps
 any_blank b d [] h = tt
 any_blank b d (p ∷ ps) h = (record { test = (h.0).test; styles_are = (h.0).styles_are; stable = (h.0).stable; reads_so = by p.kind (h.0).reads_so }, h.1)
   where

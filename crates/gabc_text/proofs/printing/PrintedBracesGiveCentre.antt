@@ -14,7 +14,8 @@ use Rattle.gabc_text.proofs.printing.ViewFromFirstToken.{begin_at, end_at}
 use Rattle.gabc_text.specs.Canonical.{after_common}
 use Rattle.gabc_text.specs.Printed.{print_from, printed_piece, tokens_between, brace_tokens, opening_tag, closing_tag, begin_brace, end_brace}
 use Rattle.gabc_text.proofs.printing.PrintedTagsOpenStyles.{push, push_append, along_append}
-use Rattle.gabc_text.proofs.printing.PrintedPiecesAreReadAgain.{AllSilent, AllGood, Good, Says, Does, does, silent_word, silent_blank, between_silent, are_braces}
+use Rattle.gabc_text.proofs.printing.PrintedPiecesAreReadAgain.{AllSilent, Does, does, silent_word, silent_blank, between_silent, are_braces}
+use Rattle.gabc_text.specs.machine.PrintedPieces.{AllGood, Good, Says}
 
 -- what the tokens ks give of the centre, and what stands after them
 pub record Marks (before ks : List Token) (begins ends : List ℕ) (begun ended : Bool) (n : ℕ) : Type 0 where

@@ -13,8 +13,9 @@ use Rattle.gabc_text.specs.Token.{Token, spelling, effect_of}
 use Rattle.gabc_text.specs.View.{along, effect_as, tag_piece, piece_kind, is_open_after, is_open, all_styles, open_styles, kind_of, is_word_kind, has_word, follows_blank, starts_word, pieces_at, piece_of, PieceFacts, text_of_piece, is_space, is_blank_piece, is_translation}
 use Rattle.gabc_text.specs.Canonical.{after_common}
 use Rattle.gabc_text.specs.Printed.{opening_tag, closing_tag, tokens_between, brace_tokens, printed_piece, print_from}
-use Rattle.gabc_text.proofs.printing.TokensAreReadAgain.{Stable, opening_stable, closing_stable}
+use Rattle.gabc_text.proofs.printing.TokensAreReadAgain.{opening_stable, closing_stable}
 use Rattle.gabc_text.proofs.printing.PrintedTagsOpenStyles.{push, along_append, member, AllOnce, Quiet, across, styles_again, once}
+use Rattle.gabc_text.specs.machine.PrintedPieces.{AllGood, Good, Says, Stable}
 
 -- ---- tokens that are no pieces
 
@@ -100,22 +101,6 @@ silent_starts before [] h = refl
 silent_starts before (k ∷ ks) h = silent_starts (k ∷ before) ks h.1 ∙ rw h.0.no_space refl
 
 -- ---- pieces that are read again
-
--- a piece but a blank, which is printed as a token of that kind, and a blank after a word and no blank
-abbrev pub Says : PieceKind → List ℕ → Bool → Bool → Type 0
-Says piece.Blank t w b = (t ≡ []) × (w ≡ true) × (b ≡ false)
-Says k t w b = (kind_of (printed_piece k t) ≡ Some k) × (text_of_piece k (printed_piece k t) ≡ t) × (is_space (printed_piece k t).kind ≡ false)
-
-pub record Good (p : PieceFacts) (w b : Bool) : Type 0 where
-  pub test : Style → Bool
-  pub styles_are : p.styles ≡ filter test all_styles
-  pub stable : Stable (printed_piece p.kind p.text)
-  pub reads_so : Says p.kind p.text w b
-
--- the pieces after a word or none, and after a blank or none
-abbrev pub AllGood : Bool → Bool → List PieceFacts → Type 0
-AllGood w b [] = Unit {0}
-AllGood w b (p ∷ ps) = Good p w b × AllGood (is_word_kind (Some p.kind) || w) (is_blank_piece p.kind) ps
 
 of_kind : (before : List Token) (k : Token) (p : PieceKind) (t : List ℕ) → kind_of k ≡ Some p → text_of_piece p k ≡ t
     → pieces_at before k ≡ record { kind = p; styles = open_styles before; text = t } ∷ []

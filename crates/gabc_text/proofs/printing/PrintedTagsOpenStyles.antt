@@ -28,7 +28,7 @@ member s xs = list_any (λ r. is_same r s) xs
 
 -- ---- one tag
 
-open_one : (r s : Style) (before : List Token) → is_open s (opening_tag r ∷ before) ≡ cond (is_same r s) true (is_open s before)
+pub open_one : (r s : Style) (before : List Token) → is_open s (opening_tag r ∷ before) ≡ cond (is_same r s) true (is_open s before)
 open_one B s before = refl
 open_one C s before = refl
 open_one E s before = refl
@@ -37,7 +37,7 @@ open_one Sc s before = refl
 open_one Tt s before = refl
 open_one Ul s before = refl
 
-close_one : (r s : Style) (before : List Token) → is_open s (closing_tag r ∷ before) ≡ cond (is_same r s) false (is_open s before)
+pub close_one : (r s : Style) (before : List Token) → is_open s (closing_tag r ∷ before) ≡ cond (is_same r s) false (is_open s before)
 close_one B s before = refl
 close_one C s before = refl
 close_one E s before = refl
@@ -57,7 +57,7 @@ opened s (y ∷ ys) before = opened s ys (opening_tag y ∷ before) ∙ ap (λ b
     turn true false b = refl
     turn false m b = refl
 
-closed : (s : Style) (ys : List Style) (before : List Token) → is_open s (push (map closing_tag ys) before) ≡ (not (member s ys) && is_open s before)
+pub closed : (s : Style) (ys : List Style) (before : List Token) → is_open s (push (map closing_tag ys) before) ≡ (not (member s ys) && is_open s before)
 closed s [] before = refl
 closed s (y ∷ ys) before = closed s ys (closing_tag y ∷ before) ∙ ap (λ b. not (member s ys) && b) (close_one y s before) ∙ turn (is_same y s) (member s ys) (is_open s before)
   where
@@ -66,7 +66,7 @@ closed s (y ∷ ys) before = closed s ys (closing_tag y ∷ before) ∙ ap (λ b
     turn true false b = refl
     turn false m b = refl
 
-any_append : (s : Style) (xs ys : List Style) → member s (xs ++ ys) ≡ (member s xs || member s ys)
+pub any_append : (s : Style) (xs ys : List Style) → member s (xs ++ ys) ≡ (member s xs || member s ys)
 any_append s [] ys = refl
 any_append s (x ∷ xs) ys = ap (λ b. is_same x s || b) (any_append s xs ys) ∙ assoc (is_same x s) (member s xs) (member s ys)
   where
@@ -74,7 +74,7 @@ any_append s (x ∷ xs) ys = ap (λ b. is_same x s || b) (any_append s xs ys) �
     assoc true b c = refl
     assoc false b c = refl
 
-any_reverse : (s : Style) (xs : List Style) → member s (reverse xs) ≡ member s xs
+pub any_reverse : (s : Style) (xs : List Style) → member s (reverse xs) ≡ member s xs
 any_reverse s [] = refl
 any_reverse s (x ∷ xs) =
     ap (member s) (reverse-append (x ∷ []) xs) ∙ any_append s (reverse xs) (x ∷ []) ∙ ap (λ b. b || (is_same x s || false)) (any_reverse s xs) ∙ swap (member s xs) (is_same x s)
@@ -92,7 +92,7 @@ abbrev pub AllOnce : List Style → Type 0
 AllOnce [] = Unit {0}
 AllOnce (x ∷ xs) = (member x xs ≡ false) × AllOnce xs
 
-same_style : (r s : Style) → is_same r s ≡ true → r ≡ s
+pub same_style : (r s : Style) → is_same r s ≡ true → r ≡ s
 same_style B B e = refl
 same_style C C e = refl
 same_style E E e = refl
@@ -107,7 +107,7 @@ neither true b e = absurd (cc)
 neither false b e = (refl, e)
 
 -- what is left of the old are styles of the old
-within : (s : Style) (old new : List Style) → member s old ≡ false → member s (after_common old new).0 ≡ false
+pub within : (s : Style) (old new : List Style) → member s old ≡ false → member s (after_common old new).0 ≡ false
 within s [] new h = refl
 within s (x ∷ old) [] h = h
 within s (x ∷ old) (y ∷ new) h = by (is_same x y) (within s old new (neither (is_same x s) (member s old) h).1)

@@ -10,7 +10,7 @@ use Rattle.gabc_text.proofs.printing.PrintedTextIsReadAgain.{tokens_printed}
 use Rattle.gabc_text.proofs.machine.TokensOneAfterAnother.{size, after_is}
 use Rattle.gabc_text.proofs.tokens.TokensByCharacter.{drop_past}
 
-size_written : (ks : List Token) → size ks ≡ length (text_of_tokens ks)
+pub size_written : (ks : List Token) → size ks ≡ length (text_of_tokens ks)
 size_written [] = refl
 size_written (k ∷ ks) = ap (λ (n : ℕ). length (spelling k) + n) (size_written ks) ∙ sym (length-append (spelling k) (text_of_tokens ks))
 

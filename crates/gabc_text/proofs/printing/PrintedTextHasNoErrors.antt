@@ -19,11 +19,11 @@ use Rattle.gabc_text.specs.View.{along, effect, effect_as, piece_kind, PieceFact
 use Rattle.gabc_text.specs.Canonical.{after_common}
 use Rattle.gabc_text.specs.ViewFacts.{ViewFacts, view_facts, is_error, has_error}
 use Rattle.gabc_text.specs.Printed.{opening_tag, closing_tag, begin_brace, end_brace, brace_tokens, tokens_between, printed_piece, print_from, text_tokens, translation_tokens, word_break, print_tokens, print}
-use Rattle.gabc_text.proofs.printing.PrintedPiecesAreReadAgain.{Good, AllGood, Says}
 use Rattle.gabc_text.proofs.printing.ViewFromFirstToken.{view}
 use Rattle.gabc_text.proofs.printing.PiecesPrintWell.{pieces_good}
 use Rattle.gabc_text.proofs.printing.PrintedTextIsReadAgain.{tokens_printed}
 use Rattle.gabc_text.proofs.printing.ViewForwardIsViewBackward.{facts_is}
+use Rattle.gabc_text.specs.machine.PrintedPieces.{AllGood, Good, Says}
 
 -- ---- tokens that are no stray characters
 

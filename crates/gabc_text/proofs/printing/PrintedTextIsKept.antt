@@ -11,14 +11,15 @@ use Rattle.gabc_text.specs.Canonical.{after_common}
 use Rattle.gabc_text.specs.ViewFacts.{ViewFacts, view_facts}
 use Rattle.gabc_text.specs.Printed.{print_from, printed_piece, tokens_between, brace_tokens, opening_tag, closing_tag, text_of_tokens, text_tokens, translation_tokens, word_break, print_tokens, print}
 use Rattle.gabc_text.proofs.printing.PrintedTagsOpenStyles.{push, along_append}
-use Rattle.gabc_text.proofs.printing.PrintedPiecesAreReadAgain.{AllGood, Good, Says, does, silent_word, silent_blank}
+use Rattle.gabc_text.proofs.printing.PrintedPiecesAreReadAgain.{does, silent_word, silent_blank}
 use Rattle.gabc_text.proofs.printing.PrintedBracesGiveCentre.{Phase, gap_by, gap_silent, closing_marks, piece_marks, braces_by}
 use Rattle.gabc_text.proofs.spans.SpansStandForView.{no_space, kept_spelled}
 use Rattle.gabc_text.proofs.printing.ViewFromFirstToken.{view}
 use Rattle.gabc_text.proofs.printing.PrintedTextIsReadAgain.{IsCentre, Sound, view_sound, tokens_printed}
 use Rattle.gabc_text.proofs.printing.ViewForwardIsViewBackward.{facts_is}
+use Rattle.gabc_text.specs.machine.PrintedPieces.{AllGood, Good, Says}
 
-written_append : (ks ls : List Token) → text_of_tokens (ks ++ ls) ≡ text_of_tokens ks ++ text_of_tokens ls
+pub written_append : (ks ls : List Token) → text_of_tokens (ks ++ ls) ≡ text_of_tokens ks ++ text_of_tokens ls
 written_append [] ls = refl
 written_append (k ∷ ks) ls = ap (λ (x : List ℕ). spelling k ++ x) (written_append ks ls) ∙ sym (append_assoc (spelling k) (text_of_tokens ks) (text_of_tokens ls))
 
@@ -127,10 +128,10 @@ kept_none i old (p ∷ ps) w b0 before e f g =
     (kept_none (i + 1) p.styles ps (is_word_kind (Some p.kind) || w) (is_blank_piece p.kind) (k ∷ push gap before) d.word (λ x. d.blank) g.1))
 
 -- the blank before a word, as it is kept
-abbrev word_kept : Bool → List ℕ
+abbrev pub word_kept : Bool → List ℕ
 word_kept b = cond b (32 ∷ []) []
 
-view_kept : (v : ViewFacts) → Sound v → along kept_at [] (print_tokens v) ≡ word_kept v.word_start ++ text_of_tokens (text_tokens v ++ translation_tokens v.translation)
+pub view_kept : (v : ViewFacts) → Sound v → along kept_at [] (print_tokens v) ≡ word_kept v.word_start ++ text_of_tokens (text_tokens v ++ translation_tokens v.translation)
 view_kept v s =
     ap (along kept_at []) (append_assoc (word_break v.word_start) (text_tokens v) (translation_tokens v.translation))
     ∙ along_append kept_at [] (word_break v.word_start) (text_tokens v ++ translation_tokens v.translation)

@@ -16,10 +16,11 @@ use Rattle.gabc_text.specs.declared.token.TagEffect.{TagEffect}
 use Rattle.gabc_text.specs.declared.token.TagEffect.TheVariants.{Opens, Closes, Mark, Begins, Other}
 use Rattle.gabc_text.proofs.tokens.CasesOfCharacters.{by_case}
 use Rattle.gabc_text.proofs.printing.PrintedBracesGiveCentre.{centre_from, no_centre}
-use Rattle.gabc_text.proofs.printing.TokensAreReadAgain.{Stable, AllStable, written_stable, IsReadAgain, token_again}
+use Rattle.gabc_text.proofs.printing.TokensAreReadAgain.{AllStable, written_stable, IsReadAgain, token_again}
 use Rattle.gabc_text.proofs.printing.PrintedTagsOpenStyles.{push, push_append, along_append}
-use Rattle.gabc_text.proofs.printing.PrintedPiecesAreReadAgain.{AllSilent, between_silent, are_braces, silent_word, silent_blank, silent_starts, Good, AllGood, Says, does, pieces_again}
+use Rattle.gabc_text.proofs.printing.PrintedPiecesAreReadAgain.{AllSilent, between_silent, are_braces, silent_word, silent_blank, silent_starts, does, pieces_again}
 use Rattle.gabc_text.proofs.printing.PiecesPrintWell.{pieces_good, good_along, tokens_fine}
+use Rattle.gabc_text.specs.machine.PrintedPieces.{AllGood, Good, Says, Stable}
 
 -- ---- all that is printed is stable
 
@@ -119,7 +120,7 @@ translation_after centre i old (p ∷ ps) w b ls g =
 -- ---- the translation of a text
 
 -- a translation that is read again
-abbrev IsTranslated : Option (List ℕ) → Type 0
+abbrev pub IsTranslated : Option (List ℕ) → Type 0
 IsTranslated None = Unit {0}
 IsTranslated (Some s) = Stable (record { kind = kind.Translation; first = 91; more = s ++ 93 ∷ [] })
 
@@ -339,7 +340,7 @@ same_view a b ps qs c d x y e f g h =
     ∙ ap (λ (z : Option Span). record { word_start = b; pieces = qs; centre = z; translation = x }) g
     ∙ ap (λ (z : Option (List ℕ)). record { word_start = b; pieces = qs; centre = d; translation = z }) h
 
-reverse_push : (ks before : List Token) → reverse ks ++ before ≡ push ks before
+pub reverse_push : (ks before : List Token) → reverse ks ++ before ≡ push ks before
 reverse_push [] before = refl
 reverse_push (k ∷ ks) before = ap (λ (x : List Token). x ++ before) (reverse-append (k ∷ []) ks) ∙ append_assoc (reverse ks) (k ∷ []) before ∙ reverse_push ks (k ∷ before)
 
@@ -399,15 +400,19 @@ printed_view v s =
 
 -- ---- the law
 
+stable_printed : (v : ViewFacts) → Sound v → AllStable (print_tokens v)
+stable_printed v s =
+    stable_append (word_break v.word_start ++ text_tokens v) (translation_tokens v.translation)
+    (stable_append (word_break v.word_start) (text_tokens v) (opening_of v.word_start).stable
+    (stable_from v.centre 0 [] v.pieces false false s.good))
+    (closing_of v.translation s.translation_in).stable
+
+-- in front of a text without tokens
+pub tokens_before : (v : ViewFacts) → Sound v → (u : List ℕ) → tokens u ≡ [] → tokens (print v ++ u) ≡ print_tokens v
+tokens_before v s u e = written_stable (print_tokens v) u (stable_printed v s) ∙ ap (λ (ks : List Token). print_tokens v ++ ks) e ∙ append-nil (print_tokens v)
+
 pub tokens_printed : (t rest : List ℕ) → tokens (print (view t) ++ 40 ∷ rest) ≡ print_tokens (view t)
-tokens_printed t rest =
-    let s = view_sound t in
-    let stable : AllStable (print_tokens (view t)) =
-    stable_append (word_break (view t).word_start ++ text_tokens (view t)) (translation_tokens (view t).translation)
-    (stable_append (word_break (view t).word_start) (text_tokens (view t)) (opening_of (view t).word_start).stable
-    (stable_from (view t).centre 0 [] (view t).pieces false false s.good))
-    (closing_of (view t).translation s.translation_in).stable in
-    written_stable (print_tokens (view t)) (40 ∷ rest) stable ∙ append-nil (print_tokens (view t))
+tokens_printed t rest = tokens_before (view t) (view_sound t) (40 ∷ rest) refl
 
 pub forward_again : (t rest : List ℕ) → view (print (view t) ++ 40 ∷ rest) ≡ view t
 forward_again t rest = ap view_by (tokens_printed t rest) ∙ printed_view (view t) (view_sound t)

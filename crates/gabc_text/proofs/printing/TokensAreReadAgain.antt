@@ -12,13 +12,11 @@ use Rattle.gabc_text.specs.declared.token.RawKind.TheVariants.{V, Sp, Alt}
 use Rattle.gabc_text.specs.declared.styles.Style.{Style}
 use Rattle.gabc_text.specs.declared.styles.Style.TheVariants.{B, C, E, I, Sc, Tt, Ul}
 use Rattle.gabc_text.specs.Token.{Token, spelling, tokens, tokens_after, token_at, through, begins_with, ended_token, tag_at, token_of_tag, single, is_special, is_blank, effect_of, ending_of}
+use Rattle.gabc_text.specs.machine.PrintedPieces.{Stable}
 use Rattle.gabc_text.specs.Printed.{text_of_tokens, opening_tag, closing_tag, letter}
 use Rattle.gabc_text.proofs.tokens.TokensByCharacter.{tokens_first, drop_past}
 use Rattle.gabc_text.proofs.tokens.RawEndingIsMatched.{begins_itself}
 use Rattle.gabc_text.proofs.machine.TokenStateByCharacter.{turned}
-
-abbrev pub Stable : Token → Type 0
-Stable k = (u : List ℕ) → tokens (spelling k ++ u) ≡ k ∷ tokens u
 
 abbrev pub AllStable : List Token → Type 0
 AllStable [] = Unit {0}

@@ -11,8 +11,9 @@ use Rattle.gabc_text.specs.Printed.{text_of_tokens}
 use Rattle.gabc_text.proofs.tokens.CasesOfCharacters.{by_case}
 use Rattle.gabc_text.proofs.machine.TokenStateByCharacter.{turned}
 use Rattle.gabc_text.proofs.tokens.TokensByCharacter.{drop_past}
-use Rattle.gabc_text.proofs.printing.TokensAreReadAgain.{Stable, token_again, again_by, escaped_stable, found}
+use Rattle.gabc_text.proofs.printing.TokensAreReadAgain.{token_again, again_by, escaped_stable, found}
 use Rattle.gabc_text.proofs.printing.KeptTextIsReadAgain.{kept_token, kept_token_by, one_blank, alike}
+use Rattle.gabc_text.specs.machine.PrintedPieces.{Stable}
 
 -- ---- how a token is read again
 

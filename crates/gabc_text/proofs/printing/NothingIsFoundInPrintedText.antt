@@ -1,0 +1,432 @@
+-- Nothing is found in a printed text whose tags are all known.
+use Rattle.std.proofs.Common.{◌≡◌, ℕ, ◌+◌, ◌≤◌, ◌<◌, ◌==◌, List, [], ◌∷◌, ◌++◌, Bool, true, false, ◌||◌, ◌&&◌, not, cond, refl, sym, ap, ap₂, ◌∙◌, map, reverse, append-nil, append_assoc, Option, Some, None, length, length-append, arith}
+use Rattle.std.proofs.lemmas.Bool.{true≢false}
+use Rattle.std.proofs.lemmas.List.{reverse-append}
+use Rattle.gabc_places.specs.declared.place.Place.{Place}
+use Rattle.gabc_places.specs.declared.place.Span.{Span}
+use Rattle.gabc_places.specs.declared.code.Code.{Code}
+use Rattle.gabc_places.specs.declared.code.Code.TheVariants.{W4}
+use Rattle.gabc_places.specs.declared.code.Finding.{Finding}
+use Rattle.gabc_text.specs.declared.styles.Style.{Style}
+use Rattle.gabc_text.specs.declared.styles.Style.TheVariants.{B, C, E, I, Sc, Tt, Ul}
+use Rattle.gabc_text.specs.declared.view.PieceKind.{PieceKind}
+use Rattle.gabc_text.specs.declared.view.PieceKind.TheVariants as piece
+use Rattle.gabc_text.specs.declared.token.TokenKind.{TokenKind}
+use Rattle.gabc_text.specs.declared.token.TokenKind.TheVariants as kind
+use Rattle.gabc_text.specs.declared.token.TagEffect.{TagEffect}
+use Rattle.gabc_text.specs.declared.token.TagEffect.TheVariants.{Mark, Other}
+use Rattle.gabc_text.specs.Token.{Token, spelling, effect_of}
+use Rattle.gabc_text.specs.View.{along, effect, effect_as, tag_piece, piece_kind, PieceFacts, is_same, is_open, is_open_after, is_begin, is_end, has_begin, has_end, is_translation, has_translation, is_left_out, kept_at, kept_as, is_space, follows_space, is_cut, early_codes, late_codes, found_at, findings_at, codes_at_end, findings_at_end, place_of, is_word_kind, is_blank_piece, has_word, count_pieces}
+use Rattle.gabc_text.specs.ViewFacts.{ViewFacts}
+use Rattle.gabc_text.specs.Canonical.{after_common}
+use Rattle.gabc_text.specs.Printed.{opening_tag, closing_tag, begin_brace, end_brace, brace_tokens, tokens_between, printed_piece, print_from, text_of_tokens, text_tokens, translation_tokens, word_break, print_tokens}
+use Rattle.gabc_text.proofs.printing.ViewFromFirstToken.{begin_at, end_at}
+use Rattle.gabc_text.proofs.printing.PrintedBracesGiveCentre.{centre_from, no_centre}
+use Rattle.gabc_text.proofs.printing.PrintedTextIsReadAgain.{Sound, IsCentre, reverse_push}
+use Rattle.gabc_text.proofs.printing.PrintedTextIsKept.{view_kept, word_kept}
+use Rattle.gabc_text.specs.machine.RegularBytes.{is_unknown, AllKnown}
+use Rattle.gabc_text.proofs.printing.PrintedTagsOpenStyles.{push, push_append, along_append, member, AllOnce, across, once, same_style, any_append, any_reverse, within, open_one, close_one, closed}
+use Rattle.gabc_text.proofs.printing.PrintedPiecesAreReadAgain.{AllSilent, between_silent, are_braces}
+use Rattle.gabc_text.specs.machine.PrintedPieces.{AllGood, Good, Says}
+
+-- ---- styles, none of which stands twice
+
+not_both : {X : Type 0} (b : Bool) → b ≡ true → b ≡ false → X
+not_both b e f = absurd (true≢false (sym e ∙ f))
+
+pub itself : (s : Style) → is_same s s ≡ true
+itself B = refl
+itself C = refl
+itself E = refl
+itself I = refl
+itself Sc = refl
+itself Tt = refl
+itself Ul = refl
+
+in_head : (y : Style) (ys : List Style) → member y (y ∷ ys) ≡ true
+in_head y ys = rw (itself y) refl
+
+same_turned : (r s : Style) → is_same r s ≡ false → is_same s r ≡ false
+same_turned r s e = by (is_same s r) refl
+  where
+    by : (b : Bool) → is_same s r ≡ b → b ≡ false
+    by false f = refl
+    by true f = not_both (is_same r s) (ap (λ (x : Style). is_same r x) (same_style s r f) ∙ itself r) e
+
+-- a style is not among others that one of them is not
+other_than : (y s : Style) (ys : List Style) → member y ys ≡ false → member s ys ≡ true → is_same y s ≡ false
+other_than y s ys h g = by (is_same y s) refl
+  where
+    by : (b : Bool) → is_same y s ≡ b → b ≡ false
+    by false e = refl
+    by true e = not_both (member s ys) g (ap (λ (x : Style). member x ys) (sym (same_style y s e)) ∙ h)
+
+in_tail : (a b : Bool) → b ≡ true → (a || b) ≡ true
+in_tail true b e = refl
+in_tail false b e = e
+
+no_or : (a b : Bool) → (a || b) ≡ false → (a ≡ false) × (b ≡ false)
+no_or true b e = absurd (cc)
+no_or false b e = (refl, e)
+
+once_more : (xs : List Style) (y : Style) → AllOnce xs → member y xs ≡ false → AllOnce (xs ++ y ∷ [])
+once_more [] y h g = (refl, tt)
+once_more (x ∷ xs) y h g =
+    let n = no_or (is_same x y) (member y xs) g in
+    (any_append x xs (y ∷ []) ∙ rw (h.0, same_turned x y n.0) refl, once_more xs y h.1 n.1)
+
+once_turned : (xs : List Style) → AllOnce xs → AllOnce (reverse xs)
+once_turned [] h = tt
+once_turned (x ∷ xs) h = rw (reverse-append (x ∷ []) xs) (once_more (reverse xs) x (once_turned xs h.1) (any_reverse x xs ∙ h.0))
+
+-- ---- what is left of two lists of styles
+
+once_old : (old new : List Style) → AllOnce old → AllOnce (after_common old new).0
+once_old [] new h = tt
+once_old (x ∷ old) [] h = h
+once_old (x ∷ old) (y ∷ new) h = by (is_same x y) (once_old old new h.1)
+  where
+    by : (b : Bool) → AllOnce (after_common old new).0 → AllOnce (cond b (after_common old new) (x ∷ old, y ∷ new)).0
+    by true g = g
+    by false g = h
+
+once_new : (old new : List Style) → AllOnce new → AllOnce (after_common old new).1
+once_new [] new h = h
+once_new (x ∷ old) [] h = tt
+once_new (x ∷ old) (y ∷ new) h = by (is_same x y) (once_new old new h.1)
+  where
+    by : (b : Bool) → AllOnce (after_common old new).1 → AllOnce (cond b (after_common old new) (x ∷ old, y ∷ new)).1
+    by true g = g
+    by false g = h
+
+of_old : (s : Style) (old new : List Style) → member s (after_common old new).0 ≡ true → member s old ≡ true
+of_old s old new h = by (member s old) refl
+  where
+    by : (b : Bool) → member s old ≡ b → b ≡ true
+    by true e = refl
+    by false e = not_both (member s (after_common old new).0) h (within s old new e)
+
+of_new : (s : Style) (old new : List Style) → member s (after_common old new).1 ≡ true → member s new ≡ true
+of_new s [] new h = h
+of_new s (x ∷ old) [] h = absurd (cc)
+of_new s (x ∷ old) (y ∷ new) h = by (is_same x y) h (of_new s old new)
+  where
+    by : (b : Bool) → member s (cond b (after_common old new) (x ∷ old, y ∷ new)).1 ≡ true → (member s (after_common old new).1 ≡ true → member s new ≡ true) → member s (y ∷ new) ≡ true
+    by true g more = in_tail (is_same y s) (member s new) (more g)
+    by false g more = g
+
+-- what is left of the new is not open once the old is closed
+abbrev IsShut : Style → List Style → List Style → Type 0
+IsShut s left old = (not (member s left) && member s old) ≡ false
+
+shut : (s : Style) (old new : List Style) → AllOnce new → member s (after_common old new).1 ≡ true → IsShut s (after_common old new).0 old
+shut s [] new h g = refl
+shut s (x ∷ old) [] h g = absurd (cc)
+shut s (x ∷ old) (y ∷ new) h g = by (is_same x y) refl g (shut s old new h.1)
+  where
+    never : (a : Bool) → (not a && a) ≡ false
+    never true = refl
+    never false = refl
+
+    by : (b : Bool) → is_same x y ≡ b → member s (cond b (after_common old new) (x ∷ old, y ∷ new)).1 ≡ true
+        → (member s (after_common old new).1 ≡ true → IsShut s (after_common old new).0 old) → IsShut s (cond b (after_common old new) (x ∷ old, y ∷ new)).0 (x ∷ old)
+    by true e f more =
+        let apart : is_same x s ≡ false = ap (λ (z : Style). is_same z s) (same_style x y e) ∙ other_than y s new h.0 (of_new s old new f) in
+        rw apart (more f)
+    by false e f more = never (member s (x ∷ old))
+
+-- ---- what is found but for braces
+
+abbrev codes_by : List Token → TokenKind → TagEffect → List Code
+codes_by before d so = cond (is_begin d || is_end d) [] (early_codes before d ++ late_codes before d so)
+
+abbrev codes_aside : List Token → Token → List Code
+codes_aside before k = codes_by before k.kind (effect k)
+
+abbrev NoneAside : List Token → List Token → Type 0
+NoneAside before ks = along codes_aside before ks ≡ []
+
+both_aside : (before ks ls : List Token) → NoneAside before ks → NoneAside (push ks before) ls → NoneAside before (ks ++ ls)
+both_aside before ks ls h g = along_append codes_aside before ks ls ∙ ap₂ (λ (a b : List Code). a ++ b) h g
+
+closings_aside : (ys : List Style) (before : List Token) → AllOnce ys → ((s : Style) → member s ys ≡ true → is_open s before ≡ true) → NoneAside before (map closing_tag ys)
+closings_aside [] before o h = refl
+closings_aside (y ∷ ys) before o h =
+    ap₂ (λ (a b : List Code). a ++ b) (one y (h y (in_head y ys)))
+    (closings_aside ys (closing_tag y ∷ before) o.1 (λ s g. close_one y s before ∙ rw (other_than y s ys o.0 g) (h s (in_tail (is_same y s) (member s ys) g))))
+  where
+    one : (y : Style) → is_open y before ≡ true → codes_aside before (closing_tag y) ≡ []
+    one B e = rw e refl
+    one C e = rw e refl
+    one E e = rw e refl
+    one I e = rw e refl
+    one Sc e = rw e refl
+    one Tt e = rw e refl
+    one Ul e = rw e refl
+
+openings_aside : (ys : List Style) (before : List Token) → AllOnce ys → ((s : Style) → member s ys ≡ true → is_open s before ≡ false) → NoneAside before (map opening_tag ys)
+openings_aside [] before o h = refl
+openings_aside (y ∷ ys) before o h =
+    ap₂ (λ (a b : List Code). a ++ b) (one y (h y (in_head y ys)))
+    (openings_aside ys (opening_tag y ∷ before) o.1 (λ s g. open_one y s before ∙ rw (other_than y s ys o.0 g) (h s (in_tail (is_same y s) (member s ys) g))))
+  where
+    one : (y : Style) → is_open y before ≡ false → codes_aside before (opening_tag y) ≡ []
+    one B e = rw e refl
+    one C e = rw e refl
+    one E e = rw e refl
+    one I e = rw e refl
+    one Sc e = rw e refl
+    one Tt e = rw e refl
+    one Ul e = rw e refl
+
+braces_aside : (centre : Option Span) (i : ℕ) (before : List Token) → NoneAside before (brace_tokens centre i)
+braces_aside None i before = refl
+braces_aside (Some c) i before = by (c.from == i) (c.to == i)
+  where
+    by : (a b : Bool) → NoneAside before (cond a (cond b (begin_brace ∷ end_brace ∷ []) (begin_brace ∷ [])) (cond b (end_brace ∷ []) []))
+    by true true = refl
+    by true false = refl
+    by false true = refl
+    by false false = refl
+
+silent_translated : (ks before : List Token) → AllSilent ks → has_translation (push ks before) ≡ has_translation before
+silent_translated [] before h = refl
+silent_translated (k ∷ ks) before h = silent_translated ks (k ∷ before) h.1 ∙ rw (h.0).no_translation refl
+
+-- what tokens leave, behind which these styles are open
+record Aside (before ks : List Token) (new : List Style) : Type 0 where
+  none : NoneAside before ks
+  opens : (s : Style) → is_open s (push ks before) ≡ member s new
+  translated : has_translation (push ks before) ≡ has_translation before
+
+gap_aside : (centre : Option Span) (i : ℕ) (old new : List Style) (before : List Token) → AllOnce old → AllOnce new → ((s : Style) → is_open s before ≡ member s old)
+    → Aside before (tokens_between old new (brace_tokens centre i)) new
+gap_aside centre i old new before o n h =
+    let left = after_common old new in
+    let ms = brace_tokens centre i in
+    let closing = map closing_tag (reverse (after_common old new).0) in
+    let braces = are_braces centre i in
+    let back : (s : Style) → member s (reverse (after_common old new).0) ≡ member s (after_common old new).0 = λ s. any_reverse s (after_common old new).0 in
+    record {
+      none =
+          both_aside before (closing ++ ms) (map opening_tag left.1)
+          (both_aside before closing ms
+          (closings_aside (reverse (after_common old new).0) before (once_turned (after_common old new).0 (once_old old new o)) (λ s g. h s ∙ of_old s old new (sym (back s) ∙ g)))
+          (braces_aside centre i (push closing before)))
+          (openings_aside left.1 (push (closing ++ ms) before) (once_new old new n)
+          (λ s g. ap (is_open s) (push_append closing ms before) ∙ braces.quiet s (push closing before) ∙ closed s (reverse (after_common old new).0) before
+          ∙ ap₂ (λ (a b : Bool). not a && b) (back s) (h s) ∙ shut s old new n g));
+      opens = λ s. across s old new ms before o braces.quiet (h s);
+      translated = silent_translated (tokens_between old new ms) before (between_silent old new ms braces.silent);
+    }
+
+-- a piece that is no unknown tag
+record Passed (k : Token) : Type 0 where
+  none : (before : List Token) → codes_aside before k ≡ []
+  opens : (s : Style) (before : List Token) → is_open s (k ∷ before) ≡ is_open s before
+  no_translation : is_translation k.kind ≡ false
+
+record ByKind (d : TokenKind) (so : TagEffect) : Type 0 where
+  none : (before : List Token) → codes_by before d so ≡ []
+  opens : (s : Style) (was : Bool) → is_open_after s so was ≡ was
+  no_translation : is_translation d ≡ false
+
+piece_passed : (p : PieceFacts) (w b : Bool) → Good p w b → is_unknown p.kind ≡ false → Passed (printed_piece p.kind p.text)
+piece_passed p w b g u = by p.kind u g.reads_so
+  where
+    tags : (so : TagEffect) (q : PieceKind) → is_unknown q ≡ false → tag_piece so ≡ Some q → ByKind kind.Tag so
+    tags Mark q n e = record { none = λ before. refl; opens = λ s was. refl; no_translation = refl }
+    tags Other q n e = not_both (is_unknown q) (ap is_unknown (let f : q ≡ piece.Tag = cc in f)) n
+    tags _ q n e = absurd (cc)
+
+    kinds : (d : TokenKind) (t : List ℕ) (q : PieceKind) → is_unknown q ≡ false → piece_kind d (effect_as d t) ≡ Some q → ByKind d (effect_as d t)
+    kinds kind.Letter t q n e = record { none = λ before. refl; opens = λ s was. refl; no_translation = refl }
+    kinds kind.Raw t q n e = record { none = λ before. refl; opens = λ s was. refl; no_translation = refl }
+    kinds kind.Tag t q n e = tags (effect_of t) q n e
+    kinds _ t q n e = absurd (cc)
+
+    from : (k : Token) (q : PieceKind) → is_unknown q ≡ false → piece_kind k.kind (effect k) ≡ Some q → Passed k
+    from k q n e = let r = kinds k.kind (spelling k) q n e in record { none = r.none; opens = λ s before. r.opens s (is_open s before); no_translation = r.no_translation }
+
+    by : (k : PieceKind) → is_unknown k ≡ false → Says k p.text w b → Passed (printed_piece k p.text)
+    by piece.Blank n h = record { none = λ before. refl; opens = λ s before. refl; no_translation = refl }
+    by piece.Char n h = from (printed_piece piece.Char p.text) piece.Char n h.0
+    by piece.Raw n h = from (printed_piece piece.Raw p.text) piece.Raw n h.0
+    by piece.Tag n h = from (printed_piece piece.Tag p.text) piece.Tag n h.0
+    by piece.Mark n h = from (printed_piece piece.Mark p.text) piece.Mark n h.0
+
+pieces_aside : (centre : Option Span) (i : ℕ) (old : List Style) (ps : List PieceFacts) (w b : Bool) (before : List Token) → AllOnce old → ((s : Style) → is_open s before ≡ member s old)
+    → AllGood w b ps → AllKnown ps → Aside before (print_from centre i old ps) []
+pieces_aside centre i old [] w b before o h g k = gap_aside centre i old [] before o tt h
+pieces_aside centre i old (p ∷ ps) w b before o h g k =
+    let gap = tokens_between old p.styles (brace_tokens centre i) in
+    let it = printed_piece p.kind p.text in
+    let more = print_from centre (i + 1) p.styles ps in
+    let none : AllOnce p.styles = rw ((g.0).styles_are) (once (g.0).test) in
+    let first = gap_aside centre i old p.styles before o none h in
+    let passed = piece_passed p w b g.0 k.0 in
+    let rest = pieces_aside centre (i + 1) p.styles ps (is_word_kind (Some p.kind) || w) (is_blank_piece p.kind) (it ∷ push gap before) none
+    (λ s. passed.opens s (push gap before) ∙ first.opens s) g.1 k.1 in
+    let all : push (gap ++ it ∷ more) before ≡ push more (it ∷ push gap before) = push_append gap (it ∷ more) before in
+    record {
+      none = both_aside before gap (it ∷ more) first.none (ap₂ (λ (x y : List Code). x ++ y) (passed.none (push gap before)) rest.none);
+      opens = λ s. ap (is_open s) all ∙ rest.opens s;
+      translated = ap has_translation all ∙ rest.translated ∙ rw passed.no_translation first.translated;
+    }
+
+-- ---- no brace is left out
+
+kept_short : (out space : Bool) (d : TokenKind) (c : ℕ) (s : List ℕ) → length (kept_as out space d [] (32 ∷ []) (c ∷ s)) ≤ length (c ∷ s)
+kept_short true space d c s = omega arith
+kept_short false space d c s = by (is_space d) space
+  where
+    by : (x y : Bool) → length (cond x (cond y [] (32 ∷ [])) (c ∷ s)) ≤ length (c ∷ s)
+    by true true = omega arith
+    by true false = omega arith
+    by false y = omega arith
+
+all_short : (before ks : List Token) → length (along kept_at before ks) ≤ length (text_of_tokens ks)
+all_short before [] = omega arith
+all_short before (k ∷ ks) =
+    let h = kept_short (is_left_out before k.kind) (follows_space before) k.kind k.first k.more in
+    let g = all_short (k ∷ before) ks in
+    omega (arith, h, g, length-append (kept_at before k) (along kept_at (k ∷ before) ks), length-append (spelling k) (text_of_tokens ks))
+
+-- what is kept has no brace that is found
+brace_fine : (before : List Token) (k : Token) → 0 < length (kept_at before k) → codes_aside before k ≡ [] → early_codes before k.kind ++ late_codes before k.kind (effect k) ≡ []
+brace_fine before k h e = by k.kind (effect k) h e
+  where
+    by : (d : TokenKind) (so : TagEffect) → 0 < length (kept_as (is_left_out before d) (follows_space before) d [] (32 ∷ []) (spelling k)) → codes_by before d so ≡ [] → early_codes before d ++ late_codes before d so ≡ []
+    by kind.Begin so g f = begins (has_begin before) g
+      where
+        begins : (x : Bool) → 0 < length (kept_as x (follows_space before) kind.Begin [] (32 ∷ []) (spelling k)) → cond x (W4 ∷ []) [] ≡ []
+        begins true g = absurd (omega arith)
+        begins false g = refl
+    by kind.End so g f = ends (has_begin before && not (has_end before)) g
+      where
+        ends : (x : Bool) → 0 < length (kept_as (not x) (follows_space before) kind.End [] (32 ∷ []) (spelling k)) → cond x [] (W4 ∷ []) ≡ []
+        ends true g = refl
+        ends false g = absurd (omega arith)
+    by kind.Letter so g f = f
+    by kind.Blank so g f = f
+    by kind.Comment so g f = f
+    by kind.Stray so g f = f
+    by kind.Tag so g f = f
+    by kind.Raw so g f = f
+    by kind.Translation so g f = f
+    by kind.OpenTag so g f = f
+    by kind.OpenTranslation so g f = f
+
+pub no_head : {X : Type 0} (xs ys : List X) → xs ++ ys ≡ [] → (xs ≡ []) × (ys ≡ [])
+no_head [] ys e = (refl, e)
+no_head (x ∷ xs) ys e = absurd (cc)
+
+pub none_along : (at : Place) (before ks : List Token) → length (along kept_at before ks) ≡ length (text_of_tokens ks) → NoneAside before ks → along (findings_at at) before ks ≡ []
+none_along at before [] h e = refl
+none_along at before (k ∷ ks) h e =
+    let one = kept_short (is_left_out before k.kind) (follows_space before) k.kind k.first k.more in
+    let others = all_short (k ∷ before) ks in
+    let x = length-append (kept_at before k) (along kept_at (k ∷ before) ks) in
+    let y = length-append (spelling k) (text_of_tokens ks) in
+    let f = no_head (codes_aside before k) (along codes_aside (k ∷ before) ks) e in
+    ap₂ (λ (a b : List Finding). a ++ b)
+    (ap (map (found_at (place_of at before))) (brace_fine before k (omega (arith, one, others, x, y, h)) f.0))
+    (none_along at (k ∷ before) ks (omega (arith, one, others, x, y, h)) f.1)
+
+-- ---- what is found at the end
+
+ended_stays : (ks before : List Token) → has_end before ≡ true → has_end (push ks before) ≡ true
+ended_stays [] before h = h
+ended_stays (k ∷ ks) before h = ended_stays ks (k ∷ before) (in_tail (is_end k.kind && has_begin before) (has_end before) h)
+
+ended_by : (ks before : List Token) (x : ℕ) (xs : List ℕ) → along end_at before ks ≡ x ∷ xs → has_end (push ks before) ≡ true
+ended_by [] before x xs e = absurd (cc)
+ended_by (k ∷ ks) before x xs e = by (is_end k.kind && has_begin before) (has_end before) refl refl e (ended_by ks (k ∷ before) x xs)
+  where
+    by : (a b : Bool) → (is_end k.kind && has_begin before) ≡ a → has_end before ≡ b → cond (a && not b) (count_pieces before ∷ []) [] ++ along end_at (k ∷ before) ks ≡ x ∷ xs
+        → (along end_at (k ∷ before) ks ≡ x ∷ xs → has_end (push ks (k ∷ before)) ≡ true) → has_end (push ks (k ∷ before)) ≡ true
+    by true b f g h more = ended_stays ks (k ∷ before) (rw f refl)
+    by false b f g h more = more h
+
+not_begun : (ks before : List Token) → has_begin before ≡ false → along begin_at before ks ≡ [] → has_begin (push ks before) ≡ false
+not_begun [] before h e = h
+not_begun (k ∷ ks) before h e = by (is_begin k.kind) refl (rw h at e) (not_begun ks (k ∷ before))
+  where
+    by : (b : Bool) → is_begin k.kind ≡ b → cond (b && true) (count_pieces before ∷ []) [] ++ along begin_at (k ∷ before) ks ≡ []
+        → (has_begin (k ∷ before) ≡ false → along begin_at (k ∷ before) ks ≡ [] → has_begin (push ks (k ∷ before)) ≡ false) → has_begin (push ks (k ∷ before)) ≡ false
+    by true f g more = absurd (cc)
+    by false f g more = more (rw (f, h) refl) g
+
+-- ---- of a view
+
+-- behind its word start
+record Start (b : Bool) : Type 0 where
+  none : NoneAside [] (word_break b)
+  opens : (s : Style) → is_open s (push (word_break b) []) ≡ false
+  translated : has_translation (push (word_break b) []) ≡ false
+  word : has_word (push (word_break b) []) ≡ false
+  count : count_pieces (push (word_break b) []) ≡ 0
+  begun : has_begin (push (word_break b) []) ≡ false
+  ended : has_end (push (word_break b) []) ≡ false
+  kept_long : (ks : List Token) → length (word_kept b ++ text_of_tokens ks) ≡ length (text_of_tokens (word_break b ++ ks))
+
+start_of : (b : Bool) → Start b
+start_of true = record { none = refl; opens = λ s. refl; translated = refl; word = refl; count = refl; begun = refl; ended = refl; kept_long = λ ks. refl }
+start_of false = record { none = refl; opens = λ s. refl; translated = refl; word = refl; count = refl; begun = refl; ended = refl; kept_long = λ ks. refl }
+
+-- the centre is not left open
+shut_centre : (v : ViewFacts) → Sound v → (before : List Token) → Start v.word_start → before ≡ push (word_break v.word_start) []
+    → (has_begin (push (text_tokens v) before) && not (has_end (push (text_tokens v) before))) ≡ false
+shut_centre v s before a e = by v.centre s.centre_in
+  where
+    never : (x y : Bool) → y ≡ true → (x && not y) ≡ false
+    never true y f = rw f refl
+    never false y f = refl
+
+    by : (c : Option Span) → IsCentre (length v.pieces) c → (has_begin (push (print_from c 0 [] v.pieces) before) && not (has_end (push (print_from c 0 [] v.pieces) before))) ≡ false
+    by None h =
+        let f = not_begun (print_from None 0 [] v.pieces) before (ap has_begin e ∙ a.begun)
+        (no_centre 0 [] v.pieces false false before (ap has_word e ∙ a.word) (λ z. absurd (cc)) s.good) in
+        rw f refl
+    by (Some c) h =
+        let both = centre_from c 0 [] v.pieces false false before false false (ap has_word e ∙ a.word) (λ z. absurd (cc)) s.good (ap count_pieces e ∙ a.count)
+        (record { order = h.0; last = omega (arith, h.1); to_begin = λ _. omega arith; has_begun = λ z. absurd (cc); to_end = λ _. omega arith; has_ended = λ z. absurd (cc) })
+        (ap has_begin e ∙ a.begun) (ap has_end e ∙ a.ended) in
+        never (has_begin (push (print_from (Some c) 0 [] v.pieces) before)) (has_end (push (print_from (Some c) 0 [] v.pieces) before))
+        (ended_by (print_from (Some c) 0 [] v.pieces) before c.to [] both.1)
+
+-- a translation behind the text
+record Behind (before : List Token) (tr : Option (List ℕ)) : Type 0 where
+  none : NoneAside before (translation_tokens tr)
+  codes : codes_at_end (push (translation_tokens tr) before) ≡ codes_at_end before
+
+translated_once : (before : List Token) (tr : Option (List ℕ)) → has_translation before ≡ false → Behind before tr
+translated_once before None h = record { none = refl; codes = refl }
+translated_once before (Some t) h = record { none = rw h refl; codes = refl }
+
+no_codes : (before : List Token) → ((s : Style) → is_open s before ≡ false) → (has_begin before && not (has_end before)) ≡ false → codes_at_end before ≡ []
+no_codes before h e = rw (h B, h C, h E, h I, h Sc, h Tt, h Ul, e) refl
+
+none_last : (at : Place) (before : List Token) → codes_at_end before ≡ [] → findings_at_end at before ≡ []
+none_last at before e = by (is_cut before)
+  where
+    by : (b : Bool) → cond b [] (map (found_at (place_of at before)) (codes_at_end before)) ≡ []
+    by true = refl
+    by false = ap (map (found_at (place_of at before))) e
+
+pub nothing_in : (v : ViewFacts) → Sound v → AllKnown v.pieces → (at : Place) → along (findings_at at) [] (print_tokens v) ++ findings_at_end at (reverse (print_tokens v)) ≡ []
+nothing_in v s known at =
+    let a = start_of v.word_start in
+    let wb = word_break v.word_start in
+    let ms = text_tokens v in
+    let ls = translation_tokens v.translation in
+    let text = pieces_aside v.centre 0 [] v.pieces false false (push wb []) tt a.opens s.good known in
+    let turn : push (wb ++ ms) [] ≡ push ms (push wb []) = push_append wb ms [] in
+    let last = translated_once (push (wb ++ ms) []) v.translation (ap has_translation turn ∙ text.translated ∙ a.translated) in
+    let none : NoneAside [] (wb ++ ms ++ ls) = both_aside [] (wb ++ ms) ls (both_aside [] wb ms a.none text.none) last.none in
+    let long : length (along kept_at [] (wb ++ ms ++ ls)) ≡ length (text_of_tokens (wb ++ ms ++ ls)) =
+    ap length (view_kept v s) ∙ a.kept_long (ms ++ ls) ∙ ap (λ (ks : List Token). length (text_of_tokens ks)) (sym (append_assoc wb ms ls)) in
+    let all : reverse (wb ++ ms ++ ls) ≡ push ls (push (wb ++ ms) []) = sym (append-nil (reverse (wb ++ ms ++ ls))) ∙ reverse_push (wb ++ ms ++ ls) [] ∙ push_append (wb ++ ms) ls [] in
+    let codes : codes_at_end (reverse (wb ++ ms ++ ls)) ≡ [] =
+    ap codes_at_end all ∙ last.codes ∙ ap codes_at_end turn ∙ no_codes (push ms (push wb [])) text.opens (shut_centre v s (push wb []) a refl) in
+    ap₂ (λ (x y : List Finding). x ++ y) (none_along at [] (wb ++ ms ++ ls) long none) (none_last at (reverse (wb ++ ms ++ ls)) codes)

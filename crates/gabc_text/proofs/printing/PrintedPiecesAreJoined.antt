@@ -1,0 +1,266 @@
+-- Pieces one after another are printed one after another, if no style stays open between them.
+use Rattle.std.proofs.lemmas.Bool.{eqb-true}
+use Rattle.std.proofs.Common.{◌≡◌, ℕ, ◌+◌, ◌<◌, ◌==◌, List, [], ◌∷◌, ◌++◌, Bool, true, false, ◌||◌, refl, sym, ap, ap₂, ◌∙◌, map, reverse, filter, append-nil, append_assoc, Option, Some, None, length, length-append, eq-eqb, arith}
+use Rattle.gabc_places.specs.declared.place.Span.{Span}
+use Rattle.gabc_text.specs.declared.styles.Style.{Style}
+use Rattle.gabc_text.specs.declared.view.PieceKind.{PieceKind}
+use Rattle.gabc_text.specs.declared.view.PieceKind.TheVariants as piece
+use Rattle.gabc_text.specs.Token.{Token, spelling}
+use Rattle.gabc_text.specs.View.{PieceFacts, is_same, all_styles, is_word_kind, is_blank_piece}
+use Rattle.gabc_text.specs.ViewFacts.{but_blank, LiesAmong}
+use Rattle.gabc_text.specs.Canonical.{after_common}
+use Rattle.gabc_text.specs.Printed.{opening_tag, closing_tag, begin_brace, end_brace, brace_tokens, tokens_between, print_from, text_of_tokens}
+use Rattle.gabc_text.specs.machine.PrintedPieces.{AllGood, Says}
+use Rattle.gabc_text.specs.machine.RegularBytes.{AllKnown, word_after, blank_after, first_styles, last_styles, AreApart, printed_as, printed_text}
+use Rattle.gabc_text.proofs.printing.NothingIsFoundInPrintedText.{itself}
+use Rattle.gabc_text.proofs.printing.PrintedTextIsKept.{written_append}
+
+-- ---- lists of pieces
+
+pub printed_join : (ps qs : List PieceFacts) → printed_text (ps ++ qs) ≡ printed_text ps ++ printed_text qs
+printed_join [] qs = refl
+printed_join (p ∷ ps) qs = ap (λ (t : List ℕ). spelling (printed_as p) ++ t) (printed_join ps qs) ∙ sym (append_assoc (spelling (printed_as p)) (printed_text ps) (printed_text qs))
+
+pub good_join : (w b : Bool) (ps qs : List PieceFacts) → AllGood w b ps → AllGood (word_after w ps) (blank_after b ps) qs → AllGood w b (ps ++ qs)
+good_join w b [] qs h g = g
+good_join w b (p ∷ ps) qs h g = (h.0, good_join (is_word_kind (Some p.kind) || w) (is_blank_piece p.kind) ps qs h.1 g)
+
+-- pieces that are good where no word stands before them are good behind one
+pub good_behind : (x w b : Bool) (ps : List PieceFacts) → AllGood x b ps → (x ≡ true → w ≡ true) → AllGood w b ps
+good_behind x w b [] h f = tt
+good_behind x w b (p ∷ ps) h f = (
+  record { test = (h.0).test; styles_are = (h.0).styles_are; stable = (h.0).stable; reads_so = by p.kind (h.0).reads_so },
+  good_behind (is_word_kind (Some p.kind) || x) (is_word_kind (Some p.kind) || w) (is_blank_piece p.kind) ps h.1 (more (is_word_kind (Some p.kind))),
+)
+  where
+    more : (a : Bool) → (a || x) ≡ true → (a || w) ≡ true
+    more true e = refl
+    more false e = f e
+
+    by : (k : PieceKind) → Says k p.text x b → Says k p.text w b
+    by piece.Blank g = (g.0, f g.1, g.2)
+    by piece.Char g = g
+    by piece.Raw g = g
+    by piece.Tag g = g
+    by piece.Mark g = g
+
+pub known_join : (ps qs : List PieceFacts) → AllKnown ps → AllKnown qs → AllKnown (ps ++ qs)
+known_join [] qs h g = g
+known_join (p ∷ ps) qs h g = (h.0, known_join ps qs h.1 g)
+
+pub word_join : (w : Bool) (ps qs : List PieceFacts) → word_after w (ps ++ qs) ≡ word_after (word_after w ps) qs
+word_join w [] qs = refl
+word_join w (p ∷ ps) qs = word_join (is_word_kind (Some p.kind) || w) ps qs
+
+pub word_stays : (ps : List PieceFacts) → word_after true ps ≡ true
+word_stays [] = refl
+word_stays (p ∷ ps) = by (is_word_kind (Some p.kind)) (word_stays ps)
+  where
+    by : (b : Bool) → word_after true ps ≡ true → word_after (b || true) ps ≡ true
+    by true e = e
+    by false e = e
+
+pub blank_join : (b : Bool) (ps qs : List PieceFacts) → blank_after b (ps ++ qs) ≡ blank_after (blank_after b ps) qs
+blank_join b [] qs = refl
+blank_join b (p ∷ ps) qs = blank_join (is_blank_piece p.kind) ps qs
+
+-- no blank is taken away where none is the last
+pub none_taken : (ps : List PieceFacts) → blank_after false ps ≡ false → but_blank ps ≡ ps
+none_taken [] e = refl
+none_taken (p ∷ []) e = rw e refl
+none_taken (p ∷ q ∷ ps) e = ap (λ (rs : List PieceFacts). p ∷ rs) (none_taken (q ∷ ps) e)
+
+-- ---- pieces in one style
+
+abbrev pub in_styles : List Style → PieceFacts → PieceFacts
+in_styles ss p = record { kind = p.kind; styles = ss; text = p.text }
+
+-- between pieces with the same styles nothing stands
+same_common : (ss : List Style) → after_common ss ss ≡ ([], [])
+same_common [] = refl
+same_common (s ∷ ss) = rw (itself s) (same_common ss)
+
+old_alone : (old : List Style) → after_common old [] ≡ (old, [])
+old_alone [] = refl
+old_alone (s ∷ old) = refl
+
+abbrev closings : List Style → List Token
+closings ss = map closing_tag (reverse ss)
+
+-- behind the last piece
+at_end : (old : List Style) (middle : List Token) → tokens_between old [] middle ≡ closings old ++ middle
+at_end old middle = rw (old_alone old) (append-nil (closings old ++ middle))
+
+run_behind : (i : ℕ) (ss : List Style) (ps : List PieceFacts) → print_from None i ss (map (in_styles ss) ps) ≡ map printed_as ps ++ closings ss
+run_behind i ss [] = at_end ss [] ∙ append-nil (closings ss)
+run_behind i ss (p ∷ ps) = rw (same_common ss) (ap (λ (ks : List Token). printed_as p ∷ ks) (run_behind (i + 1) ss ps))
+
+pub good_in : (ss : List Style) (test : Style → Bool) (w b : Bool) (ps : List PieceFacts) → ss ≡ filter test all_styles → AllGood w b ps → AllGood w b (map (in_styles ss) ps)
+good_in ss test w b [] e h = tt
+good_in ss test w b (p ∷ ps) e h =
+    (record { test = test; styles_are = e; stable = (h.0).stable; reads_so = (h.0).reads_so }, good_in ss test (is_word_kind (Some p.kind) || w) (is_blank_piece p.kind) ps e h.1)
+
+pub known_in : (ss : List Style) (ps : List PieceFacts) → AllKnown ps → AllKnown (map (in_styles ss) ps)
+known_in ss [] h = tt
+known_in ss (p ∷ ps) h = (h.0, known_in ss ps h.1)
+
+pub blank_in : (ss : List Style) (b : Bool) (ps : List PieceFacts) → blank_after b (map (in_styles ss) ps) ≡ blank_after b ps
+blank_in ss b [] = refl
+blank_in ss b (p ∷ ps) = blank_in ss (is_blank_piece p.kind) ps
+
+pub word_in : (ss : List Style) (w : Bool) (ps : List PieceFacts) → word_after w (map (in_styles ss) ps) ≡ word_after w ps
+word_in ss w [] = refl
+word_in ss w (p ∷ ps) = word_in ss (is_word_kind (Some p.kind) || w) ps
+
+-- pieces in no style
+pub plain_printed : (ps : List PieceFacts) → text_of_tokens (print_from None 0 [] (map (in_styles []) ps)) ≡ printed_text ps
+plain_printed ps = ap text_of_tokens (run_behind 0 [] ps ∙ append-nil (map printed_as ps))
+
+-- ---- pieces behind others
+
+-- no brace stands from the position i on
+abbrev pub IsPast : Option Span → ℕ → Type 0
+IsPast None i = Unit {0}
+IsPast (Some c) i = (c.from < i) × (c.to < i)
+
+other : (d c : ℕ) → d < c → (d == c) ≡ false
+other d c h = by (d == c) refl
+  where
+    by : (b : Bool) → (d == c) ≡ b → b ≡ false
+    by false e = refl
+    by true e = absurd (let f = eqb-true d c e in omega arith)
+
+no_braces : (centre : Option Span) (i : ℕ) → IsPast centre i → brace_tokens centre i ≡ []
+no_braces None i h = refl
+no_braces (Some c) i h = rw (other c.from i h.0, other c.to i h.1) refl
+
+past_more : (centre : Option Span) (i : ℕ) → IsPast centre i → IsPast centre (i + 1)
+past_more None i h = tt
+past_more (Some c) i h = (omega (arith, h.0), omega (arith, h.1))
+
+pub past_braces : (centre : Option Span) (i k : ℕ) (old : List Style) (ps : List PieceFacts) → IsPast centre i → print_from centre i old ps ≡ print_from None k old ps
+past_braces centre i k old [] h = ap (λ (ks : List Token). tokens_between old [] ks) (no_braces centre i h)
+past_braces centre i k old (p ∷ ps) h =
+    ap₂ (λ (ks ls : List Token). tokens_between old p.styles ks ++ printed_as p ∷ ls) (no_braces centre i h) (past_braces centre (i + 1) (k + 1) p.styles ps (past_more centre i h))
+
+pub behind : (centre : Option Span) (i j : ℕ) (old : List Style) (ps : List PieceFacts) (q : PieceFacts) (qs : List PieceFacts) → i + length ps ≡ j → AreApart (last_styles old ps) q.styles
+    → print_from centre i old (ps ++ q ∷ qs) ≡ print_from centre i old ps ++ (map opening_tag q.styles ++ printed_as q ∷ print_from centre (j + 1) q.styles qs)
+behind centre i j old [] q qs e h =
+    let same : i ≡ j = omega (arith, e) in
+    let middle = brace_tokens centre i in
+    let more = printed_as q ∷ print_from centre (i + 1) q.styles qs in
+    ap (λ (left : List Style × List Style). (closings left.0 ++ middle ++ map opening_tag left.1) ++ more) h
+    ∙ append_assoc (closings old ++ middle) (map opening_tag q.styles) more
+    ∙ ap₂ (λ (ks : List Token) (n : ℕ). ks ++ (map opening_tag q.styles ++ printed_as q ∷ print_from centre (n + 1) q.styles qs)) (sym (at_end old middle)) same
+behind centre i j old (p ∷ ps) q qs e h =
+    let gap = tokens_between old p.styles (brace_tokens centre i) in
+    ap (λ (ks : List Token). gap ++ printed_as p ∷ ks) (behind centre (i + 1) j p.styles ps q qs (omega (arith, e)) h)
+    ∙ sym (append_assoc gap (printed_as p ∷ print_from centre (i + 1) p.styles ps) (map opening_tag q.styles ++ printed_as q ∷ print_from centre (j + 1) q.styles qs))
+
+past_all : (centre : Option Span) (n : ℕ) → LiesAmong n centre → IsPast centre (n + 1)
+past_all None n h = tt
+past_all (Some c) n h = (omega (arith, h.0, h.1), omega (arith, h.1))
+
+-- what is printed of pieces in a row
+pub text_join : (centre : Option Span) (ps qs : List PieceFacts) → LiesAmong (length ps) centre → blank_after true qs ≡ false → AreApart (last_styles [] ps) (first_styles qs)
+    → text_of_tokens (print_from centre 0 [] (ps ++ qs)) ≡ text_of_tokens (print_from centre 0 [] ps) ++ text_of_tokens (print_from None 0 [] qs)
+text_join centre ps [] l e h = absurd (cc)
+text_join centre ps (q ∷ qs) l e h =
+    let first = map opening_tag q.styles in
+    ap text_of_tokens (behind centre 0 (length ps) [] ps q qs (omega arith) h)
+    ∙ written_append (print_from centre 0 [] ps) (first ++ printed_as q ∷ print_from centre (length ps + 1) q.styles qs)
+    ∙ ap (λ (ks : List Token). text_of_tokens (print_from centre 0 [] ps) ++ text_of_tokens (first ++ printed_as q ∷ ks)) (past_braces centre (length ps + 1) (0 + 1) q.styles qs (past_all centre (length ps) l))
+
+pub among_more : (centre : Option Span) (ps qs : List PieceFacts) → LiesAmong (length ps) centre → LiesAmong (length (ps ++ qs)) centre
+among_more None ps qs h = tt
+among_more (Some c) ps qs h = (h.0, omega (arith, h.1, length-append ps qs))
+
+pub last_join : (old : List Style) (ps qs : List PieceFacts) → blank_after true qs ≡ false → last_styles old (ps ++ qs) ≡ last_styles [] qs
+last_join old ps [] e = absurd (cc)
+last_join old [] (q ∷ qs) e = refl
+last_join old (p ∷ ps) (q ∷ qs) e = last_join p.styles ps (q ∷ qs) e
+
+-- a blank in front changes nothing of what is printed behind it
+pub after_blank : (ps : List PieceFacts) → text_of_tokens (print_from None 0 [] (record { kind = piece.Blank; styles = []; text = [] } ∷ ps)) ≡ 32 ∷ text_of_tokens (print_from None 0 [] ps)
+after_blank ps = ap (λ (ks : List Token). 32 ∷ text_of_tokens ks) (past_braces None (0 + 1) 0 [] ps tt)
+
+pub some_blank : (b : Bool) (ps : List PieceFacts) → blank_after true ps ≡ false → blank_after b ps ≡ false
+some_blank b [] e = absurd (cc)
+some_blank b (p ∷ ps) e = e
+
+pub apart_none : (old : List Style) → AreApart old []
+apart_none old = old_alone old
+
+-- ---- a run in a style
+
+one_style : (s : Style) → Style → Bool
+one_style s r = is_same r s
+
+pub styled_printed : (s : Style) (ps : List PieceFacts) → blank_after true ps ≡ false
+    → text_of_tokens (print_from None 0 [] (map (in_styles (s ∷ [])) ps)) ≡ spelling (opening_tag s) ++ (printed_text ps ++ spelling (closing_tag s))
+styled_printed s [] e = absurd (cc)
+styled_printed s (p ∷ ps) e =
+    ap (λ (ks : List Token). spelling (opening_tag s) ++ (spelling (printed_as p) ++ text_of_tokens ks)) (run_behind (0 + 1) (s ∷ []) ps)
+    ∙ ap (λ (t : List ℕ). spelling (opening_tag s) ++ (spelling (printed_as p) ++ t)) (written_append (map printed_as ps) (closing_tag s ∷ []))
+    ∙ ap (λ (t : List ℕ). spelling (opening_tag s) ++ (spelling (printed_as p) ++ (printed_text ps ++ t))) (append-nil (spelling (closing_tag s)))
+    ∙ ap (λ (t : List ℕ). spelling (opening_tag s) ++ t) (sym (append_assoc (spelling (printed_as p)) (printed_text ps) (spelling (closing_tag s))))
+
+pub first_in : (ss : List Style) (ps : List PieceFacts) → blank_after true ps ≡ false → first_styles (map (in_styles ss) ps) ≡ ss
+first_in ss [] e = absurd (cc)
+first_in ss (p ∷ ps) e = refl
+
+pub last_in : (ss : List Style) (ps : List PieceFacts) → blank_after true ps ≡ false → last_styles [] (map (in_styles ss) ps) ≡ ss
+last_in ss [] e = absurd (cc)
+last_in ss (p ∷ ps) e = by ps
+  where
+    by : (ps : List PieceFacts) → last_styles ss (map (in_styles ss) ps) ≡ ss
+    by [] = refl
+    by (q ∷ ps) = by ps
+
+-- ---- the centre
+
+differs : (d c : ℕ) → (d ≡ c → ⊥) → (d == c) ≡ false
+differs d c h = by (d == c) refl
+  where
+    by : (b : Bool) → (d == c) ≡ b → b ≡ false
+    by false e = refl
+    by true e = absurd (h (eqb-true d c e))
+
+-- in front of the centre
+begun_centre : (c : Span) (i : ℕ) (old : List Style) (ps : List PieceFacts) → i + length ps ≡ c.from → c.from < c.to
+    → print_from (Some c) i old ps ≡ print_from None i old ps ++ begin_brace ∷ []
+begun_centre c i old [] e h =
+    let at_from : (c.from == i) ≡ true = eq-eqb c.from i (omega (arith, e)) in
+    let no_to : (c.to == i) ≡ false = differs c.to i (λ f. omega (arith, e, h, f)) in
+    let brace : brace_tokens (Some c) i ≡ begin_brace ∷ [] = rw (at_from, no_to) refl in
+    at_end old (brace_tokens (Some c) i) ∙ ap (λ (ks : List Token). closings old ++ ks) brace ∙ ap (λ (ks : List Token). ks ++ begin_brace ∷ []) (sym (at_end old [] ∙ append-nil (closings old)))
+begun_centre c i old (p ∷ ps) e h =
+    let no_from : (c.from == i) ≡ false = differs c.from i (λ f. omega (arith, e, f)) in
+    let no_to : (c.to == i) ≡ false = differs c.to i (λ f. omega (arith, e, h, f)) in
+    let none : brace_tokens (Some c) i ≡ [] = rw (no_from, no_to) refl in
+    let gap = tokens_between old p.styles [] in
+    ap₂ (λ (ks ls : List Token). tokens_between old p.styles ks ++ printed_as p ∷ ls) none (begun_centre c (i + 1) p.styles ps (omega (arith, e)) h)
+    ∙ sym (append_assoc gap (printed_as p ∷ print_from None (i + 1) p.styles ps) (begin_brace ∷ []))
+
+-- within it
+ended_centre : (c : Span) (j : ℕ) (rs : List PieceFacts) → c.from < j → j + length rs ≡ c.to
+    → print_from (Some c) j [] (map (in_styles []) rs) ≡ map printed_as rs ++ end_brace ∷ []
+ended_centre c j [] h e =
+    let no_from : (c.from == j) ≡ false = differs c.from j (λ f. omega (arith, h, f)) in
+    let at_to : (c.to == j) ≡ true = eq-eqb c.to j (omega (arith, e)) in
+    rw (no_from, at_to) refl
+ended_centre c j (r ∷ rs) h e =
+    let no_from : (c.from == j) ≡ false = differs c.from j (λ f. omega (arith, h, f)) in
+    let no_to : (c.to == j) ≡ false = differs c.to j (λ f. omega (arith, e, f)) in
+    rw (no_from, no_to) (ap (λ (ks : List Token). printed_as r ∷ ks) (ended_centre c (j + 1) rs (omega (arith, h)) (omega (arith, e))))
+
+pub centre_text : (c : Span) (ps rs : List PieceFacts) → blank_after true rs ≡ false → c.from ≡ length ps → c.to ≡ length ps + length rs
+    → text_of_tokens (print_from (Some c) 0 [] (ps ++ map (in_styles []) rs)) ≡ text_of_tokens (print_from None 0 [] ps) ++ 123 ∷ (printed_text rs ++ 125 ∷ [])
+centre_text c ps [] e f g = absurd (cc)
+centre_text c ps (r ∷ rs) e f g =
+    let before = print_from None 0 [] ps in
+    ap text_of_tokens (behind (Some c) 0 (length ps) [] ps (in_styles [] r) (map (in_styles []) rs) (omega arith) (apart_none (last_styles [] ps))
+    ∙ ap₂ (λ (ks ls : List Token). ks ++ printed_as r ∷ ls) (begun_centre c 0 [] ps (omega (arith, f)) (omega (arith, f, g))) (ended_centre c (length ps + 1) rs (omega (arith, f)) (omega (arith, g))))
+    ∙ written_append (before ++ begin_brace ∷ []) (printed_as r ∷ map printed_as rs ++ end_brace ∷ [])
+    ∙ ap₂ (λ (t u : List ℕ). t ++ u) (written_append before (begin_brace ∷ [])) (written_append (printed_as r ∷ map printed_as rs) (end_brace ∷ []))
+    ∙ append_assoc (text_of_tokens before) (123 ∷ []) (printed_text (r ∷ rs) ++ 125 ∷ [])

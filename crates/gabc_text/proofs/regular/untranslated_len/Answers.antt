@@ -1,0 +1,12 @@
+use Rattle.std.proofs.Common.{arith, refl}
+use Rattle.gabc_text.proofs.RegularParts.{no_text}
+use Rattle.gabc_text.proofs.regular.untranslated_len.Goals as goal
+
+pub loop-end-init : goal.loop-end-init
+loop-end-init c = record { within = omega arith; begun = no_text _ refl refl }
+
+pub returns-in-None-clause-begun : goal.returns-in-None-clause-begun
+returns-in-None-clause-begun c = (c.loop-end.before, c.loop-end.invariant.begun)
+
+pub returns-clause-begun : goal.returns-clause-begun
+returns-clause-begun c = (c.loop-end.before, c.loop-end.invariant.begun)

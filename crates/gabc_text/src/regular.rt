@@ -1,0 +1,288 @@
+//! How far a text goes that is printed as it stands.
+
+ghost use Rattle.std.specs.Prelude.{◌≡◌, ◌+◌, ◌≤◌, ◌<◌, length, take, get_or, false, IfSome, None, codes};
+ghost use Rattle.std.specs.Str.{chars};
+ghost use Rattle.gabc_places.specs.TextOfAnInput.{IsText};
+ghost use Rattle.gabc_text.specs.Token.{spelling};
+ghost use Rattle.gabc_text.specs.Canonical.{listed_styles};
+ghost use Rattle.gabc_text.specs.Printed.{opening_tag, closing_tag};
+ghost use Rattle.gabc_text.specs.RegularText.{IsRegularText, is_letter_byte};
+ghost use Rattle.gabc_text.specs.machine.RegularBytes.{no_styles, IsBracketed, IsMark, IsPart, IsBegun, AreApart, through};
+
+use crate::regular_runs::{bracketed_len, enclosed_len, run_len};
+use crate::styles::{Style, Styles};
+
+/// Returns the tags of `style`.
+fn tags_of(style: Style) -> (&'static str, &'static str)
+    ensures opening { result.0.now ≡ spelling (opening_tag style) }
+    ensures closing { result.1.now ≡ spelling (closing_tag style) }
+{
+    match style {
+        Style::B => ("<b>", "</b>"),
+        Style::C => ("<c>", "</c>"),
+        Style::E => ("<e>", "</e>"),
+        Style::I => ("<i>", "</i>"),
+        Style::Sc => ("<sc>", "</sc>"),
+        Style::Tt => ("<tt>", "</tt>"),
+        Style::Ul => ("<ul>", "</ul>"),
+    }
+}
+
+/// Returns the style whose name begins with `byte`; `B`, if none does.
+fn style_by(byte: u8) -> Style {
+    match byte {
+        b'c' => Style::C,
+        b'e' => Style::E,
+        b'i' => Style::I,
+        b's' => Style::Sc,
+        b't' => Style::Tt,
+        b'u' => Style::Ul,
+        _ => Style::B,
+    }
+}
+
+/// What of a regular text matters for what may follow it.
+#[derive(Clone, Copy)]
+struct Before {
+    /// The styles of its last piece.
+    styles: Styles,
+    /// Whether a piece but a span mark stands in it, so that a blank may follow.
+    word: bool,
+    /// Whether it has a centre.
+    centre: bool,
+}
+
+/// A part of a text: some pieces with the same styles.
+#[derive(Clone, Copy)]
+struct Part {
+    /// How many bytes it has.
+    len: usize,
+    styles: Styles,
+    /// Whether one of its pieces is no span mark.
+    word: bool,
+}
+
+impl Before {
+    /// Nothing stands before.
+    const NOTHING: Before = Before {
+        styles: Styles::NONE,
+        word: false,
+        centre: false,
+    };
+
+    /// Returns what stands before what follows `part`.
+    fn through(self, part: Part) -> Before
+        ensures { result ≡ through self part }
+    {
+        Before {
+            styles: part.styles,
+            word: self.word || part.word,
+            ..self
+        }
+    }
+}
+
+/// Returns the styled part that `bytes` begin with: a run within the tags of a style that is not one
+/// of the styles `last`.
+fn styled_part(bytes: &[u8], last: Styles) -> Option<Part>
+    ensures within { IfSome result (λ p. (0 < p.len) × (p.len ≤ length bytes.now)) }
+    ensures part { IfSome result (λ p. IsPart p.styles p.word (take p.len bytes.now)) }
+    ensures apart { IfSome result (λ p. AreApart (listed_styles last) (listed_styles p.styles)) }
+{
+    if bytes.len() < 2 || bytes[0] != b'<' {
+        return None;
+    }
+    let style = style_by(bytes[1]);
+    let (opening, closing) = tags_of(style);
+    let len = enclosed_len(bytes, opening.as_bytes(), closing.as_bytes());
+    if len == 0 || last.has(style) {
+        return None;
+    }
+    Some(Part {
+        len,
+        styles: Styles::NONE.with(style, true),
+        word: true,
+    })
+}
+
+/// Returns the span mark with which `bytes` begin, if they begin with one.
+fn mark_by(bytes: &[u8]) -> &'static str
+    ensures { IsMark result.now }
+{
+    if bytes.starts_with(b"<e") {
+        "<eu>"
+    } else if bytes.starts_with(b"</e") {
+        "</eu>"
+    } else if bytes.starts_with(b"<n") {
+        "<nlba>"
+    } else {
+        "</nlba>"
+    }
+}
+
+/// Returns how many bytes the span mark has that `bytes` begin with; 0, if they begin with none.
+fn mark_len(bytes: &[u8]) -> usize
+    ensures within { result ≤ length bytes.now }
+    ensures part { 0 < result → IsPart no_styles false (take result bytes.now) }
+{
+    let mark = mark_by(bytes).as_bytes();
+    if bytes.starts_with(mark) {
+        mark.len()
+    } else {
+        0
+    }
+}
+
+/// Returns the part in tags that `bytes` begin with, where the piece before has the styles `last`: a
+/// span mark or a styled part.
+fn tagged_part(bytes: &[u8], last: Styles) -> Option<Part>
+    ensures within { IfSome result (λ p. (0 < p.len) × (p.len ≤ length bytes.now)) }
+    ensures part { IfSome result (λ p. IsPart p.styles p.word (take p.len bytes.now)) }
+    ensures apart { IfSome result (λ p. AreApart (listed_styles last) (listed_styles p.styles)) }
+{
+    let len = mark_len(bytes);
+    if len == 0 {
+        return styled_part(bytes, last);
+    }
+    Some(Part {
+        len,
+        styles: Styles::NONE,
+        word: false,
+    })
+}
+
+/// Returns the part that `bytes` begin with, where the piece before has the styles `last`.
+fn next_part(bytes: &[u8], last: Styles) -> Option<Part>
+    ensures within { IfSome result (λ p. (0 < p.len) × (p.len ≤ length bytes.now)) }
+    ensures part { IfSome result (λ p. IsPart p.styles p.word (take p.len bytes.now)) }
+    ensures apart { IfSome result (λ p. AreApart (listed_styles last) (listed_styles p.styles)) }
+    ensures stops { result ≡ None → 0 < length bytes.now →
+        is_letter_byte (get_or bytes.now 0 0) ≡ false }
+{
+    let len = run_len(bytes);
+    if len == 0 {
+        return tagged_part(bytes, last);
+    }
+    Some(Part {
+        len,
+        styles: Styles::NONE,
+        word: true,
+    })
+}
+
+/// What a text goes on with.
+#[derive(Clone, Copy)]
+struct Step {
+    /// How many bytes it is.
+    len: usize,
+    /// What stands before the rest then.
+    before: Before,
+}
+
+/// Returns what a text goes on with from the blank at `end`, of which `before` is known.
+fn step_after_blank(bytes: &[u8], end: usize, before: Before) -> Option<Step>
+    requires { end < length bytes.now }
+    ensures within { IfSome result (λ s. (0 < s.len) × (end + s.len ≤ length bytes.now)) }
+    ensures goes_on { IfSome result (λ s. IsBegun before (take end bytes.now) →
+        IsBegun s.before (take (end + s.len) bytes.now)) }
+{
+    if !before.word || bytes[end] != b' ' {
+        return None;
+    }
+    let part = next_part(&bytes[end + 1..], Styles::NONE)?;
+    Some(Step {
+        len: part.len + 1,
+        before: before.through(part),
+    })
+}
+
+/// Returns what a text goes on with from `end`, of which `before` is known, if that is its centre: a
+/// run within braces.
+fn centre_step(bytes: &[u8], end: usize, before: Before) -> Option<Step>
+    requires { end < length bytes.now }
+    ensures within { IfSome result (λ s. (0 < s.len) × (end + s.len ≤ length bytes.now)) }
+    ensures goes_on { IfSome result (λ s. IsBegun before (take end bytes.now) →
+        IsBegun s.before (take (end + s.len) bytes.now)) }
+{
+    let len = enclosed_len(&bytes[end..], b"{", b"}");
+    if len == 0 || before.centre {
+        return None;
+    }
+    Some(Step {
+        len,
+        before: Before {
+            styles: Styles::NONE,
+            word: true,
+            centre: true,
+        },
+    })
+}
+
+/// Returns what a text goes on with from `end`, of which `before` is known.
+fn next_step(bytes: &[u8], end: usize, before: Before) -> Option<Step>
+    requires { end < length bytes.now }
+    ensures within { IfSome result (λ s. (0 < s.len) × (end + s.len ≤ length bytes.now)) }
+    ensures goes_on { IfSome result (λ s. IsBegun before (take end bytes.now) →
+        IsBegun s.before (take (end + s.len) bytes.now)) }
+    ensures stops { result ≡ None → is_letter_byte (get_or bytes.now end 0) ≡ false }
+{
+    match next_part(&bytes[end..], before.styles) {
+        Some(part) => Some(Step {
+            len: part.len,
+            before: before.through(part),
+        }),
+        None if bytes[end] == b' ' => step_after_blank(bytes, end, before),
+        None => centre_step(bytes, end, before),
+    }
+}
+
+/// Returns how many of the first of `bytes` are a regular text without a translation.
+fn untranslated_len(bytes: &[u8]) -> usize
+    ensures within { result ≤ length bytes.now }
+    ensures begun { (before : Before) × IsBegun before (take result bytes.now) }
+    ensures stops { result < length bytes.now →
+        is_letter_byte (get_or bytes.now result 0) ≡ false }
+{
+    let mut end = 0;
+    let mut before = Before::NOTHING;
+    while end < bytes.len() {
+        match next_step(bytes, end, before) {
+            None => return end,
+            Some(step) => {
+                end += step.len;
+                before = step.before;
+            }
+        }
+    }
+    end
+}
+
+/// Returns how many bytes the translation has that `bytes` begin with, if it is of printable ASCII and
+/// a `(` follows; else 0.
+fn translation_len(bytes: &[u8]) -> usize
+    ensures within { result ≤ length bytes.now }
+    ensures bracketed { 0 < result → IsBracketed (codes "[") 93 (codes "]") (take result bytes.now) }
+    ensures notes { 0 < result → get_or bytes.now result 0 ≡ 40 }
+{
+    let len = bracketed_len(bytes, b"[", b']', b"]");
+    if len < bytes.len() && bytes[len] == b'(' {
+        len
+    } else {
+        0
+    }
+}
+
+/// Returns how many of the first of `bytes` are a text that is printed as it stands in front of a
+/// `(`, and in which nothing is found (`laws::a_regular_text_is_printed_as_it_stands`): letters and raw
+/// parts, with single blanks between them, some of them within the tags of a style, some in one
+/// centre; span marks; and a translation, if a `(` follows. It goes past each letter of ASCII.
+pub fn regular_text(bytes: &[u8]) -> usize
+    ensures within { result ≤ length bytes.now }
+    ensures text { IsText (take result bytes.now) }
+    ensures regular { IsRegularText (chars (take result bytes.now)) }
+    ensures stops { result < length bytes.now →
+        is_letter_byte (get_or bytes.now result 0) ≡ false }
+{
+    let end = untranslated_len(bytes);
+    end + translation_len(&bytes[end..])
+}

@@ -1,0 +1,214 @@
+//! Bytes of letters, raw parts and runs of these, for `regular.rt`.
+
+ghost use Rattle.std.specs.Prelude.{◌≡◌, ◌+◌, ◌≤◌, ◌<◌, length, take, get_or, true, false};
+ghost use Rattle.std.specs.List.{list_all};
+ghost use Rattle.gabc_text.specs.ExampleTexts.{beginning_of};
+ghost use Rattle.gabc_text.specs.Token.{ending_of, is_special};
+ghost use Rattle.gabc_text.specs.RegularText.{is_letter_byte};
+ghost use Rattle.gabc_text.specs.machine.RegularBytes.{IsWord, IsRun, IsBracketed, IsEnclosed, is_continuation, is_first_of_two, is_first_of_three, is_plain_byte};
+
+use crate::token::{RawKind, is_special};
+
+/// Whether `byte` is of ASCII, and a character that a `$` makes a letter.
+fn is_special_byte(byte: u8) -> bool
+    ensures { result ≡ is_special byte }
+{
+    is_special(char::from(byte))
+}
+
+/// Whether `byte` is a letter by itself: it is of ASCII, and printed as it stands.
+fn is_letter_byte(byte: u8) -> bool
+    ensures { result ≡ is_letter_byte byte }
+{
+    !is_special_byte(byte) && byte > b' ' && byte < 0x7F
+}
+
+/// Whether `byte` goes on with a character of several bytes.
+fn is_continuation(byte: u8) -> bool
+    ensures { result ≡ is_continuation byte }
+{
+    byte > 0x7F && byte < 0xC0
+}
+
+/// Whether a character of two bytes may begin with `byte`.
+fn is_first_of_two(byte: u8) -> bool
+    ensures { result ≡ is_first_of_two byte }
+{
+    byte > 0xC1 && byte < 0xE0
+}
+
+/// Whether a character from U+1000 to U+CFFF may begin with `byte`.
+fn is_first_of_three(byte: u8) -> bool
+    ensures { result ≡ is_first_of_three byte }
+{
+    byte > 0xE0 && byte < 0xED
+}
+
+/// Returns how many bytes the letter has that `bytes` begin with, with its `$` if it has one; 0, if
+/// none is known to be there.
+fn letter_len(bytes: &[u8]) -> usize
+    ensures within { result ≤ length bytes.now }
+    ensures letter { 0 < result → IsWord (take result bytes.now) }
+    ensures none { result ≡ 0 → 0 < length bytes.now →
+        is_letter_byte (get_or bytes.now 0 0) ≡ false }
+{
+    if !bytes.is_empty() && is_letter_byte(bytes[0]) {
+        return 1;
+    }
+    if bytes.len() > 1 && bytes[0] == b'$' && is_special_byte(bytes[1]) {
+        return 2;
+    }
+    if bytes.len() > 1 && is_first_of_two(bytes[0]) && is_continuation(bytes[1]) {
+        return 2;
+    }
+    if bytes.len() > 2
+        && is_first_of_three(bytes[0])
+        && is_continuation(bytes[1])
+        && is_continuation(bytes[2])
+    {
+        return 3;
+    }
+    0
+}
+
+/// Whether `byte` is of printable ASCII, and not `stop`.
+fn is_plain_byte(stop: u8, byte: u8) -> bool
+    ensures { result ≡ is_plain_byte stop byte }
+{
+    byte > 0x1F && byte < 0x7F && byte != stop
+}
+
+/// Returns how many of the first of `bytes` are of printable ASCII, and not `stop`.
+fn plain_len(bytes: &[u8], stop: u8) -> usize
+    ensures within { result ≤ length bytes.now }
+    ensures plain { list_all (is_plain_byte stop) (take result bytes.now) ≡ true }
+{
+    let mut end = 0;
+    while end < bytes.len() && is_plain_byte(stop, bytes[end]) {
+        end += 1;
+    }
+    end
+}
+
+/// Returns how many bytes `opening`, printable ASCII without `stop` and `closing` have, if `bytes`
+/// begin with these; else 0.
+pub(crate) fn bracketed_len(bytes: &[u8], opening: &[u8], stop: u8, closing: &[u8]) -> usize
+    ensures within { result ≤ length bytes.now }
+    ensures bracketed { 0 < result →
+        IsBracketed opening.now stop closing.now (take result bytes.now) }
+{
+    if !bytes.starts_with(opening) {
+        return 0;
+    }
+    let end = opening.len() + plain_len(&bytes[opening.len()..], stop);
+    if bytes[end..].starts_with(closing) {
+        end + closing.len()
+    } else {
+        0
+    }
+}
+
+/// Returns the tags around raw parts of the kind `raw`.
+fn raw_tags(raw: RawKind) -> (&'static str, &'static str)
+    ensures opening { result.0.now ≡ beginning_of raw }
+    ensures closing { result.1.now ≡ ending_of raw }
+{
+    match raw {
+        RawKind::V => ("<v>", "</v>"),
+        RawKind::Sp => ("<sp>", "</sp>"),
+        RawKind::Alt => ("<alt>", "</alt>"),
+    }
+}
+
+/// Returns the kind of raw part whose name begins with `byte`; `Alt`, if none does.
+fn raw_by(byte: u8) -> RawKind {
+    match byte {
+        b'v' => RawKind::V,
+        b's' => RawKind::Sp,
+        _ => RawKind::Alt,
+    }
+}
+
+/// Returns how many bytes the raw part has that `bytes` begin with, if it is of printable ASCII and
+/// holds no tag; else 0.
+fn raw_len(bytes: &[u8]) -> usize
+    ensures within { result ≤ length bytes.now }
+    ensures word { 0 < result → IsWord (take result bytes.now) }
+{
+    if bytes.len() < 2 {
+        return 0;
+    }
+    let (opening, closing) = raw_tags(raw_by(bytes[1]));
+    bracketed_len(bytes, opening.as_bytes(), b'<', closing.as_bytes())
+}
+
+/// Returns how many bytes the letter or the raw part has that `bytes` begin with; 0, if none is known
+/// to be there.
+fn word_len(bytes: &[u8]) -> usize
+    ensures within { result ≤ length bytes.now }
+    ensures word { 0 < result → IsWord (take result bytes.now) }
+    ensures none { result ≡ 0 → 0 < length bytes.now →
+        is_letter_byte (get_or bytes.now 0 0) ≡ false }
+{
+    let letter = letter_len(bytes);
+    if letter > 0 { letter } else { raw_len(bytes) }
+}
+
+/// Returns how many bytes a run goes on with from `end`: those of a letter or a raw part, or of a
+/// blank and one of these where something stands before; 0, if it does not go on so.
+fn more_of_run(bytes: &[u8], end: usize) -> usize
+    requires { end ≤ length bytes.now }
+    ensures within { end + result ≤ length bytes.now }
+    ensures goes_on { 0 < result → IsRun (take end bytes.now) →
+        IsRun (take (end + result) bytes.now) }
+    ensures stops { result ≡ 0 → end < length bytes.now →
+        is_letter_byte (get_or bytes.now end 0) ≡ false }
+{
+    let word = word_len(&bytes[end..]);
+    if word > 0 {
+        return word;
+    }
+    if end == 0 || end == bytes.len() || bytes[end] != b' ' {
+        return 0;
+    }
+    let after = word_len(&bytes[end + 1..]);
+    if after > 0 { after + 1 } else { 0 }
+}
+
+/// Returns how many bytes the run has that `bytes` begin with: letters and raw parts, with single
+/// blanks between them.
+pub(crate) fn run_len(bytes: &[u8]) -> usize
+    ensures within { result ≤ length bytes.now }
+    ensures run { IsRun (take result bytes.now) }
+    ensures stops { result < length bytes.now →
+        is_letter_byte (get_or bytes.now result 0) ≡ false }
+{
+    let mut end = 0;
+    while end < bytes.len() {
+        let more = more_of_run(bytes, end);
+        if more == 0 {
+            return end;
+        }
+        end += more;
+    }
+    end
+}
+
+/// Returns how many bytes `opening`, a run with something in it and `closing` have, if `bytes` begin
+/// with these; else 0.
+pub(crate) fn enclosed_len(bytes: &[u8], opening: &[u8], closing: &[u8]) -> usize
+    ensures within { result ≤ length bytes.now }
+    ensures enclosed { 0 < result →
+        IsEnclosed opening.now closing.now (take result bytes.now) }
+{
+    if !bytes.starts_with(opening) {
+        return 0;
+    }
+    let inner = run_len(&bytes[opening.len()..]);
+    let end = opening.len() + inner;
+    if inner > 0 && bytes[end..].starts_with(closing) {
+        end + closing.len()
+    } else {
+        0
+    }
+}
