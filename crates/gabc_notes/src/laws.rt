@@ -210,7 +210,8 @@ pub fn a_stage_takes_each_character()
     ensures cut { (s : NoteStage) → s.ended ≡ false → IsCutAtOpener s }
 {}
 
-/// Law: the bracket that is open in a stage may stand at any place, and the stage keeps the same text.
+/// Law: the bracket that is open in a stage may stand at any place, and the stage keeps the same
+/// text.
 pub fn an_opener_may_stand_anywhere()
     ensures { (split : Bool) (macros : ℕ) (s : NoteStage) (k : List ℕ) (at : Place) →
         Keeps split macros s k → is_some (opener_of s) ≡ true →

@@ -1,4 +1,5 @@
--- The kept text of a syllable that is not whole, read by itself: all of it is kept again, and this is open after it.
+-- The kept text of a syllable that is not whole, read by itself: all of it is kept again, and this
+-- is open after it.
 use Rattle.std.specs.Prelude.{◌≡◌, ℕ, List, [], ◌∷◌, ◌++◌, length, take, drop, Bool, true, false, not, ◌&&◌, ◌==◌, if◌then◌else◌, Option, Some, None, is_some, encode_utf8_all}
 use Rattle.std.specs.List.{list_any}
 use Rattle.gabc_places.specs.declared.place.Char.{Char}
@@ -53,8 +54,8 @@ module _ (lines macros : ℕ) (t : List ℕ) where
   abbrev pub is_inside : Bool
   is_inside = is_other (cut_of (concat_of (drop (length t) lists))) (notes_at placed lists)
 
--- Read by itself the text is what is kept of it, and no syllable is whole. A comment is open after it only where a `%` there is not kept. What is open
--- is told.
+-- Read by itself the text is what is kept of it, and no syllable is whole. A comment is open after
+-- it only where a `%` there is not kept. The openers say what else is open, wherever they stand.
 pub record IsKeptAgain (lines macros : ℕ) (t : List ℕ) (openers : Openers) (comment : Bool) : Type 0 where
   pub kept : kept_of (emitted lines macros t) ≡ encode_utf8_all t
   pub none : all_syllables (emitted lines macros t) ≡ []

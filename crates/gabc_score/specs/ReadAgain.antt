@@ -41,7 +41,8 @@ pub record CanBeReadInText (s : ScoreStageState) : Type 0 where
   pub before : before_of told ≡ before_of s
   pub tells : TellsOfReading told [] no_openers true
 
--- Some stage reports this of the syllable that it reads, under these limits, with these lines and macros.
+-- Some stage reports this of the syllable that it reads, under these limits, with these lines and
+-- macros.
 pub record IsReported (limits : Limits) (lines macros : ℕ) (t : List ℕ) (openers : Openers) (comment : Bool) : Type 0 where
   pub stage : ScoreStageState
   pub again : CanBeReadAgain stage

@@ -1,5 +1,5 @@
-//! Laws of kept texts that are read by themselves. Each function is there for its clauses, and calls
-//! the laws on which it stands.
+//! Laws of kept texts that are read by themselves. Each function is there for its clauses, and
+//! calls the laws on which it stands.
 
 ghost use Rattle.std.specs.Prelude.{◌≤◌, ℕ, List, Bool, length, encode_utf8_all};
 ghost use Rattle.gabc_places.specs.declared.limits.Limits.{Limits};

@@ -43,7 +43,8 @@ pub record IsHeldRead (limits : Limits) (f : ScoreFields) : Type 0 where
 
 -- ---- the kept text
 
--- Read by itself all of the kept text is kept again, and what is open after it is what the fields say. It is no longer than a syllable may be.
+-- Read by itself all of the kept text is kept again, and what is open after it is what the fields
+-- say. It is no longer than a syllable may be.
 pub record IsKeptRead (limits : Limits) (f : ScoreFields) : Type 0 where
   pub again : IsKeptAgain f.nabc_lines f.macros (chars f.kept) (record { notes = f.notes_opener; inner = f.inner_opener }) f.in_comment
   pub short : length f.kept ≤ limits.syllable

@@ -74,7 +74,8 @@ pub record Begins : Type 0 where
   pub keeps : Keeps stage []
   pub outside : comment_of stage ≡ false
 
--- The stage takes a character: with these events it stands there, and emits from then on what follows them.
+-- The stage takes a character: with these events it stands there, and emits from then on what
+-- follows them.
 pub record Takes (before : NabcStage) (x : Char) : Type 0 where
   pub events : List NoteEvent
   pub after : NabcStage

@@ -87,7 +87,8 @@ pub record Begins (split : Bool) (macros : ℕ) : Type 0 where
   pub opens_nothing : opener_of stage ≡ None
   pub outside : comment_of stage ≡ false
 
--- The stage takes a character: with these events it stands there, and emits from then on what follows them. A `%` that is not kept opens a comment.
+-- The stage takes a character: with these events it stands there, and emits from then on what
+-- follows them. A `%` that is not kept opens a comment.
 pub record Takes (before : NoteStage) (x : Char) : Type 0 where
   pub events : List NoteEvent
   pub after : NoteStage
@@ -95,7 +96,8 @@ pub record Takes (before : NoteStage) (x : Char) : Type 0 where
   pub keeps : KeepsOn before x events after
   pub percent : (split : Bool) (macros : ℕ) (k : List ℕ) → Keeps split macros before k → x.c ≡ 37 → kept_of events ≡ [] → comment_of after ≡ true
 
--- Where the characters end before the snippet does, it is cut at the bracket that is open, or at no place.
+-- Where the characters end before the snippet does, it is cut at the bracket that is open, or at no
+-- place.
 pub record IsCutAtOpener (s : NoteStage) : Type 0 where
   pub bytes : ℕ
   pub emits : events_left s [] ≡ (Ended (Cut (unwrap_or (opener_of s) (record { line = 0; column = 0 }))) bytes ∷ []) ∷ []

@@ -30,8 +30,8 @@ bytes_more : (c : ℕ) (t : List ℕ) → bytes_of (c ∷ t) ≡ len_utf8 c + by
 bytes_more c t = let l = length-append (encode_utf8 c) (encode_utf8_all t) in let k = length-encode c in omega (arith, l, k)
 
 module _ (steps : Steps) (lines macros : ℕ) where
-  -- The part after these characters reads what was gathered: no more bytes than they have. Where it is as many, no comment is open after them if none
-  -- was before.
+  -- The part after these characters reads what was gathered: no more bytes than they have. Where it
+  -- is as many, no comment is open after them if none was before.
   pub record Reaches (at : Place) (b : BodyPart) (before : List BodyEvent) (rest : List ℕ) : Type 0 where
     pub read : Emits steps lines macros at b rest
     pub spans : Spans

@@ -1,4 +1,5 @@
--- What is open in a part of a body follows from the kept text, and from the place at which the end cuts it.
+-- What is open in a part of a body follows from the kept text, and from the place at which the end
+-- cuts it.
 use Rattle.std.proofs.Common.{◌≡◌, ◌≢◌, inl, inr, ◌==◌, ◌&&◌, ◌<◌, ◌+◌, not, ℕ, zero, suc, Bool, true, false, if◌then◌else◌, List, [], ◌∷◌, ◌++◌, length, map, Option, Some, None, is_some, unwrap_or, refl, sym, ap, ◌∙◌, arith, append-nil}
 use Rattle.std.specs.Prelude.{IfSome}
 use Rattle.std.proofs.lemmas.Bool.{false≢true}

@@ -1,5 +1,5 @@
--- Worked rows of the definition of specs/KeptAgain.antt: `a`, alone and with a comment after it, `(f`, and `([)` with its bracket. Of `a)b` the `)` is not
--- kept, so it is no kept text.
+-- Worked rows of the definition of specs/KeptAgain.antt: `a`, alone and with a comment after it,
+-- `(f`, and `([)` with its bracket. Of `a)b` the `)` is not kept, so it is no kept text.
 use Rattle.std.proofs.Common.{◌≡◌, [], ◌∷◌, true, false, Some, None, refl, codes}
 use lib.Utf8.{encode}
 use Rattle.gabc_notes.specs.Events.{note_events}

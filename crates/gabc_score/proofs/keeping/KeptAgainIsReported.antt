@@ -1,4 +1,5 @@
--- A text that is kept again, read by itself, is what some stage reports of the syllable that it reads.
+-- A text that is kept again, read by itself, is what some stage reports of the syllable that it
+-- reads.
 use Rattle.std.proofs.Common.{◌≡◌, ◌<◌, ◌≤◌, ◌^◌, ℕ, Bool, true, false, List, [], length, encode_utf8_all, refl, sym, ap, ◌∙◌, arith}
 use Rattle.std.proofs.lemmas.Str.{encodes_same}
 use Rattle.gabc_places.specs.Place.{place_past}

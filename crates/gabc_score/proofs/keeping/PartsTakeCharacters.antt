@@ -132,9 +132,6 @@ module _ (laws : Steps) (lines macros : ℕ) where
   -- ---- a text
 
   module _ (s : TextStage) (x : Char) (t : text.Takes s x.c) where
-    abbrev es : List TextEvent
-    es = t.events
-
     text_emits : (next : List Char → PartAhead) → ((xs : List Char) → next xs ≡ (if list_any is_text_end t.events then snippet_from lines macros 0 x.place xs else InText (text_rest.events_left t.after (codes_of xs)))) → (xs : List Char)
         → events_from texts_by_stage lines macros (InText (text_rest.events_left s (codes_of (x ∷ xs)))) (x ∷ xs) ≡ text_events t.events ∷ events_from texts_by_stage lines macros (next xs) xs
     text_emits next n xs =
@@ -183,12 +180,12 @@ module _ (laws : Steps) (lines macros : ℕ) where
   none_closes n some none = absurd (omega (arith, some, none))
 
   module _ (opened : Place) (s : NoteStage) (x : Char) (t : notes.Takes s x) where
-    gabc_emits : (next : List Char → PartAhead) → ((xs : List Char) → next xs ≡ (if list_any is_next t.events then snippet_from lines macros (next_line lines 0) opened xs else if list_any is_close t.events then InText (texts_by_stage (behind_mark x.place) xs) else InNotes 0 opened (note_rest.events_left t.after xs))) → (xs : List Char)
-        → events_from texts_by_stage lines macros (InNotes 0 opened (note_rest.events_left s (x ∷ xs))) (x ∷ xs) ≡ of_notes 0 opened t.events ∷ events_from texts_by_stage lines macros (next xs) xs
-    gabc_emits next n xs = snippet_emits lines macros 0 opened x t.events (note_rest.events_left s) (note_rest.events_left t.after) t.emits next n xs
-
     abbrev gabc_then : Bool → Bool → List Char → PartAhead
     gabc_then next close xs = if next then snippet_from lines macros (next_line lines 0) opened xs else if close then InText (texts_by_stage (behind_mark x.place) xs) else InNotes 0 opened (note_rest.events_left t.after xs)
+
+    gabc_emits : (next : List Char → PartAhead) → ((xs : List Char) → next xs ≡ gabc_then (list_any is_next t.events) (list_any is_close t.events) xs) → (xs : List Char)
+        → events_from texts_by_stage lines macros (InNotes 0 opened (note_rest.events_left s (x ∷ xs))) (x ∷ xs) ≡ of_notes 0 opened t.events ∷ events_from texts_by_stage lines macros (next xs) xs
+    gabc_emits next n xs = snippet_emits lines macros 0 opened x t.events (note_rest.events_left s) (note_rest.events_left t.after) t.emits next n xs
 
     gabc_goes : list_any is_next t.events ≡ false → list_any is_close t.events ≡ false → TakesOne lines macros (part.Notes opened s) x
     gabc_goes next close = record {

@@ -69,7 +69,8 @@ no_spans = record { eu = false; nlba = false }
 abbrev pub gathered_of : List BodyEvent → Gathered
 gathered_of before = gathered 0 0 before
 
--- A part stands here after these events, the nearest first, of which this was kept. No syllable is whole, and no comment open.
+-- A part stands here after these events, the nearest first, of which this was kept. No syllable is
+-- whole, and no comment open.
 pub record StandsAfter (lines macros : ℕ) (at : Place) (b : BodyPart) (before : List BodyEvent) (done : List ℕ) : Type 0 where
   pub reading : IsReading lines macros b no_spans (gathered_of before)
   pub kept : (gathered_of before).builder.kept ≡ encode_utf8_all done
@@ -95,9 +96,6 @@ one_more : (done : List ℕ) (c : ℕ) → encode_utf8_all done ++ encode_utf8_a
 one_more done c = sym (encodes-append done (c ∷ []))
 
 module _ (steps : Steps) (lines macros : ℕ) where
-  abbrev takes : (b : BodyPart) (p : KeptParts) → PartKeeps lines macros b p → is_in_front b ≡ false → (x : Char) → TakesOne lines macros b x
-  takes = takes_one steps lines macros
-
   -- what the events of a character add, where a part reads again
   pub record AddsAfter (before now : List BodyEvent) (more : List ℕ) : Type 0 where
     pub kept : (gathered_of (events_onto now before)).builder.kept ≡ (gathered_of before).builder.kept ++ encode_utf8_all more

@@ -1,4 +1,5 @@
--- The laws of the stages of texts and snippets on which the reading of a kept text by itself stands.
+-- The laws of the stages of texts and snippets on which the reading of a kept text by itself
+-- stands.
 use Rattle.std.specs.Prelude.{◌≡◌, ℕ, ◌+◌, List, [], ◌∷◌, ◌++◌, length, Bool, true, false, is_some}
 use Rattle.gabc_places.specs.declared.place.Char.{Char}
 use Rattle.gabc_places.specs.declared.place.Place.{Place}

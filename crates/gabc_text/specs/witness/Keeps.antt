@@ -104,8 +104,9 @@ pub record KeepsOn (before : TextStage) (c : ℕ) (events : List TextEvent) (aft
   pub ends : (k : List ℕ) → Keeps before k → end_text events ≡ true → EndsBehind k events after
   pub only : (k : List ℕ) → Keeps before k → All (IsKeptOf c) (kept_in events)
 
--- The stage takes a character: with these events it stands there, and emits from then on what follows them. No more than one character is kept,
--- and none where a comment is open then. A `%` that is not kept opens one.
+-- The stage takes a character: with these events it stands there, and emits from then on what
+-- follows them. No more than one character is kept, and none where a comment is open then. A `%`
+-- that is not kept opens one.
 pub record Takes (before : TextStage) (c : ℕ) : Type 0 where
   pub events : List TextEvent
   pub after : TextStage
