@@ -16,9 +16,9 @@ use Rattle.gabc_text.specs.declared.view.PieceKind.TheVariants as piece
 use Rattle.gabc_text.specs.Token.{is_blank, is_special, spelling}
 use Rattle.gabc_text.specs.View.{PieceFacts, is_word_kind, is_blank_piece}
 use Rattle.gabc_text.specs.Printed.{printed_piece}
-use Rattle.gabc_text.specs.RegularText.{is_letter_byte}
+use Rattle.gabc_text.specs.RegularText.{is_letter_byte, is_continuation, is_first_of_two, is_first_of_three}
 use Rattle.gabc_text.specs.machine.PrintedPieces.{Good, Says}
-use Rattle.gabc_text.specs.machine.RegularBytes.{is_low, is_continuation, is_first_of_two, is_first_of_three, word_after, blank_after, printed_text, IsSpelled, IsWord, IsRun}
+use Rattle.gabc_text.specs.machine.RegularBytes.{is_low, word_after, blank_after, printed_text, IsSpelled, IsWord, IsRun}
 use Rattle.gabc_text.proofs.tokens.CasesOfCharacters.{and_both}
 use Rattle.gabc_text.proofs.printing.TokensAreReadAgain.{letter_stable}
 use Rattle.gabc_text.proofs.printing.PiecesPrintWell.{letter_emits, special_no_blank}
@@ -268,25 +268,46 @@ escaped_is b h =
 
 -- ---- where they stand
 
-pub one_at : (l : List ℕ) → length l == 0 ≡ false → is_letter_byte (get_or l 0 0) ≡ true → IsWord (take 1 l)
-one_at [] n h = absurd (cc)
-one_at (a ∷ l) n h = letter_is a h
+one_at : (l : List ℕ) → is_letter_byte (get_or l 0 0) ≡ true → IsWord (take 1 l)
+one_at [] h = absurd (cc)
+one_at (a ∷ l) h = letter_is a h
 
-pub escaped_at : (l : List ℕ) → 1 < length l → get_or l 0 0 ≡ 36 → is_special (get_or l 1 0) ≡ true → IsWord (take 2 l)
-escaped_at [] n e h = absurd (omega arith)
-escaped_at (a ∷ []) n e h = absurd (omega arith)
-escaped_at (a ∷ b ∷ l) n e h = subst (λ (x : ℕ). IsWord (x ∷ b ∷ [])) (sym e) (escaped_is b h)
+escaped_at : (l : List ℕ) → (get_or l 0 0 == 36 && is_special (get_or l 1 0)) ≡ true → IsWord (take 2 l)
+escaped_at [] h = absurd (cc)
+escaped_at (a ∷ []) h = absurd (let f = (and_both (a == 36) false h).1 in cc)
+escaped_at (a ∷ b ∷ l) h =
+    let f = and_both (a == 36) (is_special b) h in
+    subst (λ (x : ℕ). IsWord (x ∷ b ∷ [])) (sym (eqb-true a 36 f.0)) (escaped_is b f.1)
 
-pub two_at : (l : List ℕ) → 1 < length l → is_first_of_two (get_or l 0 0) ≡ true → is_continuation (get_or l 1 0) ≡ true → IsWord (take 2 l)
-two_at [] n h g = absurd (omega arith)
-two_at (a ∷ []) n h g = absurd (omega arith)
-two_at (a ∷ b ∷ l) n h g = pair_is a b h g
+two_at : (l : List ℕ) → (is_first_of_two (get_or l 0 0) && is_continuation (get_or l 1 0)) ≡ true → IsWord (take 2 l)
+two_at [] h = absurd (cc)
+two_at (a ∷ []) h = absurd (let f = (and_both (is_first_of_two a) false h).1 in cc)
+two_at (a ∷ b ∷ l) h = let f = and_both (is_first_of_two a) (is_continuation b) h in pair_is a b f.0 f.1
 
-pub three_at : (l : List ℕ) → 2 < length l → is_first_of_three (get_or l 0 0) ≡ true → is_continuation (get_or l 1 0) ≡ true → is_continuation (get_or l 2 0) ≡ true → IsWord (take 3 l)
-three_at [] n h g k = absurd (omega arith)
-three_at (a ∷ []) n h g k = absurd (omega arith)
-three_at (a ∷ b ∷ []) n h g k = absurd (omega arith)
-three_at (a ∷ b ∷ d ∷ l) n h g k = triple_is a b d h g k
+three_at : (l : List ℕ) → (is_first_of_three (get_or l 0 0) && (is_continuation (get_or l 1 0) && is_continuation (get_or l 2 0))) ≡ true → IsWord (take 3 l)
+three_at [] h = absurd (cc)
+three_at (a ∷ []) h = absurd (let f = (and_both (is_first_of_three a) false h).1 in cc)
+three_at (a ∷ b ∷ []) h = absurd (let f = (and_both (is_continuation b) false (and_both (is_first_of_three a) (is_continuation b && false) h).1).1 in cc)
+three_at (a ∷ b ∷ d ∷ l) h =
+    let f = and_both (is_first_of_three a) (is_continuation b && is_continuation d) h in
+    let g = and_both (is_continuation b) (is_continuation d) f.1 in
+    triple_is a b d f.0 g.0 g.1
+
+-- by the bytes that were read
+module _ (l : List ℕ) (a b : ℕ) (first : a ≡ get_or l 0 0) (second : b ≡ get_or l 1 0) where
+  pub one_read : is_letter_byte a ≡ true → IsWord (take 1 l)
+  one_read h = one_at l (ap is_letter_byte (sym first) ∙ h)
+
+  pub escape_read : (a == 36 && is_special b) ≡ true → IsWord (take 2 l)
+  escape_read h = escaped_at l (ap₂ (λ (x y : ℕ). x == 36 && is_special y) (sym first) (sym second) ∙ h)
+
+  pub pair_read : (is_first_of_two a && is_continuation b) ≡ true → IsWord (take 2 l)
+  pair_read h = two_at l (ap₂ (λ (x y : ℕ). is_first_of_two x && is_continuation y) (sym first) (sym second) ∙ h)
+
+  pub triple_read : (d : ℕ) → d ≡ get_or l 2 0 → (is_first_of_three a && (is_continuation b && is_continuation d)) ≡ true → IsWord (take 3 l)
+  triple_read d third h =
+      three_at l (ap₂ (λ (x y : ℕ). is_first_of_three x && (is_continuation y && is_continuation (get_or l 2 0))) (sym first) (sym second)
+      ∙ ap (λ (z : ℕ). is_first_of_three a && (is_continuation b && is_continuation z)) (sym third) ∙ h)
 
 -- all that is behind so many bytes
 pub behind_is : (l : List ℕ) (n : ℕ) → take (length l - n) (drop n l) ≡ drop n l

@@ -16,12 +16,13 @@ use Rattle.gabc_text.specs.ExampleTexts.{beginning_of}
 use Rattle.gabc_text.specs.View.{PieceFacts}
 use Rattle.gabc_text.specs.ViewFacts.{ViewFacts}
 use Rattle.gabc_text.specs.Printed.{print, print_from, text_of_tokens, printed_piece, translation_tokens}
-use Rattle.gabc_text.specs.RegularText.{IsRegularText}
+use Rattle.gabc_text.specs.RegularText.{IsRegularText, begins_letter, has_letter_at}
 use Rattle.gabc_text.specs.machine.PrintedPieces.{Stable}
 use Rattle.gabc_text.specs.machine.RegularBytes.{no_styles, is_low, is_plain_byte, IsSpelled, IsWord, IsBracketed, IsMark, IsPart, IsBegun}
 use Rattle.gabc_text.proofs.RegularBytes.{ascii_spelled, spelled_join, chars_of, is_text, behind_is}
 use Rattle.gabc_text.proofs.RegularParts.{none_listed, starts_so, taken_first, between_is, view_of, begun_sound, begun_text, begun_regular}
 use Rattle.std.proofs.Math.Seq.{take-add}
+use Rattle.std.proofs.lemmas.List.{get_or-drop}
 use Rattle.gabc_text.proofs.tokens.CasesOfCharacters.{and_both}
 use Rattle.gabc_text.proofs.tokens.RawEndingIsMatched.{begins_itself}
 use Rattle.gabc_text.proofs.printing.TokensAreReadAgain.{again_by}
@@ -198,3 +199,10 @@ whole b l n zero x h =
 whole b l n (suc r) x h =
     subst IsTranslatedText (sym (take-add n (suc r) l))
     (translated b (take n l) (take (suc r) (drop n l)) x (subst (λ (u : List ℕ). IsBracketed (91 ∷ []) 93 (93 ∷ []) (take (suc r) u)) (behind_is l n) (h (omega arith))))
+
+-- no letter comes next
+pub whole_stops : (l : List ℕ) (n r : ℕ) → (n < length l → has_letter_at l n ≡ false) → (0 < r → get_or (take (length l - n) (drop n l)) r 0 ≡ 40) → n + r < length l → has_letter_at l (n + r) ≡ false
+whole_stops l n zero h g less = let same : n ≡ n + 0 = omega arith in subst (λ (m : ℕ). has_letter_at l m ≡ false) same (h (omega arith))
+whole_stops l n (suc r) h g less =
+    let here : get_or l (n + suc r) 0 ≡ 40 = sym (get_or-drop n l (suc r) 0) ∙ ap (λ (u : List ℕ). get_or u (suc r) 0) (sym (behind_is l n)) ∙ g (omega arith) in
+    ap (λ (x : ℕ). begins_letter x (get_or l (n + suc r + 1) 0) (get_or l (n + suc r + 2) 0)) here

@@ -1,5 +1,5 @@
 -- The texts that are printed as they stand, and in which nothing is found.
-use Rattle.std.specs.Prelude.{◌≡◌, ℕ, List, [], Bool, false, not, ◌&&◌, nat_lt}
+use Rattle.std.specs.Prelude.{◌≡◌, ℕ, ◌+◌, List, [], Bool, false, not, ◌&&◌, ◌||◌, nat_lt, slice_index}
 use Rattle.gabc_places.specs.declared.place.Place.{Place}
 use Rattle.gabc_text.specs.Token.{is_special}
 use Rattle.gabc_text.specs.View.{findings}
@@ -15,3 +15,21 @@ pub record IsRegularText (t : List ℕ) : Type 0 where
 -- a byte of ASCII that is a letter by itself
 abbrev pub is_letter_byte : ℕ → Bool
 is_letter_byte b = not (is_special b) && (nat_lt 32 b && nat_lt b 127)
+
+-- a byte within a character of several bytes, the first byte of one of two bytes, and that of one from U+1000 to U+CFFF
+abbrev pub is_continuation : ℕ → Bool
+is_continuation b = nat_lt 127 b && nat_lt b 192
+
+abbrev pub is_first_of_two : ℕ → Bool
+is_first_of_two b = nat_lt 193 b && nat_lt b 224
+
+abbrev pub is_first_of_three : ℕ → Bool
+is_first_of_three b = nat_lt 224 b && nat_lt b 237
+
+-- by these bytes, the first of which may begin it
+abbrev pub begins_letter : ℕ → ℕ → ℕ → Bool
+begins_letter a b c = is_letter_byte a || ((is_first_of_two a && is_continuation b) || (is_first_of_three a && (is_continuation b && is_continuation c)))
+
+-- a letter begins at this byte: one of ASCII, one of two bytes, or one from U+1000 to U+CFFF
+abbrev pub has_letter_at : List ℕ → ℕ → Bool
+has_letter_at bs n = begins_letter (slice_index bs n) (slice_index bs (n + 1)) (slice_index bs (n + 2))

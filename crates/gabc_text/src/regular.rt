@@ -6,7 +6,7 @@ ghost use Rattle.gabc_places.specs.TextOfAnInput.{IsText};
 ghost use Rattle.gabc_text.specs.Token.{spelling};
 ghost use Rattle.gabc_text.specs.Canonical.{listed_styles};
 ghost use Rattle.gabc_text.specs.Printed.{opening_tag, closing_tag};
-ghost use Rattle.gabc_text.specs.RegularText.{IsRegularText, is_letter_byte};
+ghost use Rattle.gabc_text.specs.RegularText.{IsRegularText, has_letter_at};
 ghost use Rattle.gabc_text.specs.machine.RegularBytes.{no_styles, IsBracketed, IsMark, IsPart, IsBegun, AreApart, through};
 
 use crate::regular_runs::{bracketed_len, enclosed_len, run_len};
@@ -156,8 +156,7 @@ fn next_part(bytes: &[u8], last: Styles) -> Option<Part>
     ensures within { IfSome result (λ p. (0 < p.len) × (p.len ≤ length bytes.now)) }
     ensures part { IfSome result (λ p. IsPart p.styles p.word (take p.len bytes.now)) }
     ensures apart { IfSome result (λ p. AreApart (listed_styles last) (listed_styles p.styles)) }
-    ensures stops { result ≡ None → 0 < length bytes.now →
-        is_letter_byte (get_or bytes.now 0 0) ≡ false }
+    ensures stops { result ≡ None → 0 < length bytes.now → has_letter_at bytes.now 0 ≡ false }
 {
     let len = run_len(bytes);
     if len == 0 {
@@ -224,7 +223,7 @@ fn next_step(bytes: &[u8], end: usize, before: Before) -> Option<Step>
     ensures within { IfSome result (λ s. (0 < s.len) × (end + s.len ≤ length bytes.now)) }
     ensures goes_on { IfSome result (λ s. IsBegun before (take end bytes.now) →
         IsBegun s.before (take (end + s.len) bytes.now)) }
-    ensures stops { result ≡ None → is_letter_byte (get_or bytes.now end 0) ≡ false }
+    ensures stops { result ≡ None → has_letter_at bytes.now end ≡ false }
 {
     match next_part(&bytes[end..], before.styles) {
         Some(part) => Some(Step {
@@ -240,8 +239,7 @@ fn next_step(bytes: &[u8], end: usize, before: Before) -> Option<Step>
 fn untranslated_len(bytes: &[u8]) -> usize
     ensures within { result ≤ length bytes.now }
     ensures begun { (before : Before) × IsBegun before (take result bytes.now) }
-    ensures stops { result < length bytes.now →
-        is_letter_byte (get_or bytes.now result 0) ≡ false }
+    ensures stops { result < length bytes.now → has_letter_at bytes.now result ≡ false }
 {
     let mut end = 0;
     let mut before = Before::NOTHING;
@@ -275,13 +273,13 @@ fn translation_len(bytes: &[u8]) -> usize
 /// Returns how many of the first of `bytes` are a text that is printed as it stands in front of a
 /// `(`, and in which nothing is found (`laws::a_regular_text_is_printed_as_it_stands`): letters and raw
 /// parts, with single blanks between them, some of them within the tags of a style, some in one
-/// centre; span marks; and a translation, if a `(` follows. It goes past each letter of ASCII.
+/// centre; span marks; and a translation, if a `(` follows. It goes past each letter of ASCII, of two
+/// bytes, and from U+1000 to U+CFFF.
 pub fn regular_text(bytes: &[u8]) -> usize
     ensures within { result ≤ length bytes.now }
     ensures text { IsText (take result bytes.now) }
     ensures regular { IsRegularText (chars (take result bytes.now)) }
-    ensures stops { result < length bytes.now →
-        is_letter_byte (get_or bytes.now result 0) ≡ false }
+    ensures stops { result < length bytes.now → has_letter_at bytes.now result ≡ false }
 {
     let end = untranslated_len(bytes);
     end + translation_len(&bytes[end..])

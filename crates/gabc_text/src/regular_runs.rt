@@ -1,11 +1,11 @@
 //! Bytes of letters, raw parts and runs of these, for `regular.rt`.
 
-ghost use Rattle.std.specs.Prelude.{◌≡◌, ◌+◌, ◌≤◌, ◌<◌, length, take, get_or, true, false};
+ghost use Rattle.std.specs.Prelude.{◌≡◌, ◌+◌, ◌≤◌, ◌<◌, ◌==◌, ◌&&◌, length, take, slice_index, true, false};
 ghost use Rattle.std.specs.List.{list_all};
 ghost use Rattle.gabc_text.specs.ExampleTexts.{beginning_of};
 ghost use Rattle.gabc_text.specs.Token.{ending_of, is_special};
-ghost use Rattle.gabc_text.specs.RegularText.{is_letter_byte};
-ghost use Rattle.gabc_text.specs.machine.RegularBytes.{IsWord, IsRun, IsBracketed, IsEnclosed, is_continuation, is_first_of_two, is_first_of_three, is_plain_byte};
+ghost use Rattle.gabc_text.specs.RegularText.{is_letter_byte, is_continuation, is_first_of_two, is_first_of_three, has_letter_at};
+ghost use Rattle.gabc_text.specs.machine.RegularBytes.{IsWord, IsRun, IsBracketed, IsEnclosed, is_plain_byte};
 
 use crate::token::{RawKind, is_special};
 
@@ -44,31 +44,58 @@ fn is_first_of_three(byte: u8) -> bool
     byte > 0xE0 && byte < 0xED
 }
 
+/// Whether the bytes are a `$` and a character that it makes a letter.
+fn is_escape(first: u8, second: u8) -> bool
+    ensures { result ≡ (first == 36 && is_special second) }
+{
+    first == b'$' && is_special_byte(second)
+}
+
+/// Whether the bytes are a letter of two bytes.
+fn is_pair(first: u8, second: u8) -> bool
+    ensures { result ≡ (is_first_of_two first && is_continuation second) }
+{
+    is_first_of_two(first) && is_continuation(second)
+}
+
+/// Whether the bytes are a letter from U+1000 to U+CFFF.
+fn is_triple(first: u8, second: u8, third: u8) -> bool
+    ensures { result ≡ (is_first_of_three first && (is_continuation second && is_continuation third)) }
+{
+    is_first_of_three(first) && is_continuation(second) && is_continuation(third)
+}
+
+/// Returns the byte of `bytes` at `index`; 0, if there is none.
+fn byte_at(bytes: &[u8], index: usize) -> u8
+    ensures { result ≡ slice_index bytes.now index }
+{
+    if index < bytes.len() { bytes[index] } else { 0 }
+}
+
 /// Returns how many bytes the letter has that `bytes` begin with, with its `$` if it has one; 0, if
 /// none is known to be there.
 fn letter_len(bytes: &[u8]) -> usize
     ensures within { result ≤ length bytes.now }
     ensures letter { 0 < result → IsWord (take result bytes.now) }
-    ensures none { result ≡ 0 → 0 < length bytes.now →
-        is_letter_byte (get_or bytes.now 0 0) ≡ false }
+    ensures none { result ≡ 0 → has_letter_at bytes.now 0 ≡ false }
 {
-    if !bytes.is_empty() && is_letter_byte(bytes[0]) {
+    let first = byte_at(bytes, 0);
+    let second = byte_at(bytes, 1);
+    if is_letter_byte(first) {
         return 1;
     }
-    if bytes.len() > 1 && bytes[0] == b'$' && is_special_byte(bytes[1]) {
+    if is_escape(first, second) {
         return 2;
     }
-    if bytes.len() > 1 && is_first_of_two(bytes[0]) && is_continuation(bytes[1]) {
+    if is_pair(first, second) {
         return 2;
     }
-    if bytes.len() > 2
-        && is_first_of_three(bytes[0])
-        && is_continuation(bytes[1])
-        && is_continuation(bytes[2])
-    {
-        return 3;
+    let third = byte_at(bytes, 2);
+    if is_triple(first, second, third) {
+        3
+    } else {
+        0
     }
-    0
 }
 
 /// Whether `byte` is of printable ASCII, and not `stop`.
@@ -147,8 +174,7 @@ fn raw_len(bytes: &[u8]) -> usize
 fn word_len(bytes: &[u8]) -> usize
     ensures within { result ≤ length bytes.now }
     ensures word { 0 < result → IsWord (take result bytes.now) }
-    ensures none { result ≡ 0 → 0 < length bytes.now →
-        is_letter_byte (get_or bytes.now 0 0) ≡ false }
+    ensures none { result ≡ 0 → has_letter_at bytes.now 0 ≡ false }
 {
     let letter = letter_len(bytes);
     if letter > 0 { letter } else { raw_len(bytes) }
@@ -161,8 +187,7 @@ fn more_of_run(bytes: &[u8], end: usize) -> usize
     ensures within { end + result ≤ length bytes.now }
     ensures goes_on { 0 < result → IsRun (take end bytes.now) →
         IsRun (take (end + result) bytes.now) }
-    ensures stops { result ≡ 0 → end < length bytes.now →
-        is_letter_byte (get_or bytes.now end 0) ≡ false }
+    ensures stops { result ≡ 0 → has_letter_at bytes.now end ≡ false }
 {
     let word = word_len(&bytes[end..]);
     if word > 0 {
@@ -180,8 +205,7 @@ fn more_of_run(bytes: &[u8], end: usize) -> usize
 pub(crate) fn run_len(bytes: &[u8]) -> usize
     ensures within { result ≤ length bytes.now }
     ensures run { IsRun (take result bytes.now) }
-    ensures stops { result < length bytes.now →
-        is_letter_byte (get_or bytes.now result 0) ≡ false }
+    ensures stops { result < length bytes.now → has_letter_at bytes.now result ≡ false }
 {
     let mut end = 0;
     while end < bytes.len() {

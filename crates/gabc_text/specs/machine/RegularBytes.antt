@@ -60,16 +60,6 @@ printed_text ps = text_of_tokens (map printed_as ps)
 
 -- ---- bytes
 
--- a byte within a character of several bytes, the first byte of one of two bytes, and that of one from U+1000 to U+CFFF
-abbrev pub is_continuation : ℕ → Bool
-is_continuation b = nat_lt 127 b && nat_lt b 192
-
-abbrev pub is_first_of_two : ℕ → Bool
-is_first_of_two b = nat_lt 193 b && nat_lt b 224
-
-abbrev pub is_first_of_three : ℕ → Bool
-is_first_of_three b = nat_lt 224 b && nat_lt b 237
-
 -- a byte of ASCII, and no CR
 abbrev pub is_low : ℕ → Bool
 is_low b = nat_lt b 128 && not (b == 13)

@@ -1,4 +1,4 @@
-use Rattle.gabc_text.proofs.RegularRawParts.{whole}
+use Rattle.gabc_text.proofs.RegularRawParts.{whole, whole_stops}
 use Rattle.gabc_text.proofs.regular.regular_text.Goals as goal
 
 pub returns-clause-text : goal.returns-clause-text
@@ -10,3 +10,7 @@ pub returns-clause-regular : goal.returns-clause-regular
 returns-clause-regular c =
     let b = c.untranslated_len-end.ensures.begun in
     (whole b.0 c.args.bytes.now c.untranslated_len-end.result c.translation_len.result b.1 c.translation_len.ensures.bracketed).regular
+
+pub returns-clause-stops : goal.returns-clause-stops
+returns-clause-stops c = λ less.
+    whole_stops c.args.bytes.now c.untranslated_len-end.result c.translation_len.result c.untranslated_len-end.ensures.stops c.translation_len.ensures.notes less
