@@ -190,6 +190,11 @@ class _Pen:
     def write(self, text: str) -> Place:
         """Writes `text`, and returns the place where it begins."""
         begin = Place(self._offset, self._line, self._column)
+        self.put(text)
+        return begin
+
+    def put(self, text: str) -> None:
+        """Writes `text`."""
         self.written.append(text)
         self._offset += len(text)
         if "\n" in text:
@@ -197,7 +202,6 @@ class _Pen:
             self._column = len(text) - text.rindex("\n")
         else:
             self._column += len(text)
-        return begin
 
 
 class _Reader:
@@ -312,7 +316,7 @@ class _Reader:
             raise self.fail("a syllable with the next number and its position was awaited")
         self._at += 1
         if words[2] in ("one", "beginning"):
-            self.pen.write("\n")
+            self.pen.put("\n")
         first = len(self.pen.written)
         text = self.text() if self.word() == "text" else ""
         translation = self.text() if self.word() == "translation" else None
@@ -320,9 +324,9 @@ class _Reader:
         snippets: list[Snippet] = []
         while (word := self.word()) in ("notes", "nabc"):
             if snippets:
-                self.pen.write("|")
+                self.pen.put("|")
             snippets.append(_NotesReader(self).snippet() if word == "notes" else _read_nabc(self))
-        self.pen.write(")")
+        self.pen.put(")")
         spelling = "".join(self.pen.written[first:])
         return Syllable(
             place, spelling, number, words[2], "eu" in spans, "nlba" in spans, text, translation, tuple(snippets), _sources=self.sources,

@@ -39,15 +39,26 @@ def browser() -> Any:
 
 @unittest.skipUnless(has("selenium") and shutil.which("chromium") and shutil.which("chromedriver"), "there is no Chromium, no driver of it, or no selenium")
 class Browsing(InFolder):
-    """Tests with a browser of their own. `here` begins the addresses that it may ask for."""
+    """Tests with one browser, which each begins anew. `here` begins the addresses that it may ask
+    for."""
 
     here = ""
+    browser: Any = None
+
+    @classmethod
+    def setUpClass(cls) -> None:
+        super().setUpClass()
+        cls.browser = browser()
+        cls.addClassCleanup(cls.browser.quit)
 
     def setUp(self) -> None:
         super().setUp()
         self.here = Path(".").resolve().as_uri()
-        self.browser = browser()
-        self.addCleanup(self.browser.quit)
+        self.browser.get("about:blank")
+        self.browser.execute_cdp_cmd("Emulation.clearDeviceMetricsOverride", {})
+        self.browser.execute_cdp_cmd("Emulation.setEmulatedMedia", {"media": "", "features": []})
+        for it in ("browser", "performance"):
+            self.browser.get_log(it)
 
     def look(self, script: str) -> Any:
         """Returns what a script of this test finds on the page."""
@@ -269,17 +280,17 @@ class ByConverter(InFolder):
     def test_pictures(self) -> None:
         """rsvg-convert makes each picture to PNG with no warning, at 100 and at 300 dots per
         inch."""
-        self.convert_all(OWN)
+        self.convert_all(OWN, scores_of_tables()[::10])
 
     @unittest.skipUnless(has("fontTools") and GRECILIAE.exists(), "there is no fontTools, or no Greciliae")
     def test_font(self) -> None:
-        """So it does with the outlines of a font."""
+        """So it does with the outlines of a font, for each example and neume."""
         from gregorio_chant.picture.font import face_of
-        self.convert_all(face_of(str(GRECILIAE)))
+        self.convert_all(face_of(str(GRECILIAE)), [])
 
-    def convert_all(self, face: Face) -> None:
+    def convert_all(self, face: Face, more: list[bytes]) -> None:
         kinds = f"name: x;\n%%\n(c4) a({' '.join(KINDS.values()).replace('wg', 'fwg')})\n".encode()
-        scores = [*(it.read_bytes() for it in sorted(EXAMPLES.glob("*.gabc"))), HOSTILE.encode(), kinds, *scores_of_tables()[::10]]
+        scores = [*(it.read_bytes() for it in sorted(EXAMPLES.glob("*.gabc"))), HOSTILE.encode(), kinds, *more]
         for score in scores:
             for dots in ("100", "300"):
                 self.put("a.svg", draw(score, face=face).svg)

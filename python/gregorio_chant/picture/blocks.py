@@ -67,7 +67,7 @@ class _Writer:
         self._fused: Note | None = None
         self._last: Note | None = None
 
-    def add(self, item: Item, following: str | None) -> None:
+    def add(self, item: Item) -> None:
         if isinstance(item, Note):
             glyph = self._glyphs.get(item.place.offset)
             if glyph is not None:
@@ -84,7 +84,7 @@ class _Writer:
                 self._put(Block(item.place.offset, (), 0.0))
             self.blocks[-1].ends_line = item.spelling
         elif isinstance(item, (Clef, Alteration, Bar, Custos)):
-            self._add_sign(item, following)
+            self._add_sign(item)
 
     def _put(self, block: Block) -> None:
         self.blocks.append(block)
@@ -98,19 +98,19 @@ class _Writer:
 
     def _add_neume(self, glyph: Glyph) -> None:
         first, last = glyph.notes[0], glyph.notes[-1]
-        drawn = _drawn(glyph, self._lines, self._face, self._other_pitch_after(last) if has_oriscus(glyph) else None)
+        drawn = _drawn(glyph, self._lines, self._face, self._pitch_after(last, last.pitch) if has_oriscus(glyph) else None)
         signs = drawn.signs
         if self._fused is not None:
             signs = (_join(height_of(step_of(self._fused.pitch)), height_of(step_of(first.pitch))), *signs)
         self._put(Block(glyph.place.offset, signs, drawn.width, _AFTER_NEUME, drawn.anchor, first.pitch))
         self._fused, self._last = None, last
 
-    def _other_pitch_after(self, note: Note) -> str | None:
-        """Returns the first pitch after a note that is not its own."""
-        notes = (it for it in self._snippet.items if isinstance(it, Note) and it.place.offset > note.place.offset)
-        return next((it.pitch for it in notes if it.pitch != note.pitch), self._following)
+    def _pitch_after(self, item: Item, other_than: str | None = None) -> str | None:
+        """Returns the first pitch after an item that is not `other_than`."""
+        notes = (it for it in self._snippet.items if isinstance(it, Note) and it.place.offset > item.place.offset)
+        return next((it.pitch for it in notes if it.pitch != other_than), self._following)
 
-    def _add_sign(self, item: Clef | Alteration | Bar | Custos, following: str | None) -> None:
+    def _add_sign(self, item: Clef | Alteration | Bar | Custos) -> None:
         offset = item.place.offset
         if isinstance(item, Clef):
             signs, width = staff.clef(item.spelling, self._face.shapes)
@@ -121,7 +121,7 @@ class _Writer:
         elif isinstance(item, Bar):
             signs, width = staff.bar(item, self._lines)
             self._put(Block(offset, signs, width, _AFTER_BAR, width / 2, is_bar=True))
-        elif (pitch := item.pitch or following) is not None:
+        elif (pitch := item.pitch or self._pitch_after(item)) is not None:
             signs, width = staff.custos(pitch, self._lines, self._face.shapes)
             self._put(Block(offset, signs, width, _AFTER_CUSTOS, is_custos=True))
 
@@ -133,13 +133,8 @@ def _join(before: float, here: float) -> Rect:
 
 def _blocks_of_notes(snippet: NoteSnippet, lines: int, following: str | None, face: Face) -> list[Block]:
     writer = _Writer(snippet, lines, following, face)
-    pitches: list[str | None] = []
-    pitch = following
-    for item in reversed(snippet.items):
-        pitches.append(pitch)
-        pitch = item.pitch if isinstance(item, Note) else pitch
-    for item, after in zip(snippet.items, reversed(pitches)):
-        writer.add(item, after)
+    for item in snippet.items:
+        writer.add(item)
     return writer.blocks
 
 

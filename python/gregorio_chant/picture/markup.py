@@ -47,6 +47,12 @@ def element(name: str, attributes: Mapping[str, str], inside: Markup = NOTHING) 
     return Markup(f"<{begin}>{inside}</{name}>" if inside else f"<{begin} />")
 
 
+def use(shape: str, x: str, y: str) -> Markup:
+    """Returns `element("use", ..)` of a shape at a place, of which there are most: its name and the
+    numbers have nothing to escape."""
+    return Markup(f'<use href="#{shape}" x="{x}" y="{y}" />')
+
+
 def joined(them: list[Markup]) -> Markup:
     """Returns these elements and texts, one after the other."""
     return Markup("".join(them))

@@ -11,7 +11,7 @@ from gregorio_chant.picture.faces import OWN, Face
 from gregorio_chant.picture.shown import shown
 from gregorio_chant.picture.values import Block, Part, Words
 from gregorio_chant.picture.widths import styled_width, width_of
-from gregorio_chant.picture.words import SyllableText, read_text, set_text
+from gregorio_chant.picture.words import SyllableText, read_and_set
 
 TRANSLATION_SIZE, ABOVE_SIZE = 12.0, 11.0
 _DOTS = "…"
@@ -111,8 +111,7 @@ def _add_text(part: Part, line: tuple[Words, ...], middle: float) -> None:
 
 def parts_of(syllable: Syllable, lines: int, following: str | None, room: float, face: Face = OWN) -> tuple[list[Part], SyllableText]:
     """Returns the parts of a syllable on lines with this much room, and its text."""
-    text = read_text(syllable.text)
-    words, middle = set_text(text)
+    text, words, middle = read_and_set(syllable.text)
     blocks = blocks_of(syllable, lines, following, face)
     rows = list(_rows_of(blocks, room)) or [_Row((), 0.0)]
     parts = [_part_of(syllable, at, it) for at, it in enumerate(rows)]

@@ -6,7 +6,7 @@ from dataclasses import dataclass
 
 from gregorio_chant.picture.blocks import NABC_ROW
 from gregorio_chant.picture.codes import CODE_ROW, CODE_SIZE, Code, marks_of
-from gregorio_chant.picture.markup import NOTHING, Markup, element, joined, text
+from gregorio_chant.picture.markup import NOTHING, Markup, element, joined, text, use
 from gregorio_chant.picture.marks import Mark, Places
 from gregorio_chant.picture.parts import ABOVE_SIZE
 from gregorio_chant.picture.shown import shown
@@ -92,10 +92,11 @@ class Painter:
         rects = []
         for it in signs:
             if isinstance(it, Rect):
-                rects.append(f"M{number(x + it.x)},{number(it.y)}h{number(it.width)}v{number(it.height)}h-{number(it.width)}z")
+                width = number(it.width)
+                rects.append(f"M{number(x + it.x)},{number(it.y)}h{width}v{number(it.height)}h-{width}z")
             else:
                 self.used.add(it.shape)
-                out.append(element("use", {"href": f"#{self._names.prefix}{it.shape}", "x": number(x + it.x), "y": number(it.y)}))
+                out.append(use(self._names.shape(it.shape), number(x + it.x), number(it.y)))
         if rects:
             out.append(element("path", {"d": "".join(rects)}))
 
