@@ -5,7 +5,8 @@ _gregorio_chant_options() {
   case "$1" in
     check) echo '--staged --exclude --output-format --select --ignore --fail-on --rules --fix --unsafe-fixes --diff --jobs --no-config --quiet --help' ;;
     format) echo '--staged --exclude --check --diff --wrap --canonical --allow --jobs --no-config --quiet --help' ;;
-    show) echo '--exclude --output --svg --width --rules --no-config --help' ;;
+    show) echo '--exclude --output --svg --width --font --watch --rules --no-config --help' ;;
+    page) echo '--port --rules --no-config --help' ;;
     explain) echo '--all --help' ;;
     export) echo '--to --exclude --folder --force --tempo --no-config --quiet --help' ;;
     find) echo '--interval --neume --text --semitones --exclude --output-format --jobs --no-config --quiet --help' ;;
@@ -41,7 +42,7 @@ _gregorio_chant() {
   local rules='outside-staff bracket-in-attribute nabc-without-header comment asterisk-without-bar clef-off-staff unknown-mode blank-before-notes lone-capital unknown-special unused-ignore'
   COMPREPLY=()
   if [ "$COMP_CWORD" = 1 ] && [[ $word != -* ]]; then
-    mapfile -t COMPREPLY < <(compgen -W 'check format show explain export find index neumes server version' -- "$word")
+    mapfile -t COMPREPLY < <(compgen -W 'check format show page explain export find index neumes server version' -- "$word")
     return
   fi
   case "$before" in
@@ -52,16 +53,16 @@ _gregorio_chant() {
       ;;
     --select | --ignore | --fail-on) _gregorio_chant_list "$word" "$codes rules $rules" ;;
     --allow) _gregorio_chant_list "$word" 'E1 E2 E3 E4 E5 E6 W2 W3 W4 W5 W9 comments spelling' ;;
-    --exclude | --output | -o) mapfile -t COMPREPLY < <(compgen -f -- "$word") ;;
+    --exclude | --output | -o | --font) mapfile -t COMPREPLY < <(compgen -f -- "$word") ;;
     --to) mapfile -t COMPREPLY < <(compgen -W midi -- "$word") ;;
     --folder) mapfile -t COMPREPLY < <(compgen -d -- "$word") ;;
-    --jobs | --wrap | --width | --interval | --neume | --text | --tempo) ;;
+    --jobs | --wrap | --width | --port | --interval | --neume | --text | --tempo) ;;
     *)
       if [[ $word == -* ]]; then
         mapfile -t COMPREPLY < <(compgen -W "$(_gregorio_chant_options "$command")" -- "$word")
       elif [ "$command" = explain ]; then
         mapfile -t COMPREPLY < <(compgen -W "$codes $rules" -- "$word")
-      elif [[ $command != server && $command != version ]]; then
+      elif [[ $command != page && $command != server && $command != version ]]; then
         _gregorio_chant_scores "$word"
       fi
       ;;

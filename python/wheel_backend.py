@@ -21,6 +21,8 @@ ROOT = HERE.parent
 LIBRARY = ROOT / "crates" / "gregorio_c" / "out" / "c" / "libgregorio.so"
 PACKAGE = "gregorio_chant"
 EDITORS = ROOT / "editors"
+# The files of the package: its modules, and those of its page.
+SUFFIXES = (".py", ".html", ".css", ".js")
 
 
 def _project() -> dict[str, Any]:
@@ -33,7 +35,7 @@ def _files() -> dict[str, bytes]:
     """Returns the package's files by their names in the wheel."""
     if not LIBRARY.exists():
         raise FileNotFoundError(f"{LIBRARY} is not there: run tools/build_c first")
-    sources = sorted([*(HERE / PACKAGE).rglob("*.py"), HERE / PACKAGE / "py.typed"])
+    sources = sorted(it for it in (HERE / PACKAGE).rglob("*") if it.suffix in SUFFIXES or it.name == "py.typed")
     files = {it.relative_to(HERE).as_posix(): it.read_bytes() for it in sources}
     for it in (LIBRARY, LIBRARY.with_name("BUILD")):
         if it.exists():
@@ -58,6 +60,8 @@ def _metadata(project: dict[str, Any], version: str) -> str:
     ]
     lines += [f"Classifier: {it}" for it in project["classifiers"]]
     lines += [f"Requires-Dist: {it}" for it in project["dependencies"]]
+    for extra, packages in project["optional-dependencies"].items():
+        lines += [f"Provides-Extra: {extra}", *(f'Requires-Dist: {it}; extra == "{extra}"' for it in packages)]
     return "\n".join(lines) + "\n\n" + (HERE / "README.md").read_text(encoding="utf-8")
 
 

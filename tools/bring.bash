@@ -7,34 +7,49 @@ bring_apt() {
     -o Acquire::Retries=0 -o Acquire::http::Timeout=5 -o Acquire::https::Timeout=5 -o Acquire::ForceIPv4=true "$@"
 }
 
-# Brings the packages, and what they need and the system lacks, into the folder $1/files: within a minute and a half, else it fails. It fails too where
-# there is no apt-get, or no network.
-bring() {
-  local name names file
+# Makes the folder $1 ready, with apt's lists: within half a minute, else it fails. It fails too where there is no apt-get, or no network.
+begin_bringing() {
   bring_room="$1"
-  shift
   command -v apt-get >/dev/null && command -v dpkg >/dev/null || return 1
   mkdir -p -- "$bring_room"/{lists,cache/archives}/partial "$bring_room"/{files,packages} || return 1
   export bring_room
   export -f bring_apt
-  timeout 30 bash -c 'bring_apt -o APT::Update::Error-Mode=any update' >/dev/null 2>&1 || return 1
-  names="$(bring_apt install --print-uris -y --no-install-recommends "$@" 2>/dev/null | awk '{ sub(/_.*/, "", $2); print $2 }')"
-  [ -n "$names" ] || return 1
-  # shellcheck disable=SC2086
-  (cd -- "$bring_room/packages" && timeout 60 bash -c 'bring_apt download "$@"' bring $names) >/dev/null 2>&1 || return 1
+  timeout 30 bash -c 'bring_apt -o APT::Update::Error-Mode=any update' >/dev/null 2>&1
+}
+
+# Brings these packages alone into the folder $1/files, with apt's lists in $1: within a minute, else it fails.
+bring_alone() {
+  local file
+  bring_room="$1"
+  shift
+  rm -rf -- "$bring_room/packages"
+  mkdir -- "$bring_room/packages" || return 1
+  (cd -- "$bring_room/packages" && timeout 60 bash -c 'bring_apt download "$@"' bring "$@") >/dev/null 2>&1 || return 1
   for file in "$bring_room"/packages/*.deb; do
     dpkg -x "$file" "$bring_room/files" || return 1
   done
 }
 
+# Brings the packages, and what they need and the system lacks, into the folder $1/files: within a minute and a half, else it fails. It fails too where
+# there is no apt-get, or no network.
+bring() {
+  local names
+  begin_bringing "$1" || return 1
+  shift
+  names="$(bring_apt install --print-uris -y --no-install-recommends "$@" 2>/dev/null | awk '{ sub(/_.*/, "", $2); print $2 }')"
+  [ -n "$names" ] || return 1
+  # shellcheck disable=SC2086
+  bring_alone "$bring_room" $names
+}
+
 # Writes a command with this name into the folder $1: it runs the brought program $3 with these further words before its own, or settings NAME=VALUE.
 brought_command() {
-  local folder="$1" name="$2" program="$3"
+  local folder="$1" name="$2" program="$3" libraries="$bring_room/files/usr/lib/x86_64-linux-gnu"
   shift 3
   [ -x "$program" ] || return 1
   {
     echo '#!/bin/bash'
-    printf 'exec env LD_LIBRARY_PATH=%q' "$bring_room/files/usr/lib/x86_64-linux-gnu"
+    printf 'exec env LD_LIBRARY_PATH=%q' "$libraries:$libraries/pulseaudio:$bring_room/files/lib/x86_64-linux-gnu"
     while [[ ${1-} == *=* && ${1-} != -* ]]; do
       printf ' %q' "$1"
       shift

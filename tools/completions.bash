@@ -27,7 +27,7 @@ try_bash_of() {
   check "$what: bash: a score" completes gregorio-canonical -W '' 'a score.gabc,folder,'
   check "$what: bash: a file" completes gregorio-canonical -o o 'other.txt,'
   check "$what: bash: a score for the script" is "$(bash_completes "$folder/check_canonical" _check_canonical check_canonical a)" 'a score.gabc,'
-  check "$what: bash: sub-commands" completes gregorio-chant '' 'check,format,show,explain,export,find,index,neumes,server,version,'
+  check "$what: bash: sub-commands" completes gregorio-chant '' 'check,format,show,page,explain,export,find,index,neumes,server,version,'
   check "$what: bash: options of a sub-command" completes gregorio-chant check --se '--select,'
   check "$what: bash: codes in a list" completes gregorio-chant check --select E1,W1 'E1,W1,E1,W10,E1,W11,E1,W12,'
   check "$what: bash: a score or a folder" completes gregorio-chant format '' 'a score.gabc,folder,'

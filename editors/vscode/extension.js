@@ -5,11 +5,12 @@ const { spawn } = require("child_process");
 const vscode = require("vscode");
 
 const SELECTOR = { language: "gabc" };
+const SHOW = "gregorio-chant.show";
 const FIX_ALL = "source.fixAll.gregorio-chant";
 const TRIGGERS = ["<", ">", "|"];
 const TOKENS = ["property", "comment", "keyword", "parameter", "class", "operator", "variable", "function"];
 
-// The server as a process: requests are promises, and its notifications go to `told`.
+// The server as a process: requests are promises, and what it tells or asks goes to `told`.
 class Connection {
   constructor(command, told, ended) {
     this.told = told;
@@ -75,8 +76,8 @@ class Connection {
   }
 
   take(message) {
-    if (message.id === undefined) {
-      this.told(message.method, message.params);
+    if (message.method !== undefined) {
+      this.answer(message);
       return;
     }
     const waiting = this.waiting.get(message.id);
@@ -84,6 +85,11 @@ class Connection {
     if (!waiting) return;
     if (message.error) waiting.refuse(new Error(message.error.message));
     else waiting.resolve(message.result);
+  }
+
+  async answer({ id, method, params }) {
+    const result = await this.told(method, params);
+    if (id !== undefined) this.send({ id, result: result === undefined ? null : result });
   }
 }
 
@@ -140,7 +146,7 @@ class Client {
     const ended = (why) => vscode.window.showErrorMessage(`${command.join(" ")} has ended: ${why}`);
     this.connection = new Connection(command, (method, params) => this.told(method, params), ended);
     const workspace = { workspaceEdit: { documentChanges: false } };
-    this.connection.request("initialize", { processId: process.pid, rootUri: null, capabilities: { workspace } });
+    this.connection.request("initialize", { processId: process.pid, rootUri: null, capabilities: { workspace, window: { showDocument: { support: true } } } });
     this.connection.notify("initialized", {});
     for (const document of vscode.workspace.textDocuments) this.opened(document);
   }
@@ -165,7 +171,22 @@ class Client {
       this.diagnostics.set(vscode.Uri.parse(params.uri), params.diagnostics.map(diagnosticOf));
     } else if (method === "window/showMessage") {
       vscode.window.showWarningMessage(params.message);
+    } else if (method === "window/showDocument") {
+      return this.open(params.uri);
     }
+    return undefined;
+  }
+
+  async open(uri) {
+    return { success: await vscode.env.openExternal(vscode.Uri.parse(uri)) };
+  }
+
+  // Has the picture of the score opened in a browser, at the cursor.
+  async show() {
+    const editor = vscode.window.activeTextEditor;
+    if (!editor || editor.document.languageId !== SELECTOR.language) return;
+    const where = [identifier(editor.document).uri, position(editor.selection.active)];
+    await this.connection.request("workspace/executeCommand", { command: SHOW, arguments: where });
   }
 
   opened(document) {
@@ -244,6 +265,7 @@ exports.activate = (context) => {
     workspace.onDidChangeTextDocument((it) => client.changed(it)),
     workspace.onDidCloseTextDocument((it) => client.closed(it)),
     vscode.commands.registerCommand("gregorio-chant.restart", () => client.restart()),
+    vscode.commands.registerCommand(SHOW, () => client.show()),
     ...providers(client),
   );
 };

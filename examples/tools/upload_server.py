@@ -41,6 +41,7 @@ from typing import BinaryIO
 from urllib.parse import parse_qs, urlsplit
 
 from gregorio_chant import Format, Run, StateError, Step
+from gregorio_chant.loopback import ADDRESS, is_of_this_place, own_names
 
 MOST_SCORES = 1000
 MOST_BYTES = 64 << 20
@@ -165,9 +166,9 @@ class Server(ThreadingHTTPServer):
     daemon_threads = True
 
     def __init__(self, folder: Path, port: int, age: float) -> None:
-        super().__init__(("127.0.0.1", port), Handler)
+        super().__init__((ADDRESS, port), Handler)
         self.folder = folder
-        self.hosts = {name + port for name in ("127.0.0.1", "localhost") for port in ("", f":{self.server_address[1]}")}
+        self.names = own_names(self.server_address[1])
         self._age = age
         self._in_use: set[str] = set()
         self._free = threading.Condition()
@@ -271,9 +272,7 @@ class Handler(BaseHTTPRequestHandler):
     def _is_of_this_place(self) -> bool:
         """Returns whether the request was sent to this server by its own name, and by no page of
         another one."""
-        hosts: list[str] = self.headers.get_all("Host", [])
-        origins: list[str] = self.headers.get_all("Origin", [])
-        return len(hosts) == 1 and hosts[0].lower() in self.server.hosts and all(it == f"http://{hosts[0]}" for it in origins)
+        return is_of_this_place(self.headers.get_all("Host", []), self.headers.get_all("Origin", []), self.server.names)
 
     def _refuse(self, refused: Refused) -> bool:
         self._answer(refused.status, refused.body)
@@ -361,7 +360,7 @@ def main() -> None:
     port = int(sys.argv[2]) if len(sys.argv) > 2 else 0
     age = float(sys.argv[3]) if len(sys.argv) > 3 else AGE
     with Server(folder, port, age) as server:
-        print(f"http://127.0.0.1:{server.server_address[1]}", flush=True)
+        print(f"http://{ADDRESS}:{server.server_address[1]}", flush=True)
         server.serve_forever()
 
 

@@ -5,7 +5,7 @@ import sys
 from collections.abc import Sequence
 
 from gregorio_chant import __version__, checking
-from gregorio_chant.commands import check, explain, export, find, format, index, neumes, server, show, version
+from gregorio_chant.commands import check, explain, export, find, format, index, neumes, page, server, show, version
 from gregorio_chant.commands.words import REFUSED, STATUSES, Command, Parser, examples
 from gregorio_chant.needs import Missing
 from gregorio_chant.selection import UnknownCode
@@ -18,7 +18,7 @@ _ABOUT = """Checks, formats and explains chant scores in GABC.
 What is found in a score and its canonical form come from a compiler that is proved to follow its definition. The rest of this command
 stands outside that proof and is only tested: which files are read and written, how messages are shown, the rules, the server."""
 _EXAMPLES = examples(("gregorio-chant check scores", "gregorio-chant format --diff score.gabc", "gregorio-chant explain E4"))
-COMMANDS: tuple[Command, ...] = (check, format, show, explain, export, find, index, neumes, server, version)
+COMMANDS: tuple[Command, ...] = (check, format, show, page, explain, export, find, index, neumes, server, version)
 
 
 def parsers() -> tuple[Parser, dict[str, Parser]]:

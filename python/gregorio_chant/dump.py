@@ -172,6 +172,8 @@ def _compiled(data: bytes, format: Format, limits: Limits | None) -> Result:
 
 def unescaped(text: str) -> str:
     """Returns what `text` of a dump stands for."""
+    if "\\" not in text:
+        return text
     return _ESCAPE.sub(lambda found: "\n" if found[1] == "n" else found[1], text)
 
 
@@ -188,6 +190,11 @@ class _Pen:
     def write(self, text: str) -> Place:
         """Writes `text`, and returns the place where it begins."""
         begin = Place(self._offset, self._line, self._column)
+        self.put(text)
+        return begin
+
+    def put(self, text: str) -> None:
+        """Writes `text`."""
         self.written.append(text)
         self._offset += len(text)
         if "\n" in text:
@@ -195,7 +202,6 @@ class _Pen:
             self._column = len(text) - text.rindex("\n")
         else:
             self._column += len(text)
-        return begin
 
 
 class _Reader:
@@ -305,24 +311,25 @@ class _Reader:
 
     def _syllable(self, number: int) -> Syllable:
         words = self._lines[self._at].split(" ")
-        if len(words) < 3 or words[1] != str(number) or words[2] not in _POSITIONS or not set(words[3:]) <= {"eu", "nlba"}:
+        spans = words[3:]
+        if len(words) < 3 or words[1] != str(number) or words[2] not in _POSITIONS or (spans and not set(spans) <= {"eu", "nlba"}):
             raise self.fail("a syllable with the next number and its position was awaited")
         self._at += 1
         if words[2] in ("one", "beginning"):
-            self.pen.write("\n")
+            self.pen.put("\n")
         first = len(self.pen.written)
-        place = self.pen.place()
         text = self.text() if self.word() == "text" else ""
         translation = self.text() if self.word() == "translation" else None
-        self.pen.write(text if translation is None else f"{text}[{translation}]")
+        place = self.pen.write(f"{text}(" if translation is None else f"{text}[{translation}](")
         snippets: list[Snippet] = []
-        while self.word() in ("notes", "nabc"):
-            self.pen.write("|" if snippets else "(")
-            snippets.append(_NotesReader(self).snippet() if self.word() == "notes" else _read_nabc(self))
-        self.pen.write(")" if snippets else "()")
+        while (word := self.word()) in ("notes", "nabc"):
+            if snippets:
+                self.pen.put("|")
+            snippets.append(_NotesReader(self).snippet() if word == "notes" else _read_nabc(self))
+        self.pen.put(")")
         spelling = "".join(self.pen.written[first:])
         return Syllable(
-            place, spelling, number, words[2], "eu" in words[3:], "nlba" in words[3:], text, translation, tuple(snippets), _sources=self.sources,
+            place, spelling, number, words[2], "eu" in spans, "nlba" in spans, text, translation, tuple(snippets), _sources=self.sources,
         )
 
 

@@ -2,8 +2,15 @@
 names the package."""
 from __future__ import annotations
 
+from importlib import import_module
+
 # How Debian calls them.
-_DEBIAN = {"mido": "python3-mido", "pathspec": "python3-pathspec", "rich": "python3-rich", "tomli": "python3-tomli"}
+_DEBIAN = {
+    "fonttools": "python3-fonttools", "mido": "python3-mido", "pathspec": "python3-pathspec", "rich": "python3-rich", "starlette": "python3-starlette",
+    "tomli": "python3-tomli", "uvicorn": "python3-uvicorn", "watchdog": "python3-watchdog",
+}
+# The modules that are not called as their packages.
+_MODULES = {"fonttools": "fontTools"}
 
 
 class Missing(Exception):
@@ -11,3 +18,13 @@ class Missing(Exception):
 
     def __init__(self, part: str, package: str) -> None:
         super().__init__(f"{part} needs the package {package}: apt install {_DEBIAN[package]} in Debian, else pip install {package}")
+
+
+def need(part: str, *packages: str) -> None:
+    """Raises `Missing` for the first of these packages that a part of the command needs and that
+    is not installed."""
+    for it in packages:
+        try:
+            import_module(_MODULES.get(it, it))
+        except ImportError:
+            raise Missing(part, it) from None

@@ -11,7 +11,7 @@ from urllib.parse import quote
 
 from gregorio_chant import checking
 from gregorio_chant.files import read
-from gregorio_chant.picture import USUAL_WIDTH, Names, draw
+from gregorio_chant.picture import OWN, USUAL_WIDTH, Face, Names, draw
 from gregorio_chant.picture.page import Entry, Shown, index_of, page_of
 from gregorio_chant.reports import Checked, counted, summary_of
 from gregorio_chant.results import Kind
@@ -33,6 +33,7 @@ class Wanted:
     paths: tuple[str, ...]
     output: str | None = None
     svg: bool = False
+    face: Face = OWN
     width: float = USUAL_WIDTH
     with_rules: bool = False
     exclude: tuple[str, ...] = ()
@@ -81,7 +82,7 @@ class _Scores:
             yield checked, content.data
 
     def shown(self, checked: Checked, data: bytes, prefix: str) -> Shown:
-        picture = draw(data, checked.messages, width=self._wanted.width, names=Names(prefix, links=True))
+        picture = draw(data, checked.messages, width=self._wanted.width, names=Names(prefix, links=True), face=self._wanted.face)
         return Shown(checked, printable(checked.shown_name), picture, text_of(data), prefix)
 
     def summary(self) -> str:
@@ -144,7 +145,7 @@ def _show_one(wanted: Wanted, scores: _Scores, names: list[str]) -> None:
         raise UnknownCode(f"--svg writes one picture, and here are {counted(len(names), 'score')}" if len(names) != 1 else "--svg writes a file, and no folder")
     _refuse_own_input(wanted.files, names)
     for checked, data in scores.all(names):
-        _write(wanted, draw(data, checked.messages, width=wanted.width).pieces)
+        _write(wanted, draw(data, checked.messages, width=wanted.width, face=wanted.face).pieces)
 
 
 def _show_page(wanted: Wanted, scores: _Scores, names: list[str]) -> None:

@@ -70,7 +70,7 @@ class Served(unittest.TestCase):
         """Returns the whole answer to a request."""
         self.number += 1
         self.send({"id": self.number, "method": method, "params": params})
-        while "id" not in (answer := self.receive()):
+        while "id" not in (answer := self.receive()) or "method" in answer:
             self.told.append(answer)
         self.assertEqual(answer["id"], self.number)
         return answer

@@ -1,16 +1,22 @@
-"""Tries the pages of `show` in headless Chromium, and the pictures by rsvg-convert: for
-`tools/try_show`, which brings both."""
+"""Tries the pages of `show` and the page of `page` in headless Chromium, and the pictures by
+rsvg-convert: for `tools/try_show`, which brings both."""
 from __future__ import annotations
 
 import json
 import shutil
+import signal
 import subprocess
+import sys
+import time
 import unittest
+from collections.abc import Callable
 from pathlib import Path
 from typing import Any
 
-from gregorio_chant.picture import draw
+from gregorio_chant.picture import OWN, Face, draw
+from gregorio_chant.picture.page import leading_to
 from support import EXAMPLES, FAULTY, SCORE, InFolder, command, has, scores_of_tables
+from test_font import GRECILIAE
 from test_picture import HOSTILE, KINDS
 
 
@@ -20,7 +26,11 @@ def browser() -> Any:
     from selenium.webdriver.chrome.service import Service
 
     options: Any = webdriver.ChromeOptions()
-    for word in ("--headless=new", "--no-sandbox", "--disable-gpu", "--window-size=1000,700", "--disable-dev-shm-usage"):
+    # The name localhost.example leads to this machine, as any name of the web may.
+    for word in (
+        "--headless=new", "--no-sandbox", "--disable-gpu", "--window-size=1000,700", "--disable-dev-shm-usage",
+        "--host-resolver-rules=MAP localhost.example 127.0.0.1",
+    ):
         options.add_argument(word)
     options.binary_location = shutil.which("chromium") or ""
     options.set_capability("goog:loggingPrefs", {"browser": "ALL", "performance": "ALL"})
@@ -28,16 +38,27 @@ def browser() -> Any:
 
 
 @unittest.skipUnless(has("selenium") and shutil.which("chromium") and shutil.which("chromedriver"), "there is no Chromium, no driver of it, or no selenium")
-class InBrowser(InFolder):
+class Browsing(InFolder):
+    """Tests with one browser, which each begins anew. `here` begins the addresses that it may ask
+    for."""
+
+    here = ""
+    browser: Any = None
+
+    @classmethod
+    def setUpClass(cls) -> None:
+        super().setUpClass()
+        cls.browser = browser()
+        cls.addClassCleanup(cls.browser.quit)
+
     def setUp(self) -> None:
         super().setUp()
-        self.browser = browser()
-        self.addCleanup(self.browser.quit)
-
-    def open(self, *words: str) -> None:
-        """Opens the page of these scores."""
-        command("show", "-o", "page.html", *words)
-        self.browser.get(Path("page.html").resolve().as_uri())
+        self.here = Path(".").resolve().as_uri()
+        self.browser.get("about:blank")
+        self.browser.execute_cdp_cmd("Emulation.clearDeviceMetricsOverride", {})
+        self.browser.execute_cdp_cmd("Emulation.setEmulatedMedia", {"media": "", "features": []})
+        for it in ("browser", "performance"):
+            self.browser.get_log(it)
 
     def look(self, script: str) -> Any:
         """Returns what a script of this test finds on the page."""
@@ -56,9 +77,24 @@ class InBrowser(InFolder):
         self.assertEqual([it["message"] for it in self.browser.get_log("browser")], [])
         asked = [json.loads(it["message"])["message"] for it in self.browser.get_log("performance")]
         addresses = [it["params"]["request"]["url"] for it in asked if it["method"] == "Network.requestWillBeSent"]
-        here = Path(".").resolve().as_uri()
         self.assertTrue(addresses)
-        self.assertEqual([it for it in addresses if not it.startswith(here)], [])
+        self.assertEqual([it for it in addresses if not it.startswith(self.here)], [])
+
+    def await_(self, is_so: Callable[[], bool], what: str) -> None:
+        """Waits until something is so."""
+        end = time.monotonic() + 20
+        while not is_so():
+            self.assertLess(time.monotonic(), end, what)
+            time.sleep(0.05)
+
+
+class Shown(Browsing):
+    """Pages of `show`, from files."""
+
+    def open(self, *words: str) -> None:
+        """Opens the page of these scores."""
+        command("show", "-o", "page.html", *words)
+        self.browser.get(Path("page.html").resolve().as_uri())
 
     def test_links(self) -> None:
         """A click on a message shows it in the picture, one on the code there shows it in the
@@ -77,6 +113,16 @@ class InBrowser(InFolder):
         self.find("#p2-m1 a").click()
         self.assertTrue(self.look("document.querySelectorAll('details')[1].open"))
         self.assertTrue(self.is_seen("#p2-l3"))
+        self.assert_quiet()
+
+    def test_way_to_a_syllable(self) -> None:
+        """The page by which the language server leads to a syllable shows it."""
+        self.put("long.gabc", SCORE + "Ky(f)ri(g) " * 600)
+        command("show", "-o", "page.html", "long.gabc")
+        self.put("here.html", leading_to("page.html#p1-s900"))
+        self.browser.get(Path("here.html").resolve().as_uri())
+        self.await_(lambda: bool(self.browser.current_url.endswith("page.html#p1-s900")), "another page is open")
+        self.await_(lambda: self.is_seen("#p1-s900"), "the syllable is not seen")
         self.assert_quiet()
 
     def test_hostile(self) -> None:
@@ -125,15 +171,128 @@ class InBrowser(InFolder):
         self.assertEqual(self.look(f"{texts}.filter(it => Math.abs({length} - it.textLength.baseVal.value) > 0.5).map(it => it.textContent)"), [])
 
 
+@unittest.skipUnless(has("starlette") and has("uvicorn"), "there is no starlette, or no uvicorn")
+class Written(Browsing):
+    """The page of `page`, from its server."""
+
+    def setUp(self) -> None:
+        super().setUp()
+        self.server = subprocess.Popen([sys.executable, "-m", "gregorio_chant", "page"], stdout=subprocess.PIPE)
+        self.addCleanup(self.stop)
+        assert self.server.stdout is not None
+        self.here = self.server.stdout.readline().decode().strip()
+        self.browser.get(self.here)
+        self.score = self.find("#score")
+
+    def stop(self) -> None:
+        self.server.send_signal(signal.SIGINT)
+        self.server.communicate(timeout=20)
+
+    def write(self, text: str) -> None:
+        """Writes at the cursor as a keyboard or a paste does."""
+        self.browser.execute_cdp_cmd("Input.insertText", {"text": text})
+
+    def await_seen(self, text: str, selector: str = "#picture svg") -> None:
+        """Waits until a text stands in the picture, or in another part of the page."""
+        script = f"(document.querySelector({json.dumps(selector)})?.textContent ?? '').includes({json.dumps(text)})"
+        self.await_(lambda: bool(self.look(script)), f"{text} is not seen")
+
+    def cursor(self) -> int:
+        return int(self.look("document.querySelector('#score').selectionStart"))
+
+    def test_typing(self) -> None:
+        """What is typed changes picture, messages, canonical form and dump."""
+        self.assertEqual(self.look("document.activeElement.id"), "score")
+        self.write(SCORE)
+        self.await_seen("Nothing was found.", "#messages")
+        self.await_seen("name: Kyrie;\n%%\n(c4)\nKy(f)ri(gfg)e(e.)\n(::)\n", "#canonical")
+        self.await_seen("syllable 2 ", "#dump")
+        self.assertEqual(self.find("#name").text, "Kyrie")
+        before = self.look("document.querySelectorAll('#picture use').length")
+        self.score.send_keys("lei(g5)")
+        self.await_seen("character left out of the notes", "#messages")
+        self.assertGreater(self.look("document.querySelectorAll('#picture use').length"), before)
+        self.assertEqual(self.look("document.querySelector('#picture .code').firstChild.textContent"), "E1")
+        self.assert_quiet()
+
+    def test_clicks(self) -> None:
+        """A click on a message shows it in the picture; one on its place, and one on a syllable, puts the
+        cursor there."""
+        begin = "name: a;\n%%\n(c4) \ufeff\U0001d11e(f) "
+        score = begin + "Ky(f)ri(g) " * 600 + "e(g5)\n" + "Ky(f)ri(g) " * 200
+        self.write(score)
+        self.await_seen("character left out", "#messages")
+        self.find("#messages a[href='#p1-m1-at']").click()
+        self.assertTrue(self.is_seen("#p1-m1-at"))
+        self.assertTrue(self.browser.current_url.startswith(self.here))
+        self.find("#messages li a").click()
+        self.await_(lambda: score.encode("utf-16-le")[2 * self.cursor() :].startswith("5)".encode("utf-16-le")), "the cursor is elsewhere")
+        self.assertEqual(self.look("document.querySelector('#picture .here title').textContent"), "e(g)")
+        self.find("#p1-s2").click()
+        self.await_(lambda: score.encode("utf-16-le")[2 * self.cursor() :].startswith("\U0001d11e(f)".encode("utf-16-le")), "the cursor is elsewhere")
+        self.assert_quiet()
+
+    def test_drop(self) -> None:
+        """A file that is dropped is read, also one that is no UTF-8."""
+        for content, seen in ((b"name: b;\n%%\n(c4) Sanc(f)tus(g)\n", "Sanc"), (b"name: b;\n%%\n(c4) Ag(f)nus(g) \xff", "Ag")):
+            self.browser.execute_script(
+                "const data = new DataTransfer(); data.items.add(new File([new Uint8Array(arguments[0])], 'b.gabc'));"
+                "document.querySelector('#score').dispatchEvent(new DragEvent('drop', { dataTransfer: data, bubbles: true, cancelable: true }))", list(content),
+            )
+            self.await_seen(seen)
+            self.assertTrue(self.look("document.querySelector('#score').value").startswith(content.decode(errors="replace")))
+        self.await_seen("F1", "#messages")
+        self.assert_quiet()
+
+    def test_too_long(self) -> None:
+        """A score that is too long is not sent, and a line says so."""
+        self.browser.execute_script("const it = document.querySelector('#score'); it.value = ' '.repeat(1000001); it.dispatchEvent(new Event('input'))")
+        self.await_seen("A score has 1,000,000 bytes at most here.", "#state")
+        self.assert_quiet()
+
+    def test_hostile(self) -> None:
+        """No script of a score runs, and nothing of it becomes an element."""
+        self.write(HOSTILE)
+        self.await_seen("<script>alert(1)</script>")
+        self.assertEqual(self.look("document.querySelectorAll('foo, b, img, #picture script, #messages script').length"), 0)
+        self.assert_quiet()
+
+    def test_another_name(self) -> None:
+        """By a name that leads to this machine the page is not to be had."""
+        self.browser.get(self.here.replace("127.0.0.1", "localhost.example"))
+        self.assertEqual(self.find("body").text, "only for pages of this server")
+
+    def test_narrow(self) -> None:
+        self.write((EXAMPLES / "hymn.gabc").read_text())
+        self.await_seen("Nothing was found.", "#messages")
+        self.browser.execute_cdp_cmd("Emulation.setDeviceMetricsOverride", {"width": 340, "height": 700, "deviceScaleFactor": 1, "mobile": True})
+        self.assertLessEqual(self.look("document.documentElement.scrollWidth"), 340)
+        self.assert_quiet()
+
+    def test_server_that_ends(self) -> None:
+        self.stop()
+        self.write("a")
+        self.await_seen("The server has ended", "#state")
+
+
 @unittest.skipUnless(shutil.which("rsvg-convert"), "there is no rsvg-convert")
 class ByConverter(InFolder):
     def test_pictures(self) -> None:
         """rsvg-convert makes each picture to PNG with no warning, at 100 and at 300 dots per
         inch."""
+        self.convert_all(OWN, scores_of_tables()[::10])
+
+    @unittest.skipUnless(has("fontTools") and GRECILIAE.exists(), "there is no fontTools, or no Greciliae")
+    def test_font(self) -> None:
+        """So it does with the outlines of a font, for each example and neume."""
+        from gregorio_chant.picture.font import face_of
+        self.convert_all(face_of(str(GRECILIAE)), [])
+
+    def convert_all(self, face: Face, more: list[bytes]) -> None:
         kinds = f"name: x;\n%%\n(c4) a({' '.join(KINDS.values()).replace('wg', 'fwg')})\n".encode()
-        scores = [*(it.read_bytes() for it in sorted(EXAMPLES.glob("*.gabc"))), HOSTILE.encode(), kinds, *scores_of_tables()[::10]]
+        scores = [*(it.read_bytes() for it in sorted(EXAMPLES.glob("*.gabc"))), HOSTILE.encode(), kinds, *more]
         for score in scores:
             for dots in ("100", "300"):
-                self.put("a.svg", draw(score).svg)
+                self.put("a.svg", draw(score, face=face).svg)
                 made = subprocess.run(["rsvg-convert", "-d", dots, "-p", dots, "a.svg"], capture_output=True, check=False)
                 self.assertEqual((made.returncode, made.stderr, made.stdout[:4]), (0, b"", b"\x89PNG"))

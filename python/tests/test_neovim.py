@@ -59,6 +59,13 @@ vim.api.nvim_win_set_cursor(0, { 3, 0 })
 vim.lsp.buf.code_action()
 put("repaired", await(0))
 put("symbols", ask("documentSymbol", {}))
+local shown
+local function keep(_, told) shown = told.uri or told.message:match("file:.*") return { success = true } end
+vim.lsp.handlers["window/showDocument"], vim.lsp.handlers["window/showMessage"] = keep, keep
+vim.api.nvim_win_set_cursor(0, { 3, 5 })
+vim.cmd("GregorioShow")
+vim.wait(20000, function() return shown end, 20)
+put("picture", table.concat(vim.fn.readfile(vim.uri_to_fname(shown)), "\\n"):match('<a href="(.-)"'))
 line(2, "(c4) <sp>")
 put("completed", vim.list_slice(ask("completion", { position = { line = 2, character = 9 } }), 1, 2))
 line(2, "(c4) <s")
@@ -134,6 +141,7 @@ qall!
                 ["a repair is wanted", [[2, 7, "E2", "character left out of the text"]], [*head, "(c4) Ky>(f)ri(g)"]],
                 ["repaired", [], [*head, "(c4) Ky$>(f)ri(g)"]],
                 ["symbols", ["name: Kyrie", "1. Ky>ri"], [*head, "(c4) Ky$>(f)ri(g)"]],
+                ["picture", "1.html#s2", [*head, "(c4) Ky$>(f)ri(g)"]],
                 ["completed", ["ae", "oe"], [*head, "(c4) <sp>"]],
                 ["completed by omnifunc", [6, "<sc>", "<sp>"], [*head, "(c4) <s"]],
                 ["another score", [[2, 1, "clef-off-staff", "the clef c5 wants a line 5, and the staff has 4 lines"]], other],

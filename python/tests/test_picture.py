@@ -7,6 +7,7 @@ from __future__ import annotations
 
 import doctest
 import re
+import subprocess
 import sys
 import time
 import unittest
@@ -37,7 +38,7 @@ KINDS = {
     "pes-subpunctis-resupinus": "fgFEg", "scandicus-subpunctis-resupinus": "fghGFh", "climacus": "hGF hvGFE", "climacus-resupinus": "hGFg", "inclinata": "F FGF",
     "scandicus-flexus-subpunctis": "fghgFE", "torculus-resupinus-subpunctis": "fgfgF",
     "punctum": "f f~ f< f> -f f. f.. f' f'1 f_ f_0 fr1 fr8", "virga": "fv", "virga-reversa": "fV", "bivirga": "fvv", "trivirga": "fvvv", "stropha": "fs fs<",
-    "distropha": "fss", "tristropha": "fsss", "oriscus": "fo", "oriscus-scapus": "fO", "quilisma": "fw", "quilisma-quadratum": "fW", "quadratum": "fq",
+    "distropha": "fss", "tristropha": "fsss", "oriscus": "fo fo0", "oriscus-scapus": "fO", "quilisma": "fw", "quilisma-quadratum": "fW", "quadratum": "fq",
     "cavum": "fr fr0", "lined": "fR", "linea": "f=",
 }
 HOSTILE = (
@@ -129,8 +130,26 @@ class Layouts(unittest.TestCase):
         lines = lay_out(Score.parse("name: x;\n%%\n(c4) a(f) b(g) (z) c(j) (z-) d(e) (f3) e(f) (Z+) g(g)\n").syllables, 700.0)
         ends = [[it for it in line.signs if not isinstance(it, Rect) and it.shape.startswith("custos")] for line in lines]
         self.assertEqual([[(it.shape, it.y) for it in line] for line in ends], [[("custos-down", height_of(6))], [], [("custos-up", height_of(3))], []])
+        own = lay_out(Score.parse("name: x;\n%%\n(c4) a(f) (z0) (z) c(j)\n").syllables, 700.0)
+        self.assertEqual([it.shape for it in own[0].signs if not isinstance(it, Rect)], [], "a custos of the score stands at the end already")
         clefs = [[it.shape for it in line.signs if not isinstance(it, Rect) and it.shape.endswith("clef")] for line in lines]
         self.assertEqual(clefs, [[], ["c-clef"], ["c-clef"], ["f-clef"]])
+
+    def test_orisci(self) -> None:
+        """An oriscus points to the next other pitch, down where there is none, or as it is told."""
+        for notes, shape in (("fo/g", ""), ("fo/fo/g", ""), ("fo/e", "-down"), ("fo", "-down"), ("fo1/e", ""), ("fo0/g", "-down"), ("fo/f", "-down")):
+            drawn = [it for it in _drawn(notes) if it[0].startswith("oriscus")]
+            self.assertEqual(drawn[0][0], f"oriscus{shape}", notes)
+        lines = lay_out(Score.parse("name: x;\n%%\n(c4) a(fo) b(f) c(g)\n").syllables, 700.0)
+        self.assertIn("oriscus-down", [it.shape for _, block in lines[0].parts[1].part.blocks for it in block.signs if not isinstance(it, Rect)])
+
+    def test_fusion(self) -> None:
+        """Two neumes that are fused are joined by a line."""
+        apart, fused = _block_signs("gfg/h"), _block_signs("gfg@h")
+        self.assertEqual(len(fused) - len(apart), 1)
+        (join,) = [it for it in fused if isinstance(it, Rect) and it not in apart]
+        self.assertEqual((join.y, join.height), (height_of(4), 5.0))
+        self.assertEqual(_block_signs("f@g h"), _block_signs("fg h"))
 
     def test_staffs(self) -> None:
         self.assertEqual([staff_lines(it) for it in (None, "2", "3", " 5 ", "6", "1", "x", "")], [4, 2, 3, 5, 4, 4, 4, 4])
@@ -208,6 +227,12 @@ def _syllables(score: bytes) -> tuple[Syllable, ...]:
         return Score.parse(score).syllables
     except ScoreError:
         return ()
+
+
+def _block_signs(notes: str) -> list[Sign]:
+    """Returns all signs of the second syllable, each from the left of its block."""
+    part = lay_out(score_with(notes).syllables, 700.0)[0].parts[1].part
+    return [it for _, block in part.blocks for it in block.signs]
 
 
 def _block(notes: str) -> tuple[Sign, ...]:
@@ -357,6 +382,22 @@ class Sizes(unittest.TestCase):
         for body in ("Ky(fgf)ri(gfg/e) ", "a(f&)b ", "<x>a(g) "):
             times = [_least_time(lambda: picture(f"name: x;\n%%\n(c4) {body * count}\n"), 2) for count in (100, 1000)]
             self.assertLess(times[1], 20 * times[0] + 0.1, body)
+
+
+class Large(unittest.TestCase):
+    def test_memory_and_time(self) -> None:
+        """A score of 200 kB takes less than 100 MB, and of a processor less than twice what 15 seconds
+        a megabyte are: others work beside a test."""
+        script = (
+            "import resource, time\nfrom gregorio_chant.picture import draw\n"
+            "data = b'name: x;\\n%%\\n(c4) ' + b'Ky(fgf)ri(gfg/e)e(e.) le(gh)i(f) ' * 5500\n"
+            "before = time.process_time()\ndraw(data)\ntaken = time.process_time() - before\n"
+            "print(len(data), taken, resource.getrusage(resource.RUSAGE_SELF).ru_maxrss)"
+        )
+        size, seconds, kilobytes = (float(it) for it in subprocess.run([sys.executable, "-c", script], capture_output=True, check=True).stdout.split())
+        self.assertGreater(size, 170_000)
+        self.assertLess(seconds * 1e6 / size, 30)
+        self.assertLess(kilobytes, 100_000)
 
 
 def _least_time(work: Callable[[], object], times: int = 5) -> float:

@@ -19,7 +19,7 @@ from test_picture import HOSTILE
 
 WARNED = "name: b;\n%%\n(c4) <x>Ky(g)ri(g)\n"
 FATAL = "name: c;\n%%\n(c4) Ky(g)ri(g\n"
-_VOID = ("meta", "br")
+_VOID = ("meta", "br", "link")
 
 
 class Page(HTMLParser):
@@ -210,7 +210,7 @@ class Output(InFolder):
             self.assertEqual(command("show", "--svg", *words).returncode, 3, words)
 
     def test_words_refused(self) -> None:
-        for words in ((), ("--width", "0", "a.gabc"), ("--width", "x", "a.gabc"), ("--font", "x", "a.gabc")):
+        for words in ((), ("--width", "0", "a.gabc"), ("--width", "x", "a.gabc"), ("--font",)):
             self.assertEqual(command("show", *words).returncode, 3, words)
 
     def test_what_cannot_be_read_or_written(self) -> None:

@@ -16,6 +16,7 @@ from gregorio_chant.library import compile
 from gregorio_chant.results import Status
 from gregorio_chant.server.actions import FIX_ALL
 from gregorio_chant.server.completion import TRIGGERS
+from gregorio_chant.server.features import SHOW
 from gregorio_chant.server.tokens import KINDS as TOKENS
 from support import EXAMPLES, ROOT, InFolder
 
@@ -65,13 +66,18 @@ class Extension(InFolder):
         self.assertEqual((ran.returncode, ran.stderr), (0, b""))
         shown = json.loads(ran.stdout)
         self.check_shown(shown)
-        self.check_said(frames(Path("said").read_bytes()))
+        said = frames(Path("said").read_bytes())
+        self.check_said([it for it in said if "method" in it])
+        self.assertEqual([it["result"] for it in said if "method" not in it], [{"success": True}])
+        (command,) = [it["params"] for it in said if it.get("method") == "workspace/executeCommand"]
+        self.assertEqual(command, {"command": SHOW, "arguments": [DOCUMENT["uri"], {"line": 2, "character": 6}]})
 
     def check_shown(self, shown: dict[str, Any]) -> None:
         (message, other) = shown["opened"]
         self.assertEqual((message["code"], message["severity"], message["source"], message["range"]["start"]), ("W3", 1, "gregorio-chant", {"line": 2, "character": 10}))
         self.assertEqual(other["code"], "W3")
-        self.assertEqual(shown["subscriptions"], 13)
+        self.assertEqual(shown["subscriptions"], 14)
+        self.assertIn('<a href="1.html#s1">', shown["shown"])
         repair = shown["actions"][0]
         self.assertEqual((repair["kind"]["value"], repair["isPreferred"], len(repair["edit"]["edits"]), repair["diagnostics"]), ("quickfix", True, 2, [message]))
         self.assertEqual([it["kind"]["value"] for it in shown["all"]], ["source.fixAll.gregorio-chant"])
@@ -114,7 +120,7 @@ class Extension(InFolder):
     def test_words_of_the_server(self) -> None:
         """What the extension has to know before the server answers is what the server says."""
         script = (EXTENSION / "extension.js").read_text(encoding="utf-8")
-        for name, words in (("TOKENS", TOKENS), ("TRIGGERS", TRIGGERS), ("FIX_ALL", FIX_ALL)):
+        for name, words in (("TOKENS", TOKENS), ("TRIGGERS", TRIGGERS), ("FIX_ALL", FIX_ALL), ("SHOW", SHOW)):
             found = re.search(rf"^const {name} = (.*);$", script, re.MULTILINE)
             self.assertEqual(found and json.loads(found[1]), words)
 

@@ -46,6 +46,7 @@ const registering = (name) => (selector, provider, ...others) => {
   return { dispose() {}, others };
 };
 let await_ = null;
+let opened = null;
 const vscode = {
   Position, Range,
   CodeActionKind: { Empty: new Kind("") },
@@ -70,7 +71,8 @@ const vscode = {
     }
   },
   Uri: { parse: (text) => ({ toString: () => text }) },
-  commands: { registerCommand: (name, run) => listening("restart")(run) },
+  commands: { registerCommand: (name, run) => listening(name.replace("gregorio-chant.", ""))(run) },
+  env: { openExternal: async (uri) => (opened ? opened(uri.toString()) : undefined, true) },
   languages: {
     createDiagnosticCollection: () => ({
       clear: () => shown.push("cleared"),
@@ -143,6 +145,13 @@ async function main() {
   results.refused = await providers.format.provideDocumentFormattingEdits(document, {}, token);
   document.text = "%%\n(c4) a(f)\n";
   next = messages();
+  await listeners.show();
+  vscode.window.activeTextEditor = { document: other, selection: { active: at } };
+  await listeners.show();
+  vscode.window.activeTextEditor = { document, selection: { active: new Position(2, 6) } };
+  const address = new Promise((resolve) => (opened = resolve));
+  await listeners.show();
+  results.shown = require("fs").readFileSync(new URL(await address), "utf8");
   await listeners.restart();
   results.again = await next;
   next = messages();

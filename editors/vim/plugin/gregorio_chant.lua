@@ -18,6 +18,13 @@ local function config()
   }
 end
 
+-- Has the picture of the score opened in a browser, at the cursor.
+local function show()
+  local at = vim.lsp.util.make_position_params(0, "utf-16")
+  local words = { command = "gregorio-chant.show", arguments = { at.textDocument.uri, at.position } }
+  vim.lsp.buf_request(0, "workspace/executeCommand", words, function() end)
+end
+
 local function attach(buffer)
   if vim.fn.executable(config().cmd[1]) == 0 then
     vim.notify_once(config().cmd[1] .. " is not on the path: scores have no messages", vim.log.levels.WARN)
@@ -32,6 +39,7 @@ local function attach(buffer)
     client = client or vim.lsp.start_client(config())
     vim.lsp.buf_attach_client(buffer, client)
   end
+  vim.api.nvim_buf_create_user_command(buffer, "GregorioShow", show, {})
   vim.bo[buffer].omnifunc = "v:lua.vim.lsp.omnifunc"
   vim.bo[buffer].formatexpr = "v:lua.vim.lsp.formatexpr()"
 end

@@ -5,7 +5,7 @@ import argparse
 
 from gregorio_chant.commands.words import OUTSIDE, STATUSES, Parser, add_files, add_no_config, examples, paths_of, positive, settings_of
 from gregorio_chant.exporting import Wanted, Write, export
-from gregorio_chant.needs import Missing
+from gregorio_chant.needs import need
 from gregorio_chant.selection import UnknownCode
 
 NAME = "export"
@@ -31,10 +31,8 @@ def add(commands: argparse._SubParsersAction[Parser]) -> Parser:
 
 
 def _writer(notes_a_minute: int) -> Write:
-    try:
-        from gregorio_chant.midi import midi_of
-    except ImportError:
-        raise Missing("export --to midi", "mido") from None
+    need("export --to midi", "mido")
+    from gregorio_chant.midi import midi_of
     return lambda score: midi_of(score, notes_a_minute)
 
 

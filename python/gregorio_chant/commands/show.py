@@ -5,7 +5,10 @@ import argparse
 
 from gregorio_chant import showing
 from gregorio_chant.commands.words import OUTSIDE, STATUSES, Parser, add_files, add_no_config, examples, paths_of, positive, settings_of
-from gregorio_chant.picture import USUAL_WIDTH
+from gregorio_chant.needs import need
+from gregorio_chant.picture import OWN, USUAL_WIDTH, Face
+from gregorio_chant.selection import UnknownCode
+from gregorio_chant.streams import CANNOT_READ_OR_WRITE, printable, reason_of, tell
 
 NAME = "show"
 _ABOUT = f"""Writes a page with a picture of each score, its messages and its source. The page stands alone: it needs no script and no network. Of the scores of
@@ -27,6 +30,8 @@ def add(commands: argparse._SubParsersAction[Parser]) -> Parser:
     )
     it.add_argument("--svg", action="store_true", help="write the picture of one score alone, as SVG")
     it.add_argument("--width", type=positive, default=int(USUAL_WIDTH), metavar="N", help="how wide a picture is, in pixels (as ever %(default)s)")
+    it.add_argument("--font", metavar="FILE", help="draw neumes with the outlines of this font, which has the glyph names of GregorioTeX, as greciliae.ttf")
+    it.add_argument("--watch", action="store_true", help="write again when a score changes, until Control-C ends it")
     it.add_argument("--rules", action="store_true", help="show what the rules find too; they stand outside the proof of the compiler")
     add_no_config(it)
     return it
@@ -34,6 +39,28 @@ def add(commands: argparse._SubParsersAction[Parser]) -> Parser:
 
 def run(words: argparse.Namespace) -> int:
     """Writes the page. Raises `UnknownCode`, `CannotWrite`, `Missing` and `SettingsError`."""
-    return showing.show(showing.Wanted(
-        paths_of(words), words.output, words.svg, float(words.width), words.rules, tuple(words.exclude), settings_of(words),
-    ))
+    try:
+        face = OWN if words.font is None else _face_of(words.font)
+    except OSError as error:
+        tell(f"cannot read {printable(words.font)}: {reason_of(error)}")
+        return CANNOT_READ_OR_WRITE
+
+    def wanted() -> showing.Wanted:
+        return showing.Wanted(
+            paths_of(words), words.output, words.svg, face, float(words.width), words.rules, tuple(words.exclude), settings_of(words),
+        )
+
+    if not words.watch:
+        return showing.show(wanted())
+    need("show --watch", "watchdog")
+    from gregorio_chant.watching import watch
+    return watch(wanted)
+
+
+def _face_of(font: str) -> Face:
+    need("show --font", "fonttools")
+    from gregorio_chant.picture.font import NoFace, face_of
+    try:
+        return face_of(font)
+    except NoFace:
+        raise UnknownCode(f"--font {printable(font)}: it is no font with the glyph names of GregorioTeX, as greciliae.ttf") from None

@@ -2,17 +2,17 @@
 its signs and the distance after it."""
 from __future__ import annotations
 
-from collections.abc import Iterable
-from typing import NamedTuple
-
+from collections.abc import Iterable, Sequence
 from gregorio_chant.items import (
     Alteration, Bar, Break, Clef, Custos, Descriptor, Fusion, Glyph, Item, NabcSnippet, Note, NoteSnippet, Space, Syllable,
 )
 from gregorio_chant.picture import staff
-from gregorio_chant.picture.neumes import neume_of
+from gregorio_chant.picture.faces import OWN, Drawn, Face
+from gregorio_chant.picture.neumes import has_oriscus, neume_of
 from gregorio_chant.picture.rhythm import signs_around
+from gregorio_chant.picture.shapes import STEM
 from gregorio_chant.picture.shown import shown
-from gregorio_chant.picture.values import Block, Sign, Words
+from gregorio_chant.picture.values import Block, Rect, Sign, Words, height_of, step_of
 from gregorio_chant.picture.widths import width_of
 
 NABC_SIZE, NABC_ROW = 9.0, 12.0
@@ -35,31 +35,21 @@ def _distance(space: Space) -> float:
     return _BLANK * min(max(factor, -0.5), 10.0) if factor == factor else _BLANK
 
 
-class _Drawn(NamedTuple):
-    """A neume with all signs around it."""
-
-    signs: tuple[Sign, ...]
-    width: float
-    anchor: float
-
-
 _MOST_KEPT = 4096
-_kept: dict[tuple[str, str, int], _Drawn] = {}
 
 
-def _drawn(glyph: Glyph, lines: int) -> _Drawn:
-    """Returns a neume with its signs. Those drawn last are kept, since a score has few neumes,
-    and each often."""
-    key = (glyph.kind, glyph.spelling, lines)
-    drawn = _kept.get(key)
+def _drawn(glyph: Glyph, lines: int, face: Face, following: str | None) -> Drawn:
+    """Returns a neume with its signs. Those drawn last are kept."""
+    key = (glyph.kind, glyph.spelling, lines, following)
+    drawn = face.kept.get(key)
     if drawn is None:
-        neume = neume_of(glyph)
+        neume = neume_of(glyph, face, following)
         around, more = signs_around(neume, lines)
         first = neume.heads[0]
-        drawn = _Drawn((*around, *neume.signs), neume.width + more, first.x + first.width / 2)
-        if len(_kept) >= _MOST_KEPT:
-            _kept.clear()
-        _kept[key] = drawn
+        drawn = Drawn((*around, *neume.signs), neume.width + more, first.x + first.width / 2)
+        if len(face.kept) >= _MOST_KEPT:
+            face.kept.clear()
+        face.kept[key] = drawn
     return drawn
 
 
@@ -67,14 +57,17 @@ class _Writer:
     """Writes the blocks of one snippet of notes on a staff of `lines` lines; `following` is the
     pitch that comes after it."""
 
-    def __init__(self, snippet: NoteSnippet, lines: int, following: str | None) -> None:
+    def __init__(self, snippet: NoteSnippet, lines: int, following: str | None, face: Face) -> None:
         self._glyphs: dict[int, Glyph] = {it.notes[0].place.offset: it for element in snippet.elements for it in element.glyphs}
-        self._lines = lines
+        self._snippet, self._lines, self._face = snippet, lines, face
         self._following = following
         self.blocks: list[Block] = []
         self._has_space = False
+        # The last note, where the next one is fused to it.
+        self._fused: Note | None = None
+        self._last: Note | None = None
 
-    def add(self, item: Item, following: str | None) -> None:
+    def add(self, item: Item) -> None:
         if isinstance(item, Note):
             glyph = self._glyphs.get(item.place.offset)
             if glyph is not None:
@@ -82,13 +75,16 @@ class _Writer:
         elif isinstance(item, Space):
             self._add_space(_distance(item))
         elif isinstance(item, Fusion):
-            self._add_space(0.0)
+            # One within a neume is part of that.
+            if self._last is None or item.place.offset > self._last.place.offset:
+                self._add_space(0.0)
+                self._fused = self._last
         elif isinstance(item, Break):
             if not self.blocks:
                 self._put(Block(item.place.offset, (), 0.0))
             self.blocks[-1].ends_line = item.spelling
         elif isinstance(item, (Clef, Alteration, Bar, Custos)):
-            self._add_sign(item, following)
+            self._add_sign(item)
 
     def _put(self, block: Block) -> None:
         self.blocks.append(block)
@@ -101,34 +97,44 @@ class _Writer:
             self._has_space = True
 
     def _add_neume(self, glyph: Glyph) -> None:
-        drawn = _drawn(glyph, self._lines)
-        self._put(Block(glyph.place.offset, drawn.signs, drawn.width, _AFTER_NEUME, drawn.anchor, glyph.notes[0].pitch))
+        first, last = glyph.notes[0], glyph.notes[-1]
+        drawn = _drawn(glyph, self._lines, self._face, self._pitch_after(last, last.pitch) if has_oriscus(glyph) else None)
+        signs = drawn.signs
+        if self._fused is not None:
+            signs = (_join(height_of(step_of(self._fused.pitch)), height_of(step_of(first.pitch))), *signs)
+        self._put(Block(glyph.place.offset, signs, drawn.width, _AFTER_NEUME, drawn.anchor, first.pitch))
+        self._fused, self._last = None, last
 
-    def _add_sign(self, item: Clef | Alteration | Bar | Custos, following: str | None) -> None:
+    def _pitch_after(self, item: Item, other_than: str | None = None) -> str | None:
+        """Returns the first pitch after an item that is not `other_than`."""
+        notes = (it for it in self._snippet.items if isinstance(it, Note) and it.place.offset > item.place.offset)
+        return next((it.pitch for it in notes if it.pitch != other_than), self._following)
+
+    def _add_sign(self, item: Clef | Alteration | Bar | Custos) -> None:
         offset = item.place.offset
         if isinstance(item, Clef):
-            signs, width = staff.clef(item.spelling)
+            signs, width = staff.clef(item.spelling, self._face.shapes)
             self._put(Block(offset, signs, width, _AFTER_CLEF, clef=item))
         elif isinstance(item, Alteration):
-            signs, width = staff.alteration(item)
+            signs, width = staff.alteration(item, self._face.shapes)
             self._put(Block(offset, signs, width, _AFTER_ALTERATION))
         elif isinstance(item, Bar):
             signs, width = staff.bar(item, self._lines)
             self._put(Block(offset, signs, width, _AFTER_BAR, width / 2, is_bar=True))
-        elif (pitch := item.pitch or following) is not None:
-            signs, width = staff.custos(pitch, self._lines)
-            self._put(Block(offset, signs, width, _AFTER_CUSTOS))
+        elif (pitch := item.pitch or self._pitch_after(item)) is not None:
+            signs, width = staff.custos(pitch, self._lines, self._face.shapes)
+            self._put(Block(offset, signs, width, _AFTER_CUSTOS, is_custos=True))
 
 
-def _blocks_of_notes(snippet: NoteSnippet, lines: int, following: str | None) -> list[Block]:
-    writer = _Writer(snippet, lines, following)
-    pitches: list[str | None] = []
-    pitch = following
-    for item in reversed(snippet.items):
-        pitches.append(pitch)
-        pitch = item.pitch if isinstance(item, Note) else pitch
-    for item, after in zip(snippet.items, reversed(pitches)):
-        writer.add(item, after)
+def _join(before: float, here: float) -> Rect:
+    """Returns the line from the note before a neume to its first one, where both are fused."""
+    return Rect(-STEM / 2, min(before, here), STEM, abs(before - here))
+
+
+def _blocks_of_notes(snippet: NoteSnippet, lines: int, following: str | None, face: Face) -> list[Block]:
+    writer = _Writer(snippet, lines, following, face)
+    for item in snippet.items:
+        writer.add(item)
     return writer.blocks
 
 
@@ -154,10 +160,12 @@ def _with_nabc(blocks: list[Block], snippets: list[NabcSnippet], offset: int) ->
     return blocks
 
 
-def blocks_of(syllable: Syllable, lines: int, following: str | None) -> list[Block]:
+def blocks_of(syllable: Syllable, lines: int, following: str | None, face: Face = OWN) -> list[Block]:
     """Returns the blocks of a syllable; `following` is the first pitch after it."""
+    snippets = syllable.snippets
+    if len(snippets) == 1 and isinstance(snippets[0], NoteSnippet):
+        return _blocks_of_notes(snippets[0], lines, following, face)
     blocks: list[Block] = []
-    snippets = list(syllable.snippets)
     nabc: list[NabcSnippet] = []
     group: list[Block] = []
     after = _pitches_after(snippets, following)
@@ -166,18 +174,23 @@ def blocks_of(syllable: Syllable, lines: int, following: str | None) -> list[Blo
             nabc.append(snippet)
             continue
         blocks += _with_nabc(group, nabc, snippet.place.offset)
-        nabc, group = [], _blocks_of_notes(snippet, lines, after[at])
+        nabc, group = [], _blocks_of_notes(snippet, lines, after[at], face)
     return blocks + _with_nabc(group, nabc, syllable.place.offset)
 
 
-def _pitches_after(snippets: Iterable[NoteSnippet | NabcSnippet], following: str | None) -> list[str | None]:
-    """Returns the first pitch after each snippet."""
-    pitches: list[str | None] = []
-    for snippet in reversed(list(snippets)):
-        pitches.append(following)
+def first_pitch(snippets: Sequence[NoteSnippet | NabcSnippet]) -> str | None:
+    """Returns the first pitch of some snippets, if they have one."""
+    for snippet in snippets:
         if isinstance(snippet, NoteSnippet):
-            following = next((it.pitch for it in snippet.items if isinstance(it, Note)), following)
-    return pitches[::-1]
+            for it in snippet.items:
+                if isinstance(it, Note):
+                    return it.pitch
+    return None
+
+
+def _pitches_after(snippets: Sequence[NoteSnippet | NabcSnippet], following: str | None) -> list[str | None]:
+    """Returns the first pitch after each snippet."""
+    return [first_pitch(snippets[at:]) or following for at in range(1, len(snippets) + 1)]
 
 
 def moved(signs: Iterable[Sign], x: float) -> list[Sign]:

@@ -3,14 +3,14 @@ from __future__ import annotations
 
 from collections.abc import Iterable, Iterator, Sequence
 from dataclasses import dataclass
-from xml.etree import ElementTree as Xml
 
 from gregorio_chant import library
 from gregorio_chant.dump import Header, Syllable, read_in_turn
 from gregorio_chant.picture.codes import CODE_ROW, codes_of
+from gregorio_chant.picture.faces import OWN, Face
 from gregorio_chant.picture.layout import Layout, staff_lines
+from gregorio_chant.picture.markup import Markup, element, joined, text
 from gregorio_chant.picture.marks import Mark, Places, places_of
-from gregorio_chant.picture.shapes import SHAPES
 from gregorio_chant.picture.shown import shown
 from gregorio_chant.picture.svg import MARGIN, STYLE, Names, Painter, number
 from gregorio_chant.picture.widths import width_of
@@ -53,14 +53,16 @@ class _Headers:
         return next(iter(reversed(self.all(name))), "")
 
 
-def draw(data: bytes, messages: Sequence[Message] | None = None, *, width: float = USUAL_WIDTH, names: Names = Names()) -> Picture:
-    """Returns a picture of a score, `width` units wide, with these messages: all of the
-    compiler's where none are given."""
+def draw(
+    data: bytes, messages: Sequence[Message] | None = None, *, width: float = USUAL_WIDTH, names: Names = Names(), face: Face = OWN,
+) -> Picture:
+    """Returns a picture of a score, `width` units wide, in the shapes of a face and with these
+    messages: all of the compiler's where none are given."""
     told = tuple(library.check(data).messages if messages is None else messages)
     dump = library.compile(data, Format.DUMP).output
     headers, syllables = read_in_turn(dump) if dump else ((), iter(()))
     places = places_of(data, told, dump.count("\nsyllable "))
-    drawing = _Drawing(_Headers(headers), syllables, places, max(width, _LEAST_WIDTH), names)
+    drawing = _Drawing(_Headers(headers), syllables, places, max(width, _LEAST_WIDTH), names, face)
     body = list(drawing.body() if dump else drawing.nothing())
     name = _Headers(headers).last("name")
     return Picture(name, told, [drawing.head(name), *body, "</svg>\n"], drawing.places)
@@ -74,14 +76,14 @@ def picture(score: str | bytes, *, width: float = USUAL_WIDTH) -> str:
 class _Drawing:
     """Draws line by line, and knows how high the picture is so far."""
 
-    def __init__(self, headers: _Headers, syllables: Iterable[Syllable], places: Places, width: float, names: Names) -> None:
+    def __init__(self, headers: _Headers, syllables: Iterable[Syllable], places: Places, width: float, names: Names, face: Face) -> None:
         self._headers = headers
-        self._names = names
+        self._names, self._face = names, face
         self._places = places
         self._width = width
         self._inner = width - 2 * MARGIN
         staff = staff_lines(headers.last("staff-lines"))
-        self._layout = Layout(syllables, self._inner, staff)
+        self._layout = Layout(syllables, self._inner, staff, face)
         self._painter = Painter(names, places, staff)
         self._y = MARGIN
 
@@ -92,18 +94,20 @@ class _Drawing:
     def head(self, name: str) -> str:
         """Returns what stands before the lines; it is known once they are drawn."""
         height = number(self._y + MARGIN)
-        root = Xml.Element("svg", {
+        inside = [element("title", {}, text(shown(name) or "A score without a name"))]
+        if self._face.origin:
+            inside.append(element("metadata", {}, text(shown(self._face.origin))))
+        if not self._names.links:
+            inside.append(element("style", {}, text(STYLE)))
+        inside += [element("defs", {}, joined([self._shape(it) for it in sorted(self._painter.used)]))]
+        inside.append(element("rect", {"class": "paper", "width": "100%", "height": "100%"}))
+        return element("svg", {
             "xmlns": "http://www.w3.org/2000/svg", "viewBox": f"0 0 {number(self._width)} {height}", "width": number(self._width), "height": height,
             "class": "chant", "font-size": "16", **({} if self._names.links else {"role": "img"}),
-        })
-        Xml.SubElement(root, "title").text = shown(name) or "A score without a name"
-        if not self._names.links:
-            Xml.SubElement(root, "style").text = STYLE
-        shapes = Xml.SubElement(root, "defs")
-        for shape in sorted(self._painter.used):
-            Xml.SubElement(shapes, "path", {"id": self._names.shape(shape), "d": SHAPES[shape].path, "fill-rule": "evenodd"})
-        Xml.SubElement(root, "rect", {"class": "paper", "width": "100%", "height": "100%"})
-        return Xml.tostring(root, encoding="unicode").removesuffix("</svg>") + "\n"
+        }, joined(inside)).removesuffix("</svg>") + "\n"
+
+    def _shape(self, name: str) -> Markup:
+        return element("path", {"id": self._names.shape(name), "d": self._face.shapes[name].path, "fill-rule": "evenodd"})
 
     def body(self) -> Iterator[str]:
         """Yields the title, each line, and the notes at the end."""
@@ -124,14 +128,12 @@ class _Drawing:
         yield from self._codes((*self._places.before, *self._places.after))
         yield self._note(_NO_SCORE)
 
-    def _text(self, text: str, x: float, size: float, **attributes: str) -> str:
-        element = Xml.Element("text", {"x": number(x), "y": number(self._y), "font-size": number(size), **attributes})
-        element.text = shown(text)
-        return Xml.tostring(element, encoding="unicode") + "\n"
+    def _text(self, words: str, x: float, size: float, **attributes: str) -> str:
+        return element("text", {"x": number(x), "y": number(self._y), "font-size": number(size), **attributes}, text(shown(words))) + "\n"
 
-    def _note(self, text: str) -> str:
+    def _note(self, words: str) -> str:
         self._y += _NOTE_SIZE + 4.0
-        return self._text(text, MARGIN, _NOTE_SIZE)
+        return self._text(words, MARGIN, _NOTE_SIZE)
 
     def _title(self) -> Iterator[str]:
         """Yields the name over the score, the annotations at its left and the commentary at its
@@ -151,20 +153,19 @@ class _Drawing:
             yield self._fitted(commentary, self._width - MARGIN, _HEAD_SIZE, self._inner / 2, "end")
         self._y += 6.0
 
-    def _fitted(self, text: str, x: float, size: float, room: float, anchor: str) -> str:
+    def _fitted(self, words: str, x: float, size: float, room: float, anchor: str) -> str:
         """Returns a text that takes at most `room`."""
-        text = " ".join(text.split())
-        most = len(text)
-        while most > 1 and width_of(text[:most], size) > room:
+        words = " ".join(words.split())
+        most = len(words)
+        while most > 1 and width_of(words[:most], size) > room:
             most = most * 9 // 10
-        return self._text(text if most == len(text) else text[:most] + "…", x, size, **{"text-anchor": anchor})
+        return self._text(words if most == len(words) else words[:most] + "…", x, size, **{"text-anchor": anchor})
 
     def _codes(self, marks: Sequence[Mark]) -> Iterator[str]:
         """Yields the codes of messages that belong to no syllable, with their places and texts,
         a line each."""
         for mark in marks:
             self._y += CODE_ROW + 2.0
-            group = Xml.Element("g")
             message = mark.message
-            self._painter.code(group, mark, MARGIN, self._y, f"{message.code} {message.line}:{message.column} {message.text}")
-            yield Xml.tostring(group, encoding="unicode") + "\n"
+            words = f"{message.code} {message.line}:{message.column} {message.text}"
+            yield element("g", {}, self._painter.code(mark, MARGIN, self._y, words)) + "\n"

@@ -6,6 +6,8 @@ from collections.abc import Iterable, Iterator
 from dataclasses import dataclass
 
 from gregorio_chant.items import Attribute, Syllable
+from gregorio_chant.picture.blocks import first_pitch
+from gregorio_chant.picture.faces import OWN, Face
 from gregorio_chant.picture.lines import LineMaker
 from gregorio_chant.picture.parts import parts_of
 from gregorio_chant.picture.values import Line, Part
@@ -26,10 +28,11 @@ def _with_pitches(syllables: Iterable[Syllable]) -> Iterator[tuple[Syllable, str
     waiting: list[Syllable] = []
     for syllable in syllables:
         if waiting:
-            pitch = next((note.pitch for note in syllable.notes), None)
+            pitch = first_pitch(syllable.snippets)
             if pitch is not None:
-                yield from ((it, pitch) for it in waiting)
-                waiting = []
+                for it in waiting:
+                    yield it, pitch
+                waiting.clear()
         waiting.append(syllable)
     yield from ((it, None) for it in waiting)
 
@@ -42,12 +45,13 @@ class Layout:
     syllables: Iterable[Syllable]
     width: float
     staff: int = USUAL_LINES
+    face: Face = OWN
     attributes: int = 0
     raw: int = 0
 
     def lines(self) -> Iterator[Line]:
         """Yields the lines in order."""
-        maker = LineMaker(self.width, self.staff)
+        maker = LineMaker(self.width, self.staff, self.face.shapes)
         made, following = itertools.tee(maker.lines_of(self._parts()))
         next(following, None)
         for (line, end), after in itertools.zip_longest(made, following):
@@ -55,8 +59,9 @@ class Layout:
 
     def _parts(self) -> Iterator[Part]:
         for syllable, pitch in _with_pitches(self.syllables):
-            parts, text = parts_of(syllable, self.staff, pitch, self._room)
-            self.attributes += sum(isinstance(it, Attribute) for it in syllable.items)
+            parts, text = parts_of(syllable, self.staff, pitch, self._room, self.face)
+            if "[" in syllable.spelling:
+                self.attributes += sum(isinstance(it, Attribute) for it in syllable.items)
             self.raw += text.raw
             yield from parts
 
@@ -78,6 +83,6 @@ def _first_pitch(line: Line) -> str | None:
     return next((it.part.first for it in line.parts if it.part.first is not None), None)
 
 
-def lay_out(syllables: Iterable[Syllable], width: float, staff: int = USUAL_LINES) -> list[Line]:
+def lay_out(syllables: Iterable[Syllable], width: float, staff: int = USUAL_LINES, face: Face = OWN) -> list[Line]:
     """Returns all lines of a score."""
-    return list(Layout(syllables, width, staff).lines())
+    return list(Layout(syllables, width, staff, face).lines())

@@ -2,13 +2,13 @@
 its end, and how high the line is."""
 from __future__ import annotations
 
-from collections.abc import Iterable, Iterator
+from collections.abc import Iterable, Iterator, Mapping
 
 from gregorio_chant.items import Clef
 from gregorio_chant.picture import staff
 from gregorio_chant.picture.blocks import NABC_ROW, moved
 from gregorio_chant.picture.parts import ABOVE_SIZE, TRANSLATION_SIZE
-from gregorio_chant.picture.shapes import SHAPES
+from gregorio_chant.picture.shapes import Shape
 from gregorio_chant.picture.values import Line, Part, Placed, Rect, Words, height_of
 from gregorio_chant.picture.widths import width_of
 from gregorio_chant.picture.words import SIZE
@@ -132,12 +132,12 @@ def _hyphens(placed: list[Placed]) -> Iterator[Words]:
         yield Words("-", round(end, 2), 0.0, _HYPHEN, SIZE)
 
 
-def _bounds(line: Line) -> tuple[float, float]:
+def _bounds(line: Line, shapes: Mapping[str, Shape]) -> tuple[float, float]:
     """Returns how far the signs of a line go up and down."""
     top = bottom = 0.0
     signs = [*line.signs, *(it for placed in line.parts for _, block in placed.part.blocks for it in block.signs)]
     for it in signs:
-        up, down = (0.0, it.height) if isinstance(it, Rect) else (SHAPES[it.shape].up, SHAPES[it.shape].down)
+        up, down = (0.0, it.height) if isinstance(it, Rect) else (shapes[it.shape].up, shapes[it.shape].down)
         top, bottom = min(top, it.y - up), max(bottom, it.y + down)
     return top, bottom
 
@@ -149,10 +149,11 @@ def _rows_above(line: Line) -> tuple[int, bool]:
 
 
 class LineMaker:
-    """Makes lines of parts, for a picture of `width` and a staff of `lines` lines."""
+    """Makes lines of parts, for a picture of `width` and a staff of `lines` lines, in these
+    shapes."""
 
-    def __init__(self, width: float, lines: int) -> None:
-        self._width, self._lines = width, lines
+    def __init__(self, width: float, lines: int, shapes: Mapping[str, Shape]) -> None:
+        self._width, self._lines, self._shapes = width, lines, shapes
         self._clef: Clef | None = None
         self._setter = self._begin(None)
 
@@ -160,7 +161,7 @@ class LineMaker:
         """Returns a setter after the clef in force; none stands where the part begins with its
         own."""
         begins_with_clef = part is not None and bool(part.blocks) and part.blocks[0][1].clef is not None
-        width = 0.0 if self._clef is None or begins_with_clef else staff.clef(self._clef.spelling).width + 8.0
+        width = 0.0 if self._clef is None or begins_with_clef else staff.clef(self._clef.spelling, self._shapes).width + 8.0
         setter = _Setter(width, self._width - _CUSTOS_ROOM)
         self._starts_at = width
         return setter
@@ -200,7 +201,7 @@ class LineMaker:
         """Ends the line, and begins the next one."""
         line = Line(self._setter.placed, width=self._width)
         if self._clef is not None and self._starts_at:
-            line.signs += staff.clef(self._clef.spelling).signs
+            line.signs += staff.clef(self._clef.spelling, self._shapes).signs
         self._clef = next((it.part.clef for it in reversed(line.parts) if it.part.clef is not None), self._clef)
         self._setter = self._begin(None)
         return line
@@ -210,11 +211,11 @@ class LineMaker:
         places."""
         if not end.startswith("Z") and end != LAST:
             _spread(line.parts, self._width - _CUSTOS_ROOM - _right_of(line), self._width)
-        if following is not None and not end.endswith("-"):
-            signs, width = staff.custos(following, self._lines)
+        if following is not None and not end.endswith("-") and not _ends_with_custos(line):
+            signs, width = staff.custos(following, self._lines, self._shapes)
             line.signs += moved(signs, self._width - width - 0.5)
         line.hyphens = list(_hyphens(line.parts))
-        line.top, line.bottom = _bounds(line)
+        line.top, line.bottom = _bounds(line, self._shapes)
         line.top = min(line.top, height_of(2 * self._lines - 2))
         line.rows, line.has_above = _rows_above(line)
         line.top -= 3.0 + line.rows * NABC_ROW + (ABOVE_SIZE if line.has_above else 0.0)
@@ -223,6 +224,12 @@ class LineMaker:
         has_translation = any(it.part.translation for it in line.parts)
         line.bottom = (line.text if has_text or has_translation else line.bottom) + 5.0 + (TRANSLATION_SIZE + 3.0 if has_translation else 0.0)
         return line
+
+
+def _ends_with_custos(line: Line) -> bool:
+    """Returns whether the last signs of a line are a custos of the score's own."""
+    blocks = (block for it in reversed(line.parts) for _, block in reversed(it.part.blocks))
+    return next((it.is_custos for it in blocks if it.signs), False)
 
 
 def _right_of(line: Line) -> float:

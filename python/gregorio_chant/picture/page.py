@@ -9,11 +9,11 @@ from html import escape
 
 from gregorio_chant.picture.drawing import Picture
 from gregorio_chant.picture.shown import shown
-from gregorio_chant.picture.svg import STYLE
+from gregorio_chant.picture.svg import STYLE as PICTURE_STYLE
 from gregorio_chant.reports import Checked, summary_of
 from gregorio_chant.results import Kind
 
-_STYLE = STYLE + """
+STYLE = PICTURE_STYLE + """
 :root{color-scheme:light dark}
 body{margin:0 auto;padding:1rem;max-width:60rem;font:1rem/1.5 sans-serif;color:#111;background:#fff}
 h1{font-size:1.4rem}h2{font-size:1.1rem;overflow-wrap:anywhere}
@@ -33,6 +33,8 @@ table{border-collapse:collapse;margin-bottom:1.5rem}td,th{text-align:left;paddin
 @media print{details,.back{display:none}body{max-width:none;padding:0;color:#000;background:#fff}section{break-inside:avoid-page}
 .chant{color:#000}.chant .paper{fill:#fff}}
 """
+# The most bytes of a score that is drawn while it is written, in a browser or an editor.
+MOST_BYTES = 1_000_000
 _POLICY = "default-src 'none'; style-src 'unsafe-inline'; base-uri 'none'; form-action 'none'"
 
 
@@ -72,14 +74,24 @@ def head(title: str) -> str:
     """Returns a page up to its body."""
     return (
         f'<!DOCTYPE html>\n<html lang="en">\n<head>\n<meta charset="utf-8">\n<meta http-equiv="Content-Security-Policy" content="{_POLICY}">\n'
-        f'<meta name="viewport" content="width=device-width, initial-scale=1">\n<title>{text(title)}</title>\n<style>{_STYLE}</style>\n</head>\n<body>\n'
+        f'<meta name="viewport" content="width=device-width, initial-scale=1">\n<title>{text(title)}</title>\n<style>{STYLE}</style>\n</head>\n<body>\n'
     )
 
 
 FOOT = "</body>\n</html>\n"
 
 
-def _messages(score: Shown) -> Iterator[str]:
+def leading_to(address: str) -> str:
+    """Returns a page that leads a browser to another one: what opens a file for a browser often
+    drops the place in it."""
+    to = escape(address)
+    return (
+        f'<!DOCTYPE html>\n<html lang="en">\n<meta charset="utf-8">\n<meta http-equiv="refresh" content="0;url={to}">\n<title>The picture</title>\n'
+        f'<p><a href="{to}">The picture</a></p>\n</html>\n'
+    )
+
+
+def list_of_messages(score: Shown) -> Iterator[str]:
     """Yields the list of messages: each leads into the picture and to its line, and the picture
     leads to it."""
     if not score.checked.messages:
@@ -113,7 +125,7 @@ def section(score: Shown) -> Iterator[str]:
     yield '<div class="picture">\n'
     yield from score.picture.pieces
     yield "</div>\n"
-    yield from _messages(score)
+    yield from list_of_messages(score)
     yield from _source(score)
     yield "</section>\n"
 

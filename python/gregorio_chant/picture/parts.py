@@ -5,12 +5,13 @@ from __future__ import annotations
 from collections.abc import Iterator
 from dataclasses import dataclass
 
-from gregorio_chant.items import Syllable
+from gregorio_chant.items import Clef, Syllable
 from gregorio_chant.picture.blocks import blocks_of
+from gregorio_chant.picture.faces import OWN, Face
 from gregorio_chant.picture.shown import shown
 from gregorio_chant.picture.values import Block, Part, Words
 from gregorio_chant.picture.widths import styled_width, width_of
-from gregorio_chant.picture.words import SyllableText, read_text, set_text
+from gregorio_chant.picture.words import SyllableText, read_and_set
 
 TRANSLATION_SIZE, ABOVE_SIZE = 12.0, 11.0
 _DOTS = "…"
@@ -80,14 +81,22 @@ def _cut(words: tuple[Words, ...], room: float) -> list[tuple[Words, ...]]:
 
 def _part_of(syllable: Syllable, number: int, row: _Row) -> Part:
     """Returns a part with these blocks and no text."""
-    anchor = next((x + it.anchor for x, it in row.blocks if it.anchor is not None), 0.0)
-    blocks = tuple((round(x - anchor, 2), it) for x, it in row.blocks)
+    anchor: float | None = None
+    first: str | None = None
+    clef: Clef | None = None
+    ends_line, has_bar = "", False
+    for x, it in row.blocks:
+        if anchor is None and it.anchor is not None:
+            anchor = x + it.anchor
+        first = first or it.first
+        clef = it.clef or clef
+        ends_line = ends_line or it.ends_line
+        has_bar = has_bar or it.is_bar
+    at = anchor or 0.0
+    blocks = tuple([(round(x - at, 2), it) for x, it in row.blocks])
     return Part(
-        syllable, number, blocks, round(-anchor, 2), round(row.width - anchor, 2),
-        first=next((it.first for _, it in row.blocks if it.first is not None), None),
-        clef=next((it.clef for _, it in reversed(row.blocks) if it.clef is not None), None),
-        ends_line=next((it.ends_line for _, it in row.blocks if it.ends_line), ""),
-        is_bar=any(it.is_bar for _, it in row.blocks) and not any(it.first for _, it in row.blocks),
+        syllable, number, blocks, round(-at, 2), round(row.width - at, 2), has_anchor=anchor is not None, first=first, clef=clef, ends_line=ends_line,
+        is_bar=has_bar and first is None,
     )
 
 
@@ -95,17 +104,15 @@ def _add_text(part: Part, line: tuple[Words, ...], middle: float) -> None:
     """Gives the part this text, of which `middle` stands at the anchor, if there is one."""
     if not line:
         return
-    has_anchor = any(it.anchor is not None for _, it in part.blocks)
-    part.text_left = round(-middle if has_anchor else part.left, 2)
-    part.texts = tuple(it.moved(part.text_left) for it in line)
+    part.text_left = round(-middle if part.has_anchor else part.left, 2)
+    part.texts = tuple([it.moved(part.text_left) for it in line])
     part.text_right = round(part.text_left + line[-1].x + line[-1].width, 2)
 
 
-def parts_of(syllable: Syllable, lines: int, following: str | None, room: float) -> tuple[list[Part], SyllableText]:
+def parts_of(syllable: Syllable, lines: int, following: str | None, room: float, face: Face = OWN) -> tuple[list[Part], SyllableText]:
     """Returns the parts of a syllable on lines with this much room, and its text."""
-    text = read_text(syllable.text)
-    words, middle = set_text(text)
-    blocks = blocks_of(syllable, lines, following)
+    text, words, middle = read_and_set(syllable.text)
+    blocks = blocks_of(syllable, lines, following, face)
     rows = list(_rows_of(blocks, room)) or [_Row((), 0.0)]
     parts = [_part_of(syllable, at, it) for at, it in enumerate(rows)]
     texts = _cut(words, room) if words and words[-1].x + words[-1].width > room else [words]
@@ -119,8 +126,10 @@ def parts_of(syllable: Syllable, lines: int, following: str | None, room: float)
     if syllable.translation:
         left = first.text_left if first.has_text else first.left
         first.translation = _shortened(syllable.translation, TRANSLATION_SIZE, room).moved(left)
-    first.above = tuple(_shortened(it, ABOVE_SIZE, room).moved(first.left) for it in text.above)
-    _add_ends(parts)
+    if text.above:
+        first.above = tuple(_shortened(it, ABOVE_SIZE, room).moved(first.left) for it in text.above)
+    if len(parts) > 1:
+        _add_ends(parts)
     return parts, text
 
 

@@ -42,6 +42,9 @@ def _porrectus(interval: int) -> Shape:
 
 SHAPES: dict[str, Shape] = {
     "punctum": Shape(_PUNCTUM, HEAD),
+    # Two heads a step apart, one over the other: the one above has no foot, and the one below no top.
+    "punctum-over": Shape("M0,-3.1C1.5,-1.9 4.3,-1.9 5.8,-3.1V1.7C4.3,1.1 1.5,1.1 0,1.7z", HEAD),
+    "punctum-under": Shape("M0,-1.7C1.5,-1.1 4.3,-1.1 5.8,-1.7V3.1C4.3,1.9 1.5,1.9 0,3.1z", HEAD),
     "small": Shape(_SMALL, SMALL, 2.4, 2.4),
     "cavum": Shape(f"{_PUNCTUM}M.9,-1.7V1.7C2.2,1.2 3.6,1.2 4.9,1.7V-1.7C3.6,-1.2 2.2,-1.2 .9,-1.7z", HEAD),
     "inclinatum": Shape("M3.3,-4L6.6,0L3.3,4L0,0z", 6.6, 4.1, 4.1),
@@ -50,6 +53,7 @@ SHAPES: dict[str, Shape] = {
     "stropha": Shape("M1.8,-3.8C2.8,-2.2 4.4,-1.2 6.2,-.6C5.6,1.2 4.4,2.9 2.4,4.2C2.7,1.8 1.8,-.2 0,-1.6z", 6.2, 3.9, 4.3),
     "quilisma": Shape("M0,-1.2L1.2,-3.8L2.4,-1.4L3.5,-3.7L4.6,-1.3L5.8,-3.8V1.2L4.6,3.8L3.4,1.4L2.3,3.7L1.2,1.3L0,3.8z", HEAD, 3.9, 3.9),
     "oriscus": Shape("M0,-1.2C1.2,-3.8 2.6,-3.6 3.5,-2.4C4.2,-1.5 4.9,-1.7 5.8,-3.4V1.2C4.6,3.8 3.2,3.6 2.3,2.4C1.6,1.5 .9,1.7 0,3.4z", HEAD, 3.7, 3.7),
+    "oriscus-down": Shape("M0,1.2C1.2,3.8 2.6,3.6 3.5,2.4C4.2,1.5 4.9,1.7 5.8,3.4V-1.2C4.6,-3.8 3.2,-3.6 2.3,-2.4C1.6,-1.5 .9,-1.7 0,-3.4z", HEAD, 3.7, 3.7),
     "linea": Shape("M0,-3.8H.8V-2.9H12.2V-3.8H13V3.8H12.2V2.9H.8V3.8H0z M.8,-1.4V1.4H12.2V-1.4z", 13.0, 3.9, 3.9),
     "tail-up": Shape("M-2.4,-2.4C-.8,-2.6 -.6,-4.2 -.7,-6.4H.1C.2,-3.6 0,-2 -1.4,-.6z", 0.2, 6.5, 0.0),
     "tail-down": Shape("M-2.4,2.4C-.8,2.6 -.6,4.2 -.7,6.4H.1C.2,3.6 0,2 -1.4,.6z", 0.2, 0.0, 6.5),

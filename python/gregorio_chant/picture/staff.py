@@ -2,10 +2,11 @@
 from __future__ import annotations
 
 import re
+from collections.abc import Mapping
 from typing import NamedTuple
 
 from gregorio_chant.items import Alteration, Bar
-from gregorio_chant.picture.shapes import SHAPES
+from gregorio_chant.picture.shapes import SHAPES, Shape
 from gregorio_chant.picture.values import Rect, Sign, Use, height_of, step_of
 
 _CLEF = re.compile(r"([cf])(b?)([1-5])")
@@ -21,7 +22,7 @@ class Signs(NamedTuple):
     width: float
 
 
-def clef(spelling: str) -> Signs:
+def clef(spelling: str, shapes: Mapping[str, Shape] = SHAPES) -> Signs:
     """Returns a clef, or two that are joined: these stand beside each other where they are too
     near to stand one over the other."""
     signs: list[Sign] = []
@@ -30,19 +31,19 @@ def clef(spelling: str) -> Signs:
     for letter, flat, number in _CLEF.findall(spelling):
         line = 2 * (int(number) - 1)
         x = width + 1.0 if before is not None and abs(line - before) < 4 else 0.0
-        shape = SHAPES[f"{letter}-clef"]
+        shape = shapes[f"{letter}-clef"]
         signs.append(Use(f"{letter}-clef", x, height_of(line)))
         right = x + shape.width
         if flat:
             signs.append(Use("flat", right + 0.6, height_of(line + (-1 if letter == "c" else 3))))
-            right += SHAPES["flat"].width + 0.6
+            right += shapes["flat"].width + 0.6
         width, before = max(width, right), line
     return Signs(tuple(signs), width)
 
 
-def alteration(item: Alteration) -> Signs:
+def alteration(item: Alteration, shapes: Mapping[str, Shape] = SHAPES) -> Signs:
     """Returns an alteration; one with a `?` stands between brackets."""
-    shape, y = SHAPES[item.sign], height_of(step_of(item.pitch))
+    shape, y = shapes[item.sign], height_of(step_of(item.pitch))
     if not item.spelling.endswith("?"):
         return Signs((Use(item.sign, 0.0, y),), shape.width)
     width = shape.width + 2.8
@@ -87,8 +88,8 @@ def bar(item: Bar, lines: int) -> Signs:
     return Signs(tuple(signs), width)
 
 
-def custos(pitch: str, lines: int) -> Signs:
+def custos(pitch: str, lines: int, shapes: Mapping[str, Shape] = SHAPES) -> Signs:
     """Returns a custos: its tail goes down where it stands high."""
     step = step_of(pitch)
     shape = "custos-down" if step > lines else "custos-up"
-    return Signs((Use(shape, 0.0, height_of(step)),), SHAPES[shape].width)
+    return Signs((Use(shape, 0.0, height_of(step)),), shapes[shape].width)

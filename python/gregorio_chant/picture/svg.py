@@ -3,10 +3,10 @@ from __future__ import annotations
 
 from collections.abc import Iterable, Sequence
 from dataclasses import dataclass
-from xml.etree import ElementTree as Xml
 
 from gregorio_chant.picture.blocks import NABC_ROW
 from gregorio_chant.picture.codes import CODE_ROW, CODE_SIZE, Code, marks_of
+from gregorio_chant.picture.markup import NOTHING, Markup, element, joined, text, use
 from gregorio_chant.picture.marks import Mark, Places
 from gregorio_chant.picture.parts import ABOVE_SIZE
 from gregorio_chant.picture.shown import shown
@@ -61,8 +61,8 @@ class Names:
         return f"{self.prefix}m{index}"
 
 
-def _add_title(parent: Xml.Element, text: str) -> None:
-    Xml.SubElement(parent, "title").text = shown(text)
+def _title(it: str) -> Markup:
+    return element("title", {}, text(shown(it)))
 
 
 class Painter:
@@ -79,97 +79,93 @@ class Painter:
     def line(self, line: Line, codes: Sequence[Code], y: float) -> str:
         """Returns the group of a line, whose staff has its lowest line at `y`, with the codes
         above it."""
-        group = Xml.Element("g", {"transform": f"translate({number(MARGIN)},{number(y)})"})
         staff = "".join(f"M0,{number(-10.0 * it)}h{number(line.width)}" for it in range(self._staff))
-        Xml.SubElement(group, "path", {"class": "staff", "d": staff})
-        self._signs(group, line.signs, 0.0)
-        for placed in line.parts:
-            self._part(group, line, placed)
-        for code in codes:
-            self._code(group, code, line.top)
+        out = [element("path", {"class": "staff", "d": staff})]
+        self._signs(out, line.signs, 0.0)
+        out += [self._part(line, placed) for placed in line.parts]
+        out += [self.code(it.mark, it.x, line.top - 2.5 - CODE_ROW * it.row, it.text) for it in codes]
         for hyphen in line.hyphens:
-            self._words(group, hyphen, 0.0, line.text)
-        return Xml.tostring(group, encoding="unicode") + "\n"
+            self._words(out, hyphen, 0.0, line.text)
+        return element("g", {"transform": f"translate({number(MARGIN)},{number(y)})"}, joined(out)) + "\n"
 
-    def _signs(self, parent: Xml.Element, signs: Iterable[Sign], x: float) -> None:
+    def _signs(self, out: list[Markup], signs: Iterable[Sign], x: float) -> None:
         rects = []
         for it in signs:
             if isinstance(it, Rect):
-                rects.append(f"M{number(x + it.x)},{number(it.y)}h{number(it.width)}v{number(it.height)}h-{number(it.width)}z")
+                width = number(it.width)
+                rects.append(f"M{number(x + it.x)},{number(it.y)}h{width}v{number(it.height)}h-{width}z")
             else:
                 self.used.add(it.shape)
-                Xml.SubElement(parent, "use", {"href": f"#{self._names.shape(it.shape)}", "x": number(x + it.x), "y": number(it.y)})
+                out.append(use(self._names.shape(it.shape), number(x + it.x), number(it.y)))
         if rects:
-            Xml.SubElement(parent, "path", {"d": "".join(rects)})
+            out.append(element("path", {"d": "".join(rects)}))
 
-    def _words(self, parent: Xml.Element, words: Words, x: float, y: float) -> None:
-        text = _kept_blanks(words.text)
-        attributes = dict(_ATTRIBUTES[it] for it in sorted(words.styles) if it in _ATTRIBUTES)
+    @staticmethod
+    def _words(out: list[Markup], words: Words, x: float, y: float) -> None:
+        attributes = {"x": number(x + words.x), "y": number(y)}
+        if words.styles:
+            attributes.update(_ATTRIBUTES[it] for it in sorted(words.styles) if it in _ATTRIBUTES)
         if words.size != SIZE:
             attributes["font-size"] = number(words.size)
         if len(words.text) > 1:
             attributes["textLength"] = number(words.width)
-        element = Xml.SubElement(parent, "text", {"x": number(x + words.x), "y": number(y), **attributes})
-        element.text = text
+        content = text(_kept_blanks(words.text))
+        out.append(element("text", attributes, joined([content, _title(words.title)]) if words.title else content))
         if "barred" in words.styles:
             rise = number(words.width - 4.0)
-            Xml.SubElement(parent, "path", {"d": f"M{number(x + words.x + 1.5)},{number(y + 2.0)}l{rise},-15h1l-{rise},15z"})
-        if words.title:
-            _add_title(element, words.title)
+            out.append(element("path", {"d": f"M{number(x + words.x + 1.5)},{number(y + 2.0)}l{rise},-15h1l-{rise},15z"}))
 
-    def _part(self, parent: Xml.Element, line: Line, placed: Placed) -> None:
+    def _part(self, line: Line, placed: Placed) -> Markup:
         part = placed.part
         index = part.syllable.number - 1
-        group = Xml.SubElement(parent, "g", {"id": self._names.syllable(index, part.number)})
-        if part.number == 0 and index < len(self._places.syllables):
-            place = self._places.syllables[index]
-            group.set("data-line", str(place.line))
-            group.set("data-column", str(place.column))
+        attributes = {"id": self._names.syllable(index, part.number)}
+        out: list[Markup] = []
         if part.number == 0:
-            _add_title(group, part.syllable.spelling)
-        self._field(group, line, placed)
+            if index < len(self._places.syllables):
+                place = self._places.syllables[index]
+                attributes |= {"data-line": str(place.line), "data-column": str(place.column)}
+            out.append(_title(part.syllable.spelling))
+        out.append(self._field(line, placed))
         for x, block in part.blocks:
-            self._signs(group, block.signs, placed.x + x)
+            self._signs(out, block.signs, placed.x + x)
             for words in block.neumes:
-                self._words(group, words, placed.x + x, self._row(line, int(words.y)))
+                self._words(out, words, placed.x + x, self._row(line, int(words.y)))
         for words in part.texts:
-            self._words(group, words, placed.x, line.text)
+            self._words(out, words, placed.x, line.text)
         if part.translation is not None:
-            self._words(group, part.translation._replace(styles=frozenset("i")), placed.x, line.text + 15.0)
+            self._words(out, part.translation._replace(styles=frozenset("i")), placed.x, line.text + 15.0)
         for words in part.above:
-            self._words(group, words._replace(styles=frozenset("i")), placed.x, line.top + ABOVE_SIZE)
+            self._words(out, words._replace(styles=frozenset("i")), placed.x, line.top + ABOVE_SIZE)
+        return element("g", attributes, joined(out))
 
     @staticmethod
     def _row(line: Line, row: int) -> float:
         """Returns the y of a row of NABC: the first one stands nearest to the staff."""
         return line.top + (ABOVE_SIZE if line.has_above else 0.0) + (line.rows - row + 1) * NABC_ROW - 3.0
 
-    def _field(self, parent: Xml.Element, line: Line, placed: Placed) -> None:
-        """Paints a field behind a part that has messages."""
+    def _field(self, line: Line, placed: Placed) -> Markup:
+        """Returns the field behind a part that has messages; nothing where it has none."""
         marks = marks_of(placed, self._places)
         if not marks:
-            return
+            return NOTHING
         part = placed.part
         name = self._names.syllable(part.syllable.number - 1, part.number)
         self.places.update({it.number: name for it in marks})
         left = min(part.left, part.text_left if part.has_text else part.left) - 1.5
         right = max(part.right, part.text_right if part.has_text else part.right) + 1.5
         kind = "mark" if any(it.message.kind is not Kind.WARNING for it in marks) else "mark w"
-        Xml.SubElement(parent, "rect", {
+        return element("rect", {
             "class": kind, "x": number(placed.x + left), "y": number(line.top), "width": number(max(right - left, 6.0)),
             "height": number(line.text + 5.0 - line.top),
         })
 
-    def _code(self, parent: Xml.Element, code: Code, top: float) -> None:
-        self.code(parent, code.mark, code.x, top - 2.5 - CODE_ROW * code.row, code.text)
-
-    def code(self, parent: Xml.Element, mark: Mark, x: float, y: float, text: str = "") -> None:
-        """Paints the code of a message, as a link where messages stand beside the picture."""
+    def code(self, mark: Mark, x: float, y: float, words: str = "") -> Markup:
+        """Returns the code of a message, as a link where messages stand beside the picture."""
         message = mark.message
-        if self._names.links:
-            name = self._names.message(mark.number)
-            parent = Xml.SubElement(parent, "a", {"href": f"#{name}", "id": f"{name}-at"})
-            self.places[mark.number] = f"{name}-at"
-        element = Xml.SubElement(parent, "text", {"class": "code", "x": number(x), "y": number(y)})
-        element.text = shown(text or message.code)
-        _add_title(element, f"{message.line}:{message.column}: {message.kind.value}: {message.code}: {message.text}")
+        title = _title(f"{message.line}:{message.column}: {message.kind.value}: {message.code}: {message.text}")
+        code = element("text", {"class": "code", "x": number(x), "y": number(y)}, joined([text(shown(words or message.code)), title]))
+        if not self._names.links:
+            return code
+        name = self._names.message(mark.number)
+        self.places[mark.number] = f"{name}-at"
+        return element("a", {"href": f"#{name}", "id": f"{name}-at"}, code)

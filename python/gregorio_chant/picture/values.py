@@ -77,6 +77,7 @@ class Block:
     first: str | None = None
     clef: Clef | None = None
     is_bar: bool = False
+    is_custos: bool = False
     ends_line: str = ""
     neumes: tuple[Words, ...] = ()
 
@@ -98,6 +99,7 @@ class Part:
     text_right: float = 0.0
     translation: Words | None = None
     above: tuple[Words, ...] = ()
+    has_anchor: bool = False
     first: str | None = None
     clef: Clef | None = None
     ends_line: str = ""

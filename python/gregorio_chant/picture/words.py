@@ -116,7 +116,6 @@ def first_vowel(text: str) -> tuple[int, int]:
     return 0, len(text)
 
 
-@lru_cache(maxsize=4096)
 def set_text(text: SyllableText, size: float = SIZE) -> tuple[tuple[Words, ...], float]:
     """Returns the runs side by side from x 0 on, and where the middle of the centre or of the
     vowel is."""
@@ -132,6 +131,14 @@ def set_text(text: SyllableText, size: float = SIZE) -> tuple[tuple[Words, ...],
         x += words[-1].width
         at += len(run.text)
     return tuple(words), middle
+
+
+@lru_cache(maxsize=4096)
+def read_and_set(text: str) -> tuple[SyllableText, tuple[Words, ...], float]:
+    """Returns the canonical text of a syllable as runs, these side by side, and where the middle of
+    the centre or of the vowel is. What was read last is kept: a score has its syllables often."""
+    read = read_text(text)
+    return (read, *set_text(read))
 
 
 def _width(run: Run, letters: int, size: float) -> float:

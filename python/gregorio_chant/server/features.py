@@ -10,25 +10,28 @@ from gregorio_chant.server.document import Document
 from gregorio_chant.server.formats import Refused, formatted_all, formatted_lines
 from gregorio_chant.server.hover import hover
 from gregorio_chant.server.outline import foldings, symbols
+from gregorio_chant.server.pictures import svg
 from gregorio_chant.server.protocol import Json, Params
 from gregorio_chant.server.tokens import KINDS as TOKENS
 from gregorio_chant.server.tokens import tokens
 from gregorio_chant.streams import NAME
 
-__all__ = ["CAPABILITIES", "FEATURES", "Refused"]
+__all__ = ["CAPABILITIES", "FEATURES", "SHOW", "Refused"]
 
 _INCREMENTAL = 2
 
 FEATURES: dict[str, Callable[[Document, Params], Json]] = {
     "textDocument/codeAction": actions, "textDocument/completion": completion, "textDocument/documentSymbol": symbols,
     "textDocument/foldingRange": foldings, "textDocument/formatting": formatted_all, "textDocument/hover": hover,
-    "textDocument/rangeFormatting": formatted_lines, "textDocument/semanticTokens/full": tokens,
+    "textDocument/rangeFormatting": formatted_lines, "textDocument/semanticTokens/full": tokens, "gregorio/picture": svg,
 }
+# The command that opens the picture in a browser.
+SHOW = "gregorio-chant.show"
 
 CAPABILITIES: Json = {
     "capabilities": {
         "positionEncoding": "utf-16", "textDocumentSync": {"openClose": True, "change": _INCREMENTAL},
-        "codeActionProvider": {"codeActionKinds": KINDS}, "completionProvider": {"triggerCharacters": TRIGGERS},
+        "codeActionProvider": {"codeActionKinds": KINDS}, "executeCommandProvider": {"commands": [SHOW]}, "completionProvider": {"triggerCharacters": TRIGGERS},
         "documentFormattingProvider": True, "documentRangeFormattingProvider": True, "documentSymbolProvider": True,
         "foldingRangeProvider": True, "hoverProvider": True,
         "semanticTokensProvider": {"legend": {"tokenTypes": TOKENS, "tokenModifiers": []}, "full": True},

@@ -26,4 +26,5 @@ def serve(with_rules: bool, settings: Finder) -> int:
     finally:
         inbox.close()
         answering.join()
+        session.close()
     return 0 if session.is_shut_down else 1

@@ -10,15 +10,16 @@ from gregorio_chant.dump import Pause
 from gregorio_chant.needs import Missing
 from gregorio_chant.server.diagnostics import diagnostics, no_diagnostics
 from gregorio_chant.server.document import Document, File
-from gregorio_chant.server.features import CAPABILITIES, FEATURES, Refused
+from gregorio_chant.server.features import CAPABILITIES, FEATURES, SHOW, Refused
 from gregorio_chant.server.inbox import Inbox, Message
+from gregorio_chant.server.pictures import Pages
 from gregorio_chant.server.protocol import Code, Json, Params, ProtocolError
 from gregorio_chant.server.text import Text
 from gregorio_chant.server.wire import Unreadable
 from gregorio_chant.settings import Finder, Settings, SettingsError
 from gregorio_chant.streams import STDIN
 
-_ERROR, _WARNING = 1, 2
+_ERROR, _WARNING, _INFO = 1, 2, 3
 
 
 class _Phase(enum.Enum):
@@ -54,7 +55,10 @@ class Session:
         # The documents that have changed since they were checked, the first one first.
         self._unchecked: dict[str, None] = {}
         self._phase = _Phase.BEFORE
-        self._takes_versions = False
+        self._takes_versions = self._shows_documents = False
+        self._pages = Pages()
+        # How many documents the editor was asked to show.
+        self._asked = 0
         self._told: dict[str, Callable[[Params], None]] = {
             "textDocument/didOpen": self._opened, "textDocument/didChange": self._changed, "textDocument/didClose": self._closed,
         }
@@ -78,11 +82,15 @@ class Session:
             else:
                 self._check(next(iter(self._unchecked)), pause)
 
+    def close(self) -> None:
+        """Removes what was written for the editor."""
+        self._pages.close()
+
     def _notify(self, method: str, params: Json) -> None:
         self._send({"jsonrpc": "2.0", "method": method, "params": params})
 
-    def _warn(self, text: str) -> None:
-        self._notify("window/showMessage", {"type": _WARNING, "message": text})
+    def _warn(self, text: str, kind: int = _WARNING) -> None:
+        self._notify("window/showMessage", {"type": kind, "message": text})
 
     # ---- messages
 
@@ -131,22 +139,42 @@ class Session:
             self._phase = _Phase.SHUT_DOWN
             self._unchecked.clear()
             return None
-        if method not in FEATURES:
-            raise ProtocolError(Code.NO_METHOD, f"there is no method {method[:80]}")
-        document = self._documents.get(params.uri())
-        if document is None:
-            raise ProtocolError(Code.BAD_PARAMETERS, "this document is not open")
         try:
-            return FEATURES[method](document, params)
+            if method == "workspace/executeCommand":
+                return self._show(params)
+            if method not in FEATURES:
+                raise ProtocolError(Code.NO_METHOD, f"there is no method {method[:80]}")
+            return FEATURES[method](self._document(params.uri()), params)
         except Refused as refused:
             self._warn(str(refused))
             return []
+
+    def _document(self, uri: str) -> Document:
+        document = self._documents.get(uri)
+        if document is None:
+            raise ProtocolError(Code.BAD_PARAMETERS, "this document is not open")
+        return document
+
+    def _show(self, params: Params) -> Json:
+        """Has the editor open the picture in a browser, at the syllable of a position: the command
+        has the document's URI and the position as arguments."""
+        arguments = list(params["arguments"].parts()) if params["command"].text() == SHOW else []
+        if len(arguments) != 2:
+            raise ProtocolError(Code.BAD_PARAMETERS, f"the command is {SHOW}, with a document's URI and a position")
+        uri = self._pages.put(self._document(arguments[0].text()), arguments[1].position())
+        if self._shows_documents:
+            self._asked += 1
+            self._send({"jsonrpc": "2.0", "id": f"show-{self._asked}", "method": "window/showDocument", "params": {"uri": uri, "external": True}})
+        else:
+            self._warn(f"The picture is at {uri}", _INFO)
+        return None
 
     def _initialize(self, params: Params) -> Json:
         if self._phase is not _Phase.BEFORE:
             raise ProtocolError(Code.NO_REQUEST, "the server is initialized")
         self._phase = _Phase.OPEN
         self._takes_versions = params.flag("capabilities", "workspace", "workspaceEdit", "documentChanges")
+        self._shows_documents = params.flag("capabilities", "window", "showDocument", "support")
         return CAPABILITIES
 
     # ---- documents

@@ -1,0 +1,41 @@
+"""The sub-command `page`: its words."""
+from __future__ import annotations
+
+import argparse
+
+from gregorio_chant.commands.words import OUTSIDE, STATUSES, Parser, add_no_config, examples, settings_of
+from gregorio_chant.needs import need
+from gregorio_chant.streams import STDIN
+
+NAME = "page"
+_MOST_PORT = 65_535
+_ABOUT = f"""Serves a page to write a score in: one pastes or drops it, and sees while typing its picture, the messages, the canonical form and the dump. The page
+is for this machine alone, its address is the first line of standard output, and no score is kept. It ends with Control-C. {OUTSIDE}"""
+_EXAMPLES = examples(("gregorio-chant page", "gregorio-chant page --port 8080", "gregorio-chant page --rules"))
+
+
+def port(word: str) -> int:
+    """Returns the number of a port. Raises `ValueError` where `word` is none."""
+    number = int(word)
+    if not 0 <= number <= _MOST_PORT:
+        raise ValueError
+    return number
+
+
+def add(commands: argparse._SubParsersAction[Parser]) -> Parser:
+    """Adds the words of `page`."""
+    it = commands.add_parser(NAME, help="serve a page to write a score in and see it", description=_ABOUT, epilog=f"{_EXAMPLES}\n\n{STATUSES}")
+    it.add_argument("--port", type=port, default=0, metavar="N", help="serve at this port, or at a free one where it is 0 (as ever)")
+    it.add_argument("--rules", action="store_true", help="show what the rules find too; they stand outside the proof of the compiler")
+    add_no_config(it)
+    return it
+
+
+def run(words: argparse.Namespace) -> int:
+    """Serves the page until it is ended. Raises `CannotWrite`, `Missing` and `SettingsError`."""
+    need(NAME, "starlette", "uvicorn")
+    from gregorio_chant.web.answers import Answers
+    from gregorio_chant.web.serving import serve
+    settings = settings_of(words)
+    settings.of(STDIN)
+    return serve(words.port, Answers(words.rules, settings))

@@ -1,0 +1,115 @@
+"""`show --watch`: writes again when a score changes. It stands on the package `watchdog`."""
+from __future__ import annotations
+
+import os
+import threading
+import time
+from collections.abc import Callable, Iterator
+from typing import NoReturn
+
+from watchdog.events import FileSystemEvent, FileSystemEventHandler
+from watchdog.observers import Observer
+
+from gregorio_chant.ignored import FILE as IGNORED
+from gregorio_chant.selection import UnknownCode
+from gregorio_chant.settings import NAME as SETTINGS
+from gregorio_chant.settings import SettingsError
+from gregorio_chant.showing import Wanted, show
+from gregorio_chant.streams import CANNOT_READ_OR_WRITE, STDIN, printable, reason_of, tell
+from gregorio_chant.walk import has_name_of_score
+
+# How long it waits for what is written at the same time, in seconds.
+_PAUSE = 0.1
+# What happens to files that are only read.
+_HARMLESS = frozenset(("opened", "closed_no_write"))
+
+
+class _Watched:
+    """The files and folders that are named, by their whole names, and what is written."""
+
+    def __init__(self, wanted: Wanted) -> None:
+        whole = [os.path.abspath(it) for it in wanted.paths]
+        self._folders = [it for it in whole if os.path.isdir(it)]
+        files = [it for it in whole if it not in self._folders]
+        # A link changes in its own folder, and the file that it leads to in another one.
+        self._files = {name for it in files for name in (it, os.path.realpath(it))}
+        self._output = None if wanted.output is None or wanted.into_folder else os.path.abspath(wanted.output)
+
+    def places(self) -> Iterator[tuple[str, bool]]:
+        """Yields each folder where something may change, and whether all below it is meant."""
+        yield from ((it, True) for it in self._folders)
+        yield from ((it, False) for it in sorted({os.path.dirname(it) for it in self._files}))
+
+    def has(self, name: str) -> bool:
+        """Returns whether a change of this file may change what is written."""
+        base = os.path.basename(name)
+        if name == self._output:
+            return False
+        return name in self._files or base == SETTINGS or bool(self._folders) and (base == IGNORED or has_name_of_score(base))
+
+
+class _Handler(FileSystemEventHandler):
+    """Sets `changed` where something that is watched changes."""
+
+    def __init__(self, watched: _Watched, changed: threading.Event) -> None:
+        self._watched, self._changed = watched, changed
+
+    def on_any_event(self, event: FileSystemEvent) -> None:
+        if event.event_type in _HARMLESS:
+            return
+        names = [os.fsdecode(it) for it in (event.src_path, getattr(event, "dest_path", "")) if it]
+        # With a folder that comes or goes its scores do.
+        is_folder = event.is_directory and event.event_type in ("moved", "deleted")
+        if is_folder or not event.is_directory and any(self._watched.has(it) for it in names):
+            self._changed.set()
+
+
+def _refuse(wanted: Wanted) -> None:
+    """Raises `UnknownCode` where nothing can be watched, or nothing written again."""
+    if wanted.output is None:
+        raise UnknownCode("--watch writes files again: -o FILE or -o FOLDER/ is needed")
+    if STDIN in wanted.paths:
+        raise UnknownCode("--watch watches files, and standard input is none")
+
+
+def watch(wanted: Callable[[], Wanted]) -> int:
+    """Writes what is wanted, and again after each change, until it is ended. `wanted` is asked each
+    time, so that settings are read anew. Returns the exit status. Raises what `show` raises the
+    first time; later on it is told, and the next change awaited."""
+    first = wanted()
+    _refuse(first)
+    watched = _Watched(first)
+    changed = threading.Event()
+    observer = Observer()
+    try:
+        for place, is_deep in watched.places():
+            observer.schedule(_Handler(watched, changed), place, recursive=is_deep)
+        observer.start()
+    except OSError as error:
+        tell(f"cannot watch: {reason_of(error)}")
+        return CANNOT_READ_OR_WRITE
+    try:
+        _write(first)
+        _again(wanted, changed)
+    except KeyboardInterrupt:
+        return 0
+    finally:
+        observer.stop()
+        observer.join()
+
+
+def _write(wanted: Wanted) -> None:
+    show(wanted)
+    tell(f"wrote {printable(wanted.output or '')}")
+
+
+def _again(wanted: Callable[[], Wanted], changed: threading.Event) -> NoReturn:
+    """Writes after each change."""
+    while True:
+        changed.wait()
+        time.sleep(_PAUSE)
+        changed.clear()
+        try:
+            _write(wanted())
+        except (SettingsError, UnknownCode) as error:
+            tell(str(error))

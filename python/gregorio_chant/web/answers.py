@@ -1,0 +1,43 @@
+"""What the page shows of a score: picture, messages, canonical form and dump."""
+from __future__ import annotations
+
+from dataclasses import dataclass
+
+from gregorio_chant import checking
+from gregorio_chant.compiled import Compiled
+from gregorio_chant.files import Content
+from gregorio_chant.picture import Names, draw
+from gregorio_chant.picture.page import Shown, list_of_messages
+from gregorio_chant.settings import Finder
+from gregorio_chant.source import text_of
+from gregorio_chant.streams import STDIN
+
+_PREFIX = "p1-"
+
+
+@dataclass(frozen=True)
+class Answer:
+    """What is made of a score: `picture` is SVG, `messages` a list in HTML."""
+
+    name: str
+    picture: str
+    messages: str
+    canonical: str
+    dump: str
+
+
+@dataclass(frozen=True)
+class Answers:
+    """Makes answers as `show -` makes its page."""
+
+    with_rules: bool
+    settings: Finder
+
+    def of(self, data: bytes) -> Answer:
+        """Returns what is made of a score. Raises `MemoryError`."""
+        wanted = checking.Wanted((STDIN,), with_rules=self.with_rules, settings=self.settings)
+        checked = checking.check_file(STDIN, wanted, lambda _: Content(data))
+        picture = draw(data, checked.messages, names=Names(_PREFIX, links=True))
+        messages = list_of_messages(Shown(checked, checked.shown_name, picture, text_of(data), _PREFIX))
+        compiled = Compiled(data)
+        return Answer(picture.name, picture.svg, "".join(messages), compiled.canonical, compiled.dump)

@@ -1,0 +1,149 @@
+// Sends the score to the page's own server while it is written, and shows what comes back. Nothing is kept.
+"use strict";
+
+const PREFIX = "p1-";
+const PAUSE = 120;
+const MOST_BYTES = Number(document.body.dataset.most);
+const at = (id) => document.getElementById(id);
+const score = at("score");
+
+// ---- asking
+
+let waiting = null;
+let isAsking = false;
+let timer = 0;
+
+// Asks about these bytes. Of what comes while an answer is awaited the last is asked about next.
+async function ask(bytes) {
+  waiting = bytes;
+  if (isAsking) return;
+  isAsking = true;
+  while (waiting !== null) {
+    const body = waiting;
+    waiting = null;
+    try {
+      show(await answerTo(body));
+      say("");
+    } catch (error) {
+      say(error.message);
+    }
+  }
+  isAsking = false;
+}
+
+async function answerTo(body) {
+  if (body.length > MOST_BYTES) throw new Error(`A score has ${MOST_BYTES.toLocaleString("en")} bytes at most here.`);
+  let answer;
+  try {
+    answer = await fetch("/score", { method: "POST", body, headers: { "Content-Type": "application/octet-stream" } });
+  } catch {
+    throw new Error("The server has ended: start gregorio-chant page again.");
+  }
+  if (!answer.ok) throw new Error(await answer.text());
+  return answer.json();
+}
+
+function askSoon() {
+  clearTimeout(timer);
+  timer = setTimeout(() => ask(new TextEncoder().encode(score.value)), PAUSE);
+}
+
+function say(text) {
+  at("state").textContent = text;
+}
+
+// ---- showing
+
+function show(answer) {
+  const picture = new DOMParser().parseFromString(answer.picture, "image/svg+xml").documentElement;
+  at("picture").replaceChildren(document.importNode(picture, true));
+  // The server escapes each text of the score, and the policy of the page lets no script of it run.
+  at("messages").innerHTML = answer.messages;
+  at("canonical").textContent = answer.canonical;
+  at("dump").textContent = answer.dump;
+  at("name").textContent = answer.name;
+  at("name").parentElement.hidden = answer.name === "";
+  showCursor();
+}
+
+// Marks the syllable in the picture where the cursor stands.
+function showCursor() {
+  const before = score.value.slice(0, score.selectionStart).split("\n");
+  const line = before.length;
+  const column = [...before[line - 1].replaceAll("\ufeff", "")].length + 1;
+  let here = null;
+  for (const it of at("picture").querySelectorAll("g[data-line]")) {
+    it.classList.remove("here");
+    const [itsLine, itsColumn] = [Number(it.dataset.line), Number(it.dataset.column)];
+    if (itsLine < line || (itsLine === line && itsColumn <= column)) here = it;
+  }
+  here?.classList.add("here");
+}
+
+// ---- from the picture and the messages to the score
+
+// Returns the offset of a place of the score as the compiler counts: a column for each character but U+FEFF.
+function offsetOf(line, column) {
+  const lines = score.value.split("\n");
+  let offset = 0;
+  for (const it of lines.slice(0, line - 1)) offset += it.length + 1;
+  for (const it of lines[line - 1] ?? "") {
+    const isCounted = it !== "\ufeff";
+    if (column <= 1 && isCounted) break;
+    offset += it.length;
+    if (isCounted) column -= 1;
+  }
+  return offset;
+}
+
+function goTo(line, column) {
+  const offset = offsetOf(line, column);
+  // The field shows the place where it gets the focus, and not where the place changes.
+  score.blur();
+  score.setSelectionRange(offset, offset);
+  score.focus();
+  showCursor();
+}
+
+document.addEventListener("click", (event) => {
+  const place = event.target.closest(`#messages a[href^="#${PREFIX}l"]`);
+  if (place !== null) {
+    event.preventDefault();
+    goTo(...place.textContent.split(":").map(Number));
+    return;
+  }
+  const syllable = event.target.closest("#picture g[data-line]");
+  if (syllable !== null && event.target.closest("a") === null) goTo(Number(syllable.dataset.line), Number(syllable.dataset.column));
+});
+
+// ---- writing and dropping
+
+async function take(file) {
+  if (file.size > MOST_BYTES) {
+    say(`A score has ${MOST_BYTES.toLocaleString("en")} bytes at most here.`);
+    return;
+  }
+  const bytes = new Uint8Array(await file.arrayBuffer());
+  score.value = new TextDecoder("utf-8", { ignoreBOM: true }).decode(bytes);
+  score.setSelectionRange(0, 0);
+  // The bytes as they are: the field cannot hold what is no UTF-8.
+  ask(bytes);
+}
+
+score.addEventListener("input", askSoon);
+document.addEventListener("selectionchange", () => {
+  if (document.activeElement === score) showCursor();
+});
+addEventListener("dragover", (event) => {
+  event.preventDefault();
+  document.body.classList.add("over");
+});
+addEventListener("dragleave", () => document.body.classList.remove("over"));
+addEventListener("drop", (event) => {
+  document.body.classList.remove("over");
+  const [file] = event.dataTransfer.files;
+  if (file === undefined) return;
+  event.preventDefault();
+  take(file);
+});
+if (score.value !== "") askSoon();

@@ -1,0 +1,34 @@
+"""Runs the page's server on the loopback address."""
+from __future__ import annotations
+
+import socket
+
+import uvicorn
+
+from gregorio_chant.loopback import ADDRESS, own_names
+from gregorio_chant.streams import CANNOT_READ_OR_WRITE, reason_of, tell, write
+from gregorio_chant.web.answers import Answers
+from gregorio_chant.web.app import app_of
+
+
+def serve(port: int, answers: Answers) -> int:
+    """Serves the page at this port of this machine, or at a free one where it is 0, until it is
+    ended. Its address is the one line of standard output. Returns the exit status. Raises
+    `CannotWrite`."""
+    with socket.socket() as listening:
+        try:
+            listening.setsockopt(socket.SOL_SOCKET, socket.SO_REUSEADDR, 1)
+            listening.bind((ADDRESS, port))
+        except OSError as error:
+            tell(f"cannot serve at port {port}: {reason_of(error)}")
+            return CANNOT_READ_OR_WRITE
+        listening.listen()
+        bound: int = listening.getsockname()[1]
+        app = app_of(answers, own_names(bound))
+        config = uvicorn.Config(app, http="h11", ws="none", lifespan="off", log_config=None, access_log=False, server_header=False)
+        write(f"http://{ADDRESS}:{bound}/\n")
+        try:
+            uvicorn.Server(config).run(sockets=[listening])
+        except KeyboardInterrupt:
+            pass
+    return 0

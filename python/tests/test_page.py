@@ -1,0 +1,188 @@
+"""Tries the server of `page`: what it answers of a score, whom it refuses, how much it takes, what it lets a browser do. `tools/try_show` tries it in a browser."""
+from __future__ import annotations
+
+import json
+import re
+import signal
+import socket
+import subprocess
+import sys
+import time
+import unittest
+from pathlib import Path
+from typing import Any
+from urllib.parse import urlsplit
+from xml.etree import ElementTree as Xml
+
+from asking import Asking, foreign
+from gregorio_chant import Format, compile
+from support import EXAMPLES, FAULTY, SCORE, InFolder, command, has, without
+from test_picture import HOSTILE
+from test_show import Page
+
+_HAS_PACKAGES = has("starlette") and has("uvicorn")
+MOST = 1_000_000
+
+
+@unittest.skipUnless(_HAS_PACKAGES, "there is no starlette, or no uvicorn")
+class Serving(Asking):
+    """Each test starts the server on a free port of this machine, and ends it."""
+
+    def setUp(self) -> None:
+        super().setUp()
+        self.start()
+
+    def start(self, *words: str) -> None:
+        line = [sys.executable, "-m", "gregorio_chant", "page", *words]
+        self.server = subprocess.Popen(line, stdout=subprocess.PIPE, stderr=subprocess.PIPE)
+        self.addCleanup(self.stop, self.server)
+        assert self.server.stdout is not None
+        self.address = self.server.stdout.readline().decode().strip()
+        self.assertRegex(self.address, r"^http://127\.0\.0\.1:\d+/$")
+        self.port = urlsplit(self.address).port or 0
+        self.wait()
+
+    def wait(self) -> None:
+        """Waits until the server answers: it listens before it does."""
+        self.assertEqual(self.ask("GET", "/")[0], 200)
+
+    def stop(self, server: subprocess.Popen[bytes]) -> None:
+        """Ends the server as Control-C does: it has said nothing but its address."""
+        server.send_signal(signal.SIGINT)
+        self.assertEqual(server.communicate(timeout=20), (b"", b""))
+        self.assertEqual(server.returncode, 0)
+
+    def answer(self, score: bytes, **headers: str) -> Any:
+        status, body, _ = self.ask("POST", "/score", score, **headers)
+        self.assertEqual(status, 200)
+        return json.loads(body)
+
+    def test_answers(self) -> None:
+        """It answers the compiler's output and dump, and the picture and messages that `show` writes."""
+        for score in (FAULTY.encode(), (EXAMPLES / "every-finding.gabc").read_bytes(), b"", b"\xff", b"name: a;\n%%\n(c4) a(f) b(g\n", HOSTILE.encode()):
+            it = self.answer(score)
+            shown = command("show", "-", data=score).stdout.decode()
+            self.assertEqual((it["canonical"], it["dump"]), (compile(score).output, compile(score, Format.DUMP).output))
+            self.assertIn(it["picture"], shown)
+            self.assertIn(it["messages"], shown)
+            page = Page(it["picture"] + it["messages"])
+            self.assertEqual({"script", "b", "foo", "img", "style"} & set(page.tags), set())
+            self.assertEqual([name for name in page.attributes if name.startswith("on") or name == "style"], [])
+            Xml.fromstring(it["picture"])
+        self.assertEqual(self.answer(SCORE.encode())["name"], "Kyrie")
+
+    def test_page(self) -> None:
+        """The page has no script and no style within it, and asks for nothing but what the server has."""
+        status, body, headers = self.ask("GET", "/")
+        page = Page(body.decode())
+        self.assertEqual((status, headers["Content-Type"]), (200, "text/html; charset=utf-8"))
+        self.assertIn(f'data-most="{MOST}"', body.decode())
+        self.assertEqual((page.tags.count("script"), page.tags.count("style")), (1, 0))
+        self.assertEqual([it for it in page.attributes if it.startswith("on") or it == "style"], [])
+        for path, kind in (("/page.js", "text/javascript"), ("/page.css", "text/css"), ("/icon.svg", "image/svg+xml")):
+            self.assertIn(path, page.links)
+            status, body, headers = self.ask("GET", path)
+            self.assertEqual((status, headers.get_content_type()), (200, kind))
+            self.assertEqual(set(re.findall(rb"https?://[^\"' ]*", body)) - {b"http://www.w3.org/2000/svg"}, set())
+            self.assertNotRegex(body, rb"url\(|@import|eval\(")
+        self.assertEqual(set(page.links), {"/page.js", "/page.css", "/icon.svg"})
+
+    def test_policy(self) -> None:
+        """Each answer forbids a browser all but the page's own parts, also one that refuses."""
+        requests: list[tuple[str, str, dict[str, str], int]] = [
+            ("GET", "/", {}, 200), ("POST", "/score", {}, 200), ("GET", "/other", {}, 404), ("GET", "/score", {}, 405), ("POST", "/", {}, 405),
+            ("GET", "/", {"Host": "example.org"}, 403), ("POST", "/score", {"Content-Length": str(MOST + 1)}, 413),
+        ]
+        for method, path, sent, status in requests:
+            got, _, headers = self.ask(method, path, b"" if method == "POST" else None, **sent)
+            self.assertEqual(got, status, (method, path))
+            policy = headers["Content-Security-Policy"]
+            self.assertTrue(policy.startswith("default-src 'none'; "), policy)
+            self.assertEqual(set(re.findall(r"-(?:src|uri|action|ancestors) ([^;]*)", policy)), {"'none'", "'self'"})
+            self.assertEqual(headers["X-Content-Type-Options"], "nosniff")
+            self.assertNotIn("Access-Control-Allow-Origin", headers)
+
+    def test_foreign_requests(self) -> None:
+        """A request by another name of the server, also one that leads to this machine, or of a page from elsewhere, is refused before its body comes."""
+        for headers in foreign(self.port):
+            for method, path in (("POST", "/score"), ("GET", "/"), ("GET", "/page.js")):
+                self.assertEqual(self.status_of(self.head(method, path, Content_Length="1000", **headers)), 403, headers)
+        twice = self.head("GET", "/").replace(b"\r\n\r\n", b"\r\nOrigin: http://localhost:%d\r\nOrigin: http://example.org\r\n\r\n" % self.port)
+        self.assertEqual(self.status_of(twice), 403)
+        for host in ("localhost", "127.0.0.1", f"LOCALHOST:{self.port}", f"127.0.0.1:{self.port}"):
+            self.assertEqual(self.answer(SCORE.encode(), Host=host, Origin=f"http://{host}")["name"], "Kyrie")
+
+    def test_length(self) -> None:
+        """A body of the most bytes is read, and one above is refused: before it comes where its length is said, and else once it is too long."""
+        score = b"name: a;\n%%\n(c4) a(f)\n"
+        self.assertEqual(self.answer(score + b" " * (MOST - len(score)))["name"], "a")
+        self.assertEqual(self.status_of(self.head("POST", "/score", Content_Length=str(MOST + 1))), 413)
+        self.assertEqual(self.status_of(self.head("POST", "/score", Content_Length=str(MOST + 1), Expect="100-continue")), 413)
+        piece = b"%x\r\n%s\r\n" % (100_000, b" " * 100_000)
+        self.assertEqual(self.status_of(self.head("POST", "/score", Transfer_Encoding="chunked") + 10 * piece + b"1\r\n \r\n"), 413)
+        self.assertEqual(self.status_of(self.head("POST", "/score", Transfer_Encoding="chunked") + 10 * piece + b"0\r\n\r\n"), 200)
+
+    def test_loopback_alone(self) -> None:
+        """No other address of this machine leads to it."""
+        table = Path("/proc/net/tcp").read_text()
+        listening = [line.split()[1] for line in table.split("\n")[1:] if line and line.split()[3] == "0A"]
+        self.assertEqual([it for it in listening if it.endswith(f":{self.port:04X}")], [f"0100007F:{self.port:04X}"])
+        self.assertNotIn(f":{self.port:04X}", Path("/proc/net/tcp6").read_text() if Path("/proc/net/tcp6").exists() else "")
+        with self.assertRaises(ConnectionRefusedError):
+            socket.create_connection(("127.0.0.2", self.port), timeout=20)
+
+    def test_nothing_is_kept(self) -> None:
+        self.answer(FAULTY.encode())
+        self.assertEqual(list(self.room.iterdir()), [])
+
+    def test_rules(self) -> None:
+        score = b"name: x;\nmode: 9;\n%%\n(c4) a(f)\n"
+        self.assertNotIn("unknown-mode", self.answer(score)["messages"])
+        self.start("--rules")
+        self.assertIn("unknown-mode", self.answer(score)["messages"])
+        self.put("gregorio-chant.toml", "rules = true\nignore = ['E1']\n")
+        self.start()
+        self.assertIn("unknown-mode", self.answer(score)["messages"])
+        self.assertNotIn("E1", self.answer(FAULTY.encode())["messages"])
+        self.start("--no-config")
+        self.assertNotIn("unknown-mode", self.answer(score)["messages"])
+
+    def test_at_once(self) -> None:
+        """A long score delays no other answer for long."""
+        score = b"name: a;\n%%\n(c4) " + b"Ky(f)ri(gfg)e(e.) " * 10_000
+        with socket.create_connection(("127.0.0.1", self.port), timeout=60) as slow:
+            slow.sendall(self.head("POST", "/score", Content_Length=str(len(score))) + score)
+            begin = time.monotonic()
+            self.answer(SCORE.encode())
+            self.assertLess(time.monotonic() - begin, 5)
+            self.assertIn(b"200", slow.recv(100))
+
+    def test_port(self) -> None:
+        taken = command("page", "--port", str(self.port))
+        self.assertEqual((taken.returncode, taken.stdout), (4, b""))
+        self.assertEqual(taken.stderr.decode(), f"gregorio-chant: cannot serve at port {self.port}: Address already in use\n")
+
+
+class Words(InFolder):
+    def test_refused(self) -> None:
+        for words in (("--port", "x"), ("--port", "65536"), ("--port", "-1"), ("a.gabc",)):
+            self.assertEqual(command("page", *words).returncode, 3, words)
+
+    @unittest.skipUnless(_HAS_PACKAGES, "there is no starlette, or no uvicorn")
+    def test_settings(self) -> None:
+        self.put("gregorio-chant.toml", "rule = true\n")
+        ran = command("page")
+        self.assertEqual((ran.returncode, ran.stdout), (3, b""))
+
+    @unittest.skipUnless(_HAS_PACKAGES, "there is no starlette, or no uvicorn")
+    def test_missing(self) -> None:
+        for package in ("starlette", "uvicorn"):
+            room = self.room / package
+            room.mkdir()
+            ran = command("page", environment=without(room, package))
+            told = f"gregorio-chant: page needs the package {package}: apt install python3-{package} in Debian, else pip install {package}\n"
+            self.assertEqual((ran.returncode, ran.stdout, ran.stderr.decode()), (3, b"", told))
+
+
+if __name__ == "__main__":
+    unittest.main()
