@@ -169,8 +169,8 @@ fn raw_len(bytes: &[u8]) -> usize
     bracketed_len(bytes, opening.as_bytes(), b'<', closing.as_bytes())
 }
 
-/// Returns how many bytes the letter or the raw part has that `bytes` begin with; 0, if none is known
-/// to be there.
+/// Returns how many bytes the letter or the raw part has that `bytes` begin with; 0, if none is
+/// known to be there.
 fn word_len(bytes: &[u8]) -> usize
     ensures within { result ≤ length bytes.now }
     ensures word { 0 < result → IsWord (take result bytes.now) }
@@ -218,8 +218,8 @@ pub(crate) fn run_len(bytes: &[u8]) -> usize
     end
 }
 
-/// Returns how many bytes `opening`, a run with something in it and `closing` have, if `bytes` begin
-/// with these; else 0.
+/// Returns how many bytes `opening`, a run with something in it and `closing` have, if `bytes`
+/// begin with these; else 0.
 pub(crate) fn enclosed_len(bytes: &[u8], opening: &[u8], closing: &[u8]) -> usize
     ensures within { result ≤ length bytes.now }
     ensures enclosed { 0 < result →
