@@ -19,18 +19,10 @@ use Rattle.gabc_text.specs.Printed.{printed_piece}
 use Rattle.gabc_text.specs.RegularText.{is_letter_byte, is_continuation, is_first_of_two, is_first_of_three}
 use Rattle.gabc_text.specs.machine.PrintedPieces.{Good, Says}
 use Rattle.gabc_text.specs.machine.RegularBytes.{is_low, word_after, blank_after, printed_text, IsSpelled, IsWord, IsRun}
-use Rattle.gabc_text.proofs.tokens.CasesOfCharacters.{and_both}
+use Rattle.gabc_text.proofs.tokens.CasesOfCharacters.{and_both, no_not}
 use Rattle.gabc_text.proofs.printing.TokensAreReadAgain.{letter_stable}
 use Rattle.gabc_text.proofs.printing.PiecesPrintWell.{letter_emits, special_no_blank}
-use Rattle.gabc_text.proofs.printing.PrintedPiecesAreJoined.{printed_join, good_join, known_join, word_join, blank_join}
-
-no_or : (a b : Bool) → (a || b) ≡ false → (a ≡ false) × (b ≡ false)
-no_or true b e = absurd (cc)
-no_or false b e = (refl, e)
-
-no_not : (a : Bool) → not a ≡ true → a ≡ false
-no_not true e = absurd (cc)
-no_not false e = refl
+use Rattle.gabc_text.proofs.printing.PrintedPiecesAreJoined.{printed_join, good_join, known_join, word_join, blank_join, other}
 
 -- ---- spelled characters
 
@@ -156,13 +148,6 @@ escaped_word c bytes special s = record {
   word = refl;
   known = refl;
 }
-
-other : (d c : ℕ) → d < c → (d == c) ≡ false
-other d c h = by (d == c) refl
-  where
-    by : (b : Bool) → (d == c) ≡ b → b ≡ false
-    by false e = refl
-    by true e = absurd (let f = eqb-true d c e in omega arith)
 
 no_special : (c : ℕ) → 128 ≤ c → is_special c ≡ false
 no_special c h =

@@ -25,6 +25,7 @@ use Rattle.gabc_text.specs.machine.PrintedPieces.{Good, AllGood}
 use Rattle.gabc_text.specs.machine.RegularBytes.{no_styles, word_after, blank_after, first_styles, last_styles, AreApart, printed_text, IsSpelled, IsRun, IsEnclosed, IsPart, IsBegun}
 use Rattle.gabc_text.proofs.printing.PiecesPrintWell.{any_blank}
 use Rattle.gabc_text.proofs.RegularBytes.{ascii_spelled, spelled_join, one_spelled, none_spelled, chars_of, is_text, behind_is, at_blank, blank, blank_good}
+use Rattle.gabc_text.proofs.tokens.CasesOfCharacters.{no_or}
 use Rattle.gabc_text.proofs.printing.PrintedTagsOpenStyles.{member, member_filter}
 use Rattle.gabc_text.proofs.printing.PrintedTextIsReadAgain.{Sound, IsCentre}
 use Rattle.gabc_text.proofs.printing.PrintedViewIsRegular.{regular_is}
@@ -51,13 +52,9 @@ pub apart_style : (ss : Styles) (s : Style) → has_style ss s ≡ false → Are
 unfolding listed_styles
 apart_style ss s h = by (listed_styles ss) (member_filter s (λ r. has_style ss r) all_styles ∙ ap (λ (b : Bool). b && member s all_styles) h)
   where
-    no_or : (a b : Bool) → (a || b) ≡ false → a ≡ false
-    no_or true b e = absurd (cc)
-    no_or false b e = refl
-
     by : (old : List Style) → member s old ≡ false → AreApart old (s ∷ [])
     by [] e = refl
-    by (r ∷ old) e = rw (no_or (is_same r s) (member s old) e) refl
+    by (r ∷ old) e = rw ((no_or (is_same r s) (member s old) e).0) refl
 
 -- ---- parts
 

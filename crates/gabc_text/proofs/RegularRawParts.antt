@@ -11,7 +11,7 @@ use Rattle.gabc_text.specs.declared.token.TokenKind.TheVariants as kind
 use Rattle.gabc_text.specs.declared.token.RawKind.{RawKind}
 use Rattle.gabc_text.specs.declared.token.RawKind.TheVariants.{V, Sp, Alt}
 use Rattle.gabc_text.specs.declared.view.PieceKind.TheVariants as piece
-use Rattle.gabc_text.specs.Token.{Token, spelling, through, ended_token, ending_of}
+use Rattle.gabc_text.specs.Token.{spelling, through, ended_token, ending_of}
 use Rattle.gabc_text.specs.ExampleTexts.{beginning_of}
 use Rattle.gabc_text.specs.View.{PieceFacts}
 use Rattle.gabc_text.specs.ViewFacts.{ViewFacts}
@@ -23,7 +23,7 @@ use Rattle.gabc_text.proofs.RegularBytes.{ascii_spelled, spelled_join, chars_of,
 use Rattle.gabc_text.proofs.RegularParts.{none_listed, starts_so, taken_first, between_is, view_of, begun_sound, begun_text, begun_regular}
 use Rattle.std.proofs.Math.Seq.{take-add}
 use Rattle.std.proofs.lemmas.List.{get_or-drop}
-use Rattle.gabc_text.proofs.tokens.CasesOfCharacters.{and_both}
+use Rattle.gabc_text.proofs.tokens.CasesOfCharacters.{and_both, no_not}
 use Rattle.gabc_text.proofs.tokens.RawEndingIsMatched.{begins_itself}
 use Rattle.gabc_text.proofs.printing.TokensAreReadAgain.{again_by}
 use Rattle.gabc_text.proofs.printing.PrintedTextIsKept.{written_append}
@@ -31,13 +31,6 @@ use Rattle.gabc_text.proofs.printing.PrintedTextIsReadAgain.{Sound}
 use Rattle.gabc_text.proofs.printing.PrintedViewIsRegular.{regular_is}
 
 -- ---- plain bytes
-
-no_not : (a : Bool) → not a ≡ true → a ≡ false
-no_not true e = absurd (cc)
-no_not false e = refl
-
-not_so : (a : Bool) → a ≡ false → not a ≡ true
-not_so a e = rw e refl
 
 plain_low : (but b : ℕ) → is_plain_byte but b ≡ true → is_low b ≡ true
 plain_low but b h =
@@ -77,9 +70,6 @@ raw_name : RawKind → List ℕ
 raw_name V = codes "v>"
 raw_name Sp = codes "sp>"
 raw_name Alt = codes "alt>"
-
-raw_token : RawKind → List ℕ → Token
-raw_token raw inner = record { kind = kind.Raw; first = 60; more = raw_name raw ++ (inner ++ ending_of raw) }
 
 raw_stable : (raw : RawKind) (inner : List ℕ) → list_all (is_plain_byte 60) inner ≡ true → Stable (record { kind = kind.Raw; first = 60; more = raw_name raw ++ (inner ++ ending_of raw) })
 unfolding raw_name

@@ -16,7 +16,8 @@ pub record IsRegularText (t : List ℕ) : Type 0 where
 abbrev pub is_letter_byte : ℕ → Bool
 is_letter_byte b = not (is_special b) && (nat_lt 32 b && nat_lt b 127)
 
--- a byte within a character of several bytes, the first byte of one of two bytes, and that of one from U+1000 to U+CFFF
+-- a byte within a character of several bytes; the first byte of one of two bytes, and of one from
+-- U+1000 to U+CFFF
 abbrev pub is_continuation : ℕ → Bool
 is_continuation b = nat_lt 127 b && nat_lt b 192
 
@@ -26,7 +27,7 @@ is_first_of_two b = nat_lt 193 b && nat_lt b 224
 abbrev pub is_first_of_three : ℕ → Bool
 is_first_of_three b = nat_lt 224 b && nat_lt b 237
 
--- by these bytes, the first of which may begin it
+-- the first of these bytes begins a letter
 abbrev pub begins_letter : ℕ → ℕ → ℕ → Bool
 begins_letter a b c = is_letter_byte a || ((is_first_of_two a && is_continuation b) || (is_first_of_three a && (is_continuation b && is_continuation c)))
 

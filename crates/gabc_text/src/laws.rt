@@ -150,9 +150,9 @@ pub fn view_again()
 {}
 
 /// A regular text says in front of a `(` what it says alone, whatever follows: it ends at that `(`,
-/// all of it is kept, and nothing is found in it, whatever place it begins at. What is printed of its
-/// view is the text itself, whatever whole text the spans count the bytes of. So is its canonical
-/// text, if it has no translation.
+/// all of it is kept, and nothing is found in it, whatever place it begins at. What is printed of
+/// its view is the text itself, whatever whole text the spans count the bytes of. So is its
+/// canonical text, if it has no translation.
 pub fn a_regular_text_is_printed_as_it_stands()
     ensures says { (t rest : List ℕ) → IsRegularText t →
         view_facts (t ++ 40 ∷ rest) ≡ view_facts t }

@@ -82,8 +82,8 @@ impl Before {
     }
 }
 
-/// Returns the styled part that `bytes` begin with: a run within the tags of a style that is not one
-/// of the styles `last`.
+/// Returns the styled part that `bytes` begin with: a run within the tags of a style that is not
+/// one of the styles `last`.
 fn styled_part(bytes: &[u8], last: Styles) -> Option<Part>
     ensures within { IfSome result (λ p. (0 < p.len) × (p.len ≤ length bytes.now)) }
     ensures part { IfSome result (λ p. IsPart p.styles p.word (take p.len bytes.now)) }
@@ -133,8 +133,8 @@ fn mark_len(bytes: &[u8]) -> usize
     }
 }
 
-/// Returns the part in tags that `bytes` begin with, where the piece before has the styles `last`: a
-/// span mark or a styled part.
+/// Returns the part in tags that `bytes` begin with, where the piece before has the styles `last`:
+/// a span mark or a styled part.
 fn tagged_part(bytes: &[u8], last: Styles) -> Option<Part>
     ensures within { IfSome result (λ p. (0 < p.len) × (p.len ≤ length bytes.now)) }
     ensures part { IfSome result (λ p. IsPart p.styles p.word (take p.len bytes.now)) }
@@ -195,8 +195,8 @@ fn step_after_blank(bytes: &[u8], end: usize, before: Before) -> Option<Step>
     })
 }
 
-/// Returns what a text goes on with from `end`, of which `before` is known, if that is its centre: a
-/// run within braces.
+/// Returns what a text goes on with from `end`, of which `before` is known, if that is its centre:
+/// a run within braces.
 fn centre_step(bytes: &[u8], end: usize, before: Before) -> Option<Step>
     requires { end < length bytes.now }
     ensures within { IfSome result (λ s. (0 < s.len) × (end + s.len ≤ length bytes.now)) }
@@ -255,8 +255,8 @@ fn untranslated_len(bytes: &[u8]) -> usize
     end
 }
 
-/// Returns how many bytes the translation has that `bytes` begin with, if it is of printable ASCII and
-/// a `(` follows; else 0.
+/// Returns how many bytes the translation has that `bytes` begin with, if it is of printable ASCII
+/// and a `(` follows; else 0.
 fn translation_len(bytes: &[u8]) -> usize
     ensures within { result ≤ length bytes.now }
     ensures bracketed { 0 < result → IsBracketed (codes "[") 93 (codes "]") (take result bytes.now) }
@@ -271,10 +271,10 @@ fn translation_len(bytes: &[u8]) -> usize
 }
 
 /// Returns how many of the first of `bytes` are a text that is printed as it stands in front of a
-/// `(`, and in which nothing is found (`laws::a_regular_text_is_printed_as_it_stands`): letters and raw
-/// parts, with single blanks between them, some of them within the tags of a style, some in one
-/// centre; span marks; and a translation, if a `(` follows. It goes past each letter of ASCII, of two
-/// bytes, and from U+1000 to U+CFFF.
+/// `(`, and in which nothing is found (`laws::a_regular_text_is_printed_as_it_stands`): letters and
+/// raw parts, with single blanks between them, some of them within the tags of a style, some in one
+/// centre; span marks; and a translation, if a `(` follows. It goes past each letter of ASCII, of
+/// two bytes, and from U+1000 to U+CFFF.
 pub fn regular_text(bytes: &[u8]) -> usize
     ensures within { result ≤ length bytes.now }
     ensures text { IsText (take result bytes.now) }

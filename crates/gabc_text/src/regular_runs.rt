@@ -9,56 +9,56 @@ ghost use Rattle.gabc_text.specs.machine.RegularBytes.{IsWord, IsRun, IsBrackete
 
 use crate::token::{RawKind, is_special};
 
-/// Whether `byte` is of ASCII, and a character that a `$` makes a letter.
+/// Returns whether `byte` is of ASCII, and a character that a `$` makes a letter.
 fn is_special_byte(byte: u8) -> bool
     ensures { result ≡ is_special byte }
 {
     is_special(char::from(byte))
 }
 
-/// Whether `byte` is a letter by itself: it is of ASCII, and printed as it stands.
+/// Returns whether `byte` is a letter by itself: it is of ASCII, and printed as it stands.
 fn is_letter_byte(byte: u8) -> bool
     ensures { result ≡ is_letter_byte byte }
 {
     !is_special_byte(byte) && byte > b' ' && byte < 0x7F
 }
 
-/// Whether `byte` goes on with a character of several bytes.
+/// Returns whether `byte` goes on with a character of several bytes.
 fn is_continuation(byte: u8) -> bool
     ensures { result ≡ is_continuation byte }
 {
     byte > 0x7F && byte < 0xC0
 }
 
-/// Whether a character of two bytes may begin with `byte`.
+/// Returns whether a character of two bytes may begin with `byte`.
 fn is_first_of_two(byte: u8) -> bool
     ensures { result ≡ is_first_of_two byte }
 {
     byte > 0xC1 && byte < 0xE0
 }
 
-/// Whether a character from U+1000 to U+CFFF may begin with `byte`.
+/// Returns whether a character from U+1000 to U+CFFF may begin with `byte`.
 fn is_first_of_three(byte: u8) -> bool
     ensures { result ≡ is_first_of_three byte }
 {
     byte > 0xE0 && byte < 0xED
 }
 
-/// Whether the bytes are a `$` and a character that it makes a letter.
+/// Returns whether the bytes are a `$` and a character that it makes a letter.
 fn is_escape(first: u8, second: u8) -> bool
     ensures { result ≡ (first == 36 && is_special second) }
 {
     first == b'$' && is_special_byte(second)
 }
 
-/// Whether the bytes are a letter of two bytes.
+/// Returns whether the bytes are a letter of two bytes.
 fn is_pair(first: u8, second: u8) -> bool
     ensures { result ≡ (is_first_of_two first && is_continuation second) }
 {
     is_first_of_two(first) && is_continuation(second)
 }
 
-/// Whether the bytes are a letter from U+1000 to U+CFFF.
+/// Returns whether the bytes are a letter from U+1000 to U+CFFF.
 fn is_triple(first: u8, second: u8, third: u8) -> bool
     ensures { result ≡ (is_first_of_three first && (is_continuation second && is_continuation third)) }
 {
@@ -98,7 +98,7 @@ fn letter_len(bytes: &[u8]) -> usize
     }
 }
 
-/// Whether `byte` is of printable ASCII, and not `stop`.
+/// Returns whether `byte` is of printable ASCII, and not `stop`.
 fn is_plain_byte(stop: u8, byte: u8) -> bool
     ensures { result ≡ is_plain_byte stop byte }
 {
@@ -169,8 +169,8 @@ fn raw_len(bytes: &[u8]) -> usize
     bracketed_len(bytes, opening.as_bytes(), b'<', closing.as_bytes())
 }
 
-/// Returns how many bytes the letter or the raw part has that `bytes` begin with; 0, if none is known
-/// to be there.
+/// Returns how many bytes the letter or the raw part has that `bytes` begin with; 0, if none is
+/// known to be there.
 fn word_len(bytes: &[u8]) -> usize
     ensures within { result ≤ length bytes.now }
     ensures word { 0 < result → IsWord (take result bytes.now) }
@@ -218,8 +218,8 @@ pub(crate) fn run_len(bytes: &[u8]) -> usize
     end
 }
 
-/// Returns how many bytes `opening`, a run with something in it and `closing` have, if `bytes` begin
-/// with these; else 0.
+/// Returns how many bytes `opening`, a run with something in it and `closing` have, if `bytes`
+/// begin with these; else 0.
 pub(crate) fn enclosed_len(bytes: &[u8], opening: &[u8], closing: &[u8]) -> usize
     ensures within { result ≤ length bytes.now }
     ensures enclosed { 0 < result →

@@ -1,4 +1,4 @@
--- A text that begins with a blank, as an LF, begins a word, and says nothing else that it would not say without it.
+-- A text that begins with a blank, as an LF, begins a word, and says nothing else by it.
 use Rattle.std.proofs.Common.{◌≡◌, ℕ, ◌+◌, List, [], ◌∷◌, ◌++◌, Bool, true, false, not, ◌||◌, ◌&&◌, is_some, length, Option, Some, None, refl, ap, ap₂, arith}
 use Rattle.gabc_text.specs.declared.styles.Style.{Style}
 use Rattle.gabc_text.specs.declared.styles.Style.TheVariants.{B, C, E, I, Sc, Tt, Ul}

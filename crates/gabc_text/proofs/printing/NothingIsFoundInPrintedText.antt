@@ -25,6 +25,7 @@ use Rattle.gabc_text.proofs.printing.PrintedBracesGiveCentre.{centre_from, no_ce
 use Rattle.gabc_text.proofs.printing.PrintedTextIsReadAgain.{Sound, IsCentre, reverse_push}
 use Rattle.gabc_text.proofs.printing.PrintedTextIsKept.{view_kept, word_kept}
 use Rattle.gabc_text.specs.machine.RegularBytes.{is_unknown, AllKnown}
+use Rattle.gabc_text.proofs.tokens.CasesOfCharacters.{no_or}
 use Rattle.gabc_text.proofs.printing.PrintedTagsOpenStyles.{push, push_append, along_append, member, AllOnce, across, once, same_style, any_append, any_reverse, within, open_one, close_one, closed}
 use Rattle.gabc_text.proofs.printing.PrintedPiecesAreReadAgain.{AllSilent, between_silent, are_braces}
 use Rattle.gabc_text.specs.machine.PrintedPieces.{AllGood, Good, Says}
@@ -64,10 +65,6 @@ other_than y s ys h g = by (is_same y s) refl
 in_tail : (a b : Bool) → b ≡ true → (a || b) ≡ true
 in_tail true b e = refl
 in_tail false b e = e
-
-no_or : (a b : Bool) → (a || b) ≡ false → (a ≡ false) × (b ≡ false)
-no_or true b e = absurd (cc)
-no_or false b e = (refl, e)
 
 once_more : (xs : List Style) (y : Style) → AllOnce xs → member y xs ≡ false → AllOnce (xs ++ y ∷ [])
 once_more [] y h g = (refl, tt)

@@ -123,12 +123,15 @@ abbrev pub IsPast : Option Span → ℕ → Type 0
 IsPast None i = Unit {0}
 IsPast (Some c) i = (c.from < i) × (c.to < i)
 
-other : (d c : ℕ) → d < c → (d == c) ≡ false
-other d c h = by (d == c) refl
+differs : (d c : ℕ) → (d ≡ c → ⊥) → (d == c) ≡ false
+differs d c h = by (d == c) refl
   where
     by : (b : Bool) → (d == c) ≡ b → b ≡ false
     by false e = refl
-    by true e = absurd (let f = eqb-true d c e in omega arith)
+    by true e = absurd (h (eqb-true d c e))
+
+pub other : (d c : ℕ) → d < c → (d == c) ≡ false
+other d c h = differs d c (λ e. omega arith)
 
 no_braces : (centre : Option Span) (i : ℕ) → IsPast centre i → brace_tokens centre i ≡ []
 no_braces None i h = refl
@@ -218,13 +221,6 @@ last_in ss (p ∷ ps) e = by ps
     by (q ∷ ps) = by ps
 
 -- ---- the centre
-
-differs : (d c : ℕ) → (d ≡ c → ⊥) → (d == c) ≡ false
-differs d c h = by (d == c) refl
-  where
-    by : (b : Bool) → (d == c) ≡ b → b ≡ false
-    by false e = refl
-    by true e = absurd (h (eqb-true d c e))
 
 -- in front of the centre
 begun_centre : (c : Span) (i : ℕ) (old : List Style) (ps : List PieceFacts) → i + length ps ≡ c.from → c.from < c.to

@@ -12,7 +12,7 @@ use Rattle.gabc_text.specs.Printed.{printed_piece}
 abbrev pub Stable : Token → Type 0
 Stable k = (u : List ℕ) → tokens (spelling k ++ u) ≡ k ∷ tokens u
 
--- a piece but a blank, which is printed as a token of that kind, and a blank after a word and no blank
+-- a piece but a blank that is printed as a token of its kind; a blank after a word and no blank
 abbrev pub Says : PieceKind → List ℕ → Bool → Bool → Type 0
 Says piece.Blank t w b = (t ≡ []) × (w ≡ true) × (b ≡ false)
 Says k t w b = (kind_of (printed_piece k t) ≡ Some k) × (text_of_piece k (printed_piece k t) ≡ t) × (is_space (printed_piece k t).kind ≡ false)

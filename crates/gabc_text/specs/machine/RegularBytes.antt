@@ -38,7 +38,7 @@ abbrev pub blank_after : Bool → List PieceFacts → Bool
 blank_after b [] = b
 blank_after b (p ∷ ps) = blank_after (is_blank_piece p.kind) ps
 
--- the styles of the first of these, and of the last, or, if there is none, of what stands before them
+-- the styles of the first of these; those of the last, or, if there is none, of what stands before
 abbrev pub first_styles : List PieceFacts → List Style
 first_styles [] = []
 first_styles (p ∷ ps) = p.styles
@@ -93,7 +93,7 @@ pub record IsRun (bytes : List ℕ) : Type 0 where
   pub no_blank : blank_after false pieces ≡ false
   pub word : 0 < length bytes → word_after false pieces ≡ true
 
--- printable ASCII between these, the second of which begins with a character that does not stand in it
+-- printable ASCII between these, in which the stop does not stand
 pub record IsBracketed (opening : List ℕ) (stop : ℕ) (closing bytes : List ℕ) : Type 0 where
   pub inner : List ℕ
   pub plain : list_all (is_plain_byte stop) inner ≡ true
