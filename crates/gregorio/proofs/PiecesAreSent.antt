@@ -1,5 +1,5 @@
 -- What an engine writes of pieces of an input, and sinks take.
-use Rattle.std.proofs.Common.{◌≡◌, ℕ, ◌+◌, ◌-◌, ◌<◌, ◌≤◌, List, [], ◌++◌, length, take, drop, take_all, length-append, append-nil, length-drop, append_assoc, Option, Result, Ok, Err, ◌⊎◌, inl, inr, refl, sym, ap, ◌∙◌, subst, arith}
+use Rattle.std.proofs.Common.{◌≡◌, ℕ, ◌+◌, ◌-◌, ◌<◌, ◌≤◌, List, [], ◌++◌, length, take, drop, take_all, take-add, take-append-drop, length-append, append-nil, length-drop, append_assoc, Option, Result, Ok, Err, ◌⊎◌, inl, inr, refl, sym, ap, ◌∙◌, subst, arith}
 use Rattle.std.proofs.Math.Seq.{take-append-add}
 use Rattle.std.proofs.lemmas.List.{take-append-le}
 use Rattle.std.proofs.KnownBytes.{Appends-nil, Appends-trans, Consumes-nil, Consumes-trans, Consumes-kept}
@@ -10,10 +10,11 @@ use Rattle.gabc_places.proofs.CallsInTime.{goes_on_here, goes_on_behind, fails_b
 use Rattle.gregorio.specs.declared.source_ending.SourceEnding.{SourceEnding}
 use Rattle.gregorio.specs.declared.source_ending.SourceEnding.TheVariants.{Broken}
 use Rattle.gregorio_jobs.specs.declared.job.Format.{Format}
-use Rattle.gregorio.specs.Engine.{IsPrompt, NothingWaits, with_waiting}
+use Rattle.gregorio.specs.Engine.{IsPrompt, NothingWaits, TakesFront, with_waiting}
 use Rattle.gregorio.specs.Run.{IsPointOf, used}
 use Rattle.gregorio.specs.witness.Engine.{EngineState, streams_left}
 use Rattle.gregorio.specs.Streams.{Streams, behind_bytes}
+use Rattle.gregorio.proofs.pieces.BytesAreTaken.{none_wait}
 use Rattle.gregorio.specs.machine.Compile.{AreSent, AreCut, IsPromptAs, Knows, NoneOrAll, StreamsAreCut, IsFed, IsFedFrom, IsFedAll, IsFedInPart}
 
 -- what holds whatever is answered
@@ -32,9 +33,12 @@ one_fails : (a b c d e f : Calls) → GoesOn a b → GoesOn d e → (FailsOnce b
 one_fails a b c d e f h k (inl x) = inl (fails_behind a b c h x.0, goes_on_behind d e f k x.1)
 one_fails a b c d e f h k (inr x) = inr (goes_on_behind a b c h x.0, fails_behind d e f k x.1)
 
--- a call of `feed` took these bytes
+-- where nothing waited these bytes were taken
 abbrev pub IsTaken : EngineState → EngineState → List ℕ → Type 0
 IsTaken e f bytes = (rest : List ℕ) (ending : SourceEnding) → streams_left e ending (bytes ++ rest) ≡ with_waiting f (streams_left f ending rest)
+
+pub taken_from : (e f : EngineState) (piece : List ℕ) (count : ℕ) → NothingWaits e → TakesFront e piece count f → IsTaken e f (take count piece)
+taken_from e f piece count waits takes rest ending = sym (none_wait e waits (streams_left e ending (take count piece ++ rest))) ∙ takes.brings rest ending
 
 -- all behind so many bytes
 pub all_behind : (count : ℕ) (piece : List ℕ) → take (length piece - count) (drop count piece) ≡ drop count piece
@@ -83,6 +87,11 @@ knows_here e f xs output lines p law = record {
   known = ap (streams_left e Broken) (sym (append-nil xs)) ∙ law [] Broken;
   prompt = p.prompt;
 }
+
+-- both points of a sending are known
+none_or_all : (e : EngineState) (piece : List ℕ) (ending : SourceEnding) (xs ls : List ℕ) → Knows e piece ending [] [] → Knows e piece ending xs ls → (o l : List ℕ) → NoneOrAll xs ls o l → Knows e piece ending o l
+none_or_all e piece ending xs ls none all o l (inl p) = subst (λ (x : List ℕ). Knows e piece ending x l) (sym p.0) (subst (λ (x : List ℕ). Knows e piece ending [] x) (sym p.1) none)
+none_or_all e piece ending xs ls none all o l (inr p) = subst (λ (x : List ℕ). Knows e piece ending x l) (sym p.0) (subst (λ (x : List ℕ). Knows e piece ending xs x) (sym p.1) all)
 
 pub prompt_on : (e f g : EngineState) → IsPromptAs e f → IsPromptAs f g → IsPromptAs e g
 prompt_on e f g p q = record { format = q.format ∙ p.format; prompt = subst (λ (x : Format). IsPrompt x (streams_left g Broken [])) p.format q.prompt }
@@ -183,6 +192,42 @@ module _ {A B : Type 0} (wrote : A → Option (List ℕ)) (went : A → Calls) (
       let s = streams_left f ending rest in
       subst (λ (y : Streams). AreCut (Knows e (xs ++ rest) ending) (used wrote went o q) (used emitted went_too m r) y.output y.messages) (sym (a.law rest ending))
       (cut_after (Knows f rest ending) (Knows e (xs ++ rest) ending) o p q m n r a.output a.lines s.output s.messages (knows_behind e f xs rest ending a.output a.lines a.prompt.format a.law) a.sent c)
+
+  -- what a front of the rest of a piece brings is sent
+  pub front_is_sent : (o p q : A) (m n r : B) (e f g h : EngineState) (piece rest : List ℕ) (count k : ℕ) → rest ≡ drop count piece
+      → IsFed (used wrote went o p) (used emitted went_too m n) e f (take count piece) → NothingWaits f → TakesFront f rest k g
+      → AreSent (used wrote went p q) (used emitted went_too n r) g.output g.messages → h ≡ record g { output = []; messages = [] }
+      → IsFed (used wrote went o q) (used emitted went_too m r) e h (take (count + k) piece)
+  front_is_sent o p q m n r e f g h piece rest count k is a waits takes sent forgets =
+      subst (IsFed (used wrote went o q) (used emitted went_too m r) e h) (sym (take-add count k piece ∙ ap (λ (xs : List ℕ). take count piece ++ take k xs) (sym is)))
+      (fed_on o p q m n r e f h (take count piece) (take k rest) a (subst (λ (x : EngineState). IsFed (used wrote went p q) (used emitted went_too n r) f x (take k rest)) (sym forgets) (record {
+        output = g.output;
+        lines = g.messages;
+        sent = sent;
+        prompt = record { format = takes.format; prompt = subst (λ (x : Format). IsPrompt x (streams_left g Broken [])) takes.format takes.prompt };
+        law = taken_from f g rest k waits takes;
+      })))
+
+  -- a sink failed at what such a front brings
+  pub front_is_cut : (o p q : A) (m n r : B) (e f g : EngineState) (piece rest : List ℕ) (count k : ℕ) (ending : SourceEnding) → rest ≡ drop count piece
+      → IsFed (used wrote went o p) (used emitted went_too m n) e f (take count piece) → NothingWaits f → TakesFront f rest k g
+      → AreCut (NoneOrAll g.output g.messages) (used wrote went p q) (used emitted went_too n r) g.output g.messages
+      → StreamsAreCut (used wrote went o q) (used emitted went_too m r) e ending piece
+  front_is_cut o p q m n r e f g piece rest count k ending is a waits takes cut =
+      let law = taken_from f g rest k waits takes in
+      let front : List ℕ = take k rest in
+      let later : List ℕ = drop k rest in
+      let here : IsPromptAs f g = record { format = takes.format; prompt = subst (λ (x : Format). IsPrompt x (streams_left g Broken [])) takes.format takes.prompt } in
+      let s = streams_left g ending later in
+      let same : streams_left f ending rest ≡ behind_bytes g.output g.messages s = ap (streams_left f ending) (sym (take-append-drop k rest)) ∙ law later ending in
+      let none : Knows f rest ending [] [] = knows_longer f [] rest ending [] [] (knows_here f f [] [] [] (record { format = refl; prompt = subst (λ (x : Format). IsPrompt x (streams_left f Broken [])) (sym a.prompt.format) a.prompt.prompt }) (λ more at. refl)) in
+      let all : Knows f rest ending g.output g.messages =
+      subst (λ (xs : List ℕ). Knows f xs ending g.output g.messages) (take-append-drop k rest) (knows_longer f front later ending g.output g.messages (knows_here f g front g.output g.messages here law)) in
+      let step : StreamsAreCut (used wrote went p q) (used emitted went_too n r) f ending rest =
+      subst (λ (y : Streams). AreCut (Knows f rest ending) (used wrote went p q) (used emitted went_too n r) y.output y.messages) (sym same)
+      (cut_longer (NoneOrAll g.output g.messages) (Knows f rest ending) p q n r g.output g.messages s.output s.messages (none_or_all f rest ending g.output g.messages none all) cut) in
+      subst (StreamsAreCut (used wrote went o q) (used emitted went_too m r) e ending) (ap (λ (xs : List ℕ). take count piece ++ xs) is ∙ take-append-drop count piece)
+      (cut_by o p q m n r e f (take count piece) rest ending a step)
 
   -- ---- an input
 

@@ -1,5 +1,5 @@
 -- The parts that are made from the fields of a state stand together as those of an engine that runs.
-use Rattle.std.proofs.Common.{◌≡◌, ℕ, ◌+◌, ◌-◌, ◌≤◌, List, [], ◌∷◌, Bool, true, false, Option, Some, None, is_none, inl, IsUtf8, encode_utf8_all, refl, ap, sym, subst, ◌∙◌, arith}
+use Rattle.std.proofs.Common.{◌≡◌, ℕ, ◌+◌, ◌*◌, ◌-◌, ◌≤◌, List, [], ◌∷◌, Bool, true, false, Option, Some, None, is_none, inl, IsUtf8, encode_utf8_all, refl, ap, sym, subst, ◌∙◌, arith}
 use Rattle.std.proofs.lemmas.Bool.{and_parts, false≢true}
 use Rattle.std.proofs.lemmas.List.Elements.{All-cons, All-head, All-nil, All-tail}
 use Rattle.std.proofs.lemmas.Str.{chars_from_encodes, scalars-chars}
@@ -37,7 +37,7 @@ use Rattle.gregorio.specs.machine.HeldHeaders.{behind_mark}
 use Rattle.gregorio.specs.machine.InStep.{AreInOnePart, HasForce}
 use Rattle.gregorio.specs.machine.Restored.{GoesOn, HasEmptyRooms, StandIn, StandSo, written_by}
 use Rattle.gregorio.specs.machine.Restoring.{IsSetDown}
-use Rattle.gregorio.specs.machine.RunWriter.{out_room}
+use Rattle.gregorio.specs.machine.RunWriter.{line_room, most_waiting, out_room}
 use Rattle.gregorio.specs.machine.ScoreWriter.{IsReserved, ScoreWriterState}
 use Rattle.gregorio.proofs.pieces.HeadersAreRead.{no_heads_are_short}
 
@@ -101,8 +101,8 @@ module _ (job : Job) (s : StateFields) (limits : Limits) (is_job : IsOfJob job l
     reserved : IsReserved w
     reserved =
         record {
-          out = subst (λ (l : Limits). out_room w.writer.written.format l ≤ w.writer.out.limit) (sym limits_are) rooms.out;
-          messages = rooms.messages;
+          out = subst (λ (l : Limits). out_room w.writer.written.format l + most_waiting l ≤ w.writer.out.limit) (sym limits_are) rooms.out;
+          messages = subst (λ (l : Limits). 128 * line_room w.writer.written.name + most_waiting l ≤ w.writer.messages.limit) (sym limits_are) rooms.messages;
         }
 
     input_is : s.input_limit ≡ w.score.limits.input

@@ -1,5 +1,5 @@
 -- A run in pieces: what an engine will still write, and how it will end.
-use Rattle.std.specs.Prelude.{◌≡◌, ◌≤◌, ◌⊎◌, ℕ, List, [], ◌++◌, length, Bool, false, is_none}
+use Rattle.std.specs.Prelude.{◌≡◌, ◌<◌, ◌≤◌, ◌⊎◌, ℕ, List, [], ◌++◌, length, take, Bool, true, false, is_none}
 use Rattle.gabc_neumes.specs.InForce.{InForce}
 use Rattle.std.specs.List.{All}
 use Rattle.gabc_score.specs.Syllable.{PlacedSyllable}
@@ -11,7 +11,9 @@ use Rattle.gregorio_jobs.specs.declared.job.Status.{Status}
 use Rattle.gregorio_jobs.specs.declared.job.Status.TheVariants.{Whole, Errors, Fatal, ReadFault, WriteFault, NoMemory}
 use Rattle.gregorio.specs.Outcome.{input_name}
 use Rattle.gregorio.specs.Streams.{Streams, behind_bytes, last_text, texts_behind, count_behind}
-use Rattle.gregorio.specs.witness.Engine.{EngineState}
+use Rattle.gregorio.specs.declared.source_ending.SourceEnding.{SourceEnding}
+use Rattle.gregorio.specs.declared.source_ending.SourceEnding.TheVariants.{Broken}
+use Rattle.gregorio.specs.witness.Engine.{EngineState, streams_left}
 
 -- what waits, and then these
 abbrev pub with_waiting : EngineState → Streams → Streams
@@ -54,6 +56,25 @@ StillRuns old new = (job : Job) (limits : Limits) → RunsJob job limits old →
 -- no fatal fault, `end` or `broken` has come
 abbrev pub is_running : EngineState → Bool
 is_running s = is_none s.written.ended
+
+-- ---- a piece
+
+-- what was to come of these bytes waits, after what waited before, and the rest is still to come
+abbrev pub Brings : EngineState → List ℕ → EngineState → Type 0
+Brings old bytes new =
+    (more : List ℕ) (ending : SourceEnding) → with_waiting old (streams_left old ending (bytes ++ more)) ≡ with_waiting new (streams_left new ending more)
+
+-- It took so many bytes from the front of a piece, at least one where nothing waited. What they bring waits, and nothing that is known is kept back but the held
+-- syllable. Where the run was over, all bytes are taken and nothing changes; where it is not over, no fault is known.
+pub record TakesFront (old : EngineState) (piece : List ℕ) (count : ℕ) (new : EngineState) : Type 0 where
+  pub within : count ≤ length piece
+  pub some : NothingWaits old → 0 < length piece → 0 < count
+  pub brings : Brings old (take count piece) new
+  pub job : StillRuns old new
+  pub format : new.written.format ≡ old.written.format
+  pub over : is_running old ≡ false → (count ≡ length piece) × (new ≡ old)
+  pub running : is_running new ≡ true → (streams_left new Broken []).status ≡ ReadFault
+  pub prompt : IsPrompt new.written.format (streams_left new Broken [])
 
 -- How a run can end by its input: it was read to its end, a fault stopped it, or its source failed.
 abbrev pub EndsByInput : Status → Type 0

@@ -1,5 +1,4 @@
 pub mod Begun
-pub mod Buffers
 pub mod ClefInForce
 pub mod Comparison
 pub mod Compile

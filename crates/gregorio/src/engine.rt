@@ -1,7 +1,7 @@
 //! A run that takes its input in pieces.
 
 ghost use Rattle.std.specs.Hash.DefaultHasher.{initial};
-ghost use Rattle.std.specs.Prelude.{◌≡◌, ◌<◌, ◌≤◌, ◌-◌, List, [], ◌∷◌, ◌++◌, length, take, true, false, ℕ, Bool, IfOk, option_to_list};
+ghost use Rattle.std.specs.Prelude.{◌≡◌, ◌<◌, ◌≤◌, ◌-◌, List, [], ◌∷◌, ◌++◌, length, take, not, true, false, ℕ, Bool, IfOk, option_to_list};
 ghost use Rattle.gabc_headers.specs.declared.head_event.HeadEvent.{HeadEvent as HeadItem};
 ghost use Rattle.gregorio.specs.declared.source_ending.SourceEnding.{SourceEnding as EndOfSource};
 ghost use Rattle.gregorio.specs.declared.source_ending.SourceEnding.TheVariants.{Whole, Broken};
@@ -9,14 +9,14 @@ ghost use Rattle.gabc_places.specs.declared.limits.Limits.{Limits};
 ghost use Rattle.gregorio_jobs.specs.declared.job.Job.{Job};
 ghost use Rattle.gregorio_jobs.specs.declared.job.Status.TheVariants.{ReadFault};
 ghost use Rattle.gregorio.specs.Outcome.{outcome_of};
-ghost use Rattle.gregorio.specs.Engine.{IsPrompt, NothingWaits, RunsJob, StillRuns, is_running, with_waiting};
+ghost use Rattle.gregorio.specs.Engine.{Brings, IsPrompt, NothingWaits, RunsJob, StillRuns, TakesFront, is_running, with_waiting};
 ghost use Rattle.gregorio.specs.witness.Engine.{streams_left};
 ghost use Rattle.gregorio.specs.Streams.{streams_of_outcome, ended_with};
-ghost use Rattle.gregorio.specs.machine.Engine.{GoTogether, IsEmpty, IsNoCharacter, WritesAll, WritesItems, event_of_item, headed_past};
+ghost use Rattle.gregorio.specs.machine.Engine.{GoTogether, IsNoCharacter, LeavesRoom, WritesAll, WritesItems, event_of_item, headed_past};
 ghost use Rattle.gregorio.specs.machine.InStep.{PassesAll, StayInStep};
 ghost use Rattle.gregorio.specs.machine.ReadsHeaders.{ReadsOn};
 ghost use Rattle.gregorio.specs.machine.TellsInStep.{IsInHeads, StayTelling};
-ghost use Rattle.gregorio.specs.machine.ScoreWriter.{FitsEnd, FitsEvents, IsReserved, IsShortBook, IsSteady};
+ghost use Rattle.gregorio.specs.machine.ScoreWriter.{FitsEnd, FitsEvents, HasRoom, IsShortBook, IsSteady};
 
 use crate::beginning::what_begins_is_written_whole;
 use crate::rooms::memory_for;
@@ -30,12 +30,13 @@ use std::alloc::{AllocError, Global};
 use std::hash::DefaultHasher;
 use std::marker::Model;
 
-/// Compiles a score that comes in pieces. What is known of it is written before the next byte is read, and waits until it is taken. It asks
-/// for no memory once made.
+/// Compiles a score that comes in pieces. What is known of it is written before the next byte is
+/// read, and waits until it is taken. It asks for no memory once made. `fill` goes on while there
+/// is room for what it writes; `feed` stops where something waits.
 ///
 /// ```
 /// let mut engine = Engine::new(alloc, &job, Limits::DEFAULT)?;
-/// let count = engine.feed(piece);     // how many bytes of the piece it took
+/// let count = engine.fill(piece);     // how many bytes of the piece it took
 /// send(engine.out());                 // the bytes that wait
 /// report(engine.messages());
 /// engine.taken();                     // they were taken: go on with `&piece[count..]`
@@ -105,8 +106,7 @@ fn read(
 )
     requires together { GoTogether heads.old writer.old }
     requires few { 2 ≤ from_heads.old.limit }
-    requires reserved { IsReserved writer.old }
-    requires empty { IsEmpty writer.old }
+    requires room { HasRoom writer.old }
     requires part { IsInHeads writer.old }
     ensures together { GoTogether heads.new writer.new }
     ensures few { from_heads.new.limit ≡ from_heads.old.limit }
@@ -135,8 +135,7 @@ fn read_in_heads(
     requires heads { writer.old.writer.written.headed ≡ false }
     requires together { GoTogether heads.old writer.old }
     requires few { 2 ≤ from_heads.old.limit }
-    requires reserved { IsReserved writer.old }
-    requires empty { IsEmpty writer.old }
+    requires room { HasRoom writer.old }
     requires part { IsInHeads writer.old }
     ensures together { GoTogether heads.new writer.new }
     ensures few { from_heads.new.limit ≡ from_heads.old.limit }
@@ -167,8 +166,7 @@ fn read_decoded(
 )
     requires together { GoTogether heads.old writer.old }
     requires few { 2 ≤ from_heads.old.limit }
-    requires reserved { IsReserved writer.old }
-    requires empty { IsEmpty writer.old }
+    requires room { HasRoom writer.old }
     requires part { IsInHeads writer.old }
     ensures together { GoTogether heads.new writer.new }
     ensures few { from_heads.new.limit ≡ from_heads.old.limit }
@@ -257,10 +255,13 @@ impl Engine {
         }
     }
 
-    /// Does nothing. Its contract is a law: nothing is kept back but what is held.
+    /// Does nothing. Its contract is a law: nothing is kept back but what is held, and no fault
+    /// while it runs.
     #[inline(always)]
     pub(crate) fn keeps_nothing_back(&self)
-        ensures { IsPrompt self.now.written.format (streams_left self.now Broken []) }
+        ensures prompt { IsPrompt self.now.written.format (streams_left self.now Broken []) }
+        ensures running { is_running self.now ≡ true →
+            (streams_left self.now Broken []).status ≡ ReadFault }
     {
         gabc_score::stage_laws::inputs_that_cease_give_no_stop();
         gabc_score::stage_laws::what_breaks_off_holds_a_unit();
@@ -296,15 +297,24 @@ impl Engine {
         self.writer.run_writer()
     }
 
-    /// Takes a byte.
+    /// Returns whether the run is over. Each piece is taken whole then, and changes nothing.
+    pub(crate) fn is_over(&self) -> bool
+        ensures over { result ≡ not (is_running self.now) }
+        ensures takes { result ≡ true → (piece : List ℕ) →
+            TakesFront self.now piece (length piece) self.now }
+    {
+        self.writer.ended().is_some()
+    }
+
+    /// Takes a byte. Before it nothing is kept back.
     fn take(&mut self, byte: u8)
-        requires waits { NothingWaits self.old }
+        requires room { LeavesRoom self.old }
         ensures prompt { IsPrompt self.old.written.format (streams_left self.old Broken []) }
+        ensures running { is_running self.old ≡ true →
+            (streams_left self.old Broken []).status ≡ ReadFault }
         ensures format { self.new.written.format ≡ self.old.written.format }
         ensures job { StillRuns self.old self.new }
-        ensures law { (bytes : List ℕ) (ending : EndOfSource)
-            → streams_left self.old ending (byte ∷ bytes)
-            ≡ with_waiting self.new (streams_left self.new ending bytes) }
+        ensures brings { Brings self.old (byte ∷ []) self.new }
     {
         self.keeps_nothing_back();
         let item = self.decoder.take(byte);
@@ -325,6 +335,7 @@ impl Engine {
             → streams_left self.old ending (take result piece.now ++ bytes)
             ≡ streams_left self.new ending bytes }
         ensures written { self.new.written ≡ self.old.written }
+        ensures limits { self.new.score.limits ≡ self.old.score.limits }
         ensures job { StillRuns self.old self.new }
         ensures output { self.new.output ≡ self.old.output }
         ensures messages { self.new.messages ≡ self.old.messages }
@@ -339,17 +350,18 @@ impl Engine {
     /// Takes bytes from the front of `piece` at which nothing is written, and behind them one byte more, if there is one. Returns how many it
     /// took.
     #[inline(always)]
-    fn take_some(&mut self, piece: &[u8]) -> usize
-        requires waits { NothingWaits self.old }
+    pub(crate) fn take_some(&mut self, piece: &[u8]) -> usize
+        requires room { LeavesRoom self.old }
         ensures taken { result ≤ length piece.now }
         ensures some { 0 < length piece.now → 0 < result }
-        ensures law { (bytes : List ℕ) (ending : EndOfSource)
-            → streams_left self.old ending (take result piece.now ++ bytes)
-            ≡ with_waiting self.new (streams_left self.new ending bytes) }
+        ensures brings { Brings self.old (take result piece.now) self.new }
         ensures format { self.new.written.format ≡ self.old.written.format }
         ensures job { StillRuns self.old self.new }
-        ensures stops { ¬ (NothingWaits self.new) → IsPrompt self.old.written.format
+        ensures stops { NothingWaits self.old → ¬ (NothingWaits self.new) →
+            IsPrompt self.old.written.format
             (streams_left self.old Broken (take (result - 1) piece.now)) }
+        ensures fault { is_running self.old ≡ true → is_running self.new ≡ false →
+            (streams_left self.old Broken (take (result - 1) piece.now)).status ≡ ReadFault }
     {
         let count = self.take_front(piece);
         if count == piece.len() {
@@ -364,28 +376,16 @@ impl Engine {
     /// fault or the end it takes the whole piece and changes nothing.
     pub fn feed(&mut self, piece: &[u8]) -> usize
         requires waits { NothingWaits self.old }
-        ensures taken { result ≤ length piece.now }
-        ensures some { 0 < length piece.now → 0 < result }
-        ensures law { (bytes : List ℕ) (ending : EndOfSource) →
-            streams_left self.old ending (take result piece.now ++ bytes)
-            ≡ with_waiting self.new (streams_left self.new ending bytes) }
+        ensures takes { TakesFront self.old piece.now result self.new }
         ensures all { NothingWaits self.new → result ≡ length piece.now }
-        ensures job { StillRuns self.old self.new }
-        ensures format { self.new.written.format ≡ self.old.written.format }
-        ensures over { is_running self.old ≡ false
-            → (result ≡ length piece.now) × (self.new ≡ self.old) }
-        ensures running { is_running self.new ≡ true →
-            (streams_left self.new Broken []).status ≡ ReadFault }
-        ensures prompt { IsPrompt self.new.written.format (streams_left self.new Broken []) }
         ensures stops { ¬ (NothingWaits self.new) → IsPrompt self.old.written.format
             (streams_left self.old Broken (take (result - 1) piece.now)) }
         ensures fault { is_running self.old ≡ true → ¬ (NothingWaits self.new) →
             (streams_left self.old Broken (take (result - 1) piece.now)).status ≡ ReadFault }
     {
-        gabc_score::stage_laws::inputs_that_cease_give_no_stop();
         gabc_score::stage_laws::the_end_comes_with_the_end();
         let mut count = 0;
-        if self.writer.ended().is_some() {
+        if self.is_over() {
             return piece.len();
         }
         while count < piece.len() && self.nothing_waits() {

@@ -39,7 +39,7 @@ pub(crate) fn feed_input<O: Put, M: Put>(
 {
     let mut count = 0;
     while count < input.len() {
-        count += engine.feed(&input[count..]);
+        count += engine.fill(&input[count..]);
         put_waiting(engine, out, messages);
     }
 }

@@ -14,9 +14,9 @@
 #![tactic(auto)]
 
 mod beginning;
-mod buffers;
 mod comparison;
 mod engine;
+mod filling;
 mod findings;
 mod held_headers;
 mod in_memory;

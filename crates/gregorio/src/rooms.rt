@@ -1,7 +1,7 @@
 //! How much memory an engine takes, which is reserved when it is made.
 
 ghost use Rattle.std.specs.Prelude.{◌≡◌, ◌+◌, ◌*◌, ◌^◌, ◌<◌, ◌≤◌, [], IfOk};
-ghost use Rattle.gregorio.specs.machine.RunWriter.{syllable_room as room_of_syllable, room_without_notes as room_of_no_notes, heads_room as room_of_heads, out_room};
+ghost use Rattle.gregorio.specs.machine.RunWriter.{syllable_room as room_of_syllable, room_without_notes as room_of_no_notes, heads_room as room_of_heads, most_waiting as most_before_a_step, out_room};
 
 use crate::findings::input_name;
 use gabc_places::{Limits, Memory, Room};
@@ -44,14 +44,22 @@ fn heads_room(format: Format, limit: usize) -> usize
     }
 }
 
+/// Returns how many bytes of the output, and as many of the messages, may wait before a step: as
+/// many as the headers may have under `limits`, at most 65,536.
+pub(crate) fn most_waiting(limits: Limits) -> usize
+    ensures { result ≡ most_before_a_step limits }
+{
+    (limits.header as usize).min(65_536)
+}
+
 /// Returns how many bytes of the output can wait in this `format` under `limits`.
 pub(crate) fn output_room(format: Format, limits: Limits) -> usize
-    ensures { result ≡ out_room format limits }
+    ensures { result ≡ out_room format limits + most_before_a_step limits }
 {
     let syllable = limits.syllable as usize;
     let heads = heads_room(format, limits.header as usize);
     let last = room_without_notes(format, syllable);
-    heads + syllable_room(format, syllable) + last + 128
+    heads + syllable_room(format, syllable) + last + 128 + most_waiting(limits)
 }
 
 /// The most bytes of an engine beside its texts: of its small rooms and its two slots.
@@ -65,18 +73,28 @@ pub(crate) fn memory_for(alloc: Global, job: &Job, limits: Limits) -> Result<Mem
     let bytes = kept
         .saturating_add(output_room(job.format, limits))
         .saturating_add(messages)
+        .saturating_add(most_waiting(limits))
         .saturating_add(name);
     Memory::with_capacity(alloc, bytes)
 }
 
-/// Returns an empty room in `memory` for the lines of messages that call the input by a name of `len` bytes.
-pub(crate) fn message_room(memory: &Memory, len: usize) -> Result<Room<u8>, AllocError>
-    ensures { IfOk result (λ room. (room.items ≡ []) × (128 * (len + 128) ≤ room.limit)) }
+/// Returns an empty room in `memory` for the lines of messages that call the input by a name of
+/// `len` bytes: for those of a step, and for `waiting` bytes before it.
+pub(crate) fn message_room(
+    memory: &Memory,
+    len: usize,
+    waiting: usize,
+) -> Result<Room<u8>, AllocError>
+    ensures { IfOk result (λ room. (room.items ≡ [])
+        × (128 * (len + 128) + waiting ≤ room.limit)) }
 {
     let Some(line) = len.checked_add(128) else {
         return Err(AllocError);
     };
-    let Some(bytes) = line.checked_mul(LINES) else {
+    let Some(lines) = line.checked_mul(LINES) else {
+        return Err(AllocError);
+    };
+    let Some(bytes) = lines.checked_add(waiting) else {
         return Err(AllocError);
     };
     Room::in_memory(memory, bytes)

@@ -7,13 +7,11 @@ ghost use Rattle.gregorio.specs.Engine.{NothingWaits, with_waiting};
 ghost use Rattle.gregorio.specs.Streams.{ended_with};
 ghost use Rattle.gregorio.specs.witness.Engine.{streams_left};
 ghost use Rattle.gregorio.specs.Run.{Compiles, InTime, used};
-ghost use Rattle.gregorio.specs.machine.Buffers.{AreBuffered, BuffersOrAll, nothing_buffered};
 ghost use Rattle.gregorio.specs.machine.Compile.{AreCut, AreSent, IsFed, IsFedAll, IsFedInPart, IsRun, NoneOrAll, SaysOutcomes, StreamsAreCut};
 
-use crate::buffers::{Buffers, send_both};
 use crate::engine::Engine;
 use crate::source_ending::SourceEnding;
-use gabc_places::{Limits, Sink, SinkFault, Source};
+use gabc_places::{Limits, Sink, SinkFault, Source, Unsent, send_all};
 use gregorio_jobs::{Job, Status};
 use std::alloc::Global;
 use std::hash::DefaultHasher;
@@ -21,8 +19,30 @@ use std::hash::DefaultHasher;
 /// How many bytes one read asks for at most.
 const PIECE: usize = 8192;
 
-/// How many bytes of the output, and of the messages, are gathered at most before they are sent.
-const BUFFERED: usize = 65_536;
+/// Sends `output` to `out`, and then `lines` to `messages`. Where the output's sink fails, no
+/// message is sent.
+fn send_both<O: Sink, M: Sink>(
+    output: &[u8],
+    lines: &[u8],
+    out: &mut O,
+    messages: &mut M,
+) -> Result<(), SinkFault>
+    ensures all { OnOk result (AreSent (used O.written O.calls out.old out.new)
+        (used M.written M.calls messages.old messages.new)
+        output.now lines.now) }
+    ensures cut { OnErr result (AreCut (NoneOrAll output.now lines.now)
+        (used O.written O.calls out.old out.new)
+        (used M.written M.calls messages.old messages.new)
+        output.now lines.now) }
+{
+    if let Err(Unsent { .. }) = send_all(out, output) {
+        return Err(SinkFault);
+    }
+    if let Err(Unsent { .. }) = send_all(messages, lines) {
+        return Err(SinkFault);
+    }
+    Ok(())
+}
 
 /// Sends what waits: the output, and then the messages.
 fn send_waiting<O: Sink, M: Sink>(
@@ -44,41 +64,15 @@ fn send_waiting<O: Sink, M: Sink>(
     Ok(())
 }
 
-/// Gathers what waits. Where there is no room for it, what was gathered is sent, and then what waits.
-fn buffer_waiting<O: Sink, M: Sink>(
-    engine: &mut Engine,
-    buffers: &mut Buffers,
-    out: &mut O,
-    messages: &mut M,
-) -> Result<(), SinkFault>
-    ensures buffers { OnOk result (AreBuffered (used O.written O.calls out.old out.new)
-        (used M.written M.calls messages.old messages.new)
-        buffers.old engine.old buffers.new engine.new) }
-    ensures cut { OnErr result (AreCut (BuffersOrAll buffers.old engine.old)
-        (used O.written O.calls out.old out.new)
-        (used M.written M.calls messages.old messages.new)
-        (buffers.old.output ++ engine.old.output) (buffers.old.messages ++ engine.old.messages)) }
-{
-    if buffers.take(engine) {
-        return Ok(());
-    }
-    buffers.send(out, messages)?;
-    send_waiting(engine, out, messages)?;
-    Ok(())
-}
-
-/// Feeds all of `piece` to `engine`, and sends what it writes. The buffers are empty before and afterwards.
+/// Feeds all of `piece` to `engine`, and sends what it writes.
 fn feed_piece<O: Sink, M: Sink>(
     engine: &mut Engine,
     piece: &[u8],
-    buffers: &mut Buffers,
     out: &mut O,
     messages: &mut M,
 ) -> Result<(), SinkFault>
     requires waits { NothingWaits engine.old }
-    requires buffers { buffers.old ≡ nothing_buffered }
     ensures waits { OnOk result (NothingWaits engine.new) }
-    ensures buffers { OnOk result (buffers.new ≡ nothing_buffered) }
     ensures fed { OnOk result (IsFed (used O.written O.calls out.old out.new)
         (used M.written M.calls messages.old messages.new)
         engine.old engine.new piece.now) }
@@ -89,10 +83,9 @@ fn feed_piece<O: Sink, M: Sink>(
     engine.keeps_nothing_back();
     let mut count = 0;
     while count < piece.len() {
-        count += engine.feed(&piece[count..]);
-        buffer_waiting(engine, buffers, out, messages)?;
+        count += engine.fill(&piece[count..]);
+        send_waiting(engine, out, messages)?;
     }
-    buffers.send(out, messages)?;
     Ok(())
 }
 
@@ -100,13 +93,11 @@ fn feed_piece<O: Sink, M: Sink>(
 fn feed_all<S: Source, O: Sink, M: Sink>(
     engine: &mut Engine,
     limit: u32,
-    buffers: &mut Buffers,
     source: &mut S,
     out: &mut O,
     messages: &mut M,
 ) -> Result<SourceEnding, SinkFault>
     requires waits { NothingWaits engine.old }
-    requires buffers { buffers.old ≡ nothing_buffered }
     ensures waits { OnOk result (NothingWaits engine.new) }
     ensures fed { IfOk result (λ ending.
         IsFedAll limit (used S.remaining S.calls source.old source.new)
@@ -129,7 +120,7 @@ fn feed_all<S: Source, O: Sink, M: Sink>(
         match source.read(piece) {
             Ok(0) => break,
             Ok(n) => {
-                feed_piece(engine, &piece[..n], buffers, out, messages)?;
+                feed_piece(engine, &piece[..n], out, messages)?;
                 taken += n;
             }
             Err(_) => return Ok(SourceEnding::Broken),
@@ -150,54 +141,27 @@ fn end_by(engine: &mut Engine, ending: SourceEnding) -> Status
     }
 }
 
-/// Runs `engine` on `source`, and sends what it writes. Returns how the run ended. The buffers are empty before.
+/// Runs `engine` on `source`, and sends what it writes. Returns how the run ended.
 fn run<S: Source, O: Sink, M: Sink>(
     engine: &mut Engine,
     limits: Limits,
-    buffers: &mut Buffers,
     source: &mut S,
     out: &mut O,
     messages: &mut M,
 ) -> Status
     requires waits { NothingWaits engine.old }
-    requires buffers { buffers.old ≡ nothing_buffered }
     ensures runs { (job : Job) → SaysOutcomes job limits engine.old →
         IsRun job limits (used S.remaining S.calls source.old source.new)
         (used O.written O.calls out.old out.new)
         (used M.written M.calls messages.old messages.new) result }
 {
-    let Ok(ending) = feed_all(engine, limits.input, buffers, source, out, messages) else {
+    let Ok(ending) = feed_all(engine, limits.input, source, out, messages) else {
         return Status::WriteFault;
     };
     let status = end_by(engine, ending);
     match send_waiting(engine, out, messages) {
         Ok(()) => status,
         Err(_) => Status::WriteFault,
-    }
-}
-
-/// Reserves the buffers, and runs `engine` on `source`. Returns how the run ended.
-fn run_buffered<S: Source, O: Sink, M: Sink>(
-    alloc: Global,
-    engine: &mut Engine,
-    limits: Limits,
-    source: &mut S,
-    out: &mut O,
-    messages: &mut M,
-) -> Status
-    requires waits { NothingWaits engine.old }
-    ensures runs { (job : Job) → SaysOutcomes job limits engine.old →
-        IsRun job limits (used S.remaining S.calls source.old source.new)
-        (used O.written O.calls out.old out.new)
-        (used M.written M.calls messages.old messages.new) result }
-{
-    match Buffers::with_limit(alloc, BUFFERED) {
-        Ok(mut buffers) => {
-            let status = run(engine, limits, &mut buffers, source, out, messages);
-            drop(buffers);
-            status
-        }
-        Err(_) => Status::NoMemory,
     }
 }
 
@@ -264,7 +228,7 @@ pub fn compile_with_hasher<S: Source, O: Sink, M: Sink>(
 {
     match Engine::with_hasher(alloc, job, limits, hasher) {
         Ok(mut engine) => {
-            let status = run_buffered(alloc, &mut engine, limits, source, out, messages);
+            let status = run(&mut engine, limits, source, out, messages);
             // A proof follows a call faster than all that lies inside an engine.
             drop(engine);
             status

@@ -1,6 +1,6 @@
 //! What a run writes, in rooms that are reserved.
 
-ghost use Rattle.std.specs.Prelude.{◌≡◌, ◌*◌, ◌≤◌, [], IfOk, IfSome, Some, true, length, string_bytes, encode_utf8_all};
+ghost use Rattle.std.specs.Prelude.{◌≡◌, ◌+◌, ◌*◌, ◌≤◌, [], IfOk, IfSome, Some, true, length, string_bytes, encode_utf8_all};
 ghost use Rattle.gabc_headers.specs.Canonical.{canonical_heads};
 ghost use Rattle.gabc_score.specs.Canonical.{canonical_in_place};
 ghost use Rattle.gabc_write.specs.Message.{line_of};
@@ -12,10 +12,10 @@ ghost use Rattle.gregorio.specs.Streams.{last_text};
 ghost use Rattle.gregorio.specs.Outcome.{shown_line};
 ghost use Rattle.gregorio.specs.witness.Engine.{if_headed, is_before_heads, text_of_heads, text_of_output};
 ghost use Rattle.gregorio.specs.machine.ScoreWriter.{begun_again, fresh_writer};
-ghost use Rattle.gregorio.specs.machine.RunWriter.{syllable_len, out_room, heads_len, line_room, last_room, with_heads, with_last, past_output, past_end};
+ghost use Rattle.gregorio.specs.machine.RunWriter.{syllable_len, out_room, heads_len, line_room, last_room, most_waiting, with_heads, with_last, past_output, past_end};
 
 use crate::findings::{input_name, is_error, put_finding};
-use crate::rooms::{message_room, output_room};
+use crate::rooms::{message_room, most_waiting as most_before_a_step, output_room};
 use gabc_headers::Headers;
 use gabc_neumes::Alterations;
 use gabc_places::{Fault, Finding, Limits, Memory, Room};
@@ -81,9 +81,10 @@ impl RunWriter {
         ensures empty { IfOk result (λ writer. (writer.out.items ≡ [])
             × (writer.messages.items ≡ [])) }
         ensures out { IfOk result (λ writer.
-            out_room writer.written.format limits ≤ writer.out.limit) }
+            out_room writer.written.format limits + most_waiting limits ≤ writer.out.limit) }
         ensures messages { IfOk result (λ writer.
-            128 * line_room writer.written.name ≤ writer.messages.limit) }
+            128 * line_room writer.written.name + most_waiting limits
+            ≤ writer.messages.limit) }
     {
         let out = output_room(job.format, limits);
         let name = input_name(&job.input);
@@ -97,7 +98,7 @@ impl RunWriter {
             errors: false,
             ended: None,
             out: Room::in_memory(memory, out)?,
-            messages: message_room(memory, name.len())?,
+            messages: message_room(memory, name.len(), most_before_a_step(limits))?,
         })
     }
 

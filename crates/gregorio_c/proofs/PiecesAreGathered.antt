@@ -5,7 +5,7 @@ use Rattle.gabc_places.specs.declared.limits.Limits.{Limits}
 use Rattle.gregorio_jobs.specs.declared.job.Job.{Job}
 use Rattle.gregorio.specs.declared.source_ending.SourceEnding.{SourceEnding}
 use Rattle.gregorio.specs.declared.source_ending.SourceEnding.TheVariants.{Broken}
-use Rattle.gregorio.specs.Engine.{IsPrompt, NothingWaits, RunsJob, with_waiting}
+use Rattle.gregorio.specs.Engine.{Brings, IsPrompt, NothingWaits, RunsJob, with_waiting}
 use Rattle.gregorio.specs.Streams.{Streams, behind_bytes}
 use Rattle.gregorio.specs.witness.Engine.{EngineState, streams_left}
 
@@ -35,7 +35,10 @@ module _ (e f g : EngineState) (forgets : g ≡ record f { output = []; messages
   still_prompt prompt = subst (λ (s : EngineState). IsPrompt s.written.format (streams_left s Broken [])) (sym forgets) prompt
 
   -- so many bytes of a piece more are taken, and what was written at them is gathered
-  module _ (piece : List ℕ) (count k : ℕ) (law : (bytes : List ℕ) (ending : SourceEnding) → streams_left e ending (take k (drop count piece) ++ bytes) ≡ with_waiting f (streams_left f ending bytes)) where
+  module _ (piece : List ℕ) (count k : ℕ) (waits : NothingWaits e) (brings : Brings e (take k (drop count piece)) f) where
+    law : (bytes : List ℕ) (ending : SourceEnding) → streams_left e ending (take k (drop count piece) ++ bytes) ≡ with_waiting f (streams_left f ending bytes)
+    law bytes ending = nothing_gathered (streams_left e ending (take k (drop count piece) ++ bytes)) e.output e.messages waits.output waits.messages ∙ brings bytes ending
+
     taken : (ending : SourceEnding) (more : List ℕ) → streams_left e ending (drop count piece ++ more) ≡ behind_bytes f.output f.messages (streams_left g ending (drop (count + k) piece ++ more))
     taken ending more =
         let rest : List ℕ = drop count piece in

@@ -154,7 +154,7 @@ fn feed_piece(alloc: Global, engine: &mut Engine, piece: &[u8]) -> Result<Texts,
     let mut texts = no_texts(alloc);
     let mut count = 0;
     loop {
-        count += engine.feed(&piece[count..]);
+        count += engine.fill(&piece[count..]);
         gather(engine, &mut texts)?;
         if count == piece.len() {
             return Ok(texts);

@@ -7,8 +7,10 @@
 mod call;
 mod driven;
 mod ends;
+mod filled;
 mod flipped;
 mod interrupted;
+mod mutated;
 mod nabc;
 mod neumes;
 mod notes;
@@ -28,6 +30,7 @@ mod writes;
 
 use call::is_answered;
 use ends::{Known, fills_sinks};
+use filled::{RUNS, count_agreed};
 use flipped::is_safe_turned;
 use gabc_places::Limits;
 use gregorio::Format;
@@ -265,6 +268,20 @@ fn check_scores(rt: &HostRuntime) -> io::Result<()> {
     println!(rt; "scores: {agreed} of {} agree", SCORES.len())
 }
 
+/// Makes runs of engines that are filled over scores that are put together from parts of the
+/// example scores.
+fn check_filled(rt: &HostRuntime) -> io::Result<()> {
+    let mut agreed = 0usize;
+    let mut seed = 1u64;
+    for name in SCORES {
+        let score = read_file(rt, name, "gabc")?;
+        agreed = agreed.saturating_add(count_agreed(rt.alloc(), score.as_bytes(), seed)?);
+        seed = seed.saturating_add(1);
+    }
+    let runs = SCORES.len() * RUNS;
+    println!(rt; "mutated scores: {agreed} of {runs} runs agree, filled and fed byte by byte")
+}
+
 /// What stands on the lines of a file.
 #[derive(Clone, Copy)]
 enum Lines {
@@ -361,5 +378,6 @@ fn main(rt: HostRuntime) -> io::Result<()> {
     for (path, lines) in FILES {
         check_file(&rt, path, lines)?;
     }
-    check_scores(&rt)
+    check_scores(&rt)?;
+    check_filled(&rt)
 }

@@ -1,6 +1,7 @@
 -- A byte that an engine takes brings what was to come for it, and so do the bytes of a piece.
-use Rattle.std.proofs.Common.{◌≡◌, ℕ, ◌||◌, List, [], ◌∷◌, ◌++◌, length, take, Bool, true, false, not, Option, Some, None, IfSome, is_none, is_some, Result, refl, ap, sym, ◌∙◌, arith}
+use Rattle.std.proofs.Common.{◌≡◌, ℕ, ◌||◌, List, [], ◌∷◌, ◌++◌, length, take, Bool, true, false, not, Option, Some, None, IfSome, is_none, is_some, Result, refl, ap, append_assoc, sym, ◌∙◌, arith}
 use Rattle.std.specs.List.{list_any}
+use Rattle.gabc_places.specs.BoundedList.{BoundedList}
 use Rattle.gabc_places.specs.StageLaw.{concat_of}
 use Rattle.gabc_places.specs.declared.code.Fault.{Fault}
 use Rattle.gabc_places.specs.declared.limits.Limits.{Limits}
@@ -13,14 +14,14 @@ use Rattle.gabc_score.specs.ScoreEvents.{ScoreOutput, Found, Stop, Syllable, End
 use Rattle.gabc_score.specs.witness.ScoreStage.{ScoreStageState, left_of}
 use Rattle.gregorio.specs.declared.source_ending.SourceEnding.{SourceEnding}
 use Rattle.gregorio.specs.declared.source_ending.SourceEnding.TheVariants.{Whole as Ended, Broken}
-use Rattle.gregorio.specs.Engine.{NothingWaits, is_running, with_waiting}
+use Rattle.gregorio.specs.Engine.{Brings, NothingWaits, is_running, with_waiting}
 use Rattle.gregorio.specs.witness.Engine.{EngineState, Written, book_behind, head_events_left, items_left, streams_left}
 use Rattle.gregorio.specs.Streams.{Streams, behind_bytes, ended_with}
 use Rattle.gregorio.specs.Outcome.{is_error_finding, is_whole, status_by}
-use Rattle.gregorio.specs.machine.RunWriter.{line_room, out_room}
+use Rattle.gregorio.specs.machine.RunWriter.{line_room, most_waiting, out_room}
 use Rattle.gregorio.specs.machine.ScoreWriter.{ScoreWriterState, IsOver, IsReserved, IsSteady}
-use Rattle.gregorio.specs.machine.Engine.{IsEmpty, WritesItems, streams_of_items}
-use Rattle.gregorio.proofs.pieces.BytesAreJoined.{waits_now}
+use Rattle.gregorio.specs.machine.Engine.{WritesItems, streams_of_items}
+use Rattle.gregorio.proofs.pieces.BytesAreJoined.{behind_both}
 use Rattle.gregorio_jobs.specs.declared.job.Format.{Format}
 use Rattle.gregorio_jobs.specs.declared.job.Status.{Status}
 use Rattle.gregorio_jobs.specs.declared.job.Status.TheVariants.{ReadFault}
@@ -35,12 +36,12 @@ still_reserved old new steady reserved =
     let same_out : out_room new.writer.written.format new.score.limits ≡ out_room old.writer.written.format old.score.limits =
     ap (λ (f : Format). out_room f new.score.limits) steady.format ∙ ap (λ (l : Limits). out_room old.writer.written.format l) steady.limits in
     let same_line : line_room new.writer.written.name ≡ line_room old.writer.written.name = ap (λ (n : List ℕ). line_room n) steady.name in
-    let same_limit : new.score.limits.syllable ≡ old.score.limits.syllable = ap (λ (l : Limits). l.syllable) steady.limits in
+    let same_most : most_waiting new.score.limits ≡ most_waiting old.score.limits = ap (λ (l : Limits). most_waiting l) steady.limits in
     let out_limit = steady.out in
     let message_limit = steady.messages in
     record {
-      out = omega (arith, out, same_out, out_limit);
-      messages = omega (arith, messages, same_line, message_limit);
+      out = omega (arith, out, same_out, same_most, out_limit);
+      messages = omega (arith, messages, same_line, same_most, message_limit);
     }
 
 -- ---- a byte
@@ -52,16 +53,17 @@ items_next d e byte bytes items Broken law = ap (λ (lists : List (List (Result 
 
 pub byte_taken : (d e : DecoderState) (h now : HeaderStageState) (w new : ScoreWriterState) (byte : ℕ) (items : List (Result Char Fault))
     → ((bytes : List ℕ) → decoder.events_left d (byte ∷ bytes) ≡ items ∷ decoder.events_left e bytes)
-    → WritesItems h w items now new → IsEmpty w → (bytes : List ℕ) (ending : SourceEnding)
-    → streams_of_items h w ending (emitted_by (is_whole ending) (byte ∷ bytes) (decoder.events_left d (byte ∷ bytes)))
+    → WritesItems h w items now new → (bytes : List ℕ) (ending : SourceEnding)
+    → behind_bytes w.writer.out.items w.writer.messages.items (streams_of_items h w ending (emitted_by (is_whole ending) (byte ∷ bytes) (decoder.events_left d (byte ∷ bytes))))
     ≡ behind_bytes new.writer.out.items new.writer.messages.items (streams_of_items now new ending (emitted_by (is_whole ending) bytes (decoder.events_left e bytes)))
-byte_taken d e h now w new byte items law a empty bytes ending =
+byte_taken d e h now w new byte items law a bytes ending =
     let rest = emitted_by (is_whole ending) bytes (decoder.events_left e bytes) in
     let later = streams_of_items now new ending rest in
-    ap (λ (xs : List (Result Char Fault)). streams_of_items h w ending xs) (items_next d e byte bytes items ending (law bytes))
-    ∙ (a.law ending rest
-    ∙ (ap (λ (o : List ℕ). behind_bytes o a.lines later) (sym (waits_now w.writer.out new.writer.out a.output empty.output a.out))
-    ∙ ap (λ (l : List ℕ). behind_bytes new.writer.out.items l later) (sym (waits_now w.writer.messages new.writer.messages a.lines empty.messages a.messages))))
+    ap (λ (s : Streams). behind_bytes w.writer.out.items w.writer.messages.items s)
+    (ap (λ (xs : List (Result Char Fault)). streams_of_items h w ending xs) (items_next d e byte bytes items ending (law bytes)) ∙ a.law ending rest)
+    ∙ (sym (behind_both w.writer.out.items w.writer.messages.items a.output a.lines later)
+    ∙ (ap (λ (o : BoundedList ℕ). behind_bytes o.items (w.writer.messages.items ++ a.lines) later) (sym a.out)
+    ∙ ap (λ (l : BoundedList ℕ). behind_bytes new.writer.out.items l.items later) (sym a.messages)))
 
 -- ---- a piece
 
@@ -69,14 +71,17 @@ pub goes_on : (ended : Option Status) → is_none ended ≡ true → ended ≡ N
 goes_on None running = refl
 goes_on (Some status) running = absurd (cc running)
 
-abbrev pub Takes : EngineState → List ℕ → EngineState → Type 0
-Takes old piece new = (bytes : List ℕ) (ending : SourceEnding) → streams_left old ending (piece ++ bytes) ≡ with_waiting new (streams_left new ending bytes)
-
 pub none_wait : (s : EngineState) → NothingWaits s → (rest : Streams) → with_waiting s rest ≡ rest
 none_wait s waits rest = ap (λ (o : List ℕ). behind_bytes o s.messages rest) waits.output ∙ ap (λ (l : List ℕ). behind_bytes [] l rest) waits.messages
 
-pub takes_none : (s : EngineState) → NothingWaits s → Takes s [] s
-takes_none s waits = λ bytes ending. sym (none_wait s waits (streams_left s ending bytes))
+-- the same waits
+pub same_wait : (old new : EngineState) → new.output ≡ old.output → new.messages ≡ old.messages → (rest : Streams) → with_waiting old rest ≡ with_waiting new rest
+same_wait old new output messages rest = ap (λ (o : List ℕ). behind_bytes o old.messages rest) (sym output) ∙ ap (λ (l : List ℕ). behind_bytes new.output l rest) (sym messages)
+
+-- what bytes bring and bytes after them is what both bring
+pub brings_both : (old mid new : EngineState) (xs ys : List ℕ) → Brings old xs mid → Brings mid ys new → Brings old (xs ++ ys) new
+brings_both old mid new xs ys first second more ending =
+    ap (λ (bytes : List ℕ). with_waiting old (streams_left old ending bytes)) (append_assoc xs ys more) ∙ (first (ys ++ more) ending ∙ second more ending)
 
 pub found_over : (o : Option Status) (w : Written) (score : ScoreStageState) → is_some o ≡ true → IfSome o (λ status. IsOver w score status) → (status : Status) × IsOver w score status
 found_over (Some status) w score is over = (status, over)
@@ -87,9 +92,8 @@ pub over_left : (s : EngineState) (status : Status) → IsOver s.written s.score
 over_left s status over ending bytes = let items = items_left s ending bytes in over_is_last s.written s.score status over (book_behind s.heads items) (head_events_left s.heads ending items)
 
 -- a piece is taken, and nothing follows
-pub stopped_takes : (s : EngineState) (status : Status) → IsOver s.written s.score status → NothingWaits s → (piece : List ℕ) → Takes s piece s
-stopped_takes s status over waits piece = λ bytes ending.
-    over_left s status over ending (piece ++ bytes) ∙ sym (none_wait s waits (streams_left s ending bytes) ∙ over_left s status over ending bytes)
+pub stopped_brings : (s : EngineState) (status : Status) → IsOver s.written s.score status → (piece : List ℕ) → Brings s piece s
+stopped_brings s status over piece more ending = ap (with_waiting s) (over_left s status over ending (piece ++ more) ∙ sym (over_left s status over ending more))
 
 -- ---- an input that breaks off
 

@@ -1,5 +1,5 @@
 -- A front of bytes at which nothing is written leaves what was to come behind it.
-use Rattle.std.proofs.Common.{◌≡◌, ℕ, ◌+◌, ◌<◌, ◌≤◌, ◌⊎◌, inl, inr, List, [], ◌∷◌, ◌++◌, length, map, true, take, drop, slice_index_or, Result, Ok, refl, ap, sym, subst, ◌∙◌, append_assoc, arith, add-one, length-take, take-add, take-take}
+use Rattle.std.proofs.Common.{◌≡◌, ℕ, ◌+◌, ◌<◌, ◌≤◌, ◌⊎◌, inl, inr, List, [], ◌∷◌, ◌++◌, length, map, true, take, drop, slice_index_or, Result, Ok, refl, ap, sym, subst, ◌∙◌, arith, add-one, length-take, take-add, take-take}
 use Rattle.std.proofs.Math.Seq.{take-suc}
 use Rattle.std.specs.declared.hash.DefaultHasher.{DefaultHasher}
 use Rattle.gabc_places.specs.StageLaw.{concat_of}
@@ -19,13 +19,13 @@ use Rattle.gabc_score.specs.witness.ScoreStage.{ScoreStageState, left_of}
 use Rattle.gabc_score.specs.ScoreEvents.{ScoreOutput}
 use Rattle.gregorio.specs.declared.source_ending.SourceEnding.{SourceEnding}
 use Rattle.gregorio.specs.declared.source_ending.SourceEnding.TheVariants.{Whole as Ended, Broken}
-use Rattle.gregorio.specs.Engine.{NothingWaits, with_waiting}
+use Rattle.gregorio.specs.Engine.{Brings, with_waiting}
 use Rattle.gregorio.specs.witness.Engine.{EngineState, book_behind, head_events_left, streams_in, streams_left}
 use Rattle.gregorio.specs.Outcome.{is_whole}
 use Rattle.gregorio.specs.machine.RunWriter.{RunWriterState}
 use Rattle.gregorio.specs.machine.ScoreWriter.{ScoreWriterState, IsSilent, IsSteady, WritesNothing, streams_of}
 use Rattle.gregorio.specs.machine.Engine.{GoTogether, IsSettled, streams_of_items}
-use Rattle.gregorio.proofs.pieces.BytesAreTaken.{Takes, none_wait}
+use Rattle.gregorio.proofs.pieces.BytesAreTaken.{brings_both, same_wait}
 use Rattle.gregorio.proofs.pieces.ItemsAreRead.{past_behind}
 use Rattle.gregorio.proofs.StreamsOfOutputs.{in_body}
 
@@ -175,24 +175,21 @@ front_is_taken d e h w new bytes a together law more ending =
 pub front_of_front : (count most : ℕ) (piece : List ℕ) → count ≤ length (take most piece) → take count (take most piece) ≡ take count piece
 front_of_front count most piece within = let l = length-take most piece in take-take count most piece (omega (arith, within, l))
 
--- Bytes at which nothing is written and one byte more bring what was to come for that byte.
-pub takes_front_and_byte : (old mid new : EngineState) (piece : List ℕ) (count d : ℕ) → count < length piece
-    → ((bytes : List ℕ) (ending : SourceEnding) → streams_left old ending (take count piece ++ bytes) ≡ streams_left mid ending bytes)
-    → ((bytes : List ℕ) (ending : SourceEnding) → streams_left mid ending (slice_index_or piece count d ∷ bytes) ≡ with_waiting new (streams_left new ending bytes))
-    → Takes old (take (count + 1) piece) new
-takes_front_and_byte old mid new piece count d within front one = λ bytes ending.
-    let x = slice_index_or piece count d in
-    ap (λ (xs : List ℕ). streams_left old ending xs)
-    (ap (λ (xs : List ℕ). xs ++ bytes) (ap (λ (n : ℕ). take n piece) (add-one count) ∙ take-suc piece count d within) ∙ append_assoc (take count piece) (x ∷ []) bytes)
-    ∙ (front (x ∷ bytes) ending ∙ one bytes ending)
+-- a front at which nothing is written brings nothing
+pub front_brings : (old mid : EngineState) (front : List ℕ) → ((bytes : List ℕ) (ending : SourceEnding) → streams_left old ending (front ++ bytes) ≡ streams_left mid ending bytes)
+    → mid.output ≡ old.output → mid.messages ≡ old.messages → Brings old front mid
+front_brings old mid front law output messages more ending = ap (with_waiting old) (law more ending) ∙ same_wait old mid output messages (streams_left mid ending more)
+
+-- with one byte more it brings what that byte does
+pub front_and_byte_bring : (old mid new : EngineState) (piece : List ℕ) (count d : ℕ) → count < length piece → Brings old (take count piece) mid → Brings mid (slice_index_or piece count d ∷ []) new
+    → Brings old (take (count + 1) piece) new
+front_and_byte_bring old mid new piece count d within front one =
+    subst (λ (xs : List ℕ). Brings old xs new) (sym (ap (λ (n : ℕ). take n piece) (add-one count) ∙ take-suc piece count d within))
+    (brings_both old mid new (take count piece) (slice_index_or piece count d ∷ []) front one)
 
 -- bytes behind bytes that were taken
-pub takes_more : (first now new : EngineState) (piece rest : List ℕ) (count more : ℕ) → rest ≡ drop count piece → Takes first (take count piece) now → NothingWaits now
-    → Takes now (take more rest) new → Takes first (take (count + more) piece) new
-takes_more first now new piece rest count more is so_far waits law = λ bytes ending.
-    ap (λ (xs : List ℕ). streams_left first ending xs)
-    (ap (λ (xs : List ℕ). xs ++ bytes) (take-add count more piece ∙ ap (λ (xs : List ℕ). take count piece ++ take more xs) (sym is))
-    ∙ append_assoc (take count piece) (take more rest) bytes)
-    ∙ (so_far (take more rest ++ bytes) ending
-    ∙ (none_wait now waits (streams_left now ending (take more rest ++ bytes))
-    ∙ law bytes ending))
+pub brings_more : (first now new : EngineState) (piece rest : List ℕ) (count more : ℕ) → rest ≡ drop count piece → Brings first (take count piece) now → Brings now (take more rest) new
+    → Brings first (take (count + more) piece) new
+brings_more first now new piece rest count more is so_far next =
+    subst (λ (xs : List ℕ). Brings first xs new) (sym (take-add count more piece ∙ ap (λ (xs : List ℕ). take count piece ++ take more xs) (sym is)))
+    (brings_both first now new (take count piece) (take more rest) so_far next)

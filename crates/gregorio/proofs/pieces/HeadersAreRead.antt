@@ -14,10 +14,10 @@ use Rattle.gabc_headers.specs.declared.heads.Heads.{Heads}
 use Rattle.gabc_headers.specs.declared.head_event.HeadEvent.{HeadEvent}
 use Rattle.gabc_headers.specs.witness.HeadEvents.{HeadProgress, HeaderStageState, events_left, events_of_end, events_of_input, stage_after}
 use Rattle.gabc_headers.proofs.entries.TextsAsBytes.{length-encodes}
-use Rattle.gregorio.specs.machine.ScoreWriter.{ScoreWriterState, FitsEvents, IsReserved, IsShortBook, IsSteady}
-use Rattle.gregorio.specs.machine.Engine.{GoTogether, IsEmpty, IsNoCharacter, WritesAll, WritesItems, headed_past}
+use Rattle.gregorio.specs.machine.ScoreWriter.{ScoreWriterState, FitsEvents, HasRoom, IsShortBook, IsSteady}
+use Rattle.gregorio.specs.machine.Engine.{GoTogether, IsNoCharacter, WritesAll, WritesItems, headed_past}
 use Rattle.gregorio.proofs.pieces.ItemsAreRead.{AreHeadsShort, items_by_heads, short_stage_after, together_by_heads}
-use Rattle.gregorio.proofs.pieces.RoomIsLeft.{input_is_few, room_for_fault, room_reserved}
+use Rattle.gregorio.proofs.pieces.RoomIsLeft.{input_is_few, room_for_fault, room_for_few}
 
 -- ---- the canonical headers in bytes
 
@@ -63,16 +63,16 @@ given_of_end h r old new from_heads empty p now =
 -- ---- room
 
 module _ (h : HeaderStageState) (w : ScoreWriterState) (item : Result Char Fault) (from_heads : List HeadEvent) (step : GivesInput h item from_heads) where
-  pub room_for_given : IsReserved w → IsEmpty w → FitsEvents w false from_heads
-  room_for_given reserved empty =
+  pub room_for_given : HasRoom w → FitsEvents w false from_heads
+  room_for_given room =
       subst (λ (events : List HeadEvent). FitsEvents w false events) (sym step.is)
-      (room_reserved w false (events_of_input h.limits h.progress item) reserved empty
+      (room_for_few w false (events_of_input h.limits h.progress item) room
       (input_is_few w.writer.written.format w.score.limits.syllable h.limits h.progress item step.few))
 
-  pub room_with_end : IsReserved w → IsEmpty w → IsNoCharacter (Some item) → (limits : Limits) (progress : HeadProgress) → FitsEvents w true (from_heads ++ events_of_end limits progress)
-  room_with_end reserved empty none limits progress =
+  pub room_with_end : HasRoom w → IsNoCharacter (Some item) → (limits : Limits) (progress : HeadProgress) → FitsEvents w true (from_heads ++ events_of_end limits progress)
+  room_with_end room none limits progress =
       subst (λ (events : List HeadEvent). FitsEvents w true (events ++ events_of_end limits progress)) (sym step.is)
-      (room_for_fault w h.limits h.progress item reserved empty none limits progress)
+      (room_for_fault w h.limits h.progress item room none limits progress)
 
   module _ (now : HeaderStageState) (is_now : now ≡ stage_after h item) (book : List (List ℕ × List ℕ)) (is_book : book ≡ now.book) where
     book_after : book ≡ (stage_after h item).book

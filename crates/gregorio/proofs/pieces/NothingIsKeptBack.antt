@@ -23,12 +23,12 @@ use Rattle.gregorio_jobs.specs.declared.job.Status.{Status}
 use Rattle.gregorio_jobs.specs.declared.job.Status.TheVariants.{ReadFault}
 use Rattle.gregorio.specs.declared.source_ending.SourceEnding.TheVariants.{Broken}
 use Rattle.gregorio.specs.Outcome.{fault_line, shown_line}
-use Rattle.gregorio.specs.Engine.{IsHeldText, IsPrompt, NothingWaits, is_running}
+use Rattle.gregorio.specs.Engine.{Brings, IsHeldText, IsPrompt, NothingWaits, is_running}
 use Rattle.gregorio.specs.witness.Engine.{EngineState, Written, behind_heads, behind_output, behind_outputs, book_behind, ceased_status, first_list, head_events_left, items_left, lines_of_outputs, streams_from, streams_left, writes_heads}
 use Rattle.gregorio.specs.Streams.{Streams, count_behind, last_text, texts_behind}
 use Rattle.gregorio.specs.machine.ScoreWriter.{IsOver, IsSilent}
 use Rattle.gregorio.proofs.StreamsOfOutputs.{concat_first, first_false, said, second_empty, second_false}
-use Rattle.gregorio.proofs.pieces.BytesAreTaken.{GivesNoLast, Takes, broken_is_said, goes_on, none_wait, over_left}
+use Rattle.gregorio.proofs.pieces.BytesAreTaken.{GivesNoLast, broken_is_said, goes_on, none_wait, over_left}
 
 -- ---- what is held
 
@@ -86,18 +86,40 @@ one_more count = omega arith
 one_less : (count more : ℕ) → 0 < more → count + more - 1 ≡ count + (more - 1)
 one_less count more some = omega (arith, some)
 
--- the bytes before the last one of those taken behind `count` bytes, at which nothing waited
-pub prompt_further : (first now : EngineState) (piece rest : List ℕ) (count more : ℕ) → rest ≡ drop count piece → Takes first (take count piece) now → NothingWaits now
+-- the bytes before the last one of those taken behind `count` bytes
+before_last : (piece rest : List ℕ) (count more : ℕ) → rest ≡ drop count piece → 0 < more → take (count + more - 1) piece ≡ take count piece ++ take (more - 1) rest
+before_last piece rest count more is some =
+    ap (λ (n : ℕ). take n piece) (one_less count more some) ∙ (take-add count (more - 1) piece ∙ ap (λ (xs : List ℕ). take count piece ++ take (more - 1) xs) (sym is))
+
+-- where nothing waited
+pub prompt_further : (first now : EngineState) (piece rest : List ℕ) (count more : ℕ) → rest ≡ drop count piece → Brings first (take count piece) now → NothingWaits first → NothingWaits now
     → 0 < more → now.written.format ≡ first.written.format → IsPrompt now.written.format (streams_left now Broken (take (more - 1) rest))
     → IsPrompt first.written.format (streams_left first Broken (take (count + more - 1) piece))
-prompt_further first now piece rest count more is so_far waits some format prompt =
+prompt_further first now piece rest count more is so_far none waits some format prompt =
     let before = take (more - 1) rest in
-    let front : take (count + more - 1) piece ≡ take count piece ++ before
-    = ap (λ (n : ℕ). take n piece) (one_less count more some) ∙ (take-add count (more - 1) piece ∙ ap (λ (xs : List ℕ). take count piece ++ take (more - 1) xs) (sym is)) in
     let same : streams_left first Broken (take (count + more - 1) piece) ≡ streams_left now Broken before
-    = ap (λ (xs : List ℕ). streams_left first Broken xs) front ∙ (so_far before Broken ∙ none_wait now waits (streams_left now Broken before)) in
+    = ap (λ (xs : List ℕ). streams_left first Broken xs) (before_last piece rest count more is some)
+    ∙ (sym (none_wait first none (streams_left first Broken (take count piece ++ before))) ∙ (so_far before Broken ∙ none_wait now waits (streams_left now Broken before))) in
     subst (λ (f : Format). IsPrompt f (streams_left first Broken (take (count + more - 1) piece))) format
     (subst (λ (s : Streams). IsPrompt now.written.format s) (sym same) prompt)
+
+-- whatever waits, the run ends the same
+pub ends_further : (first now : EngineState) (piece rest : List ℕ) (count more : ℕ) → rest ≡ drop count piece → Brings first (take count piece) now → 0 < more
+    → (streams_left now Broken (take (more - 1) rest)).status ≡ ReadFault → (streams_left first Broken (take (count + more - 1) piece)).status ≡ ReadFault
+ends_further first now piece rest count more is so_far some fault =
+    ap (λ (xs : List ℕ). (streams_left first Broken xs).status) (before_last piece rest count more is some)
+    ∙ (ap (λ (s : Streams). s.status) (so_far (take (more - 1) rest) Broken) ∙ fault)
+
+-- Behind a front at which nothing is written it ends as it does before.
+pub ends_behind_front : (old mid : EngineState) (bytes : List ℕ) → ((more : List ℕ) → streams_left old Broken (bytes ++ more) ≡ streams_left mid Broken more)
+    → (streams_left mid Broken []).status ≡ ReadFault → (streams_left old Broken bytes).status ≡ ReadFault
+ends_behind_front old mid bytes law fault =
+    ap (λ (xs : List ℕ). (streams_left old Broken xs).status) (sym (append-nil bytes)) ∙ (ap (λ (s : Streams). s.status) (law []) ∙ fault)
+
+-- where a loop over a piece stops before its first step, the piece is empty
+pub took_some : (P : Type 0) (count n : ℕ) → (0 < count) ⊎ P → (P → n ≤ count) → 0 < n → 0 < count
+took_some P count n (inl some) stops more = some
+took_some P count n (inr p) stops more = omega (arith, stops p, more)
 
 -- ---- a fault is told
 

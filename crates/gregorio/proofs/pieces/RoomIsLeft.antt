@@ -1,4 +1,4 @@
--- Where nothing waits there is room for what an item and the end bring.
+-- Where no more waits than may there is room for what an item and the end bring.
 use Rattle.std.proofs.Common.{◌≡◌, ℕ, ◌+◌, ◌*◌, ◌≤◌, List, [], ◌∷◌, ◌++◌, length, map, Bool, true, false, if◌then◌else◌, cond, Some, Result, Ok, Err, ap, append-nil, arith}
 use Rattle.std.proofs.Math.Nat.{mul-le-mul_right}
 use Rattle.gabc_places.specs.declared.code.Fault.{Fault}
@@ -13,9 +13,11 @@ use Rattle.gabc_headers.specs.Heads.{heads_of}
 use Rattle.gabc_score.specs.ScoreStage.{is_final}
 use Rattle.gabc_headers.specs.HeadEvents.{event_of_book}
 use Rattle.gabc_headers.specs.witness.HeadEvents.{HeadProgress, reading, behind, over, events_by, events_at_end, events_of_end, events_of_input, new_findings}
-use Rattle.gregorio.specs.machine.RunWriter.{heads_room, line_room, room_without_notes, syllable_room}
-use Rattle.gregorio.specs.machine.ScoreWriter.{ScoreWriterState, FitsEnd, FitsEvents, IsReserved, event_room, events_room}
-use Rattle.gregorio.specs.machine.Engine.{IsEmpty, IsNoCharacter, event_of_item}
+use Rattle.gregorio.specs.machine.RunWriter.{heads_room, line_room, most_waiting, room_without_notes, syllable_room}
+use Rattle.gregorio.specs.machine.ScoreWriter.{ScoreWriterState, FitsEnd, FitsEvents, HasRoom, IsReserved, event_room, events_room}
+use Rattle.gregorio.specs.machine.Engine.{IsEmpty, IsNoCharacter, LeavesRoom, event_of_item}
+use Rattle.gregorio.specs.Engine.{NothingWaits}
+use Rattle.gregorio.specs.witness.Engine.{EngineState}
 use Rattle.gregorio.proofs.RoomForAnEvent.{needed_more, needed_within}
 use Rattle.gregorio_jobs.specs.declared.job.Format.{Format}
 
@@ -71,21 +73,30 @@ heads_within : (headed : Bool) (most : ℕ) → (if headed then 0 else most) ≤
 heads_within true most = omega arith
 heads_within false most = omega arith
 
-pub room_reserved : (w : ScoreWriterState) (ends : Bool) (events : List HeadEvent) → IsReserved w → IsEmpty w → AreFew w.writer.written.format w.score.limits.syllable ends events → FitsEvents w ends events
-room_reserved w ends events reserved empty few =
+-- where no more waits than may before a step
+pub room_where_few_wait : (w : ScoreWriterState) → IsReserved w → length w.writer.out.items ≤ most_waiting w.score.limits → length w.writer.messages.items ≤ most_waiting w.score.limits → HasRoom w
+room_where_few_wait w reserved few few_lines = record { out = omega (arith, reserved.out, few); messages = omega (arith, reserved.messages, few_lines) }
+
+pub room_where_none_waits : (w : ScoreWriterState) → IsReserved w → IsEmpty w → HasRoom w
+room_where_none_waits w reserved empty =
+    room_where_few_wait w reserved (omega (arith, ap (λ (xs : List ℕ). length xs) empty.output)) (omega (arith, ap (λ (xs : List ℕ). length xs) empty.messages))
+
+pub leaves_room : (s : EngineState) → NothingWaits s → LeavesRoom s
+leaves_room s waits = record { output = omega (arith, ap (λ (xs : List ℕ). length xs) waits.output); messages = omega (arith, ap (λ (xs : List ℕ). length xs) waits.messages) }
+
+pub room_for_few : (w : ScoreWriterState) (ends : Bool) (events : List HeadEvent) → HasRoom w → AreFew w.writer.written.format w.score.limits.syllable ends events → FitsEvents w ends events
+room_for_few w ends events has few =
     let line = 16 * line_room w.writer.written.name in
     let count = few.count in
-    let messages = reserved.messages in
-    let out = reserved.out in
+    let messages = has.messages in
+    let out = has.out in
     let room = few.room in
     let heads = heads_within w.writer.written.headed (heads_room w.writer.written.format w.score.limits.header) in
     let needed = needed_within w.score.part (events_room w.writer.written.format w.score.limits.syllable ends events) in
-    let no_output : length w.writer.out.items ≡ 0 = ap (λ (xs : List ℕ). length xs) empty.output in
-    let no_lines : length w.writer.messages.items ≡ 0 = ap (λ (xs : List ℕ). length xs) empty.messages in
     let lines : (length events + 1) * line ≤ 4 * line = mul-le-mul_right line (omega (arith, count)) in
     record {
-      lines = omega (arith, lines, messages, no_lines);
-      texts = omega (arith, room, out, heads, needed, no_output);
+      lines = omega (arith, lines, messages);
+      texts = omega (arith, room, out, heads, needed);
     }
 
 found_room : (format : Format) (limit : ℕ) (fs : List Finding) (rest : List HeadEvent) → events_room format limit false (map (λ f. head_event.Found f) fs ++ rest) ≡ length fs * 25 + events_room format limit false rest
@@ -170,26 +181,26 @@ fault_is_few format limit limits (reading t) fault later last = let one = one_at
 fault_is_few format limit limits (behind book) fault later last = let one = one_at_end later last in stop_is_few format limit true fault (events_of_end later last) (omega (arith, one))
 fault_is_few format limit limits over fault later last = end_is_few format limit later last
 
-pub room_for_end : (w : ScoreWriterState) → IsReserved w → IsEmpty w → FitsEnd w
-room_for_end w reserved empty = λ limits progress.
-    room_reserved w true (events_of_end limits progress) reserved empty (end_is_few w.writer.written.format w.score.limits.syllable limits progress)
+pub room_for_end : (w : ScoreWriterState) → HasRoom w → FitsEnd w
+room_for_end w room = λ limits progress.
+    room_for_few w true (events_of_end limits progress) room (end_is_few w.writer.written.format w.score.limits.syllable limits progress)
 
-pub room_for_last : (w : ScoreWriterState) → IsReserved w → IsEmpty w → FitsEvents w true []
-room_for_last w reserved empty = room_reserved w true [] reserved empty (none_are_few w.writer.written.format w.score.limits.syllable true)
+pub room_for_last : (w : ScoreWriterState) → HasRoom w → FitsEvents w true []
+room_for_last w room = room_for_few w true [] room (none_are_few w.writer.written.format w.score.limits.syllable true)
 
 -- a fault behind the headers, and the end
-pub room_for_stop : (w : ScoreWriterState) (item : Result Char Fault) → IsReserved w → IsEmpty w → IsNoCharacter (Some item) → (limits : Limits) (progress : HeadProgress)
+pub room_for_stop : (w : ScoreWriterState) (item : Result Char Fault) → HasRoom w → IsNoCharacter (Some item) → (limits : Limits) (progress : HeadProgress)
     → FitsEvents w true (event_of_item item ∷ events_of_end limits progress)
-room_for_stop w (Ok x) reserved empty none limits progress = absurd none
-room_for_stop w (Err fault) reserved empty none limits progress =
+room_for_stop w (Ok x) room none limits progress = absurd none
+room_for_stop w (Err fault) room none limits progress =
     let one = one_at_end limits progress in
-    room_reserved w true (head_event.Stop fault ∷ events_of_end limits progress) reserved empty
+    room_for_few w true (head_event.Stop fault ∷ events_of_end limits progress) room
     (stop_is_few w.writer.written.format w.score.limits.syllable true fault (events_of_end limits progress) (omega (arith, one)))
 
 -- a fault in the headers, and the end
-pub room_for_fault : (w : ScoreWriterState) (limits : Limits) (progress : HeadProgress) (item : Result Char Fault) → IsReserved w → IsEmpty w → IsNoCharacter (Some item) → (later : Limits) (last : HeadProgress)
+pub room_for_fault : (w : ScoreWriterState) (limits : Limits) (progress : HeadProgress) (item : Result Char Fault) → HasRoom w → IsNoCharacter (Some item) → (later : Limits) (last : HeadProgress)
     → FitsEvents w true (events_of_input limits progress item ++ events_of_end later last)
-room_for_fault w limits progress (Ok x) reserved empty none later last = absurd none
-room_for_fault w limits progress (Err fault) reserved empty none later last =
-    room_reserved w true (events_of_input limits progress (Err fault) ++ events_of_end later last) reserved empty
+room_for_fault w limits progress (Ok x) room none later last = absurd none
+room_for_fault w limits progress (Err fault) room none later last =
+    room_for_few w true (events_of_input limits progress (Err fault) ++ events_of_end later last) room
     (fault_is_few w.writer.written.format w.score.limits.syllable limits progress fault later last)

@@ -1,5 +1,5 @@
 -- What an engine does with items, which are characters or the fault that stops the text, and what holds of it between two calls.
-use Rattle.std.specs.Prelude.{◌≡◌, ◌≤◌, ◌⊎◌, ◌||◌, ℕ, List, [], ◌∷◌, ◌++◌, Bool, true, Option, Some, None, Result, Ok, Err}
+use Rattle.std.specs.Prelude.{◌≡◌, ◌≤◌, ◌⊎◌, ◌||◌, ℕ, List, [], ◌∷◌, ◌++◌, length, Bool, true, Option, Some, None, Result, Ok, Err}
 use Rattle.std.specs.List.{list_any}
 use Rattle.gabc_places.specs.BoundedList.{BoundedList, extended_by}
 use Rattle.gabc_places.specs.declared.code.Fault.{Fault}
@@ -10,9 +10,10 @@ use Rattle.gabc_headers.specs.declared.head_event.HeadEvent.TheVariants as head_
 use Rattle.gabc_headers.specs.witness.HeadEvents.{HeaderStageState, HeadProgress, reading, behind, over, IsBehind}
 use Rattle.gregorio.specs.declared.source_ending.SourceEnding.{SourceEnding}
 use Rattle.gregorio.specs.Streams.{Streams, behind_bytes}
-use Rattle.gregorio.specs.witness.Engine.{book_behind, head_events_left, is_heads}
+use Rattle.gregorio.specs.witness.Engine.{EngineState, book_behind, head_events_left, is_heads}
 use Rattle.gregorio.specs.machine.InStep.{IsInStep}
 use Rattle.gregorio.specs.machine.ReadsHeaders.{ReadsHeaders}
+use Rattle.gregorio.specs.machine.RunWriter.{most_waiting}
 use Rattle.gregorio.specs.machine.TellsInStep.{IsTelling}
 use Rattle.gregorio.specs.machine.ScoreWriter.{ScoreWriterState, streams_of, IsBookAt, IsShortBook, IsReserved}
 
@@ -61,6 +62,11 @@ pub record WritesItems (h : HeaderStageState) (old : ScoreWriterState) (items : 
   pub law : (ending : SourceEnding) (more : List (Result Char Fault)) → streams_of_items h old ending (items ++ more) ≡ behind_bytes output lines (streams_of_items now new ending more)
 
 -- ---- between two calls
+
+-- No more waits than leaves room for a step.
+pub record LeavesRoom (s : EngineState) : Type 0 where
+  pub output : length s.output ≤ most_waiting s.score.limits
+  pub messages : length s.messages ≤ most_waiting s.score.limits
 
 -- nothing waits
 pub record IsEmpty (w : ScoreWriterState) : Type 0 where

@@ -1,5 +1,5 @@
 -- What a run that goes on from a saved state has, part by part.
-use Rattle.std.specs.Prelude.{◌≡◌, ◌-◌, ◌*◌, ◌≤◌, ℕ, List, [], true}
+use Rattle.std.specs.Prelude.{◌≡◌, ◌+◌, ◌-◌, ◌*◌, ◌≤◌, ℕ, List, [], true}
 use Rattle.std.specs.Str.{chars}
 use Rattle.gabc_places.specs.declared.limits.Limits.{Limits}
 use Rattle.gabc_headers.specs.HeldText.{holding}
@@ -13,7 +13,7 @@ use Rattle.gregorio.specs.Saved.{GivesHeaders, state_of}
 use Rattle.gregorio.specs.witness.Engine.{EngineState, Written}
 use Rattle.gregorio.specs.machine.HeldHeaders.{behind_mark}
 use Rattle.gregorio.specs.machine.Restoring.{IsSetDown}
-use Rattle.gregorio.specs.machine.RunWriter.{RunWriterState, line_room, out_room}
+use Rattle.gregorio.specs.machine.RunWriter.{RunWriterState, line_room, most_waiting, out_room}
 use Rattle.gregorio.specs.machine.ScoreWriter.{fresh_writer}
 
 -- what was written: in the headers nothing, and in the score the headers and all syllables but the one that is held
@@ -52,5 +52,5 @@ pub record GoesOn (job : Job) (limits : Limits) (s : StateFields) (e : EngineSta
 pub record HasEmptyRooms (limits : Limits) (w : RunWriterState) : Type 0 where
   pub output : w.out.items ≡ []
   pub lines : w.messages.items ≡ []
-  pub out : out_room w.written.format limits ≤ w.out.limit
-  pub messages : 128 * line_room w.written.name ≤ w.messages.limit
+  pub out : out_room w.written.format limits + most_waiting limits ≤ w.out.limit
+  pub messages : 128 * line_room w.written.name + most_waiting limits ≤ w.messages.limit

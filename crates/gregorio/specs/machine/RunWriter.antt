@@ -1,5 +1,5 @@
 -- What a writer of runs does with what it is given.
-use Rattle.std.specs.Prelude.{◌≡◌, ℕ, ◌+◌, ◌*◌, ◌≤◌, List, [], ◌∷◌, Bool, true, false, Some, length}
+use Rattle.std.specs.Prelude.{◌≡◌, ℕ, ◌+◌, ◌*◌, ◌≤◌, min, List, [], ◌∷◌, Bool, true, false, Some, length}
 use Rattle.std.specs.List.{All}
 use Rattle.gabc_places.specs.BoundedList.{BoundedList, extended_by}
 use Rattle.gabc_score.specs.NoNotes.{has_no_notes}
@@ -68,9 +68,13 @@ heads_room format limit = heads_len format (limit + 2)
 abbrev pub last_room : ℕ
 last_room = 25
 
--- the output that ever waits: the headers, a syllable, one behind it that has no notes, and last lines
+-- the output that a step brings: the headers, a syllable, one behind it that has no notes, and last lines
 abbrev pub out_room : Format → Limits → ℕ
 out_room format limits = heads_room format limits.header + syllable_room format limits.syllable + room_without_notes format limits.syllable + 128
+
+-- how many bytes of the output, and as many of the messages, may wait before a step: as many as the headers may have, up to 65,536
+abbrev pub most_waiting : Limits → ℕ
+most_waiting limits = min limits.header 65536
 
 -- how many bytes of messages these may bring
 abbrev pub lines_room : List ℕ → List ScoreOutput → ℕ

@@ -23,7 +23,7 @@ use Rattle.gregorio.specs.Streams.{Streams, behind_bytes, ended_with}
 use Rattle.gregorio.specs.witness.Engine.{Written, streams_from}
 use Rattle.gregorio.specs.machine.ClefInForce.{HasClefOfSounds}
 use Rattle.gregorio.specs.machine.Telling.{TellsThrough}
-use Rattle.gregorio.specs.machine.RunWriter.{RunWriterState, line_room, syllable_room, room_without_notes, heads_room, last_room, out_room}
+use Rattle.gregorio.specs.machine.RunWriter.{RunWriterState, line_room, syllable_room, room_without_notes, heads_room, last_room, most_waiting, out_room}
 use Rattle.gregorio_jobs.specs.declared.job.Format.{Format}
 use Rattle.gregorio_jobs.specs.declared.job.Status.{Status}
 
@@ -142,10 +142,15 @@ pub record FitsEvents (s : ScoreWriterState) (ends : Bool) (events : List HeadEv
 abbrev pub FitsEnd : ScoreWriterState → Type 0
 FitsEnd s = (limits : Limits) (progress : HeadProgress) → FitsEvents s true (events_of_end limits progress)
 
--- the rooms that a writer has
+-- the rooms that a writer has: for what a step brings, and for what may wait before it
 pub record IsReserved (s : ScoreWriterState) : Type 0 where
-  pub out : out_room s.writer.written.format s.score.limits ≤ s.writer.out.limit
-  pub messages : 128 * line_room s.writer.written.name ≤ s.writer.messages.limit
+  pub out : out_room s.writer.written.format s.score.limits + most_waiting s.score.limits ≤ s.writer.out.limit
+  pub messages : 128 * line_room s.writer.written.name + most_waiting s.score.limits ≤ s.writer.messages.limit
+
+-- There is room for what a step brings after what waits: a byte, or the end of the input.
+pub record HasRoom (s : ScoreWriterState) : Type 0 where
+  pub out : length s.writer.out.items + out_room s.writer.written.format s.score.limits ≤ s.writer.out.limit
+  pub messages : length s.writer.messages.items + 128 * line_room s.writer.written.name ≤ s.writer.messages.limit
 
 -- nothing waits
 abbrev pub emptied : ScoreWriterState → ScoreWriterState

@@ -11,7 +11,7 @@ use Rattle.gregorio.specs.machine.InStep.{PassesOn}
 use Rattle.gregorio.proofs.pieces.PartsStayInStep.{body_in_step}
 use Rattle.gregorio.proofs.pieces.WrittenGoesOn.{went_on_past}
 use Rattle.gregorio.proofs.pieces.TellsInStepOn.{body_stays_telling}
-use Rattle.gregorio.proofs.pieces.RoomIsLeft.{item_is_few, room_for_stop, room_reserved}
+use Rattle.gregorio.proofs.pieces.RoomIsLeft.{item_is_few, room_for_few, room_for_stop}
 use Rattle.gregorio.proofs.pieces.TextOfHeaders.{body_reads_on}
 use Rattle.gregorio.proofs.engine.read.Goals as goal
 
@@ -23,7 +23,7 @@ pub pass-requires-clause-room : goal.pass-requires-clause-room
 pass-requires-clause-room c =
     let w = c.args.writer.now in
     subst (λ (x : HeadItem). FitsEvents w false (x ∷ [])) (sym c.body_event.ensures)
-    (room_reserved w false (event_of_item c.args.item ∷ []) c.requires.reserved c.requires.empty (item_is_few w.writer.written.format w.score.limits.syllable c.args.item))
+    (room_for_few w false (event_of_item c.args.item ∷ []) c.requires.room (item_is_few w.writer.written.format w.score.limits.syllable c.args.item))
 
 pub pass-requires-clause-heads : goal.pass-requires-clause-heads
 pass-requires-clause-heads c =
@@ -47,7 +47,7 @@ returns-clause-room c = λ none limits progress.
     let w = c.args.writer.now in
     c.pass.ensures.room true (events_of_end limits progress)
     (subst (λ (x : HeadItem). FitsEvents w true (x ∷ events_of_end limits progress)) (sym c.body_event.ensures)
-    (room_for_stop w c.args.item c.requires.reserved c.requires.empty none limits progress))
+    (room_for_stop w c.args.item c.requires.room none limits progress))
 
 pub returns-clause-step : goal.returns-clause-step
 returns-clause-step c =

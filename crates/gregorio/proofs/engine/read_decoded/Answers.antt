@@ -9,7 +9,7 @@ pub returns-in_default-clause-writes : goal.returns-in_default-clause-writes
 returns-in_default-clause-writes c = rw c.in_default.is (no_items c.args.heads.now c.args.writer.now)
 
 pub returns-in_default-clause-room : goal.returns-in_default-clause-room
-returns-in_default-clause-room c = λ none. room_for_end c.args.writer.now c.requires.reserved c.requires.empty
+returns-in_default-clause-room c = λ none. room_for_end c.args.writer.now c.requires.room
 
 pub returns-in_default-clause-step : goal.returns-in_default-clause-step
 returns-in_default-clause-step c =

@@ -14,7 +14,7 @@ use Rattle.gregorio.proofs.engine.read_in_heads.Goals as goal
 pub pass_on-requires-clause-room : goal.pass_on-requires-clause-room
 pass_on-requires-clause-room c =
     let step = given_of_input c.args.heads.now _ c.args.item c.args.from_heads.now c.clear.new.self c.push.new.out c.slice.result.now c.clear.ensures c.push.ensures.events c.slice.ensures in
-    room_for_given c.args.heads.now c.args.writer.now c.args.item c.slice.result.now step c.requires.reserved c.requires.empty
+    room_for_given c.args.heads.now c.args.writer.now c.args.item c.slice.result.now step c.requires.room
 
 pub pass_on-requires-clause-book : goal.pass_on-requires-clause-book
 pass_on-requires-clause-book c =
@@ -50,7 +50,7 @@ returns-clause-room c = λ none limits progress.
     let step = given_of_input c.args.heads.now _ c.args.item c.args.from_heads.now c.clear.new.self c.push.new.out c.slice.result.now c.clear.ensures c.push.ensures.events c.slice.ensures in
     room_of_begun c.args.item c.pass_on.new.writer c.begin_body.new.self c.begin_body.ensures true (events_of_end limits progress)
     (c.pass_on.ensures.room true (events_of_end limits progress)
-    (room_with_end c.args.heads.now c.args.writer.now c.args.item c.slice.result.now step c.requires.reserved c.requires.empty none limits progress))
+    (room_with_end c.args.heads.now c.args.writer.now c.args.item c.slice.result.now step c.requires.room none limits progress))
 
 pub returns-clause-steady : goal.returns-clause-steady
 returns-clause-steady c = steady_of_begun c.args.item c.pass_on.new.writer c.begin_body.new.self c.begin_body.ensures c.args.writer.now c.pass_on.ensures.steady

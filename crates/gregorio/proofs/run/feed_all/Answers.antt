@@ -11,8 +11,7 @@ loop-taken-init g c = record {
   within = omega arith;
   limit = omega arith;
   waits = c.requires.waits;
-  buffers = c.requires.buffers;
-  fed = from_nothing g.O.Sink.written g.O.Sink.calls g.M.Sink.written g.M.Sink.calls g.S.Source.remaining g.S.Source.calls _ _ _ _ c.keeps_nothing_back.ensures;
+  fed = from_nothing g.O.Sink.written g.O.Sink.calls g.M.Sink.written g.M.Sink.calls g.S.Source.remaining g.S.Source.calls _ _ _ _ c.keeps_nothing_back.ensures.prompt;
 }
 
 pub returns-in_err-feed_piece-in-Ok-clause-cut : goal.returns-in_err-feed_piece-in-Ok-clause-cut
@@ -38,6 +37,5 @@ loop-taken-preserved g c =
       within = search rules;
       limit = omega arith;
       waits = c.in_ok-feed_piece-in-Ok.ensures.waits;
-      buffers = c.in_ok-feed_piece-in-Ok.ensures.buffers;
       fed = from_more g.O.Sink.written g.O.Sink.calls g.M.Sink.written g.M.Sink.calls g.S.Source.remaining g.S.Source.calls _ c.loop-taken.source _ _ c.loop-taken.out _ _ c.loop-taken.messages _ _ c.loop-taken.engine _ piece c.loop-taken.taken c.in-Ok.n c.loop-taken.invariant.fed (c.in-Ok.ensures.bytes.0) some (ap (λ (k : Calls). k.made) c.in-Ok.ensures.calls) (first_of (omega arith, omega (arith, c.in-Ok.n-test), search (rules, c.in-Ok.n-test))) size c.in_ok-feed_piece-in-Ok.ensures.fed;
     }

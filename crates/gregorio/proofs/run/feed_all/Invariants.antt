@@ -2,7 +2,6 @@ use Rattle.std.proofs.Common.{◌≡◌, ◌-◌, ◌+◌, ◌≤◌}
 use Rattle.gregorio.specs.Engine.{NothingWaits}
 use Rattle.gregorio.specs.Run.{used}
 use Rattle.gregorio.specs.machine.Compile.{IsFedFrom}
-use Rattle.gregorio.specs.machine.Buffers.{nothing_buffered}
 use Rattle.gregorio.proofs.run.feed_all.Given as goal
 
 abbrev pub invariant-loop-taken : goal.invariant-loop-taken
@@ -10,7 +9,6 @@ invariant-loop-taken g l = record {
   within : l.taken ≤ l.most;
   limit : l.most ≡ l.limit + 1;
   waits : NothingWaits l.engine;
-  buffers : l.buffers ≡ nothing_buffered;
   fed : IsFedFrom (used g.S.Source.remaining g.S.Source.calls l.initial.source l.source) (used g.O.Sink.written g.O.Sink.calls l.initial.out l.out) (used g.M.Sink.written g.M.Sink.calls l.initial.messages l.messages) l.initial.engine l.engine l.taken;
 }
 

@@ -3,7 +3,7 @@ use Rattle.gregorio.specs.declared.source_ending.SourceEnding.TheVariants.{Broke
 use Rattle.gregorio.specs.witness.Engine.{EngineState, streams_left}
 use Rattle.gregorio.specs.machine.Engine.{IsEmpty}
 use Rattle.gregorio.proofs.pieces.InputsAreEnded.{ends_last, ends_now, over_of_items, over_together}
-use Rattle.gregorio.proofs.pieces.RoomIsLeft.{room_for_last}
+use Rattle.gregorio.proofs.pieces.RoomIsLeft.{room_for_last, room_where_none_waits}
 use Rattle.gregorio.proofs.pieces.BytesAreTaken.{still_reserved}
 use Rattle.gregorio.proofs.pieces.PartsStayInStep.{over_in_step}
 use Rattle.gregorio.proofs.pieces.TextOfHeaders.{over_reads}
@@ -16,7 +16,7 @@ finish-requires c =
       output = ap (λ (s : EngineState). s.output) c.self.view_is ∙ c.requires.waits.output;
       messages = ap (λ (s : EngineState). s.messages) c.self.view_is ∙ c.requires.waits.messages;
     } in
-    record { room = room_for_last c.self.inside.writer c.self.invariant.reserved empty }
+    record { room = room_for_last c.self.inside.writer (room_where_none_waits c.self.inside.writer c.self.invariant.reserved empty) }
 
 pub returns-clause-law : goal.returns-clause-law
 returns-clause-law c =

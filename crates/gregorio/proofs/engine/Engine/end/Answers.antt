@@ -6,13 +6,14 @@ use Rattle.gabc_places.specs.DecoderMachine.{DecoderState}
 use Rattle.gabc_places.specs.declared.code.Fault.{Fault}
 use Rattle.gabc_places.specs.declared.place.Char.{Char}
 use Rattle.gabc_places.specs.witness.DecoderEvents as decoder
+use Rattle.gregorio.specs.Engine.{NothingWaits}
 use Rattle.gregorio.specs.Streams.{ended_with}
 use Rattle.gregorio.specs.declared.source_ending.SourceEnding.TheVariants.{Whole}
 use Rattle.gregorio.specs.witness.Engine.{EngineState, streams_left}
 use Rattle.gregorio.specs.machine.Engine.{GoTogether, IsEmpty, IsNoCharacter}
 use Rattle.gregorio.specs.machine.ScoreWriter.{ScoreWriterState, FitsEnd, FitsEvents}
 use Rattle.gregorio.proofs.pieces.HeadersAreRead.{given_of_end}
-use Rattle.gregorio.proofs.pieces.RoomIsLeft.{room_before_end}
+use Rattle.gregorio.proofs.pieces.RoomIsLeft.{room_before_end, room_where_none_waits}
 use Rattle.gregorio.proofs.pieces.InputsAreEnded.{no_character_at_end, ends_given, ends_items, ends_now, over_is_settled, over_of_items, over_stage, over_together}
 use Rattle.gregorio.proofs.pieces.BytesAreTaken.{none_wait, still_reserved}
 use Rattle.gregorio.proofs.pieces.EventsAreWritten.{steady_both}
@@ -24,6 +25,14 @@ use Rattle.gregorio.proofs.engine.Engine.end.Goals as goal
 
 pub read_decoded-requires-clause-part : goal.read_decoded-requires-clause-part
 read_decoded-requires-clause-part c = in_heads_yet c.self.inside.decoder c.self.inside.heads c.self.inside.writer c.self.invariant.step.runs
+
+nothing_waits : (s : EngineState) (w : ScoreWriterState) → w.writer.out.items ≡ s.output → w.writer.messages.items ≡ s.messages → NothingWaits s → IsEmpty w
+nothing_waits s w output messages waits = record { output = output ∙ waits.output; messages = messages ∙ waits.messages }
+
+pub read_decoded-requires-clause-room : goal.read_decoded-requires-clause-room
+read_decoded-requires-clause-room c =
+    room_where_none_waits c.self.inside.writer c.self.invariant.reserved
+    (nothing_waits c.args.self.now c.self.inside.writer (ap (λ (s : EngineState). s.output) c.self.view_is) (ap (λ (s : EngineState). s.messages) c.self.view_is) c.requires.waits)
 
 room_at_end : (d : DecoderState) (h : HeaderStageState) (w : ScoreWriterState) (item : Option (Result Char Fault)) (events : List HeadItem) → decoder.events_left d [] ≡ option_to_list item ∷ []
     → (IsNoCharacter item → FitsEnd w) → events ≡ events_of_end h.limits h.progress → FitsEvents w true events
@@ -48,10 +57,7 @@ finish-requires-2 c =
 
 pub returns-clause-law : goal.returns-clause-law
 returns-clause-law c =
-    let empty : IsEmpty c.self.inside.writer = record {
-      output = ap (λ (s : EngineState). s.output) c.self.view_is ∙ c.requires.waits.output;
-      messages = ap (λ (s : EngineState). s.messages) c.self.view_is ∙ c.requires.waits.messages;
-    } in
+    let empty = nothing_waits c.args.self.now c.self.inside.writer (ap (λ (s : EngineState). s.output) c.self.view_is) (ap (λ (s : EngineState). s.messages) c.self.view_is) c.requires.waits in
     let from_heads = given_of_end c.read_decoded.new.heads c.read_decoded.new.from_heads c.clear.new.self c.finish.new.out c.slice.result.now c.clear.ensures c.finish.ensures.ends c.slice.ensures in
     let ends = ends_items c.self.inside.decoder c.self.inside.heads c.read_decoded.new.heads c.self.inside.writer c.read_decoded.new.writer c.finish-2.new.self c.finish-2.result
     (option_to_list c.end-item.result) c.end-item.ensures.item c.read_decoded.ensures.writes

@@ -1,26 +1,24 @@
-use Rattle.std.proofs.Common.{◌≡◌, false, Option, Some, None, is_none, is_some, refl, inl, inr, length, length-drop, take, ap, sym, subst, ◌∙◌, arith}
-use Rattle.gregorio_jobs.specs.declared.job.Status.{Status}
-use Rattle.gregorio.specs.witness.Engine.{EngineState}
-use Rattle.gregorio.specs.machine.ScoreWriter.{IsOver}
+use Rattle.std.proofs.Common.{◌≤◌, not, refl, inl, inr, length, length-drop, ap, sym, ◌∙◌, arith}
+use Rattle.gregorio.specs.Engine.{NothingWaits}
 use Rattle.gregorio.proofs.PiecesAreSent.{all_behind}
-use Rattle.gregorio.proofs.pieces.BytesAreTaken.{found_over, read_fault_if_broken, stopped_takes, takes_none}
-use Rattle.gregorio.proofs.pieces.FrontIsTaken.{takes_more}
-use Rattle.gregorio.proofs.pieces.NothingIsKeptBack.{no_fault_is_kept_back, prompt_further, prompt_where_over}
+use Rattle.gregorio.proofs.pieces.FrontIsTaken.{brings_more}
+use Rattle.gregorio.proofs.pieces.NothingIsKeptBack.{no_fault_is_kept_back, prompt_further, took_some}
+use Rattle.gregorio.proofs.pieces.RoomIsLeft.{leaves_room}
+use Rattle.gregorio.proofs.engine.Engine.feed.Goals.{else-loop-count-test, then-loop-count-test+else-nothing_waits}
 use Rattle.gregorio.proofs.engine.Engine.feed.Goals as goal
-
-ran : (o : Option Status) → is_some o ≡ false → is_none o ≡ false → ⊥
-ran None some none = cc none
-ran (Some status) some none = cc some
 
 pub loop-count-init : goal.loop-count-init
 loop-count-init c = record {
-  taken = takes_none c.args.self.now c.requires.waits;
+  brings = λ more ending. refl;
   within = omega arith;
   begun = inr c.requires.waits;
   format = refl;
   job = λ job limits runs. runs;
   stops = λ something. absurd (something c.requires.waits);
 }
+
+pub take_some-count-requires : goal.take_some-count-requires
+take_some-count-requires c = record { room = leaves_room c.loop-count.self (c.nothing_waits.ensures.waits c.if-nothing_waits.true) }
 
 pub loop-count-preserved : goal.loop-count-preserved
 loop-count-preserved c =
@@ -31,39 +29,35 @@ loop-count-preserved c =
     let all = all_behind c.loop-count.count c.args.piece.now in
     let l = length-drop c.loop-count.count c.args.piece.now in
     let left = ap length all in
+    let waits = c.nothing_waits.ensures.waits c.if-nothing_waits.true in
     record {
-      taken = takes_more c.args.self.now c.loop-count.self c.take_some-count.new.self c.args.piece.now _ c.loop-count.count c.take_some-count.result all i.taken
-          (c.nothing_waits.ensures.waits c.if-nothing_waits.true) c.take_some-count.ensures.law;
+      brings = brings_more c.args.self.now c.loop-count.self c.take_some-count.new.self c.args.piece.now _ c.loop-count.count c.take_some-count.result all i.brings c.take_some-count.ensures.brings;
       within = omega (arith, within, l, left, more);
       begun = inl (omega (arith, some (omega (arith, l, left, more))));
       format = c.take_some-count.ensures.format ∙ i.format;
       job = λ job limits runs. c.take_some-count.ensures.job job limits (i.job job limits runs);
       stops = λ something.
-          prompt_further c.args.self.now c.loop-count.self c.args.piece.now _ c.loop-count.count c.take_some-count.result all i.taken
-          (c.nothing_waits.ensures.waits c.if-nothing_waits.true) (some (omega (arith, l, left, more))) i.format (c.take_some-count.ensures.stops something);
+          prompt_further c.args.self.now c.loop-count.self c.args.piece.now _ c.loop-count.count c.take_some-count.result all i.brings c.requires.waits
+          waits (some (omega (arith, l, left, more))) i.format (c.take_some-count.ensures.stops waits something);
     }
 
-pub returns-clause-law : goal.returns-clause-law
-returns-clause-law c = c.loop-count.invariant.taken
-
-pub returns-clause-job : goal.returns-clause-job
-returns-clause-job c = c.loop-count.invariant.job
-
-pub returns-clause-format : goal.returns-clause-format
-returns-clause-format c = c.loop-count.invariant.format
-
-pub returns-clause-running : goal.returns-clause-running
-returns-clause-running c = λ runs.
-    let law = c.inputs_that_cease_give_no_stop.ensures in
-    let s = c.loop-count.self.score in
-    read_fault_if_broken c.loop-count.self runs (record { findings = law.findings s; stop = law.stop s; end = law.end s })
-
-pub returns-clause-over : goal.returns-clause-over
-returns-clause-over c = λ stopped. absurd (ran c.args.self.now.written.ended
-    (sym (c.is_some.ensures ∙ ap is_some (c.ended.ensures.ended ∙ ap (λ (s : EngineState). s.written.ended) c.self.view_is)) ∙ c.if-is_some.false) stopped)
-
-pub returns-clause-prompt : goal.returns-clause-prompt
-returns-clause-prompt c = c.keeps_nothing_back.ensures
+pub returns-clause-takes : goal.returns-clause-takes
+returns-clause-takes c =
+    let i = c.loop-count.invariant in
+    let all : NothingWaits c.loop-count.self → length c.args.piece.now ≤ c.loop-count.count = λ waits. elim c.loop-count-test.branch [
+      | then-loop-count-test+else-nothing_waits w ↦ absurd (cc (sym (w.nothing_waits.ensures.some waits) ∙ w.if-nothing_waits.false))
+      | else-loop-count-test w ↦ w.loop-count-test.false
+    ] in
+    record {
+      within = i.within;
+      some = λ none more. took_some (NothingWaits c.loop-count.self) c.loop-count.count (length c.args.piece.now) i.begun all more;
+      brings = i.brings;
+      job = i.job;
+      format = i.format;
+      over = λ stopped. absurd (cc (sym (ap not stopped) ∙ (sym c.is_over.ensures.over ∙ c.if-is_over.false)));
+      running = c.keeps_nothing_back.ensures.running;
+      prompt = c.keeps_nothing_back.ensures.prompt;
+    }
 
 pub returns-clause-stops : goal.returns-clause-stops
 returns-clause-stops c = c.loop-count.invariant.stops
@@ -72,25 +66,11 @@ pub returns-clause-fault : goal.returns-clause-fault
 returns-clause-fault c = λ runs something.
     no_fault_is_kept_back c.the_end_comes_with_the_end.ensures c.args.self.now runs _ (c.loop-count.invariant.stops something).messages
 
-pub returns-then-is_some-clause-prompt : goal.returns-then-is_some-clause-prompt
-returns-then-is_some-clause-prompt c =
-    let over = found_over c.ended.result c.self.inside.writer.writer.written c.self.inside.writer.score (sym c.is_some.ensures ∙ c.if-is_some.true) c.ended.ensures.over in
-    prompt_where_over c.args.self.now over.0 (subst (λ (s : EngineState). IsOver s.written s.score over.0) c.self.view_is over.1)
+pub returns-then-is_over-clause-takes : goal.returns-then-is_over-clause-takes
+returns-then-is_over-clause-takes c = c.is_over.ensures.takes c.if-is_over.true c.args.piece.now
 
-pub returns-then-is_some-clause-stops : goal.returns-then-is_some-clause-stops
-returns-then-is_some-clause-stops c = λ something. absurd (something c.requires.waits)
+pub returns-then-is_over-clause-stops : goal.returns-then-is_over-clause-stops
+returns-then-is_over-clause-stops c = λ something. absurd (something c.requires.waits)
 
-pub returns-then-is_some-clause-fault : goal.returns-then-is_some-clause-fault
-returns-then-is_some-clause-fault c = λ runs something. absurd (something c.requires.waits)
-
-pub returns-then-is_some-clause-law : goal.returns-then-is_some-clause-law
-returns-then-is_some-clause-law c =
-    let over = found_over c.ended.result c.self.inside.writer.writer.written c.self.inside.writer.score (sym c.is_some.ensures ∙ c.if-is_some.true) c.ended.ensures.over in
-    stopped_takes c.args.self.now over.0 (subst (λ (s : EngineState). IsOver s.written s.score over.0) c.self.view_is over.1)
-    c.requires.waits (take (length c.args.piece.now) c.args.piece.now)
-
-pub returns-then-is_some-clause-running : goal.returns-then-is_some-clause-running
-returns-then-is_some-clause-running c = λ runs.
-    let law = c.inputs_that_cease_give_no_stop.ensures in
-    let s = c.args.self.now.score in
-    read_fault_if_broken c.args.self.now runs (record { findings = law.findings s; stop = law.stop s; end = law.end s })
+pub returns-then-is_over-clause-fault : goal.returns-then-is_over-clause-fault
+returns-then-is_over-clause-fault c = λ runs something. absurd (something c.requires.waits)

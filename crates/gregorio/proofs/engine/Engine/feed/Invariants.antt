@@ -1,14 +1,13 @@
 use Rattle.std.proofs.Common.{length, take, ◌≡◌, ◌-◌, ◌<◌, ◌≤◌, ◌⊎◌}
 use Rattle.gregorio.specs.declared.source_ending.SourceEnding.TheVariants.{Broken}
-use Rattle.gregorio.specs.Engine.{IsPrompt, NothingWaits, StillRuns}
+use Rattle.gregorio.specs.Engine.{Brings, IsPrompt, NothingWaits, StillRuns}
 use Rattle.gregorio.specs.witness.Engine.{streams_left}
-use Rattle.gregorio.proofs.pieces.BytesAreTaken.{Takes}
 use Rattle.gregorio.proofs.engine.Engine.feed.Given as goal
 
 -- The bytes so far are taken, and before the first one nothing waits. Where something waits, the last of them brought it.
 abbrev pub invariant-loop-count : goal.invariant-loop-count
 invariant-loop-count l = record {
-  taken : Takes l.initial.self (take l.count l.piece) l.self;
+  brings : Brings l.initial.self (take l.count l.piece) l.self;
   within : l.count ≤ length l.piece;
   begun : (0 < l.count) ⊎ NothingWaits l.self;
   format : l.self.written.format ≡ l.initial.self.written.format;

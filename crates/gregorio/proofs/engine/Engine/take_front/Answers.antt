@@ -51,3 +51,6 @@ returns-clause-law c = λ bytes ending.
 pub returns-clause-written : goal.returns-clause-written
 returns-clause-written c =
     ap (λ (w : RunWriterState). w.written) c.take_front-count.ensures.writes.writer ∙ ap (λ (s : EngineState). s.written) c.self.view_is
+
+pub returns-clause-limits : goal.returns-clause-limits
+returns-clause-limits c = c.take_front-count.ensures.writes.limits ∙ ap (λ (s : EngineState). s.score.limits) c.self.view_is

@@ -2,7 +2,7 @@ use Rattle.std.proofs.Common.{rules}
 use Rattle.gregorio.specs.Run.{used}
 use Rattle.gregorio.specs.machine.Compile.{AreCut, NoneOrAll}
 use Rattle.gregorio.proofs.PiecesAreSent.{cut_behind_output, cut_in_output}
-use Rattle.gregorio.proofs.buffers.send_both.Goals as goal
+use Rattle.gregorio.proofs.run.send_both.Goals as goal
 
 pub returns-in-Err-send_all-clause-cut : goal.returns-in-Err-send_all-clause-cut
 returns-in-Err-send_all-clause-cut g c =
