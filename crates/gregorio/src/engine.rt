@@ -30,8 +30,9 @@ use std::alloc::{AllocError, Global};
 use std::hash::DefaultHasher;
 use std::marker::Model;
 
-/// Compiles a score that comes in pieces. What is known of it is written before the next byte is read, and waits until it is taken. It asks
-/// for no memory once made. `fill` goes on while there is room for what it writes; `feed` stops where something waits.
+/// Compiles a score that comes in pieces. What is known of it is written before the next byte is
+/// read, and waits until it is taken. It asks for no memory once made. `fill` goes on while there
+/// is room for what it writes; `feed` stops where something waits.
 ///
 /// ```
 /// let mut engine = Engine::new(alloc, &job, Limits::DEFAULT)?;
@@ -254,7 +255,8 @@ impl Engine {
         }
     }
 
-    /// Does nothing. Its contract is a law: nothing is kept back but what is held, and no fault while it runs.
+    /// Does nothing. Its contract is a law: nothing is kept back but what is held, and no fault
+    /// while it runs.
     #[inline(always)]
     pub(crate) fn keeps_nothing_back(&self)
         ensures prompt { IsPrompt self.now.written.format (streams_left self.now Broken []) }

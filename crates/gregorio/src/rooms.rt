@@ -44,8 +44,8 @@ fn heads_room(format: Format, limit: usize) -> usize
     }
 }
 
-/// Returns how many bytes of the output, and as many of the messages, may wait before a step: as many as the headers may have under `limits`,
-/// at most 65,536.
+/// Returns how many bytes of the output, and as many of the messages, may wait before a step: as
+/// many as the headers may have under `limits`, at most 65,536.
 pub(crate) fn most_waiting(limits: Limits) -> usize
     ensures { result ≡ most_before_a_step limits }
 {
@@ -78,8 +78,8 @@ pub(crate) fn memory_for(alloc: Global, job: &Job, limits: Limits) -> Result<Mem
     Memory::with_capacity(alloc, bytes)
 }
 
-/// Returns an empty room in `memory` for the lines of messages that call the input by a name of `len` bytes: for those of a step, and for
-/// `waiting` bytes before it.
+/// Returns an empty room in `memory` for the lines of messages that call the input by a name of
+/// `len` bytes: for those of a step, and for `waiting` bytes before it.
 pub(crate) fn message_room(
     memory: &Memory,
     len: usize,

@@ -19,7 +19,8 @@ use std::hash::DefaultHasher;
 /// How many bytes one read asks for at most.
 const PIECE: usize = 8192;
 
-/// Sends `output` to `out`, and then `lines` to `messages`. Where the output's sink fails, no message is sent.
+/// Sends `output` to `out`, and then `lines` to `messages`. Where the output's sink fails, no
+/// message is sent.
 fn send_both<O: Sink, M: Sink>(
     output: &[u8],
     lines: &[u8],

@@ -10,7 +10,8 @@ use gabc_places::Limits;
 use gregorio::{Engine, Format};
 use std::alloc::{AllocError, Global};
 
-/// What is known behind a byte: how many bytes of the output and of the messages, and whether the run goes on.
+/// What is known behind a byte: how many bytes of the output and of the messages, and whether the
+/// run goes on.
 #[derive(Clone, Copy, PartialEq, Eq)]
 struct Point {
     output: usize,
@@ -51,7 +52,8 @@ impl Fed {
         Ok(())
     }
 
-    /// Returns whether so many bytes can be all that are taken when a run goes on no more: it went on before the last of them.
+    /// Returns whether so many bytes can be all that are taken when a run goes on no more: it went
+    /// on before the last of them.
     fn stops_behind(&self, count: usize) -> bool {
         match self.points.as_slice().get(count.saturating_sub(2)) {
             Some(point) => count < 2 || point.goes_on,
@@ -59,7 +61,8 @@ impl Fed {
         }
     }
 
-    /// Returns whether `engine` has given and keeps of the first `count` bytes what was wanted: all but `left` is given.
+    /// Returns whether `engine` has given and keeps of the first `count` bytes what was wanted: all
+    /// but `left` is given.
     fn is_known(&self, engine: &Engine, count: usize, left: Wanted) -> bool {
         let Some(point) = self.points.as_slice().get(count.saturating_sub(1)) else {
             return false;
@@ -98,7 +101,8 @@ fn front(bytes: &[u8], most: usize) -> &[u8]
     &bytes[..most.min(bytes.len())]
 }
 
-/// Fills `engine` from `piece`, which stands behind `count` bytes. Returns how many bytes it took, or none where it went on behind the byte that stops the run.
+/// Fills `engine` from `piece`, which stands behind `count` bytes. Returns how many bytes it took,
+/// or none where it went on behind the byte that stops the run.
 fn fill_piece(engine: &mut Engine, piece: &[u8], count: usize, fed: &Fed) -> Option<usize>
     ensures within { IfSome result (λ taken. taken ≤ length piece.now) }
     ensures some { NothingWaits engine.old → 0 < length piece.now →
@@ -113,8 +117,9 @@ fn fill_piece(engine: &mut Engine, piece: &[u8], count: usize, fed: &Fed) -> Opt
     Some(taken)
 }
 
-/// Fills `engine` from two pieces of `most` bytes, of which the first stands behind `count` bytes. What the first brings waits when the second comes. Returns
-/// how many bytes it took, or none where it went on behind the byte that stops the run.
+/// Fills `engine` from two pieces of `most` bytes, of which the first stands behind `count` bytes.
+/// What the first brings waits when the second comes. Returns how many bytes it took, or none where
+/// it went on behind the byte that stops the run.
 fn fill_twice(
     engine: &mut Engine,
     bytes: &[u8],
@@ -133,7 +138,8 @@ fn fill_twice(
     Some(first + second)
 }
 
-/// Returns whether `engine` gives what it gave when it was `fed`, where it is filled from pieces of `most` bytes.
+/// Returns whether `engine` gives what it gave when it was `fed`, where it is filled from pieces of
+/// `most` bytes.
 fn fills(engine: &mut Engine, bytes: &[u8], most: usize, fed: &Fed) -> bool
     requires most { 0 < most }
     requires waits { NothingWaits engine.old }
@@ -155,7 +161,8 @@ fn fills(engine: &mut Engine, bytes: &[u8], most: usize, fed: &Fed) -> bool
     end(engine, false).code() == fed.status && left.take(engine) && left.is_empty()
 }
 
-/// Returns whether `engine`, which is fresh, gives the same of `bytes` filled as fed. It begins again then.
+/// Returns whether `engine`, which is fresh, gives the same of `bytes` filled as fed. It begins
+/// again then.
 fn agrees(alloc: Global, engine: &mut Engine, bytes: &[u8], most: usize) -> Result<bool, AllocError>
     requires most { 0 < most }
     requires waits { NothingWaits engine.old }
@@ -171,7 +178,8 @@ fn agrees(alloc: Global, engine: &mut Engine, bytes: &[u8], most: usize) -> Resu
 /// How many scores are put together from one.
 const SCORES: usize = 500;
 
-/// Returns how many of the scores that are put together from `score` an engine gives the same of filled as fed.
+/// Returns how many of the scores that are put together from `score` an engine gives the same of
+/// filled as fed.
 fn count_by(
     alloc: Global,
     engine: &mut Engine,
@@ -192,7 +200,8 @@ fn count_by(
     Ok(agreed)
 }
 
-/// The limits of the runs: the usual ones, and some with which what may wait before a byte is 300 bytes.
+/// The limits of the runs: the usual ones, and some with which what may wait before a byte is 300
+/// bytes.
 const LIMITS: [(u32, u32, u32); 2] = [(65_536, 16_384, 4_294_967_295), (300, 200, 100_000)];
 
 /// Returns how many of such runs agree in this format under these limits.
@@ -217,7 +226,8 @@ fn count_in(
 /// How many runs are made of each score.
 pub(crate) const RUNS: usize = 4 * SCORES;
 
-/// Returns how many runs agree over the scores that are put together from `score`: in both formats, each under two limits.
+/// Returns how many runs agree over the scores that are put together from `score`: in both formats,
+/// each under two limits.
 pub(crate) fn count_agreed(alloc: Global, score: &[u8], seed: u64) -> Result<usize, AllocError> {
     let mut agreed = 0usize;
     for format in [Format::Gabc, Format::Dump] {

@@ -268,7 +268,8 @@ fn check_scores(rt: &HostRuntime) -> io::Result<()> {
     println!(rt; "scores: {agreed} of {} agree", SCORES.len())
 }
 
-/// Makes runs of engines that are filled over scores that are put together from parts of the example scores.
+/// Makes runs of engines that are filled over scores that are put together from parts of the
+/// example scores.
 fn check_filled(rt: &HostRuntime) -> io::Result<()> {
     let mut agreed = 0usize;
     let mut seed = 1u64;

@@ -1,4 +1,5 @@
-//! Scores that are put together from parts of another one, with what may stand anywhere between them.
+//! Scores that are put together from parts of another one, with what may stand anywhere between
+//! them.
 
 ghost use Rattle.std.specs.Prelude.{◌<◌, ◌≤◌, length};
 
@@ -84,7 +85,8 @@ fn place_near(numbers: &mut Numbers, score: &[u8], at: usize) -> usize
         .min(score.len())
 }
 
-/// Returns parts of `score`, some left out and some repeated, with something between them. Most such scores have no headers.
+/// Returns parts of `score`, some left out and some repeated, with something between them. Most
+/// such scores have no headers.
 pub(crate) fn mutated(
     alloc: Global,
     numbers: &mut Numbers,

@@ -225,16 +225,16 @@ fn stops_with_what_is_known(rt: HostRuntime) {
     assert!(rt; is_fed(rt.alloc(), b"%%\nKy(f)ri(g)\xFFe(.)", &[2, 11, 1, 4]));
 }
 
-/// Whether a new engine is filled from two pieces while all that it writes waits, up to the byte that begins no character, and takes what follows it and does not read
-/// it.
+/// Whether a new engine is filled from two pieces while all that it writes waits, up to the byte
+/// that begins no character, and takes what follows it and does not read it.
 fn is_filled(alloc: Global) -> bool {
     match engine_of(alloc, Format::Gabc) {
         Ok(mut engine) => {
             let well = engine.fill(b"%%\nKy(f)ri(g)") == 13
                 && engine.fill(b"e(h)\xFFa(f)") == 5
                 && !engine.running()
-                && engine.out() == b"%%\nKy(f)ri(g)e(h)\n"
-                && engine.messages() == b"<stdin>:2:15: fatal: F1: not UTF-8\n"
+                && engine.out() == b"%%\nKy(f)ri(g)e(h)\n".as_slice()
+                && engine.messages() == b"<stdin>:2:15: fatal: F1: not UTF-8\n".as_slice()
                 && engine.fill(b"a(f)") == 4;
             drop(engine);
             well
