@@ -17,11 +17,12 @@ begin_bringing() {
   timeout 30 bash -c 'bring_apt -o APT::Update::Error-Mode=any update' >/dev/null 2>&1
 }
 
-# Brings these packages alone into the folder $1/files, with apt's lists in $1: within a minute, else it fails.
+# Brings these packages into the folder $1/files, without what they need: within a minute, else it fails.
 bring_alone() {
   local file
   bring_room="$1"
   shift
+  [ -d "$bring_room/lists" ] || begin_bringing "$bring_room" || return 1
   rm -rf -- "$bring_room/packages"
   mkdir -- "$bring_room/packages" || return 1
   (cd -- "$bring_room/packages" && timeout 60 bash -c 'bring_apt download "$@"' bring "$@") >/dev/null 2>&1 || return 1

@@ -122,6 +122,11 @@ class Serving(Asking):
         self.assertEqual(self.status_of(self.head("POST", "/score", Transfer_Encoding="chunked") + 10 * piece + b"1\r\n \r\n"), 413)
         self.assertEqual(self.status_of(self.head("POST", "/score", Transfer_Encoding="chunked") + 10 * piece + b"0\r\n\r\n"), 200)
 
+    def test_no_request(self) -> None:
+        """What is no request is answered, and no line tells of it."""
+        self.assertEqual(self.status_of(b"\x16\x03\x01 no request\r\n\r\n"), 400)
+        self.assertEqual(self.status_of(self.head("POST", "/score", Content_Length="x")), 400)
+
     def test_loopback_alone(self) -> None:
         """No other address of this machine leads to it."""
         table = Path("/proc/net/tcp").read_text()

@@ -3,6 +3,7 @@ its signs and the distance after it."""
 from __future__ import annotations
 
 from collections.abc import Iterable, Sequence
+from functools import cached_property
 from gregorio_chant.items import (
     Alteration, Bar, Break, Clef, Custos, Descriptor, Fusion, Glyph, Item, NabcSnippet, Note, NoteSnippet, Space, Syllable,
 )
@@ -98,17 +99,27 @@ class _Writer:
 
     def _add_neume(self, glyph: Glyph) -> None:
         first, last = glyph.notes[0], glyph.notes[-1]
-        drawn = _drawn(glyph, self._lines, self._face, self._pitch_after(last, last.pitch) if has_oriscus(glyph) else None)
+        drawn = _drawn(glyph, self._lines, self._face, self._pitches[last.place.offset] if has_oriscus(glyph) else None)
         signs = drawn.signs
         if self._fused is not None:
             signs = (_join(height_of(step_of(self._fused.pitch)), height_of(step_of(first.pitch))), *signs)
         self._put(Block(glyph.place.offset, signs, drawn.width, _AFTER_NEUME, drawn.anchor, first.pitch))
         self._fused, self._last = None, last
 
-    def _pitch_after(self, item: Item, other_than: str | None = None) -> str | None:
-        """Returns the first pitch after an item that is not `other_than`."""
-        notes = (it for it in self._snippet.items if isinstance(it, Note) and it.place.offset > item.place.offset)
-        return next((it.pitch for it in notes if it.pitch != other_than), self._following)
+    @cached_property
+    def _pitches(self) -> dict[int, str | None]:
+        """The first pitch after each item, by its offset; after a note the first one that is not
+        its own."""
+        pitches: dict[int, str | None] = {}
+        after, other = self._following, None
+        for item in reversed(self._snippet.items):
+            pitches[item.place.offset] = after
+            if isinstance(item, Note):
+                if item.pitch == after:
+                    pitches[item.place.offset] = other
+                else:
+                    after, other = item.pitch, after
+        return pitches
 
     def _add_sign(self, item: Clef | Alteration | Bar | Custos) -> None:
         offset = item.place.offset
@@ -121,7 +132,7 @@ class _Writer:
         elif isinstance(item, Bar):
             signs, width = staff.bar(item, self._lines)
             self._put(Block(offset, signs, width, _AFTER_BAR, width / 2, is_bar=True))
-        elif (pitch := item.pitch or self._pitch_after(item)) is not None:
+        elif (pitch := item.pitch or self._pitches[offset]) is not None:
             signs, width = staff.custos(pitch, self._lines, self._face.shapes)
             self._put(Block(offset, signs, width, _AFTER_CUSTOS, is_custos=True))
 
@@ -190,7 +201,11 @@ def first_pitch(snippets: Sequence[NoteSnippet | NabcSnippet]) -> str | None:
 
 def _pitches_after(snippets: Sequence[NoteSnippet | NabcSnippet], following: str | None) -> list[str | None]:
     """Returns the first pitch after each snippet."""
-    return [first_pitch(snippets[at:]) or following for at in range(1, len(snippets) + 1)]
+    pitches: list[str | None] = []
+    for snippet in reversed(snippets):
+        pitches.append(following)
+        following = first_pitch((snippet,)) or following
+    return pitches[::-1]
 
 
 def moved(signs: Iterable[Sign], x: float) -> list[Sign]:

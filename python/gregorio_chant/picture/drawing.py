@@ -1,7 +1,9 @@
 """Draws a score: reads it, lays it out, and writes its SVG."""
 from __future__ import annotations
 
+import gc
 from collections.abc import Iterable, Iterator, Sequence
+from contextlib import contextmanager
 from dataclasses import dataclass
 
 from gregorio_chant import library
@@ -60,12 +62,26 @@ def draw(
     messages: all of the compiler's where none are given."""
     told = tuple(library.check(data).messages if messages is None else messages)
     dump = library.compile(data, Format.DUMP).output
-    headers, syllables = read_in_turn(dump) if dump else ((), iter(()))
-    places = places_of(data, told, dump.count("\nsyllable "))
-    drawing = _Drawing(_Headers(headers), syllables, places, max(width, _LEAST_WIDTH), names, face)
-    body = list(drawing.body() if dump else drawing.nothing())
-    name = _Headers(headers).last("name")
-    return Picture(name, told, [drawing.head(name), *body, "</svg>\n"], drawing.places)
+    with _uncollected():
+        headers, syllables = read_in_turn(dump) if dump else ((), iter(()))
+        places = places_of(data, told, dump.count("\nsyllable "))
+        drawing = _Drawing(_Headers(headers), syllables, places, max(width, _LEAST_WIDTH), names, face)
+        body = list(drawing.body() if dump else drawing.nothing())
+        name = _Headers(headers).last("name")
+        return Picture(name, told, [drawing.head(name), *body, "</svg>\n"], drawing.places)
+
+
+@contextmanager
+def _uncollected() -> Iterator[None]:
+    """Looks for no garbage meanwhile: the objects of a score form no cycles, and to look for some
+    takes a tenth of the time of a picture."""
+    was_enabled = gc.isenabled()
+    gc.disable()
+    try:
+        yield
+    finally:
+        if was_enabled:
+            gc.enable()
 
 
 def picture(score: str | bytes, *, width: float = USUAL_WIDTH) -> str:

@@ -227,7 +227,7 @@ class _Pen:
 
     def _is_up(self, note: Note) -> bool:
         """Returns whether a note is an oriscus that points up."""
-        return any(up for it, up in zip(self._glyph.notes, self._up) if it is note)
+        return note.shape in _ORISCI and any(up for it, up in zip(self._glyph.notes, self._up) if it is note)
 
     def _whole(self, name: str, note: Note, y: float) -> None:
         """Writes a note that one shape is, as often as it sounds."""

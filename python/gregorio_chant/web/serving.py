@@ -25,7 +25,9 @@ def serve(port: int, answers: Answers) -> int:
         listening.listen()
         bound: int = listening.getsockname()[1]
         app = app_of(answers, own_names(bound))
-        config = uvicorn.Config(app, http="h11", ws="none", lifespan="off", log_config=None, access_log=False, server_header=False)
+        config = uvicorn.Config(
+            app, http="h11", ws="none", lifespan="off", log_config=None, log_level="error", access_log=False, proxy_headers=False, server_header=False,
+        )
         write(f"http://{ADDRESS}:{bound}/\n")
         try:
             uvicorn.Server(config).run(sockets=[listening])
