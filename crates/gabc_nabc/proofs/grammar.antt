@@ -1,3 +1,4 @@
+pub mod EmittedByRelations
 pub mod LawsOfEvents
 pub mod ReadByRelations
 pub mod SnippetIsReadAgain

@@ -4,6 +4,7 @@ pub mod CharClass
 pub mod Codes
 pub mod Events
 pub mod KnownNames
+pub mod NabcEmitted
 pub mod NabcRead
 pub mod Names
 pub mod Parts

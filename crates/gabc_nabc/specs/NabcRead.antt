@@ -44,13 +44,17 @@ abbrev pub AreFound : List ℕ → List Char → List Finding → Type 0
 AreFound t [] fs = fs ≡ []
 AreFound t (x ∷ xs) fs = (here later : List Finding) × (fs ≡ here ++ later) × AreThoseFound (IsFoundAfter t x) here × AreFound (t ++ x.c ∷ []) xs later
 
+-- what is kept ends unfinished, which is found at the place of the mark
+abbrev pub IsUnfinished : List ℕ → Place → Finding → Type 0
+IsUnfinished kept place f = (f ≡ record { place = place; code = E6 }) × (¬ IsSnippet nabc kept)
+
 -- The snippet ends at the mark c after its text, of which that is kept and found. An unfinished end is left out, and found at the mark.
 pub record IsEnded (at : Place) (front kept : List ℕ) (found : List Finding) (c : ℕ) (r : SnippetRead) : Type 0 where
   pub mark : is_end front c ≡ true
   pub whole : List ℕ
   pub trims : Trims nabc kept whole
   pub last : List Finding
-  pub unfinished : AreThoseFound (λ f. (f ≡ record { place = place_past at front; code = E6 }) × (¬ IsSnippet nabc kept)) last
+  pub unfinished : AreThoseFound (IsUnfinished kept (place_past at front)) last
   pub kept_is : string_bytes r.kept ≡ encode_utf8_all whole
   pub findings_are : r.findings ≡ found ++ last
   pub how_is : r.how ≡ (let n = length (encode_utf8_all front) in if c == 124 then Next n else Close n)

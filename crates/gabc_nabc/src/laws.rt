@@ -19,6 +19,7 @@ ghost use Rattle.gabc_nabc.specs.Events.{bytes_in, has_end, is_code, kept_of, na
 ghost use Rattle.gabc_notes.specs.SnippetRead.{ends_of, findings_of, kept_of as kept_in};
 ghost use Rattle.gabc_notes.specs.Ends.{IsMarkOf, EndAtMost, AreCutAtMost};
 ghost use Rattle.gabc_notes.specs.declared.stage.NoteEnd.{NoteEnd};
+ghost use Rattle.gabc_notes.specs.declared.stage.NoteEvent.{NoteEvent};
 ghost use Rattle.gabc_places.specs.Place.{place_past, placed_characters_from};
 ghost use Rattle.gabc_notes.specs.witness.Keeps.{set_down};
 ghost use Rattle.gabc_nabc.specs.witness.DescriptorMachine.{events_left};
@@ -27,6 +28,7 @@ ghost use Rattle.gabc_nabc.specs.witness.Keeps.{comment_of, Begins, IsKeptAgain,
 ghost use Rattle.gabc_nabc.specs.ReadAgain.{IsNabcReadAgain};
 ghost use Rattle.gabc_nabc.specs.SnippetRead.{before_end, from_end, kept_before, end_before, AreAtMostOne, IsComputed};
 ghost use Rattle.gabc_nabc.specs.NabcRead.{IsNabcRead};
+ghost use Rattle.gabc_nabc.specs.NabcEmitted.{AreNabcEvents};
 ghost use Rattle.gabc_notes.specs.declared.snippet_read.SnippetRead.{SnippetRead};
 
 pub use crate::names::names_are_these;
@@ -73,6 +75,13 @@ pub fn parts_are_computed()
 pub fn what_is_read_is_computed()
     ensures { (at : Place) (t : List ℕ) (read : SnippetRead) →
         IsNabcRead at t read ↔ IsComputed at t read }
+{}
+
+/// Law: what is emitted of characters, by relations over the whole of the text before each, is what is computed a character at a
+/// time.
+pub fn what_is_emitted_is_computed()
+    ensures { (xs : List Char) (lists : List (List NoteEvent)) →
+        AreNabcEvents xs lists ↔ lists ≡ nabc_events xs }
 {}
 
 /// A viable text is an NABC snippet with at most two characters more.

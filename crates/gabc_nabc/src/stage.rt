@@ -10,7 +10,8 @@ ghost use Rattle.gabc_notes.specs.declared.stage.NoteEvent.TheVariants.{Kept, En
 ghost use Rattle.gabc_notes.specs.TakenAtOnce.{TakesNext};
 ghost use Rattle.gabc_nabc.specs.witness.Keeps.{comment_of, Keeps, KeepsOn};
 ghost use Rattle.gabc_nabc.specs.TakenAtOnce.{StandsBeforeNext};
-ghost use Rattle.gabc_nabc.specs.Events.{is_code, is_missing, nabc_events};
+ghost use Rattle.gabc_nabc.specs.Events.{is_code, is_missing};
+ghost use Rattle.gabc_nabc.specs.NabcEmitted.{AreNabcEvents};
 ghost use Rattle.gabc_nabc.specs.witness.DescriptorMachine.{first_at, facts_by_states, role_in, events_in, event_list, stage_kept, stage_moved_on, stage_events_at, stage_after, events_of_cut, events_left};
 
 use crate::class::class_of;
@@ -180,7 +181,7 @@ pub struct NabcStage {
 impl NabcStage {
     /// Returns a stage before the first character of a snippet.
     pub fn new() -> NabcStage
-        ensures events { (xs : List Char) → events_left result xs ≡ nabc_events xs }
+        ensures events { (xs : List Char) → AreNabcEvents xs (events_left result xs) }
         ensures keeps { Keeps result [] }
         ensures tells { comment_of result ≡ false }
     {

@@ -1,7 +1,10 @@
--- What is found at one character is one list.
+-- What is found at one character is one list, and so is that it is kept.
 use Rattle.std.proofs.Common.{◌≡◌, List, [], ◌∷◌, ap, sym, ◌∙◌, inl, inr}
 use Rattle.gabc_places.specs.declared.code.Finding.{Finding}
+use Rattle.gabc_places.specs.declared.place.Char.{Char}
 use Rattle.gabc_notes.specs.FoundAt.{AreThoseFound}
+use Rattle.gabc_notes.specs.NotesEmitted.{AreIfKept}
+use Rattle.gabc_notes.specs.declared.stage.NoteEvent.{NoteEvent}
 
 -- findings of one place and one code
 pub same_finding : (f g : Finding) → f.place ≡ g.place → f.code ≡ g.code → f ≡ g
@@ -13,3 +16,10 @@ found_once Is only fs gs (inl u) (inl v) = u.2 ∙ (ap (λ (f : Finding). f ∷ 
 found_once Is only fs gs (inl u) (inr v) = absurd (v.0 u.0 u.1)
 found_once Is only fs gs (inr u) (inl v) = absurd (u.0 v.0 v.1)
 found_once Is only fs gs (inr u) (inr v) = u.1 ∙ sym v.1
+
+-- that the character is kept
+pub kept_once : {IsKept : Type 0} (x : Char) (es fs : List NoteEvent) → AreIfKept IsKept x es → AreIfKept IsKept x fs → es ≡ fs
+kept_once x es fs (inl u) (inl v) = u.1 ∙ sym v.1
+kept_once x es fs (inl u) (inr v) = absurd (v.0 u.0)
+kept_once x es fs (inr u) (inl v) = absurd (u.0 v.0)
+kept_once x es fs (inr u) (inr v) = u.1 ∙ sym v.1

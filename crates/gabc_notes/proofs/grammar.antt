@@ -1,4 +1,5 @@
 pub mod CharactersByRelations
+pub mod EmittedByRelations
 pub mod FindingsByRelations
 pub mod InsideRawIsAnOpenBracket
 pub mod LawsOfEventsByPoint

@@ -6,6 +6,7 @@ pub mod FirstNoteOrClef
 pub mod FoundAt
 pub mod Items
 pub mod Notes
+pub mod NotesEmitted
 pub mod NotesRead
 pub mod Raw
 pub mod ReadAgain

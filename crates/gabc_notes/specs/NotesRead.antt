@@ -103,17 +103,23 @@ pub record IsEnd (split : Bool) (back : List Marked) (x : Char) : Type 0 where
   pub no_comment : ¬ IsInComment ((x, false) ∷ back)
   pub no_raw : ¬ IsInRaw back
 
--- The snippet ends at the mark x after those. An unfinished end is left out and found at the mark, and so is an `@[` that is open.
-pub record IsEnded (split : Bool) (back : List Marked) (kept : List ℕ) (found : List Finding) (x : Char) (r : SnippetRead) : Type 0 where
-  pub mark : IsEnd split back x
-  pub whole : List ℕ
-  pub trims : Trims gabc kept whole
+-- At the mark x after those, of which that is kept, these are found: E6 of an unfinished end, and W10 of an `@[` that is open.
+pub record AreFoundAtEnd (back : List Marked) (kept : List ℕ) (x : Char) (found : List Finding) : Type 0 where
   pub unfinished : List Finding
   pub fused : List Finding
   pub is_unfinished : AreThoseFound (λ f. (f ≡ record { place = x.place; code = E6 }) × (¬ IsSnippet gabc kept)) unfinished
   pub is_fused : AreThoseFound (λ f. (f ≡ record { place = x.place; code = W10 }) × IsFused back) fused
+  pub all : found ≡ unfinished ++ fused
+
+-- The snippet ends at the mark x after those. An unfinished end is left out.
+pub record IsEnded (split : Bool) (back : List Marked) (kept : List ℕ) (found : List Finding) (x : Char) (r : SnippetRead) : Type 0 where
+  pub mark : IsEnd split back x
+  pub whole : List ℕ
+  pub trims : Trims gabc kept whole
+  pub last : List Finding
+  pub is_last : AreFoundAtEnd back kept x last
   pub kept_is : string_bytes r.kept ≡ encode_utf8_all whole
-  pub findings_are : r.findings ≡ found ++ (unfinished ++ fused)
+  pub findings_are : r.findings ≡ found ++ last
   pub how_is : r.how ≡ (let n = sum_by (λ (m : Marked). len_utf8 m.0.c) back in if x.c == 124 then Next n else Close n)
 
 -- where a bracket is open, the place of it; else no place

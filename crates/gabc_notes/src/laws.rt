@@ -16,6 +16,7 @@ ghost use Rattle.gabc_notes.specs.Items.{IsKept, AreItemsOf, MakeUp, items_of};
 ghost use Rattle.gabc_notes.specs.Events.{in_raw, Point, outside_comments, with_comments, is_comment, is_over, kept, bytes_of, events_at, cut_events, note_events};
 ghost use Rattle.gabc_notes.specs.SnippetRead.{kept_of, kept_chars_of, findings_of, ends_of, stop_after, kept_by, end_by, IsComputed};
 ghost use Rattle.gabc_notes.specs.NotesRead.{IsSnippetRead};
+ghost use Rattle.gabc_notes.specs.NotesEmitted.{AreNoteEvents};
 ghost use Rattle.gabc_notes.specs.declared.snippet_read.SnippetRead.{SnippetRead};
 ghost use Rattle.gabc_places.specs.Place.{place_past, placed_characters_from};
 ghost use Rattle.gabc_notes.specs.Ends.{IsMarkOf, EndAtMost, AreCutAtMost};
@@ -85,6 +86,13 @@ pub fn what_is_kept_goes_on()
 pub fn what_is_read_is_computed()
     ensures { (at : Place) (split : Bool) (macros : ℕ) (t : List ℕ) (read : SnippetRead) →
         IsSnippetRead at split macros t read ↔ IsComputed at split macros t read }
+{}
+
+/// Law: what is emitted of characters, by relations over the whole of what stands before each, is what is computed a character at
+/// a time.
+pub fn what_is_emitted_is_computed()
+    ensures { (split : Bool) (macros : ℕ) (xs : List Char) (lists : List (List NoteEvent)) →
+        AreNoteEvents split macros xs lists ↔ lists ≡ note_events split macros xs }
 {}
 
 /// A viable text is a snippet with at most one character more.

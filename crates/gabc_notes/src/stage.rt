@@ -13,7 +13,8 @@ ghost use Rattle.gabc_notes.specs.witness.Keeps.{Keeps, KeepsOn};
 ghost use Rattle.gabc_notes.specs.Ends.{is_ended};
 ghost use Rattle.gabc_notes.specs.TakenAtOnce.{TakesNext, StandsBeforeKept, StandsBeforeNext};
 ghost use Rattle.gabc_notes.specs.witness.StageEvents.{role_in, warning_in, before_in, events_in, event_list};
-ghost use Rattle.gabc_notes.specs.Events.{end_by_mark, finding_event, note_events};
+ghost use Rattle.gabc_notes.specs.Events.{end_by_mark, finding_event};
+ghost use Rattle.gabc_notes.specs.NotesEmitted.{AreNoteEvents};
 
 use crate::class::class_of;
 use crate::macro_prefix::{MacroPrefix, defines, digit_of_prefix, prefix_with};
@@ -274,7 +275,8 @@ impl NoteStage {
     /// Returns a stage before the first character of a snippet. With `split` a `|` ends the snippet too. The bit `d` of `macros`,
     /// from 0 to 9, tells that the macro of the digit `d` is defined.
     pub fn new(split: bool, macros: u16) -> NoteStage
-        ensures events { (xs : List Char) → events_left result xs ≡ note_events split macros xs }
+        ensures events { (xs : List Char) →
+            AreNoteEvents split macros xs (events_left result xs) }
         ensures keeps { Keeps split macros result [] }
         ensures tells { (opener_of result ≡ None) × (comment_of result ≡ false) }
     {

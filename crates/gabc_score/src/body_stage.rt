@@ -168,6 +168,8 @@ impl BodyStage {
         ensures keeps { BeginsSnippet self.now.nabc_lines self.now.macros line result }
         ensures tells { OpensNotes opened result }
     {
+        gabc_notes::laws::what_is_emitted_is_computed();
+        gabc_nabc::laws::what_is_emitted_is_computed();
         if line == 0 {
             BodyPart::Notes {
                 opened,

@@ -25,7 +25,7 @@ use Rattle.gabc_notes.specs.declared.stage.NoteEvent.TheVariants.{Kept, Ended}
 use Rattle.gabc_nabc.specs.Table.{nabc}
 use Rattle.gabc_nabc.specs.Names.{is_known}
 use Rattle.gabc_nabc.specs.Events.{is_character, is_end, has_end_behind, has_end, kept_of, begins_code, is_code, last_of, before_last, joins, takes_code, first_behind, first_of, is_missing, bytes_in, end_events, character_events, events_at, nabc_events_behind}
-use Rattle.gabc_nabc.specs.NabcRead.{IsKeptOf, EndsUnknownCode, IsFound, IsFoundAfter, AreFound, IsRead, IsNabcRead}
+use Rattle.gabc_nabc.specs.NabcRead.{IsKeptOf, EndsUnknownCode, IsFound, IsFoundAfter, AreFound, IsUnfinished, IsRead, IsNabcRead}
 use Rattle.gabc_nabc.specs.SnippetRead.{before_end_behind, before_end, from_end, kept_before, ending_behind, IsComputed}
 use Rattle.gabc_notes.specs.declared.snippet_read.SnippetRead.{SnippetRead}
 use Rattle.gabc_nabc.proofs.grammar.LawsOfEvents.{silent}
@@ -116,7 +116,7 @@ missing_from kept c h =
 
 -- ---- what is found at a character
 
-kept_is : (t kept : List ℕ) → IsKeptOf t kept → kept ≡ kept_of t
+pub kept_is : (t kept : List ℕ) → IsKeptOf t kept → kept ≡ kept_of t
 kept_is t kept h = keeps_is nabc refl [] _ kept h
 
 pub kept_keeps : (t : List ℕ) → IsKeptOf t (kept_of t)
@@ -129,7 +129,7 @@ found_only kept c W7 h = inr (refl, h.0, h.1)
 found_only kept c _ h = absurd h
 
 -- what the events at a character tell
-found_here : (t : List ℕ) (x : Char) → has_end t ≡ false → is_end t x.c ≡ false → AreThoseFound (IsFoundAfter t x) (findings_of (events_at t x))
+pub found_here : (t : List ℕ) (x : Char) → has_end t ≡ false → is_end t x.c ≡ false → AreThoseFound (IsFoundAfter t x) (findings_of (events_at t x))
 found_here t x running no_mark =
     subst (λ (es : List NoteEvent). AreThoseFound (IsFoundAfter t x) (findings_of es)) (sym same) (at_character (is_character t x.c) refl)
   where
@@ -159,17 +159,20 @@ found_here t x running no_mark =
     at_character false e = inr ((λ found h. let f = h.1 in absurd (cc)), refl)
 
 -- what the events at a mark tell
-unfinished_at : (k : List ℕ) (x : Char) → AreThoseFound (λ f. (f ≡ record { place = x.place; code = E6 }) × (¬ IsSnippet nabc k)) (findings_of (end_events k x))
+pub unfinished_at : (k : List ℕ) (x : Char) → AreThoseFound (IsUnfinished k x.place) (findings_of (end_events k x))
 unfinished_at k x = go (is_snippet nabc k) refl
   where
     go : (b : Bool) → is_snippet nabc k ≡ b
-        → AreThoseFound (λ f. (f ≡ record { place = x.place; code = E6 }) × (¬ IsSnippet nabc k)) (findings_of (cond b [] (finding_event x.place E6 ∷ []) ++ Ended (end_by_mark x.c) (bytes_in (trim nabc k)) ∷ []))
+        → AreThoseFound (IsUnfinished k x.place) (findings_of (cond b [] (finding_event x.place E6 ∷ []) ++ Ended (end_by_mark x.c) (bytes_in (trim nabc k)) ∷ []))
     go true e = inr ((λ f h. h.1 (snippet_from nabc refl k e)), refl)
     go false e = inl (record { place = x.place; code = E6 }, (refl, no_snippet nabc refl k e), refl)
 
+pub unfinished_only : (k : List ℕ) (x : Char) (fs : List Finding) → AreThoseFound (IsUnfinished k x.place) fs → fs ≡ findings_of (end_events k x)
+unfinished_only k x fs h = found_once (IsUnfinished k x.place) (λ f g u v. u.0 ∙ sym v.0) fs (findings_of (end_events k x)) h (unfinished_at k x)
+
 -- ---- nothing else is so found
 
-one_code : (t : List ℕ) (x : Char) (f g : Finding) → IsFoundAfter t x f → IsFoundAfter t x g → f ≡ g
+pub one_code : (t : List ℕ) (x : Char) (f g : Finding) → IsFoundAfter t x f → IsFoundAfter t x g → f ≡ g
 one_code t x f g h k = same_finding f g (h.0 ∙ sym k.0) (go (found_only h.2.0 x.c f.code h.2.2) (found_only k.2.0 x.c g.code k.2.2))
   where
     same : h.2.0 ≡ k.2.0
@@ -356,7 +359,7 @@ relations_are_computed at t r h = go h.rest h.cut h.is_read
         let x : Char = record { c = c; place = place_past at h.front } in
         i.findings_are
         ∙ ap (λ (u : List Finding). h.found ++ u)
-        (found_once (λ f. (f ≡ record { place = x.place; code = E6 }) × (¬ IsSnippet nabc h.kept)) (λ f g u v. u.0 ∙ sym v.0) i.last (findings_of (end_events h.kept x)) i.unfinished (unfinished_at h.kept x)
+        (unfinished_only h.kept x i.last i.unfinished
         ∙ ap (λ (u : List ℕ). findings_of (end_events u x)) kept)
 
     text : (rest : List ℕ) → IsRead at h.front h.kept h.found rest r → string_bytes r.kept ≡ encodes (kept_before h.front rest)

@@ -1,5 +1,6 @@
 -- What is said of a snippet's characters by relations is what is computed of them.
 use Rattle.std.proofs.Common.{◌≡◌, ℕ, List, [], ◌∷◌, ◌++◌, Bool, true, false, cond, not, ◌&&◌, ◌||◌, ◌==◌, inl, inr, refl, sym, ap, ◌∙◌, subst, codes, map, Option, Some, None}
+use Rattle.std.specs.Prelude.{◌↔◌, IsTrue}
 use Rattle.std.specs.List.{list_any}
 use Rattle.gabc_places.specs.declared.place.Char.{Char}
 use Rattle.gabc_places.specs.declared.place.Place.{Place}
@@ -179,24 +180,25 @@ unfolding marks
 are_marked [] = tt
 are_marked (x ∷ back) = ((comment_to back x, comment_from back x (is_comment (point back x))), are_marked back)
 
--- characters that are marked so are marked by what is computed
+-- a character that is marked so is marked by what is computed
+pub mark_only : (back : List Char) (x : Char) (b : Bool) → (IsTrue b ↔ IsInComment ((x, b) ∷ marks back)) → b ≡ is_comment (point back x)
+unfolding marks
+mark_only back x b h =
+    same b (is_comment (point back x)) (λ t. comment_from back x b (h.0 t)) (λ t. h.1 (remark x (is_comment (point back x)) b (marks back) (comment_to back x t)))
+  where
+    same : (a b : Bool) → (a ≡ true → b ≡ true) → (b ≡ true → a ≡ true) → a ≡ b
+    same true b f g = sym (f refl)
+    same false true f g = g refl
+    same false false f g = refl
+
+-- and so are all of them
 pub marked_only : (ms : List Marked) → AreMarked ms → ms ≡ marks (chars_of ms)
 unfolding marks
 marked_only [] h = refl
 marked_only (m ∷ ms) h =
     let e = marked_only ms h.1 in
-    ap (λ (u : List Marked). m ∷ u) e ∙ ap (λ (b : Bool). (m.0, b) ∷ marks (chars_of ms)) (same m.1 (is_comment (point (chars_of ms) m.0)) (to e) (from e))
-  where
-    to : ms ≡ marks (chars_of ms) → m.1 ≡ true → is_comment (point (chars_of ms) m.0) ≡ true
-    to e t = comment_from (chars_of ms) m.0 m.1 (subst (λ (u : List Marked). IsInComment (m ∷ u)) e (h.0.0 t))
-
-    from : ms ≡ marks (chars_of ms) → is_comment (point (chars_of ms) m.0) ≡ true → m.1 ≡ true
-    from e t = h.0.1 (subst (λ (u : List Marked). IsInComment (m ∷ u)) (sym e) (remark m.0 (is_comment (point (chars_of ms) m.0)) m.1 (marks (chars_of ms)) (comment_to (chars_of ms) m.0 t)))
-
-    same : (a b : Bool) → (a ≡ true → b ≡ true) → (b ≡ true → a ≡ true) → a ≡ b
-    same true b f g = sym (f refl)
-    same false true f g = g refl
-    same false false f g = refl
+    ap (λ (u : List Marked). m ∷ u) e
+    ∙ ap (λ (b : Bool). (m.0, b) ∷ marks (chars_of ms)) (mark_only (chars_of ms) m.0 m.1 (subst (λ (u : List Marked). IsTrue m.1 ↔ IsInComment (m ∷ u)) e h.0))
 
 -- ---- what is kept with a character
 

@@ -173,7 +173,7 @@ no_warning macros back x p q h = (λ u. h.1 u.0.2.0 u.0.2.1, λ u. go u.0)
     go (inl v) = h.1 v.0.0 v.0.1
     go (inr v) = h.1 v.0.0 v.0.1
 
-one_finding : (macros : ℕ) (back : List Char) (x : Char) (f g : Finding) → Found macros back x f → Found macros back x g → f ≡ g
+pub one_finding : (macros : ℕ) (back : List Char) (x : Char) (f g : Finding) → Found macros back x f → Found macros back x g → f ≡ g
 unfolding marks
 one_finding macros back x f g h k = go (found_only macros (x, is_comment (point back x)) (marks back) f.code f.place h) (found_only macros (x, is_comment (point back x)) (marks back) g.code g.place k)
   where

@@ -24,7 +24,7 @@ use Rattle.gabc_notes.specs.Table.{gabc}
 use Rattle.gabc_notes.specs.Events.{in_raw, kept, is_comment, is_fused, opener, finding_event, end_by_mark, bytes_of, is_end, is_over, at_end, events_at, note_events_behind, note_events}
 use Rattle.gabc_notes.specs.FoundAt.{AreThoseFound}
 use Rattle.gabc_notes.specs.SnippetRead.{SnippetStop, findings_of, stop_after, kept_by, index_of, ending_at, ending_by, IsComputed}
-use Rattle.gabc_notes.specs.NotesRead.{Marked, IsKeptOf, IsFused, AreFound, IsEnd, IsCutAt, IsRead, IsSnippetRead}
+use Rattle.gabc_notes.specs.NotesRead.{Marked, IsKeptOf, IsFused, AreFound, IsEnd, AreFoundAtEnd, IsCutAt, IsRead, IsSnippetRead}
 use Rattle.gabc_notes.specs.declared.snippet_read.SnippetEnding.TheVariants as snippet_ending
 use Rattle.gabc_notes.specs.declared.snippet_read.SnippetRead.{SnippetRead}
 use Rattle.gabc_notes.specs.declared.stage.NoteEnd.TheVariants as ending
@@ -39,7 +39,7 @@ use Rattle.gabc_notes.proofs.grammar.FindingsByRelations.{Found, found_here, one
 
 -- ---- the end
 
-end_to : (split : Bool) (back : List Char) (x : Char) → is_end split (point back x) ≡ true → IsEnd split (marks back) x
+pub end_to : (split : Bool) (back : List Char) (x : Char) → is_end split (point back x) ≡ true → IsEnd split (marks back) x
 end_to split back x e =
     let f = and_true (not (is_comment (point back x))) (not (in_raw (kept back)) && ((x.c == 41) || (split && (x.c == 124)))) e in
     let g = and_true (not (in_raw (kept back))) ((x.c == 41) || (split && (x.c == 124))) f.1 in
@@ -52,7 +52,7 @@ end_to split back x e =
       no_raw = no_raw_to back (not_true (in_raw (kept back)) g.0);
     }
 
-end_from : (split : Bool) (back : List Char) (x : Char) → IsEnd split (marks back) x → is_end split (point back x) ≡ true
+pub end_from : (split : Bool) (back : List Char) (x : Char) → IsEnd split (marks back) x → is_end split (point back x) ≡ true
 unfolding marks
 end_from split back x h =
     let quiet : is_comment (point back x) ≡ false = false_else (is_comment (point back x)) (λ e. h.no_comment (remark x (is_comment (point back x)) false (marks back) (comment_to back x e))) in
@@ -230,6 +230,22 @@ is_fused_at back x = go (is_fused back) refl
     go true e = inl (record { place = x.place; code = W10 }, (refl, fused_to back e), refl)
     go false e = inr ((λ f h. let g = fused_from back h.1 in absurd (cc)), refl)
 
+pub end_found : (back : List Char) (x : Char) → AreFoundAtEnd (marks back) (kept back) x (findings_of (at_end (point back x)))
+end_found back x = record {
+  unfinished = unfinished_at back x;
+  fused = fused_at back x;
+  is_unfinished = is_unfinished_at back x;
+  is_fused = is_fused_at back x;
+  all = endings_are back x;
+}
+
+pub end_found_only : (back : List Char) (x : Char) (text : List ℕ) (fs : List Finding) → text ≡ kept back → AreFoundAtEnd (marks back) text x fs → fs ≡ findings_of (at_end (point back x))
+end_found_only back x text fs same i =
+    let a = found_once (λ f. (f ≡ record { place = x.place; code = E6 }) × (¬ IsSnippet gabc text)) (λ f g u v. u.0 ∙ sym v.0) i.unfinished (unfinished_at back x) i.is_unfinished
+    (subst (λ (k : List ℕ). AreThoseFound (λ f. (f ≡ record { place = x.place; code = E6 }) × (¬ IsSnippet gabc k)) (unfinished_at back x)) (sym same) (is_unfinished_at back x)) in
+    let b = found_once (λ f. (f ≡ record { place = x.place; code = W10 }) × IsFused (marks back)) (λ f g u v. u.0 ∙ sym v.0) i.fused (fused_at back x) i.is_fused (is_fused_at back x) in
+    i.all ∙ (ap (λ (u : List Finding). u ++ i.fused) a ∙ (ap (λ (u : List Finding). unfinished_at back x ++ u) b ∙ sym (endings_are back x)))
+
 -- ---- how it ends
 
 sum_from : (n : ℕ) (back : List Char) → fold (λ (a : ℕ) (m : Marked). a + len_utf8 m.0.c) n (marks back) ≡ fold (λ (a : ℕ) (x : Char). a + len_utf8 x.c) n back
@@ -247,14 +263,14 @@ ends_as n c = go (c == 124)
     go true = refl
     go false = refl
 
-cut_at : (back : List Char) → IsCutAt (marks back) (cond (in_raw (kept back)) (opener back) (record { line = 0; column = 0 }))
+pub cut_at : (back : List Char) → IsCutAt (marks back) (cond (in_raw (kept back)) (opener back) (record { line = 0; column = 0 }))
 cut_at back = go (in_raw (kept back)) refl
   where
     go : (b : Bool) → in_raw (kept back) ≡ b → IsCutAt (marks back) (cond b (opener back) (record { line = 0; column = 0 }))
     go true e = inl (raw_to back e, opener_is back)
     go false e = inr (no_raw_to back e, refl)
 
-cut_only : (back : List Char) (p : Place) → IsCutAt (marks back) p → p ≡ cond (in_raw (kept back)) (opener back) (record { line = 0; column = 0 })
+pub cut_only : (back : List Char) (p : Place) → IsCutAt (marks back) p → p ≡ cond (in_raw (kept back)) (opener back) (record { line = 0; column = 0 })
 cut_only back p (inl h) = opener_only back p h.1 ∙ sym (ap (λ (b : Bool). cond b (opener back) (record { line = 0; column = 0 })) (raw_from back h.0))
 cut_only back p (inr h) = h.1 ∙ sym (ap (λ (b : Bool). cond b (opener back) (record { line = 0; column = 0 })) (no_raw_from back h.0))
 
@@ -287,12 +303,10 @@ read_by_relations at split macros t r h =
       mark = end_to split back x m;
       whole = trim gabc (kept back);
       trims = trim_trims gabc refl (kept back);
-      unfinished = unfinished_at back x;
-      fused = fused_at back x;
-      is_unfinished = is_unfinished_at back x;
-      is_fused = is_fused_at back x;
+      last = findings_of (at_end (point back x));
+      is_last = end_found back x;
       kept_is = k;
-      findings_are = f ∙ ap (λ (u : List Finding). found ++ u) (endings_are back x);
+      findings_are = f;
       how_is = w ∙ (ends_as (index_of back) x.c ∙ ap (λ (n : ℕ). cond (x.c == 124) (snippet_ending.Next n) (snippet_ending.Close n)) (sym (bytes_marks back)));
     }
 
@@ -336,12 +350,7 @@ computed at split macros t r back rest text found cut unended keeps finds read =
 
     at_end_found : (rest : List Char) → IsRead split (marks back) text found rest r → r.findings ≡ found ++ endings back rest
     at_end_found [] i = i.1 ∙ sym (append-nil found)
-    at_end_found (x ∷ rest) i =
-        let a = found_once (λ f. (f ≡ record { place = x.place; code = E6 }) × (¬ IsSnippet gabc text)) (λ f g u v. u.0 ∙ sym v.0) i.unfinished (unfinished_at back x) i.is_unfinished
-        (subst (λ (k : List ℕ). AreThoseFound (λ f. (f ≡ record { place = x.place; code = E6 }) × (¬ IsSnippet gabc k)) (unfinished_at back x)) (sym kept_same) (is_unfinished_at back x)) in
-        let b = found_once (λ f. (f ≡ record { place = x.place; code = W10 }) × IsFused (marks back)) (λ f g u v. u.0 ∙ sym v.0) i.fused (fused_at back x) i.is_fused (is_fused_at back x) in
-        i.findings_are
-        ∙ ap (λ (u : List Finding). found ++ u) (ap (λ (u : List Finding). u ++ i.fused) a ∙ (ap (λ (u : List Finding). unfinished_at back x ++ u) b ∙ sym (endings_are back x)))
+    at_end_found (x ∷ rest) i = i.findings_are ∙ ap (λ (u : List Finding). found ++ u) (end_found_only back x text i.last kept_same i.is_last)
 
     how : (rest : List Char) → IsRead split (marks back) text found rest r → r.how ≡ ending_by (mark_of rest) back
     how [] i = i.2.2 ∙ ap snippet_ending.Cut (cut_only back i.2.0 i.2.1)

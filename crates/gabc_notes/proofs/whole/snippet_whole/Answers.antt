@@ -14,6 +14,7 @@ use Rattle.gabc_notes.specs.declared.stage.NoteEnd.TheVariants.{Close}
 use Rattle.gabc_notes.specs.declared.stage.NoteStage.{NoteStage}
 use Rattle.gabc_places.proofs.texts.CharactersOfStrings.{chars-none}
 use Rattle.gabc_notes.proofs.machine.LoopOverBody.{Reaches, Stops, reaches_first, reaches_next, stops_at, stops_cut, place_fits, first_scalar}
+use Rattle.gabc_notes.proofs.grammar.EmittedByRelations.{relations_emit}
 use Rattle.gabc_notes.proofs.grammar.ReadByRelations.{read_by_relations}
 use Rattle.gabc_notes.proofs.whole.snippet_whole.Goals as goal
 
@@ -24,7 +25,7 @@ loop-c-init c =
       can = tt;
       ends = tt;
       utf8 = c.utf8.body;
-      reaches = ([], reaches_first c.args.split c.args.macros (placed_characters_from c.args.at (chars c.args.body.now)) c.new-stage.result (built_snippet_of c.new-builder.result) c.new-stage.ensures.events c.new-builder.ensures);
+      reaches = ([], reaches_first c.args.split c.args.macros (placed_characters_from c.args.at (chars c.args.body.now)) c.new-stage.result (built_snippet_of c.new-builder.result) (λ xs. relations_emit c.args.split c.args.macros xs _ (c.new-stage.ensures.events xs)) c.new-builder.ensures);
       line = c.requires.line;
       column = c.requires.column;
       index = omega arith;
