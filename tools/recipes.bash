@@ -1,4 +1,4 @@
-# Runs each recipe of docs/USE.md, on scores that could lose something, and of docs/EDITORS.md. For tools/try_program, which sources it: `room`, `program`,
+# Runs each recipe of docs/USE.md, on scores that could lose something, of docs/EDITORS.md, and the program's line of the README. For tools/try_program, which sources it: `room`, `program`,
 # `check` and the rest are its own.
 
 # shellcheck source=tools/bring.bash
@@ -9,7 +9,7 @@ recipe() {
   local page="${2:-docs/USE.md}"
   awk -v name="$1" -f "$here/tools/recipe.awk" "$here/$page" >recipe
   check "$page has the recipe $1" test -s recipe
-  recipes_run+=("$1")
+  [ "$page" = README.md ] || recipes_run+=("$1")
 }
 recipes_run=()
 
@@ -101,6 +101,14 @@ recipe links
 check 'the links: the program' is "$(readlink -f home/.local/bin/gregorio-canonical)" "$here/bin/gregorio"
 check 'the links: the script' is "$(readlink -f home/.local/bin/check_canonical)" "$here/tools/check_canonical"
 check 'the links: no program gregorio is hidden' is_absent home/.local/bin/gregorio
+
+begin
+recipe write README.md
+printf '%b' "$score" >score.gabc
+run_recipe
+ran "the README's line" 0 '' ''
+holds "the README's line" new.gabc "$canonical"
+holds "the README's line" score.gabc "$score"
 
 begin
 recipe folder

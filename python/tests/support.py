@@ -104,13 +104,6 @@ def scores_of_tables() -> list[bytes]:
     return scores
 
 
-def lines_for(editor: str) -> str:
-    """Returns the lines of docs/EDITORS.md that set this editor up, for the files of the repository."""
-    behind = (ROOT / "docs" / "EDITORS.md").read_text(encoding="utf-8").split(f"<!-- editor: {editor} -->\n\n")[1]
-    block = behind.partition("\n\n")[0]
-    return "".join(f"{it[4:]}\n" for it in block.split("\n")).replace("/usr/share/gregorio-chant", str(ROOT))
-
-
 class InFolder(unittest.TestCase):
     """Tests in an empty folder, which is the working folder."""
 

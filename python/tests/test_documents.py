@@ -14,6 +14,7 @@ from gregorio_chant.codes import CODES
 from gregorio_chant.command import COMMANDS
 from gregorio_chant.rules import RULES
 from gregorio_chant.settings import Finder
+from pages import block
 from support import ROOT, SCORE, InFolder, command, has
 
 PAGE = (ROOT / "docs" / "PYTHON.md").read_text(encoding="utf-8")
@@ -21,18 +22,11 @@ OBJECTS = (ROOT / "docs" / "OBJECTS.md").read_text(encoding="utf-8")
 README = (ROOT / "README.md").read_text(encoding="utf-8")
 
 
-def block(text: str, begin: str) -> str:
-    """Returns the indented lines behind the line that begins a block of `text`."""
-    lines = text.split(begin)[1].lstrip("\n").split("\n")
-    end = next(at for at, line in enumerate(lines) if line and not line.startswith("    "))
-    return "\n".join(it[4:] for it in lines[:end]).rstrip("\n") + "\n"
-
-
 class Documents(InFolder):
     @unittest.skipUnless(has("rich"), "there is no rich")
     def test_picture(self) -> None:
         """The screen of the README is what the command writes."""
-        first, shown = block(README, "<!-- picture: check -->").split("\n", 1)
+        first, shown = block("README.md", "picture: check").split("\n", 1)
         self.assertTrue(first.startswith("$ gregorio-chant check "), first)
         self.assertLess(shown.count("\n"), 30)
         self.addCleanup(os.chdir, os.getcwd())
@@ -41,7 +35,7 @@ class Documents(InFolder):
 
     def test_picture_of_the_score(self) -> None:
         """The picture of the README is what its command makes of its first example. `gregorio-chant show` with these words writes it anew."""
-        score = block(README, "## A score before and after").encode()
+        score = block("README.md", "test: score").encode()
         (words,) = re.findall(r"`gregorio-chant (show .*?) score\.gabc`", README)
         self.assertEqual(command(*words.split(), "-", data=score).stdout, (ROOT / "docs" / "kyrie.svg").read_bytes())
 
@@ -53,28 +47,28 @@ class Documents(InFolder):
 
     def test_example(self) -> None:
         with contextlib.redirect_stdout(io.StringIO()) as written:
-            exec(block(OBJECTS, "is only tested ([PYTHON.md](PYTHON.md))."), {})
-        self.assertEqual(written.getvalue(), block(OBJECTS, "of the `&` that the compiler left out:"))
+            exec(block("docs/OBJECTS.md", "test: places"), {})
+        self.assertEqual(written.getvalue(), block("docs/OBJECTS.md", "test: places, printed"))
 
     def test_edits(self) -> None:
         with contextlib.redirect_stdout(io.StringIO()) as written:
-            exec(block(OBJECTS, "comments, a byte order mark, and what the compiler\nleaves out."), {})
-        self.assertEqual(written.getvalue(), block(OBJECTS, "\nThis prints:"))
+            exec(block("docs/OBJECTS.md", "test: edits"), {})
+        self.assertEqual(written.getvalue(), block("docs/OBJECTS.md", "test: edits, printed"))
 
     def test_formatted(self) -> None:
-        made = command("format", "-", data=block(PAGE, "So this score:").encode())
-        self.assertEqual((made.returncode, made.stdout.decode()), (0, block(PAGE, "\nbecomes:")))
+        made = command("format", "-", data=block("docs/PYTHON.md", "test: format").encode())
+        self.assertEqual((made.returncode, made.stdout.decode()), (0, block("docs/PYTHON.md", "test: formatted")))
 
     def test_picture_of_python(self) -> None:
         """The lines of the page write a picture."""
         self.put("kyrie.gabc", SCORE)
-        exec(block(PAGE, "as `data-line` and `data-column`."), {})
+        exec(block("docs/PYTHON.md", "test: picture"), {})
         self.assertRegex(Path("kyrie.svg").read_text(encoding="utf-8"), r"(?s)^<svg .*</svg>\n$")
 
     def test_settings(self) -> None:
         """The settings of the page are read, and say something for each key."""
         path = self.room / "gregorio-chant.toml"
-        path.write_text(block(PAGE, "This file has each key:"))
+        path.write_text(block("docs/PYTHON.md", "test: settings"))
         settings = Finder({*CODES, *RULES}).of(str(self.room / "a.gabc"))
         self.assertNotIn(None, [getattr(settings, it.name) for it in fields(settings)])
         self.assertTrue(settings.excludes(str(self.room / "old" / "b.gabc")) and settings.ignores_of_files)
@@ -103,6 +97,6 @@ class Examples(InFolder):
     def test_a_run(self) -> None:
         self.put("score.gabc", "name: a;\n%%\n(c4) Ky(f)ri(/./)")
         with contextlib.redirect_stdout(io.StringIO()) as written:
-            exec(block(PAGE, "the messages that became known:"), {})
+            exec(block("docs/PYTHON.md", "test: run"), {})
         self.assertEqual(written.getvalue().split("\n"), ["3 15 E1 character left out of the notes", "<Status.ERRORS: 1>", ""])
         self.assertEqual(Path("new.gabc").read_text(), "name: a;\n%%\n(c4)\nKy(f)ri(//)\n")

@@ -9,7 +9,8 @@ import unittest
 from pathlib import Path
 from typing import Any
 
-from support import FAULTY, InFolder, lines_for
+from pages import block, for_this_place
+from support import FAULTY, InFolder
 
 SCORE = "name: a: b;\n% b\n%%\n(c4) <i>K</i>$<(f.[x]|viS1|g) %c\ny(;) <sp>R/</sp>(::) a:(f)\n"
 # The colours at places of this score, by line and column from 1.
@@ -81,7 +82,7 @@ class Emacs(InFolder):
     maxDiff = None
 
     def run_emacs(self, trial: str) -> list[Any]:
-        self.put("init.el", lines_for("emacs"))
+        self.put("init.el", for_this_place(block("docs/EDITORS.md", "editor: emacs")))
         self.put("trial.el", trial)
         ran = subprocess.run(
             ["emacs", "--batch", "-l", "init.el", "-l", "trial.el"], env={**os.environ, "HOME": str(self.room)},

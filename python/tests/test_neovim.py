@@ -8,7 +8,8 @@ import subprocess
 import unittest
 from typing import Any
 
-from support import FAULTY, InFolder, lines_for
+from pages import block, for_this_place
+from support import FAULTY, InFolder
 
 SCORE = "name: a;\nnabc-lines: 1; % b\n%%\n(c4) <i>K</i>$<(f.[x]|viS1|g)%c\ny(;) <sp>R/</sp>(::)\n"
 # The names of the colours at places of this score, by line and column from 1.
@@ -114,17 +115,17 @@ qall!
 
     @unittest.skipUnless(shutil.which("vim") and shutil.which("gregorio-chant"), "there is no vim, or no gregorio-chant on the path")
     def test_vim(self) -> None:
-        self.put("vimrc", lines_for("vim"))
+        self.put("vimrc", for_this_place(block("docs/EDITORS.md", "editor: vim")))
         self.check_colours("vim", "-N", "-es", "-n", "-u", "vimrc")
 
     @unittest.skipUnless(shutil.which("nvim") and shutil.which("gregorio-chant"), "there is no neovim, or no gregorio-chant on the path")
     def test_neovim_by_itself(self) -> None:
-        self.put("init.lua", lines_for("neovim"))
+        self.put("init.lua", for_this_place(block("docs/EDITORS.md", "editor: neovim")))
         self.check_colours("nvim", "--headless", "-n", "-u", "init.lua")
 
     @unittest.skipUnless(shutil.which("nvim") and shutil.which("gregorio-chant"), "there is no neovim, or no gregorio-chant on the path")
     def test_neovim(self) -> None:
-        self.put("init.lua", 'vim.g.gregorio_chant_server = { "gregorio-chant", "server", "--rules" }\n' + lines_for("neovim"))
+        self.put("init.lua", 'vim.g.gregorio_chant_server = { "gregorio-chant", "server", "--rules" }\n' + for_this_place(block("docs/EDITORS.md", "editor: neovim")))
         self.put("trial.lua", TRIAL)
         self.put("a b.gabc", FAULTY)
         self.put("b.gabc", "name: a;\n%%\n(c5)\n")

@@ -16,6 +16,7 @@ from xml.etree import ElementTree as Xml
 
 from asking import Asking, foreign
 from gregorio_chant import Format, compile
+from pages import block
 from support import EXAMPLES, FAULTY, SCORE, InFolder, command, has, without
 from test_picture import HOSTILE
 from test_show import Page
@@ -166,6 +167,16 @@ class Serving(Asking):
         taken = command("page", "--port", str(self.port))
         self.assertEqual((taken.returncode, taken.stdout), (4, b""))
         self.assertEqual(taken.stderr.decode(), f"gregorio-chant: cannot serve at port {self.port}: Address already in use\n")
+
+    def test_line_of_the_page(self) -> None:
+        """The line of docs/PYTHON.md serves at its port, which is a free one here."""
+        with socket.socket() as free:
+            free.bind(("127.0.0.1", 0))
+            port = free.getsockname()[1]
+        words = block("docs/PYTHON.md", "test: page").replace("8080", str(port)).split()
+        self.assertEqual(words[:2], ["gregorio-chant", "page"])
+        self.start(*words[2:])
+        self.assertEqual(self.port, port)
 
 
 class Words(InFolder):

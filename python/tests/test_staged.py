@@ -10,6 +10,7 @@ import sys
 import unittest
 from pathlib import Path
 
+from pages import block
 from support import FAULTY, ROOT, InFolder, command
 
 WHOLE = "% set by hand\nname: Kyrie;\n%%\n(c4) Ky(f)ri(gfg)e(e.) (::) % the end\n"
@@ -85,16 +86,9 @@ class Staged(InFolder):
         script.chmod(0o755)
         return f"{folder}{os.pathsep}{os.environ['PATH']}"
 
-    def recipe(self) -> str:
-        """Returns the hook of USE.md."""
-        page = (ROOT / "docs" / "USE.md").read_text(encoding="utf-8")
-        found = re.search(r"<!-- command: hook -->\n\n((?:    .*\n|\n)+)", page)
-        assert found
-        return re.sub("^    ", "", found[1], flags=re.MULTILINE)
-
     def test_hook(self) -> None:
         path = self.path_with_command()
-        ran = subprocess.run(["bash", "-c", self.recipe()], env={**os.environ, **_QUIET, "PATH": path}, stdout=subprocess.PIPE, stderr=subprocess.STDOUT, check=False)
+        ran = subprocess.run(["bash", "-c", block("docs/USE.md", "command: hook")], env={**os.environ, **_QUIET, "PATH": path}, stdout=subprocess.PIPE, stderr=subprocess.STDOUT, check=False)
         self.assertEqual((ran.returncode, ran.stdout), (0, b""))
         self.put("s/whole.gabc", WHOLE)
         self.put("s/loose.gabc", LOOSE)
@@ -119,7 +113,7 @@ class Staged(InFolder):
         self.assertEqual(self.git("commit", "-m", "taken away").returncode, 0)
         self.assertEqual(Path("s/loose.gabc").read_text(), WHOLE)
         Path(".git/hooks/pre-commit").write_text("mine")
-        subprocess.run(["bash", "-c", self.recipe()], env={**os.environ, "PATH": path}, stdout=subprocess.PIPE, stderr=subprocess.STDOUT, check=False)
+        subprocess.run(["bash", "-c", block("docs/USE.md", "command: hook")], env={**os.environ, "PATH": path}, stdout=subprocess.PIPE, stderr=subprocess.STDOUT, check=False)
         self.assertEqual(Path(".git/hooks/pre-commit").read_text(), "mine")
 
     def test_entries_for_pre_commit(self) -> None:
