@@ -1,0 +1,2 @@
+pub mod RegularPartsEnd
+pub mod RegularSyllableIsRead

@@ -1,0 +1,26 @@
+//! Laws of a regular syllable: what is emitted of it, and what it makes. Each function's contract is a law; its body calls the laws below that it stands on.
+
+ghost use Rattle.std.specs.Prelude.{◌≡◌, ℕ, List};
+ghost use Rattle.gabc_places.specs.declared.place.Char.{Char};
+ghost use Rattle.gabc_places.specs.declared.place.Place.{Place};
+ghost use Rattle.gabc_places.specs.Place.{placed_characters_from};
+ghost use Rattle.gabc_score.specs.RegularSyllable.{SyllableParts, IsRegularSyllable, IsReadAsItStands, spelled, unit_at};
+ghost use Rattle.gabc_score.specs.SyllablesOfUnits.{characters_in};
+
+/// Law: a regular syllable is read as it stands, wherever it begins, whatever macros are defined and whatever follows: each of
+/// its characters has its list of events, nothing is found in it, and the next text begins after its `)`. Its characters are
+/// those of its unit.
+pub fn a_regular_syllable_is_read_as_it_stands()
+    ensures characters { (at : Place) (r : SyllableParts) →
+        characters_in (unit_at at r) ≡ placed_characters_from at (spelled r) }
+    ensures events { (lines macros : ℕ) (at : Place) (r : SyllableParts) (xs : List Char) →
+        IsRegularSyllable lines r → IsReadAsItStands lines macros at r xs }
+{
+    gabc_text::laws::a_text_ends_once();
+    gabc_text::laws::events_build_the_text();
+    gabc_text::laws::findings_lie_within();
+    gabc_text::laws::a_regular_text_is_printed_as_it_stands();
+    gabc_text::laws::blanks_before_a_regular_text_begin_a_word();
+    gabc_notes::laws::what_follows_emits_nothing();
+    gabc_nabc::laws::what_follows_emits_nothing();
+}
