@@ -1,2 +1,3 @@
 pub mod RegularPartsEnd
+pub mod RegularSyllableIsMade
 pub mod RegularSyllableIsRead

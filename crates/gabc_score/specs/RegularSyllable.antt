@@ -1,5 +1,5 @@
 -- Regular syllables: those that are read as they stand, and in which nothing is found.
-use Rattle.std.specs.Prelude.{◌≡◌, ℕ, zero, suc, List, [], ◌∷◌, ◌++◌, length, true}
+use Rattle.std.specs.Prelude.{◌≡◌, ℕ, zero, suc, List, [], ◌∷◌, ◌++◌, length, Bool, true, false, cond, encode_utf8_all}
 use Rattle.std.specs.List.{list_all}
 use Rattle.gabc_places.specs.StageLaw.{concat_of}
 use Rattle.gabc_places.specs.declared.place.Place.{Place}
@@ -11,7 +11,9 @@ use Rattle.gabc_notes.specs.Regular as notes
 use Rattle.gabc_nabc.specs.Regular as nabc
 use Rattle.gabc_score.specs.declared.events.BodyEvent.{BodyEvent}
 use Rattle.gabc_score.specs.Body.{events_onto, findings_of}
+use Rattle.gabc_score.specs.Canonical.{canonical}
 use Rattle.gabc_score.specs.Events.{texts_by_definition, text_from, next_line, behind_mark, events_from}
+use Rattle.gabc_score.specs.UnitRead.{GivesOneSyllable, emitted_through}
 use Rattle.gabc_score.specs.Units.{EndedPart, BodyUnit}
 
 -- blanks, a text and snippets, of which each of the first ends at a `|`, and the last at the `)`
@@ -85,3 +87,30 @@ pub record IsReadAsItStands (lines macros : ℕ) (at : Place) (r : SyllableParts
       ≡ emitted ++ events_from texts_by_definition lines macros (text_from texts_by_definition (behind_mark (unit_at at r).final.end.place) xs) xs
   pub one_each : length emitted ≡ length (spelled r)
   pub nothing : findings_of (events_onto (concat_of emitted) []) ≡ []
+
+-- ---- what is made
+
+-- blanks before a text begin a word, and one of them is kept
+abbrev pub has_gap : List ℕ → Bool
+has_gap [] = false
+has_gap (c ∷ gap) = true
+
+abbrev pub gap_kept : List ℕ → List ℕ
+gap_kept gap = cond (has_gap gap) (32 ∷ []) []
+
+-- what is kept of a syllable
+abbrev pub kept_spelled : SyllableParts → List ℕ
+kept_spelled r = (gap_kept r.gap ++ r.text) ++ 40 ∷ notes_spelled r.nexts r.final
+
+-- its canonical text: an LF if it begins a word, and its text and notes as they stand
+abbrev pub canonical_spelled : Bool → SyllableParts → List ℕ
+canonical_spelled starts r = cond starts (10 ∷ []) [] ++ (r.text ++ 40 ∷ notes_spelled r.nexts r.final)
+
+-- The syllable gives one syllable with its last character, after whatever was emitted before, and nothing is found in it. It keeps its spelling, with one
+-- blank where there are some before its text, and its spelling is its canonical text.
+pub record MakesItsSpelling (lines macros : ℕ) (at : Place) (r : SyllableParts) (before : List BodyEvent) : Type 0 where
+  pub one : GivesOneSyllable lines macros at (unit_at at r) [] before
+  pub nothing : findings_of (emitted_through lines macros at (unit_at at r) [] before) ≡ findings_of before
+  pub kept_is : one.made.kept ≡ encode_utf8_all (kept_spelled r)
+  pub starts_is : one.made.text.word_start ≡ has_gap r.gap
+  pub canonical_is : (starts : Bool) → canonical starts one.made ≡ encode_utf8_all (canonical_spelled starts r)

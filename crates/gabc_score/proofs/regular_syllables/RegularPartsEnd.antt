@@ -94,10 +94,10 @@ mark_by lines line opened note_end.Next = Next (next_line lines line) opened
 mark_by lines line opened note_end.Close = Closes
 mark_by lines line opened (note_end.Cut place) = Closes
 
-head_same : {X : Type 0} (x y : X) (xs ys : List X) → x ∷ xs ≡ y ∷ ys → x ≡ y
+pub head_same : {X : Type 0} (x y : X) (xs ys : List X) → x ∷ xs ≡ y ∷ ys → x ≡ y
 head_same x y xs ys e = cc
 
-tail_same : {X : Type 0} (x y : X) (xs ys : List X) → x ∷ xs ≡ y ∷ ys → xs ≡ ys
+pub tail_same : {X : Type 0} (x y : X) (xs ys : List X) → x ∷ xs ≡ y ∷ ys → xs ≡ ys
 tail_same x y xs ys e = cc
 
 abbrev pub through_end : List Char → NoteEnd → ℕ → List (List NoteEvent)

@@ -45,11 +45,11 @@ unit_placed at r = let t = r.gap ++ r.text in
 -- ---- the events
 
 -- these lists are one for each of n characters, in which nothing is found, and then those
-record Passes (n : ℕ) (all later : List (List BodyEvent)) : Type 0 where
-  front : List (List BodyEvent)
-  all_is : all ≡ front ++ later
-  count : length front ≡ n
-  nothing : found (concat_of front) ≡ []
+pub record Passes (n : ℕ) (all later : List (List BodyEvent)) : Type 0 where
+  pub front : List (List BodyEvent)
+  pub all_is : all ≡ front ++ later
+  pub count : length front ≡ n
+  pub nothing : found (concat_of front) ≡ []
 
 nothing_joined : (xs ys : List (List BodyEvent)) → found (concat_of xs) ≡ [] → found (concat_of ys) ≡ [] → found (concat_of (xs ++ ys)) ≡ []
 nothing_joined xs ys h k = ap found (joined_append xs ys) ∙ found_append (concat_of xs) (concat_of ys) ∙ ap (λ (fs : List Finding). fs ++ found (concat_of ys)) h ∙ k
@@ -144,11 +144,11 @@ module _ (lines macros : ℕ) where
           text_ends lines at e.characters e.end ys (ends at (codes_of (e.characters ++ e.end ∷ ys)))
           (ap after_tokens (codes_are at (r.gap ++ r.text) ys) ∙ laws.ends)
 
-      split_of : (lines : ℕ) (nexts : List (List ℕ)) → (lines ≡ 0 → nexts ≡ []) → (nexts ≡ []) ⊎ (nat_lt 0 lines ≡ true)
+      pub split_of : (lines : ℕ) (nexts : List (List ℕ)) → (lines ≡ 0 → nexts ≡ []) → (nexts ≡ []) ⊎ (nat_lt 0 lines ≡ true)
       split_of zero nexts h = inl (h refl)
       split_of (suc n) nexts h = inr (grind arith)
 
-      syllable_passes : (at : Place) (r : SyllableParts) (xs : List Char) → IsRegularSyllable lines r → (let u = unit_at at r in let us = characters_in u in
+      pub syllable_passes : (at : Place) (r : SyllableParts) (xs : List Char) → IsRegularSyllable lines r → (let u = unit_at at r in let us = characters_in u in
           Passes (length us) (lists_of (text_from texts_by_definition at (us ++ xs)) (us ++ xs)) (lists_of (text_from texts_by_definition (behind_mark u.final.end.place) xs) xs))
       syllable_passes at r xs h =
           let e = ended_at at (r.gap ++ r.text) 40 in
