@@ -43,7 +43,8 @@ module _ (lines : ℕ) where
   AreRegularFrom line [] final = IsRegularOn line final
   AreRegularFrom line (s ∷ nexts) final = IsRegularOn line s × AreRegularFrom (next_line lines line) nexts final
 
-  -- Blanks or none, a regular text and regular snippets are a regular syllable under n NABC lines: with none there is one snippet.
+  -- Blanks or none, a regular text and regular snippets are a regular syllable under n NABC lines:
+  -- with none there is one snippet.
   pub record IsRegularSyllable (r : SyllableParts) : Type 0 where
     pub blanks : list_all is_blank r.gap ≡ true
     pub text : IsRegularText r.text
@@ -78,8 +79,9 @@ unit_at at r = let begun = after_part at (r.gap ++ r.text) 40 in record {
 
 -- ---- what is emitted
 
--- Where a text begins with the syllable at a place, and other characters follow it, a list is emitted for each of its characters, and then what a text
--- emits that begins with the others, after the `)`. Nothing is found in the syllable.
+-- Where a text begins with the syllable at a place, and other characters follow it, a list is
+-- emitted for each of its characters, and then what a text emits that begins with the others, after
+-- the `)`. Nothing is found in the syllable.
 pub record IsReadAsItStands (lines macros : ℕ) (at : Place) (r : SyllableParts) (xs : List Char) : Type 0 where
   pub emitted : List (List BodyEvent)
   pub events_are : let all = placed_characters_from at (spelled r) ++ xs in
@@ -106,8 +108,9 @@ kept_spelled r = (gap_kept r.gap ++ r.text) ++ 40 ∷ notes_spelled r.nexts r.fi
 abbrev pub canonical_spelled : Bool → SyllableParts → List ℕ
 canonical_spelled starts r = cond starts (10 ∷ []) [] ++ (r.text ++ 40 ∷ notes_spelled r.nexts r.final)
 
--- The syllable gives one syllable with its last character, after whatever was emitted before, and nothing is found in it. It keeps its spelling, with one
--- blank where there are some before its text, and its spelling is its canonical text.
+-- The syllable gives one syllable with its last character, after whatever was emitted before, and
+-- nothing is found in it. It keeps its spelling, with one blank where there are some before its
+-- text, and its spelling is its canonical text.
 pub record MakesItsSpelling (lines macros : ℕ) (at : Place) (r : SyllableParts) (before : List BodyEvent) : Type 0 where
   pub one : GivesOneSyllable lines macros at (unit_at at r) [] before
   pub nothing : findings_of (emitted_through lines macros at (unit_at at r) [] before) ≡ findings_of before

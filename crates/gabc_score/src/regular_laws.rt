@@ -1,4 +1,5 @@
-//! Laws of a regular syllable: what is emitted of it, and what it makes. Each function's contract is a law; its body calls the laws below that it stands on.
+//! Laws of a regular syllable: what is emitted of it, and what it makes. Each function's contract
+//! is a law; its body calls the laws below that it stands on.
 
 ghost use Rattle.std.specs.Prelude.{◌≡◌, ◌<◌, ◌^◌, ℕ, List, [], ◌++◌, length, take, encode_utf8_all};
 ghost use Rattle.gabc_places.specs.declared.place.Char.{Char};
@@ -12,9 +13,9 @@ ghost use Rattle.gabc_score.specs.Syllable.{since_close};
 ghost use Rattle.gabc_score.specs.declared.events.BodyEvent.{BodyEvent};
 ghost use Rattle.gabc_score.specs.SyllablesOfUnits.{characters_in};
 
-/// Law: a regular syllable is read as it stands, wherever it begins, whatever macros are defined and whatever follows: each of
-/// its characters has its list of events, nothing is found in it, and the next text begins after its `)`. Its characters are
-/// those of its unit.
+/// Law: a regular syllable is read as it stands, wherever it begins, whatever macros are defined
+/// and whatever follows: each of its characters has its list of events, nothing is found in it, and
+/// the next text begins after its `)`. Its characters are those of its unit.
 pub fn a_regular_syllable_is_read_as_it_stands()
     ensures characters { (at : Place) (r : SyllableParts) →
         characters_in (unit_at at r) ≡ placed_characters_from at (spelled r) }
@@ -30,8 +31,9 @@ pub fn a_regular_syllable_is_read_as_it_stands()
     gabc_nabc::laws::what_follows_emits_nothing();
 }
 
-/// Law: of a regular syllable a stage over a body emits what the syllable emits by itself, whatever follows. Then it emits what
-/// it emits of a text that begins with what follows, after the `)`. No count of the syllable may reach its last value.
+/// Law: of a regular syllable a stage over a body emits what the syllable emits by itself, whatever
+/// follows. Then it emits what it emits of a text that begins with what follows, after the `)`. No
+/// count of the syllable may reach its last value.
 pub fn a_stage_reads_a_regular_syllable_as_it_stands()
     ensures { (lines macros : ℕ) (at : Place) (r : SyllableParts) (xs : List Char) →
         IsRegularSyllable lines r → CountsFit at (spelled r) →
@@ -52,9 +54,9 @@ pub fn a_stage_reads_a_regular_syllable_as_it_stands()
     gabc_nabc::laws::what_follows_emits_nothing();
 }
 
-/// Law: a regular syllable makes its own spelling, wherever it begins and whatever was emitted before: with its `)` it gives one
-/// syllable, in which nothing is found. The blanks before its text begin a word and are kept as one; the rest is kept as it
-/// stands, and is its canonical text.
+/// Law: a regular syllable makes its own spelling, wherever it begins and whatever was emitted
+/// before: with its `)` it gives one syllable, in which nothing is found. The blanks before its
+/// text begin a word and are kept as one; the rest is kept as it stands, and is its canonical text.
 pub fn a_regular_syllable_makes_its_spelling()
     ensures { (lines macros : ℕ) (at : Place) (r : SyllableParts) (before : List BodyEvent) →
         IsRegularSyllable lines r → length (encode_utf8_all (spelled r)) < 2 ^ 63 →

@@ -4,7 +4,7 @@ use Rattle.std.specs.List.{list_any}
 use Rattle.gabc_places.specs.StageLaw.{concat_of}
 use Rattle.gabc_places.specs.declared.place.Place.{Place}
 use Rattle.gabc_places.specs.declared.place.Char.{Char}
-use Rattle.gabc_places.specs.Place.{next_place, placed_characters_from}
+use Rattle.gabc_places.specs.Place.{placed_characters_from}
 use Rattle.gabc_places.proofs.PlacesOfAText.{placed_append}
 use Rattle.gabc_text.specs.declared.text_event.TextEnd.{TextEnd}
 use Rattle.gabc_text.specs.declared.text_event.TextEnd.TheVariants as text_end
@@ -32,11 +32,6 @@ use Rattle.gabc_score.proofs.texts_of_body.TextEmitsThroughEnd.{any_after, none_
 front_none : {X : Type 0} (xs ys : List X) → xs ++ ys ≡ [] → xs ≡ []
 front_none [] ys e = refl
 front_none (x ∷ xs) ys e = absurd (cc)
-
--- the codes of placed characters
-pub codes_placed : (p : Place) (cs : List ℕ) → codes_of (placed_characters_from p cs) ≡ cs
-codes_placed p [] = refl
-codes_placed p (c ∷ cs) = ap (λ ds. c ∷ ds) (codes_placed (next_place p c) cs)
 
 -- ---- texts
 

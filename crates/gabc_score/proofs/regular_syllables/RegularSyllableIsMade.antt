@@ -1,5 +1,5 @@
 -- A regular syllable makes its own spelling.
-use Rattle.std.proofs.Common.{◌≡◌, ◌⊎◌, inl, inr, ℕ, zero, suc, ◌+◌, ◌<◌, ◌^◌, ◌%◌, nat_lt, Bool, true, false, cond, List, [], ◌∷◌, ◌++◌, map, length, take, take_at, Option, Some, None, refl, sym, ap, subst, ◌∙◌, arith, append_assoc, append-nil, length-append, codes}
+use Rattle.std.proofs.Common.{◌≡◌, ◌⊎◌, inr, ℕ, zero, suc, ◌+◌, ◌<◌, ◌^◌, ◌%◌, nat_lt, Bool, true, false, cond, List, [], ◌∷◌, ◌++◌, map, length, take, take_at, Option, Some, None, refl, sym, ap, subst, ◌∙◌, arith, append_assoc, append-nil, length-append, codes}
 use Rattle.std.specs.List.{list_all, flat_map}
 use Rattle.std.proofs.Math.Nat.{mod-eq_of_lt}
 use Rattle.std.proofs.Math.Numerals.{add-one}
@@ -46,8 +46,9 @@ use Rattle.gabc_score.specs.UnitRead.{GivesOneSyllable, first_events, emitted_th
 use Rattle.gabc_score.specs.Units.{Closes, EndedPart, BodyUnit, JustText, CutPart, Cuts, cut_part, whole, snippets_with, units_pieces}
 use Rattle.gabc_score.proofs.holding.SnippetsAreHeld.{bytes_stand, next_turn}
 use Rattle.gabc_score.proofs.order.FindingsOfParts.{found, found_onto}
-use Rattle.gabc_score.proofs.regular_syllables.RegularPartsEnd.{codes_placed, head_same, tail_same, next_ends, close_ends}
-use Rattle.gabc_score.proofs.regular_syllables.RegularSyllableIsRead.{notes_at, unit_placed, syllable_passes, text_there, split_of}
+use Rattle.gabc_score.proofs.regular_syllables.RegularPartsEnd.{head_same, tail_same, next_ends, close_ends}
+use Rattle.gabc_score.proofs.texts_of_body.StageAndDefinitionAgree.{codes_placed}
+use Rattle.gabc_score.proofs.regular_syllables.RegularSyllableIsRead.{notes_at, unit_placed, syllable_passes, text_there, split_of, splits}
 use Rattle.gabc_score.proofs.syllables_of_units.UnitGivesOneSyllable.{one_syllable}
 use Rattle.gabc_score.proofs.syllables_of_units.UnitsGiveSyllables.{units_whole}
 
@@ -264,11 +265,7 @@ module _ (gabc_prefix : (split : Bool) (macros : ℕ) (xs ys zs : List Char) →
   notes_cut line opened at (t ∷ nexts) final r s =
       let next = after_part at t 124 in
       let pieces = snippets_with lines (next_line lines line) opened (nexts_at next nexts) (cut_part (final_at next nexts final) Closes ∷ []) in
-      ((next_ends gabc_prefix nabc_prefix lines macros line opened at t (whole pieces []) r.0 (split s)).ends, notes_cut (next_line lines line) opened next nexts final r.1 (inr (split s)))
-    where
-      split : ((t ∷ nexts) ≡ []) ⊎ (nat_lt 0 lines ≡ true) → nat_lt 0 lines ≡ true
-      split (inl k) = absurd (cc)
-      split (inr k) = k
+      ((next_ends gabc_prefix nabc_prefix lines macros line opened at t (whole pieces []) r.0 (splits t nexts lines s)).ends, notes_cut (next_line lines line) opened next nexts final r.1 (inr (splits t nexts lines s)))
 
   -- ---- what it gives
 

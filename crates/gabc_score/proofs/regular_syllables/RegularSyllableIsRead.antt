@@ -21,7 +21,8 @@ use Rattle.gabc_score.specs.RegularSyllable.{SyllableParts, IsRegularSyllable, A
 use Rattle.gabc_score.specs.SyllablesOfUnits.{with_ends, characters_in}
 use Rattle.gabc_score.specs.Units.{Opens, Next, Closes, EndedPart, events_through, EndsBehind}
 use Rattle.gabc_score.proofs.order.FindingsOfParts.{found, found_append, found_onto, joined_append}
-use Rattle.gabc_score.proofs.regular_syllables.RegularPartsEnd.{codes_placed, text_ends, text_none, next_ends, close_ends}
+use Rattle.gabc_score.proofs.regular_syllables.RegularPartsEnd.{text_ends, text_none, next_ends, close_ends}
+use Rattle.gabc_score.proofs.texts_of_body.StageAndDefinitionAgree.{codes_placed}
 use Rattle.gabc_score.proofs.stopped_scores.PrefixesAreReadAlike.{through_length}
 use Rattle.gabc_score.proofs.texts_of_body.TextEmitsThroughEnd.{codes_append}
 use Rattle.gabc_score.proofs.units.BodyHasOneCutting.{ends_emitted}
@@ -41,6 +42,11 @@ pub unit_placed : (at : Place) (r : SyllableParts) → characters_in (unit_at at
 unit_placed at r = let t = r.gap ++ r.text in
     ap (λ (xs : List Char). placed_characters_from at t ++ record { c = 40; place = place_past at t } ∷ xs) (notes_placed (after_part at t 40) r.nexts r.final)
     ∙ sym (placed_append at t (40 ∷ notes_spelled r.nexts r.final))
+
+-- where more than one snippet stands, there are NABC lines
+pub splits : (t : List ℕ) (nexts : List (List ℕ)) (lines : ℕ) → ((t ∷ nexts) ≡ []) ⊎ (nat_lt 0 lines ≡ true) → nat_lt 0 lines ≡ true
+splits t nexts lines (inl k) = absurd (cc)
+splits t nexts lines (inr k) = k
 
 -- ---- the events
 
@@ -104,16 +110,12 @@ module _ (lines macros : ℕ) where
         let us = with_ends (notes_at next nexts final) in
         let later = lists_of (text_from texts_by_definition (behind_mark (final_at next nexts final).end.place) xs) xs in
         let part = snippet_from lines macros line opened (e.characters ++ e.end ∷ (us ++ xs)) in
-        let on = notes_pass (next_line lines line) opened next nexts final xs r.1 (inr (split s)) in
-        let h = next_ends gabc_prefix nabc_prefix lines macros line opened at t (us ++ xs) r.0 (split s) in
+        let on = notes_pass (next_line lines line) opened next nexts final xs r.1 (inr (splits t nexts lines s)) in
+        let h = next_ends gabc_prefix nabc_prefix lines macros line opened at t (us ++ xs) r.0 (splits t nexts lines s) in
         let p = passes_on part e (length us) (lists_of part (e.characters ++ e.end ∷ (us ++ xs))) (lists_of (snippet_from lines macros (next_line lines line) opened (us ++ xs)) (us ++ xs)) later
         (ends_emitted texts_by_definition lines macros part e.characters (Next (next_line lines line) opened) e.end (us ++ xs) tt h.ends) h.nothing on in
         subst (λ (ys : List Char). Passes (length (e.characters ++ e.end ∷ us)) (lists_of (snippet_from lines macros line opened ys) ys) later) (sym (append_assoc e.characters (e.end ∷ us) xs))
         (record { front = p.front; all_is = p.all_is; count = (let c = p.count in let m = ends_more e us in omega (arith, c, m)); nothing = p.nothing })
-      where
-        split : ((t ∷ nexts) ≡ []) ⊎ (nat_lt 0 lines ≡ true) → nat_lt 0 lines ≡ true
-        split (inl k) = absurd (cc)
-        split (inr k) = k
 
     -- ---- the syllable
 

@@ -1,5 +1,5 @@
 -- A stage over a body emits of a regular syllable what it emits by itself, whatever follows.
-use Rattle.std.proofs.Common.{◌≡◌, ◌⊎◌, inl, inr, ℕ, suc, ◌+◌, nat_lt, Bool, true, List, [], ◌∷◌, ◌++◌, length, take, take_at, sym, ap, subst, ◌∙◌, arith, append_assoc, append-nil, length-append}
+use Rattle.std.proofs.Common.{◌≡◌, ◌⊎◌, inr, ℕ, suc, ◌+◌, nat_lt, Bool, true, List, [], ◌∷◌, ◌++◌, length, take, take_at, sym, ap, subst, ◌∙◌, arith, append_assoc, append-nil, length-append}
 use Rattle.std.specs.List.{list_all}
 use Rattle.gabc_places.specs.StageLaw.{concat_of}
 use Rattle.gabc_places.specs.declared.place.Place.{Place}
@@ -22,8 +22,9 @@ use Rattle.gabc_score.specs.RegularSyllable.{SyllableParts, IsRegularSyllable, A
 use Rattle.gabc_score.specs.SyllablesOfUnits.{with_ends, characters_in}
 use Rattle.gabc_score.specs.Units.{Opens, Next, Closes, events_through}
 use Rattle.gabc_score.specs.witness.BodyStage.{texts_by_stage}
-use Rattle.gabc_score.proofs.regular_syllables.RegularPartsEnd.{codes_placed, next_ends, close_ends}
-use Rattle.gabc_score.proofs.regular_syllables.RegularSyllableIsRead.{notes_at, unit_placed, text_there, split_of}
+use Rattle.gabc_score.proofs.regular_syllables.RegularPartsEnd.{next_ends, close_ends}
+use Rattle.gabc_score.proofs.texts_of_body.StageAndDefinitionAgree.{codes_placed}
+use Rattle.gabc_score.proofs.regular_syllables.RegularSyllableIsRead.{notes_at, unit_placed, text_there, split_of, splits}
 use Rattle.gabc_score.proofs.stopped_scores.PrefixesAreReadAlike.{Agree, agree_ends, agree_through, through_length, snippet_agrees}
 use Rattle.gabc_score.proofs.texts_of_body.TextEmitsThroughEnd.{length_of_codes, codes_append}
 use Rattle.gabc_score.proofs.units.BodyHasOneCutting.{ends_emitted}
@@ -102,15 +103,11 @@ module _ (fresh_is : (at : Place) (t : List ℕ) → CountsFit at t → events_l
       let alone = snippet_from lines macros line opened (e.characters ++ e.end ∷ us) in
       let later = lists_by texts (text_from texts (behind_mark (final_at next nexts final).end.place) xs) xs in
       ap (λ (ys : List Char). lists_by texts (snippet_from lines macros line opened ys) ys) (append_assoc e.characters (e.end ∷ us) xs)
-      ∙ ends_emitted texts lines macros part e.characters (Next (next_line lines line) opened) e.end (us ++ xs) tt (next_ends gabc_prefix nabc_prefix lines macros line opened at t (us ++ xs) r.0 (split s)).ends
+      ∙ ends_emitted texts lines macros part e.characters (Next (next_line lines line) opened) e.end (us ++ xs) tt (next_ends gabc_prefix nabc_prefix lines macros line opened at t (us ++ xs) r.0 (splits t nexts lines s)).ends
       ∙ ap (λ (ls : List (List BodyEvent)). ls ++ lists_by texts (snippet_from lines macros (next_line lines line) opened (us ++ xs)) (us ++ xs))
       (agree_through part alone e.characters (snippets_alike line opened e.characters e.end (us ++ xs) us))
-      ∙ ap (λ (ls : List (List BodyEvent)). events_through alone e.characters ++ ls) (notes_emit texts (next_line lines line) opened next nexts final xs r.1 (inr (split s)))
+      ∙ ap (λ (ls : List (List BodyEvent)). events_through alone e.characters ++ ls) (notes_emit texts (next_line lines line) opened next nexts final xs r.1 (inr (splits t nexts lines s)))
       ∙ sym (append_assoc (events_through alone e.characters) (through_notes (next_line lines line) opened next nexts final) later)
-    where
-      split : ((t ∷ nexts) ≡ []) ⊎ (nat_lt 0 lines ≡ true) → nat_lt 0 lines ≡ true
-      split (inl k) = absurd (cc)
-      split (inr k) = k
 
   -- a text as its stage reads it, and one by itself
   texts_alike : (at : Place) (prefix : List Char) (end : Char) (rest other : List Char) → CountsFit at (codes_of (prefix ++ end ∷ other))
