@@ -2,6 +2,7 @@ pub mod building
 pub mod holding
 pub mod keeping
 pub mod order
+pub mod regular_syllables
 pub mod resuming
 pub mod score_events
 pub mod snippets_of_body

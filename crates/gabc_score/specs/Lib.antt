@@ -12,6 +12,7 @@ pub mod Holding
 pub mod Marks
 pub mod NoNotes
 pub mod NoteBeforeClef
+pub mod RegularSyllable
 pub mod Resumed
 pub mod ReadAgain
 pub mod Score

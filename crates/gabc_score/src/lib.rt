@@ -34,6 +34,7 @@ mod part_ends;
 mod part_events;
 mod part_pushes;
 mod reading_again;
+pub mod regular_laws;
 mod resumed;
 mod score;
 mod score_event;

@@ -30,7 +30,7 @@ use Rattle.gabc_score.proofs.texts_of_body.TextEmitsThroughEnd.{codes_append, le
 -- ---- parts that agree
 
 -- two parts of one kind with the same first lists
-abbrev Agree : ℕ → PartAhead → PartAhead → Type 0
+abbrev pub Agree : ℕ → PartAhead → PartAhead → Type 0
 Agree n (InText ls) (InText ms) = take n ls ≡ take n ms
 Agree n (InNotes line opened ls) (InNotes k o ms) = (line ≡ k) × ((opened ≡ o) × (take n ls ≡ take n ms))
 Agree n _ _ = ⊥
@@ -83,14 +83,14 @@ module _ (lines : ℕ) where
   agree_mark n (InNotes line opened ls) (InNotes k o ms) h =
       ap (mark_of_notes line opened) (same_first n ls ms h.1.1) ∙ ap (λ l. mark_of_notes l opened (first_list ms)) h.0 ∙ ap (λ p. mark_of_notes k p (first_list ms)) h.1.0
 
-  agree_ends : (part other : PartAhead) (prefix : List Char) (mark : Mark) → Agree (suc (length prefix)) part other → EndsBehind lines part prefix mark → EndsBehind lines other prefix mark
+  pub agree_ends : (part other : PartAhead) (prefix : List Char) (mark : Mark) → Agree (suc (length prefix)) part other → EndsBehind lines part prefix mark → EndsBehind lines other prefix mark
   agree_ends part other [] mark a h = sym (agree_mark 0 part other a) ∙ h
   agree_ends part other (x ∷ prefix) mark a h = (
     sym (agree_mark (suc (length prefix)) part other a) ∙ h.0,
     agree_ends (part_onward part) (part_onward other) prefix mark (agree_onward (suc (length prefix)) part other a) h.1,
   )
 
-agree_through : (part other : PartAhead) (prefix : List Char) → Agree (suc (length prefix)) part other → events_through part prefix ≡ events_through other prefix
+pub agree_through : (part other : PartAhead) (prefix : List Char) → Agree (suc (length prefix)) part other → events_through part prefix ≡ events_through other prefix
 agree_through part other [] a = ap (λ ts. ts ∷ []) (agree_emitted 0 part other a)
 agree_through part other (x ∷ prefix) a =
     ap (λ ts. ts ∷ events_through (part_onward part) prefix) (agree_emitted (suc (length prefix)) part other a)
@@ -174,7 +174,7 @@ module _ (fresh_is : (at : Place) (t : List ℕ) → CountsFit at t → events_l
       ∙ ap (λ m. take m (events_left (fresh_stage at) (t ++ codes_of other))) n
       ∙ ap (λ ls. take (suc (length prefix)) ls) (here other k)
 
-  snippet_agrees : (line : ℕ) (opened : Place) (prefix : List Char) (end : Char) (rest other : List Char)
+  pub snippet_agrees : (line : ℕ) (opened : Place) (prefix : List Char) (end : Char) (rest other : List Char)
       → Agree (suc (length prefix)) (snippet_from lines macros line opened (prefix ++ end ∷ rest)) (snippet_from lines macros line opened (prefix ++ end ∷ other))
   snippet_agrees line opened prefix end rest other = (refl, (refl, by (line == 0)))
     where

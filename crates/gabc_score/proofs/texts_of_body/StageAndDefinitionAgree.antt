@@ -19,7 +19,7 @@ use Rattle.gabc_score.specs.Events.{PartAhead, InComment, InText, InNotes, is_ne
 use Rattle.gabc_score.specs.witness.BodyStage.{texts_by_stage}
 use Rattle.gabc_score.specs.Score.{heads_text, behind_heads}
 
-codes_placed : (at : Place) (t : List ℕ) → codes_of (placed_characters_from at t) ≡ t
+pub codes_placed : (at : Place) (t : List ℕ) → codes_of (placed_characters_from at t) ≡ t
 codes_placed at [] = refl
 codes_placed at (c ∷ t) = ap (λ (l : List ℕ). c ∷ l) (codes_placed (next_place at c) t)
 

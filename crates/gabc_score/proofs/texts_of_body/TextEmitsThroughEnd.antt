@@ -24,7 +24,7 @@ use Rattle.gabc_score.proofs.building.EventsOfSyllableParts.{text_emitted}
 
 -- ---- events without an end
 
-ends_apart : (xs ys : List TextEvent) → ends_in (xs ++ ys) ≡ [] → (ends_in xs ≡ []) × (ends_in ys ≡ [])
+pub ends_apart : (xs ys : List TextEvent) → ends_in (xs ++ ys) ≡ [] → (ends_in xs ≡ []) × (ends_in ys ≡ [])
 ends_apart [] ys h = (refl, h)
 ends_apart (text.Kept x ∷ xs) ys h = ends_apart xs ys h
 ends_apart (text.Part p ∷ xs) ys h = ends_apart xs ys h
@@ -38,14 +38,14 @@ ends_append (text.Part p ∷ xs) ys h = ends_append xs ys h
 ends_append (text.Found f ∷ xs) ys h = ends_append xs ys h
 ends_append (text.Ended how ∷ xs) ys h = cc
 
-any_after : (xs ys : List TextEvent) → ends_in xs ≡ [] → list_any is_text_end (xs ++ ys) ≡ list_any is_text_end ys
+pub any_after : (xs ys : List TextEvent) → ends_in xs ≡ [] → list_any is_text_end (xs ++ ys) ≡ list_any is_text_end ys
 any_after [] ys h = refl
 any_after (text.Kept x ∷ xs) ys h = any_after xs ys h
 any_after (text.Part p ∷ xs) ys h = any_after xs ys h
 any_after (text.Found f ∷ xs) ys h = any_after xs ys h
 any_after (text.Ended how ∷ xs) ys h = cc
 
-none_ends : (xs : List TextEvent) → ends_in xs ≡ [] → list_any is_text_end xs ≡ false
+pub none_ends : (xs : List TextEvent) → ends_in xs ≡ [] → list_any is_text_end xs ≡ false
 none_ends xs h = ap (list_any is_text_end) (sym (append-nil xs)) ∙ any_after xs [] h
 
 gathers_on : (g : Gathered) (xs ys : List TextEvent) → with_events g (xs ++ ys) ≡ with_events (with_events g xs) ys

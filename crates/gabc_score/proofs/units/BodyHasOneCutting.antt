@@ -93,7 +93,7 @@ module _ (texts : Texts) (lines macros : ℕ) where
   is_by part x xs (Some mark) e then_ ht on ho =
       (ap (λ ys. x ∷ ys) (ht mark).0, (e, subst (λ ys. Cuts texts lines macros (part_following texts lines macros mark x ys) (then_ mark).pieces (then_ mark).last) (sym (ht mark).0) (ht mark).1))
 
-  is_cut : (part : PartAhead) (xs : List Char) → IsOf part xs (cut part xs)
+  pub is_cut : (part : PartAhead) (xs : List Char) → IsOf part xs (cut part xs)
   is_cut part [] = (refl, tt)
   is_cut part (x ∷ xs) =
       is_by part x xs (mark_in lines part) refl (λ mark. cut (part_following texts lines macros mark x xs) xs) (λ mark. is_cut (part_following texts lines macros mark x xs) xs) (cut (part_onward part) xs) (is_cut (part_onward part) xs)
@@ -202,7 +202,7 @@ module _ (texts : Texts) (lines macros : ℕ) where
       point_emitted part k x xs ∙ ap (by_events part x xs) h.0
       ∙ ap (λ ls. events_in part ∷ ls) (endless_emitted (part_onward part) xs (onward_read part k) h.1)
 
-  ends_emitted : (part : PartAhead) (prefix : List Char) (mark : Mark) (end : Char) (rest : List Char) → IsPastComment part → EndsBehind lines part prefix mark
+  pub ends_emitted : (part : PartAhead) (prefix : List Char) (mark : Mark) (end : Char) (rest : List Char) → IsPastComment part → EndsBehind lines part prefix mark
       → events_from texts lines macros part (prefix ++ end ∷ rest) ≡ events_through part prefix ++ events_from texts lines macros (part_following texts lines macros mark end rest) rest
   ends_emitted part [] mark end rest k h = point_emitted part k end rest ∙ ap (by_events part end rest) h
   ends_emitted part (x ∷ prefix) mark end rest k h =

@@ -1,0 +1,18 @@
+use Rattle.std.proofs.Common.{◌<◌, ◌^◌, ℕ, List, length, sym, subst}
+use lib.Utf8.{encodes}
+use Rattle.gabc_score.proofs.regular_syllables.RegularSyllableIsMade.{unit_text, held_spelled, given, found_none}
+use Rattle.gabc_score.proofs.regular_laws.a_regular_syllable_makes_its_spelling.Goals as goal
+
+pub returns : goal.returns
+returns c lines macros at r before h fits since =
+    let text = c.a_regular_text_is_printed_as_it_stands.ensures in
+    let behind = c.blanks_before_a_regular_text_begin_a_word.ensures in
+    let view = c.spans_stand_for_the_view.ensures in
+    let one = given c.what_follows_emits_nothing.ensures.prefix c.what_follows_emits_nothing-2.ensures.prefix lines macros c.a_text_ends_once.ensures c.events_build_the_text.ensures.events view.view
+    c.events_by_point_are_the_events.ensures.joined c.findings_lie_within.ensures.all text.found text.ends behind.found behind.ends at r h in
+    let none = found_none c.what_follows_emits_nothing.ensures.prefix c.what_follows_emits_nothing-2.ensures.prefix lines macros c.a_text_ends_once.ensures c.events_build_the_text.ensures.events view.view
+    c.events_by_point_are_the_events.ensures.joined c.findings_lie_within.ensures.all text.found text.ends behind.found behind.ends at r h in
+    let codes_are = unit_text view.starts view.bytes text.says behind.says text.kept behind.kept text.printed behind.printed c.kept_again.ensures.snippet c.kept_again-2.ensures.snippet lines at r h in
+    let g = one (subst (λ (t : List ℕ). length (encodes t) < 2 ^ 63) (sym codes_are) fits) before since in
+    let spelled = held_spelled view.starts view.bytes text.says behind.says text.kept behind.kept text.printed behind.printed c.kept_again.ensures.snippet c.kept_again-2.ensures.snippet lines at r h g.made g.holds in
+    record { one = g; nothing = none before; kept_is = spelled.kept_is; starts_is = spelled.starts_is; canonical_is = spelled.canonical_is }

@@ -1,0 +1,4 @@
+pub mod RegularPartsEnd
+pub mod RegularSyllableIsMade
+pub mod RegularSyllableIsRead
+pub mod StagesReadRegularSyllables

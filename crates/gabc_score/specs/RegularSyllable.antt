@@ -1,0 +1,119 @@
+-- Regular syllables: those that are read as they stand, and in which nothing is found.
+use Rattle.std.specs.Prelude.{◌≡◌, ℕ, zero, suc, List, [], ◌∷◌, ◌++◌, length, Bool, true, false, cond, encode_utf8_all}
+use Rattle.std.specs.List.{list_all}
+use Rattle.gabc_places.specs.StageLaw.{concat_of}
+use Rattle.gabc_places.specs.declared.place.Place.{Place}
+use Rattle.gabc_places.specs.declared.place.Char.{Char}
+use Rattle.gabc_places.specs.Place.{next_place, place_past, placed_characters_from}
+use Rattle.gabc_text.specs.Token.{is_blank}
+use Rattle.gabc_text.specs.RegularText.{IsRegularText}
+use Rattle.gabc_notes.specs.Regular as notes
+use Rattle.gabc_nabc.specs.Regular as nabc
+use Rattle.gabc_score.specs.declared.events.BodyEvent.{BodyEvent}
+use Rattle.gabc_score.specs.Body.{events_onto, findings_of}
+use Rattle.gabc_score.specs.Canonical.{canonical}
+use Rattle.gabc_score.specs.Events.{texts_by_definition, text_from, next_line, behind_mark, events_from}
+use Rattle.gabc_score.specs.UnitRead.{GivesOneSyllable, emitted_through}
+use Rattle.gabc_score.specs.Units.{EndedPart, BodyUnit}
+
+-- blanks, a text and snippets, of which each of the first ends at a `|`, and the last at the `)`
+pub record SyllableParts : Type 0 where
+  pub gap : List ℕ
+  pub text : List ℕ
+  pub nexts : List (List ℕ)
+  pub final : List ℕ
+
+-- the characters of the snippets with their marks
+abbrev pub notes_spelled : List (List ℕ) → List ℕ → List ℕ
+notes_spelled [] final = final ++ 41 ∷ []
+notes_spelled (s ∷ nexts) final = s ++ 124 ∷ notes_spelled nexts final
+
+-- the characters of a syllable
+abbrev pub spelled : SyllableParts → List ℕ
+spelled r = (r.gap ++ r.text) ++ 40 ∷ notes_spelled r.nexts r.final
+
+-- a regular snippet of that line: of GABC on line 0, of NABC on each other line
+abbrev pub IsRegularOn : ℕ → List ℕ → Type 0
+IsRegularOn zero t = notes.IsRegular t
+IsRegularOn (suc line) t = nabc.IsRegular t
+
+module _ (lines : ℕ) where
+  -- regular snippets, the first of them on that line
+  abbrev pub AreRegularFrom : ℕ → List (List ℕ) → List ℕ → Type 0
+  AreRegularFrom line [] final = IsRegularOn line final
+  AreRegularFrom line (s ∷ nexts) final = IsRegularOn line s × AreRegularFrom (next_line lines line) nexts final
+
+  -- Blanks or none, a regular text and regular snippets are a regular syllable under n NABC lines:
+  -- with none there is one snippet.
+  pub record IsRegularSyllable (r : SyllableParts) : Type 0 where
+    pub blanks : list_all is_blank r.gap ≡ true
+    pub text : IsRegularText r.text
+    pub notes : AreRegularFrom 0 r.nexts r.final
+    pub single : lines ≡ 0 → r.nexts ≡ []
+
+-- ---- the unit of a syllable
+
+-- a part that begins at a place, with the mark after it
+abbrev pub ended_at : Place → List ℕ → ℕ → EndedPart
+ended_at at t mark = record { characters = placed_characters_from at t; end = record { c = mark; place = place_past at t } }
+
+-- the place after a part and its mark
+abbrev pub after_part : Place → List ℕ → ℕ → Place
+after_part at t mark = next_place (place_past at t) mark
+
+abbrev pub nexts_at : Place → List (List ℕ) → List EndedPart
+nexts_at at [] = []
+nexts_at at (s ∷ nexts) = ended_at at s 124 ∷ nexts_at (after_part at s 124) nexts
+
+abbrev pub final_at : Place → List (List ℕ) → List ℕ → EndedPart
+final_at at [] final = ended_at at final 41
+final_at at (s ∷ nexts) final = final_at (after_part at s 124) nexts final
+
+-- the unit of a syllable whose first character stands at a place
+abbrev pub unit_at : Place → SyllableParts → BodyUnit
+unit_at at r = let begun = after_part at (r.gap ++ r.text) 40 in record {
+  text = ended_at at (r.gap ++ r.text) 40;
+  nexts = nexts_at begun r.nexts;
+  final = final_at begun r.nexts r.final;
+}
+
+-- ---- what is emitted
+
+-- Where a text begins with the syllable at a place, and other characters follow it, a list is
+-- emitted for each of its characters, and then what a text emits that begins with the others, after
+-- the `)`. Nothing is found in the syllable.
+pub record IsReadAsItStands (lines macros : ℕ) (at : Place) (r : SyllableParts) (xs : List Char) : Type 0 where
+  pub emitted : List (List BodyEvent)
+  pub events_are : let all = placed_characters_from at (spelled r) ++ xs in
+      events_from texts_by_definition lines macros (text_from texts_by_definition at all) all
+      ≡ emitted ++ events_from texts_by_definition lines macros (text_from texts_by_definition (behind_mark (unit_at at r).final.end.place) xs) xs
+  pub one_each : length emitted ≡ length (spelled r)
+  pub nothing : findings_of (events_onto (concat_of emitted) []) ≡ []
+
+-- ---- what is made
+
+-- blanks before a text begin a word, and one of them is kept
+abbrev pub has_gap : List ℕ → Bool
+has_gap [] = false
+has_gap (c ∷ gap) = true
+
+abbrev pub gap_kept : List ℕ → List ℕ
+gap_kept gap = cond (has_gap gap) (32 ∷ []) []
+
+-- what is kept of a syllable
+abbrev pub kept_spelled : SyllableParts → List ℕ
+kept_spelled r = (gap_kept r.gap ++ r.text) ++ 40 ∷ notes_spelled r.nexts r.final
+
+-- its canonical text: an LF if it begins a word, and its text and notes as they stand
+abbrev pub canonical_spelled : Bool → SyllableParts → List ℕ
+canonical_spelled starts r = cond starts (10 ∷ []) [] ++ (r.text ++ 40 ∷ notes_spelled r.nexts r.final)
+
+-- The syllable gives one syllable with its last character, after whatever was emitted before, and
+-- nothing is found in it. It keeps its spelling, with one blank where there are some before its
+-- text, and its spelling is its canonical text.
+pub record MakesItsSpelling (lines macros : ℕ) (at : Place) (r : SyllableParts) (before : List BodyEvent) : Type 0 where
+  pub one : GivesOneSyllable lines macros at (unit_at at r) [] before
+  pub nothing : findings_of (emitted_through lines macros at (unit_at at r) [] before) ≡ findings_of before
+  pub kept_is : one.made.kept ≡ encode_utf8_all (kept_spelled r)
+  pub starts_is : one.made.text.word_start ≡ has_gap r.gap
+  pub canonical_is : (starts : Bool) → canonical starts one.made ≡ encode_utf8_all (canonical_spelled starts r)
