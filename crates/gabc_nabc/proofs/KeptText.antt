@@ -33,7 +33,7 @@ prefix_is prefix (c ∷ cs) =
 abbrev pub AreText : Type 0
 AreText = (events : List NoteEvent) → map (λ (x : Char). x.c) (kept_chars_of events) ≡ kept_in events
 
-text_is : AreText → (at : Place) (t : List ℕ) → map (λ (x : Char). x.c) (kept_chars_in at t) ≡ kept_before (before_end t) (from_end t)
+pub text_is : AreText → (at : Place) (t : List ℕ) → map (λ (x : Char). x.c) (kept_chars_in at t) ≡ kept_before (before_end t) (from_end t)
 text_is are_text at t =
     let n : ℕ = length (kept_before (before_end t) (from_end t)) in
     let events : List NoteEvent = concat_of (nabc_events (placed_characters_from at t)) in
@@ -49,9 +49,3 @@ chars_returned r at t rest text e f =
     ap (λ (u : List ℕ). take (length u) (kept_chars_of (concat_of rest))) e
     ∙ ap (λ (o : List (List NoteEvent)). take (length (kept_before (before_end t) (from_end t))) (kept_chars_of (concat_of o))) f in
     IfOk-weaker r (λ cs. cs ≡ take (length text) (kept_chars_of (concat_of rest))) (λ cs. cs ≡ kept_chars_in at t) (λ cs g. g ∙ same)
-
-pub text_returned : {E : Type 0} → AreText → (r : Result (List Char) E) (at : Place) (t : List ℕ) → IfOk r (λ cs. cs ≡ kept_chars_in at t)
-    → IfOk r (λ cs. map (λ (x : Char). x.c) cs ≡ kept_before (before_end t) (from_end t))
-text_returned are_text r at t =
-    IfOk-weaker r (λ cs. cs ≡ kept_chars_in at t) (λ cs. map (λ (x : Char). x.c) cs ≡ kept_before (before_end t) (from_end t))
-    (λ cs e. ap (map (λ (x : Char). x.c)) e ∙ text_is are_text at t)

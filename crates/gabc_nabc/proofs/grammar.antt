@@ -1,4 +1,5 @@
 pub mod EmittedByRelations
+pub mod KeptByRelations
 pub mod LawsOfEvents
 pub mod ReadByRelations
 pub mod SnippetIsReadAgain

@@ -4,7 +4,6 @@ use Rattle.gabc_places.specs.declared.code.Finding.{Finding}
 use Rattle.gabc_places.specs.declared.place.Char.{Char}
 use Rattle.gabc_places.specs.StageLaw.{silence}
 use Rattle.gabc_patterns.specs.Kept.{Trims}
-use Rattle.gabc_patterns.specs.LongestItems.{IsViable}
 use Rattle.gabc_notes.specs.Events.{end_by_mark}
 use Rattle.gabc_notes.specs.FoundAt.{AreThoseFound}
 use Rattle.gabc_notes.specs.NotesEmitted.{AreIfKept}
@@ -12,12 +11,8 @@ use Rattle.gabc_notes.specs.declared.stage.NoteEnd.TheVariants.{Cut}
 use Rattle.gabc_notes.specs.declared.stage.NoteEvent.{NoteEvent}
 use Rattle.gabc_notes.specs.declared.stage.NoteEvent.TheVariants.{Found, Ended}
 use Rattle.gabc_nabc.specs.Table.{nabc}
-use Rattle.gabc_nabc.specs.Events.{is_character, is_end, bytes_in}
-use Rattle.gabc_nabc.specs.NabcRead.{IsKeptOf, IsFoundAfter, IsUnfinished}
-
--- the character c after the text is one of the snippet's, and kept
-abbrev pub IsKeptAfter : List ℕ → ℕ → Type 0
-IsKeptAfter t c = (is_character t c ≡ true) × ((kept : List ℕ) × IsKeptOf t kept × IsViable nabc (kept ++ c ∷ []))
+use Rattle.gabc_nabc.specs.Events.{is_end, bytes_in}
+use Rattle.gabc_nabc.specs.NabcRead.{IsKeptOf, IsKeptAfter, IsFoundAfter, IsUnfinished}
 
 -- Of the character x after the text, which does not end the snippet: that it is kept, where it is, and what is found at it.
 pub record AreOfCharacter (t : List ℕ) (x : Char) (events : List NoteEvent) : Type 0 where

@@ -1,5 +1,5 @@
 -- What `nabc_whole` says of a text, by relations over the whole of the snippet with which it begins.
-use Rattle.std.specs.Prelude.{◌≡◌, ◌⊎◌, ℕ, List, [], ◌∷◌, ◌++◌, ◌==◌, true, false, if◌then◌else◌, length, string_bytes, encode_utf8_all}
+use Rattle.std.specs.Prelude.{◌≡◌, ◌⊎◌, ℕ, List, [], ◌∷◌, ◌++◌, ◌==◌, true, false, chars, if◌then◌else◌, length, map, string_bytes, encode_utf8_all}
 use Rattle.gabc_places.specs.declared.code.Code.{Code}
 use Rattle.gabc_places.specs.declared.code.Code.TheVariants.{E3, E6, W7}
 use Rattle.gabc_places.specs.declared.code.Finding.{Finding}
@@ -19,6 +19,15 @@ use Rattle.gabc_nabc.specs.Events.{is_character, is_end, characters_behind}
 -- that is kept of the text: of its characters each one, exactly if what is kept before it, followed by it, is viable
 abbrev pub IsKeptOf : List ℕ → List ℕ → Type 0
 IsKeptOf t kept = Keeps nabc [] (characters_behind [] t) kept
+
+-- the character c after the text is one of the snippet's, and kept
+abbrev pub IsKeptAfter : List ℕ → ℕ → Type 0
+IsKeptAfter t c = (is_character t c ≡ true) × ((kept : List ℕ) × IsKeptOf t kept × IsViable nabc (kept ++ c ∷ []))
+
+-- those of the characters after the text that are kept, in order
+abbrev pub AreKept : List ℕ → List Char → List Char → Type 0
+AreKept t [] cs = cs ≡ []
+AreKept t (x ∷ xs) cs = (later : List Char) × AreKept (t ++ x.c ∷ []) xs later × ((IsKeptAfter t x.c × (cs ≡ x ∷ later)) ⊎ ((¬ IsKeptAfter t x.c) × (cs ≡ later)))
 
 -- The letter c ends a code that the table of names lacks. A code may begin after a snippet, and after the `!` that joins glyphs.
 pub record EndsUnknownCode (kept : List ℕ) (c : ℕ) : Type 0 where
@@ -75,3 +84,13 @@ pub record IsNabcRead (at : Place) (t : List ℕ) (r : SnippetRead) : Type 0 whe
   pub found : List Finding
   pub finds : AreFound [] (placed_characters_from at front) found
   pub is_read : IsRead at front kept found rest r
+
+-- The characters are those of the text that is read, each with its place: the first of those that are kept.
+pub record AreKeptChars (at : Place) (t : List ℕ) (cs : List Char) : Type 0 where
+  pub read : SnippetRead
+  pub is_read : IsNabcRead at t read
+  pub kept : List Char
+  pub are_kept : AreKept [] (placed_characters_from at is_read.front) kept
+  pub rest : List Char
+  pub cut : kept ≡ cs ++ rest
+  pub same : map (λ (x : Char). x.c) cs ≡ chars (string_bytes read.kept)

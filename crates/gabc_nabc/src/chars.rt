@@ -1,8 +1,8 @@
 //! The characters of a kept text, with their places in the source.
 
-ghost use Rattle.std.specs.Prelude.{◌≡◌, ◌+◌, ◌<◌, ◌^◌, length, map, IfOk};
+ghost use Rattle.std.specs.Prelude.{◌+◌, ◌<◌, ◌^◌, length, IfOk};
 ghost use Rattle.std.specs.Str.{chars};
-ghost use Rattle.gabc_nabc.specs.SnippetRead.{before_end, from_end, kept_before, kept_chars_in};
+ghost use Rattle.gabc_nabc.specs.NabcRead.{AreKeptChars};
 
 use crate::stage::NabcStage;
 use crate::whole::nabc_whole;
@@ -16,9 +16,7 @@ use std::alloc::{AllocError, Global};
 pub fn kept_chars(alloc: Global, body: &str, at: Place) -> Result<Sequence<Char>, AllocError>
     requires line { at.line + length body.now < 2 ^ 64 }
     requires column { at.column + length body.now < 2 ^ 64 }
-    ensures chars { IfOk result (λ cs. cs ≡ kept_chars_in at (chars body.now)) }
-    ensures text { let t = chars body.now in
-        IfOk result (λ cs. map (λ x. x.c) cs ≡ kept_before (before_end t) (from_end t)) }
+    ensures { IfOk result (λ cs. AreKeptChars at (chars body.now) cs) }
 {
     kept_characters_are_the_kept_text();
     let read = nabc_whole(alloc, body, at)?;

@@ -26,8 +26,8 @@ ghost use Rattle.gabc_nabc.specs.witness.DescriptorMachine.{events_left};
 ghost use Rattle.gabc_nabc.specs.declared.stage.NabcStage.{NabcStage};
 ghost use Rattle.gabc_nabc.specs.witness.Keeps.{comment_of, Begins, IsKeptAgain, Keeps, Takes};
 ghost use Rattle.gabc_nabc.specs.ReadAgain.{IsNabcReadAgain};
-ghost use Rattle.gabc_nabc.specs.SnippetRead.{before_end, from_end, kept_before, end_before, AreAtMostOne, IsComputed};
-ghost use Rattle.gabc_nabc.specs.NabcRead.{IsNabcRead};
+ghost use Rattle.gabc_nabc.specs.SnippetRead.{before_end, from_end, kept_before, kept_chars_in, end_before, AreAtMostOne, IsComputed};
+ghost use Rattle.gabc_nabc.specs.NabcRead.{AreKeptChars, IsNabcRead};
 ghost use Rattle.gabc_nabc.specs.NabcEmitted.{AreNabcEvents};
 ghost use Rattle.gabc_notes.specs.declared.snippet_read.SnippetRead.{SnippetRead};
 
@@ -82,6 +82,12 @@ pub fn what_is_read_is_computed()
 pub fn what_is_emitted_is_computed()
     ensures { (xs : List Char) (lists : List (List NoteEvent)) →
         AreNabcEvents xs lists ↔ lists ≡ nabc_events xs }
+{}
+
+/// Law: the characters of a kept text, by relations, are those that are computed.
+pub fn kept_characters_are_computed()
+    ensures { (at : Place) (t : List ℕ) (cs : List Char) →
+        AreKeptChars at t cs → cs ≡ kept_chars_in at t }
 {}
 
 /// A viable text is an NABC snippet with at most two characters more.

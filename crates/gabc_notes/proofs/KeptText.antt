@@ -40,9 +40,3 @@ chars_returned r split macros xs rest text e f =
     ap (λ (t : List ℕ). take (length t) (kept_chars_of (concat_of rest))) e
     ∙ ap (λ (o : List (List NoteEvent)). take (length (kept_by (stop_after split [] xs).mark (stop_after split [] xs).back)) (kept_chars_of (concat_of o))) f in
     IfOk-weaker r (λ cs. cs ≡ take (length text) (kept_chars_of (concat_of rest))) (λ cs. cs ≡ kept_chars_in split macros xs) (λ cs g. g ∙ same)
-
-pub text_returned : {E : Type 0} (r : Result (List Char) E) (split : Bool) (macros : ℕ) (xs : List Char) → IfOk r (λ cs. cs ≡ kept_chars_in split macros xs)
-    → IfOk r (λ cs. map (λ (x : Char). x.c) cs ≡ kept_by (stop_after split [] xs).mark (stop_after split [] xs).back)
-text_returned r split macros xs =
-    IfOk-weaker r (λ cs. cs ≡ kept_chars_in split macros xs) (λ cs. map (λ (x : Char). x.c) cs ≡ kept_by (stop_after split [] xs).mark (stop_after split [] xs).back)
-    (λ cs e. ap (map (λ (x : Char). x.c)) e ∙ text_is split macros xs)

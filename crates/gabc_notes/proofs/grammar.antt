@@ -2,6 +2,7 @@ pub mod CharactersByRelations
 pub mod EmittedByRelations
 pub mod FindingsByRelations
 pub mod InsideRawIsAnOpenBracket
+pub mod KeptByRelations
 pub mod LawsOfEventsByPoint
 pub mod LawsOfKeptTexts
 pub mod OpenBracketByLastItem

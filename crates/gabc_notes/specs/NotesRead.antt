@@ -1,6 +1,6 @@
 -- What `snippet_whole` says of a text, by relations over the whole of the snippet with which it begins. Characters are listed with the
 -- nearest first, each with whether it lies in a comment.
-use Rattle.std.specs.Prelude.{◌≡◌, ◌⊎◌, ◌↔◌, ℕ, List, [], ◌∷◌, ◌++◌, ◌==◌, Bool, true, false, IsTrue, codes, if◌then◌else◌, Some, map, reverse, sum_by, string_bytes, encode_utf8_all}
+use Rattle.std.specs.Prelude.{◌≡◌, ◌⊎◌, ◌↔◌, ℕ, List, [], ◌∷◌, ◌++◌, ◌==◌, Bool, true, false, IsTrue, codes, chars, if◌then◌else◌, Some, map, reverse, sum_by, string_bytes, encode_utf8_all}
 use Rattle.std.specs.Char.{len_utf8}
 use Rattle.std.specs.List.{list_any}
 use Rattle.gabc_places.specs.declared.code.Code.{Code}
@@ -57,6 +57,13 @@ AreMarked (m ∷ back) = (IsTrue m.1 ↔ IsInComment (m ∷ back)) × AreMarked 
 abbrev pub IsKeptWith : List Marked → List ℕ → Type 0
 IsKeptWith [] t = ⊥
 IsKeptWith (m ∷ back) t = (m.1 ≡ false) × ((kept : List ℕ) × IsKeptOf back kept × (t ≡ kept ++ m.0.c ∷ []) × IsViable gabc t)
+
+-- those of them that are kept, in order
+abbrev pub AreKept : List Marked → List Char → Type 0
+AreKept [] cs = cs ≡ []
+AreKept (m ∷ back) cs =
+    (before : List Char) × AreKept back before
+    × ((((t : List ℕ) × IsKeptWith (m ∷ back) t) × (cs ≡ before ++ m.0 ∷ [])) ⊎ ((¬ ((t : List ℕ) × IsKeptWith (m ∷ back) t)) × (cs ≡ before)))
 
 -- ---- items
 
@@ -143,3 +150,13 @@ pub record IsSnippetRead (at : Place) (split : Bool) (macros : ℕ) (text : List
   pub found : List Finding
   pub finds : AreFound macros back found
   pub is_read : IsRead split back kept found rest r
+
+-- The characters are those of the text that is read, each with its place: the first of those that are kept.
+pub record AreKeptChars (at : Place) (split : Bool) (macros : ℕ) (text : List ℕ) (cs : List Char) : Type 0 where
+  pub read : SnippetRead
+  pub is_read : IsSnippetRead at split macros text read
+  pub kept : List Char
+  pub are_kept : AreKept is_read.back kept
+  pub rest : List Char
+  pub cut : kept ≡ cs ++ rest
+  pub same : map (λ (x : Char). x.c) cs ≡ chars (string_bytes read.kept)

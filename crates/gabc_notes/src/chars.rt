@@ -1,10 +1,11 @@
 //! The characters of a kept text, with their places in the source.
 
-ghost use Rattle.std.specs.Prelude.{◌≡◌, ◌+◌, ◌≤◌, ◌<◌, ◌^◌, ◌++◌, [], ◌∷◌, length, map, take, IfOk, OnOk};
+ghost use Rattle.std.specs.Prelude.{◌≡◌, ◌+◌, ◌≤◌, ◌<◌, ◌^◌, ◌++◌, [], ◌∷◌, length, take, IfOk, OnOk};
 ghost use Rattle.std.specs.Str.{chars};
 ghost use Rattle.gabc_places.specs.StageLaw.{concat_of};
 ghost use Rattle.gabc_places.specs.Place.{placed_characters_from};
-ghost use Rattle.gabc_notes.specs.SnippetRead.{kept_chars_of, kept_chars_in, stop_after, kept_by};
+ghost use Rattle.gabc_notes.specs.SnippetRead.{kept_chars_of};
+ghost use Rattle.gabc_notes.specs.NotesRead.{AreKeptChars};
 
 use crate::stage::{NoteEvent, NoteStage};
 use crate::whole::snippet_whole;
@@ -96,10 +97,7 @@ pub fn kept_chars(
 ) -> Result<Sequence<Char>, AllocError>
     requires line { at.line + length body.now < 2 ^ 64 }
     requires column { at.column + length body.now < 2 ^ 64 }
-    ensures chars { IfOk result
-        (λ cs. cs ≡ kept_chars_in split macros (placed_characters_from at (chars body.now))) }
-    ensures text { let s = stop_after split [] (placed_characters_from at (chars body.now)) in
-        IfOk result (λ cs. map (λ x. x.c) cs ≡ kept_by s.mark s.back) }
+    ensures { IfOk result (λ cs. AreKeptChars at split macros (chars body.now) cs) }
 {
     let read = snippet_whole(alloc, body, at, split, macros)?;
     let stage = NoteStage::new(split, macros);

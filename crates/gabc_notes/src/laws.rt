@@ -14,8 +14,8 @@ ghost use Rattle.gabc_patterns.specs.Kept.{Keeps as KeepsOf, Trims};
 ghost use Rattle.gabc_notes.specs.Table.{gabc};
 ghost use Rattle.gabc_notes.specs.Items.{IsKept, AreItemsOf, MakeUp, items_of};
 ghost use Rattle.gabc_notes.specs.Events.{in_raw, Point, outside_comments, with_comments, is_comment, is_over, kept, bytes_of, events_at, cut_events, note_events};
-ghost use Rattle.gabc_notes.specs.SnippetRead.{kept_of, kept_chars_of, findings_of, ends_of, stop_after, kept_by, end_by, IsComputed};
-ghost use Rattle.gabc_notes.specs.NotesRead.{IsSnippetRead};
+ghost use Rattle.gabc_notes.specs.SnippetRead.{kept_of, kept_chars_of, kept_chars_in, findings_of, ends_of, stop_after, kept_by, end_by, IsComputed};
+ghost use Rattle.gabc_notes.specs.NotesRead.{AreKeptChars, IsSnippetRead};
 ghost use Rattle.gabc_notes.specs.NotesEmitted.{AreNoteEvents};
 ghost use Rattle.gabc_notes.specs.declared.snippet_read.SnippetRead.{SnippetRead};
 ghost use Rattle.gabc_places.specs.Place.{place_past, placed_characters_from};
@@ -93,6 +93,13 @@ pub fn what_is_read_is_computed()
 pub fn what_is_emitted_is_computed()
     ensures { (split : Bool) (macros : ℕ) (xs : List Char) (lists : List (List NoteEvent)) →
         AreNoteEvents split macros xs lists ↔ lists ≡ note_events split macros xs }
+{}
+
+/// Law: the characters of a kept text, by relations, are those that are computed.
+pub fn kept_characters_are_computed()
+    ensures { (at : Place) (split : Bool) (macros : ℕ) (t : List ℕ) (cs : List Char) →
+        AreKeptChars at split macros t cs →
+        cs ≡ kept_chars_in split macros (placed_characters_from at t) }
 {}
 
 /// A viable text is a snippet with at most one character more.

@@ -19,18 +19,17 @@ use Rattle.gabc_notes.specs.declared.stage.NoteEvent.TheVariants.{Kept, Found, E
 use Rattle.gabc_notes.proofs.FoundOnce.{found_once, kept_once}
 use Rattle.gabc_nabc.specs.Table.{nabc}
 use Rattle.gabc_nabc.specs.Events.{is_character, is_end, has_end, kept_of, first_of, is_missing, bytes_in, end_events, character_events, events_at, cut_events, nabc_events_behind, nabc_events}
-use Rattle.gabc_nabc.specs.NabcRead.{IsFoundAfter}
-use Rattle.gabc_nabc.specs.NabcEmitted.{IsKeptAfter, AreOfCharacter, AreOfMark, AreEventsAfter, AreNabcEvents}
+use Rattle.gabc_nabc.specs.NabcRead.{IsKeptAfter, IsFoundAfter}
+use Rattle.gabc_nabc.specs.NabcEmitted.{AreOfCharacter, AreOfMark, AreEventsAfter, AreNabcEvents}
 use Rattle.gabc_nabc.proofs.grammar.ReadByRelations.{kept_is, kept_keeps, found_here, one_code, unfinished_at, unfinished_only}
 use Rattle.gabc_nabc.proofs.machine.TextWithACharacterMore.{end_more}
 
 -- ---- a character that does not end the snippet
 
-kept_event : List ℕ → Char → List NoteEvent
+abbrev pub kept_event : List ℕ → Char → List NoteEvent
 kept_event t x = cond (is_character t x.c && is_viable nabc (kept_of t ++ x.c ∷ [])) (Kept x ∷ []) []
 
-kept_here : (t : List ℕ) (x : Char) → AreIfKept (IsKeptAfter t x.c) x (kept_event t x)
-unfolding kept_event
+pub kept_here : (t : List ℕ) (x : Char) → AreIfKept (IsKeptAfter t x.c) x (kept_event t x)
 kept_here t x = go (is_character t x.c) refl (is_viable nabc (kept_of t ++ x.c ∷ [])) refl
   where
     go : (a : Bool) → is_character t x.c ≡ a → (b : Bool) → is_viable nabc (kept_of t ++ x.c ∷ []) ≡ b → AreIfKept (IsKeptAfter t x.c) x (cond (a && b) (Kept x ∷ []) [])
@@ -39,8 +38,7 @@ kept_here t x = go (is_character t x.c) refl (is_viable nabc (kept_of t ++ x.c �
     go true e true f = inl ((e, (kept_of t, kept_keeps t, viable_from nabc refl (kept_of t ++ x.c ∷ []) f)), refl)
 
 -- that it is kept, and then what is found
-parted : (t : List ℕ) (x : Char) → has_end t ≡ false → is_end t x.c ≡ false → events_at t x ≡ kept_event t x ++ map Found (findings_of (events_at t x))
-unfolding kept_event
+pub parted : (t : List ℕ) (x : Char) → has_end t ≡ false → is_end t x.c ≡ false → events_at t x ≡ kept_event t x ++ map Found (findings_of (events_at t x))
 parted t x o e =
     same ∙ (go (is_character t x.c) (is_viable nabc (kept_of t ++ x.c ∷ [])) (is_missing (first_of (kept_of t)) x.c)
     ∙ ap (λ (es : List NoteEvent). cond (is_character t x.c && is_viable nabc (kept_of t ++ x.c ∷ [])) (Kept x ∷ []) [] ++ map Found (findings_of es)) (sym same))
@@ -77,7 +75,7 @@ of_character_only t x events o h =
 
 -- ---- the mark that ends the snippet
 
-ended : (t : List ℕ) (x : Char) → end_events (kept_of t) x ≡ map Found (findings_of (end_events (kept_of t) x)) ++ Ended (end_by_mark x.c) (bytes_in (trim nabc (kept_of t))) ∷ []
+pub ended : (t : List ℕ) (x : Char) → end_events (kept_of t) x ≡ map Found (findings_of (end_events (kept_of t) x)) ++ Ended (end_by_mark x.c) (bytes_in (trim nabc (kept_of t))) ∷ []
 ended t x = go (is_snippet nabc (kept_of t))
   where
     at : Bool → List NoteEvent
@@ -108,12 +106,12 @@ of_mark_only t x events h =
 
 -- ---- both ways
 
-at_mark : (t : List ℕ) (x : Char) → has_end t ≡ false → is_end t x.c ≡ true → events_at t x ≡ end_events (kept_of t) x
+pub at_mark : (t : List ℕ) (x : Char) → has_end t ≡ false → is_end t x.c ≡ true → events_at t x ≡ end_events (kept_of t) x
 at_mark t x o e =
     ap (λ (b : Bool). cond b [] (cond (is_end t x.c) (end_events (kept_of t) x) (cond (is_character t x.c) (character_events (kept_of t) x) []))) o
     ∙ ap (λ (b : Bool). cond b (end_events (kept_of t) x) (cond (is_character t x.c) (character_events (kept_of t) x) [])) e
 
-more : (t : List ℕ) (c : ℕ) (b : Bool) → has_end t ≡ false → is_end t c ≡ b → has_end (t ++ c ∷ []) ≡ b
+pub more : (t : List ℕ) (c : ℕ) (b : Bool) → has_end t ≡ false → is_end t c ≡ b → has_end (t ++ c ∷ []) ≡ b
 more t c b o e = end_more t c ∙ (ap (λ (a : Bool). a || is_end t c) o ∙ e)
 
 -- after the end nothing
@@ -123,7 +121,7 @@ over t (x ∷ xs) o =
     ap (λ (b : Bool). cond b [] (cond (is_end t x.c) (end_events (kept_of t) x) (cond (is_character t x.c) (character_events (kept_of t) x) [])) ∷ nabc_events_behind (t ++ x.c ∷ []) xs) o
     ∙ ap (λ (l : List (List NoteEvent)). [] ∷ l) (over (t ++ x.c ∷ []) xs (end_more t x.c ∙ ap (λ (a : Bool). a || is_end t x.c) o))
 
-cut_is : (t : List ℕ) → has_end t ≡ false → cut_events t ≡ Ended (Cut (record { line = 0; column = 0 })) (bytes_in (kept_of t)) ∷ []
+pub cut_is : (t : List ℕ) → has_end t ≡ false → cut_events t ≡ Ended (Cut (record { line = 0; column = 0 })) (bytes_in (kept_of t)) ∷ []
 cut_is t o = ap (λ (b : Bool). cond b [] (Ended (Cut (record { line = 0; column = 0 })) (bytes_in (kept_of t)) ∷ [])) o
 
 events_by_relations : (t : List ℕ) (xs : List Char) → has_end t ≡ false → AreEventsAfter t xs (nabc_events_behind t xs)

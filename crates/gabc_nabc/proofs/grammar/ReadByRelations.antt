@@ -342,16 +342,21 @@ read_by_relations at t r h =
       how_is = w;
     }
 
+-- what stands before the mark is what is read
+pub front_is : (at : Place) (t : List ℕ) (r : SnippetRead) (h : IsNabcRead at t r) → before_end t ≡ h.front
+unfolding StopsAt
+front_is at t r h = ap before_end h.cut ∙ before_is [] h.front h.rest (none_end [] h.front h.unended) (stops h.rest h.is_read)
+  where
+    stops : (rest : List ℕ) → IsRead at h.front h.kept h.found rest r → StopsAt h.front rest
+    stops [] i = tt
+    stops (c ∷ rest) i = i.mark
+
 pub relations_are_computed : (at : Place) (t : List ℕ) (r : SnippetRead) → IsNabcRead at t r → IsComputed at t r
 unfolding endings StopsAt
 relations_are_computed at t r h = go h.rest h.cut h.is_read
   where
     kept : h.kept ≡ kept_of h.front
     kept = kept_is h.front h.kept h.keeps
-
-    stops : (rest : List ℕ) → IsRead at h.front h.kept h.found rest r → StopsAt h.front rest
-    stops [] i = tt
-    stops (c ∷ rest) i = i.mark
 
     at_end : (rest : List ℕ) → IsRead at h.front h.kept h.found rest r → r.findings ≡ h.found ++ endings h.front rest (place_past at h.front)
     at_end [] i = i.1 ∙ sym (append-nil h.found)
@@ -372,7 +377,7 @@ relations_are_computed at t r h = go h.rest h.cut h.is_read
 
     go : (rest : List ℕ) → t ≡ h.front ++ rest → IsRead at h.front h.kept h.found rest r → IsComputed at t r
     go rest cut i =
-        let front : before_end t ≡ h.front = ap before_end cut ∙ before_is [] h.front rest (none_end [] h.front h.unended) (stops rest i) in
+        let front : before_end t ≡ h.front = front_is at t r h in
         let later : from_end t ≡ rest = rest_is t h.front rest front cut in
         let s = split [] t at refl in
         let same : s.before ≡ h.front = sym s.is_before ∙ front in

@@ -28,11 +28,10 @@ use Rattle.gabc_notes.proofs.machine.OneCharacterMore.{point}
 
 -- ---- a character that does not end the snippet
 
-kept_event : List Char → Char → List NoteEvent
+abbrev pub kept_event : List Char → Char → List NoteEvent
 kept_event back x = cond (is_kept (point back x)) (Kept x ∷ []) []
 
 kept_here : (back : List Char) (x : Char) → AreIfKept ((t : List ℕ) × IsKeptWith (marks (x ∷ back)) t) x (kept_event back x)
-unfolding kept_event
 kept_here back x = go (is_kept (point back x)) refl
   where
     go : (b : Bool) → is_kept (point back x) ≡ b → AreIfKept ((t : List ℕ) × IsKeptWith (marks (x ∷ back)) t) x (cond b (Kept x ∷ []) [])
@@ -40,9 +39,8 @@ kept_here back x = go (is_kept (point back x)) refl
     go false e = inr ((λ h. let f = (kept_with_from back x h.0 h.1).0 in absurd (cc)), refl)
 
 -- that it is kept, and then what is found
-parted : (split : Bool) (macros : ℕ) (back : List Char) (x : Char) → is_over split back ≡ false → is_end split (point back x) ≡ false
+pub parted : (split : Bool) (macros : ℕ) (back : List Char) (x : Char) → is_over split back ≡ false → is_end split (point back x) ≡ false
     → events_at split macros (point back x) ≡ kept_event back x ++ map Found (findings_of (events_at split macros (point back x)))
-unfolding kept_event
 parted split macros back x o e =
     same ∙ (go (is_comment (point back x)) (is_viable gabc (kept_with (point back x))) (is_unpaired (point back x)) (is_missing macros (macro_of (item_at (point back x))))
     ∙ ap (λ (es : List NoteEvent). cond (is_kept (point back x)) (Kept x ∷ []) [] ++ map Found (findings_of es)) (sym same))
@@ -85,7 +83,7 @@ of_character_only split macros back x events o e h =
 
 -- ---- the mark that ends the snippet
 
-of_mark : (split : Bool) (back : List Char) (x : Char) → is_end split (point back x) ≡ true → AreOfMark split (marks back) x (at_end (point back x))
+pub of_mark : (split : Bool) (back : List Char) (x : Char) → is_end split (point back x) ≡ true → AreOfMark split (marks back) x (at_end (point back x))
 of_mark split back x e = record {
   mark = end_to split back x e;
   kept = kept back;

@@ -310,6 +310,27 @@ read_by_relations at split macros t r h =
       how_is = w ∙ (ends_as (index_of back) x.c ∙ ap (λ (n : ℕ). cond (x.c == 124) (snippet_ending.Next n) (snippet_ending.Close n)) (sym (bytes_marks back)));
     }
 
+-- the snippet stops where the rest begins
+stops : (split : Bool) (back rest : List Char) (text : List ℕ) (found : List Finding) (r : SnippetRead) → IsRead split (marks back) text found rest r → StopsAt split back rest
+stops split back [] text found r i = tt
+stops split back (x ∷ rest) text found r i = end_from split back x i.mark
+
+stop_read : (split : Bool) (xs back rest : List Char) → xs ≡ reverse back ++ rest → is_over split back ≡ false → StopsAt split back rest
+    → stop_after split [] xs ≡ record { back = back; mark = mark_of rest }
+stop_read split xs back rest cut o m =
+    let twice : reverse_aux (reverse back) [] ≡ back = reverse-reverse back in
+    ap (stop_after split []) cut
+    ∙ (stop_is split [] (reverse back) rest (ap (is_over split) twice ∙ o) (subst (λ (u : List Char). StopsAt split u rest) (sym twice) m)
+    ∙ ap (λ (u : List Char). record { back = u; mark = mark_of rest }) twice)
+
+pub back_is : (at : Place) (split : Bool) (macros : ℕ) (t : List ℕ) (r : SnippetRead) (h : IsSnippetRead at split macros t r) → h.back ≡ marks (stop_after split [] (placed_characters_from at t)).back
+back_is at split macros t r h =
+    let e = marked_only h.back h.marked in
+    let back : List Char = chars_of h.back in
+    let over = none_over split back (subst (λ (u : List Marked). (behind before : List Marked) (m : Marked) → u ≡ behind ++ m ∷ before → ¬ IsEnd split before m.0) e h.unended) in
+    let mark = stops split back h.rest h.kept h.found r (subst (λ (u : List Marked). IsRead split u h.kept h.found h.rest r) e h.is_read) in
+    e ∙ ap marks (sym (ap (λ (p : SnippetStop). p.back) (stop_read split (placed_characters_from at t) back h.rest h.cut over mark)))
+
 -- a reading whose characters are marked by what is computed
 computed : (at : Place) (split : Bool) (macros : ℕ) (t : List ℕ) (r : SnippetRead) (back rest : List Char) (text : List ℕ) (found : List Finding)
     → placed_characters_from at t ≡ reverse back ++ rest → ((behind before : List Marked) (m : Marked) → marks back ≡ behind ++ m ∷ before → ¬ IsEnd split before m.0)
@@ -317,12 +338,7 @@ computed : (at : Place) (split : Bool) (macros : ℕ) (t : List ℕ) (r : Snippe
 unfolding note_events marks
 computed at split macros t r back rest text found cut unended keeps finds read =
     let s = split_on split macros [] (placed_characters_from at t) [] refl refl in
-    let twice : reverse_aux (reverse back) [] ≡ back = reverse-reverse back in
-    let over : is_over split (reverse_aux (reverse back) []) ≡ false = ap (is_over split) twice ∙ none_over split back unended in
-    let stop : stop_after split [] (placed_characters_from at t) ≡ record { back = back; mark = mark_of rest } =
-    ap (stop_after split []) cut
-    ∙ (stop_is split [] (reverse back) rest over (subst (λ (u : List Char). StopsAt split u rest) (sym twice) (stops rest read))
-    ∙ ap (λ (u : List Char). record { back = u; mark = mark_of rest }) twice) in
+    let stop = stop_read split (placed_characters_from at t) back rest cut (none_over split back unended) (stops split back rest text found r read) in
     let same : s.after ≡ back = ap (λ (p : SnippetStop). p.back) (sym s.stop ∙ stop) in
     let later : s.rest ≡ rest = rest_is (reverse s.after) (reverse back) s.rest rest (ap reverse same) (sym (aux_append s.after s.rest) ∙ (sym s.cut ∙ cut)) in
     let all : found ≡ s.found = one_found macros back found s.found finds (subst (λ (u : List Char). AreFound macros (marks u) s.found) same s.finds) in
@@ -335,10 +351,6 @@ computed at split macros t r back rest text found cut unended keeps finds read =
   where
     kept_same : text ≡ kept back
     kept_same = kept_only back text keeps
-
-    stops : (rest : List Char) → IsRead split (marks back) text found rest r → StopsAt split back rest
-    stops [] i = tt
-    stops (x ∷ rest) i = end_from split back x i.mark
 
     rest_is : (a b c d : List Char) → a ≡ b → a ++ c ≡ b ++ d → c ≡ d
     rest_is a b c d e f =
