@@ -77,8 +77,8 @@ pub fn what_is_read_is_computed()
         IsNabcRead at t read ↔ IsComputed at t read }
 {}
 
-/// Law: what is emitted of characters, by relations over the whole of the text before each, is what is computed a character at a
-/// time.
+/// Law: what is emitted of characters, by relations over the whole of the text before each, is
+/// what is computed a character at a time.
 pub fn what_is_emitted_is_computed()
     ensures { (xs : List Char) (lists : List (List NoteEvent)) →
         AreNabcEvents xs lists ↔ lists ≡ nabc_events xs }

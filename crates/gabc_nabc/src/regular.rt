@@ -1,4 +1,4 @@
-//! How far a text is a regular NABC snippet: one that is kept as it stands, and in which nothing is found.
+//! How far a text is a regular NABC snippet: it is kept as it stands, and nothing is found in it.
 
 ghost use Rattle.std.specs.Prelude.{◌≡◌};
 ghost use Rattle.gabc_patterns.specs.LongestPrefix.{IsLongestPrefix};
@@ -43,9 +43,9 @@ impl RegularState {
     }
 }
 
-/// Returns how many bytes of `text` its longest prefix has that is a regular snippet of NABC: in front
-/// of the `)` or `|` that ends it, each of its characters is kept and nothing is found (GregorioRef,
-/// the NABC reference). Such a prefix is the empty one, so there is one.
+/// Returns how many bytes of `text` its longest prefix has that is a regular snippet of NABC: in
+/// front of the `)` or `|` that ends it, each of its characters is kept and nothing is found
+/// (GregorioRef, the NABC reference). The empty one is such a prefix.
 pub fn regular_nabc(text: &str) -> usize
     ensures { IsLongestPrefix IsRegular text.now result }
 {

@@ -88,8 +88,8 @@ pub fn what_is_read_is_computed()
         IsSnippetRead at split macros t read ↔ IsComputed at split macros t read }
 {}
 
-/// Law: what is emitted of characters, by relations over the whole of what stands before each, is what is computed a character at
-/// a time.
+/// Law: what is emitted of characters, by relations over the whole of what stands before each, is
+/// what is computed a character at a time.
 pub fn what_is_emitted_is_computed()
     ensures { (split : Bool) (macros : ℕ) (xs : List Char) (lists : List (List NoteEvent)) →
         AreNoteEvents split macros xs lists ↔ lists ≡ note_events split macros xs }

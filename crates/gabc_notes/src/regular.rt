@@ -1,4 +1,4 @@
-//! How far a text is a regular snippet: one that is kept as it stands, and in which nothing is found.
+//! How far a text is a regular snippet: it is kept as it stands, and nothing is found in it.
 
 ghost use Rattle.std.specs.Prelude.{◌≡◌};
 ghost use Rattle.gabc_patterns.specs.LongestPrefix.{IsLongestPrefix};
@@ -32,8 +32,8 @@ impl RegularState {
         }
     }
 
-    /// Returns where the reading stands after `c`; `None` where `c` is not kept or something is found
-    /// at it.
+    /// Returns where the reading stands after `c`; `None` where `c` is not kept or something is
+    /// found at it.
     fn after(self, c: char) -> Option<RegularState>
         ensures { result ≡ regular_after self c }
     {
@@ -68,9 +68,9 @@ impl RegularState {
     }
 }
 
-/// Returns how many bytes of `text` its longest prefix has that is a regular snippet: in front of the
-/// `)` or `|` that ends it, each of its characters is kept and nothing is found, whatever macros are
-/// defined (GregorioRef, "Notation — Note Syntax"). Such a prefix is the empty one, so there is one.
+/// Returns how many bytes of `text` its longest prefix has that is a regular snippet: in front of
+/// the `)` or `|` that ends it, each of its characters is kept and nothing is found, whatever
+/// macros are defined (GregorioRef, "Notation — Note Syntax"). The empty one is such a prefix.
 pub fn regular_notes(text: &str) -> usize
     ensures { IsLongestPrefix IsRegular text.now result }
 {

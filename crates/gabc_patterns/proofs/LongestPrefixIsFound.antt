@@ -10,7 +10,7 @@ use Rattle.gabc_patterns.specs.LongestPrefix.{IsLongestPrefix}
 use Rattle.gabc_patterns.proofs.BothOfTwoTests.{and_true, append_none}
 use Rattle.gabc_patterns.proofs.LongestPrefixIsOne.{compare}
 
--- a text that begins another one ends before a character of it, or goes on behind that
+-- a text that begins another one ends before a character of it, or goes on after that
 begins_or_goes_on : (t rest y : List ℕ) (c : ℕ) (m : List ℕ) → t ++ rest ≡ y ++ c ∷ m → ((q : List ℕ) × (y ≡ t ++ q)) ⊎ ((u : List ℕ) × (t ≡ y ++ c ∷ u) × (u ++ rest ≡ m))
 begins_or_goes_on t rest y c m e = by (compare t y rest (c ∷ m) e)
   where

@@ -3,7 +3,7 @@ use Rattle.std.specs.Prelude.{◌≡◌, ◌≤◌, ℕ, List, ◌++◌, length,
 use Rattle.std.specs.Str.{chars}
 use Rattle.std.specs.String.Boundary.{IsSplitPoint}
 
--- So many bytes the longest prefix of the text has of which this holds.
+-- The longest prefix of the text of which this holds has n bytes.
 pub record IsLongestPrefix (P : List ℕ → Type 0) (text : List ℕ) (n : ℕ) : Type 0 where
   pub within : IsSplitPoint text n
   pub is : P (chars (take n text))

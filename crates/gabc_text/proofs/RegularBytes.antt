@@ -294,7 +294,7 @@ module _ (l : List ℕ) (a b : ℕ) (first : a ≡ get_or l 0 0) (second : b ≡
       three_at l (ap₂ (λ (x y : ℕ). is_first_of_three x && (is_continuation y && is_continuation (get_or l 2 0))) (sym first) (sym second)
       ∙ ap (λ (z : ℕ). is_first_of_three a && (is_continuation b && is_continuation z)) (sym third) ∙ h)
 
--- all that is behind so many bytes
+-- all that is after n bytes
 pub behind_is : (l : List ℕ) (n : ℕ) → take (length l - n) (drop n l) ≡ drop n l
 behind_is l n = take_all (length l - n) (drop n l) (omega (arith, length-drop n l))
 

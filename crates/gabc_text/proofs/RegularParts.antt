@@ -158,7 +158,7 @@ enclosed_is l a b n x y e f g h some less r = record {
   parts = between_is l a b n x y e f g h;
 }
 
--- ---- a part behind others
+-- ---- a part after others
 
 pub more_begun : (b : Before) (ss : Styles) (w : Bool) (bs more : List ℕ) → IsBegun b bs → IsPart ss w more → AreApart (listed_styles b.styles) (listed_styles ss)
     → IsBegun (record { styles = ss; word = b.word || w; centre = b.centre }) (bs ++ more)

@@ -64,7 +64,7 @@ abbrev pub Brings : EngineState → List ℕ → EngineState → Type 0
 Brings old bytes new =
     (more : List ℕ) (ending : SourceEnding) → with_waiting old (streams_left old ending (bytes ++ more)) ≡ with_waiting new (streams_left new ending more)
 
--- It took so many bytes from the front of a piece, at least one where nothing waited. What they bring waits, and nothing that is known is kept back but the held
+-- It took `count` bytes from the front of a piece, at least one where nothing waited. What they bring waits, and nothing that is known is kept back but the held
 -- syllable. Where the run was over, all bytes are taken and nothing changes; where it is not over, no fault is known.
 pub record TakesFront (old : EngineState) (piece : List ℕ) (count : ℕ) (new : EngineState) : Type 0 where
   pub within : count ≤ length piece

@@ -10,7 +10,7 @@ use gabc_places::Limits;
 use gregorio::{Engine, Format};
 use std::alloc::{AllocError, Global};
 
-/// What is known behind a byte: how many bytes of the output and of the messages, and whether the
+/// What is known after a byte: how many bytes of the output and of the messages, and whether the
 /// run goes on.
 #[derive(Clone, Copy, PartialEq, Eq)]
 struct Point {
@@ -39,7 +39,7 @@ impl Fed {
         Ok(())
     }
 
-    /// Takes what waits behind a byte.
+    /// Takes what waits after a byte.
     fn take_point(&mut self, engine: &mut Engine) -> Result<(), AllocError>
         ensures { OnOk result (NothingWaits engine.new) }
     {
@@ -52,7 +52,7 @@ impl Fed {
         Ok(())
     }
 
-    /// Returns whether so many bytes can be all that are taken when a run goes on no more: it went
+    /// Returns whether this many bytes can be all that are taken when a run goes on no more: it went
     /// on before the last of them.
     fn stops_behind(&self, count: usize) -> bool {
         match self.points.as_slice().get(count.saturating_sub(2)) {
@@ -101,8 +101,8 @@ fn front(bytes: &[u8], most: usize) -> &[u8]
     &bytes[..most.min(bytes.len())]
 }
 
-/// Fills `engine` from `piece`, which stands behind `count` bytes. Returns how many bytes it took,
-/// or none where it went on behind the byte that stops the run.
+/// Fills `engine` from `piece`, which stands after `count` bytes. Returns how many bytes it took,
+/// or none where it went on after the byte that stops the run.
 fn fill_piece(engine: &mut Engine, piece: &[u8], count: usize, fed: &Fed) -> Option<usize>
     ensures within { IfSome result (λ taken. taken ≤ length piece.now) }
     ensures some { NothingWaits engine.old → 0 < length piece.now →
@@ -117,9 +117,9 @@ fn fill_piece(engine: &mut Engine, piece: &[u8], count: usize, fed: &Fed) -> Opt
     Some(taken)
 }
 
-/// Fills `engine` from two pieces of `most` bytes, of which the first stands behind `count` bytes.
+/// Fills `engine` from two pieces of `most` bytes, of which the first stands after `count` bytes.
 /// What the first brings waits when the second comes. Returns how many bytes it took, or none where
-/// it went on behind the byte that stops the run.
+/// it went on after the byte that stops the run.
 fn fill_twice(
     engine: &mut Engine,
     bytes: &[u8],

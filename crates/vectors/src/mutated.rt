@@ -74,7 +74,7 @@ impl Numbers {
     }
 }
 
-/// Returns the number of a place in `score` that is somewhat before `at` or behind it.
+/// Returns the number of a place in `score` that is somewhat before `at` or after it.
 fn place_near(numbers: &mut Numbers, score: &[u8], at: usize) -> usize
     ensures { result ≤ length score.now }
 {

@@ -43,7 +43,7 @@ use Rattle.gabc_score.proofs.building.PartsKeepOn.{close_ends, next_ends, none_c
 use Rattle.gabc_score.proofs.building.PartsOfKeptText.{Grows, IsMarked, end_marks, ends_text, notes_ended, notes_said, of_notes, said_gathered, snippet_grows, text_goes_on, text_grows}
 use Rattle.gabc_score.proofs.within_limits.KeptSoFar.{prefix_few}
 
--- What is kept with a character, behind whatever was gathered.
+-- What is kept with a character, after whatever was gathered.
 pub record KeepsOne (lines macros : ℕ) (x : Char) (before after : BodyPart) (now : List BodyEvent) : Type 0 where
   pub few : (p : KeptParts) → PartKeeps lines macros before p → (g : Gathered) → length (with_all g now).builder.kept ≤ length g.builder.kept + len_utf8 x.c
   pub none : (p : KeptParts) → PartKeeps lines macros before p → is_in_comment after ≡ true → (g : Gathered) → (with_all g now).builder.kept ≡ g.builder.kept

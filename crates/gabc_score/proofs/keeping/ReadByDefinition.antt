@@ -96,7 +96,7 @@ module _ (reads : FromBeginning) (steps : Steps) (lines macros : ℕ) where
         ∙ ap (λ (n : ℕ). concat_of (drop n (r.lists ++ last ∷ []))) (sym r.each)
         ∙ ap concat_of (drop-append_seam r.lists (last ∷ []))
 
-    -- with a `%` behind it
+    -- with a `%` after it
     abbrev pub percent : Char
     percent = record { c = 37; place = place_past first_place t }
 

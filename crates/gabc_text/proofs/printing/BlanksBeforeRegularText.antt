@@ -164,7 +164,7 @@ front_space (b ∷ g) before h = front_space g (gap b ∷ before) refl
 tail : {xs ys : List ℕ} → 32 ∷ xs ≡ 32 ∷ ys → xs ≡ ys
 tail e = cc
 
--- what is kept behind an LF
+-- what is kept after an LF
 behind_line_feed : (t : List ℕ) → IsRegularText t → along kept_at (gap 10 ∷ []) (tokens t) ≡ t
 behind_line_feed t r = by (view t) (view_sound t) (ap (λ (v : ViewFacts). v.word_start) (sym (facts_is t)) ∙ r.no_start) (own_tokens t r) (own_form t r)
   where

@@ -190,7 +190,7 @@ silent_translated : (ks before : List Token) → AllSilent ks → has_translatio
 silent_translated [] before h = refl
 silent_translated (k ∷ ks) before h = silent_translated ks (k ∷ before) h.1 ∙ rw (h.0).no_translation refl
 
--- what tokens leave, behind which these styles are open
+-- what tokens leave, after which these styles are open
 record Aside (before ks : List Token) (new : List Style) : Type 0 where
   none : NoneAside before ks
   opens : (s : Style) → is_open s (push ks before) ≡ member s new
@@ -356,7 +356,7 @@ not_begun (k ∷ ks) before h e = by (is_begin k.kind) refl (rw h at e) (not_beg
 
 -- ---- of a view
 
--- behind its word start
+-- after its word start
 record Start (b : Bool) : Type 0 where
   none : NoneAside [] (word_break b)
   opens : (s : Style) → is_open s (push (word_break b) []) ≡ false
@@ -392,7 +392,7 @@ shut_centre v s before a e = by v.centre s.centre_in
         never (has_begin (push (print_from (Some c) 0 [] v.pieces) before)) (has_end (push (print_from (Some c) 0 [] v.pieces) before))
         (ended_by (print_from (Some c) 0 [] v.pieces) before c.to [] both.1)
 
--- a translation behind the text
+-- a translation after the text
 record Behind (before : List Token) (tr : Option (List ℕ)) : Type 0 where
   none : NoneAside before (translation_tokens tr)
   codes : codes_at_end (push (translation_tokens tr) before) ≡ codes_at_end before

@@ -25,7 +25,7 @@ pub good_join : (w b : Bool) (ps qs : List PieceFacts) → AllGood w b ps → Al
 good_join w b [] qs h g = g
 good_join w b (p ∷ ps) qs h g = (h.0, good_join (is_word_kind (Some p.kind) || w) (is_blank_piece p.kind) ps qs h.1 g)
 
--- pieces that are good where no word stands before them are good behind one
+-- pieces that are good where no word stands before them are good after one
 pub good_behind : (x w b : Bool) (ps : List PieceFacts) → AllGood x b ps → (x ≡ true → w ≡ true) → AllGood w b ps
 good_behind x w b [] h f = tt
 good_behind x w b (p ∷ ps) h f = (
@@ -87,7 +87,7 @@ old_alone (s ∷ old) = refl
 abbrev closings : List Style → List Token
 closings ss = map closing_tag (reverse ss)
 
--- behind the last piece
+-- after the last piece
 at_end : (old : List Style) (middle : List Token) → tokens_between old [] middle ≡ closings old ++ middle
 at_end old middle = rw (old_alone old) (append-nil (closings old ++ middle))
 
@@ -116,7 +116,7 @@ word_in ss w (p ∷ ps) = word_in ss (is_word_kind (Some p.kind) || w) ps
 pub plain_printed : (ps : List PieceFacts) → text_of_tokens (print_from None 0 [] (map (in_styles []) ps)) ≡ printed_text ps
 plain_printed ps = ap text_of_tokens (run_behind 0 [] ps ∙ append-nil (map printed_as ps))
 
--- ---- pieces behind others
+-- ---- pieces after others
 
 -- no brace stands from the position i on
 abbrev pub IsPast : Option Span → ℕ → Type 0
@@ -183,7 +183,7 @@ last_join old ps [] e = absurd (cc)
 last_join old [] (q ∷ qs) e = refl
 last_join old (p ∷ ps) (q ∷ qs) e = last_join p.styles ps (q ∷ qs) e
 
--- a blank in front changes nothing of what is printed behind it
+-- a blank in front changes nothing of what is printed after it
 pub after_blank : (ps : List PieceFacts) → text_of_tokens (print_from None 0 [] (record { kind = piece.Blank; styles = []; text = [] } ∷ ps)) ≡ 32 ∷ text_of_tokens (print_from None 0 [] ps)
 after_blank ps = ap (λ (ks : List Token). 32 ∷ text_of_tokens ks) (past_braces None (0 + 1) 0 [] ps tt)
 

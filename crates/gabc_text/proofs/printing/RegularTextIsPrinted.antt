@@ -25,7 +25,7 @@ pub own_tokens : (t : List ℕ) → IsRegularText t → tokens t ≡ print_token
 own_tokens t r =
     ap tokens (sym (append-nil t)) ∙ ap (λ (x : List ℕ). tokens (x ++ [])) (sym (own_form t r)) ∙ tokens_before (view t) (view_sound t) [] refl
 
--- the `(` behind it takes no token away
+-- the `(` after it takes no token away
 pub same_tokens : (t rest : List ℕ) → IsRegularText t → tokens (t ++ 40 ∷ rest) ≡ tokens t
 same_tokens t rest r = ap (λ (x : List ℕ). tokens (x ++ 40 ∷ rest)) (sym (own_form t r)) ∙ tokens_printed t rest ∙ sym (own_tokens t r)
 

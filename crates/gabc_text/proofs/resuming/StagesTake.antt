@@ -86,7 +86,7 @@ module _ (s : TextStage) (k : List ℕ) (keeps : Keeps s k) where
     kept_now : is_in_comment s ≡ false → kept_in (events_of_push s c) ≡ kept_with k c
     kept_now e = (push_keeps s (push_stage s c) c (events_of_push s c) refl refl).kept k keeps e
 
-    -- where a comment is open behind it, nothing is kept of it
+    -- where a comment is open after it, nothing is kept of it
     none_kept : is_in_comment (push_stage s c) ≡ true → kept_in (events_of_push s c) ≡ []
     none_kept opened = by (push_stage s c).done refl
       where

@@ -128,7 +128,7 @@ pub record IsPart (styles : Styles) (word : Bool) (bytes : List ℕ) : Type 0 wh
   pub last_are : last_styles [] pieces ≡ listed_styles styles
   pub word_is : word ≡ true → word_after false pieces ≡ true
 
--- what is known of a text with a part behind it
+-- what is known of a text with a part after it
 abbrev pub through : Before → Part → Before
 through b p = record { styles = p.styles; word = b.word || p.word; centre = b.centre }
 

@@ -86,7 +86,7 @@ one_more count = omega arith
 one_less : (count more : ℕ) → 0 < more → count + more - 1 ≡ count + (more - 1)
 one_less count more some = omega (arith, some)
 
--- the bytes before the last one of those taken behind `count` bytes
+-- the bytes before the last one of those taken after `count` bytes
 before_last : (piece rest : List ℕ) (count more : ℕ) → rest ≡ drop count piece → 0 < more → take (count + more - 1) piece ≡ take count piece ++ take (more - 1) rest
 before_last piece rest count more is some =
     ap (λ (n : ℕ). take n piece) (one_less count more some) ∙ (take-add count (more - 1) piece ∙ ap (λ (xs : List ℕ). take count piece ++ take (more - 1) xs) (sym is))

@@ -68,7 +68,7 @@ heads_room format limit = heads_len format (limit + 2)
 abbrev pub last_room : ℕ
 last_room = 25
 
--- the output that a step brings: the headers, a syllable, one behind it that has no notes, and last lines
+-- the output that a step brings: the headers, a syllable, one after it that has no notes, and last lines
 abbrev pub out_room : Format → Limits → ℕ
 out_room format limits = heads_room format limits.header + syllable_room format limits.syllable + room_without_notes format limits.syllable + 128
 

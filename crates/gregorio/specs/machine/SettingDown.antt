@@ -35,7 +35,7 @@ pub record HasRead (f : ScoreFields) (stage : ScoreStageState) : Type 0 where
   pub openers_are : openers_of stage.body.part ≡ openers_told f
   pub comment : is_in_comment stage.body.part ≡ f.in_comment
 
--- Some stage under these limits that reads a syllable behind the comment in front reports the kept
+-- Some stage under these limits that reads a syllable after the comment in front reports the kept
 -- text, and what is open after it.
 pub record IsReportedSo (limits : Limits) (f : ScoreFields) : Type 0 where
   pub stage : ScoreStageState
