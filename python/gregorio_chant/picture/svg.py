@@ -144,7 +144,7 @@ class Painter:
         return line.top + (ABOVE_SIZE if line.has_above else 0.0) + (line.rows - row + 1) * NABC_ROW - 3.0
 
     def _field(self, line: Line, placed: Placed) -> Markup:
-        """Returns the field behind a part that has messages; nothing where it has none."""
+        """Returns the field under a part that has messages; nothing where it has none."""
         marks = marks_of(placed, self._places)
         if not marks:
             return NOTHING
