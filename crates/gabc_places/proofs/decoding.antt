@@ -7,3 +7,4 @@ pub mod PrefixesAreRead
 pub mod SkippedBytesAreJoined
 pub mod PrintableBytesAreSkipped
 pub mod DecodersAgree
+pub mod TextsAreSkipped

@@ -1,6 +1,6 @@
 //! The text of an input's bytes.
 
-ghost use Rattle.std.specs.Prelude.{◌≡◌, ◌↔◌, ◌≤◌, ◌==◌, length, drop, slice_index, IfOk, IsTrue, if◌then◌else◌};
+ghost use Rattle.std.specs.Prelude.{◌≡◌, ◌↔◌, ◌≤◌, ◌==◌, length, take, drop, slice_index, IfOk, IsTrue, if◌then◌else◌};
 ghost use Rattle.gabc_places.specs.DecoderMachine.{IsPartial};
 ghost use Rattle.std.specs.Str.{chars};
 ghost use Rattle.gabc_places.specs.Text.{decoded_of, utf8_prefix_of as utf8_prefix, tail_of, stop_code_of, text_of_characters};
@@ -35,6 +35,15 @@ pub fn text_of(
         code,
     });
     Ok(Decoded { text, fault })
+}
+
+/// Returns the longest front of `bytes` that is UTF-8.
+pub fn valid_front(bytes: &[u8]) -> &str
+    ensures text { chars result.now ≡ utf8_prefix bytes.now }
+    ensures front { result.now ≡ take (length result.now) bytes.now }
+{
+    let (text, _) = prefix_and_tail(bytes);
+    text
 }
 
 /// The longest prefix that is UTF-8, and what follows it.

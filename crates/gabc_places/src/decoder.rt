@@ -9,7 +9,10 @@ ghost use Rattle.gabc_places.specs.witness.DecoderEvents.{stop_with, take_charac
 ghost use Rattle.gabc_places.specs.DecoderMachine.{IsPartial, IsReached, BeginsLine};
 ghost use Rattle.gabc_places.specs.DecoderTells.{MayBeTold, MovesOn, is_after_cr, resumed};
 ghost use Rattle.gabc_places.specs.machine.Decoder.{take_part as taken_part};
-ghost use Rattle.gabc_places.specs.Skip.{IsPrintable, most_skipped as most_skipped_by, skipped_events};
+ghost use Rattle.gabc_places.specs.Skip.{IsPrintable, most_skipped as most_skipped_by, skipped_events, text_events};
+ghost use Rattle.std.specs.Str.{chars};
+ghost use Rattle.gabc_places.specs.Place.{place_past};
+ghost use Rattle.gabc_places.specs.TextOfAnInput.{IsPlain};
 ghost use Rattle.gabc_places.specs.Text.{utf8_prefix_of, tail_of, is_left_out as left_out_after, read_as as read};
 
 use crate::code::{Code, Fault};
@@ -270,6 +273,31 @@ impl Decoder {
             self.taken += bytes.len() as u32;
             self.place.column += bytes.len() as u64;
             self.previous = char::from(*last);
+        }
+    }
+
+    /// Takes `text` at once, as `take` takes its bytes one by one. What it emits for them is known without it: with the last byte of
+    /// each character that character, at its place, and with each other byte nothing. `text` has at most `most_skipped` bytes, no CR
+    /// and no U+FEFF, no CR stands directly before it, and `next` is the place after it.
+    pub fn skip_text(&mut self, text: &str, next: Place)
+        requires few { length text.now ≤ most_skipped_by self.old }
+        requires plain { All IsPlain (chars text.now) }
+        requires behind { is_after_cr self.old ≡ false }
+        requires next { next ≡ place_past self.old.place (chars text.now) }
+        ensures joined { (more : List ℕ) → events_left self.old (text.now ++ more)
+            ≡ text_events self.old.place (chars text.now) ++ events_left self.new more }
+        ensures limit { self.new.limit ≡ self.old.limit }
+        ensures taken { self.new.taken ≡ self.old.taken + length text.now }
+        ensures place { self.new.place ≡ next }
+        ensures reached { IsReached next (length self.new.pending) self.new.taken }
+        ensures runs { self.new.running ≡ self.old.running }
+        ensures none { text.now ≡ [] → self.new ≡ self.old }
+        ensures cr { is_after_cr self.new ≡ false }
+    {
+        if !text.is_empty() {
+            self.taken += text.len() as u32;
+            self.place = next;
+            self.previous = '\0';
         }
     }
 
