@@ -49,6 +49,7 @@ pub fn valid_front(bytes: &[u8]) -> &str
 /// The longest prefix that is UTF-8, and what follows it.
 pub(crate) fn prefix_and_tail(bytes: &[u8]) -> (&str, Tail)
     ensures text { chars result.0.now ≡ utf8_prefix bytes.now }
+    ensures front { result.0.now ≡ take (length result.0.now) bytes.now }
     ensures tail { result.1 ≡ tail_of bytes.now }
 {
     match simdutf8::compat::from_utf8(bytes) {
