@@ -1,17 +1,17 @@
 //! A stage from bytes to characters.
 
-ghost use Rattle.std.specs.Prelude.{◌≡◌, ◌↔◌, ℕ, ◌+◌, ◌-◌, ◌<◌, ◌≤◌, ◌^◌, List, [], ◌∷◌, ◌++◌, length, take, true, false, Result, IfSome, IsSome, IsTrue, option_to_list};
+ghost use Rattle.std.specs.Prelude.{◌≡◌, ◌↔◌, ℕ, ◌+◌, ◌-◌, ◌<◌, ◌≤◌, ◌^◌, List, [], ◌∷◌, ◌++◌, length, take, map, true, false, Result, Ok, IfSome, IsSome, IsTrue, option_to_list};
 ghost use Rattle.std.specs.List.{All};
 ghost use Rattle.gabc_places.specs.StageLaw.{concat_of, EmitsNothing};
 ghost use Rattle.gabc_places.specs.Decoder.{known_of, known_at_end};
 ghost use Rattle.gabc_places.specs.DecoderMachine.{fresh_decoder, is_fault_item};
 ghost use Rattle.gabc_places.specs.witness.DecoderEvents.{stop_with, take_character as taken_character, take_byte, events_left};
 ghost use Rattle.gabc_places.specs.DecoderMachine.{IsPartial, IsReached, BeginsLine};
-ghost use Rattle.gabc_places.specs.DecoderTells.{MayBeTold, MovesOn, is_after_cr, resumed};
+ghost use Rattle.gabc_places.specs.DecoderTells.{MayBeTold, MovesOn, MovesThrough, is_after_cr, resumed};
 ghost use Rattle.gabc_places.specs.machine.Decoder.{take_part as taken_part};
 ghost use Rattle.gabc_places.specs.Skip.{IsPrintable, most_skipped as most_skipped_by, skipped_events, text_events};
 ghost use Rattle.std.specs.Str.{chars};
-ghost use Rattle.gabc_places.specs.Place.{place_past};
+ghost use Rattle.gabc_places.specs.Place.{place_past, placed_characters_from};
 ghost use Rattle.gabc_places.specs.TextOfAnInput.{IsPlain};
 ghost use Rattle.gabc_places.specs.Text.{utf8_prefix_of, tail_of, is_left_out as left_out_after, read_as as read};
 
@@ -286,6 +286,10 @@ impl Decoder {
         requires next { next ≡ place_past self.old.place (chars text.now) }
         ensures joined { (more : List ℕ) → events_left self.old (text.now ++ more)
             ≡ text_events self.old.place (chars text.now) ++ events_left self.new more }
+        ensures one_each { length (text_events self.old.place (chars text.now)) ≡ length text.now }
+        ensures all { concat_of (text_events self.old.place (chars text.now))
+            ≡ map (λ c. Ok c) (placed_characters_from self.old.place (chars text.now)) }
+        ensures moves { MovesThrough self.old (text_events self.old.place (chars text.now)) self.new }
         ensures limit { self.new.limit ≡ self.old.limit }
         ensures taken { self.new.taken ≡ self.old.taken + length text.now }
         ensures place { self.new.place ≡ next }
