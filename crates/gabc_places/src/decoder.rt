@@ -282,7 +282,7 @@ impl Decoder {
     pub fn skip_text(&mut self, text: &str, next: Place)
         requires few { length text.now ≤ most_skipped_by self.old }
         requires plain { All IsPlain (chars text.now) }
-        requires behind { is_after_cr self.old ≡ false }
+        requires after_cr { is_after_cr self.old ≡ false }
         requires next { next ≡ place_past self.old.place (chars text.now) }
         ensures joined { (more : List ℕ) → events_left self.old (text.now ++ more)
             ≡ text_events self.old.place (chars text.now) ++ events_left self.new more }
@@ -294,6 +294,7 @@ impl Decoder {
         ensures taken { self.new.taken ≡ self.old.taken + length text.now }
         ensures place { self.new.place ≡ next }
         ensures reached { IsReached next (length self.new.pending) self.new.taken }
+        ensures pending { self.new.pending ≡ self.old.pending }
         ensures runs { self.new.running ≡ self.old.running }
         ensures none { text.now ≡ [] → self.new ≡ self.old }
         ensures cr { is_after_cr self.new ≡ false }

@@ -1,5 +1,5 @@
 -- A text that is skipped at once gives what it gives byte by byte.
-use Rattle.std.proofs.Common.{◌≡◌, ◌≢◌, ℕ, ◌+◌, ◌-◌, ◌<◌, ◌≤◌, Bool, true, false, not, ◌==◌, ◌&&◌, List, [], ◌∷◌, ◌++◌, length, replicate, if◌then◌else◌, Result, Ok, refl, ap, ap₂, sym, subst, ◌∙◌, arith, append_assoc, append-nil, length-append, IsUtf8}
+use Rattle.std.proofs.Common.{◌≡◌, ◌≢◌, ℕ, ◌+◌, ◌<◌, ◌≤◌, Bool, true, false, not, ◌==◌, ◌&&◌, List, [], ◌∷◌, ◌++◌, length, replicate, if◌then◌else◌, Result, Ok, refl, ap, ap₂, sym, subst, ◌∙◌, arith, append_assoc, append-nil, length-append, IsUtf8}
 use Rattle.std.proofs.lemmas.Bool.{and_parts}
 use Rattle.std.proofs.lemmas.Bool.Decides.{nat_tests}
 use Rattle.std.proofs.lemmas.List.Elements.{All-head, All-tail}
@@ -13,13 +13,14 @@ use Rattle.gabc_places.specs.declared.place.Place.{Place}
 use Rattle.gabc_places.specs.declared.code.Fault.{Fault}
 use Rattle.gabc_places.specs.Place.{is_line_feed, next_place, place_past}
 use Rattle.gabc_places.specs.Skip.{most_skipped, character_events, text_events}
-use Rattle.gabc_places.specs.Text.{utf8_prefix_of, tail_of, is_left_out, read_as}
+use Rattle.gabc_places.specs.Text.{utf8_prefix_of, tail_of}
 use Rattle.gabc_places.specs.TextOfAnInput.{IsPlain}
 use Rattle.gabc_places.specs.DecoderMachine.{DecoderState, IsPartial, IsReached, is_unfinished}
 use Rattle.gabc_places.specs.DecoderTells.{is_after_cr}
-use Rattle.gabc_places.specs.witness.DecoderEvents.{DecoderStep, take_character, take_pending, take_byte, events_left}
+use Rattle.gabc_places.specs.witness.DecoderEvents.{DecoderStep, take_character, take_pending, events_left}
 use Rattle.gabc_places.proofs.decoding.AByteIsTaken.{with_byte, byte_taken}
 use Rattle.gabc_places.proofs.decoding.DecodersAgree.{agree}
+use Rattle.gabc_places.proofs.decoding.PlainTextsAreReadAgain.{kept}
 use Rattle.gabc_places.proofs.decoding.PrintableBytesAreSkipped.{runs, most_is_left}
 use Rattle.gabc_places.proofs.utf8.CharacterByCharacter.{utf8_prefix_of-past, utf8_prefix_of-none, tail_of-partial}
 use Rattle.gabc_places.proofs.utf8.PartOfACharacter.{nothing_is_partial, front_is_partial}
@@ -37,26 +38,20 @@ part_pending (x ∷ xs) s some p = rw (utf8_prefix_of-none (x ∷ xs) p.none, ta
 
 -- ---- a character
 
-shown : (p c : ℕ) → p ≢ 13 → IsPlain c → is_left_out (p, c) ≡ false
-shown p c before plain = grind (arith, nat_tests)
-
-kept : (c : ℕ) → IsPlain c → read_as c ≡ c
-kept c plain = grind (arith, nat_tests)
-
 -- the decoder past a character
 abbrev past : DecoderState → ℕ → ℕ → DecoderState
 past s taken c = record s { taken = taken; place = next_place s.place c; pending = []; previous = c }
 
 character_kept : (c : ℕ) (s : DecoderState) → s.previous ≢ 13 → IsPlain c → take_character c (with_byte s)
     ≡ record { events = Ok (record { c = c; place = s.place }) ∷ []; state = past s (s.taken + 1) c }
-character_kept c s before plain = rw (shown s.previous c before plain, kept c plain) refl
+character_kept c s before plain = let k = kept s.previous c before plain in rw (k.0, k.1) refl
 
--- nothing for each of so many bytes, and then the character
-abbrev lists_for : ℕ → Char → List (List (Result Char Fault))
+-- nothing for each of `n` bytes, and then the character
+abbrev pub lists_for : ℕ → Char → List (List (Result Char Fault))
 lists_for n x = replicate n [] ++ (Ok x ∷ []) ∷ []
 
 module _ (c : ℕ) (scalar : IsScalar c) (plain : IsPlain c) (more : List ℕ) where
-  -- what is left of the character, behind the bytes of it that are pending
+  -- what is left of the character, after the bytes of it that are pending
   parts_taken : (x : ℕ) (xs : List ℕ) (s : DecoderState) → s.running ≡ true → s.pending ++ x ∷ xs ≡ encode c → s.taken + length (x ∷ xs) ≤ s.limit → s.previous ≢ 13
       → events_left s (x ∷ xs ++ more) ≡ lists_for (length xs) (record { c = c; place = s.place }) ++ events_left (past s (s.taken + length (x ∷ xs)) c) more
   parts_taken x [] s running spelled within before =
@@ -79,7 +74,7 @@ module _ (c : ℕ) (scalar : IsScalar c) (plain : IsPlain c) (more : List ℕ) w
 
 -- ---- a text
 
--- the decoder past so many bytes, where the next character stands at `next`: of the one before nothing is kept
+-- the decoder past `n` bytes, where the next character stands at `next` and the one before is no CR
 abbrev pub moved_past : DecoderState → ℕ → Place → DecoderState
 moved_past s n next = record s { taken = s.taken + n; place = next; previous = 0 }
 

@@ -1,5 +1,5 @@
 -- Where a decoder stands after a text.
-use Rattle.std.proofs.Common.{◌≡◌, ℕ, ◌+◌, ◌-◌, ◌<◌, ◌≤◌, zero, suc, Bool, true, false, not, ◌==◌, ◌&&◌, List, [], ◌∷◌, ◌++◌, length, replicate, Result, Ok, refl, ap, ap₂, sym, subst, ◌∙◌, arith, append_assoc, length-append, IsUtf8}
+use Rattle.std.proofs.Common.{◌≡◌, ℕ, ◌+◌, ◌-◌, ◌<◌, zero, suc, true, false, not, List, [], ◌∷◌, ◌++◌, length, Result, Ok, refl, ap, ap₂, sym, subst, arith, length-append, IsUtf8}
 use Rattle.std.proofs.lemmas.Bool.{and_parts, and_right}
 use Rattle.std.proofs.lemmas.List.Elements.{All-head, All-tail}
 use Rattle.std.proofs.lemmas.Str.{length-encode, len_utf8_bounds, encodes-chars, scalars-chars}
@@ -16,9 +16,9 @@ use Rattle.gabc_places.specs.TextOfAnInput.{IsPlain}
 use Rattle.gabc_places.specs.DecoderMachine.{DecoderState, is_unfinished}
 use Rattle.gabc_places.specs.DecoderTells.{MovesOn, MovesThrough, is_after_cr}
 use Rattle.gabc_places.proofs.decoding.TextsAreEmitted.{one_each}
-use Rattle.gabc_places.proofs.decoding.TextsAreSkipped.{moved_past}
+use Rattle.gabc_places.proofs.decoding.TextsAreSkipped.{lists_for, moved_past}
 
--- of the character before nothing is kept: it is no CR
+-- the character before is no CR
 no_return_kept : (s : DecoderState) (n : ℕ) (p : Place) → is_after_cr (moved_past s n p) ≡ false
 no_return_kept s n p = and_right (not (is_unfinished s.pending)) false refl
 
@@ -38,14 +38,14 @@ last_byte c s scalar plain = record {
   cr = λ runs cr. absurd (let no = no_return_kept s 1 (next_place s.place c) in cc);
 }
 
-bytes_of_one : (c : ℕ) → IsScalar c → IsPlain c → (n : ℕ) (s : DecoderState)
-    → MovesThrough s (replicate n [] ++ (Ok (record { c = c; place = s.place }) ∷ []) ∷ []) (moved_past s (n + 1) (next_place s.place c))
+bytes_of_one : (c : ℕ) → IsScalar c → IsPlain c → (n : ℕ) (s : DecoderState) → MovesThrough s (lists_for n (record { c = c; place = s.place })) (moved_past s (n + 1) (next_place s.place c))
 bytes_of_one c scalar plain zero s = (moved_past s 1 (next_place s.place c), (last_byte c s scalar plain, refl))
 bytes_of_one c scalar plain (suc n) s =
     let mid = moved_past s 1 s.place in
-    let x : Char = record { c = c; place = s.place } in
-    (mid, (quiet_byte s, subst (λ (taken : ℕ). MovesThrough mid (replicate n [] ++ (Ok x ∷ []) ∷ []) (record s { taken = taken; place = next_place s.place c; previous = 0 })) (omega arith)
-    (bytes_of_one c scalar plain n mid)))
+    let others : MovesThrough mid (lists_for n (record { c = c; place = s.place })) (moved_past s (suc n + 1) (next_place s.place c)) =
+    subst (λ (taken : ℕ). MovesThrough mid (lists_for n (record { c = c; place = s.place })) (record s { taken = taken; place = next_place s.place c; previous = 0 })) (omega arith)
+    (bytes_of_one c scalar plain n mid) in
+    (mid, (quiet_byte s, others))
 
 -- ---- a text
 

@@ -1,4 +1,4 @@
-use Rattle.std.proofs.Common.{◌≡◌, ℕ, ◌+◌, ◌<◌, ◌≤◌, ◌==◌, List, [], ◌++◌, length, Bool, true, false, not, sym, subst, ap, ◌∙◌, refl, arith}
+use Rattle.std.proofs.Common.{◌≡◌, ℕ, ◌+◌, ◌<◌, ◌≤◌, List, [], ◌++◌, length, sym, subst, ap, ◌∙◌, refl, arith}
 use Rattle.std.proofs.lemmas.Bool.Decides.{nat_tests}
 use Rattle.std.proofs.lemmas.List.{nil_from_length}
 use Rattle.std.proofs.lemmas.Str.{chars-nil}
@@ -42,7 +42,7 @@ returns-then-not-is_empty-clause-joined c = λ more.
     let text = c.args.text.now in
     let s = the_view c.self.inside in
     ap (λ (d : DecoderState). events_left d (text ++ more)) (sym c.self.view_is)
-    ∙ text_skipped text s c.utf8.text (some c) (few c) c.requires.plain (ap is_after_cr c.self.view_is ∙ c.requires.behind) more
+    ∙ text_skipped text s c.utf8.text (some c) (few c) c.requires.plain (ap is_after_cr c.self.view_is ∙ c.requires.after_cr) more
     ∙ ap (λ (p : Place). text_events s.place (chars text) ++ events_left (moved_past s (length text) p) more) (next_is c)
     ∙ ap (λ (d : DecoderState). text_events d.place (chars text) ++ events_left (moved_past s (length text) c.args.next) more) c.self.view_is
 
