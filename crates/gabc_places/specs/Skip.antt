@@ -12,7 +12,7 @@ use Rattle.gabc_places.specs.DecoderMachine.{DecoderState, is_unfinished}
 abbrev pub IsPrintable : ℕ → Type 0
 IsPrintable byte = (32 ≤ byte) × (byte ≤ 126)
 
--- How many printable bytes a decoder takes at once: those that are left to its limit, where it runs and no character is pending, and
+-- How many bytes a decoder takes at once: those that are left to its limit, where it runs and no character is pending, and
 -- else none.
 abbrev pub most_skipped : DecoderState → ℕ
 most_skipped s = if s.running && not (is_unfinished s.pending) then s.limit - s.taken else 0

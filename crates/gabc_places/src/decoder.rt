@@ -240,8 +240,8 @@ impl Decoder {
         self.pending.is_empty() && self.previous == '\r'
     }
 
-    /// Returns how many printable bytes `skip` may take now: as many as are left to the limit, or 0 where the decoder has stopped or a
-    /// character is not whole. A column that is counted on for so many characters fits a `u64`.
+    /// Returns how many bytes `skip` and `skip_text` may take now: as many as are left to the limit, or 0 where the decoder has stopped
+    /// or a character is not whole. A column that is counted on for so many characters fits a `u64`.
     pub fn most_skipped(&self) -> usize
         ensures most { result ≡ most_skipped_by self.now }
         ensures column { self.now.place.column + result < 2 ^ 64 }
@@ -276,9 +276,10 @@ impl Decoder {
         }
     }
 
-    /// Takes `text` at once, as `take` takes its bytes one by one. What it emits for them is known without it: with the last byte of
-    /// each character that character, at its place, and with each other byte nothing. `text` has at most `most_skipped` bytes, no CR
-    /// and no U+FEFF, no CR stands directly before it, and `next` is the place after it.
+    /// Takes `text` at once, as `take` takes its bytes one by one. What it emits for them is known
+    /// without it: each character with its last byte, and nothing with each other byte. `text` must
+    /// have at most `most_skipped` bytes, no CR and no U+FEFF, and no CR may stand directly before it.
+    /// `next` is the place after it, which the caller has counted.
     pub fn skip_text(&mut self, text: &str, next: Place)
         requires few { length text.now ≤ most_skipped_by self.old }
         requires plain { All IsPlain (chars text.now) }
