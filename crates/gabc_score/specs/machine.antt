@@ -1,3 +1,4 @@
+pub mod Between
 pub mod BodyBuilder
 pub mod Collected
 pub mod Fronts
