@@ -2,10 +2,11 @@
 use Rattle.std.specs.Prelude.{◌≡◌, ℕ, ◌+◌, ◌≤◌, ◌||◌, nat_lt, true, false, List, [], ◌∷◌, ◌++◌, length, map, take, is_some, encode_utf8_all}
 use Rattle.gabc_places.specs.declared.limits.Limits.{Limits}
 use Rattle.gabc_places.specs.declared.place.Place.{Place}
-use Rattle.gabc_places.specs.Place.{place_past}
+use Rattle.gabc_places.specs.Place.{place_past, placed_characters_from}
 use Rattle.gabc_places.specs.StageLaw.{concat_of}
 use Rattle.gabc_headers.specs.declared.head_event.HeadEvent.{HeadEvent}
 use Rattle.gabc_score.specs.declared.before.Spans.{Spans}
+use Rattle.gabc_score.specs.declared.events.BodyEvent.{BodyEvent}
 use Rattle.gabc_score.specs.Canonical.{canonical}
 use Rattle.gabc_score.specs.Events.{text_from, events_from}
 use Rattle.gabc_score.specs.GivesSyllables.{text_inputs}
@@ -15,8 +16,10 @@ use Rattle.gabc_score.specs.SpansPast.{FollowsSpans}
 use Rattle.gabc_score.specs.Syllable.{UnplacedSyllable, PlacedSyllable}
 use Rattle.gabc_score.specs.UnitRead.{HoldsSomeUnit}
 use Rattle.gabc_score.specs.witness.BodyStage.{texts_by_stage}
+use Rattle.gabc_score.specs.machine.BodyBuilder.{with_all}
 use Rattle.gabc_score.specs.machine.Gatherer.{Gathered, with_made}
 use Rattle.gabc_score.specs.machine.Preceded.{spans_of}
+use Rattle.gabc_score.specs.machine.ReadAlone.{is_alone}
 use Rattle.gabc_score.specs.machine.ScoreStage.{HeldScore, body_left, placed_behind}
 use Rattle.gabc_score.specs.machine.SyllableBuilder.{nothing_open}
 
@@ -64,6 +67,15 @@ module _ (limits : Limits) where
       pub law : (xs : List HeadEvent) → left_between at s (text_inputs at t ++ xs) ≡ points ++ left_between next after xs
       pub given_are : concat_of points ≡ map (λ (s : PlacedSyllable). Syllable s) given
 
+-- where a text of these characters begins at this place, what is emitted at each of them
+abbrev pub lists_between : ℕ → ℕ → Place → List ℕ → List (List BodyEvent)
+lists_between lines macros at t = let us = placed_characters_from at t in take (length t) (events_from texts_by_stage lines macros (text_from texts_by_stage at us) us)
+
+-- With these lists one syllable is gathered and nothing is read of the next one, no limit is passed and no error is found.
+pub record IsAloneWith (limits : Limits) (g : Gathered) (lists : List (List BodyEvent)) (m : UnplacedSyllable) : Type 0 where
+  pub alone : is_alone limits g lists ≡ true
+  pub gathered : with_all g (concat_of lists) ≡ with_one g m
+
 -- ---- what a regular syllable makes
 
 -- It keeps its spelling, with one blank where there are some before its text, and its spelling is its canonical text. It holds a unit, and which spans
@@ -81,3 +93,5 @@ pub record Makes (lines macros : ℕ) (at : Place) (r : SyllableParts) (spans : 
   pub made : IsMadeOf lines spans r m
   pub through : (limits : Limits) (s : HeldScore) → IsBetween limits s → spans_of s.gathered ≡ spans → LeavesRoomFor limits s.gathered r
       → GoesThrough limits lines macros at s (spelled r) (given_before s m) (place_past at (spelled r)) (past_one s (place_past at (spelled r)) m)
+  pub alone : (limits : Limits) (s : HeldScore) → IsBetween limits s → s.gathered.made ≡ [] → spans_of s.gathered ≡ spans → LeavesRoomFor limits s.gathered r
+      → IsAloneWith limits s.gathered (lists_between lines macros at (spelled r)) m
