@@ -126,9 +126,9 @@ pub(crate) fn regular_syllable(lines: u8, text: &str) -> Option<RegularLen>
     let bytes = text.as_bytes();
     let gap = gap_len(bytes);
     let opening = gap + regular_text(&bytes[gap..]);
-    if bytes.get(opening) != Some(&b'(') {
+    let Some(b'(') = bytes.get(opening) else {
         return None;
-    }
+    };
     let begun = opening + 1;
     let notes = snippets_len(lines, &text[begun..]);
     let len = begun + notes;

@@ -2,6 +2,7 @@
 use Rattle.std.proofs.Common.{◌≡◌, ◌≢◌, ℕ, zero, suc, ◌+◌, ◌-◌, ◌<◌, List, [], ◌∷◌, ◌++◌, Bool, true, false, ◌||◌, ◌&&◌, ◌==◌, nat_lt, cond, length, take, drop, codes, encode_utf8_all, refl, sym, ap, subst, ◌∙◌, arith, take-append-drop}
 use Rattle.std.specs.List.{starts_with}
 use Rattle.std.specs.Str.{bytes_eq}
+use Rattle.std.proofs.lemmas.Bool.{lt-ltb}
 use Rattle.std.proofs.lemmas.Bool.Decides.{Decides-eqb}
 use Rattle.std.proofs.lemmas.Slice.Eq.{starts_is, bytes_eq-Decides}
 use Rattle.gabc_places.specs.declared.place.Span.{Span}
@@ -12,7 +13,7 @@ use Rattle.gabc_score.specs.SpansPast.{open_past, eu_past, nlba_past}
 use Rattle.gabc_score.specs.RegularSyllable.{SyllableParts, has_gap}
 use Rattle.gabc_score.specs.machine.RegularLen.{begins_mark, IsUnmarked}
 
-begins : List ℕ → List ℕ → Bool
+abbrev begins : List ℕ → List ℕ → Bool
 begins bytes tag = starts_with (λ a b. a == b) bytes tag
 
 -- none of four tests holds
@@ -48,17 +49,24 @@ stays opening closing kept (p ∷ ps) was a b =
     let one : is_open_after opening closing was p.kind (slice p.span kept) ≡ was = rw (a p.span, b p.span) (stays_open (is_mark p.kind) was) in
     ap (open_past opening closing kept ps) one ∙ stays opening closing kept ps was a b
 
-pub unmarked_eu : (m : UnplacedSyllable) (was : Bool) → IsUnmarked m.kept → eu_past m was ≡ was
-unmarked_eu m was none =
-    stays (codes "<eu>") (codes "</eu>") m.kept m.text.pieces was
-    (λ span. no_slice (codes "<eu>") m.kept span (λ k. (none_of _ _ _ _ (none k)).0))
-    (λ span. no_slice (codes "</eu>") m.kept span (λ k. (none_of _ _ _ _ (none k)).1))
+module _ (m : UnplacedSyllable) (was : Bool) (none : IsUnmarked m.kept) where
+  each : (k : ℕ) → (begins (drop k m.kept) (codes "<eu>") ≡ false) × (begins (drop k m.kept) (codes "</eu>") ≡ false)
+      × (begins (drop k m.kept) (codes "<nlba>") ≡ false) × (begins (drop k m.kept) (codes "</nlba>") ≡ false)
+  each k =
+      none_of (begins (drop k m.kept) (codes "<eu>")) (begins (drop k m.kept) (codes "</eu>")) (begins (drop k m.kept) (codes "<nlba>"))
+      (begins (drop k m.kept) (codes "</nlba>")) (none k)
 
-pub unmarked_nlba : (m : UnplacedSyllable) (was : Bool) → IsUnmarked m.kept → nlba_past m was ≡ was
-unmarked_nlba m was none =
-    stays (codes "<nlba>") (codes "</nlba>") m.kept m.text.pieces was
-    (λ span. no_slice (codes "<nlba>") m.kept span (λ k. (none_of _ _ _ _ (none k)).2))
-    (λ span. no_slice (codes "</nlba>") m.kept span (λ k. (none_of _ _ _ _ (none k)).3))
+  pub unmarked_eu : eu_past m was ≡ was
+  unmarked_eu =
+      stays (codes "<eu>") (codes "</eu>") m.kept m.text.pieces was
+      (λ span. no_slice (codes "<eu>") m.kept span (λ k. (each k).0))
+      (λ span. no_slice (codes "</eu>") m.kept span (λ k. (each k).1))
+
+  pub unmarked_nlba : nlba_past m was ≡ was
+  unmarked_nlba =
+      stays (codes "<nlba>") (codes "</nlba>") m.kept m.text.pieces was
+      (λ span. no_slice (codes "<nlba>") m.kept span (λ k. (each k).2))
+      (λ span. no_slice (codes "</nlba>") m.kept span (λ k. (each k).3))
 
 -- with a blank before them, no span mark stands among such bytes either
 pub blank_unmarked : (bytes : List ℕ) → IsUnmarked bytes → IsUnmarked (32 ∷ bytes)
@@ -71,4 +79,4 @@ gap_starts r n e = ap (nat_lt 0) e ∙ by r.gap
   where
     by : (gap : List ℕ) → nat_lt 0 (length gap) ≡ has_gap gap
     by [] = refl
-    by (c ∷ gap) = refl
+    by (c ∷ gap) = lt-ltb 0 (suc (length gap)) (omega arith)
