@@ -1,20 +1,19 @@
 -- The bytes of a regular syllable: blanks, a text, a `(`, and snippets with their marks.
-use Rattle.std.proofs.Common.{◌≡◌, ◌≢◌, ℕ, zero, suc, ◌+◌, ◌-◌, ◌<◌, ◌≤◌, List, [], ◌∷◌, ◌++◌, Bool, true, false, ◌&&◌, ◌==◌, nat_lt, cond, length, take, drop, get_or, encode_utf8_all, refl, sym, ap, ap₂, subst, ◌∙◌, arith, take-append-drop, append_assoc, append-nil, length-append, length-drop, length-take, IsUtf8, below_more}
+use Rattle.std.proofs.Common.{◌≡◌, ◌≢◌, ℕ, zero, suc, ◌+◌, ◌-◌, ◌<◌, ◌≤◌, List, [], ◌∷◌, ◌++◌, Bool, true, false, ◌&&◌, ◌==◌, length, take, drop, get_or, encode_utf8_all, refl, sym, ap, ap₂, subst, ◌∙◌, arith, append_assoc, append-nil, length-drop, IsUtf8, below_more}
 use Rattle.std.specs.List.{All, list_all}
 use Rattle.std.specs.Str.{chars, IsAscii, IsCharBoundary}
 use Rattle.std.specs.String.Boundary.{IsSplitPoint}
 use Rattle.std.proofs.Math.Seq.{take-add}
 use Rattle.std.proofs.lemmas.Bool.{eqb-true, true≢false}
-use Rattle.std.proofs.lemmas.List.{take_at, take_more, take_rest, drop-drop, drop_at, drop-take, get_or-drop, length-take-le, get_or_past}
-use Rattle.std.proofs.lemmas.List.Elements.{All-append, All-head, All-tail, All-cons, All-nil, All-more, All-from_recursion, All-get_or}
-use Rattle.std.proofs.lemmas.Str.{IsUtf8-append, IsUtf8-take, IsUtf8-drop, IsUtf8-nil, IsUtf8-from_ascii, IsCharBoundary-from_take, chars-append, chars-IsAscii, chars-nil, encodes-chars, scalars-chars, encodes-append, encodes-IsAscii, chars-encodes}
+use Rattle.std.proofs.lemmas.List.{take_more, take_rest, drop_at, drop-take, get_or-drop, length-take-le}
+use Rattle.std.proofs.lemmas.List.Elements.{All-append, All-head, All-tail, All-cons, All-nil, All-more}
+use Rattle.std.proofs.lemmas.Str.{IsUtf8-append, IsUtf8-take, IsUtf8-drop, IsUtf8-nil, IsUtf8-from_ascii, IsCharBoundary-from_take, chars-append, chars-IsAscii, chars-nil, encodes-chars, encodes-append, encodes-IsAscii}
 use lib.Utf8.{encode}
 use Rattle.gabc_places.specs.TextOfAnInput.{IsPlain, IsText}
 use Rattle.gabc_text.specs.Token.{is_blank}
 use Rattle.gabc_text.specs.RegularText.{IsRegularText}
-use Rattle.gabc_score.specs.declared.regular.RegularLen.{RegularLen}
 use Rattle.gabc_score.specs.Events.{next_line}
-use Rattle.gabc_score.specs.RegularSyllable.{SyllableParts, IsRegularOn, AreRegularFrom, IsRegularSyllable, spelled, notes_spelled, kept_spelled, gap_kept, canonical_spelled}
+use Rattle.gabc_score.specs.RegularSyllable.{SyllableParts, IsRegularOn, AreRegularFrom, spelled, notes_spelled, gap_kept}
 use Rattle.gabc_score.specs.machine.RegularLen.{begins_mark, IsUnmarked, IsPlainByte, with_bars_after, SnippetsBefore, BeginsWithSnippets, BeginsRegularly}
 use Rattle.gabc_score.proofs.regular_syllables.UnmarkedSyllables.{blank_unmarked}
 
@@ -174,7 +173,7 @@ module _ (lines : ℕ) (text : List ℕ) (n line k : ℕ) (utf8 : IsUtf8 text) (
 
 -- Blanks, a regular text, a `(` and snippets are a regular syllable of these bytes, where the bytes after the blanks are plain and no span mark stands
 -- among them.
-module _ (lines : ℕ) (text : List ℕ) (gap k m : ℕ) (utf8 : IsUtf8 text) (within : gap ≤ length text) (blanks : list_all is_blank (take gap text) ≡ true)
+module _ (lines : ℕ) (text : List ℕ) (gap k : ℕ) (utf8 : IsUtf8 text) (within : gap ≤ length text) (blanks : list_all is_blank (take gap text) ≡ true)
     (word : IsText (take k (drop gap text))) (regular : IsRegularText (chars (take k (drop gap text))))
     (less : gap + k < length text) (at : get_or text (gap + k) 0 ≡ 40) where
   gap_ascii : IsAscii (take gap text)
@@ -197,7 +196,7 @@ module _ (lines : ℕ) (text : List ℕ) (gap k m : ℕ) (utf8 : IsUtf8 text) (w
   pub notes_cut : IsCharBoundary text (gap + k + 1)
   notes_cut = cut_after text (gap + k + 1) utf8 (omega arith) begun_utf8
 
-  module _ (notes : BeginsWithSnippets lines (drop (gap + k + 1) text) m) where
+  module _ (m : ℕ) (notes : BeginsWithSnippets lines (drop (gap + k + 1) text) m) where
     abbrev made : SyllableParts
     made = record { gap = take gap text; text = chars (take k (drop gap text)); nexts = notes.nexts; final = notes.final }
 
@@ -214,3 +213,46 @@ module _ (lines : ℕ) (text : List ℕ) (gap k m : ℕ) (utf8 : IsUtf8 text) (w
 
     fits : gap + k + 1 + m ≤ length text
     fits = omega (arith, notes.within, length-drop (gap + k + 1) text)
+
+    abbrev rest : List ℕ
+    rest = made.text ++ 40 ∷ notes_spelled notes.nexts notes.final
+
+    spelled_is : spelled made ≡ take gap text ++ rest
+    spelled_is = append_assoc (take gap text) made.text (40 ∷ notes_spelled notes.nexts notes.final)
+
+    bytes_are : take (gap + k + 1 + m) text ≡ take gap text ++ encode_utf8_all rest
+    bytes_are =
+        sym (encodes-chars (take (gap + k + 1 + m) text) all_utf8) ∙ (ap encode_utf8_all (all_chars ∙ spelled_is)
+        ∙ (encodes-append (take gap text) rest ∙ ap (λ (t : List ℕ). t ++ encode_utf8_all rest) (encodes-IsAscii (take gap text) gap_ascii)))
+
+    rest_are : drop gap (take (gap + k + 1 + m) text) ≡ encode_utf8_all rest
+    rest_are = ap (drop gap) bytes_are ∙ drop_at (take gap text) (encode_utf8_all rest) gap (length-take-le gap text within)
+
+    slice_is : take (gap + k + 1 + m - gap) (drop gap text) ≡ encode_utf8_all rest
+    slice_is =
+        let same : gap + (gap + k + 1 + m - gap) ≡ gap + k + 1 + m = omega arith in
+        sym (drop-take gap (gap + k + 1 + m - gap) text) ∙ (ap (λ (n : ℕ). drop gap (take n text)) same ∙ rest_are)
+
+    kept_unmarked : (gap : List ℕ) → IsUnmarked (encode_utf8_all rest) → IsUnmarked (encode_utf8_all ((gap_kept gap ++ made.text) ++ 40 ∷ notes_spelled notes.nexts notes.final))
+    unfolding encode
+    kept_unmarked [] none = none
+    kept_unmarked (c ∷ gap) none = blank_unmarked (encode_utf8_all rest) none
+
+    pub syllable_here : All IsPlainByte (take (gap + k + 1 + m - gap) (drop gap text)) → IsUnmarked (take (gap + k + 1 + m - gap) (drop gap text))
+        → BeginsRegularly lines text (record { gap = gap; len = gap + k + 1 + m })
+    syllable_here plain none = record {
+      syllable = made;
+      is_regular = record { blanks = blanks; text = regular; notes = notes.regular; single = notes.single };
+      some = omega arith;
+      cut = split_at text (gap + k + 1 + m) (cut_after text (gap + k + 1 + m) utf8 fits all_utf8);
+      cut_gap = split_at text gap (cut_after text gap utf8 within gap_utf8);
+      is_text = record {
+        utf8 = all_utf8;
+        plain = subst (All IsPlain) (sym (all_chars ∙ spelled_is))
+            (All-append IsPlain (take gap text) rest (blanks_plain (take gap text) blanks) (plain_spelled rest (subst (All IsPlainByte) slice_is plain)));
+      };
+      characters_are = all_chars;
+      gap_is = sym (length-take-le gap text within);
+      rest_is = rest_are;
+      unmarked = kept_unmarked (take gap text) (subst IsUnmarked slice_is none);
+    }

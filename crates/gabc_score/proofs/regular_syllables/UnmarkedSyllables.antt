@@ -1,5 +1,5 @@
 -- Bytes among which no span mark stands, and the spans that are open after a syllable that keeps them.
-use Rattle.std.proofs.Common.{◌≡◌, ◌≢◌, ℕ, zero, suc, ◌+◌, ◌-◌, ◌<◌, List, [], ◌∷◌, ◌++◌, Bool, true, false, ◌||◌, ◌&&◌, ◌==◌, nat_lt, cond, length, take, drop, codes, encode_utf8_all, refl, sym, ap, subst, ◌∙◌, arith, take-append-drop}
+use Rattle.std.proofs.Common.{◌≡◌, ℕ, zero, suc, ◌-◌, List, [], ◌∷◌, ◌++◌, Bool, true, false, ◌||◌, ◌==◌, nat_lt, cond, length, take, drop, codes, refl, sym, ap, ◌∙◌, arith, take-append-drop}
 use Rattle.std.specs.List.{starts_with}
 use Rattle.std.specs.Str.{bytes_eq}
 use Rattle.std.proofs.lemmas.Bool.{lt-ltb}
@@ -7,11 +7,10 @@ use Rattle.std.proofs.lemmas.Bool.Decides.{Decides-eqb}
 use Rattle.std.proofs.lemmas.Slice.Eq.{starts_is, bytes_eq-Decides}
 use Rattle.gabc_places.specs.declared.place.Span.{Span}
 use Rattle.gabc_text.specs.declared.view.Piece.{Piece}
-use Rattle.gabc_text.specs.declared.view.PieceKind.{PieceKind}
 use Rattle.gabc_score.specs.Syllable.{UnplacedSyllable, slice, is_mark, is_open_after}
 use Rattle.gabc_score.specs.SpansPast.{open_past, eu_past, nlba_past}
 use Rattle.gabc_score.specs.RegularSyllable.{SyllableParts, has_gap}
-use Rattle.gabc_score.specs.machine.RegularLen.{begins_mark, IsUnmarked}
+use Rattle.gabc_score.specs.machine.RegularLen.{IsUnmarked}
 
 abbrev begins : List ℕ → List ℕ → Bool
 begins bytes tag = starts_with (λ a b. a == b) bytes tag
@@ -34,7 +33,7 @@ no_slice tag kept span none = by (bytes_eq (take (span.to - span.from) (drop spa
     by true e =
         let same = (bytes_eq-Decides (take (span.to - span.from) (drop span.from kept)) tag).0 e in
         let cut : drop span.from kept ≡ tag ++ drop (span.to - span.from) (drop span.from kept) =
-            sym (take-append-drop (span.to - span.from) (drop span.from kept)) ∙ ap (λ (t : List ℕ). t ++ drop (span.to - span.from) (drop span.from kept)) same in
+        sym (take-append-drop (span.to - span.from) (drop span.from kept)) ∙ ap (λ (t : List ℕ). t ++ drop (span.to - span.from) (drop span.from kept)) same in
         sym ((starts_is Decides-eqb (drop span.from kept) tag (starts_with (λ a b. a == b) (drop span.from kept) tag) refl).1 (drop (span.to - span.from) (drop span.from kept)) cut) ∙ none span.from
 
 stays_open : (mark was : Bool) → cond mark (cond false true (cond false false was)) was ≡ was

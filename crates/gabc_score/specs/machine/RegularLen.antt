@@ -1,10 +1,9 @@
 -- How far a regular syllable goes that a text begins with.
-use Rattle.std.specs.Prelude.{◌≡◌, ◌≢◌, ℕ, ◌<◌, ◌≤◌, List, [], ◌∷◌, ◌++◌, Bool, true, false, ◌||◌, ◌==◌, length, take, drop, codes, encode_utf8_all}
-use Rattle.std.specs.List.{All, list_all, starts_with}
+use Rattle.std.specs.Prelude.{◌≡◌, ◌≢◌, ℕ, ◌<◌, ◌≤◌, List, [], ◌∷◌, ◌++◌, Bool, false, ◌||◌, ◌==◌, length, take, drop, codes, encode_utf8_all}
+use Rattle.std.specs.List.{starts_with}
 use Rattle.std.specs.Str.{chars, IsUtf8}
 use Rattle.std.specs.String.Boundary.{IsSplitPoint}
 use Rattle.gabc_places.specs.TextOfAnInput.{IsText}
-use Rattle.gabc_text.specs.Token.{is_blank}
 use Rattle.gabc_score.specs.declared.regular.RegularLen.{RegularLen}
 use Rattle.gabc_score.specs.RegularSyllable.{SyllableParts, AreRegularFrom, IsRegularSyllable, spelled, notes_spelled, kept_spelled, canonical_spelled}
 
