@@ -22,5 +22,5 @@ loop-begun-preserved c =
       same = c.loop-begun.invariant.same;
       before = rw (c.next_line-line.ensures) (more_snippets c.args.lines c.args.text.now c.loop-begun.begun c.loop-begun.line c.snippet_len.result c.utf8.text c.loop-begun.invariant.before
           (rw (c.range_from.ensures.value) at c.snippet_len.ensures.within) (rw (c.range_from.ensures.value) at c.snippet_len.ensures.regular)
-          found.3.0 (sym (found.3.1 0) ∙ c.in-Some-eq124.field-0-test) c.if-lines-gt0.true);
+          found.3.0 (sym (found.3.1 0) ∙ c.in-Some-eq124.field-0-test) (omega arith));
     }
