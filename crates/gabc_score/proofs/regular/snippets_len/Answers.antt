@@ -1,4 +1,4 @@
-use Rattle.std.proofs.Common.{◌∙◌, sym}
+use Rattle.std.proofs.Common.{◌∙◌, arith, sym}
 use Rattle.gabc_score.proofs.regular_syllables.BytesOfRegularSyllables.{no_snippets, begun_cut, more_snippets, last_snippet}
 use Rattle.gabc_score.proofs.regular.snippets_len.Goals as goal
 
