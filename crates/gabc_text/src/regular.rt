@@ -243,7 +243,7 @@ fn untranslated_len(bytes: &[u8]) -> usize
 {
     let mut end = 0;
     let mut before = Before::NOTHING;
-    while end < bytes.len() {
+    while end < bytes.len() && bytes[end] != b'(' {
         match next_step(bytes, end, before) {
             None => return end,
             Some(step) => {
@@ -262,6 +262,9 @@ fn translation_len(bytes: &[u8]) -> usize
     ensures bracketed { 0 < result → IsBracketed (codes "[") 93 (codes "]") (take result bytes.now) }
     ensures notes { 0 < result → get_or bytes.now result 0 ≡ 40 }
 {
+    if bytes.is_empty() || bytes[0] != b'[' {
+        return 0;
+    }
     let len = bracketed_len(bytes, b"[", b']', b"]");
     if len < bytes.len() && bytes[len] == b'(' {
         len

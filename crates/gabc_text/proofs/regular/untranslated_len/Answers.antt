@@ -8,5 +8,8 @@ loop-end-init c = record { within = omega arith; begun = no_text _ refl refl }
 pub returns-in-None-clause-begun : goal.returns-in-None-clause-begun
 returns-in-None-clause-begun c = (c.loop-end.before, c.loop-end.invariant.begun)
 
-pub returns-clause-begun : goal.returns-clause-begun
-returns-clause-begun c = (c.loop-end.before, c.loop-end.invariant.begun)
+pub returns-after-loop-end-clause-begun : goal.returns-after-loop-end-clause-begun
+returns-after-loop-end-clause-begun c = (c.loop-end.before, c.loop-end.invariant.begun)
+
+pub returns-else-bytes-end-ne40-clause-begun : goal.returns-else-bytes-end-ne40-clause-begun
+returns-else-bytes-end-ne40-clause-begun c = (c.loop-end.before, c.loop-end.invariant.begun)
