@@ -241,8 +241,11 @@ fn untranslated_len(bytes: &[u8]) -> usize
     ensures begun { (before : Before) × IsBegun before (take result bytes.now) }
     ensures stops { result < length bytes.now → has_letter_at bytes.now result ≡ false }
 {
-    let mut end = 0;
-    let mut before = Before::NOTHING;
+    let mut end = run_len(bytes);
+    let mut before = Before {
+        word: end > 0,
+        ..Before::NOTHING
+    };
     while end < bytes.len() && bytes[end] != b'(' {
         match next_step(bytes, end, before) {
             None => return end,

@@ -16,11 +16,13 @@ fn is_special_byte(byte: u8) -> bool
     is_special(char::from(byte))
 }
 
-/// Returns whether `byte` is a letter by itself: it is of ASCII, and printed as it stands.
+/// Returns whether `byte` is a letter by itself: it is of ASCII, and printed as it stands. Most are
+/// small letters.
+#[inline(always)]
 fn is_letter_byte(byte: u8) -> bool
     ensures { result ≡ is_letter_byte byte }
 {
-    !is_special_byte(byte) && byte > b' ' && byte < 0x7F
+    byte.is_ascii_lowercase() || (!is_special_byte(byte) && byte > b' ' && byte < 0x7F)
 }
 
 /// Returns whether `byte` goes on with a character of several bytes.
