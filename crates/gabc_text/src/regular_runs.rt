@@ -203,7 +203,8 @@ fn more_of_run(bytes: &[u8], end: usize) -> usize
 }
 
 /// Returns how many of the first of `bytes` are letters by themselves.
-fn letters_len(bytes: &[u8]) -> usize
+#[inline(always)]
+pub(crate) fn letters_len(bytes: &[u8]) -> usize
     ensures within { result ≤ length bytes.now }
     ensures run { IsRun (take result bytes.now) }
 {
