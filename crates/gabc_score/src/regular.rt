@@ -96,6 +96,7 @@ fn snippet_len(line: u8, text: &str) -> usize
 
 /// Returns how many bytes the snippets of a regular syllable have that `text` begins with under
 /// `lines` NABC lines, with the marks that end them; 0, if it begins with none.
+#[inline(never)]
 fn snippets_len(lines: u8, text: &str) -> usize
     ensures { 0 < result → BeginsWithSnippets lines text.now result }
 {
