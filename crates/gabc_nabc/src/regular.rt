@@ -20,10 +20,14 @@ pub(crate) struct RegularState {
 
 impl RegularState {
     /// Returns where the reading stands after `c`; `None` where `c` is not kept or ends a code that
-    /// has no name.
+    /// has no name. The marks that end a snippet have their short way.
+    #[inline(always)]
     fn after(self, c: char) -> Option<RegularState>
         ensures { result ≡ regular_after self c }
     {
+        if c == ')' || c == '|' {
+            return None;
+        }
         match next_state(self.part, class_of(c)) {
             Some(next) if !lacks_name(first_letter(self.part, self.letter), c) => Some(
                 RegularState {

@@ -7,7 +7,7 @@ ghost use Rattle.gabc_notes.specs.machine.Regular.{ends_regularly, regular_after
 
 use crate::class::class_of;
 use crate::macro_prefix::{MacroPrefix, digit_of_prefix, prefix_with};
-use crate::state::{ItemState, is_attribute, is_raw, is_whole, next_state};
+use crate::state::{ItemState, is_attribute, is_raw, is_whole, next_state, short_step};
 
 /// Where the reading of a snippet stands in which nothing was found yet.
 #[derive(Clone, Copy)]
@@ -33,8 +33,24 @@ impl RegularState {
     }
 
     /// Returns where the reading stands after `c`; `None` where `c` is not kept or something is
-    /// found at it.
+    /// found at it. Most notes have their short way, and so have the marks that end them.
+    #[inline(always)]
     fn after(self, c: char) -> Option<RegularState>
+        ensures { result ≡ regular_after self c }
+    {
+        match short_step(self.item, c) {
+            Some(next) => Some(RegularState {
+                item: next,
+                name: MacroPrefix::Closed,
+                fused: self.fused,
+            }),
+            None if (c == ')' || c == '|') && !is_raw(self.item) => None,
+            None => self.after_any(c),
+        }
+    }
+
+    /// Returns what `after` returns, whatever `c` is.
+    fn after_any(self, c: char) -> Option<RegularState>
         ensures { result ≡ regular_after self c }
     {
         let next = match next_state(self.item, class_of(c)) {

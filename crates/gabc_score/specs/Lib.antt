@@ -5,6 +5,7 @@ pub mod Body
 pub mod Canonical
 pub mod Events
 pub mod FoundInParts
+pub mod GivesSyllables
 pub mod HeldAside
 pub mod HeldAgain
 pub mod KeptAgain

@@ -1,3 +1,4 @@
+pub mod Between
 pub mod BodyBuilder
 pub mod Collected
 pub mod Fronts
@@ -14,6 +15,7 @@ pub mod PartPushes
 pub mod Preceded
 pub mod Quiet
 pub mod ReadAlone
+pub mod RegularLen
 pub mod Resumed
 pub mod ReadAgain
 pub mod ScoreMachine

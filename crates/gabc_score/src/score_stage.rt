@@ -6,6 +6,11 @@ ghost use Rattle.gabc_score.specs.witness.BodyStage.{texts_by_stage};
 ghost use Rattle.gabc_places.specs.StageLaw.{concat_of};
 ghost use Rattle.gabc_score.specs.ScoreEvents.{score_outputs, syllables_in};
 ghost use Rattle.std.specs.List.{All};
+ghost use Rattle.std.specs.Str.{chars};
+ghost use Rattle.std.specs.String.Boundary.{IsSplitPoint};
+ghost use Rattle.gabc_places.specs.Place.{place_past};
+ghost use Rattle.gabc_places.specs.TextOfAnInput.{IsPlain};
+ghost use Rattle.gabc_score.specs.GivesSyllables.{Runs};
 ghost use Rattle.gabc_places.specs.Skip.{IsPrintable};
 ghost use Rattle.gabc_score.specs.ScoreStage.{AreCountsBelow, GivesNothing, lent_in};
 ghost use Rattle.gabc_score.specs.witness.ScoreStage.{left_of};
@@ -16,6 +21,7 @@ use crate::before::Before;
 use crate::body_stage::BodyStage;
 use crate::body_tells::Openers;
 use crate::bounds::Bounds;
+use crate::give::{Give, Run};
 use crate::score_event::{LentSyllable, ScoreEvent};
 use crate::score_machine::{ScoreMachine, ScorePart};
 use crate::slot_pair::SlotPair;
@@ -101,6 +107,30 @@ impl ScoreStage {
         ensures step { GivesNothing self.old at (take result bytes.now) self.new }
     {
         self.machine.take_front(at, bytes)
+    }
+
+    /// Takes whole syllables from the front of `text`, of which the first character stands at `at`, and
+    /// returns how far it went. At their characters it gives syllables and nothing else, to `out`. From
+    /// then on it gives what it would give had each of the characters been pushed. Of those that it
+    /// could take it may leave some to `push`. `room` is empty, and has room for 16 events; nothing
+    /// stands in it afterwards.
+    pub fn take_run<G: Give>(
+        &mut self,
+        at: Place,
+        text: &str,
+        room: &mut Room<ScoreEvent>,
+        out: &mut G,
+    ) -> Run
+        requires empty { room.old.items ≡ [] }
+        requires room { 16 ≤ room.old.limit }
+        ensures room { room.new ≡ room.old }
+        ensures within { IsSplitPoint text.now result.bytes }
+        ensures plain { All IsPlain (chars (take result.bytes text.now)) }
+        ensures next { result.next ≡ place_past at (chars (take result.bytes text.now)) }
+        ensures runs { Runs G.given self.old at (chars (take result.bytes text.now)) self.new
+            out.old out.new }
+    {
+        Run { bytes: 0, next: at }
     }
 
     /// Does nothing. Its contract is a law: where the inputs cease, at most one syllable is given.

@@ -6,7 +6,7 @@ use Rattle.std.proofs.lemmas.List.Elements.{All-append, All-from_recursion}
 use Rattle.std.proofs.lemmas.Bool.{eqb-true, eqb-false, ltb-true, ltb-false, lt-ltb, true≢false}
 use Rattle.std.proofs.Math.Nat.{div-add-mod}
 use Rattle.std.proofs.Math.Seq.{take-add}
-use Rattle.std.proofs.lemmas.List.{length-take-le}
+use Rattle.std.proofs.lemmas.List.{length-take-le, take_more}
 use Rattle.std.proofs.lemmas.Str.{encodes-append, chars-encodes}
 use Rattle.std.proofs.lemmas.Grind.{common_steps}
 use lib.Utf8.{encode, low_scalar}
@@ -302,6 +302,9 @@ pub word_step : (l : List ℕ) (n r : ℕ) → IsWord (take r (take (length l - 
 word_step l n r h s =
     subst IsRun (sym (take-add n r l))
     (run_more (take n l) (take r (drop n l)) (subst (λ (xs : List ℕ). IsWord (take r xs)) (behind_is l n) h) s)
+
+pub letter_step : (l : List ℕ) (n : ℕ) → n < length l → is_letter_byte (get_or l n 0) ≡ true → IsRun (take n l) → IsRun (take (n + 1) l)
+letter_step l n less h s = subst IsRun (sym (take_more l n 0 less)) (run_more (take n l) (get_or l n 0 ∷ []) (letter_is (get_or l n 0) h) s)
 
 -- from where a blank stands
 pub at_blank : (l : List ℕ) (n r : ℕ) → n < length l → get_or l n 0 ≡ 32 → take (r + 1) (drop n l) ≡ 32 ∷ take r (drop (n + 1) l)

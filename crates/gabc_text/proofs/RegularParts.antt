@@ -1,5 +1,5 @@
 -- Parts of a regular text, one after another.
-use Rattle.std.proofs.Common.{◌≡◌, ℕ, ◌<◌, ◌≤◌, ◌+◌, ◌-◌, ◌==◌, List, [], ◌∷◌, ◌++◌, Bool, true, false, not, ◌||◌, ◌&&◌, length, refl, sym, ap, ap₂, subst, ◌∙◌, arith, take, drop, get_or, map, append-nil, append_assoc, length-append, Option, Some, None}
+use Rattle.std.proofs.Common.{◌≡◌, ℕ, ◌<◌, ◌≤◌, ◌+◌, ◌-◌, ◌==◌, List, [], ◌∷◌, ◌++◌, Bool, true, false, not, ◌||◌, ◌&&◌, length, refl, sym, ap, ap₂, subst, ◌∙◌, arith, take, drop, get_or, map, append-nil, append_assoc, length-append, Option, Some, None, nat_lt, zero, suc}
 use Rattle.std.specs.Str.{chars}
 use Rattle.std.specs.Cmp.Lexicographic.{pointwise}
 use Rattle.std.proofs.lemmas.Bool.{true≢false}
@@ -7,6 +7,7 @@ use Rattle.std.proofs.lemmas.Bool.Decides.{Decides-eqb}
 use Rattle.std.proofs.lemmas.Slice.Eq.{starts_is}
 use Rattle.std.proofs.Math.Seq.{take-add}
 use Rattle.std.proofs.lemmas.List.{length-take-le, length-map}
+use Rattle.std.proofs.lemmas.Bool.{lt-ltb}
 use Rattle.gabc_places.specs.declared.place.Span.{Span}
 use Rattle.gabc_places.specs.TextOfAnInput.{IsText}
 use Rattle.gabc_text.specs.declared.styles.Style.{Style}
@@ -222,6 +223,14 @@ no_text b e f = record {
   middle_in = tt;
   no_middle = λ g. refl;
 }
+
+-- a run is a text
+pub run_begun : (l : List ℕ) (n : ℕ) → n ≤ length l → IsRun (take n l) → IsBegun (record { styles = no_styles; word = nat_lt 0 n; centre = false }) (take n l)
+run_begun l zero within run = no_text (record { styles = no_styles; word = false; centre = false }) refl refl
+run_begun l (suc n) within run =
+    subst (λ (w : Bool). IsBegun (record { styles = no_styles; word = w; centre = false }) (take (suc n) l)) (sym (lt-ltb 0 (suc n) (omega arith)))
+    (more_begun (record { styles = no_styles; word = false; centre = false }) no_styles true [] (take (suc n) l) (no_text (record { styles = no_styles; word = false; centre = false }) refl refl)
+    (plain_part (take (suc n) l) no_styles true run (omega (arith, length-take-le (suc n) l within)) refl) (apart_plain no_styles no_styles refl))
 
 -- the centre, whose pieces have no style
 centre_begun : (b : Before) (a : Before) (bs more : List ℕ) → IsBegun b bs → b.centre ≡ false → IsEnclosed (123 ∷ []) (125 ∷ []) more → a.styles ≡ no_styles → a.centre ≡ true → IsBegun a (bs ++ more)

@@ -9,7 +9,7 @@ ghost use Rattle.gabc_text.specs.Printed.{opening_tag, closing_tag};
 ghost use Rattle.gabc_text.specs.RegularText.{IsRegularText, has_letter_at};
 ghost use Rattle.gabc_text.specs.machine.RegularBytes.{no_styles, IsBracketed, IsMark, IsPart, IsBegun, AreApart, through};
 
-use crate::regular_runs::{bracketed_len, enclosed_len, run_len};
+use crate::regular_runs::{bracketed_len, enclosed_len, letters_len, run_len};
 use crate::styles::{Style, Styles};
 
 /// Returns the tags of `style`.
@@ -241,9 +241,12 @@ fn untranslated_len(bytes: &[u8]) -> usize
     ensures begun { (before : Before) × IsBegun before (take result bytes.now) }
     ensures stops { result < length bytes.now → has_letter_at bytes.now result ≡ false }
 {
-    let mut end = 0;
-    let mut before = Before::NOTHING;
-    while end < bytes.len() {
+    let mut end = run_len(bytes);
+    let mut before = Before {
+        word: end > 0,
+        ..Before::NOTHING
+    };
+    while end < bytes.len() && bytes[end] != b'(' {
         match next_step(bytes, end, before) {
             None => return end,
             Some(step) => {
@@ -262,6 +265,9 @@ fn translation_len(bytes: &[u8]) -> usize
     ensures bracketed { 0 < result → IsBracketed (codes "[") 93 (codes "]") (take result bytes.now) }
     ensures notes { 0 < result → get_or bytes.now result 0 ≡ 40 }
 {
+    if bytes.is_empty() || bytes[0] != b'[' {
+        return 0;
+    }
     let len = bracketed_len(bytes, b"[", b']', b"]");
     if len < bytes.len() && bytes[len] == b'(' {
         len
@@ -270,12 +276,9 @@ fn translation_len(bytes: &[u8]) -> usize
     }
 }
 
-/// Returns how many of the first of `bytes` are a text that is printed as it stands in front of a
-/// `(`, and in which nothing is found (`laws::a_regular_text_is_printed_as_it_stands`): letters and
-/// raw parts, with single blanks between them, some of them within the tags of a style, some in one
-/// centre; span marks; and a translation, if a `(` follows. It goes past each letter of ASCII, of
-/// two bytes, and from U+1000 to U+CFFF.
-pub fn regular_text(bytes: &[u8]) -> usize
+/// Returns what `regular_text` returns, whatever the text is.
+#[inline(never)]
+fn any_text_len(bytes: &[u8]) -> usize
     ensures within { result ≤ length bytes.now }
     ensures text { IsText (take result bytes.now) }
     ensures regular { IsRegularText (chars (take result bytes.now)) }
@@ -283,4 +286,24 @@ pub fn regular_text(bytes: &[u8]) -> usize
 {
     let end = untranslated_len(bytes);
     end + translation_len(&bytes[end..])
+}
+
+/// Returns how many of the first of `bytes` are a text that is printed as it stands in front of a
+/// `(`, and in which nothing is found (`laws::a_regular_text_is_printed_as_it_stands`): letters and
+/// raw parts, with single blanks between them, some of them within the tags of a style, some in one
+/// centre; span marks; and a translation, if a `(` follows. It goes past each letter of ASCII, of
+/// two bytes, and from U+1000 to U+CFFF.
+#[inline(always)]
+pub fn regular_text(bytes: &[u8]) -> usize
+    ensures within { result ≤ length bytes.now }
+    ensures text { IsText (take result bytes.now) }
+    ensures regular { IsRegularText (chars (take result bytes.now)) }
+    ensures stops { result < length bytes.now → has_letter_at bytes.now result ≡ false }
+{
+    let letters = letters_len(bytes);
+    if letters < bytes.len() && bytes[letters] == b'(' {
+        letters
+    } else {
+        any_text_len(bytes)
+    }
 }

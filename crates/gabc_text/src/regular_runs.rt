@@ -16,11 +16,13 @@ fn is_special_byte(byte: u8) -> bool
     is_special(char::from(byte))
 }
 
-/// Returns whether `byte` is a letter by itself: it is of ASCII, and printed as it stands.
+/// Returns whether `byte` is a letter by itself: it is of ASCII, and printed as it stands. Most are
+/// small letters.
+#[inline(always)]
 fn is_letter_byte(byte: u8) -> bool
     ensures { result ≡ is_letter_byte byte }
 {
-    !is_special_byte(byte) && byte > b' ' && byte < 0x7F
+    byte.is_ascii_lowercase() || (!is_special_byte(byte) && byte > b' ' && byte < 0x7F)
 }
 
 /// Returns whether `byte` goes on with a character of several bytes.
@@ -200,6 +202,19 @@ fn more_of_run(bytes: &[u8], end: usize) -> usize
     if after > 0 { after + 1 } else { 0 }
 }
 
+/// Returns how many of the first of `bytes` are letters by themselves.
+#[inline(always)]
+pub(crate) fn letters_len(bytes: &[u8]) -> usize
+    ensures within { result ≤ length bytes.now }
+    ensures run { IsRun (take result bytes.now) }
+{
+    let mut end = 0;
+    while end < bytes.len() && is_letter_byte(bytes[end]) {
+        end += 1;
+    }
+    end
+}
+
 /// Returns how many bytes the run has that `bytes` begin with: letters and raw parts, with single
 /// blanks between them.
 pub(crate) fn run_len(bytes: &[u8]) -> usize
@@ -207,8 +222,8 @@ pub(crate) fn run_len(bytes: &[u8]) -> usize
     ensures run { IsRun (take result bytes.now) }
     ensures stops { result < length bytes.now → has_letter_at bytes.now result ≡ false }
 {
-    let mut end = 0;
-    while end < bytes.len() {
+    let mut end = letters_len(bytes);
+    while end < bytes.len() && bytes[end] != b'(' {
         let more = more_of_run(bytes, end);
         if more == 0 {
             return end;

@@ -1,16 +1,10 @@
-use Rattle.gabc_text.proofs.RegularRawParts.{whole, whole_stops}
+use Rattle.gabc_text.proofs.RegularParts.{run_begun, begun_text, begun_regular}
 use Rattle.gabc_text.proofs.regular.regular_text.Goals as goal
 
-pub returns-clause-text : goal.returns-clause-text
-returns-clause-text c =
-    let b = c.untranslated_len-end.ensures.begun in
-    (whole b.0 c.args.bytes.now c.untranslated_len-end.result c.translation_len.result b.1 c.translation_len.ensures.bracketed).text
+pub returns-then-bytes-letters-eq40-clause-text : goal.returns-then-bytes-letters-eq40-clause-text
+returns-then-bytes-letters-eq40-clause-text c =
+    begun_text _ _ (run_begun c.args.bytes.now c.letters_len-letters.result c.letters_len-letters.ensures.within c.letters_len-letters.ensures.run)
 
-pub returns-clause-regular : goal.returns-clause-regular
-returns-clause-regular c =
-    let b = c.untranslated_len-end.ensures.begun in
-    (whole b.0 c.args.bytes.now c.untranslated_len-end.result c.translation_len.result b.1 c.translation_len.ensures.bracketed).regular
-
-pub returns-clause-stops : goal.returns-clause-stops
-returns-clause-stops c = λ less.
-    whole_stops c.args.bytes.now c.untranslated_len-end.result c.translation_len.result c.untranslated_len-end.ensures.stops c.translation_len.ensures.notes less
+pub returns-then-bytes-letters-eq40-clause-regular : goal.returns-then-bytes-letters-eq40-clause-regular
+returns-then-bytes-letters-eq40-clause-regular c =
+    begun_regular _ _ (run_begun c.args.bytes.now c.letters_len-letters.result c.letters_len-letters.ensures.within c.letters_len-letters.ensures.run)
