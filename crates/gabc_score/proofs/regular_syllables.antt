@@ -1,4 +1,7 @@
+pub mod OneMore
+pub mod PointsPass
 pub mod RegularPartsEnd
 pub mod RegularSyllableIsMade
 pub mod RegularSyllableIsRead
 pub mod StagesReadRegularSyllables
+pub mod UnitIsGathered

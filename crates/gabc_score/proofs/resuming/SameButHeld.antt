@@ -92,11 +92,11 @@ all_sound : (now : List BodyEvent) (g h : Gathered) → SoundAlike g h → Sound
 all_sound [] g h r = r
 all_sound (e ∷ now) g h r = all_sound now (with_event g e) (with_event h e) (event_sounds g h e r)
 
-all_stay : (now : List BodyEvent) (g : Gathered) → is_some g.first_kind ≡ true → is_some (with_all g now).first_kind ≡ true
+pub all_stay : (now : List BodyEvent) (g : Gathered) → is_some g.first_kind ≡ true → is_some (with_all g now).first_kind ≡ true
 all_stay [] g h = h
 all_stay (e ∷ now) g h = all_stay now (with_event g e) (event_stays g e h)
 
-not_first : (was now : Option ItemKind) (p : Place) → is_some was ≡ true → found_first was now p ≡ []
+pub not_first : (was now : Option ItemKind) (p : Place) → is_some was ≡ true → found_first was now p ≡ []
 not_first None now p e = absurd (true≢false (sym e))
 not_first (Some k) now p e = refl
 
