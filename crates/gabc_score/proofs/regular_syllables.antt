@@ -1,7 +1,10 @@
 pub mod OneMore
+pub mod PlaceIsPast
 pub mod PointsPass
 pub mod RegularPartsEnd
 pub mod RegularSyllableIsMade
 pub mod RegularSyllableIsRead
+pub mod RegularSyllablePasses
+pub mod SpellingIsShort
 pub mod StagesReadRegularSyllables
 pub mod UnitIsGathered

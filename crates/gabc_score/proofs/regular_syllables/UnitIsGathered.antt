@@ -22,7 +22,7 @@ use Rattle.gabc_score.specs.declared.events.BodyEvent.TheVariants as event
 use Rattle.gabc_score.specs.Body.{is_longer, events_onto, cut_of}
 use Rattle.gabc_score.specs.Canonical.{canonical}
 use Rattle.gabc_score.specs.HeldAgain.{LeavesOpen}
-use Rattle.gabc_score.specs.Syllable.{UnplacedSyllable, all_syllables, since_close, kept_of, is_eu, is_nlba, text_at}
+use Rattle.gabc_score.specs.Syllable.{UnplacedSyllable, all_syllables, since_close, kept_of, ended_parts_of, view_of, snippets_of, text_at}
 use Rattle.gabc_score.specs.SyllablesOfUnits.{characters_in, score_unit}
 use Rattle.gabc_score.specs.UnitRead.{GivesOneSyllable, first_events, emitted_through}
 use Rattle.gabc_score.specs.Units.{BodyUnit}
@@ -31,10 +31,11 @@ use Rattle.gabc_score.specs.machine.Between.{with_one}
 use Rattle.gabc_score.specs.machine.BodyBuilder.{with_all}
 use Rattle.gabc_score.specs.machine.Gatherer.{Gathered, with_event, first_past, span_of}
 use Rattle.gabc_score.specs.machine.PartKeeps.{ReadAlike}
-use Rattle.gabc_score.specs.machine.SyllableBuilder.{nothing_open, past_snippet}
+use Rattle.gabc_score.specs.machine.SyllableBuilder.{OpenSyllable, nothing_open, past_snippet}
 use Rattle.gabc_score.proofs.building.BuilderHoldsDefinition.{gathered}
 use Rattle.gabc_score.proofs.order.FindingsOfParts.{found}
 use Rattle.gabc_score.proofs.regular_syllables.OneMore.{Fits, Gathers}
+use Rattle.gabc_score.proofs.resuming.HeldIsRead.{neither_is}
 use Rattle.gabc_score.proofs.resuming.MadeOfEvents.{MadeAlike, made_behind, Counts, counts_from, size_of}
 use Rattle.gabc_score.proofs.resuming.ScoresAgree.{same_but}
 
@@ -125,15 +126,16 @@ stays_uncut (e ∷ es) before g h = stays_uncut es (e ∷ before) (with_event g 
 
 -- ---- the unit
 
+-- what is read of a syllable with these events
+abbrev open_of : List BodyEvent → OpenSyllable
+open_of events = record { kept = kept_of events; from = length (ended_parts_of events); view = view_of events; snippets = snippets_of events }
+
 -- With so many bytes of a syllable no limit is passed.
 pub record HasRoom (limits : Limits) (g : Gathered) (size : ℕ) : Type 0 where
   pub limit : g.limit ≡ limits.syllable
   pub over : g.over ≡ false
   pub syllable : size ≤ limits.syllable
   pub input : g.total + size + 1 ≤ limits.input
-
-neither_is : (a b : Bool) → a ≡ false → b ≡ false → (a || b) ≡ false
-neither_is a b e f = ap (λ x. x || b) e ∙ f
 
 module _ (g : Gathered) (spans : Spans) (nothing : g.builder ≡ nothing_open) (eu : g.eu ≡ spans.eu) (nlba : g.nlba ≡ spans.nlba) (none : g.made ≡ []) (follows : g.follows ≡ true) (sounded : is_some g.first_kind ≡ true)
     (before : List BodyEvent) (leaves : LeavesOpen spans before) (whole : cut_of before ≡ None) (lines macros : ℕ) (at : Place) (u : BodyUnit) (one : GivesOneSyllable lines macros at u [] before)
@@ -207,7 +209,7 @@ module _ (g : Gathered) (spans : Spans) (nothing : g.builder ≡ nothing_open) (
       let events = emitted_through lines macros at u [] before in
       let uncut : h.cut ≡ g.cut = stays_uncut (concat_of lists) before g (ap (λ (es : List BodyEvent). cut_of (events_onto es before)) (sym whole_is) ∙ one.uncut ∙ whole) in
       let read : ReadAlike after h = record {
-        builder = sym (through.read.builder ∙ ap (λ (es : List BodyEvent). open_of es) one.nothing_behind);
+        builder = sym (through.read.builder ∙ ap open_of one.nothing_behind);
         eu = sym (through.read.eu ∙ one.open_eu);
         nlba = sym (through.read.nlba ∙ one.open_nlba);
       } in
@@ -215,9 +217,6 @@ module _ (g : Gathered) (spans : Spans) (nothing : g.builder ≡ nothing_open) (
       ap (λ (k : Gathered). record k { made = m ∷ [] }) (same_but after h (sym counted.limit) read (sym stay.follows) (sym counts.1) (sym counts.0) (sym uncut))
       ∙ ap (λ (k : Option ItemKind). record after { first_kind = k }) stay.first
     where
-      open_of : List BodyEvent → _
-      open_of es = (gathered 0 0 es).builder
-
       whole_is : first_events lines macros at (characters_in u ++ []) (length (characters_in u)) ≡ concat_of lists
       whole_is =
           ap (λ (n : ℕ). first_events lines macros at (characters_in u ++ []) n) (sym each)
