@@ -1,10 +1,9 @@
 -- A regular syllable is read between two syllables: what was held is given, and the syllable that it makes is held.
-use Rattle.std.proofs.Common.{◌≡◌, ℕ, suc, ◌+◌, ◌<◌, ◌≤◌, ◌||◌, nat_lt, Bool, true, false, List, [], ◌∷◌, ◌++◌, map, length, take, take-take, take_at, length-take-le, is_some, refl, sym, ap, subst, ◌∙◌, arith, append-nil, length-append}
+use Rattle.std.proofs.Common.{◌≡◌, ℕ, ◌<◌, ◌≤◌, ◌||◌, nat_lt, true, false, List, [], ◌∷◌, ◌++◌, map, length, take, take-take, take_at, length-take-le, is_some, refl, sym, ap, subst, ◌∙◌, arith, append-nil, length-append}
 use Rattle.std.specs.List.{list_all, list_any}
 use Rattle.std.proofs.lemmas.List.{append_cancel_left}
 use lib.Utf8.{encodes}
 use Rattle.gabc_places.specs.StageLaw.{concat_of}
-use Rattle.gabc_places.specs.declared.code.Finding.{Finding}
 use Rattle.gabc_places.specs.declared.limits.Limits.{Limits}
 use Rattle.gabc_places.specs.declared.place.Place.{Place}
 use Rattle.gabc_places.specs.declared.place.Char.{Char}
@@ -17,35 +16,34 @@ use Rattle.gabc_text.specs.RegularText.{IsRegularText}
 use Rattle.gabc_text.specs.View.{kept}
 use Rattle.gabc_score.specs.declared.before.Spans.{Spans}
 use Rattle.gabc_score.specs.declared.events.BodyEvent.{BodyEvent}
-use Rattle.gabc_score.specs.Body.{events_onto, findings_of, is_none}
+use Rattle.gabc_score.specs.Body.{findings_of, is_none}
 use Rattle.gabc_score.specs.Events.{Texts, texts_by_definition, text_from, behind_mark, events_from}
 use Rattle.gabc_score.specs.GivesSyllables.{text_inputs}
-use Rattle.gabc_score.specs.HeldAgain.{LeavesOpen}
 use Rattle.gabc_score.specs.RegularSyllable.{SyllableParts, IsRegularSyllable, MakesItsSpelling, spelled, notes_spelled, after_part, nexts_at, unit_at}
-use Rattle.gabc_score.specs.ScoreEvents.{ScoreOutput, characters_in}
+use Rattle.gabc_score.specs.ScoreEvents.{characters_in}
 use Rattle.gabc_score.specs.SpansPast.{eu_past, nlba_past}
-use Rattle.gabc_score.specs.Syllable.{UnplacedSyllable, PlacedSyllable, since_close}
+use Rattle.gabc_score.specs.Syllable.{UnplacedSyllable}
 use Rattle.gabc_score.specs.SyllablesOfUnits as units
-use Rattle.gabc_score.specs.UnitRead.{HoldsSomeUnit, first_events, emitted_through}
+use Rattle.gabc_score.specs.UnitRead.{first_events}
 use Rattle.gabc_score.specs.Units.{BodyUnit, EndedPart}
 use Rattle.gabc_score.specs.witness.BodyStage.{texts_by_stage}
-use Rattle.gabc_score.specs.machine.Between.{with_one, past_one, given_before, IsBetween, LeavesRoomFor, GoesThrough, left_between, lists_between, IsAloneWith, IsMadeOf, Makes}
+use Rattle.gabc_score.specs.machine.Between.{with_one, past_one, given_before, IsBetween, LeavesRoomFor, GoesThrough, left_between, lists_between, IsAloneWith, IsMadeOf}
 use Rattle.gabc_score.specs.machine.BodyBuilder.{with_all}
 use Rattle.gabc_score.specs.machine.Gatherer.{Gathered}
 use Rattle.gabc_score.specs.machine.Preceded.{spans_of}
 use Rattle.gabc_score.specs.machine.ReadAlone.{is_error}
-use Rattle.gabc_score.specs.machine.ScoreStage.{HeldScore, body_left, placed_behind}
+use Rattle.gabc_score.specs.machine.ScoreStage.{HeldScore, body_left}
 use Rattle.gabc_score.specs.machine.SyllableBuilder.{nothing_open}
 use Rattle.gabc_score.proofs.building.OneListEachCharacter.{events_each}
 use Rattle.gabc_score.proofs.order.FindingsOfParts.{found, found_onto}
-use Rattle.gabc_score.proofs.regular_syllables.OneMore.{Gathers, holding, holding_one, Pass, next_of, one_passes}
+use Rattle.gabc_score.proofs.regular_syllables.OneMore.{Gathers, holding_one, Pass, next_of, one_passes}
 use Rattle.gabc_score.proofs.regular_syllables.PlaceIsPast.{mark_past, next_past}
 use Rattle.gabc_score.proofs.regular_syllables.PointsPass.{inputs_of, inputs_are_in, score_through, points_through, points_pass}
 use Rattle.gabc_score.proofs.regular_syllables.RegularSyllableIsMade.{none_left}
 use Rattle.gabc_score.proofs.regular_syllables.RegularSyllableIsRead.{unit_placed}
 use Rattle.gabc_score.proofs.regular_syllables.SpellingIsShort.{canonical_short, keeps_within}
-use Rattle.gabc_score.proofs.regular_syllables.UnitIsGathered.{HasRoom, unit_gathers, unit_is_gathered}
-use Rattle.gabc_score.proofs.resuming.HeldIsRead.{IsAlone, alone_of}
+use Rattle.gabc_score.proofs.regular_syllables.UnitIsGathered.{unit_gathers, unit_is_gathered}
+use Rattle.gabc_score.proofs.resuming.HeldIsRead.{alone_of}
 use Rattle.gabc_score.proofs.resuming.OpenSpans.{opened, leaves_open, none_cut}
 
 module _ (lines macros : ℕ) (at : Place) (r : SyllableParts) (regular : IsRegularSyllable lines r) (fits : CountsFit at (spelled r)) where

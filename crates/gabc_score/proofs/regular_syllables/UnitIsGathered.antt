@@ -1,5 +1,5 @@
 -- What is gathered of a unit that makes one syllable, whatever was gathered before: that syllable, with no limit passed.
-use Rattle.std.proofs.Common.{◌≡◌, ℕ, zero, suc, ◌+◌, ◌-◌, ◌<◌, ◌≤◌, ◌^◌, ◌||◌, ◌&&◌, ◌==◌, not, min, nat_lt, Bool, true, false, cond, List, [], ◌∷◌, ◌++◌, length, take, take_all, Option, Some, None, is_some, refl, sym, ap, subst, ◌∙◌, arith, append-nil}
+use Rattle.std.proofs.Common.{◌≡◌, ℕ, suc, ◌+◌, ◌<◌, ◌≤◌, ◌&&◌, ◌==◌, not, nat_lt, Bool, true, false, cond, List, [], ◌∷◌, ◌++◌, length, take, take_all, Option, Some, None, is_some, refl, sym, ap, subst, ◌∙◌, arith, append-nil}
 use Rattle.std.proofs.lemmas.Bool.{true≢false}
 use Rattle.std.proofs.lemmas.Bool.Decides.{nat_tests}
 use Rattle.std.proofs.lemmas.List.{append_cancel_left}
@@ -22,7 +22,7 @@ use Rattle.gabc_score.specs.declared.events.BodyEvent.TheVariants as event
 use Rattle.gabc_score.specs.Body.{is_longer, events_onto, cut_of}
 use Rattle.gabc_score.specs.Canonical.{canonical}
 use Rattle.gabc_score.specs.HeldAgain.{LeavesOpen}
-use Rattle.gabc_score.specs.Syllable.{UnplacedSyllable, all_syllables, since_close, kept_of, ended_parts_of, view_of, snippets_of, text_at}
+use Rattle.gabc_score.specs.Syllable.{UnplacedSyllable, all_syllables, kept_of, ended_parts_of, view_of, snippets_of, text_at}
 use Rattle.gabc_score.specs.SyllablesOfUnits.{characters_in, score_unit}
 use Rattle.gabc_score.specs.UnitRead.{GivesOneSyllable, first_events, emitted_through}
 use Rattle.gabc_score.specs.Units.{BodyUnit}
