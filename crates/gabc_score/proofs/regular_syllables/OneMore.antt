@@ -1,15 +1,17 @@
 -- A score that holds one syllable at most reads another one, by the lists of its characters.
-use Rattle.std.proofs.Common.{◌≡◌, ℕ, zero, suc, ◌+◌, ◌-◌, ◌<◌, ◌≤◌, ◌||◌, nat_lt, Bool, true, false, List, [], ◌∷◌, ◌++◌, map, length, take, drop, None, is_some, refl, sym, ap, subst, ◌∙◌, arith, append_assoc, append-nil}
+use Rattle.std.proofs.Common.{◌≡◌, ℕ, zero, suc, ◌+◌, ◌-◌, ◌<◌, ◌≤◌, ◌||◌, not, nat_lt, Bool, true, false, List, [], ◌∷◌, ◌++◌, map, length, take, drop, Option, None, is_some, refl, sym, ap, subst, ◌∙◌, arith, append_assoc, append-nil}
 use Rattle.gabc_places.specs.StageLaw.{concat_of}
 use Rattle.gabc_places.specs.Place.{saturating_next_place}
 use Rattle.gabc_places.specs.declared.code.Finding.{Finding}
 use Rattle.gabc_places.specs.declared.limits.Limits.{Limits}
 use Rattle.gabc_places.specs.declared.place.Char.{Char}
 use Rattle.gabc_places.specs.declared.place.Place.{Place}
+use Rattle.gabc_text.proofs.printing.NothingIsFoundInPrintedText.{no_head}
 use Rattle.gabc_text.specs.declared.text_event.TextEnd.TheVariants as text_end
 use Rattle.gabc_text.specs.declared.text_event.TextEvent.TheVariants as text
 use Rattle.gabc_text.specs.declared.text_event.TextPart.{TextPart}
 use Rattle.gabc_text.specs.declared.text_event.TextPart.TheVariants as part
+use Rattle.gabc_notes.specs.declared.item.ItemKind.{ItemKind}
 use Rattle.gabc_notes.specs.declared.stage.NoteEnd.TheVariants as note_end
 use Rattle.gabc_notes.specs.declared.stage.NoteEvent.TheVariants as note
 use Rattle.gabc_score.specs.declared.events.BodyEvent.{BodyEvent}
@@ -26,6 +28,7 @@ use Rattle.gabc_score.proofs.order.FindingsOfParts.{found, found_append, found_o
 use Rattle.gabc_score.proofs.regular_syllables.PointsPass.{score_through, points_through, NoneStops}
 use Rattle.gabc_score.proofs.resuming.HeldIsRead.{none_passed}
 use Rattle.gabc_score.proofs.resuming.SameButHeld.{all_stay, not_first}
+use Rattle.gabc_score.proofs.score_events.QuietPoints.{few_dropped, few_given, few_lent}
 
 -- ---- what was made before does not count
 
@@ -64,25 +67,6 @@ made_before es ps made g none some =
 
 -- ---- one syllable at most
 
-or_false : (b : Bool) → (b || false) ≡ b
-or_false true = refl
-or_false false = refl
-
-held_few : (ms : List UnplacedSyllable) → length ms ≤ 1 → drop (length ms - 1) ms ≡ ms
-held_few [] h = refl
-held_few (k ∷ []) h = refl
-held_few (k ∷ l ∷ ms) h = absurd (omega (arith, h))
-
-lent_few : (lent : Bool) (ms : List UnplacedSyllable) → length ms ≤ 1 → (lent || nat_lt 1 (length ms)) ≡ lent
-lent_few lent [] h = or_false lent
-lent_few lent (k ∷ []) h = or_false lent
-lent_few lent (k ∷ l ∷ ms) h = absurd (omega (arith, h))
-
-given_few : (ms : List UnplacedSyllable) (ss : List PlacedSyllable) → length ms ≤ 1 → take (length ms - 1) ss ≡ []
-given_few [] ss h = refl
-given_few (k ∷ []) ss h = refl
-given_few (k ∷ l ∷ ms) ss h = absurd (omega (arith, h))
-
 held_more : (ms : List UnplacedSyllable) (m : UnplacedSyllable) → length ms ≤ 1 → drop (length (ms ++ m ∷ []) - 1) (ms ++ m ∷ []) ≡ m ∷ []
 held_more [] m h = refl
 held_more (k ∷ []) m h = refl
@@ -118,13 +102,9 @@ pub record Gathers (limits : Limits) (g : Gathered) (lists : List (List BodyEven
   pub fits : (n : ℕ) → n < length lists → Fits limits (with_all g (concat_of (take (suc n) lists)))
   pub nothing : found (concat_of lists) ≡ []
 
-neither : {X : Type 0} (xs ys : List X) → xs ++ ys ≡ [] → (xs ≡ []) × (ys ≡ [])
-neither [] ys e = (refl, e)
-neither (x ∷ xs) ys e = absurd (cc e)
-
 module _ (limits : Limits) (g : Gathered) (now : List BodyEvent) (lists : List (List BodyEvent)) (m : UnplacedSyllable) (a : Gathers limits g (now ∷ lists) m) where
   nothing_in : (found now ≡ []) × (found (concat_of lists) ≡ [])
-  nothing_in = neither (found now) (found (concat_of lists)) (sym (found_append now (concat_of lists)) ∙ a.nothing)
+  nothing_in = no_head (found now) (found (concat_of lists)) (sym (found_append now (concat_of lists)) ∙ a.nothing)
 
   nothing_now : findings_now now ≡ []
   nothing_now = found_onto now [] ∙ nothing_in.0
@@ -135,7 +115,7 @@ module _ (limits : Limits) (g : Gathered) (now : List BodyEvent) (lists : List (
   later : 0 < length lists → Gathers limits (with_all g now) lists m
   later some = record {
     none = ap (λ (h : Gathered). h.made) (sym (with_all_append g now [])) ∙ a.earlier 1 (omega (arith, some));
-    sounded = all_stay now g a.sounded;
+    sounded = ap (λ (k : Option ItemKind). is_some k) (all_stay now g a.sounded) ∙ a.sounded;
     earlier = λ n h. ap (λ (h : Gathered). h.made) (sym (with_all_append g now (concat_of (take n lists)))) ∙ a.earlier (suc n) (omega (arith, h));
     made = ap (λ (h : Gathered). h.made) (sym (with_all_append g now (concat_of lists))) ∙ a.made;
     fits = λ n h. subst (Fits limits) (with_all_append g now (concat_of (take (suc n) lists))) (a.fits (suc n) (omega (arith, h)));
@@ -189,14 +169,14 @@ module _ (limits : Limits) (lent : Bool) (ms : List UnplacedSyllable) (few : len
       early_past : score_past s x now ≡ holding (saturating_next_place x.place x.c) (with_all g now)
       early_past =
           ap past_by early_is
-          ∙ ap (λ (made : List UnplacedSyllable). record { next = saturating_next_place x.place x.c; gathered = record (with_all g now) { made = made }; has_lent = lent || nat_lt 1 (length ms) }) (held_few ms few)
-          ∙ ap (λ (b : Bool). record { next = saturating_next_place x.place x.c; gathered = record (with_all g now) { made = ms }; has_lent = b }) (lent_few lent ms few)
+          ∙ ap (λ (made : List UnplacedSyllable). record { next = saturating_next_place x.place x.c; gathered = record (with_all g now) { made = made }; has_lent = lent || nat_lt 1 (length ms) }) (few_dropped ms few)
+          ∙ ap (λ (b : Bool). record { next = saturating_next_place x.place x.c; gathered = record (with_all g now) { made = ms }; has_lent = b }) (few_lent lent ms few)
 
       early_outputs : point_outputs s x now ≡ []
       early_outputs =
           ap outputs_by early_is
           ∙ ap (λ (fs : List Finding). outputs_of fs (take (length ms - 1) (placed_behind lent ms))) (found_none (with_all g now).first_kind)
-          ∙ ap (λ (ss : List PlacedSyllable). outputs_of [] ss) (given_few ms (placed_behind lent ms) few)
+          ∙ ap (λ (ss : List PlacedSyllable). outputs_of [] ss) (few_given (not lent) ms few)
 
     -- the last one
     module _ (one : (with_all g now).made ≡ m ∷ []) where

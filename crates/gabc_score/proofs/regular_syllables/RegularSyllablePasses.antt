@@ -1,5 +1,5 @@
 -- A regular syllable is read between two syllables: what was held is given, and the syllable that it makes is held.
-use Rattle.std.proofs.Common.{◌≡◌, ℕ, ◌<◌, ◌≤◌, ◌||◌, nat_lt, true, false, List, [], ◌∷◌, ◌++◌, map, length, take, take-take, take_at, length-take-le, is_some, refl, sym, ap, subst, ◌∙◌, arith, append-nil, length-append}
+use Rattle.std.proofs.Common.{◌≡◌, ℕ, ◌<◌, ◌≤◌, ◌||◌, nat_lt, true, false, List, [], ◌∷◌, ◌++◌, map, length, take, take_all, take-take, take_at, length-take-le, is_some, refl, sym, ap, subst, ◌∙◌, arith, append-nil, length-append}
 use Rattle.std.specs.List.{list_all, list_any}
 use Rattle.std.proofs.lemmas.List.{append_cancel_left}
 use lib.Utf8.{encodes}
@@ -93,11 +93,7 @@ module _ (lines macros : ℕ) (at : Place) (r : SyllableParts) (regular : IsRegu
         let none : found es ≡ [] = append_cancel_left (findings_of (opened spans)) (found es) [] (sym (found_onto es (opened spans)) ∙ s.nothing ∙ sym (append-nil (findings_of (opened spans)))) in
         let same : es ≡ concat_of (take (length lists) lists) =
         ap (λ (n : ℕ). first_events lines macros at (units.characters_in unit ++ []) n) (sym unit_each) ∙ first_are (length lists) (omega arith) in
-        ap (λ (ls : List (List BodyEvent)). found (concat_of ls)) (sym (take_whole lists)) ∙ ap found (sym same) ∙ none
-      where
-        take_whole : (ls : List (List BodyEvent)) → take (length ls) ls ≡ ls
-        take_whole [] = refl
-        take_whole (l ∷ ls) = ap (λ (k : List (List BodyEvent)). l ∷ k) (take_whole ls)
+        ap (λ (ls : List (List BodyEvent)). found (concat_of ls)) (sym (take_all (length lists) lists (omega arith))) ∙ ap found (sym same) ∙ none
 
     pub made_of : IsMadeOf lines spans r m
     made_of = record {

@@ -1,18 +1,14 @@
 -- What is gathered of a unit that makes one syllable, whatever was gathered before: that syllable, with no limit passed.
-use Rattle.std.proofs.Common.{◌≡◌, ℕ, suc, ◌+◌, ◌<◌, ◌≤◌, ◌&&◌, ◌==◌, not, nat_lt, Bool, true, false, cond, List, [], ◌∷◌, ◌++◌, length, take, take_all, Option, Some, None, is_some, refl, sym, ap, subst, ◌∙◌, arith, append-nil}
-use Rattle.std.proofs.lemmas.Bool.{true≢false}
+use Rattle.std.proofs.Common.{◌≡◌, ℕ, suc, ◌+◌, ◌<◌, ◌≤◌, nat_lt, Bool, true, false, List, [], ◌∷◌, ◌++◌, length, take, take_all, Option, None, is_some, refl, sym, ap, subst, ◌∙◌, arith, append-nil}
 use Rattle.std.proofs.lemmas.Bool.Decides.{nat_tests}
 use Rattle.std.proofs.lemmas.List.{append_cancel_left}
 use Rattle.gabc_places.specs.StageLaw.{concat_of}
 use Rattle.gabc_places.specs.declared.limits.Limits.{Limits}
 use Rattle.gabc_places.specs.declared.place.Place.{Place}
-use Rattle.gabc_places.specs.declared.place.Span.{Span}
 use Rattle.gabc_text.specs.declared.text_event.TextEnd.TheVariants as text_end
 use Rattle.gabc_text.specs.declared.text_event.TextEvent.TheVariants as text
 use Rattle.gabc_text.specs.declared.text_event.TextPart.{TextPart}
 use Rattle.gabc_text.specs.declared.text_event.TextPart.TheVariants as part
-use Rattle.gabc_notes.specs.FirstNoteOrClef.{first_note_or_clef}
-use Rattle.gabc_notes.specs.Items.{items_of}
 use Rattle.gabc_notes.specs.declared.item.ItemKind.{ItemKind}
 use Rattle.gabc_notes.specs.declared.stage.NoteEnd.TheVariants as note_end
 use Rattle.gabc_notes.specs.declared.stage.NoteEvent.TheVariants as note
@@ -22,65 +18,48 @@ use Rattle.gabc_score.specs.declared.events.BodyEvent.TheVariants as event
 use Rattle.gabc_score.specs.Body.{is_longer, events_onto, cut_of}
 use Rattle.gabc_score.specs.Canonical.{canonical}
 use Rattle.gabc_score.specs.HeldAgain.{LeavesOpen}
-use Rattle.gabc_score.specs.Syllable.{UnplacedSyllable, all_syllables, kept_of, ended_parts_of, view_of, snippets_of, text_at}
+use Rattle.gabc_score.specs.Syllable.{UnplacedSyllable, all_syllables}
 use Rattle.gabc_score.specs.SyllablesOfUnits.{characters_in, score_unit}
 use Rattle.gabc_score.specs.UnitRead.{GivesOneSyllable, first_events, emitted_through}
 use Rattle.gabc_score.specs.Units.{BodyUnit}
 use Rattle.gabc_score.specs.WithinLimits.{KeepsWithin}
 use Rattle.gabc_score.specs.machine.Between.{with_one}
 use Rattle.gabc_score.specs.machine.BodyBuilder.{with_all}
-use Rattle.gabc_score.specs.machine.Gatherer.{Gathered, with_event, first_past, span_of}
+use Rattle.gabc_score.specs.machine.Gatherer.{Gathered, with_event}
 use Rattle.gabc_score.specs.machine.PartKeeps.{ReadAlike}
-use Rattle.gabc_score.specs.machine.SyllableBuilder.{OpenSyllable, nothing_open, past_snippet}
+use Rattle.gabc_score.specs.machine.SyllableBuilder.{nothing_open}
 use Rattle.gabc_score.proofs.building.BuilderHoldsDefinition.{gathered}
 use Rattle.gabc_score.proofs.order.FindingsOfParts.{found}
 use Rattle.gabc_score.proofs.regular_syllables.OneMore.{Fits, Gathers}
 use Rattle.gabc_score.proofs.resuming.HeldIsRead.{neither_is}
-use Rattle.gabc_score.proofs.resuming.MadeOfEvents.{MadeAlike, made_behind, Counts, counts_from, size_of}
+use Rattle.gabc_score.proofs.resuming.MadeOfEvents.{open_of, MadeAlike, made_behind, Counts, counts_from, size_of}
+use Rattle.gabc_score.proofs.resuming.SameButHeld.{all_stay}
 use Rattle.gabc_score.proofs.resuming.ScoresAgree.{same_but}
 
--- ---- what stays
+-- ---- a syllable stands before
 
--- the note or clef that came first
-kind_stays : (first : Option ItemKind) (line : ℕ) (span : Span) (kept : List ℕ) → is_some first ≡ true → first_past first line span kept ≡ first
-kind_stays None line span kept e = absurd (true≢false (sym e))
-kind_stays (Some k) line span kept e = by (line == 0)
-  where
-    by : (b : Bool) → cond (b && not (is_some (Some k))) (first_note_or_clef (items_of (text_at span kept))) (Some k) ≡ Some k
-    by true = refl
-    by false = refl
+part_follows : (g : Gathered) (p : TextPart) → (with_event g (event.Text (text.Part p))).follows ≡ g.follows
+part_follows g part.WordStart = refl
+part_follows g (part.Piece p) = refl
+part_follows g (part.Centre s) = refl
+part_follows g (part.Translation s) = refl
 
--- what follows a syllable, and the note or clef that came first
-pub record Stay (g h : Gathered) : Type 0 where
-  pub follows : h.follows ≡ true
-  pub first : h.first_kind ≡ g.first_kind
+event_follows : (g : Gathered) (e : BodyEvent) → g.follows ≡ true → (with_event g e).follows ≡ true
+event_follows g (event.Text (text.Kept c)) h = h
+event_follows g (event.Text (text.Part p)) h = part_follows g p ∙ h
+event_follows g (event.Text (text.Found f)) h = h
+event_follows g (event.Text (text.Ended text_end.Notes)) h = h
+event_follows g (event.Text (text.Ended text_end.Finished)) h = h
+event_follows g (event.Text (text.Ended (text_end.Cut p))) h = h
+event_follows g (event.Notes line (note.Kept c)) h = h
+event_follows g (event.Notes line (note.Found f)) h = h
+event_follows g (event.Notes line (note.Ended note_end.Next n)) h = h
+event_follows g (event.Notes line (note.Ended note_end.Close n)) h = refl
+event_follows g (event.Notes line (note.Ended (note_end.Cut p) n)) h = h
 
-module _ (g : Gathered) (sounded : is_some g.first_kind ≡ true) where
-  some : (h : Gathered) → Stay g h → is_some h.first_kind ≡ true
-  some h s = ap (λ (k : Option ItemKind). is_some k) s.first ∙ sounded
-
-  part_stays : (h : Gathered) (p : TextPart) → Stay g h → Stay g (with_event h (event.Text (text.Part p)))
-  part_stays h part.WordStart s = record { follows = s.follows; first = s.first }
-  part_stays h (part.Piece p) s = record { follows = s.follows; first = s.first }
-  part_stays h (part.Centre p) s = record { follows = s.follows; first = s.first }
-  part_stays h (part.Translation p) s = record { follows = s.follows; first = s.first }
-
-  event_stays : (h : Gathered) (e : BodyEvent) → Stay g h → Stay g (with_event h e)
-  event_stays h (event.Text (text.Kept c)) s = record { follows = s.follows; first = s.first }
-  event_stays h (event.Text (text.Part p)) s = part_stays h p s
-  event_stays h (event.Text (text.Found f)) s = s
-  event_stays h (event.Text (text.Ended text_end.Notes)) s = record { follows = s.follows; first = s.first }
-  event_stays h (event.Text (text.Ended text_end.Finished)) s = s
-  event_stays h (event.Text (text.Ended (text_end.Cut p))) s = record { follows = s.follows; first = s.first }
-  event_stays h (event.Notes line (note.Kept c)) s = record { follows = s.follows; first = s.first }
-  event_stays h (event.Notes line (note.Found f)) s = s
-  event_stays h (event.Notes line (note.Ended note_end.Next n)) s = record { follows = s.follows; first = kind_stays h.first_kind line (span_of h.builder line n) (past_snippet h.builder line n 124).kept (some h s) ∙ s.first }
-  event_stays h (event.Notes line (note.Ended note_end.Close n)) s = record { follows = refl; first = kind_stays h.first_kind line (span_of h.builder line n) (past_snippet h.builder line n 41).kept (some h s) ∙ s.first }
-  event_stays h (event.Notes line (note.Ended (note_end.Cut p) n)) s = record { follows = s.follows; first = s.first }
-
-  all_stay : (es : List BodyEvent) (h : Gathered) → Stay g h → Stay g (with_all h es)
-  all_stay [] h s = s
-  all_stay (e ∷ es) h s = all_stay es (with_event h e) (event_stays h e s)
+all_follow : (es : List BodyEvent) (g : Gathered) → g.follows ≡ true → (with_all g es).follows ≡ true
+all_follow [] g h = h
+all_follow (e ∷ es) g h = all_follow es (with_event g e) (event_follows g e h)
 
 -- ---- no bracket is left open
 
@@ -125,10 +104,6 @@ stays_uncut [] before g h = refl
 stays_uncut (e ∷ es) before g h = stays_uncut es (e ∷ before) (with_event g e) h ∙ event_cut g e before (all_cut es (e ∷ before) h)
 
 -- ---- the unit
-
--- what is read of a syllable with these events
-abbrev open_of : List BodyEvent → OpenSyllable
-open_of events = record { kept = kept_of events; from = length (ended_parts_of events); view = view_of events; snippets = snippets_of events }
 
 -- With so many bytes of a syllable no limit is passed.
 pub record HasRoom (limits : Limits) (g : Gathered) (size : ℕ) : Type 0 where
@@ -205,7 +180,6 @@ module _ (g : Gathered) (spans : Spans) (nothing : g.builder ≡ nothing_open) (
   unit_is_gathered ms =
       let h = with_all g (concat_of lists) in
       let after = with_one (record g { made = ms }) m in
-      let stay = all_stay g sounded (concat_of lists) g (record { follows = follows; first = refl }) in
       let events = emitted_through lines macros at u [] before in
       let uncut : h.cut ≡ g.cut = stays_uncut (concat_of lists) before g (ap (λ (es : List BodyEvent). cut_of (events_onto es before)) (sym whole_is) ∙ one.uncut ∙ whole) in
       let read : ReadAlike after h = record {
@@ -214,8 +188,8 @@ module _ (g : Gathered) (spans : Spans) (nothing : g.builder ≡ nothing_open) (
         nlba = sym (through.read.nlba ∙ one.open_nlba);
       } in
       let counts = counted.one m made in
-      ap (λ (k : Gathered). record k { made = m ∷ [] }) (same_but after h (sym counted.limit) read (sym stay.follows) (sym counts.1) (sym counts.0) (sym uncut))
-      ∙ ap (λ (k : Option ItemKind). record after { first_kind = k }) stay.first
+      ap (λ (k : Gathered). record k { made = m ∷ [] }) (same_but after h (sym counted.limit) read (sym (all_follow (concat_of lists) g follows)) (sym counts.1) (sym counts.0) (sym uncut))
+      ∙ ap (λ (k : Option ItemKind). record after { first_kind = k }) (all_stay (concat_of lists) g sounded)
     where
       whole_is : first_events lines macros at (characters_in u ++ []) (length (characters_in u)) ≡ concat_of lists
       whole_is =
