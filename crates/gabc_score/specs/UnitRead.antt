@@ -34,8 +34,8 @@ module _ (lines macros : ℕ) (at : Place) (u : BodyUnit) (behind : List Char) (
   emitted_through = emitted_within (length (characters_in u))
 
   -- The unit gives one syllable. It gives it with its last character, and nothing of the next one. The syllable holds the unit; which
-  -- spans are open behind it follows from those before. No more is kept on the way, nor of the syllable, than the unit keeps, and no
-  -- bracket is left open.
+  -- spans are open behind it follows from those before. No more is kept on the way, nor of the syllable, than the unit keeps. No bracket
+  -- is left open.
   pub record GivesOneSyllable : Type 0 where
     pub made : UnplacedSyllable
     pub none_earlier : (n : ℕ) → n < length (characters_in u) → all_syllables (emitted_within n) ≡ all_syllables before

@@ -93,7 +93,7 @@ pub record Fits (limits : Limits) (g : Gathered) : Type 0 where
 fits_any : (limits : Limits) (g : Gathered) (ms : List UnplacedSyllable) → Fits limits g → code_in limits (record g { made = ms }) ≡ None
 fits_any limits g ms f = none_passed limits (record g { made = ms }) (record { kept = f.kept; over = f.over; file = λ some. f.total })
 
--- With these lists one syllable is made, with the last of them. Nothing is found, and no limit is passed.
+-- With the last of these lists one syllable is made. Nothing is found, and no limit is passed.
 pub record Gathers (limits : Limits) (g : Gathered) (lists : List (List BodyEvent)) (m : UnplacedSyllable) : Type 0 where
   pub none : g.made ≡ []
   pub sounded : is_some g.first_kind ≡ true

@@ -1,4 +1,5 @@
--- A regular syllable is read between two syllables: what was held is given, and the syllable that it makes is held.
+-- A regular syllable is read between two syllables: what was held is given, and what it makes is
+-- held.
 use Rattle.std.proofs.Common.{◌≡◌, ℕ, ◌<◌, ◌≤◌, ◌||◌, nat_lt, true, false, List, [], ◌∷◌, ◌++◌, map, length, take, take_all, take-take, take_at, length-take-le, is_some, refl, sym, ap, subst, ◌∙◌, arith, append-nil, length-append}
 use Rattle.std.specs.List.{list_all, list_any}
 use Rattle.std.proofs.lemmas.List.{append_cancel_left}

@@ -1,4 +1,5 @@
--- What is gathered of a unit that makes one syllable, whatever was gathered before: that syllable, with no limit passed.
+-- What is gathered of a unit that makes one syllable, whatever was gathered before: that syllable,
+-- with no limit passed.
 use Rattle.std.proofs.Common.{◌≡◌, ℕ, suc, ◌+◌, ◌<◌, ◌≤◌, nat_lt, Bool, true, false, List, [], ◌∷◌, ◌++◌, length, take, take_all, Option, None, is_some, refl, sym, ap, subst, ◌∙◌, arith, append-nil}
 use Rattle.std.proofs.lemmas.Bool.Decides.{nat_tests}
 use Rattle.std.proofs.lemmas.List.{append_cancel_left}
