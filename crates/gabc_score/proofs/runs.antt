@@ -1,0 +1,5 @@
+pub mod BeforeLast
+pub mod LastIsHeld
+pub mod RunGives
+pub mod RunGoesOn
+pub mod Throughs
