@@ -16,8 +16,8 @@ pub mod Preceded
 pub mod Quiet
 pub mod ReadAlone
 pub mod RegularLen
-pub mod Run
 pub mod Resumed
+pub mod Run
 pub mod ReadAgain
 pub mod ScoreMachine
 pub mod ScoreStage

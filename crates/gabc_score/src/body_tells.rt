@@ -34,11 +34,14 @@ impl BodyStage {
         Openers { notes, inner }
     }
 
-    /// Returns whether it begins to read a text, whose first character stands at `at`.
+    /// Returns whether a text begins at `at` of which nothing was read.
     pub(crate) fn begins_text(&self, at: Place) -> bool
         ensures { IsTrue result ↔ (self.now.part ≡ BodyPart.Text (fresh_stage at)) }
     {
-        false
+        match &self.part {
+            BodyPart::Text(stage) => stage.begins(at),
+            _ => false,
+        }
     }
 
     /// Returns whether a comment is open.
