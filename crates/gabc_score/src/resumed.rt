@@ -1,6 +1,6 @@
 //! A stage over a score that goes on behind syllables which another one has read.
 
-ghost use Rattle.std.specs.Prelude.{◌≡◌, ◌<◌, ◌≤◌, ◌^◌, not, ℕ, None, IfOk, [], length, true, false};
+ghost use Rattle.std.specs.Prelude.{◌≡◌, ◌+◌, ◌<◌, ◌≤◌, ◌^◌, not, ℕ, None, IfOk, [], length, true, false};
 ghost use Rattle.std.specs.List.{list_any};
 ghost use Rattle.std.specs.Str.{chars};
 ghost use Rattle.gabc_text.specs.TextStage.{fresh_stage};

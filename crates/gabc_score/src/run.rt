@@ -14,7 +14,7 @@ ghost use Rattle.gabc_score.specs.machine.PartCounts.{CountsHold};
 ghost use Rattle.gabc_score.specs.machine.PartKeeps.{in_text, PartKeeps};
 ghost use Rattle.gabc_score.specs.machine.Run.{IsFound, IsSamePair, StandsBetween, RunsTo, past_found};
 ghost use Rattle.gabc_score.specs.machine.SyllableBuilder.{nothing_open};
-ghost use Rattle.gabc_score.specs.machine.ScoreMachine.{shown, IsScore};
+ghost use Rattle.gabc_score.specs.machine.ScoreMachine.{shown, IsScore, IsShort};
 
 use crate::before::Preceding;
 use crate::body_stage::BodyPart;
@@ -95,22 +95,22 @@ fn is_low(at: Place, text: &str) -> bool
 impl<'a> Found<'a> {
     /// Returns its canonical text but for the LF before a word.
     fn canonical(self) -> &'a [u8]
-        ensures { result.now ≡ drop self.gap self.spelled.now }
+        ensures { result.now ≡ drop self.entry.gap self.entry.spelled.now }
     {
         &self.spelled.as_bytes()[self.gap..]
     }
 
     /// Returns whether it begins a word.
     fn starts_word(self) -> bool
-        ensures { result ≡ nat_lt 0 self.gap }
+        ensures { result ≡ nat_lt 0 self.entry.gap }
     {
         self.gap > 0
     }
 
     /// Returns what stands before the syllable after it, where `p` stands before it.
     fn past(self, p: Preceding) -> Preceding
-        requires { p.canonical + length self.spelled.now + 1 < 2 ^ 64 }
-        ensures { result ≡ past_found p self }
+        requires { p.canonical + length self.entry.spelled.now + 1 < 2 ^ 64 }
+        ensures { result ≡ past_found p self.entry }
     {
         let start = if self.starts_word() { 1 } else { 0 };
         Preceding {
@@ -123,7 +123,8 @@ impl<'a> Found<'a> {
     /// Gives it to `out`, if it takes it.
     fn give<G: Give>(self, out: &mut G) -> bool
         ensures given { result ≡ true → (s : PlacedSyllable) →
-            canonical_in_place s ≡ spelled_canonical (nat_lt 0 self.gap) (drop self.gap self.spelled.now) →
+            canonical_in_place s
+            ≡ spelled_canonical (nat_lt 0 self.entry.gap) (drop self.entry.gap self.entry.spelled.now) →
             out.new ≡ G.given out.old (s ∷ []) }
         ensures same { result ≡ false → out.new ≡ out.old }
     {
@@ -194,7 +195,10 @@ impl ScoreMachine {
     /// `out` takes it.
     fn give_held<G: Give>(&mut self, next_starts: bool, out: &mut G) -> bool
         requires used { self.old.pair.used ≡ SlotUse.Filling }
+        requires short { All (IsShort self.old.limits.syllable) self.old.pair.gathered.made }
+        requires one { length self.old.pair.gathered.made ≡ 1 }
         ensures same { IsSamePair self.old self.new }
+        ensures used { self.new.pair.used ≡ SlotUse.Filling }
         ensures given { result ≡ true → (m : UnplacedSyllable) → self.old.pair.gathered.made ≡ m ∷ [] →
             out.new ≡ G.given out.old (record {
               made = m;
@@ -202,24 +206,23 @@ impl ScoreMachine {
             } ∷ []) }
         ensures kept { result ≡ false → out.new ≡ out.old }
     {
-        self.pair.place_held(self.has_lent, next_starts);
-        let held = self.pair.first();
-        if !out.takes(held.canonical_len()) {
+        if !out.takes(self.limits.syllable as usize + 1) {
             return false;
         }
-        out.give(held);
+        self.pair.place_held(self.has_lent, next_starts);
+        out.give(self.pair.first());
         true
     }
 
     /// Gives the syllables of a run to `out`, from the one that `reached` has found on, as long as one
     /// follows and `out` takes them. Returns where it stands then.
     fn give_on<'a, G: Give>(&self, reached: Reached<'a>, out: &mut G) -> Reached<'a>
-        requires found { IsFound self.now.body.nabc_lines self.now.limits reached.before.canonical
-            reached.last }
-        requires line { reached.last.next.line + length reached.last.rest.now < 2 ^ 64 }
-        requires column { reached.last.next.column + length reached.last.rest.now < 2 ^ 64 }
+        requires found { IsFound self.now.body.nabc_lines self.now.limits reached.entry.before.canonical
+            reached.entry.last }
+        requires line { reached.entry.last.next.line + length reached.entry.last.rest.now < 2 ^ 64 }
+        requires column { reached.entry.last.next.column + length reached.entry.last.rest.now < 2 ^ 64 }
         ensures { (at : Place) (text : List ℕ) (old : G) →
-            RunsTo G.given self.now at text old reached out.old →
+            RunsTo G.given self.now at text old reached.entry out.old →
             RunsTo G.given self.now at text old result out.new }
     {
         let lines = self.body.nabc_lines();
@@ -245,20 +248,20 @@ impl ScoreMachine {
         requires { self.old.pair.used ≡ SlotUse.Filling }
         ensures gathered { self.new.pair.gathered ≡ record self.old.pair.gathered {
           made = [];
-          total = reached.before.canonical;
+          total = reached.entry.before.canonical;
         } }
         ensures used { self.new.pair.used ≡ SlotUse.Filling }
         ensures body { self.new.body ≡ record self.old.body {
-          part = BodyPart.Text (fresh_stage reached.last.at);
+          part = BodyPart.Text (fresh_stage reached.entry.last.at);
         } }
         ensures counts { CountsHold self.new.body.part nothing_open }
         ensures keeps { (lines macros : ℕ) → PartKeeps lines macros self.new.body.part (in_text []) }
         ensures is { self.new ≡ record self.old {
           pair = self.new.pair;
           has_lent = true;
-          bounds = record { before = reached.before; behind = reached.before };
+          bounds = record { before = reached.entry.before; behind = reached.entry.before };
           body = self.new.body;
-          next = reached.last.at;
+          next = reached.entry.last.at;
         } }
     {
         self.pair.forget_held(reached.before.canonical);

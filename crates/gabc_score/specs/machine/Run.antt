@@ -16,7 +16,6 @@ use Rattle.gabc_score.specs.declared.score_machine.ScoreMachine.{ScoreMachine}
 use Rattle.gabc_score.specs.declared.score_machine.ScorePart.TheVariants as score_part
 use Rattle.gabc_score.specs.Before.{most, with_placed}
 use Rattle.gabc_score.specs.Canonical.{position_by}
-use Rattle.gabc_score.specs.RegularSyllable.{spelled}
 use Rattle.gabc_score.specs.ScoreStage.{IsWithin}
 use Rattle.gabc_score.specs.Syllable.{UnplacedSyllable, PlacedSyllable}
 use Rattle.gabc_score.specs.machine.Between.{IsBetween, GoesThrough}
@@ -33,7 +32,7 @@ len_of f = record { gap = f.gap; len = length f.spelled.now }
 -- A regular syllable was found at a place, with which no limit is passed after this many canonical bytes.
 pub record IsFound (lines : ℕ) (limits : Limits) (total : ℕ) (f : Found) : Type 0 where
   pub is : BeginsRegularly lines (f.spelled.now ++ f.rest.now) (len_of f)
-  pub next : f.next ≡ place_past f.at (spelled is.syllable)
+  pub next : f.next ≡ place_past f.at (chars f.spelled.now)
   pub syllable : length f.spelled.now ≤ limits.syllable
   pub input : total + length f.spelled.now + 1 ≤ limits.input
 

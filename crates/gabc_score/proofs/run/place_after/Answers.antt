@@ -25,8 +25,8 @@ loop-c-preserved c =
       column = (let h = fits.1 in omega (arith, h));
     }
 
-pub returns-clause : goal.returns-clause
-returns-clause c =
+pub returns : goal.returns
+returns c =
     let i = c.loop-c.invariant in
     let none = chars-none (chars_rest c.loop-c.c-iterator) c.in-None.ensures.steps.0.0 in
     sym (i.past ∙ ap (λ cs. place_past c.loop-c.place cs) none)

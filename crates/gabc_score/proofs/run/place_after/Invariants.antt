@@ -9,7 +9,7 @@ invariant-loop-c l = record {
   can : goal.iterator-loop-c.can_next l.c-iterator;
   ends : goal.iterator-loop-c.is_finite l.c-iterator;
   utf8 : IsUtf8 (chars_rest l.c-iterator);
-  past : place_past l.at (chars l.text) ≡ place_past l.place (chars (chars_rest l.c-iterator));
+  past : place_past l.fn.at (chars l.fn.text) ≡ place_past l.place (chars (chars_rest l.c-iterator));
   line : l.place.line + length (chars_rest l.c-iterator) < 2 ^ 64;
   column : l.place.column + length (chars_rest l.c-iterator) < 2 ^ 64;
 }
