@@ -1,5 +1,4 @@
 pub mod BeforeLast
-pub mod LastIsHeld
-pub mod RunGives
 pub mod RunGoesOn
+pub mod StandsThere
 pub mod Throughs

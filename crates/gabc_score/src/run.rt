@@ -12,7 +12,7 @@ ghost use Rattle.gabc_score.specs.GivesSyllables.{Runs, spelled_canonical};
 ghost use Rattle.gabc_score.specs.Syllable.{PlacedSyllable, UnplacedSyllable};
 ghost use Rattle.gabc_score.specs.machine.PartCounts.{CountsHold};
 ghost use Rattle.gabc_score.specs.machine.PartKeeps.{in_text, PartKeeps};
-ghost use Rattle.gabc_score.specs.machine.Run.{IsFound, IsSamePair, StandsBetween, RunsTo, past_found};
+ghost use Rattle.gabc_score.specs.machine.Run.{IsFound, IsSamePair, StandsBetween, RunsTo, RunsMore, past_found};
 ghost use Rattle.gabc_score.specs.machine.SyllableBuilder.{nothing_open};
 ghost use Rattle.gabc_score.specs.machine.ScoreMachine.{shown, IsScore, IsShort};
 
@@ -21,6 +21,7 @@ use crate::body_stage::BodyPart;
 use crate::bounds::Bounds;
 use crate::give::{Give, Run};
 use crate::regular::regular_syllable;
+use crate::regular_laws::a_regular_syllable_goes_through;
 use crate::score_event::ScoreEvent;
 use crate::score_machine::{ScoreMachine, ScorePart};
 use crate::slot_pair::{SlotPair, SlotUse};
@@ -95,6 +96,7 @@ fn is_low(at: Place, text: &str) -> bool
 impl<'a> Found<'a> {
     /// Returns its canonical text but for the LF before a word.
     fn canonical(self) -> &'a [u8]
+        requires { self.gap ≤ length self.spelled.now }
         ensures { result.now ≡ drop self.entry.gap self.entry.spelled.now }
     {
         &self.spelled.as_bytes()[self.gap..]
@@ -109,7 +111,8 @@ impl<'a> Found<'a> {
 
     /// Returns what stands before the syllable after it, where `p` stands before it.
     fn past(self, p: Preceding) -> Preceding
-        requires { p.canonical + length self.entry.spelled.now + 1 < 2 ^ 64 }
+        requires gap { self.gap ≤ length self.spelled.now }
+        requires fits { p.canonical + length self.spelled.now + 1 < 2 ^ 64 }
         ensures { result ≡ past_found p self.entry }
     {
         let start = if self.starts_word() { 1 } else { 0 };
@@ -122,6 +125,7 @@ impl<'a> Found<'a> {
 
     /// Gives it to `out`, if it takes it.
     fn give<G: Give>(self, out: &mut G) -> bool
+        requires { self.gap ≤ length self.spelled.now }
         ensures given { result ≡ true → (s : PlacedSyllable) →
             canonical_in_place s
             ≡ spelled_canonical (nat_lt 0 self.entry.gap) (drop self.entry.gap self.entry.spelled.now) →
@@ -185,10 +189,13 @@ impl ScoreMachine {
         let ScorePart::Body = self.part else {
             return false;
         };
-        self.pair.held().is_some()
-            && self.pair.reading().is_empty()
-            && self.pair.first_kind().is_some()
-            && self.body.begins_text(at)
+        let Some(_) = self.pair.held() else {
+            return false;
+        };
+        if !self.pair.reading().is_empty() || self.pair.first_kind().is_none() {
+            return false;
+        }
+        self.body.begins_text(at)
     }
 
     /// Gives the syllable that is held to `out`, before one that begins a word or not. Returns whether
@@ -216,30 +223,28 @@ impl ScoreMachine {
 
     /// Gives the syllables of a run to `out`, from the one that `reached` has found on, as long as one
     /// follows and `out` takes them. Returns where it stands then.
-    fn give_on<'a, G: Give>(&self, reached: Reached<'a>, out: &mut G) -> Reached<'a>
-        requires found { IsFound self.now.body.nabc_lines self.now.limits reached.entry.before.canonical
-            reached.entry.last }
-        requires line { reached.entry.last.next.line + length reached.entry.last.rest.now < 2 ^ 64 }
-        requires column { reached.entry.last.next.column + length reached.entry.last.rest.now < 2 ^ 64 }
-        ensures { (at : Place) (text : List ℕ) (old : G) →
-            RunsTo G.given self.now at text old reached.entry out.old →
-            RunsTo G.given self.now at text old result out.new }
+    fn give_on<'a, G: Give>(&self, begun: Reached<'a>, out: &mut G) -> Reached<'a>
+        requires found { IsFound self.now.body.nabc_lines self.now.limits begun.before.canonical
+            begun.last }
+        requires line { begun.last.next.line + length begun.last.rest.now < 2 ^ 64 }
+        requires column { begun.last.next.column + length begun.last.rest.now < 2 ^ 64 }
+        ensures { (at : Place) (text : List ℕ) (given : List PlacedSyllable) →
+            RunsTo self.now at text given begun.entry →
+            RunsMore G.given self.now at text given out.old result out.new }
     {
+        a_regular_syllable_goes_through();
         let lines = self.body.nabc_lines();
-        let mut reached = reached;
+        let mut reached = begun;
         loop {
-            let after = reached.last.past(reached.before);
             let last = reached.last;
-            let Some(next) = find(lines, self.limits, last.next, last.rest, after.canonical) else {
+            let before = last.past(reached.before);
+            let Some(next) = find(lines, self.limits, last.next, last.rest, before.canonical) else {
                 return reached;
             };
             if !last.give(out) {
                 return reached;
             }
-            reached = Reached {
-                last: next,
-                before: after,
-            };
+            reached = Reached { last: next, before };
         }
     }
 

@@ -73,18 +73,22 @@ pub record RunsBefore (m : ScoreMachine) (at : Place) (t : List ℕ) (given : Li
   pub spans_are : (p.spans.eu ≡ m.pair.gathered.eu) × (p.spans.nlba ≡ m.pair.gathered.nlba)
   pub input : p.canonical + 1 ≤ m.limits.input
 
--- From this text, the first of whose characters stands at `at`, a run has reached a syllable that is not given yet, and a taker has taken
--- those before it.
-pub record RunsTo {Taker : Type 0} (given_by : Taker → List PlacedSyllable → Taker) (m : ScoreMachine) (at : Place) (text : List ℕ) (old : Taker) (reached : Reached) (new : Taker) : Type 0 where
+-- In this text, the first of whose characters stands at `at`, a run has given these syllables, and has reached one that is not given yet.
+pub record RunsTo (m : ScoreMachine) (at : Place) (text : List ℕ) (given : List PlacedSyllable) (reached : Reached) : Type 0 where
+  pub stands : StandsBetween m at
   pub bytes : List ℕ
-  pub given : List PlacedSyllable
   pub utf8 : IsUtf8 bytes
   pub runs : RunsBefore m at (chars bytes) given (nat_lt 0 reached.last.gap) reached.before reached.last.at
   pub found : IsFound m.body.nabc_lines m.limits reached.before.canonical reached.last
-  pub taken : new ≡ given_by old given
   pub text_is : text ≡ bytes ++ (reached.last.spelled.now ++ reached.last.rest.now)
   pub line : at.line + length text < 2 ^ 63
   pub column : at.column + length text < 2 ^ 63
+
+-- The same with some syllables more, which a taker has taken.
+pub record RunsMore {Taker : Type 0} (given_by : Taker → List PlacedSyllable → Taker) (m : ScoreMachine) (at : Place) (text : List ℕ) (given : List PlacedSyllable) (old : Taker) (reached : Reached) (new : Taker) : Type 0 where
+  pub more : List PlacedSyllable
+  pub runs : RunsTo m at text (given ++ more) reached
+  pub taken : new ≡ given_by old more
 
 -- ---- what is between two syllables
 
