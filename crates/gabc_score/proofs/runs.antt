@@ -1,5 +1,4 @@
 pub mod BeforeLast
-pub mod LastIsHeld
-pub mod RunGives
+pub mod RunBegins
 pub mod RunGoesOn
 pub mod Throughs

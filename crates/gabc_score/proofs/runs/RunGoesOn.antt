@@ -5,13 +5,14 @@ use Rattle.std.proofs.lemmas.List.Elements.{All-nil, All-cons, All-append}
 use Rattle.std.specs.List.{All}
 use Rattle.std.specs.Str.{IsUtf8, chars}
 use Rattle.std.proofs.Math.Seq.{take-append_seam}
-use Rattle.std.proofs.lemmas.Str.{encodes-chars}
+use Rattle.std.proofs.lemmas.Str.{encodes-chars, length-le-encodes}
 use Rattle.std.proofs.lemmas.List.{map-append}
 use Rattle.gabc_places.specs.TextOfAnInput.{IsPlain}
-use Rattle.gabc_places.specs.Place.{place_past}
+use Rattle.gabc_places.specs.Place.{place_past, next_place}
 use Rattle.gabc_places.specs.declared.limits.Limits.{Limits}
 use Rattle.gabc_places.specs.declared.place.Place.{Place}
-use Rattle.gabc_places.proofs.PlacesOfAText.{place_append}
+use Rattle.gabc_places.proofs.PlacesOfAText.{place_append, within_on}
+use Rattle.gabc_text.specs.Events.{CountsFit}
 use Rattle.gabc_score.specs.declared.before.Preceding.{Preceding}
 use Rattle.gabc_score.specs.declared.before.Spans.{Spans}
 use Rattle.gabc_score.specs.declared.run.Found.{Found}
@@ -20,7 +21,7 @@ use Rattle.gabc_score.specs.Before.{most, with_one, with_each, with_placed, soun
 use Rattle.gabc_score.specs.Body.{is_longer}
 use Rattle.gabc_score.specs.Canonical.{canonical, canonical_in_place, position_by, starts_word}
 use Rattle.gabc_score.specs.GivesSyllables.{spelled_canonical}
-use Rattle.gabc_score.specs.RegularSyllable.{SyllableParts, spelled, notes_spelled, canonical_spelled, has_gap}
+use Rattle.gabc_score.specs.RegularSyllable.{SyllableParts, IsRegularSyllable, spelled, notes_spelled, canonical_spelled, has_gap}
 use Rattle.gabc_score.specs.ScoreStage.{IsWithin}
 use Rattle.gabc_score.specs.SpansPast.{eu_past, nlba_past}
 use Rattle.gabc_score.specs.Syllable.{UnplacedSyllable, PlacedSyllable}
@@ -35,6 +36,7 @@ use Rattle.gabc_score.specs.machine.SyllableBuilder.{OpenSyllable, nothing_open}
 use Rattle.gabc_score.proofs.regular_syllables.UnmarkedSyllables.{unmarked_eu, unmarked_nlba, gap_starts}
 use Rattle.gabc_score.proofs.score_events.FewAndShortAreLent.{short_within}
 use Rattle.gabc_score.proofs.score_events.WhatPrecedes.{each_then}
+use Rattle.gabc_score.proofs.texts_of_body.StageAndDefinitionAgree.{bytes_encodes}
 use Rattle.gabc_score.proofs.runs.Throughs.{through_both}
 
 -- ---- what was gathered
@@ -144,3 +146,126 @@ module _ (f : Found) (lines total : ℕ) (limits : Limits) (found : IsFound line
 
     pub nlba_stays : m.nlba ≡ spans.nlba
     nlba_stays = made.follows.nlba ∙ unmarked_nlba m spans.nlba unmarked_kept
+
+    one_position : (b then : Bool) → starts_word (position_by b then) ≡ b
+    one_position true true = refl
+    one_position true false = refl
+    one_position false true = refl
+    one_position false false = refl
+
+    -- the canonical text where it stands
+    pub canonical_there : (then : Bool) → canonical_in_place (record { made = m; position = position_by m.text.word_start then }) ≡ spelled_canonical (nat_lt 0 f.gap) (drop f.gap f.spelled.now)
+    canonical_there then = ap (λ b. canonical b m) (one_position m.text.word_start then ∙ word_is) ∙ canonical_with (nat_lt 0 f.gap)
+
+-- ---- the place
+
+-- no count of a place grows by more than the bytes that were read
+low_by : (at : Place) (t : List ℕ) → ((place_past at t).line ≤ at.line + length t) × ((place_past at t).column ≤ at.column + length t)
+low_by at [] = (omega arith, omega arith)
+low_by at (c ∷ t) =
+    let one = within_on at (length t + 1) (length t) (at.line + (length t + 1)) (at.column + (length t + 1)) (omega arith) (omega arith) (omega arith) c (next_place at c) refl in
+    let rest = low_by (next_place at c) t in
+    let l = one.0 in let k = one.1 in let u = rest.0 in let v = rest.1 in
+    (omega (arith, l, u), omega (arith, k, v))
+
+few_characters : (bytes : List ℕ) → IsUtf8 bytes → length (chars bytes) ≤ length bytes
+few_characters bytes u = let l = length-le-encodes (chars bytes) in let e = ap (λ (b : List ℕ). length b) (encodes-chars bytes u) in omega (arith, l, e)
+
+pub low_there : (at next : Place) (bytes spelled rest text : List ℕ) → IsUtf8 bytes → text ≡ bytes ++ (spelled ++ rest) → next ≡ place_past at (chars bytes)
+    → at.line + length text < 2 ^ 63 → at.column + length text < 2 ^ 63 → (next.line + length spelled < 2 ^ 63) × (next.column + length spelled < 2 ^ 63)
+low_there at next bytes spelled rest text u e place line column =
+    let n = ap (λ (b : List ℕ). length b) e in
+    let a = length-append bytes (spelled ++ rest) in
+    let b = length-append spelled rest in
+    let few = few_characters bytes u in
+    let low = low_by at (chars bytes) in
+    let l = low.0 in let k = low.1 in
+    let pl = ap (λ (p : Place). p.line) place in let pc = ap (λ (p : Place). p.column) place in
+    (omega (arith, n, a, b, few, l, pl, line), omega (arith, n, a, b, few, k, pc, column))
+
+-- ---- one syllable more
+
+-- where every regular syllable makes one, wherever it begins
+abbrev pub MakeSyllables : Type 0
+MakeSyllables =
+    (lines macros : ℕ) (at : Place) (r : SyllableParts) (spans : Spans) → IsRegularSyllable lines r → CountsFit at (spelled r) → length (encode_utf8_all (spelled r)) < 2 ^ 63
+    → (m : UnplacedSyllable) × Makes lines macros at r spans m
+
+-- It has read the syllable that was found too, which is placed before one that begins a word or not.
+pub record GoesOnWith (m : ScoreMachine) (at : Place) (t : List ℕ) (given : List PlacedSyllable) (p : Preceding) (f : Found) (then : Bool) : Type 0 where
+  pub placed : PlacedSyllable
+  pub canonical_is : canonical_in_place placed ≡ spelled_canonical (nat_lt 0 f.gap) (drop f.gap f.spelled.now)
+  pub runs : RunsBefore m at (t ++ chars f.spelled.now) (given ++ placed ∷ []) then (past_found p f) f.next
+
+module _ (law : MakeSyllables) (m : ScoreMachine) (at : Place) (t : List ℕ) (given : List PlacedSyllable) (starts : Bool) (p : Preceding) (next : Place)
+    (runs : RunsBefore m at t given starts p next) (stands : StandsBetween m at) (f : Found) (found : IsFound m.body.nabc_lines m.limits p.canonical f) (place : f.at ≡ next)
+    (start : nat_lt 0 f.gap ≡ starts) (line : next.line + length f.spelled.now < 2 ^ 63) (column : next.column + length f.spelled.now < 2 ^ 63) where
+  abbrev r : SyllableParts
+  r = parts f m.body.nabc_lines p.canonical m.limits found
+
+  abbrev spans : Spans
+  spans = spans_of m.pair.gathered
+
+  spelled_is : chars f.spelled.now ≡ spelled r
+  spelled_is = characters_are f m.body.nabc_lines p.canonical m.limits found
+
+  bytes : encode_utf8_all (spelled r) ≡ f.spelled.now
+  bytes = bytes_are f m.body.nabc_lines p.canonical m.limits found
+
+  small : length (encode_utf8_all (spelled r)) < 2 ^ 63
+  small = let e = ap (λ (b : List ℕ). length b) bytes in omega (arith, e, line)
+
+  fits : CountsFit f.at (spelled r)
+  fits =
+      let e = ap (λ (b : List ℕ). length b) bytes in
+      let few = length-le-encodes (spelled r) in
+      let l = ap (λ (q : Place). q.line) place in
+      let c = ap (λ (q : Place). q.column) place in
+      record { line = omega (arith, e, few, l, line); column = omega (arith, e, few, c, column); bytes = (let n = bytes_encodes (spelled r) in omega (arith, n, e, line)) }
+
+  abbrev found_one : (one : UnplacedSyllable) × Makes m.body.nabc_lines m.body.macros f.at r spans one
+  found_one = law m.body.nabc_lines m.body.macros f.at r spans found.is.is_regular fits small
+
+  abbrev one : UnplacedSyllable
+  one = found_one.0
+
+  makes : Makes m.body.nabc_lines m.body.macros f.at r spans one
+  makes = found_one.1
+
+  between : IsBetween m.limits runs.s
+  between = subst (λ (g : Gathered). IsBetween m.limits (record runs.s { gathered = g })) (sym runs.gathered) (record {
+    nothing = stands.between.nothing;
+    limit = stands.between.limit;
+    few = omega arith;
+    follows = stands.between.follows;
+    sounded = stands.between.sounded;
+    over = stands.between.over;
+    total = runs.input;
+  })
+
+  leaves : (g : Gathered) → g.total ≡ p.canonical → LeavesRoomFor m.limits g r
+  leaves g total =
+      let e = ap (λ (b : List ℕ). length b) bytes in
+      let s = found.syllable in
+      let i = found.input in
+      record { syllable = omega (arith, e, s); input = omega (arith, e, total, i) }
+
+  after_is : f.next ≡ place_past f.at (spelled r)
+  after_is = found.next ∙ ap (place_past f.at) spelled_is
+
+  through_one : GoesThrough m.limits m.body.nabc_lines m.body.macros next runs.s (chars f.spelled.now) (given_before runs.s one) f.next (past_one runs.s f.next one)
+  through_one = rw (sym place, spelled_is, after_is) (makes.through m.limits runs.s between (ap spans_of runs.gathered) (leaves runs.s.gathered (ap (λ (g : Gathered). g.total) runs.gathered)))
+
+  word : one.text.word_start ≡ starts
+  word = word_is f m.body.nabc_lines p.canonical m.limits found spans one makes.made ∙ start
+
+  given_is : runs.earlier ++ given_before runs.s one ≡ given
+  given_is =
+      ap (λ (made : List UnplacedSyllable). runs.earlier ++ take (length made) (placed_behind runs.s.has_lent (made ++ one ∷ []))) (ap (λ (g : Gathered). g.made) runs.gathered)
+      ∙ ap (λ b. runs.earlier ++ record { made = runs.held; position = position_by (not runs.s.has_lent || runs.held.text.word_start) b } ∷ []) word
+      ∙ sym runs.given_are
+
+  -- it reads on through the syllable
+  pub through_all : GoesThrough m.limits m.body.nabc_lines m.body.macros at (held_score m) (t ++ chars f.spelled.now) given f.next (past_one runs.s f.next one)
+  through_all = subst (λ (ss : List PlacedSyllable). GoesThrough m.limits m.body.nabc_lines m.body.macros at (held_score m) (t ++ chars f.spelled.now) ss f.next (past_one runs.s f.next one)) given_is
+      (through_both m.limits m.body.nabc_lines m.body.macros at (held_score m) runs.s (past_one runs.s f.next one) t (chars f.spelled.now) runs.earlier (given_before runs.s one) next f.next runs.place runs.through through_one)
