@@ -42,30 +42,44 @@ use Rattle.gabc_score.proofs.runs.Throughs.{through_both}
 -- ---- what was gathered
 
 -- a syllable that leaves the spans as they were and is within the limit
-pub gathered_one : (g h : Gathered) (total size : ℕ) (m : UnplacedSyllable) (old : List UnplacedSyllable) → g ≡ record h { made = old; total = total }
-    → h.builder ≡ nothing_open → h.follows ≡ true → h.over ≡ false → m.eu ≡ h.eu → m.nlba ≡ h.nlba → length (canonical m.text.word_start m) ≡ size → size ≤ h.limit → length m.kept ≤ h.limit → total + size < 2 ^ 64 - 1
-    → gathered_with g m ≡ record h { made = m ∷ []; total = total + size }
-gathered_one g h total size m old is nothing follows over eu nlba len short kept low =
-    ap (λ (k : Gathered). gathered_with k m) is
-    ∙ rw (nothing, follows, eu, nlba, over) (by (record h { builder = nothing_open; follows = true; over = false; total = total; made = m ∷ [] }) refl refl)
-  where
-    long : is_longer h.limit m.kept ≡ false
-    long = grind (arith, nat_tests, kept)
+module _ (h : Gathered) (m : UnplacedSyllable) (total size : ℕ) (nothing : h.builder ≡ nothing_open) (follows : h.follows ≡ true) (over : h.over ≡ false) (eu : m.eu ≡ h.eu) (nlba : m.nlba ≡ h.nlba)
+    (len : length (canonical m.text.word_start m) ≡ size) (short : size ≤ h.limit) (kept : length m.kept ≤ h.limit) (low : total + size < 2 ^ 64 - 1) where
+  abbrev most_of : Bool → ℕ
+  most_of b = min (length (canonical (not b || m.text.word_start) m)) (2 ^ 64 - 1)
 
-    size_is : min (length (canonical m.text.word_start m)) (2 ^ 64 - 1) ≡ size
-    size_is = ap (λ n. min n (2 ^ 64 - 1)) len ∙ omega (arith, low)
+  abbrev is_over : Bool → Bool → Bool
+  is_over b o = o || (is_longer h.limit m.kept || nat_lt h.limit (most_of b))
 
-    large : nat_lt h.limit (min (length (canonical m.text.word_start m)) (2 ^ 64 - 1)) ≡ false
-    large = ap (nat_lt h.limit) size_is ∙ grind (arith, nat_tests, short)
+  abbrev by : Bool → Bool → Bool → ℕ → Gathered
+  by eu nlba over n = record { limit = h.limit; builder = nothing_open; eu = eu; nlba = nlba; made = m ∷ []; follows = true; total = n; over = over; cut = h.cut; first_kind = h.first_kind }
 
-    total_is : min (total + min (length (canonical m.text.word_start m)) (2 ^ 64 - 1)) (2 ^ 64 - 1) ≡ total + size
-    total_is = ap (λ n. min (total + n) (2 ^ 64 - 1)) size_is ∙ omega (arith, low)
+  size_min : most_of true ≡ size
+  size_min = ap (λ n. min n (2 ^ 64 - 1)) len ∙ omega (arith, low)
 
-    by : (k : Gathered) → k.over ≡ false → k.made ≡ m ∷ []
-        → record k { total = min (total + min (length (canonical m.text.word_start m)) (2 ^ 64 - 1)) (2 ^ 64 - 1); over = k.over || (is_longer h.limit m.kept || nat_lt h.limit (min (length (canonical m.text.word_start m)) (2 ^ 64 - 1))) }
-        ≡ record k { total = total + size; over = false }
-    by k o e = ap (λ n. record k { total = n; over = k.over || (is_longer h.limit m.kept || nat_lt h.limit (min (length (canonical m.text.word_start m)) (2 ^ 64 - 1))) }) total_is
-        ∙ ap (λ b. record k { total = total + size; over = b }) (rw (o, long, large) refl)
+  not_over : is_over true h.over ≡ false
+  not_over = ap (is_over true) over ∙ ap (λ b. b || nat_lt h.limit (most_of true)) long ∙ ap (nat_lt h.limit) size_min ∙ grind (arith, nat_tests, short)
+    where
+      long : is_longer h.limit m.kept ≡ false
+      long = grind (arith, nat_tests, kept)
+
+  total_min : min (total + most_of true) (2 ^ 64 - 1) ≡ total + size
+  total_min = ap (λ n. min (total + n) (2 ^ 64 - 1)) size_min ∙ omega (arith, low)
+
+  back : by h.eu h.nlba false (total + size) ≡ record h { made = m ∷ []; total = total + size }
+  back =
+      ap (λ b. by h.eu h.nlba b (total + size)) (sym over)
+      ∙ ap (λ (o : OpenSyllable). record h { builder = o; made = m ∷ []; follows = true; total = total + size }) (sym nothing)
+      ∙ ap (λ b. record h { made = m ∷ []; follows = b; total = total + size }) (sym follows)
+
+  pub gathered_one : (g : Gathered) (old : List UnplacedSyllable) → g ≡ record h { made = old; total = total } → gathered_with g m ≡ record h { made = m ∷ []; total = total + size }
+  gathered_one g old is =
+      ap (λ (k : Gathered). gathered_with k m) is
+      ∙ ap (λ b. by m.eu m.nlba (is_over b h.over) (min (total + most_of b) (2 ^ 64 - 1))) follows
+      ∙ ap (λ b. by m.eu m.nlba b (min (total + most_of true) (2 ^ 64 - 1))) not_over
+      ∙ ap (by m.eu m.nlba false) total_min
+      ∙ ap (λ b. by b m.nlba false (total + size)) eu
+      ∙ ap (λ b. by h.eu b false (total + size)) nlba
+      ∙ back
 
 -- ---- a syllable that was found
 
@@ -115,6 +129,7 @@ module _ (f : Found) (lines total : ℕ) (limits : Limits) (found : IsFound line
     word_is = made.starts ∙ sym starts_is
 
     pub canonical_with : (starts : Bool) → canonical starts m ≡ spelled_canonical starts (drop f.gap f.spelled.now)
+    unfolding lib.Utf8.encode
     canonical_with true = made.canonical_is true ∙ ap (λ (l : List ℕ). 10 ∷ l) (sym rest_is)
     canonical_with false = made.canonical_is false ∙ sym rest_is
 
@@ -126,7 +141,8 @@ module _ (f : Found) (lines total : ℕ) (limits : Limits) (found : IsFound line
     size_is = ap (λ b. length (canonical b m)) word_is ∙ ap (λ (l : List ℕ). length l) (canonical_with (nat_lt 0 f.gap)) ∙ length_with (nat_lt 0 f.gap)
 
     kept_with : (b : Bool) → length (encode_utf8_all ((cond b (32 ∷ []) [] ++ parts.text) ++ 40 ∷ notes_spelled parts.nexts parts.final)) ≡ length (drop f.gap f.spelled.now) + (if b then 1 else 0)
-    kept_with true = ap (λ (l : List ℕ). 1 + length l) (sym rest_is) ∙ omega arith
+    unfolding lib.Utf8.encode
+    kept_with true = ap (λ (l : List ℕ). length (32 ∷ l)) (sym rest_is) ∙ omega arith
     kept_with false = ap (λ (l : List ℕ). length l) (sym rest_is) ∙ omega arith
 
     pub kept_length : length m.kept ≡ canonical_length f
@@ -147,15 +163,15 @@ module _ (f : Found) (lines total : ℕ) (limits : Limits) (found : IsFound line
     pub nlba_stays : m.nlba ≡ spans.nlba
     nlba_stays = made.follows.nlba ∙ unmarked_nlba m spans.nlba unmarked_kept
 
-    one_position : (b then : Bool) → starts_word (position_by b then) ≡ b
-    one_position true true = refl
-    one_position true false = refl
-    one_position false true = refl
-    one_position false false = refl
+    begins_there : (b starts : Bool) → starts_word (position_by b starts) ≡ b
+    begins_there true true = refl
+    begins_there true false = refl
+    begins_there false true = refl
+    begins_there false false = refl
 
     -- the canonical text where it stands
-    pub canonical_there : (then : Bool) → canonical_in_place (record { made = m; position = position_by m.text.word_start then }) ≡ spelled_canonical (nat_lt 0 f.gap) (drop f.gap f.spelled.now)
-    canonical_there then = ap (λ b. canonical b m) (one_position m.text.word_start then ∙ word_is) ∙ canonical_with (nat_lt 0 f.gap)
+    pub canonical_there : (starts : Bool) → canonical_in_place (record { made = m; position = position_by m.text.word_start starts }) ≡ spelled_canonical (nat_lt 0 f.gap) (drop f.gap f.spelled.now)
+    canonical_there starts = ap (λ b. canonical b m) (begins_there m.text.word_start starts ∙ word_is) ∙ canonical_with (nat_lt 0 f.gap)
 
 -- ---- the place
 
@@ -192,80 +208,163 @@ MakeSyllables =
     → (m : UnplacedSyllable) × Makes lines macros at r spans m
 
 -- It has read the syllable that was found too, which is placed before one that begins a word or not.
-pub record GoesOnWith (m : ScoreMachine) (at : Place) (t : List ℕ) (given : List PlacedSyllable) (p : Preceding) (f : Found) (then : Bool) : Type 0 where
+pub record GoesOnWith (m : ScoreMachine) (at : Place) (t : List ℕ) (given : List PlacedSyllable) (p : Preceding) (f : Found) (begins : Bool) : Type 0 where
   pub placed : PlacedSyllable
   pub canonical_is : canonical_in_place placed ≡ spelled_canonical (nat_lt 0 f.gap) (drop f.gap f.spelled.now)
-  pub runs : RunsBefore m at (t ++ chars f.spelled.now) (given ++ placed ∷ []) then (past_found p f) f.next
+  pub runs : RunsBefore m at (t ++ chars f.spelled.now) (given ++ placed ∷ []) begins (past_found p f) f.next
 
-module _ (law : MakeSyllables) (m : ScoreMachine) (at : Place) (t : List ℕ) (given : List PlacedSyllable) (starts : Bool) (p : Preceding) (next : Place)
-    (runs : RunsBefore m at t given starts p next) (stands : StandsBetween m at) (f : Found) (found : IsFound m.body.nabc_lines m.limits p.canonical f) (place : f.at ≡ next)
-    (start : nat_lt 0 f.gap ≡ starts) (line : next.line + length f.spelled.now < 2 ^ 63) (column : next.column + length f.spelled.now < 2 ^ 63) where
+module _ (m : ScoreMachine) (at : Place) (t : List ℕ) (given : List PlacedSyllable) (starts : Bool) (p : Preceding) (next : Place) (runs : RunsBefore m at t given starts p next)
+    (stands : StandsBetween m at) (f : Found) (found : IsFound m.body.nabc_lines m.limits p.canonical f) (place : f.at ≡ next) (start : nat_lt 0 f.gap ≡ starts) where
   abbrev r : SyllableParts
   r = parts f m.body.nabc_lines p.canonical m.limits found
 
   abbrev spans : Spans
   spans = spans_of m.pair.gathered
 
-  spelled_is : chars f.spelled.now ≡ spelled r
-  spelled_is = characters_are f m.body.nabc_lines p.canonical m.limits found
-
   bytes : encode_utf8_all (spelled r) ≡ f.spelled.now
   bytes = bytes_are f m.body.nabc_lines p.canonical m.limits found
 
-  small : length (encode_utf8_all (spelled r)) < 2 ^ 63
-  small = let e = ap (λ (b : List ℕ). length b) bytes in omega (arith, e, line)
+  module _ (one : UnplacedSyllable) (makes : Makes m.body.nabc_lines m.body.macros f.at r spans one) where
+    pub between : (s : HeldScore) (made : List UnplacedSyllable) → length made ≤ 1 → s.gathered ≡ record m.pair.gathered { made = made; total = p.canonical } → IsBetween m.limits s
+    between s made few is = subst (λ (g : Gathered). IsBetween m.limits (record s { gathered = g })) (sym is) (record {
+      nothing = stands.between.nothing;
+      limit = stands.between.limit;
+      few = few;
+      follows = stands.between.follows;
+      sounded = stands.between.sounded;
+      over = stands.between.over;
+      total = runs.input;
+    })
 
-  fits : CountsFit f.at (spelled r)
-  fits =
-      let e = ap (λ (b : List ℕ). length b) bytes in
-      let few = length-le-encodes (spelled r) in
-      let l = ap (λ (q : Place). q.line) place in
-      let c = ap (λ (q : Place). q.column) place in
-      record { line = omega (arith, e, few, l, line); column = omega (arith, e, few, c, column); bytes = (let n = bytes_encodes (spelled r) in omega (arith, n, e, line)) }
+    pub leaves : (g : Gathered) → g.total ≡ p.canonical → LeavesRoomFor m.limits g r
+    leaves g total =
+        let e = ap (λ (b : List ℕ). length b) bytes in
+        let s = found.syllable in
+        let i = found.input in
+        record { syllable = omega (arith, e, s); input = omega (arith, e, total, i) }
 
-  abbrev found_one : (one : UnplacedSyllable) × Makes m.body.nabc_lines m.body.macros f.at r spans one
-  found_one = law m.body.nabc_lines m.body.macros f.at r spans found.is.is_regular fits small
+    after_is : f.next ≡ place_past f.at (spelled r)
+    after_is = found.next ∙ ap (place_past f.at) (characters_are f m.body.nabc_lines p.canonical m.limits found)
 
-  abbrev one : UnplacedSyllable
-  one = found_one.0
+    through_one : GoesThrough m.limits m.body.nabc_lines m.body.macros next runs.s (chars f.spelled.now) (given_before runs.s one) f.next (past_one runs.s f.next one)
+    through_one =
+        subst (λ (q : Place). GoesThrough m.limits m.body.nabc_lines m.body.macros q runs.s (chars f.spelled.now) (given_before runs.s one) f.next (past_one runs.s f.next one)) place
+        (subst (λ (u : List ℕ). GoesThrough m.limits m.body.nabc_lines m.body.macros f.at runs.s u (given_before runs.s one) f.next (past_one runs.s f.next one))
+        (sym (characters_are f m.body.nabc_lines p.canonical m.limits found))
+        (subst (λ (q : Place). GoesThrough m.limits m.body.nabc_lines m.body.macros f.at runs.s (spelled r) (given_before runs.s one) q (past_one runs.s q one)) (sym after_is)
+        (makes.through m.limits runs.s (between runs.s (runs.held ∷ []) (omega arith) runs.gathered) (ap spans_of runs.gathered) (leaves runs.s.gathered (ap (λ (g : Gathered). g.total) runs.gathered)))))
 
-  makes : Makes m.body.nabc_lines m.body.macros f.at r spans one
-  makes = found_one.1
+    word : one.text.word_start ≡ starts
+    word = word_is f m.body.nabc_lines p.canonical m.limits found spans one makes.made ∙ start
 
-  between : IsBetween m.limits runs.s
-  between = subst (λ (g : Gathered). IsBetween m.limits (record runs.s { gathered = g })) (sym runs.gathered) (record {
-    nothing = stands.between.nothing;
-    limit = stands.between.limit;
-    few = omega arith;
-    follows = stands.between.follows;
-    sounded = stands.between.sounded;
-    over = stands.between.over;
-    total = runs.input;
-  })
+    given_is : runs.earlier ++ given_before runs.s one ≡ given
+    given_is =
+        ap (λ (made : List UnplacedSyllable). runs.earlier ++ take (length made) (placed_behind runs.s.has_lent (made ++ one ∷ []))) (ap (λ (g : Gathered). g.made) runs.gathered)
+        ∙ ap (λ b. runs.earlier ++ record { made = runs.held; position = position_by (not runs.s.has_lent || runs.held.text.word_start) b } ∷ []) word
+        ∙ sym runs.given_are
 
-  leaves : (g : Gathered) → g.total ≡ p.canonical → LeavesRoomFor m.limits g r
-  leaves g total =
-      let e = ap (λ (b : List ℕ). length b) bytes in
-      let s = found.syllable in
-      let i = found.input in
-      record { syllable = omega (arith, e, s); input = omega (arith, e, total, i) }
+    -- it reads on through the syllable
+    pub through_all : GoesThrough m.limits m.body.nabc_lines m.body.macros at (held_score m) (t ++ chars f.spelled.now) given f.next (past_one runs.s f.next one)
+    through_all = subst (λ (ss : List PlacedSyllable). GoesThrough m.limits m.body.nabc_lines m.body.macros at (held_score m) (t ++ chars f.spelled.now) ss f.next (past_one runs.s f.next one)) given_is
+        (through_both m.limits m.body.nabc_lines m.body.macros at (held_score m) runs.s (past_one runs.s f.next one) t (chars f.spelled.now) runs.earlier (given_before runs.s one) next f.next runs.place runs.through through_one)
 
-  after_is : f.next ≡ place_past f.at (spelled r)
-  after_is = found.next ∙ ap (place_past f.at) spelled_is
+    eu_is : one.eu ≡ m.pair.gathered.eu
+    eu_is = eu_stays f m.body.nabc_lines p.canonical m.limits found spans one makes.made
 
-  through_one : GoesThrough m.limits m.body.nabc_lines m.body.macros next runs.s (chars f.spelled.now) (given_before runs.s one) f.next (past_one runs.s f.next one)
-  through_one = rw (sym place, spelled_is, after_is) (makes.through m.limits runs.s between (ap spans_of runs.gathered) (leaves runs.s.gathered (ap (λ (g : Gathered). g.total) runs.gathered)))
+    nlba_is : one.nlba ≡ m.pair.gathered.nlba
+    nlba_is = nlba_stays f m.body.nabc_lines p.canonical m.limits found spans one makes.made
 
-  word : one.text.word_start ≡ starts
-  word = word_is f m.body.nabc_lines p.canonical m.limits found spans one makes.made ∙ start
+    size : length (canonical one.text.word_start one) ≡ canonical_length f
+    size = size_is f m.body.nabc_lines p.canonical m.limits found spans one makes.made
 
-  given_is : runs.earlier ++ given_before runs.s one ≡ given
-  given_is =
-      ap (λ (made : List UnplacedSyllable). runs.earlier ++ take (length made) (placed_behind runs.s.has_lent (made ++ one ∷ []))) (ap (λ (g : Gathered). g.made) runs.gathered)
-      ∙ ap (λ b. runs.earlier ++ record { made = runs.held; position = position_by (not runs.s.has_lent || runs.held.text.word_start) b } ∷ []) word
-      ∙ sym runs.given_are
+    few_bytes : canonical_length f ≤ length f.spelled.now
+    few_bytes = length_is f m.body.nabc_lines p.canonical m.limits found
 
-  -- it reads on through the syllable
-  pub through_all : GoesThrough m.limits m.body.nabc_lines m.body.macros at (held_score m) (t ++ chars f.spelled.now) given f.next (past_one runs.s f.next one)
-  through_all = subst (λ (ss : List PlacedSyllable). GoesThrough m.limits m.body.nabc_lines m.body.macros at (held_score m) (t ++ chars f.spelled.now) ss f.next (past_one runs.s f.next one)) given_is
-      (through_both m.limits m.body.nabc_lines m.body.macros at (held_score m) runs.s (past_one runs.s f.next one) t (chars f.spelled.now) runs.earlier (given_before runs.s one) next f.next runs.place runs.through through_one)
+    -- of what is gathered the held syllable and the bytes before are otherwise
+    pub gathered_is : gathered_with runs.s.gathered one ≡ record m.pair.gathered { made = one ∷ []; total = (past_found p f).canonical }
+    gathered_is =
+        gathered_one m.pair.gathered one p.canonical (canonical_length f) stands.between.nothing stands.between.follows stands.between.over eu_is nlba_is size
+        (let l = stands.between.limit in let s = found.syllable in omega (arith, few_bytes, l, s))
+        (let l = stands.between.limit in let s = found.syllable in let k = kept_length f m.body.nabc_lines p.canonical m.limits found spans one makes.made in omega (arith, few_bytes, k, l, s))
+        (let i = found.input in let top = m.limits.in_range.input_most in omega (arith, few_bytes, i, top))
+        runs.s.gathered (runs.held ∷ []) runs.gathered
+
+    lent_is : (runs.s.has_lent || nat_lt 0 (length runs.s.gathered.made)) ≡ true
+    lent_is = ap (λ (g : Gathered). runs.s.has_lent || nat_lt 0 (length g.made)) runs.gathered ∙ or_true runs.s.has_lent
+      where
+        or_true : (b : Bool) → (b || nat_lt 0 1) ≡ true
+        or_true true = refl
+        or_true false = refl
+
+    preceding_is : with_one p one ≡ past_found p f
+    preceding_is =
+        ap (λ b. record { syllables = min (p.syllables + 1) most; canonical = min (p.canonical + min (length (canonical (b || one.text.word_start) one)) most) most; spans = record { eu = one.eu; nlba = one.nlba }; sounded = p.sounded || sounds one }) none_first
+        ∙ ap (λ n. record { syllables = min (p.syllables + 1) most; canonical = min (p.canonical + min n most) most; spans = record { eu = one.eu; nlba = one.nlba }; sounded = p.sounded || sounds one }) size
+        ∙ ap (λ n. record { syllables = min (p.syllables + 1) most; canonical = n; spans = record { eu = one.eu; nlba = one.nlba }; sounded = p.sounded || sounds one }) low
+        ∙ ap (λ b. record { syllables = min (p.syllables + 1) most; canonical = p.canonical + canonical_length f; spans = record { eu = b; nlba = one.nlba }; sounded = p.sounded || sounds one }) (eu_is ∙ sym runs.spans_are.0)
+        ∙ ap (λ b. record { syllables = min (p.syllables + 1) most; canonical = p.canonical + canonical_length f; spans = record { eu = p.spans.eu; nlba = b }; sounded = p.sounded || sounds one }) (nlba_is ∙ sym runs.spans_are.1)
+        ∙ ap (λ b. record { syllables = min (p.syllables + 1) most; canonical = p.canonical + canonical_length f; spans = p.spans; sounded = b }) (ap (λ b. b || sounds one) runs.sounded ∙ sym runs.sounded)
+      where
+        none_first : (p.syllables == 0) ≡ false
+        none_first = let some = runs.some in grind (arith, nat_tests, some)
+
+        low : min (p.canonical + min (canonical_length f) most) most ≡ p.canonical + canonical_length f
+        low = let i = found.input in let top = m.limits.in_range.input_most in omega (arith, few_bytes, i, top)
+
+    before_is : (placed : PlacedSyllable) → placed.made ≡ one → past_found p f ≡ with_placed m.bounds.before (given ++ placed ∷ [])
+    before_is placed is =
+        sym preceding_is ∙ ap (with_one p) (sym is) ∙ ap (λ (q : Preceding). with_one q placed.made) runs.before
+        ∙ sym (each_then m.bounds.before (map (λ (s : PlacedSyllable). s.made) given) placed.made)
+        ∙ ap (with_each m.bounds.before) (sym (map-append (λ (s : PlacedSyllable). s.made) given (placed ∷ [])))
+
+    goes_on_by : (begins : Bool) → GoesOnWith m at t given p f begins
+    goes_on_by begins = let placed : PlacedSyllable = record { made = one; position = position_by one.text.word_start begins } in record {
+      placed = placed;
+      canonical_is = canonical_there f m.body.nabc_lines p.canonical m.limits found spans one makes.made begins;
+      runs = record {
+        held = one;
+        s = past_one runs.s f.next one;
+        earlier = given;
+        through = through_all;
+        gathered = gathered_is;
+        given_are = ap (λ b. given ++ record { made = one; position = position_by (not b || one.text.word_start) begins } ∷ []) (sym lent_is);
+        before = before_is placed refl;
+        place = found.next ∙ ap (λ (q : Place). place_past q (chars f.spelled.now)) (place ∙ runs.place) ∙ sym (place_append at t (chars f.spelled.now));
+        within = All-append (IsWithin m.limits) given (placed ∷ []) runs.within
+            (All-cons (IsWithin m.limits) placed [] (short_within m.limits placed.position one (is_short f m.body.nabc_lines p.canonical m.limits found spans one makes.made)) (All-nil (IsWithin m.limits)));
+        plain = All-append IsPlain t (chars f.spelled.now) runs.plain (plain_is f m.body.nabc_lines p.canonical m.limits found);
+        few = few_given;
+        some = omega arith;
+        sounded = runs.sounded;
+        spans_are = runs.spans_are;
+        input = (let i = found.input in omega (arith, few_bytes, i));
+      };
+    }
+      where
+        few_given : length given ≤ length (t ++ chars f.spelled.now)
+        few_given =
+            let e = ap (λ (ss : List PlacedSyllable). length ss) runs.given_are in
+            let l = length-append runs.earlier (record { made = runs.held; position = position_by (not runs.s.has_lent || runs.held.text.word_start) starts } ∷ []) in
+            let n = length-append t (chars f.spelled.now) in
+            let few = runs.few in
+            let some = some_are f m.body.nabc_lines p.canonical m.limits found in
+            omega (arith, e, l, n, few, some)
+
+  module _ (law : MakeSyllables) (line : next.line + length f.spelled.now < 2 ^ 63) (column : next.column + length f.spelled.now < 2 ^ 63) where
+    small : length (encode_utf8_all (spelled r)) < 2 ^ 63
+    small = let e = ap (λ (b : List ℕ). length b) bytes in omega (arith, e, line)
+
+    fits : CountsFit f.at (spelled r)
+    fits =
+        let e = ap (λ (b : List ℕ). length b) bytes in
+        let few = length-le-encodes (spelled r) in
+        let l = ap (λ (q : Place). q.line) place in
+        let c = ap (λ (q : Place). q.column) place in
+        record { line = omega (arith, e, few, l, line); column = omega (arith, e, few, c, column); bytes = (let n = bytes_encodes (spelled r) in omega (arith, n, e, line)) }
+
+    -- what it makes
+    pub found_one : (one : UnplacedSyllable) × Makes m.body.nabc_lines m.body.macros f.at r spans one
+    found_one = law m.body.nabc_lines m.body.macros f.at r spans found.is.is_regular fits small
+
+    pub goes_on : (begins : Bool) → GoesOnWith m at t given p f begins
+    goes_on = goes_on_by found_one.0 found_one.1
