@@ -1,43 +1,26 @@
 -- A regular syllable that was found: its bytes, and what it makes.
-use Rattle.std.proofs.Common.{◌≡◌, ℕ, zero, suc, ◌+◌, ◌-◌, ◌<◌, ◌≤◌, ◌^◌, ◌==◌, ◌||◌, not, min, nat_lt, Bool, true, false, cond, if◌then◌else◌, List, [], ◌∷◌, ◌++◌, length, map, take, drop, is_some, encode_utf8_all, refl, sym, ap, subst, ◌∙◌, arith, append_assoc, length-append, length-drop}
+use Rattle.std.proofs.Common.{◌≡◌, ℕ, ◌+◌, ◌-◌, ◌<◌, ◌≤◌, ◌^◌, ◌||◌, not, min, nat_lt, Bool, true, false, cond, if◌then◌else◌, List, [], ◌∷◌, ◌++◌, length, take, drop, encode_utf8_all, refl, sym, ap, subst, ◌∙◌, arith, length-drop}
 use Rattle.std.proofs.lemmas.Bool.Decides.{nat_tests}
-use Rattle.std.proofs.lemmas.List.Elements.{All-nil, All-cons, All-append}
 use Rattle.std.specs.List.{All}
 use Rattle.std.specs.Str.{IsUtf8, chars}
 use Rattle.std.proofs.Math.Seq.{take-append_seam}
-use Rattle.std.proofs.lemmas.Str.{encodes-chars, length-le-encodes}
-use Rattle.std.proofs.lemmas.List.{map-append}
+use Rattle.std.proofs.lemmas.Str.{encodes-chars}
 use Rattle.gabc_places.specs.TextOfAnInput.{IsPlain}
-use Rattle.gabc_places.specs.Place.{place_past, next_place}
 use Rattle.gabc_places.specs.declared.limits.Limits.{Limits}
-use Rattle.gabc_places.specs.declared.place.Place.{Place}
-use Rattle.gabc_places.proofs.PlacesOfAText.{place_append, within_on}
-use Rattle.gabc_text.specs.Events.{CountsFit}
-use Rattle.gabc_score.specs.declared.before.Preceding.{Preceding}
 use Rattle.gabc_score.specs.declared.before.Spans.{Spans}
 use Rattle.gabc_score.specs.declared.run.Found.{Found}
-use Rattle.gabc_score.specs.declared.score_machine.ScoreMachine.{ScoreMachine}
-use Rattle.gabc_score.specs.Before.{most, with_one, with_each, with_placed, sounds}
 use Rattle.gabc_score.specs.Body.{is_longer}
 use Rattle.gabc_score.specs.Canonical.{canonical, canonical_in_place, position_by, starts_word}
 use Rattle.gabc_score.specs.GivesSyllables.{spelled_canonical}
-use Rattle.gabc_score.specs.RegularSyllable.{SyllableParts, IsRegularSyllable, spelled, notes_spelled, canonical_spelled, has_gap}
-use Rattle.gabc_score.specs.ScoreStage.{IsWithin}
-use Rattle.gabc_score.specs.SpansPast.{eu_past, nlba_past}
-use Rattle.gabc_score.specs.Syllable.{UnplacedSyllable, PlacedSyllable}
-use Rattle.gabc_score.specs.machine.Between.{IsBetween, IsMadeOf, LeavesRoomFor, GoesThrough, Makes, with_one as gathered_with, past_one, given_before}
+use Rattle.gabc_score.specs.RegularSyllable.{SyllableParts, spelled, notes_spelled, canonical_spelled, has_gap}
+use Rattle.gabc_score.specs.Syllable.{UnplacedSyllable}
+use Rattle.gabc_score.specs.machine.Between.{IsMadeOf, with_one as gathered_with}
 use Rattle.gabc_score.specs.machine.Gatherer.{Gathered}
-use Rattle.gabc_score.specs.machine.Preceded.{spans_of}
-use Rattle.gabc_score.specs.machine.RegularLen.{BeginsRegularly, IsUnmarked}
-use Rattle.gabc_score.specs.machine.Run.{IsFound, StandsBetween, RunsBefore, canonical_length, past_found}
-use Rattle.gabc_score.specs.machine.ScoreMachine.{held_score, IsShort}
-use Rattle.gabc_score.specs.machine.ScoreStage.{HeldScore, placed_behind}
+use Rattle.gabc_score.specs.machine.RegularLen.{IsUnmarked}
+use Rattle.gabc_score.specs.machine.Run.{IsFound, canonical_length}
+use Rattle.gabc_score.specs.machine.ScoreMachine.{IsShort}
 use Rattle.gabc_score.specs.machine.SyllableBuilder.{OpenSyllable, nothing_open}
 use Rattle.gabc_score.proofs.regular_syllables.UnmarkedSyllables.{unmarked_eu, unmarked_nlba, gap_starts}
-use Rattle.gabc_score.proofs.score_events.FewAndShortAreLent.{short_within}
-use Rattle.gabc_score.proofs.score_events.WhatPrecedes.{each_then}
-use Rattle.gabc_score.proofs.texts_of_body.StageAndDefinitionAgree.{bytes_encodes}
-use Rattle.gabc_score.proofs.runs.Throughs.{through_both}
 
 -- ---- what was gathered
 

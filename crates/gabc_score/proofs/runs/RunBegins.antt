@@ -1,20 +1,19 @@
 -- A run begins with the syllable that is held.
-use Rattle.std.proofs.Common.{◌≡◌, ℕ, ◌+◌, ◌≤◌, ◌||◌, not, min, Bool, true, false, List, [], ◌∷◌, length, is_some, refl, sym, ap, subst, ◌∙◌, arith}
+use Rattle.std.proofs.Common.{◌≡◌, ◌||◌, not, Bool, true, false, List, [], ◌∷◌, length, refl, sym, ap, subst, ◌∙◌, arith}
 use Rattle.std.proofs.lemmas.List.Elements.{All-nil, All-cons, All-head}
 use Rattle.std.specs.List.{All}
 use Rattle.gabc_places.specs.TextOfAnInput.{IsPlain}
 use Rattle.gabc_places.specs.declared.place.Place.{Place}
 use Rattle.gabc_score.specs.declared.before.Preceding.{Preceding}
 use Rattle.gabc_score.specs.declared.score_machine.ScoreMachine.{ScoreMachine}
-use Rattle.gabc_score.specs.Before.{most, sounds_in, with_one, with_each}
+use Rattle.gabc_score.specs.Before.{sounds_in, with_one, with_each}
 use Rattle.gabc_score.specs.Canonical.{position_by}
 use Rattle.gabc_score.specs.ScoreStage.{IsWithin}
-use Rattle.gabc_score.specs.Syllable.{UnplacedSyllable, PlacedSyllable}
-use Rattle.gabc_score.specs.machine.Gatherer.{Gathered}
+use Rattle.gabc_score.specs.Syllable.{UnplacedSyllable}
 use Rattle.gabc_score.specs.machine.PartKeeps.{begun, ReadAlike}
 use Rattle.gabc_score.specs.machine.Run.{StandsBetween, RunsBefore}
 use Rattle.gabc_score.specs.machine.ScoreMachine.{held_score, IsShort}
-use Rattle.gabc_score.specs.machine.SyllableBuilder.{OpenSyllable, nothing_open}
+use Rattle.gabc_score.specs.machine.SyllableBuilder.{OpenSyllable}
 use Rattle.gabc_score.proofs.resuming.NothingIsRead.{nothing_alike}
 use Rattle.gabc_score.proofs.score_events.FewAndShortAreLent.{short_within}
 use Rattle.gabc_score.proofs.runs.Throughs.{through_none}

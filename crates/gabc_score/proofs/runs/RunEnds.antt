@@ -1,5 +1,5 @@
 -- The last syllable of a run, which is held after it.
-use Rattle.std.proofs.Common.{◌≡◌, ℕ, ◌+◌, ◌<◌, ◌≤◌, ◌^◌, nat_lt, Bool, true, List, [], ◌∷◌, ◌++◌, length, refl, sym, ap, subst, ◌∙◌, arith}
+use Rattle.std.proofs.Common.{◌≡◌, ℕ, ◌+◌, ◌<◌, ◌^◌, nat_lt, Bool, true, List, [], ◌++◌, length, refl, sym, ap, subst, ◌∙◌, arith}
 use Rattle.std.specs.Str.{chars}
 use Rattle.gabc_places.specs.declared.place.Place.{Place}
 use Rattle.gabc_score.specs.declared.before.Preceding.{Preceding}
@@ -18,7 +18,8 @@ use Rattle.gabc_score.proofs.runs.RunGoesOn.{MakeSyllables, r, spans, between, l
 abbrev pub before_last : ScoreMachine → Preceding → Gathered
 before_last m p = record m.pair.gathered { made = []; total = p.canonical }
 
--- Through the syllable that was found the run gives those before it, and then holds it, as a machine does that reads it where none is held.
+-- Through the syllable that was found the run gives those before it, and then holds it, as a
+-- machine does that reads it where none is held.
 pub record EndsWith (m : ScoreMachine) (at : Place) (t : List ℕ) (given : List PlacedSyllable) (p : Preceding) (f : Found) : Type 0 where
   pub made : UnplacedSyllable
   pub through : GoesThrough m.limits m.body.nabc_lines m.body.macros at (held_score m) (t ++ chars f.spelled.now) given f.next (record { next = f.next; gathered = with_one (before_last m p) made; has_lent = true })

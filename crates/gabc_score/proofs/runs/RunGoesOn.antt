@@ -1,15 +1,12 @@
 -- A run goes on with one more regular syllable.
-use Rattle.std.proofs.Common.{◌≡◌, ℕ, zero, suc, ◌+◌, ◌-◌, ◌<◌, ◌≤◌, ◌^◌, ◌==◌, ◌||◌, not, min, nat_lt, Bool, true, false, cond, if◌then◌else◌, List, [], ◌∷◌, ◌++◌, length, map, take, drop, is_some, encode_utf8_all, refl, sym, ap, subst, ◌∙◌, arith, append_assoc, length-append, length-drop}
+use Rattle.std.proofs.Common.{◌≡◌, ℕ, ◌+◌, ◌<◌, ◌≤◌, ◌^◌, ◌==◌, ◌||◌, not, min, nat_lt, Bool, true, false, List, [], ◌∷◌, ◌++◌, length, map, take, drop, encode_utf8_all, refl, sym, ap, subst, ◌∙◌, arith, length-append}
 use Rattle.std.proofs.lemmas.Bool.Decides.{nat_tests}
 use Rattle.std.proofs.lemmas.List.Elements.{All-nil, All-cons, All-append}
-use Rattle.std.specs.List.{All}
 use Rattle.std.specs.Str.{IsUtf8, chars}
-use Rattle.std.proofs.Math.Seq.{take-append_seam}
 use Rattle.std.proofs.lemmas.Str.{encodes-chars, length-le-encodes}
 use Rattle.std.proofs.lemmas.List.{map-append}
 use Rattle.gabc_places.specs.TextOfAnInput.{IsPlain}
 use Rattle.gabc_places.specs.Place.{place_past, next_place}
-use Rattle.gabc_places.specs.declared.limits.Limits.{Limits}
 use Rattle.gabc_places.specs.declared.place.Place.{Place}
 use Rattle.gabc_places.proofs.PlacesOfAText.{place_append, within_on}
 use Rattle.gabc_text.specs.Events.{CountsFit}
@@ -18,22 +15,17 @@ use Rattle.gabc_score.specs.declared.before.Spans.{Spans}
 use Rattle.gabc_score.specs.declared.run.Found.{Found}
 use Rattle.gabc_score.specs.declared.score_machine.ScoreMachine.{ScoreMachine}
 use Rattle.gabc_score.specs.Before.{most, with_one, with_each, with_placed, sounds}
-use Rattle.gabc_score.specs.Body.{is_longer}
-use Rattle.gabc_score.specs.Canonical.{canonical, canonical_in_place, position_by, starts_word}
+use Rattle.gabc_score.specs.Canonical.{canonical, canonical_in_place, position_by}
 use Rattle.gabc_score.specs.GivesSyllables.{spelled_canonical}
-use Rattle.gabc_score.specs.RegularSyllable.{SyllableParts, IsRegularSyllable, spelled, notes_spelled, canonical_spelled, has_gap}
+use Rattle.gabc_score.specs.RegularSyllable.{SyllableParts, IsRegularSyllable, spelled}
 use Rattle.gabc_score.specs.ScoreStage.{IsWithin}
-use Rattle.gabc_score.specs.SpansPast.{eu_past, nlba_past}
 use Rattle.gabc_score.specs.Syllable.{UnplacedSyllable, PlacedSyllable}
-use Rattle.gabc_score.specs.machine.Between.{IsBetween, IsMadeOf, LeavesRoomFor, GoesThrough, Makes, with_one as gathered_with, past_one, given_before}
+use Rattle.gabc_score.specs.machine.Between.{IsBetween, LeavesRoomFor, GoesThrough, Makes, with_one as gathered_with, past_one, given_before}
 use Rattle.gabc_score.specs.machine.Gatherer.{Gathered}
 use Rattle.gabc_score.specs.machine.Preceded.{spans_of}
-use Rattle.gabc_score.specs.machine.RegularLen.{BeginsRegularly, IsUnmarked}
 use Rattle.gabc_score.specs.machine.Run.{IsFound, StandsBetween, RunsBefore, canonical_length, past_found}
-use Rattle.gabc_score.specs.machine.ScoreMachine.{held_score, IsShort}
+use Rattle.gabc_score.specs.machine.ScoreMachine.{held_score}
 use Rattle.gabc_score.specs.machine.ScoreStage.{HeldScore, placed_behind}
-use Rattle.gabc_score.specs.machine.SyllableBuilder.{OpenSyllable, nothing_open}
-use Rattle.gabc_score.proofs.regular_syllables.UnmarkedSyllables.{unmarked_eu, unmarked_nlba, gap_starts}
 use Rattle.gabc_score.proofs.score_events.FewAndShortAreLent.{short_within}
 use Rattle.gabc_score.proofs.score_events.WhatPrecedes.{each_then}
 use Rattle.gabc_score.proofs.texts_of_body.StageAndDefinitionAgree.{bytes_encodes}
@@ -74,7 +66,8 @@ MakeSyllables =
     (lines macros : ℕ) (at : Place) (r : SyllableParts) (spans : Spans) → IsRegularSyllable lines r → CountsFit at (spelled r) → length (encode_utf8_all (spelled r)) < 2 ^ 63
     → (m : UnplacedSyllable) × Makes lines macros at r spans m
 
--- It has read the syllable that was found too, which is placed before one that begins a word or not.
+-- It has read the syllable that was found too, which is placed before one that begins a word or
+-- not.
 pub record GoesOnWith (m : ScoreMachine) (at : Place) (t : List ℕ) (given : List PlacedSyllable) (p : Preceding) (f : Found) (begins : Bool) : Type 0 where
   pub placed : PlacedSyllable
   pub canonical_is : canonical_in_place placed ≡ spelled_canonical (nat_lt 0 f.gap) (drop f.gap f.spelled.now)
@@ -130,7 +123,7 @@ module _ (m : ScoreMachine) (at : Place) (t : List ℕ) (given : List PlacedSyll
         ∙ ap (λ b. runs.earlier ++ record { made = runs.held; position = position_by (not runs.s.has_lent || runs.held.text.word_start) b } ∷ []) word
         ∙ sym runs.given_are
 
-    -- it reads on through the syllable
+    -- through the syllable the one is given that was held
     pub through_all : GoesThrough m.limits m.body.nabc_lines m.body.macros at (held_score m) (t ++ chars f.spelled.now) given f.next (past_one runs.s f.next one)
     through_all = subst (λ (ss : List PlacedSyllable). GoesThrough m.limits m.body.nabc_lines m.body.macros at (held_score m) (t ++ chars f.spelled.now) ss f.next (past_one runs.s f.next one)) given_is
         (through_both m.limits m.body.nabc_lines m.body.macros at (held_score m) runs.s (past_one runs.s f.next one) t (chars f.spelled.now) runs.earlier (given_before runs.s one) next f.next runs.place runs.through through_one)
@@ -147,7 +140,7 @@ module _ (m : ScoreMachine) (at : Place) (t : List ℕ) (given : List PlacedSyll
     few_bytes : canonical_length f ≤ length f.spelled.now
     few_bytes = length_is f m.body.nabc_lines p.canonical m.limits found
 
-    -- of what is gathered the held syllable and the bytes before are otherwise
+    -- no more of what is gathered changes than the syllable that is held, and the bytes before
     pub gathered_is : gathered_with runs.s.gathered one ≡ record m.pair.gathered { made = one ∷ []; total = (past_found p f).canonical }
     gathered_is =
         gathered_one m.pair.gathered one p.canonical (canonical_length f) stands.between.nothing stands.between.follows stands.between.over eu_is nlba_is size
