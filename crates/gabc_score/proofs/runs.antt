@@ -1,4 +1,7 @@
 pub mod BeforeLast
+pub mod FoundSyllable
+pub mod RunBegins
+pub mod RunEnds
 pub mod RunGoesOn
 pub mod StandsThere
 pub mod Throughs

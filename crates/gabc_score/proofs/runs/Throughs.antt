@@ -1,11 +1,12 @@
 -- Texts of some characters that are read one after another.
-use Rattle.std.proofs.Common.{◌≡◌, ℕ, ◌+◌, List, [], ◌∷◌, ◌++◌, length, map, refl, sym, ap, ◌∙◌, append_assoc, length-append, arith}
+use Rattle.std.proofs.Common.{◌≡◌, ℕ, ◌+◌, List, [], ◌∷◌, ◌++◌, length, map, refl, sym, ap, ◌∙◌, append_assoc, length-append}
 use Rattle.std.proofs.lemmas.List.{map-append}
-use Rattle.gabc_places.specs.Place.{place_past, next_place, placed_characters_from}
+use Rattle.gabc_places.specs.Place.{place_past, placed_characters_from}
 use Rattle.gabc_places.specs.StageLaw.{concat_of}
 use Rattle.gabc_places.specs.declared.limits.Limits.{Limits}
 use Rattle.gabc_places.specs.declared.place.Char.{Char}
 use Rattle.gabc_places.specs.declared.place.Place.{Place}
+use Rattle.gabc_places.proofs.PlacesOfAText.{placed_append}
 use Rattle.gabc_headers.specs.declared.head_event.HeadEvent.{HeadEvent}
 use Rattle.gabc_headers.specs.declared.head_event.HeadEvent.TheVariants as head_event
 use Rattle.gabc_score.specs.GivesSyllables.{text_inputs}
@@ -13,10 +14,6 @@ use Rattle.gabc_score.specs.ScoreEvents.{ScoreOutput, Syllable}
 use Rattle.gabc_score.specs.Syllable.{PlacedSyllable}
 use Rattle.gabc_score.specs.machine.Between.{GoesThrough, left_between}
 use Rattle.gabc_score.specs.machine.ScoreStage.{HeldScore}
-
-placed_append : (at : Place) (t u : List ℕ) → placed_characters_from at (t ++ u) ≡ placed_characters_from at t ++ placed_characters_from (place_past at t) u
-placed_append at [] u = refl
-placed_append at (c ∷ t) u = ap (λ (xs : List Char). record { c = c; place = at } ∷ xs) (placed_append (next_place at c) t u)
 
 pub inputs_append : (at : Place) (t u : List ℕ) → text_inputs at (t ++ u) ≡ text_inputs at t ++ text_inputs (place_past at t) u
 inputs_append at t u =
