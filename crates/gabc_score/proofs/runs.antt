@@ -1,5 +1,6 @@
 pub mod BeforeLast
 pub mod FoundSyllable
+pub mod MoreIsTaken
 pub mod RunBegins
 pub mod RunEnds
 pub mod RunGoesOn

@@ -35,7 +35,7 @@ use Rattle.gabc_score.proofs.runs.Throughs.{through_both}
 -- ---- the place
 
 -- no count of a place grows by more than the bytes that were read
-low_by : (at : Place) (t : List ℕ) → ((place_past at t).line ≤ at.line + length t) × ((place_past at t).column ≤ at.column + length t)
+pub low_by : (at : Place) (t : List ℕ) → ((place_past at t).line ≤ at.line + length t) × ((place_past at t).column ≤ at.column + length t)
 low_by at [] = (omega arith, omega arith)
 low_by at (c ∷ t) =
     let one = within_on at (length t + 1) (length t) (at.line + (length t + 1)) (at.column + (length t + 1)) (omega arith) (omega arith) (omega arith) c (next_place at c) refl in
@@ -43,7 +43,7 @@ low_by at (c ∷ t) =
     let l = one.0 in let k = one.1 in let u = rest.0 in let v = rest.1 in
     (omega (arith, l, u), omega (arith, k, v))
 
-few_characters : (bytes : List ℕ) → IsUtf8 bytes → length (chars bytes) ≤ length bytes
+pub few_characters : (bytes : List ℕ) → IsUtf8 bytes → length (chars bytes) ≤ length bytes
 few_characters bytes u = let l = length-le-encodes (chars bytes) in let e = ap (λ (b : List ℕ). length b) (encodes-chars bytes u) in omega (arith, l, e)
 
 pub low_there : (at next : Place) (bytes spelled rest text : List ℕ) → IsUtf8 bytes → text ≡ bytes ++ (spelled ++ rest) → next ≡ place_past at (chars bytes)

@@ -1,4 +1,6 @@
-use Rattle.std.proofs.Common.{◌≡◌, ◌==◌, ℕ, true, List, [], ◌∷◌, length, is_some, refl, subst, ◌∙◌, sym, ap}
+use Rattle.std.proofs.Common.{◌≡◌, ◌==◌, ℕ, true, false, arith, List, [], ◌∷◌, length, is_some, refl, subst, ◌∙◌, sym, ap}
+use Rattle.std.proofs.lemmas.Bool.{true≢false}
+use Rattle.std.proofs.lemmas.Bool.Decides.{nat_tests}
 use Rattle.gabc_notes.specs.declared.item.ItemKind.{ItemKind}
 use Rattle.std.specs.Prelude.{Option}
 use Rattle.gabc_score.specs.declared.score_machine.ScorePart.{ScorePart}
@@ -8,7 +10,10 @@ use Rattle.gabc_score.proofs.score_machine.ScoreMachine.is_between.Goals as goal
 
 no_bytes : (bytes : List ℕ) → true ≡ (length bytes == 0) → bytes ≡ []
 no_bytes [] e = refl
-no_bytes (b ∷ bytes) e = absurd (cc)
+no_bytes (b ∷ bytes) e = absurd (true≢false (e ∙ some))
+  where
+    some : (length (b ∷ bytes) == 0) ≡ false
+    some = grind (arith, nat_tests)
 
 pub returns : goal.returns
 returns c = λ yes.
