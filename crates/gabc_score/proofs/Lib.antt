@@ -3,6 +3,7 @@ pub mod holding
 pub mod keeping
 pub mod order
 pub mod regular_syllables
+pub mod runs
 pub mod resuming
 pub mod score_events
 pub mod snippets_of_body

@@ -17,6 +17,7 @@ pub mod Quiet
 pub mod ReadAlone
 pub mod RegularLen
 pub mod Resumed
+pub mod Run
 pub mod ReadAgain
 pub mod ScoreMachine
 pub mod ScoreStage

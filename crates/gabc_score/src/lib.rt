@@ -38,6 +38,7 @@ mod reading_again;
 mod regular;
 pub mod regular_laws;
 mod resumed;
+mod run;
 mod score;
 mod score_event;
 mod score_machine;

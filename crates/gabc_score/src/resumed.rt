@@ -1,6 +1,6 @@
 //! A stage over a score that goes on behind syllables which another one has read.
 
-ghost use Rattle.std.specs.Prelude.{◌≡◌, ◌<◌, ◌≤◌, ◌^◌, not, ℕ, None, IfOk, [], length, true, false};
+ghost use Rattle.std.specs.Prelude.{◌≡◌, ◌+◌, ◌<◌, ◌≤◌, ◌^◌, not, ℕ, None, IfOk, [], length, true, false};
 ghost use Rattle.std.specs.List.{list_any};
 ghost use Rattle.std.specs.Str.{chars};
 ghost use Rattle.gabc_text.specs.TextStage.{fresh_stage};
@@ -15,7 +15,7 @@ ghost use Rattle.gabc_score.specs.machine.PartCounts.{CountsHold};
 ghost use Rattle.gabc_score.specs.machine.PartKeeps.{in_text, PartKeeps};
 ghost use Rattle.gabc_score.specs.machine.PartOnly.{HoldsTexts};
 ghost use Rattle.gabc_score.specs.machine.SyllableBuilder.{nothing_open};
-ghost use Rattle.gabc_score.specs.machine.ReadAlone.{is_error_event, is_alone, lists_of, HasRead, ReadsAlone};
+ghost use Rattle.gabc_score.specs.machine.ReadAlone.{is_error_event, is_alone, lists_from, HasRead, ReadsAlone};
 ghost use Rattle.gabc_score.specs.machine.Resumed.{first_sounded, gathered_behind};
 ghost use Rattle.gabc_score.specs.machine.ScoreMachine.{shown, IsInBody, IsScore};
 
@@ -70,7 +70,7 @@ impl SlotPair {
 
 impl BodyStage {
     /// Begins to read a text, whose first character stands at `at`.
-    fn begin_text(&mut self, at: Place)
+    pub(crate) fn begin_text(&mut self, at: Place)
         ensures text { self.new ≡ record self.old { part = BodyPart.Text (fresh_stage at) } }
         ensures counts { CountsHold self.new.part nothing_open }
         ensures keeps { (lines macros : ℕ) → PartKeeps lines macros self.new.part (in_text []) }
@@ -159,13 +159,15 @@ impl ScoreMachine {
         is_fine
     }
 
-    /// Reads the characters of `text`, the first of which stands at the first place, where no syllable is held. Returns whether one is whole with
-    /// the last of them and none before, no limit is passed and no error is found.
-    fn read_all(&mut self, text: &str, room: &mut Room<ScoreEvent>) -> bool
+    /// Reads the characters of `text`, the first of which stands at `at`, where no syllable is held.
+    /// Returns whether one is whole with the last of them and none before, no limit is passed and no
+    /// error is found.
+    pub(crate) fn read_all(&mut self, at: Place, text: &str, room: &mut Room<ScoreEvent>) -> bool
         requires part { self.old.part ≡ ScorePart.Body }
         requires rests { IsInBody self.old }
         requires none { self.old.pair.gathered.made ≡ [] }
-        requires short { length text.now < 2 ^ 63 }
+        requires line { at.line + length text.now < 2 ^ 64 }
+        requires column { at.column + length text.now < 2 ^ 64 }
         requires empty { room.old.items ≡ [] }
         requires room { 16 ≤ room.old.limit }
         ensures room { room.new ≡ room.old }
@@ -173,11 +175,11 @@ impl ScoreMachine {
         ensures texts { result ≡ true → IsText text.now → HoldsTexts self.old.pair.gathered →
             HoldsTexts self.new.pair.gathered }
         ensures alone { result ≡ is_alone self.old.limits self.old.pair.gathered
-            (lists_of self.old (chars text.now)) }
+            (lists_from self.old at (chars text.now)) }
         ensures goes { result ≡ true → HasRead self.old self.new
-            (lists_of self.old (chars text.now)) }
+            (lists_from self.old at (chars text.now)) }
     {
-        let mut place = Place::START;
+        let mut place = at;
         for c in text.chars() {
             if self.pair.has_held() {
                 return false;
@@ -212,7 +214,7 @@ impl ScoreMachine {
         ensures ends { result ≡ false → self.new.part ≡ ScorePart.Over }
     {
         a_text_is_read_from_its_beginning();
-        if !self.read_all(text, room) {
+        if !self.read_all(Place::START, text, room) {
             self.part = ScorePart::Over;
             return false;
         }

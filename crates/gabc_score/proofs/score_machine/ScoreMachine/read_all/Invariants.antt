@@ -8,7 +8,7 @@ use Rattle.gabc_score.specs.Body.{is_none}
 use Rattle.gabc_places.specs.TextOfAnInput.{IsPlain, IsText}
 use Rattle.gabc_score.specs.machine.BodyBuilder.{with_all}
 use Rattle.gabc_score.specs.machine.PartOnly.{HoldsTexts}
-use Rattle.gabc_score.specs.machine.ReadAlone.{is_alone, lists_from, lists_of}
+use Rattle.gabc_score.specs.machine.ReadAlone.{is_alone, lists_from}
 use Rattle.gabc_score.specs.machine.ScoreMachine.{IsInBody}
 use Rattle.gabc_score.specs.machine.SyllableBuilder.{nothing_open}
 use Rattle.gabc_score.proofs.score_machine.ScoreMachine.read_all.Given as goal
@@ -25,9 +25,9 @@ invariant-loop-c l = record {
   macros : l.self.body.macros ≡ l.initial.self.body.macros;
   before : l.self.bounds.before ≡ l.initial.self.bounds.before;
   limits : l.self.limits ≡ l.initial.self.limits;
-  alone : is_alone l.initial.self.limits l.initial.self.pair.gathered (lists_of l.initial.self (chars l.fn.text))
+  alone : is_alone l.initial.self.limits l.initial.self.pair.gathered (lists_from l.initial.self l.fn.at (chars l.fn.text))
       ≡ is_alone l.self.limits l.self.pair.gathered (lists_from l.self l.place (chars (chars_rest l.c-iterator)));
-  gathered : with_all l.initial.self.pair.gathered (concat_of (lists_of l.initial.self (chars l.fn.text)))
+  gathered : with_all l.initial.self.pair.gathered (concat_of (lists_from l.initial.self l.fn.at (chars l.fn.text)))
       ≡ with_all l.self.pair.gathered (concat_of (lists_from l.self l.place (chars (chars_rest l.c-iterator))));
   texts : IsText l.fn.text → HoldsTexts l.initial.self.pair.gathered → All IsPlain (chars (chars_rest l.c-iterator)) × HoldsTexts l.self.pair.gathered;
   whole : is_none l.self.pair.gathered.made ≡ false → l.self.pair.gathered.builder ≡ nothing_open;

@@ -1,0 +1,22 @@
+use Rattle.std.proofs.Common.{◌≡◌, ℕ, ◌++◌, List, length, take, drop, sym, ap, subst, ◌∙◌, arith, take-append-drop}
+use Rattle.std.specs.Str.{chars}
+use Rattle.gabc_places.specs.Place.{place_past}
+use Rattle.gabc_score.specs.machine.RegularLen.{BeginsRegularly}
+use Rattle.gabc_score.proofs.run.find.Goals as goal
+
+pub returns-clause-found : goal.returns-clause-found
+returns-clause-found c =
+    let found = c.in-Some.found in
+    let text = c.args.text.now in
+    let spelled = c.split_at.result.0.now in
+    let rest = c.split_at.result.1.now in
+    let b : BeginsRegularly c.args.lines text found = c.in-Some.ensures in
+    let front : spelled ≡ take found.len text = c.split_at.ensures.front in
+    let len : length spelled ≡ found.len = c.split_at.ensures.front_len in
+    let both : text ≡ spelled ++ rest = sym (take-append-drop found.len text) ∙ ap (λ (l : List ℕ). l ++ drop found.len text) (sym front) ∙ ap (λ (l : List ℕ). spelled ++ l) (sym c.split_at.ensures.back) in
+    record {
+      is = rw (sym both, len) b;
+      next = c.place_after.ensures;
+      syllable = (let few = c.if-found-limits.false in omega (arith, few, len));
+      input = (let few = c.if-found-left.false in let left = c.saturating_sub-left.ensures in omega (arith, few, left, len));
+    }

@@ -1,0 +1,70 @@
+-- A run begins with the syllable that is held.
+use Rattle.std.proofs.Common.{◌≡◌, ◌||◌, not, Bool, true, false, List, [], ◌∷◌, length, refl, sym, ap, subst, ◌∙◌, arith}
+use Rattle.std.proofs.lemmas.List.Elements.{All-nil, All-cons, All-head}
+use Rattle.std.specs.List.{All}
+use Rattle.gabc_places.specs.TextOfAnInput.{IsPlain}
+use Rattle.gabc_places.specs.declared.place.Place.{Place}
+use Rattle.gabc_score.specs.declared.before.Preceding.{Preceding}
+use Rattle.gabc_score.specs.declared.score_machine.ScoreMachine.{ScoreMachine}
+use Rattle.gabc_score.specs.Before.{sounds_in, with_one, with_each}
+use Rattle.gabc_score.specs.Canonical.{position_by}
+use Rattle.gabc_score.specs.ScoreStage.{IsWithin}
+use Rattle.gabc_score.specs.Syllable.{UnplacedSyllable}
+use Rattle.gabc_score.specs.machine.PartKeeps.{begun, ReadAlike}
+use Rattle.gabc_score.specs.machine.Run.{StandsBetween, RunsBefore}
+use Rattle.gabc_score.specs.machine.ScoreMachine.{held_score, IsShort}
+use Rattle.gabc_score.specs.machine.SyllableBuilder.{OpenSyllable}
+use Rattle.gabc_score.proofs.resuming.NothingIsRead.{nothing_alike}
+use Rattle.gabc_score.proofs.score_events.FewAndShortAreLent.{short_within}
+use Rattle.gabc_score.proofs.runs.Throughs.{through_none}
+
+-- the one that is held
+pub held_of : (made : List UnplacedSyllable) → length made ≡ 1 → (m : UnplacedSyllable) × (made ≡ m ∷ [])
+held_of [] e = absurd (omega (arith, e))
+held_of (m ∷ []) e = (m, refl)
+held_of (m ∷ n ∷ made) e = absurd (omega (arith, e))
+
+module _ (m : ScoreMachine) (at : Place) (held : UnplacedSyllable) (stands : StandsBetween m at) (one : m.pair.gathered.made ≡ held ∷ []) where
+  behind_is : m.bounds.behind ≡ with_one m.bounds.before held
+  behind_is = stands.rests.behind ∙ ap (with_each m.bounds.before) one
+
+  total_is : m.pair.gathered.total ≡ m.bounds.behind.canonical
+  total_is = stands.rests.preceded.total ∙ ap (λ (p : Preceding). p.canonical) (sym stands.rests.behind)
+
+  sounded_is : m.bounds.behind.sounded ≡ true
+  sounded_is =
+      last_false m.bounds.behind.sounded
+      ∙ ap (λ (o : OpenSyllable). m.bounds.behind.sounded || sounds_in o.kept o.snippets) (sym stands.between.nothing)
+      ∙ ap (λ (p : Preceding). p.sounded || sounds_in m.pair.gathered.builder.kept m.pair.gathered.builder.snippets) stands.rests.behind
+      ∙ sym stands.rests.preceded.sounded ∙ stands.between.sounded
+    where
+      last_false : (b : Bool) → b ≡ (b || false)
+      last_false true = refl
+      last_false false = refl
+
+  alike : ReadAlike m.pair.gathered (begun m.bounds.behind.spans)
+  alike = nothing_alike m.body.nabc_lines m.body.macros m.body.part m.bounds.behind.spans m.pair.gathered stands.rests.reading (ap (λ (o : OpenSyllable). o.kept) stands.between.nothing)
+
+  gathered_is : m.pair.gathered ≡ record m.pair.gathered { made = held ∷ []; total = m.bounds.behind.canonical }
+  gathered_is = ap (λ (ms : List UnplacedSyllable). record m.pair.gathered { made = ms }) one ∙ ap (λ n. record m.pair.gathered { made = held ∷ []; total = n }) total_is
+
+  -- nothing is read yet, and it is given
+  pub run_begins : (starts : Bool) → RunsBefore m at [] (record { made = held; position = position_by (not m.has_lent || held.text.word_start) starts } ∷ []) starts m.bounds.behind at
+  run_begins starts = record {
+    held = held;
+    s = held_score m;
+    earlier = [];
+    through = through_none m.limits m.body.nabc_lines m.body.macros at (held_score m);
+    gathered = gathered_is;
+    given_are = refl;
+    before = behind_is;
+    place = refl;
+    within = All-cons (IsWithin m.limits) _ [] (short_within m.limits (position_by (not m.has_lent || held.text.word_start) starts) held
+        (All-head (IsShort m.limits.syllable) held [] (subst (All (IsShort m.limits.syllable)) one stands.rests.rests.short))) (All-nil (IsWithin m.limits));
+    plain = All-nil IsPlain;
+    few = omega arith;
+    some = (let e = ap (λ (p : Preceding). p.syllables) behind_is in omega (arith, e));
+    sounded = sounded_is;
+    spans_are = (sym alike.eu, sym alike.nlba);
+    input = (let t = total_is in let room = stands.between.total in omega (arith, t, room));
+  }

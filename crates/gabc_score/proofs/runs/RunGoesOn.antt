@@ -1,0 +1,230 @@
+-- A run goes on with one more regular syllable.
+use Rattle.std.proofs.Common.{◌≡◌, ℕ, ◌+◌, ◌<◌, ◌≤◌, ◌^◌, ◌==◌, ◌||◌, not, min, nat_lt, Bool, true, false, List, [], ◌∷◌, ◌++◌, length, map, take, drop, encode_utf8_all, refl, sym, ap, subst, ◌∙◌, arith, length-append}
+use Rattle.std.proofs.lemmas.Bool.Decides.{nat_tests}
+use Rattle.std.proofs.lemmas.List.Elements.{All-nil, All-cons, All-append}
+use Rattle.std.specs.Str.{IsUtf8, chars}
+use Rattle.std.proofs.lemmas.Str.{encodes-chars, length-le-encodes}
+use Rattle.std.proofs.lemmas.List.{map-append}
+use Rattle.gabc_places.specs.TextOfAnInput.{IsPlain}
+use Rattle.gabc_places.specs.Place.{place_past, next_place}
+use Rattle.gabc_places.specs.declared.place.Place.{Place}
+use Rattle.gabc_places.proofs.PlacesOfAText.{place_append, within_on}
+use Rattle.gabc_text.specs.Events.{CountsFit}
+use Rattle.gabc_score.specs.declared.before.Preceding.{Preceding}
+use Rattle.gabc_score.specs.declared.before.Spans.{Spans}
+use Rattle.gabc_score.specs.declared.run.Found.{Found}
+use Rattle.gabc_score.specs.declared.score_machine.ScoreMachine.{ScoreMachine}
+use Rattle.gabc_score.specs.Before.{most, with_one, with_each, with_placed, sounds}
+use Rattle.gabc_score.specs.Canonical.{canonical, canonical_in_place, position_by}
+use Rattle.gabc_score.specs.GivesSyllables.{spelled_canonical}
+use Rattle.gabc_score.specs.RegularSyllable.{SyllableParts, IsRegularSyllable, spelled}
+use Rattle.gabc_score.specs.ScoreStage.{IsWithin}
+use Rattle.gabc_score.specs.Syllable.{UnplacedSyllable, PlacedSyllable}
+use Rattle.gabc_score.specs.machine.Between.{IsBetween, LeavesRoomFor, GoesThrough, Makes, with_one as gathered_with, past_one, given_before}
+use Rattle.gabc_score.specs.machine.Gatherer.{Gathered}
+use Rattle.gabc_score.specs.machine.Preceded.{spans_of}
+use Rattle.gabc_score.specs.machine.Run.{IsFound, StandsBetween, RunsBefore, canonical_length, past_found}
+use Rattle.gabc_score.specs.machine.ScoreMachine.{held_score}
+use Rattle.gabc_score.specs.machine.ScoreStage.{HeldScore, placed_behind}
+use Rattle.gabc_score.proofs.score_events.FewAndShortAreLent.{short_within}
+use Rattle.gabc_score.proofs.score_events.WhatPrecedes.{each_then}
+use Rattle.gabc_score.proofs.texts_of_body.StageAndDefinitionAgree.{bytes_encodes}
+use Rattle.gabc_score.proofs.runs.FoundSyllable.{gathered_one, parts, characters_are, bytes_are, plain_is, some_are, length_is, word_is, size_is, kept_length, is_short, eu_stays, nlba_stays, canonical_there}
+use Rattle.gabc_score.proofs.runs.Throughs.{through_both}
+
+-- ---- the place
+
+-- no count of a place grows by more than the bytes that were read
+pub low_by : (at : Place) (t : List ℕ) → ((place_past at t).line ≤ at.line + length t) × ((place_past at t).column ≤ at.column + length t)
+low_by at [] = (omega arith, omega arith)
+low_by at (c ∷ t) =
+    let one = within_on at (length t + 1) (length t) (at.line + (length t + 1)) (at.column + (length t + 1)) (omega arith) (omega arith) (omega arith) c (next_place at c) refl in
+    let rest = low_by (next_place at c) t in
+    let l = one.0 in let k = one.1 in let u = rest.0 in let v = rest.1 in
+    (omega (arith, l, u), omega (arith, k, v))
+
+pub few_characters : (bytes : List ℕ) → IsUtf8 bytes → length (chars bytes) ≤ length bytes
+few_characters bytes u = let l = length-le-encodes (chars bytes) in let e = ap (λ (b : List ℕ). length b) (encodes-chars bytes u) in omega (arith, l, e)
+
+pub low_there : (at next : Place) (bytes spelled rest text : List ℕ) → IsUtf8 bytes → text ≡ bytes ++ (spelled ++ rest) → next ≡ place_past at (chars bytes)
+    → at.line + length text < 2 ^ 63 → at.column + length text < 2 ^ 63 → (next.line + length spelled < 2 ^ 63) × (next.column + length spelled < 2 ^ 63)
+low_there at next bytes spelled rest text u e place line column =
+    let n = ap (λ (b : List ℕ). length b) e in
+    let a = length-append bytes (spelled ++ rest) in
+    let b = length-append spelled rest in
+    let few = few_characters bytes u in
+    let low = low_by at (chars bytes) in
+    let l = low.0 in let k = low.1 in
+    let pl = ap (λ (p : Place). p.line) place in let pc = ap (λ (p : Place). p.column) place in
+    (omega (arith, n, a, b, few, l, pl, line), omega (arith, n, a, b, few, k, pc, column))
+
+-- ---- one syllable more
+
+-- where every regular syllable makes one, wherever it begins
+abbrev pub MakeSyllables : Type 0
+MakeSyllables =
+    (lines macros : ℕ) (at : Place) (r : SyllableParts) (spans : Spans) → IsRegularSyllable lines r → CountsFit at (spelled r) → length (encode_utf8_all (spelled r)) < 2 ^ 63
+    → (m : UnplacedSyllable) × Makes lines macros at r spans m
+
+-- It has read the syllable that was found too, which is placed before one that begins a word or
+-- not.
+pub record GoesOnWith (m : ScoreMachine) (at : Place) (t : List ℕ) (given : List PlacedSyllable) (p : Preceding) (f : Found) (begins : Bool) : Type 0 where
+  pub placed : PlacedSyllable
+  pub canonical_is : canonical_in_place placed ≡ spelled_canonical (nat_lt 0 f.gap) (drop f.gap f.spelled.now)
+  pub runs : RunsBefore m at (t ++ chars f.spelled.now) (given ++ placed ∷ []) begins (past_found p f) f.next
+
+module _ (m : ScoreMachine) (at : Place) (t : List ℕ) (given : List PlacedSyllable) (starts : Bool) (p : Preceding) (next : Place) (runs : RunsBefore m at t given starts p next)
+    (stands : StandsBetween m at) (f : Found) (found : IsFound m.body.nabc_lines m.limits p.canonical f) (place : f.at ≡ next) (start : nat_lt 0 f.gap ≡ starts) where
+  abbrev pub r : SyllableParts
+  r = parts f m.body.nabc_lines p.canonical m.limits found
+
+  abbrev pub spans : Spans
+  spans = spans_of m.pair.gathered
+
+  bytes : encode_utf8_all (spelled r) ≡ f.spelled.now
+  bytes = bytes_are f m.body.nabc_lines p.canonical m.limits found
+
+  module _ (one : UnplacedSyllable) (makes : Makes m.body.nabc_lines m.body.macros f.at r spans one) where
+    pub between : (s : HeldScore) (made : List UnplacedSyllable) → length made ≤ 1 → s.gathered ≡ record m.pair.gathered { made = made; total = p.canonical } → IsBetween m.limits s
+    between s made few is = subst (λ (g : Gathered). IsBetween m.limits (record s { gathered = g })) (sym is) (record {
+      nothing = stands.between.nothing;
+      limit = stands.between.limit;
+      few = few;
+      follows = stands.between.follows;
+      sounded = stands.between.sounded;
+      over = stands.between.over;
+      total = runs.input;
+    })
+
+    pub leaves : (g : Gathered) → g.total ≡ p.canonical → LeavesRoomFor m.limits g r
+    leaves g total =
+        let e = ap (λ (b : List ℕ). length b) bytes in
+        let s = found.syllable in
+        let i = found.input in
+        record { syllable = omega (arith, e, s); input = omega (arith, e, total, i) }
+
+    after_is : f.next ≡ place_past f.at (spelled r)
+    after_is = found.next ∙ ap (place_past f.at) (characters_are f m.body.nabc_lines p.canonical m.limits found)
+
+    through_one : GoesThrough m.limits m.body.nabc_lines m.body.macros next runs.s (chars f.spelled.now) (given_before runs.s one) f.next (past_one runs.s f.next one)
+    through_one =
+        subst (λ (q : Place). GoesThrough m.limits m.body.nabc_lines m.body.macros q runs.s (chars f.spelled.now) (given_before runs.s one) f.next (past_one runs.s f.next one)) place
+        (subst (λ (u : List ℕ). GoesThrough m.limits m.body.nabc_lines m.body.macros f.at runs.s u (given_before runs.s one) f.next (past_one runs.s f.next one))
+        (sym (characters_are f m.body.nabc_lines p.canonical m.limits found))
+        (subst (λ (q : Place). GoesThrough m.limits m.body.nabc_lines m.body.macros f.at runs.s (spelled r) (given_before runs.s one) q (past_one runs.s q one)) (sym after_is)
+        (makes.through m.limits runs.s (between runs.s (runs.held ∷ []) (omega arith) runs.gathered) (ap spans_of runs.gathered) (leaves runs.s.gathered (ap (λ (g : Gathered). g.total) runs.gathered)))))
+
+    word : one.text.word_start ≡ starts
+    word = word_is f m.body.nabc_lines p.canonical m.limits found spans one makes.made ∙ start
+
+    given_is : runs.earlier ++ given_before runs.s one ≡ given
+    given_is =
+        ap (λ (made : List UnplacedSyllable). runs.earlier ++ take (length made) (placed_behind runs.s.has_lent (made ++ one ∷ []))) (ap (λ (g : Gathered). g.made) runs.gathered)
+        ∙ ap (λ b. runs.earlier ++ record { made = runs.held; position = position_by (not runs.s.has_lent || runs.held.text.word_start) b } ∷ []) word
+        ∙ sym runs.given_are
+
+    -- through the syllable the one is given that was held
+    pub through_all : GoesThrough m.limits m.body.nabc_lines m.body.macros at (held_score m) (t ++ chars f.spelled.now) given f.next (past_one runs.s f.next one)
+    through_all = subst (λ (ss : List PlacedSyllable). GoesThrough m.limits m.body.nabc_lines m.body.macros at (held_score m) (t ++ chars f.spelled.now) ss f.next (past_one runs.s f.next one)) given_is
+        (through_both m.limits m.body.nabc_lines m.body.macros at (held_score m) runs.s (past_one runs.s f.next one) t (chars f.spelled.now) runs.earlier (given_before runs.s one) next f.next runs.place runs.through through_one)
+
+    eu_is : one.eu ≡ m.pair.gathered.eu
+    eu_is = eu_stays f m.body.nabc_lines p.canonical m.limits found spans one makes.made
+
+    nlba_is : one.nlba ≡ m.pair.gathered.nlba
+    nlba_is = nlba_stays f m.body.nabc_lines p.canonical m.limits found spans one makes.made
+
+    size : length (canonical one.text.word_start one) ≡ canonical_length f
+    size = size_is f m.body.nabc_lines p.canonical m.limits found spans one makes.made
+
+    few_bytes : canonical_length f ≤ length f.spelled.now
+    few_bytes = length_is f m.body.nabc_lines p.canonical m.limits found
+
+    -- no more of what is gathered changes than the syllable that is held, and the bytes before
+    pub gathered_is : gathered_with runs.s.gathered one ≡ record m.pair.gathered { made = one ∷ []; total = (past_found p f).canonical }
+    gathered_is =
+        gathered_one m.pair.gathered one p.canonical (canonical_length f) stands.between.nothing stands.between.follows stands.between.over eu_is nlba_is size
+        (let l = stands.between.limit in let s = found.syllable in omega (arith, few_bytes, l, s))
+        (let l = stands.between.limit in let s = found.syllable in let k = kept_length f m.body.nabc_lines p.canonical m.limits found spans one makes.made in omega (arith, few_bytes, k, l, s))
+        (let i = found.input in let top = m.limits.in_range.input_most in omega (arith, few_bytes, i, top))
+        runs.s.gathered (runs.held ∷ []) runs.gathered
+
+    pub lent_is : (runs.s.has_lent || nat_lt 0 (length runs.s.gathered.made)) ≡ true
+    lent_is = ap (λ (g : Gathered). runs.s.has_lent || nat_lt 0 (length g.made)) runs.gathered ∙ or_true runs.s.has_lent
+      where
+        or_true : (b : Bool) → (b || nat_lt 0 1) ≡ true
+        or_true true = refl
+        or_true false = refl
+
+    preceding_is : with_one p one ≡ past_found p f
+    preceding_is =
+        ap (λ b. record { syllables = min (p.syllables + 1) most; canonical = min (p.canonical + min (length (canonical (b || one.text.word_start) one)) most) most; spans = record { eu = one.eu; nlba = one.nlba }; sounded = p.sounded || sounds one }) none_first
+        ∙ ap (λ n. record { syllables = min (p.syllables + 1) most; canonical = min (p.canonical + min n most) most; spans = record { eu = one.eu; nlba = one.nlba }; sounded = p.sounded || sounds one }) size
+        ∙ ap (λ n. record { syllables = min (p.syllables + 1) most; canonical = n; spans = record { eu = one.eu; nlba = one.nlba }; sounded = p.sounded || sounds one }) low
+        ∙ ap (λ b. record { syllables = min (p.syllables + 1) most; canonical = p.canonical + canonical_length f; spans = record { eu = b; nlba = one.nlba }; sounded = p.sounded || sounds one }) (eu_is ∙ sym runs.spans_are.0)
+        ∙ ap (λ b. record { syllables = min (p.syllables + 1) most; canonical = p.canonical + canonical_length f; spans = record { eu = p.spans.eu; nlba = b }; sounded = p.sounded || sounds one }) (nlba_is ∙ sym runs.spans_are.1)
+        ∙ ap (λ b. record { syllables = min (p.syllables + 1) most; canonical = p.canonical + canonical_length f; spans = p.spans; sounded = b }) (ap (λ b. b || sounds one) runs.sounded ∙ sym runs.sounded)
+      where
+        none_first : (p.syllables == 0) ≡ false
+        none_first = let some = runs.some in grind (arith, nat_tests, some)
+
+        low : min (p.canonical + min (canonical_length f) most) most ≡ p.canonical + canonical_length f
+        low = let i = found.input in let top = m.limits.in_range.input_most in omega (arith, few_bytes, i, top)
+
+    before_is : (placed : PlacedSyllable) → placed.made ≡ one → past_found p f ≡ with_placed m.bounds.before (given ++ placed ∷ [])
+    before_is placed is =
+        sym preceding_is ∙ ap (with_one p) (sym is) ∙ ap (λ (q : Preceding). with_one q placed.made) runs.before
+        ∙ sym (each_then m.bounds.before (map (λ (s : PlacedSyllable). s.made) given) placed.made)
+        ∙ ap (with_each m.bounds.before) (sym (map-append (λ (s : PlacedSyllable). s.made) given (placed ∷ [])))
+
+    goes_on_by : (begins : Bool) → GoesOnWith m at t given p f begins
+    goes_on_by begins = let placed : PlacedSyllable = record { made = one; position = position_by one.text.word_start begins } in record {
+      placed = placed;
+      canonical_is = canonical_there f m.body.nabc_lines p.canonical m.limits found spans one makes.made begins;
+      runs = record {
+        held = one;
+        s = past_one runs.s f.next one;
+        earlier = given;
+        through = through_all;
+        gathered = gathered_is;
+        given_are = ap (λ b. given ++ record { made = one; position = position_by (not b || one.text.word_start) begins } ∷ []) (sym lent_is);
+        before = before_is placed refl;
+        place = found.next ∙ ap (λ (q : Place). place_past q (chars f.spelled.now)) (place ∙ runs.place) ∙ sym (place_append at t (chars f.spelled.now));
+        within = All-append (IsWithin m.limits) given (placed ∷ []) runs.within
+            (All-cons (IsWithin m.limits) placed [] (short_within m.limits placed.position one (is_short f m.body.nabc_lines p.canonical m.limits found spans one makes.made)) (All-nil (IsWithin m.limits)));
+        plain = All-append IsPlain t (chars f.spelled.now) runs.plain (plain_is f m.body.nabc_lines p.canonical m.limits found);
+        few = few_given;
+        some = omega arith;
+        sounded = runs.sounded;
+        spans_are = runs.spans_are;
+        input = (let i = found.input in omega (arith, few_bytes, i));
+      };
+    }
+      where
+        few_given : length given ≤ length (t ++ chars f.spelled.now)
+        few_given =
+            let e = ap (λ (ss : List PlacedSyllable). length ss) runs.given_are in
+            let l = length-append runs.earlier (record { made = runs.held; position = position_by (not runs.s.has_lent || runs.held.text.word_start) starts } ∷ []) in
+            let n = length-append t (chars f.spelled.now) in
+            let few = runs.few in
+            let some = some_are f m.body.nabc_lines p.canonical m.limits found in
+            omega (arith, e, l, n, few, some)
+
+  module _ (law : MakeSyllables) (line : next.line + length f.spelled.now < 2 ^ 63) (column : next.column + length f.spelled.now < 2 ^ 63) where
+    small : length (encode_utf8_all (spelled r)) < 2 ^ 63
+    small = let e = ap (λ (b : List ℕ). length b) bytes in omega (arith, e, line)
+
+    fits : CountsFit f.at (spelled r)
+    fits =
+        let e = ap (λ (b : List ℕ). length b) bytes in
+        let few = length-le-encodes (spelled r) in
+        let l = ap (λ (q : Place). q.line) place in
+        let c = ap (λ (q : Place). q.column) place in
+        record { line = omega (arith, e, few, l, line); column = omega (arith, e, few, c, column); bytes = (let n = bytes_encodes (spelled r) in omega (arith, n, e, line)) }
+
+    -- what it makes
+    pub found_one : (one : UnplacedSyllable) × Makes m.body.nabc_lines m.body.macros f.at r spans one
+    found_one = law m.body.nabc_lines m.body.macros f.at r spans found.is.is_regular fits small
+
+    pub goes_on : (begins : Bool) → GoesOnWith m at t given p f begins
+    goes_on = goes_on_by found_one.0 found_one.1
