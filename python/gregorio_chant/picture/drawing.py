@@ -120,7 +120,7 @@ class _Drawing:
         if not self._names.links:
             SubElement(root, "style").text = STYLE
         shapes = SubElement(root, "defs")
-        for shape in sorted(self._painter.used):
+        for shape in self._painter.used:
             SubElement(shapes, "path", {"id": self._names.shape(shape), "d": self._face.shapes[shape].path, "fill-rule": "evenodd"})
         SubElement(root, "rect", {"class": "paper", "width": "100%", "height": "100%"})
         return text_of(root).removesuffix("</svg>\n") + "\n"

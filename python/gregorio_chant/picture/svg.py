@@ -3,6 +3,7 @@ from __future__ import annotations
 
 from collections.abc import Iterable, Sequence
 from dataclasses import dataclass
+from functools import lru_cache
 from xml.etree.ElementTree import Element, SubElement, tostring
 
 from gregorio_chant.picture.blocks import NABC_ROW
@@ -32,6 +33,10 @@ def number(value: float) -> str:
     """Returns a number as short as a tenth of a unit needs it."""
     text = f"{value:.1f}".removesuffix(".0")
     return "0" if text == "-0" else text
+
+
+# The same of a size or a height, of which a picture has few.
+_often = lru_cache(maxsize=4096)(number)
 
 
 def _kept_blanks(text: str) -> str:
@@ -78,9 +83,14 @@ class Painter:
         self._names = names
         self._places = places
         self._staff = staff
-        self.used: set[str] = set()
+        self._addresses: dict[str, str] = {}
         # Where each message stands, by its number: the id of its code, or of its syllable.
         self.places: dict[int, str] = {}
+
+    @property
+    def used(self) -> list[str]:
+        """The shapes that are used, by name."""
+        return sorted(self._addresses)
 
     def line(self, line: Line, codes: Sequence[Code], y: float) -> str:
         """Returns the group of a line, whose staff has its lowest line at `y`, with the codes
@@ -101,23 +111,28 @@ class Painter:
         rects = []
         for it in signs:
             if isinstance(it, Rect):
-                width = number(it.width)
-                rects.append(f"M{number(x + it.x)},{number(it.y)}h{width}v{number(it.height)}h-{width}z")
+                width = _often(it.width)
+                rects.append(f"M{number(x + it.x)},{_often(it.y)}h{width}v{_often(it.height)}h-{width}z")
             else:
-                self.used.add(it.shape)
-                SubElement(parent, "use", {"href": f"#{self._names.shape(it.shape)}", "x": number(x + it.x), "y": number(it.y)})
+                SubElement(parent, "use", {"href": self._address(it.shape), "x": number(x + it.x), "y": _often(it.y)})
         if rects:
             SubElement(parent, "path", {"d": "".join(rects)})
 
+    def _address(self, shape: str) -> str:
+        """Returns the address of a shape, which is used then."""
+        if shape not in self._addresses:
+            self._addresses[shape] = f"#{self._names.shape(shape)}"
+        return self._addresses[shape]
+
     @staticmethod
     def _words(parent: Element, words: Words, x: float, y: float) -> None:
-        attributes = {"x": number(x + words.x), "y": number(y)}
+        attributes = {"x": number(x + words.x), "y": _often(y)}
         if words.styles:
             attributes.update(_ATTRIBUTES[it] for it in sorted(words.styles) if it in _ATTRIBUTES)
         if words.size != SIZE:
-            attributes["font-size"] = number(words.size)
+            attributes["font-size"] = _often(words.size)
         if len(words.text) > 1:
-            attributes["textLength"] = number(words.width)
+            attributes["textLength"] = _often(words.width)
         element = SubElement(parent, "text", attributes)
         element.text = _kept_blanks(words.text)
         if words.title:
