@@ -37,7 +37,7 @@ class Claims(unittest.TestCase):
             return re.search(rf"(?:recipe|recipe {re.escape(page)}|name=) ?{re.escape(name)}(?![\w-])", self.scripts) is not None
         if it.mark:
             return f'block("{page}", "{it.mark}")' in self.tests
-        return f"lines_of {it.language} {'>' if page == 'README.md' else page}" in self.scripts
+        return f"lines_of {it.language} {page}" in self.scripts
 
     def test_each_block(self) -> None:
         blocks = [it for page in pages() for it in blocks_of(page)]
@@ -61,7 +61,6 @@ class Scores(InFolder):
         made = compile(score)
         self.assertEqual(made.canonical, block("README.md", "test: canonical form"))
         self.assertEqual(made.messages_text, block("README.md", "test: message"))
-        self.assertIn(block("README.md", "test: dump"), compile(score, "dump").dump)
 
     def test_dumps(self) -> None:
         self.assertIn("\n" + block("docs/FORMATS.md", "test: syllable") + "syllable 3 ", compile("%%\n(c4) KY(f)ri(gfg)e(e.)", "dump").dump)
