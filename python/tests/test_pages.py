@@ -125,6 +125,18 @@ class Lists(unittest.TestCase):
         scripts = {f"tools/{it.name}" for it in (ROOT / "tools").iterdir() if it.is_file() and os.access(it, os.X_OK)}
         self.assertEqual(scripts - set(named), set())
 
+    def test_types(self) -> None:
+        """In the picture of docs/CODE.md each type is named where the one that it stands in is declared."""
+        sources = [it.read_text(encoding="utf-8") for it in sorted((ROOT / "crates").glob("*/src/*.rt"))]
+        above: list[str] = []
+        for line in block("docs/CODE.md", "test: types").splitlines():
+            depth = (len(line) - len(line.lstrip())) // 4
+            name = line.split()[0]
+            declared = [it for it in sources if re.search(rf"^pub(?:\(crate\))? struct {name}\b", it, re.MULTILINE)]
+            self.assertEqual(len(declared), 1, name)
+            self.assertTrue(not depth or re.search(rf"\b{name}\b", above[depth - 1]), line)
+            above[depth:] = declared
+
     def test_folders(self) -> None:
         """The list of docs/CODE.md has each folder of crates with code or proofs."""
         named = {line.split()[0] for line in block("docs/CODE.md", "test: folders").splitlines()}
