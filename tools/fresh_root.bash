@@ -36,7 +36,7 @@ make_empty_root() {
 
 # Tries what only a whole Debian has: the README's line, and its picture.
 try_fresh_root() {
-  check 'a fresh Debian: the line to install' quietly inside "$(readme_recipe install-debian)"
+  check 'a fresh Debian: the line to install' quietly inside "$(recipe README.md install-debian)"
   check 'a fresh Debian: the picture of the README' cmp <(picture_shown) <(inside "cd /usr/share/doc/gregorio-canonical && $(picture_line)")
   check 'a fresh Debian: of what it was built' is "$(inside 'gregorio-chant version')" \
     "$(printf '%s\n' "gregorio-chant $version" "library $version" && cat -- "$here/crates/gregorio_c/out/c/BUILD")"
@@ -52,25 +52,25 @@ leave_fresh_root() {
   check 'a fresh Debian: the packages are removed' quietly inside 'apt-get purge gregorio-canonical gregorio-chant'
   check 'a fresh Debian: nothing of them is left' is "$(cd -- "$system" && find usr etc var/lib/dpkg/info -name '*gregorio*')" ''
   check 'a fresh Debian: an environment of Python' quietly inside 'apt-get install python3-venv'
-  check 'a fresh Debian: the lines for pip' quietly inside "$(readme_recipe install-venv | sed 's/-m venv/& --system-site-packages/; s/pip install/& --no-index/')"
+  check 'a fresh Debian: the lines for pip' quietly inside "$(install_recipe install-venv | sed 's/-m venv/& --system-site-packages/; s/pip install/& --no-index/')"
   cp -r -- "$here/examples" "$system/root/release/"
   check 'a fresh Debian: the picture of the README by the wheel' cmp <(picture_shown) <(inside "PATH=\$PWD/chant/bin:\$PATH; $(picture_line)")
 }
 
-# Tries the README's line for C, with the words that pkg-config finds from where its file lies.
+# Tries the line for C of docs/INSTALL.md, with the words that pkg-config finds from where its file lies.
 try_pkg_config() {
   if ! has_tool pkg-config || ! has_tool "${CC:-cc}"; then
     skip "$1: pkg-config: there is none, or no compiler"
     return
   fi
   cd -- "$room/empty" || exit 1
-  sed -n '/^```c$/,/^```$/p' "$here/README.md" | sed '1d;$d' >program.c
-  check "$1: the line for C" quietly env PKG_CONFIG_PATH="$system/usr/lib/x86_64-linux-gnu/pkgconfig" bash -c "$(readme_recipe use-c)"
+  recipe docs/LIBRARY.md compile-c >program.c
+  check "$1: the line for C" quietly env PKG_CONFIG_PATH="$system/usr/lib/x86_64-linux-gnu/pkgconfig" bash -c "$(install_recipe use-c)"
   check "$1: what the program prints" is "$(LD_LIBRARY_PATH="$system/usr/lib/x86_64-linux-gnu" ./program | head -n 2 | tail -n 1)" 'Ky(f)ri(//)'
   check "$1: the version for pkg-config" is "$(PKG_CONFIG_PATH="$system/usr/lib/x86_64-linux-gnu/pkgconfig" pkg-config --modversion gregorio)" "$version"
 }
 
-# Tries the README's line for Rust: the crate finds the library beside itself.
+# Tries the line for Rust of docs/INSTALL.md: the crate finds the library beside itself.
 try_cargo_line() {
   if ! has_tool cargo; then
     skip "$1: the line for Rust: there is no cargo"
@@ -80,7 +80,7 @@ try_cargo_line() {
   cd -- "$room/page" || exit 1
   printf '[package]\nname = "page"\nversion = "0.0.0"\nedition = "2021"\n' >Cargo.toml
   echo 'fn main() { println!("{}", gregorio_chant::version()) }' >src/main.rs
-  check "$1: the line for Rust" quietly env CARGO_HOME="$room/cargo" CARGO_NET_OFFLINE=true bash -c "$(readme_recipe use-rust | sed "s|/usr/share|$system&|")"
+  check "$1: the line for Rust" quietly env CARGO_HOME="$room/cargo" CARGO_NET_OFFLINE=true bash -c "$(install_recipe use-rust | sed "s|/usr/share|$system&|")"
   check "$1: a program in Rust" is "$(env -u GREGORIO_LIBRARY CARGO_HOME="$room/cargo" CARGO_TARGET_DIR="$room/page/target" cargo run --offline --quiet 2>&1)" "$version"
 }
 

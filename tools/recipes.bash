@@ -9,7 +9,7 @@ recipe() {
   local page="${2:-docs/USE.md}"
   awk -v name="$1" -f "$here/tools/recipe.awk" "$here/$page" >recipe
   check "$page has the recipe $1" test -s recipe
-  [ "$page" = README.md ] || recipes_run+=("$1")
+  case "$page" in docs/USE.md | docs/EDITORS.md) recipes_run+=("$1") ;; esac
 }
 recipes_run=()
 
@@ -96,7 +96,7 @@ nothing_is_changed() { check "$1: no file is changed" diff -r --no-dereference b
 begin
 mkdir home project
 (cd project && mkdir -p bin tools && ln -s "$here/bin/gregorio" bin/gregorio && ln -s "$here/tools/check_canonical" tools/check_canonical)
-recipe links
+recipe links docs/INSTALL.md
 (cd project && HOME="$PWD/../home" bash ../recipe)
 check 'the links: the program' is "$(readlink -f home/.local/bin/gregorio-canonical)" "$here/bin/gregorio"
 check 'the links: the script' is "$(readlink -f home/.local/bin/check_canonical)" "$here/tools/check_canonical"

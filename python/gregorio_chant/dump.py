@@ -190,11 +190,6 @@ class _Pen:
     def write(self, text: str) -> Place:
         """Writes `text`, and returns the place where it begins."""
         begin = Place(self._offset, self._line, self._column)
-        self.put(text)
-        return begin
-
-    def put(self, text: str) -> None:
-        """Writes `text`."""
         self.written.append(text)
         self._offset += len(text)
         if "\n" in text:
@@ -202,6 +197,13 @@ class _Pen:
             self._column = len(text) - text.rindex("\n")
         else:
             self._column += len(text)
+        return begin
+
+    def put(self, char: str) -> None:
+        """Writes a character that ends no line."""
+        self.written.append(char)
+        self._offset += 1
+        self._column += 1
 
 
 class _Reader:
@@ -316,7 +318,7 @@ class _Reader:
             raise self.fail("a syllable with the next number and its position was awaited")
         self._at += 1
         if words[2] in ("one", "beginning"):
-            self.pen.put("\n")
+            self.pen.write("\n")
         first = len(self.pen.written)
         text = self.text() if self.word() == "text" else ""
         translation = self.text() if self.word() == "translation" else None
@@ -371,17 +373,18 @@ class _NotesReader:
     def snippet(self) -> NoteSnippet:
         while True:
             word = self._reader.word()
-            if word == "element":
-                self._reader.words(1)
-                self._close_element()
+            item = _ITEMS.get(word)
+            if item is not None:
+                self._add(item(self))
             elif word == "glyph":
                 self._open_glyph()
-            elif word in _ITEMS:
-                self._add(_ITEMS[word](self))
+            elif word == "element":
+                self._reader.words(1)
+                self._close_element()
             else:
                 break
         self._close_element()
-        if "".join(it.spelling for it in self._items) != self._spelling:
+        if "".join([it.spelling for it in self._items]) != self._spelling:
             raise self._reader.fail("the snippet before this line is not spelled by its items")
         return NoteSnippet(self._place, self._spelling, tuple(self._items), tuple(self._elements), _sources=self._sources)
 
@@ -397,12 +400,13 @@ class _NotesReader:
 
     def _add(self, item: Item) -> None:
         self._items.append(item)
-        if isinstance(item, (Bar, Clef, Custos, Break)) or (isinstance(item, Space) and item.is_divider):
-            self._close_element()
-            return
-        self._inside.append(item)
         if isinstance(item, Note):
+            self._inside.append(item)
             self._add_note(item)
+        elif isinstance(item, (Bar, Clef, Custos, Break)) or (isinstance(item, Space) and item.is_divider):
+            self._close_element()
+        else:
+            self._inside.append(item)
 
     def _add_note(self, note: Note) -> None:
         if not self._wanted:
@@ -442,8 +446,8 @@ class _NotesReader:
         _, pitch, shape, degree, alteration, spelling = self._reader.words(6)
         sounds = self._word_of(degree, _DEGREES)
         return Note(
-            *self._write(spelling), self._word_of(pitch, _PITCHES), shape, None if sounds == "-" else sounds, self._word_of(alteration, _ALTERS),
-            self._reader.clef, _sources=self._sources,
+            self._reader.pen.write(spelling), spelling, self._word_of(pitch, _PITCHES), shape, None if sounds == "-" else sounds,
+            self._word_of(alteration, _ALTERS), self._reader.clef, _sources=self._sources,
         )
 
     def alteration(self) -> Alteration:

@@ -65,7 +65,7 @@ def _rule(name: str) -> dict[str, object]:
     """Returns what the log says of a code or of a rule."""
     code = CODES.get(name)
     if code is not None:
-        short, meaning, page = code.text, code.meaning, "FORMATS.md#messages"
+        short, meaning, page = code.text, code.meaning, "LANGUAGE.md#errors-and-warnings"
     else:
         short, meaning, page = RULES[name].meaning.partition(". ")[0], RULES[name].meaning, "PYTHON.md#rules"
     return {

@@ -12,9 +12,12 @@ _FIRST_MARK = re.compile(r";+[ \t]*(?=%|$)")
 _LATER_MARK = re.compile(r";;+[ \t]*(?=%|$)", re.MULTILINE)
 _IN_TEXT = re.compile(r"\$[][(){}<>%$]|[%<([]")
 _IN_NOTES = re.compile(r"[%\[|)]")
+# A syllable with nothing special in it: its text, and its notes up to the `)`.
+_PLAIN = re.compile(r"[^$%<(\[]*(\()[^%\[|)]*\)")
 _RAW = re.compile(r"<(v|sp|alt)>")
 _STYLE = re.compile(r"</?(?:b|c|e|i|sc|tt|ul)>")
 BLANKS = " \t\n\r"
+_NO_BLANK = re.compile(f"[^{BLANKS}]")
 _NO_BLANKS = str.maketrans("", "", BLANKS)
 
 
@@ -107,6 +110,13 @@ class Scan:
         offsets.extend(range(at, max(at, span.end)))
         return [it for it in offsets if self.text[it] not in BLANKS]
 
+    def first_without_comments(self, span: Span) -> int | None:
+        """Returns the first of these offsets of a syllable, if there is one."""
+        first = _NO_BLANK.search(self.text, span.begin, span.end)
+        if first is not None and first[0] == "%":
+            return next(iter(self.without_comments(span)), None)
+        return None if first is None else first.start()
+
 
 def scan(text: str, left_out: Collection[int] = ()) -> Scan:
     """Returns where all stands in `text`, of which the compiler left out the characters with the offsets `left_out`."""
@@ -165,9 +175,13 @@ def _scan_score(found: Scan, left_out: Collection[int]) -> None:
         found.comments.append(Span(at + len(rest) - len(rest.lstrip(" \t")), end))
     at = end
     while at < len(text):
-        notes = _scan_text(found, at)
-        end = _scan_notes(found, notes, left_out)
-        if notes < len(text) or found.without_comments(Span(at, end)):
+        plain = _PLAIN.match(text, at)
+        if plain and plain.end() - 1 not in left_out:
+            notes, end = plain.start(1), plain.end()
+        else:
+            notes = _scan_text(found, at)
+            end = _scan_notes(found, notes, left_out)
+        if notes < len(text) or found.first_without_comments(Span(at, end)) is not None:
             found.syllables.add(at, end, notes)
         at = end
 

@@ -1,4 +1,4 @@
-"""Compares the table of codes with the man page, the compiler and FORMATS.md, and tries each wrong line and its right one."""
+"""Compares the table of codes with the man page, the compiler and LANGUAGE.md, and tries each wrong line and its right one."""
 from __future__ import annotations
 
 import re
@@ -41,13 +41,9 @@ class Table(unittest.TestCase):
     def test_man_page(self) -> None:
         self.assertEqual(meanings_of_man_page(), {name: it.meaning for name, it in CODES.items()})
 
-    def test_formats(self) -> None:
-        rows = re.findall(r"^\| ([EWF]\d+) \| `(.*)` \|$", (ROOT / "docs" / "FORMATS.md").read_text(encoding="utf-8"), re.MULTILINE)
-        self.assertEqual(dict(rows), {name: it.text for name, it in CODES.items()})
-
     def test_language(self) -> None:
-        rows = re.findall(r"^\| ([EWF]\d+) \|", (ROOT / "docs" / "LANGUAGE.md").read_text(encoding="utf-8"), re.MULTILINE)
-        self.assertEqual(set(rows), set(CODES))
+        rows = re.findall(r"^\| ([EWF]\d+) \| `([^`]*)` \|", (ROOT / "docs" / "LANGUAGE.md").read_text(encoding="utf-8"), re.MULTILINE)
+        self.assertEqual(dict(rows), {name: it.text for name, it in CODES.items()})
 
     def test_lines(self) -> None:
         for code in CODES.values():

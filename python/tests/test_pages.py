@@ -37,7 +37,7 @@ class Claims(unittest.TestCase):
             return re.search(rf"(?:recipe|recipe {re.escape(page)}|name=) ?{re.escape(name)}(?![\w-])", self.scripts) is not None
         if it.mark:
             return f'block("{page}", "{it.mark}")' in self.tests
-        return f"lines_of {it.language} {'>' if page == 'README.md' else page}" in self.scripts
+        return f"lines_of {it.language} {page}" in self.scripts
 
     def test_each_block(self) -> None:
         blocks = [it for page in pages() for it in blocks_of(page)]
@@ -61,7 +61,6 @@ class Scores(InFolder):
         made = compile(score)
         self.assertEqual(made.canonical, block("README.md", "test: canonical form"))
         self.assertEqual(made.messages_text, block("README.md", "test: message"))
-        self.assertIn(block("README.md", "test: dump"), compile(score, "dump").dump)
 
     def test_dumps(self) -> None:
         self.assertIn("\n" + block("docs/FORMATS.md", "test: syllable") + "syllable 3 ", compile("%%\n(c4) KY(f)ri(gfg)e(e.)", "dump").dump)
@@ -125,6 +124,18 @@ class Lists(unittest.TestCase):
                 self.assertEqual([it for it in re.findall(r"--[a-z][a-z-]+", lines) if it not in text], [], name)
         scripts = {f"tools/{it.name}" for it in (ROOT / "tools").iterdir() if it.is_file() and os.access(it, os.X_OK)}
         self.assertEqual(scripts - set(named), set())
+
+    def test_types(self) -> None:
+        """In the picture of docs/CODE.md each type is named where the one that it stands in is declared."""
+        sources = [it.read_text(encoding="utf-8") for it in sorted((ROOT / "crates").glob("*/src/*.rt"))]
+        above: list[str] = []
+        for line in block("docs/CODE.md", "test: types").splitlines():
+            depth = (len(line) - len(line.lstrip())) // 4
+            name = line.split()[0]
+            declared = [it for it in sources if re.search(rf"^pub(?:\(crate\))? struct {name}\b", it, re.MULTILINE)]
+            self.assertEqual(len(declared), 1, name)
+            self.assertTrue(not depth or re.search(rf"\b{name}\b", above[depth - 1]), line)
+            above[depth:] = declared
 
     def test_folders(self) -> None:
         """The list of docs/CODE.md has each folder of crates with code or proofs."""

@@ -5,16 +5,16 @@ import gc
 from collections.abc import Iterable, Iterator, Sequence
 from contextlib import contextmanager
 from dataclasses import dataclass
+from xml.etree.ElementTree import Element, SubElement
 
 from gregorio_chant import library
 from gregorio_chant.dump import Header, Syllable, read_in_turn
 from gregorio_chant.picture.codes import CODE_ROW, codes_of
 from gregorio_chant.picture.faces import OWN, Face
 from gregorio_chant.picture.layout import Layout, staff_lines
-from gregorio_chant.picture.markup import Markup, element, joined, text
 from gregorio_chant.picture.marks import Mark, Places, places_of
 from gregorio_chant.picture.shown import shown
-from gregorio_chant.picture.svg import MARGIN, STYLE, Names, Painter, number
+from gregorio_chant.picture.svg import MARGIN, STYLE, Names, Painter, add, number, text_of
 from gregorio_chant.picture.widths import width_of
 from gregorio_chant.results import Format, Message
 
@@ -110,20 +110,20 @@ class _Drawing:
     def head(self, name: str) -> str:
         """Returns what stands before the lines; it is known once they are drawn."""
         height = number(self._y + MARGIN)
-        inside = [element("title", {}, text(shown(name) or "A score without a name"))]
-        if self._face.origin:
-            inside.append(element("metadata", {}, text(shown(self._face.origin))))
-        if not self._names.links:
-            inside.append(element("style", {}, text(STYLE)))
-        inside += [element("defs", {}, joined([self._shape(it) for it in sorted(self._painter.used)]))]
-        inside.append(element("rect", {"class": "paper", "width": "100%", "height": "100%"}))
-        return element("svg", {
+        root = Element("svg", {
             "xmlns": "http://www.w3.org/2000/svg", "viewBox": f"0 0 {number(self._width)} {height}", "width": number(self._width), "height": height,
             "class": "chant", "font-size": "16", **({} if self._names.links else {"role": "img"}),
-        }, joined(inside)).removesuffix("</svg>") + "\n"
-
-    def _shape(self, name: str) -> Markup:
-        return element("path", {"id": self._names.shape(name), "d": self._face.shapes[name].path, "fill-rule": "evenodd"})
+        })
+        add(root, "title", name or "A score without a name")
+        if self._face.origin:
+            add(root, "metadata", self._face.origin)
+        if not self._names.links:
+            SubElement(root, "style").text = STYLE
+        shapes = SubElement(root, "defs")
+        for shape in self._painter.used:
+            SubElement(shapes, "path", {"id": self._names.shape(shape), "d": self._face.shapes[shape].path, "fill-rule": "evenodd"})
+        SubElement(root, "rect", {"class": "paper", "width": "100%", "height": "100%"})
+        return text_of(root).removesuffix("</svg>\n") + "\n"
 
     def body(self) -> Iterator[str]:
         """Yields the title, each line, and the notes at the end."""
@@ -145,7 +145,9 @@ class _Drawing:
         yield self._note(_NO_SCORE)
 
     def _text(self, words: str, x: float, size: float, **attributes: str) -> str:
-        return element("text", {"x": number(x), "y": number(self._y), "font-size": number(size), **attributes}, text(shown(words))) + "\n"
+        text = Element("text", {"x": number(x), "y": number(self._y), "font-size": number(size), **attributes})
+        text.text = shown(words)
+        return text_of(text)
 
     def _note(self, words: str) -> str:
         self._y += _NOTE_SIZE + 4.0
@@ -183,5 +185,6 @@ class _Drawing:
         for mark in marks:
             self._y += CODE_ROW + 2.0
             message = mark.message
-            words = f"{message.code} {message.line}:{message.column} {message.text}"
-            yield element("g", {}, self._painter.code(mark, MARGIN, self._y, words)) + "\n"
+            group = Element("g")
+            self._painter.code(group, mark, MARGIN, self._y, f"{message.code} {message.line}:{message.column} {message.text}")
+            yield text_of(group)

@@ -71,8 +71,9 @@ class _Finder:
 
     def place(self, number: int) -> Place:
         """Returns where a syllable stands in the score, without blanks and comments before it."""
-        offsets = self._offsets_of(number)
-        return self._comparison.lines.place(offsets[0] if offsets else self.spans[number].begin)
+        span = self.spans[number]
+        first = self._comparison.source.first_without_comments(span)
+        return self._comparison.lines.place(span.begin if first is None else first)
 
     def _offsets_of(self, number: int) -> list[int]:
         return self._comparison.source.without_comments(self.spans[number])

@@ -24,4 +24,4 @@ def shown(text: str) -> str:
     >>> shown("a\\x1b\\u202eb")
     'a␛<U+202E>b'
     """
-    return _HIDDEN.sub(_shown, text)
+    return text if text.isprintable() else _HIDDEN.sub(_shown, text)

@@ -3,10 +3,11 @@ from __future__ import annotations
 
 from collections.abc import Iterable, Sequence
 from dataclasses import dataclass
+from functools import lru_cache
+from xml.etree.ElementTree import Element, SubElement, tostring
 
 from gregorio_chant.picture.blocks import NABC_ROW
 from gregorio_chant.picture.codes import CODE_ROW, CODE_SIZE, Code, marks_of
-from gregorio_chant.picture.markup import NOTHING, Markup, element, joined, text, use
 from gregorio_chant.picture.marks import Mark, Places
 from gregorio_chant.picture.parts import ABOVE_SIZE
 from gregorio_chant.picture.shown import shown
@@ -32,6 +33,10 @@ def number(value: float) -> str:
     """Returns a number as short as a tenth of a unit needs it."""
     text = f"{value:.1f}".removesuffix(".0")
     return "0" if text == "-0" else text
+
+
+# The same of a size or a height, of which a picture has few.
+_often = lru_cache(maxsize=4096)(number)
 
 
 def _kept_blanks(text: str) -> str:
@@ -61,8 +66,14 @@ class Names:
         return f"{self.prefix}m{index}"
 
 
-def _title(it: str) -> Markup:
-    return element("title", {}, text(shown(it)))
+def text_of(element: Element) -> str:
+    """Returns an element as a line of text: whatever stands in it is escaped."""
+    return tostring(element, encoding="unicode") + "\n"
+
+
+def add(parent: Element, name: str, text: str) -> None:
+    """Adds an element with no attributes, in which a text of a score stands."""
+    SubElement(parent, name).text = shown(text)
 
 
 class Painter:
@@ -72,100 +83,114 @@ class Painter:
         self._names = names
         self._places = places
         self._staff = staff
-        self.used: set[str] = set()
+        self._addresses: dict[str, str] = {}
         # Where each message stands, by its number: the id of its code, or of its syllable.
         self.places: dict[int, str] = {}
+
+    @property
+    def used(self) -> list[str]:
+        """The shapes that are used, by name."""
+        return sorted(self._addresses)
 
     def line(self, line: Line, codes: Sequence[Code], y: float) -> str:
         """Returns the group of a line, whose staff has its lowest line at `y`, with the codes
         above it."""
+        group = Element("g", {"transform": f"translate({number(MARGIN)},{number(y)})"})
         staff = "".join(f"M0,{number(-10.0 * it)}h{number(line.width)}" for it in range(self._staff))
-        out = [element("path", {"class": "staff", "d": staff})]
-        self._signs(out, line.signs, 0.0)
-        out += [self._part(line, placed) for placed in line.parts]
-        out += [self.code(it.mark, it.x, line.top - 2.5 - CODE_ROW * it.row, it.text) for it in codes]
+        SubElement(group, "path", {"class": "staff", "d": staff})
+        self._signs(group, line.signs, 0.0)
+        for placed in line.parts:
+            self._part(group, line, placed)
+        for it in codes:
+            self.code(group, it.mark, it.x, line.top - 2.5 - CODE_ROW * it.row, it.text)
         for hyphen in line.hyphens:
-            self._words(out, hyphen, 0.0, line.text)
-        return element("g", {"transform": f"translate({number(MARGIN)},{number(y)})"}, joined(out)) + "\n"
+            self._words(group, hyphen, 0.0, line.text)
+        return text_of(group)
 
-    def _signs(self, out: list[Markup], signs: Iterable[Sign], x: float) -> None:
+    def _signs(self, parent: Element, signs: Iterable[Sign], x: float) -> None:
         rects = []
         for it in signs:
             if isinstance(it, Rect):
-                width = number(it.width)
-                rects.append(f"M{number(x + it.x)},{number(it.y)}h{width}v{number(it.height)}h-{width}z")
+                width = _often(it.width)
+                rects.append(f"M{number(x + it.x)},{_often(it.y)}h{width}v{_often(it.height)}h-{width}z")
             else:
-                self.used.add(it.shape)
-                out.append(use(self._names.shape(it.shape), number(x + it.x), number(it.y)))
+                SubElement(parent, "use", {"href": self._address(it.shape), "x": number(x + it.x), "y": _often(it.y)})
         if rects:
-            out.append(element("path", {"d": "".join(rects)}))
+            SubElement(parent, "path", {"d": "".join(rects)})
+
+    def _address(self, shape: str) -> str:
+        """Returns the address of a shape, which is used then."""
+        if shape not in self._addresses:
+            self._addresses[shape] = f"#{self._names.shape(shape)}"
+        return self._addresses[shape]
 
     @staticmethod
-    def _words(out: list[Markup], words: Words, x: float, y: float) -> None:
-        attributes = {"x": number(x + words.x), "y": number(y)}
+    def _words(parent: Element, words: Words, x: float, y: float) -> None:
+        attributes = {"x": number(x + words.x), "y": _often(y)}
         if words.styles:
             attributes.update(_ATTRIBUTES[it] for it in sorted(words.styles) if it in _ATTRIBUTES)
         if words.size != SIZE:
-            attributes["font-size"] = number(words.size)
+            attributes["font-size"] = _often(words.size)
         if len(words.text) > 1:
-            attributes["textLength"] = number(words.width)
-        content = text(_kept_blanks(words.text))
-        out.append(element("text", attributes, joined([content, _title(words.title)]) if words.title else content))
+            attributes["textLength"] = _often(words.width)
+        element = SubElement(parent, "text", attributes)
+        element.text = _kept_blanks(words.text)
+        if words.title:
+            add(element, "title", words.title)
         if "barred" in words.styles:
             rise = number(words.width - 4.0)
-            out.append(element("path", {"d": f"M{number(x + words.x + 1.5)},{number(y + 2.0)}l{rise},-15h1l-{rise},15z"}))
+            SubElement(parent, "path", {"d": f"M{number(x + words.x + 1.5)},{number(y + 2.0)}l{rise},-15h1l-{rise},15z"})
 
-    def _part(self, line: Line, placed: Placed) -> Markup:
+    def _part(self, parent: Element, line: Line, placed: Placed) -> None:
         part = placed.part
         index = part.syllable.number - 1
         attributes = {"id": self._names.syllable(index, part.number)}
-        out: list[Markup] = []
+        if part.number == 0 and index < len(self._places.syllables):
+            place = self._places.syllables[index]
+            attributes |= {"data-line": str(place.line), "data-column": str(place.column)}
+        group = SubElement(parent, "g", attributes)
         if part.number == 0:
-            if index < len(self._places.syllables):
-                place = self._places.syllables[index]
-                attributes |= {"data-line": str(place.line), "data-column": str(place.column)}
-            out.append(_title(part.syllable.spelling))
-        out.append(self._field(line, placed))
+            add(group, "title", part.syllable.spelling)
+        self._field(group, line, placed)
         for x, block in part.blocks:
-            self._signs(out, block.signs, placed.x + x)
+            self._signs(group, block.signs, placed.x + x)
             for words in block.neumes:
-                self._words(out, words, placed.x + x, self._row(line, int(words.y)))
+                self._words(group, words, placed.x + x, self._row(line, int(words.y)))
         for words in part.texts:
-            self._words(out, words, placed.x, line.text)
+            self._words(group, words, placed.x, line.text)
         if part.translation is not None:
-            self._words(out, part.translation._replace(styles=frozenset("i")), placed.x, line.text + 15.0)
+            self._words(group, part.translation._replace(styles=frozenset("i")), placed.x, line.text + 15.0)
         for words in part.above:
-            self._words(out, words._replace(styles=frozenset("i")), placed.x, line.top + ABOVE_SIZE)
-        return element("g", attributes, joined(out))
+            self._words(group, words._replace(styles=frozenset("i")), placed.x, line.top + ABOVE_SIZE)
 
     @staticmethod
     def _row(line: Line, row: int) -> float:
         """Returns the y of a row of NABC: the first one stands nearest to the staff."""
         return line.top + (ABOVE_SIZE if line.has_above else 0.0) + (line.rows - row + 1) * NABC_ROW - 3.0
 
-    def _field(self, line: Line, placed: Placed) -> Markup:
-        """Returns the field under a part that has messages; nothing where it has none."""
+    def _field(self, parent: Element, line: Line, placed: Placed) -> None:
+        """Paints a field under a part that has messages."""
         marks = marks_of(placed, self._places)
         if not marks:
-            return NOTHING
+            return
         part = placed.part
         name = self._names.syllable(part.syllable.number - 1, part.number)
         self.places.update({it.number: name for it in marks})
         left = min(part.left, part.text_left if part.has_text else part.left) - 1.5
         right = max(part.right, part.text_right if part.has_text else part.right) + 1.5
         kind = "mark" if any(it.message.kind is not Kind.WARNING for it in marks) else "mark w"
-        return element("rect", {
+        SubElement(parent, "rect", {
             "class": kind, "x": number(placed.x + left), "y": number(line.top), "width": number(max(right - left, 6.0)),
             "height": number(line.text + 5.0 - line.top),
         })
 
-    def code(self, mark: Mark, x: float, y: float, words: str = "") -> Markup:
-        """Returns the code of a message, as a link where messages stand beside the picture."""
+    def code(self, parent: Element, mark: Mark, x: float, y: float, words: str = "") -> None:
+        """Paints the code of a message, as a link where messages stand beside the picture."""
         message = mark.message
-        title = _title(f"{message.line}:{message.column}: {message.kind.value}: {message.code}: {message.text}")
-        code = element("text", {"class": "code", "x": number(x), "y": number(y)}, joined([text(shown(words or message.code)), title]))
-        if not self._names.links:
-            return code
-        name = self._names.message(mark.number)
-        self.places[mark.number] = f"{name}-at"
-        return element("a", {"href": f"#{name}", "id": f"{name}-at"}, code)
+        if self._names.links:
+            name = self._names.message(mark.number)
+            self.places[mark.number] = f"{name}-at"
+            parent = SubElement(parent, "a", {"href": f"#{name}", "id": f"{name}-at"})
+        code = SubElement(parent, "text", {"class": "code", "x": number(x), "y": number(y)})
+        code.text = shown(words or message.code)
+        add(code, "title", f"{message.line}:{message.column}: {message.kind.value}: {message.code}: {message.text}")
