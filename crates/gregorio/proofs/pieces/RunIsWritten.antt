@@ -84,7 +84,7 @@ module _ (old : ScoreWriterState) (at : Place) (t : List ℕ) (new : ScoreWriter
   run_silent takes over = absurd (by new.writer.written.ended (ap (λ (v : Written). is_none v.ended) run_counted.is ∙ takes.runs) over)
     where
       by : (o : Option Status) → is_none o ≡ true → IsSome o → ⊥
-      by None none some = some
+      by None none some = cc some
       by (Some status) none some = cc none
 
   clef_in : (part : ScorePart) (clef : Option Clef) → IsClefIn part old.score.before.sounded clef → IsClefIn part (with_placed old.score.before r.syllables).sounded clef
