@@ -19,3 +19,4 @@ pub mod SettingDown
 pub mod SavedAlike
 pub mod Telling
 pub mod TellsInStep
+pub mod TempSkip

@@ -1,7 +1,8 @@
 -- A text at which a run of syllables is written brings these, and all parts of an engine stay in step.
-use Rattle.std.proofs.Common.{◌≡◌, ℕ, ◌+◌, ◌≤◌, inl, List, [], ◌∷◌, ◌++◌, length, map, take, true, false, Result, Ok, refl, ap, sym, subst, ◌∙◌, append_assoc, length-append, arith}
+use Rattle.std.proofs.Common.{◌≡◌, ℕ, ◌+◌, ◌≤◌, inl, List, [], ◌∷◌, ◌++◌, length, map, take, true, false, Result, Ok, refl, ap, sym, subst, ◌∙◌, length-append, arith, IsUtf8}
 use Rattle.std.proofs.Math.Seq.{take-append-add}
 use Rattle.std.proofs.lemmas.Bool.{false≢true}
+use Rattle.std.proofs.lemmas.Str.{encodes-chars, length-le-encodes}
 use Rattle.std.specs.Str.{chars}
 use Rattle.std.specs.declared.hash.DefaultHasher.{DefaultHasher}
 use Rattle.gabc_places.proofs.PushesAreOne.{joined-append}
@@ -63,6 +64,10 @@ pub record SkipsText (d : DecoderState) (text : List ℕ) (e : DecoderState) : T
   pub reached : IsReached e.place (length e.pending) e.taken
   pub runs : e.running ≡ d.running
   pub cr : is_after_cr e ≡ false
+
+-- a character has a byte or more
+pub fewer_characters : (text : List ℕ) → IsUtf8 text → length (chars text) ≤ length text
+fewer_characters text u = subst (λ (bytes : List ℕ). length (chars text) ≤ length bytes) (encodes-chars text u) (length-le-encodes (chars text))
 
 module _ (bytes more : List ℕ) (lists rest : List (List (Result Char Fault))) (items : List (Result Char Fault)) (one_each : length lists ≡ length bytes) (all : concat_of lists ≡ items) where
   first_whole : concat_of (lists ++ rest) ≡ items ++ concat_of rest
