@@ -19,4 +19,3 @@ pub mod SettingDown
 pub mod SavedAlike
 pub mod Telling
 pub mod TellsInStep
-pub mod TempSkip

@@ -9,48 +9,7 @@ ghost use Rattle.gregorio.specs.machine.Engine.{LeavesRoom};
 
 use crate::engine::Engine;
 use crate::rooms::most_waiting;
-use gabc_places::{Decoder, Place};
-
-ghost use Rattle.std.specs.Prelude.{ℕ, ◌+◌, List, [], ◌++◌, map, Ok};
-ghost use Rattle.std.specs.List.{All};
-ghost use Rattle.std.specs.Str.{chars};
-ghost use Rattle.gabc_places.specs.TextOfAnInput.{IsPlain};
-ghost use Rattle.gabc_places.specs.Skip.{most_skipped as most_skipped_by};
-ghost use Rattle.gabc_places.specs.DecoderTells.{is_after_cr};
-ghost use Rattle.gabc_places.specs.DecoderMachine.{IsReached};
-ghost use Rattle.gabc_places.specs.Place.{place_past, placed_characters_from};
-ghost use Rattle.gabc_places.specs.StageLaw.{concat_of};
-ghost use Rattle.gabc_places.specs.witness.DecoderEvents.{events_left};
-ghost use Rattle.gabc_places.specs.Text.{utf8_prefix_of as utf8_prefix};
-ghost use Rattle.gregorio.specs.machine.TempSkip.{text_events};
-
-pub fn valid_front(bytes: &[u8]) -> &str
-    ensures text { chars result.now ≡ utf8_prefix bytes.now }
-    ensures front { result.now ≡ take (length result.now) bytes.now }
-{
-    ""
-}
-
-fn skip_text(decoder: &mut Decoder, text: &str, next: Place)
-    requires few { length text.now ≤ most_skipped_by decoder.old }
-    requires plain { All IsPlain (chars text.now) }
-    requires after_cr { is_after_cr decoder.old ≡ false }
-    requires next { next ≡ place_past decoder.old.place (chars text.now) }
-    ensures joined { (more : List ℕ) → events_left decoder.old (text.now ++ more)
-        ≡ text_events decoder.old.place (chars text.now) ++ events_left decoder.new more }
-    ensures one_each { length (text_events decoder.old.place (chars text.now)) ≡ length text.now }
-    ensures all { concat_of (text_events decoder.old.place (chars text.now))
-        ≡ map (λ c. Ok c) (placed_characters_from decoder.old.place (chars text.now)) }
-    ensures limit { decoder.new.limit ≡ decoder.old.limit }
-    ensures taken { decoder.new.taken ≡ decoder.old.taken + length text.now }
-    ensures place { decoder.new.place ≡ next }
-    ensures reached { IsReached next (length decoder.new.pending) decoder.new.taken }
-    ensures pending { decoder.new.pending ≡ decoder.old.pending }
-    ensures runs { decoder.new.running ≡ decoder.old.running }
-    ensures none { text.now ≡ [] → decoder.new ≡ decoder.old }
-    ensures cr { is_after_cr decoder.new ≡ false }
-{
-}
+use gabc_places::valid_front;
 
 impl Engine {
     /// Takes bytes of `piece` until it is used up or what waits leaves no room for what one byte
@@ -120,7 +79,7 @@ impl Engine {
         let most = text.floor_char_boundary(self.decoder.most_skipped());
         let front = &text[..most];
         let run = self.writer.take_run(self.decoder.place(), front);
-        skip_text(&mut self.decoder, &front[..run.bytes], run.next);
+        self.decoder.skip_text(&front[..run.bytes], run.next);
         run.bytes
     }
 

@@ -30,7 +30,7 @@ range-requires-clause-end_boundary c = cut_there c.range-front.result.now c.take
 pub invariant_of-self : goal.invariant_of-self
 invariant_of-self c =
     let d = c.self.inside.decoder in
-    let e = c.skip_text.new.decoder in
+    let e = c.skip_text.new.self in
     let h = c.self.inside.heads in
     let w = c.self.inside.writer in
     let new = c.take_run-run.new.self in
@@ -66,7 +66,7 @@ invariant_of-self c =
 pub returns-clause-brings : goal.returns-clause-brings
 returns-clause-brings c = λ more ending.
     let d = c.self.inside.decoder in
-    let e = c.skip_text.new.decoder in
+    let e = c.skip_text.new.self in
     let h = c.self.inside.heads in
     let w = c.self.inside.writer in
     let new = c.take_run-run.new.self in
