@@ -7,3 +7,6 @@ pub mod PrefixesAreRead
 pub mod SkippedBytesAreJoined
 pub mod PrintableBytesAreSkipped
 pub mod DecodersAgree
+pub mod TextsAreEmitted
+pub mod TextsAreSkipped
+pub mod TextsMoveADecoder

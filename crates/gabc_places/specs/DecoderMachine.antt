@@ -7,7 +7,7 @@ use Rattle.gabc_places.specs.declared.code.Fault.{Fault}
 use Rattle.gabc_places.specs.Place.{place_after}
 
 -- what a decoder holds: the limit and the bytes taken so far, the place of the next character, the bytes of a character that is
--- not whole yet, and the character before it (0 where there is none)
+-- not whole yet, and the character before it (0 where there is none, or where it is only known to be no CR)
 pub record DecoderState : Type 0 where
   pub limit : ℕ
   pub taken : ℕ

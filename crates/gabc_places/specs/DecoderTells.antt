@@ -78,3 +78,8 @@ pub record MovesOn (old : DecoderState) (items : List (Result Char Fault)) (new 
   pub runs : new.running ≡ still_runs items old.running
   pub plain : AreOfText items
   pub cr : new.running ≡ true → is_after_cr new ≡ true → EndALine items
+
+-- With bytes one after another, at each of which these came, it goes on so from one to the next.
+abbrev pub MovesThrough : DecoderState → List (List (Result Char Fault)) → DecoderState → Type 0
+MovesThrough old [] new = new ≡ old
+MovesThrough old (items ∷ lists) new = (mid : DecoderState) × (MovesOn old items mid × MovesThrough mid lists new)

@@ -1,6 +1,6 @@
 //! The text of an input's bytes.
 
-ghost use Rattle.std.specs.Prelude.{◌≡◌, ◌↔◌, ◌≤◌, ◌==◌, length, drop, slice_index, IfOk, IsTrue, if◌then◌else◌};
+ghost use Rattle.std.specs.Prelude.{◌≡◌, ◌↔◌, ◌≤◌, ◌==◌, length, take, drop, slice_index, IfOk, IsTrue, if◌then◌else◌};
 ghost use Rattle.gabc_places.specs.DecoderMachine.{IsPartial};
 ghost use Rattle.std.specs.Str.{chars};
 ghost use Rattle.gabc_places.specs.Text.{decoded_of, utf8_prefix_of as utf8_prefix, tail_of, stop_code_of, text_of_characters};
@@ -37,9 +37,19 @@ pub fn text_of(
     Ok(Decoded { text, fault })
 }
 
+/// Returns the longest front of `bytes` that is UTF-8.
+pub fn valid_front(bytes: &[u8]) -> &str
+    ensures text { chars result.now ≡ utf8_prefix bytes.now }
+    ensures front { result.now ≡ take (length result.now) bytes.now }
+{
+    let (text, _) = prefix_and_tail(bytes);
+    text
+}
+
 /// The longest prefix that is UTF-8, and what follows it.
 pub(crate) fn prefix_and_tail(bytes: &[u8]) -> (&str, Tail)
     ensures text { chars result.0.now ≡ utf8_prefix bytes.now }
+    ensures front { result.0.now ≡ take (length result.0.now) bytes.now }
     ensures tail { result.1 ≡ tail_of bytes.now }
 {
     match simdutf8::compat::from_utf8(bytes) {

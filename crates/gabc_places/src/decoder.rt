@@ -1,15 +1,18 @@
 //! A stage from bytes to characters.
 
-ghost use Rattle.std.specs.Prelude.{◌≡◌, ◌↔◌, ℕ, ◌+◌, ◌-◌, ◌<◌, ◌≤◌, ◌^◌, List, [], ◌∷◌, ◌++◌, length, take, true, false, Result, IfSome, IsSome, IsTrue, option_to_list};
+ghost use Rattle.std.specs.Prelude.{◌≡◌, ◌↔◌, ℕ, ◌+◌, ◌-◌, ◌<◌, ◌≤◌, ◌^◌, List, [], ◌∷◌, ◌++◌, length, take, map, true, false, Result, Ok, IfSome, IsSome, IsTrue, option_to_list};
 ghost use Rattle.std.specs.List.{All};
 ghost use Rattle.gabc_places.specs.StageLaw.{concat_of, EmitsNothing};
 ghost use Rattle.gabc_places.specs.Decoder.{known_of, known_at_end};
 ghost use Rattle.gabc_places.specs.DecoderMachine.{fresh_decoder, is_fault_item};
 ghost use Rattle.gabc_places.specs.witness.DecoderEvents.{stop_with, take_character as taken_character, take_byte, events_left};
 ghost use Rattle.gabc_places.specs.DecoderMachine.{IsPartial, IsReached, BeginsLine};
-ghost use Rattle.gabc_places.specs.DecoderTells.{MayBeTold, MovesOn, is_after_cr, resumed};
+ghost use Rattle.gabc_places.specs.DecoderTells.{MayBeTold, MovesOn, MovesThrough, is_after_cr, resumed};
 ghost use Rattle.gabc_places.specs.machine.Decoder.{take_part as taken_part};
-ghost use Rattle.gabc_places.specs.Skip.{IsPrintable, most_skipped as most_skipped_by, skipped_events};
+ghost use Rattle.gabc_places.specs.Skip.{IsPrintable, most_skipped as most_skipped_by, skipped_events, text_events};
+ghost use Rattle.std.specs.Str.{chars};
+ghost use Rattle.gabc_places.specs.Place.{place_past, placed_characters_from};
+ghost use Rattle.gabc_places.specs.TextOfAnInput.{IsPlain};
 ghost use Rattle.gabc_places.specs.Text.{utf8_prefix_of, tail_of, is_left_out as left_out_after, read_as as read};
 
 use crate::code::{Code, Fault};
@@ -237,8 +240,8 @@ impl Decoder {
         self.pending.is_empty() && self.previous == '\r'
     }
 
-    /// Returns how many printable bytes `skip` may take now: as many as are left to the limit, or 0 where the decoder has stopped or a
-    /// character is not whole. A column that is counted on for so many characters fits a `u64`.
+    /// Returns how many bytes `skip` and `skip_text` may take now: as many as are left to the limit, or 0 where the decoder has stopped
+    /// or a character is not whole. A column that is counted on for so many characters fits a `u64`.
     pub fn most_skipped(&self) -> usize
         ensures most { result ≡ most_skipped_by self.now }
         ensures column { self.now.place.column + result < 2 ^ 64 }
@@ -270,6 +273,37 @@ impl Decoder {
             self.taken += bytes.len() as u32;
             self.place.column += bytes.len() as u64;
             self.previous = char::from(*last);
+        }
+    }
+
+    /// Takes `text` at once, as `take` takes its bytes one by one. What it emits for them is known
+    /// without it: each character with its last byte, and nothing with each other byte. `text` must
+    /// have at most `most_skipped` bytes, no CR and no U+FEFF, and no CR may stand directly before it.
+    /// `next` is the place after it, which the caller has counted.
+    pub fn skip_text(&mut self, text: &str, next: Place)
+        requires few { length text.now ≤ most_skipped_by self.old }
+        requires plain { All IsPlain (chars text.now) }
+        requires after_cr { is_after_cr self.old ≡ false }
+        requires next { next ≡ place_past self.old.place (chars text.now) }
+        ensures joined { (more : List ℕ) → events_left self.old (text.now ++ more)
+            ≡ text_events self.old.place (chars text.now) ++ events_left self.new more }
+        ensures one_each { length (text_events self.old.place (chars text.now)) ≡ length text.now }
+        ensures all { concat_of (text_events self.old.place (chars text.now))
+            ≡ map (λ c. Ok c) (placed_characters_from self.old.place (chars text.now)) }
+        ensures moves { MovesThrough self.old (text_events self.old.place (chars text.now)) self.new }
+        ensures limit { self.new.limit ≡ self.old.limit }
+        ensures taken { self.new.taken ≡ self.old.taken + length text.now }
+        ensures place { self.new.place ≡ next }
+        ensures reached { IsReached next (length self.new.pending) self.new.taken }
+        ensures pending { self.new.pending ≡ self.old.pending }
+        ensures runs { self.new.running ≡ self.old.running }
+        ensures none { text.now ≡ [] → self.new ≡ self.old }
+        ensures cr { is_after_cr self.new ≡ false }
+    {
+        if !text.is_empty() {
+            self.taken += text.len() as u32;
+            self.place = next;
+            self.previous = '\0';
         }
     }
 

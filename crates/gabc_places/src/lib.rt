@@ -42,7 +42,7 @@ pub use chain::Chain;
 pub use code::{Code, Fault, Finding};
 pub use codes::CODES;
 pub use collect::outputs_of;
-pub use decode::text_of;
+pub use decode::{text_of, valid_front};
 pub use decoded::Decoded;
 pub use decoder::{Decoder, is_printable};
 pub use filler::BufferFiller;

@@ -24,7 +24,7 @@ all_scalars (c ∷ cs) h = both (All-head IsScalar c cs h) (all_scalars cs (All-
     both e f = rw (e, f) refl
 
 -- nothing is left out or changed
-kept : (p c : ℕ) → p ≢ 13 → IsPlain c → (not (is_left_out (p, c)) ≡ true) × (read_as c ≡ c)
+pub kept : (p c : ℕ) → p ≢ 13 → IsPlain c → (is_left_out (p, c) ≡ false) × (read_as c ≡ c)
 kept p c before plain = (grind (arith, nat_tests), grind (arith, nat_tests))
 
 abbrev pub read_one : ℕ × ℕ → ℕ
@@ -38,7 +38,7 @@ plain_behind p [] before h = refl
 plain_behind p (c ∷ cs) before h =
     let plain = All-head IsPlain c cs h in
     let k = kept p c before plain in
-    by (is_read (p, c)) k.0 k.1 (plain_behind c cs plain.0 (All-tail IsPlain c cs h))
+    by (is_read (p, c)) (ap not k.0) k.1 (plain_behind c cs plain.0 (All-tail IsPlain c cs h))
   where
     by : (b : Bool) → b ≡ true → read_as c ≡ c → map read_one (filter is_read (zip (c ∷ cs) cs)) ≡ cs
         → map read_one (cond b ((p, c) ∷ filter is_read (zip (c ∷ cs) cs)) (filter is_read (zip (c ∷ cs) cs))) ≡ c ∷ cs

@@ -3,7 +3,8 @@ use Rattle.std.proofs.Common.{◌≡◌, ℕ, ◌<◌, List, [], ◌∷◌, leng
 use Rattle.std.proofs.lemmas.Str.{utf8_valid_len-IsUtf8}
 use Rattle.std.specs.Str.{chars}
 use Rattle.std.specs.Str.Lossy.{utf8_valid_len, utf8_error_len}
-use Rattle.std.proofs.lemmas.List.{take_all}
+use Rattle.std.proofs.lemmas.List.{take_all, take-append-drop}
+use Rattle.std.proofs.Math.Seq.{take-append_seam, take-length}
 use Rattle.std.proofs.Math.ListN.{drop_of_length-le}
 use Rattle.gabc_places.specs.Text.{utf8_prefix_of, tail_of, tail_at, tail_by}
 use Rattle.gabc_places.specs.declared.decoded.Tail.TheVariants.{Nothing}
@@ -17,6 +18,15 @@ prefix-whole bs u = ap chars (sym (take_all (utf8_valid_len bs) bs (omega (arith
 pub prefix-read : (bs prefix : List ℕ) (n : ℕ) → n ≡ utf8_valid_len bs → prefix ≡ take n bs → chars prefix ≡ utf8_prefix_of bs
 unfolding utf8_prefix_of
 prefix-read bs prefix n e f = ap chars f ∙ ap (λ k. chars (take k bs)) e
+
+-- a front of some bytes is as many of them as it has
+pub front-read : (bs prefix : List ℕ) (n : ℕ) → prefix ≡ take n bs → prefix ≡ take (length prefix) bs
+front-read bs prefix n e =
+    e ∙ sym (ap (λ (l : List ℕ). take (length l) bs) e ∙ ap (take (length (take n bs))) (sym (take-append-drop n bs)) ∙ take-append_seam (take n bs) (drop n bs))
+
+-- all bytes are as many as there are
+pub front-whole : (bs prefix : List ℕ) → prefix ≡ bs → prefix ≡ take (length prefix) bs
+front-whole bs prefix e = sym (ap (take (length prefix)) (sym e) ∙ take-length prefix)
 
 -- behind valid bytes nothing follows
 pub tail-whole : (bs : List ℕ) → IsUtf8 bs → tail_of bs ≡ Nothing

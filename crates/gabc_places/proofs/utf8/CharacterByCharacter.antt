@@ -233,7 +233,7 @@ part_four c k s d more less =
     rw (four c d) (part_of_4 _ _ _ _ k t u v more k4)
 
 -- the beginning of a character is no fault
-part_of_char : (c k : ℕ) → IsScalar c → 0 < k → k < length (encode c) → utf8_error_len (take k (encode c)) ≡ None
+pub part_of_char : (c k : ℕ) → IsScalar c → 0 < k → k < length (encode c) → utf8_error_len (take k (encode c)) ≡ None
 part_of_char c k s more less =
     elim (cases_lt c 128) [
       | inl a ↦ absurd (omega (arith, ap length (one c a)))

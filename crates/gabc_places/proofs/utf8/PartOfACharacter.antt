@@ -1,8 +1,8 @@
 -- A part of a character with one byte more: it is a character, a longer part, or begins none.
-use Rattle.std.proofs.Common.{◌≡◌, ℕ, ◌-◌, ◌<◌, true, List, [], ◌∷◌, ◌++◌, length, take, Option, Some, None, refl, ap, sym, ◌∙◌, subst, arith, append-nil, length-append, IsUtf8, length-take, inl, inr}
+use Rattle.std.proofs.Common.{◌≡◌, ℕ, ◌-◌, ◌+◌, ◌<◌, ◌≤◌, true, List, [], ◌∷◌, ◌++◌, length, take, drop, Option, Some, None, refl, ap, sym, ◌∙◌, subst, arith, append_assoc, append-nil, length-append, IsUtf8, length-take, inl, inr}
 use Rattle.std.proofs.lemmas.Bool.{and_parts, cases_lt}
-use Rattle.std.proofs.lemmas.List.{take_all, length-take-le}
-use Rattle.std.proofs.lemmas.Str.{IsUtf8-nil, IsUtf8-encode, utf8_valid_len-IsUtf8, utf8_valid_len_le, length-encode, len_utf8_bounds, chars_from_encodes}
+use Rattle.std.proofs.lemmas.List.{take_all, take-append-drop, length-take-le}
+use Rattle.std.proofs.lemmas.Str.{IsUtf8-nil, IsUtf8-encode, utf8_valid_len-IsUtf8, utf8_valid_len_le, length-encode, len_utf8_bounds, chars_from_encodes, chars_past_char}
 use Rattle.std.proofs.Math.Seq.{take-append_seam, take-take}
 use Rattle.std.specs.Char.{IsScalar}
 use Rattle.std.specs.Str.{chars}
@@ -12,7 +12,8 @@ use Rattle.gabc_places.specs.Text.{tail_by, utf8_prefix_of, tail_of}
 use Rattle.gabc_places.specs.DecoderMachine.{IsPartial, IsWrong}
 use Rattle.gabc_places.specs.declared.decoded.Tail.{Tail}
 use Rattle.gabc_places.specs.declared.decoded.Tail.TheVariants.{Nothing, Wrong}
-use Rattle.gabc_places.proofs.utf8.CharacterByCharacter.{valid_len-max, valid_len-front, tail_of-none}
+use Rattle.gabc_places.proofs.texts.CharactersOfStrings.{chars-encode}
+use Rattle.gabc_places.proofs.utf8.CharacterByCharacter.{valid_len-max, valid_len-front, part_of_char, tail_of-none}
 
 error_len-nil : utf8_error_len [] ≡ None
 unfolding utf8_error_len
@@ -89,3 +90,30 @@ module _ (bs : List ℕ) (before : utf8_valid_len (take (length bs - 1) bs) ≡ 
         | inl less ↦ absurd (omega (arith, nothing_shorter (utf8_valid_len bs) less (valid_len-front bs)))
         | inr all ↦ (is_all c (encodes cs) s (sym (take_all (utf8_valid_len bs) bs all) ∙ sym bytes), s)
       ]
+
+-- ---- the front of a character
+
+-- no character ends before it does
+no_shorter : (c n : ℕ) (front rest cs : List ℕ) → IsScalar c → front ++ rest ≡ encode c → 0 < length rest → 0 < n → n ≤ length front → scalars cs ≡ true → encodes cs ≡ take n front → ⊥
+no_shorter c n front rest [] s e more some le ok spelled = absurd (omega (arith, ap length spelled, length-take-le n front le, some))
+no_shorter c n front rest (d ∷ cs) s e more some le ok spelled =
+    let later = encodes cs ++ (drop n front ++ rest) in
+    let whole : encode c ≡ encode d ++ later =
+    sym e ∙ ap (λ (l : List ℕ). l ++ rest) (sym (take-append-drop n front)) ∙ append_assoc (take n front) (drop n front) rest
+    ∙ ap (λ (l : List ℕ). l ++ (drop n front ++ rest)) (sym spelled) ∙ append_assoc (encode d) (encodes cs) (drop n front ++ rest) in
+    let same : c ∷ [] ≡ d ∷ chars later = sym (chars-encode c s) ∙ chars_past_char (encode c) later d (IsUtf8-encode c s) whole in
+    let equal : c ≡ d = cc in
+    let short : length (encode d) ≤ length front = omega (arith, ap length spelled, length-append (encode d) (encodes cs), length-take-le n front le, le) in
+    let long : length (encode d) ≡ length front + length rest = ap (λ (x : ℕ). length (encode x)) (sym equal) ∙ (ap length (sym e) ∙ length-append front rest) in
+    absurd (omega (arith, short, long, more))
+
+-- a front of a character is a part of it
+pub front_is_partial : (c : ℕ) (front rest : List ℕ) → IsScalar c → 0 < length front → 0 < length rest → front ++ rest ≡ encode c → IsPartial front
+front_is_partial c front rest s some more e = record {
+  none = elim (cases_lt 0 (utf8_valid_len front)) [
+    | inl longer ↦ absurd (let u = valid_len-front front in no_shorter c (utf8_valid_len front) front rest u.0 s e more longer (utf8_valid_len_le front) u.1.0 u.1.1)
+    | inr none ↦ omega (arith, none)
+  ];
+  more = ap utf8_error_len (sym (take-append_seam front rest) ∙ ap (take (length front)) e)
+      ∙ part_of_char c (length front) s some (omega (arith, more, ap length e, length-append front rest));
+}
