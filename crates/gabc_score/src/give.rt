@@ -26,7 +26,7 @@ pub trait Give {
         ensures { self.new ≡ given self.old (placed_of syllable.now ∷ []) };
 
     /// Takes the syllable whose canonical text is `text`, with an LF before it if it `starts` a word.
-    fn give_spelled(&mut self, starts: bool, text: &str)
+    fn give_spelled(&mut self, starts: bool, text: &[u8])
         requires { Takes self.old (length (spelled_canonical starts text.now)) }
         ensures { (s : PlacedSyllable) → canonical_in_place s ≡ spelled_canonical starts text.now →
             self.new ≡ given self.old (s ∷ []) };
