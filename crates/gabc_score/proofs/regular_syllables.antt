@@ -1,4 +1,12 @@
+pub mod BytesOfRegularSyllables
+pub mod OneMore
+pub mod PlaceIsPast
+pub mod PointsPass
 pub mod RegularPartsEnd
 pub mod RegularSyllableIsMade
 pub mod RegularSyllableIsRead
+pub mod RegularSyllablePasses
+pub mod SpellingIsShort
 pub mod StagesReadRegularSyllables
+pub mod UnitIsGathered
+pub mod UnmarkedSyllables

@@ -4,7 +4,7 @@ use Rattle.gabc_places.specs.declared.place.Place.{Place}
 use Rattle.gabc_places.specs.declared.place.Char.{Char}
 use Rattle.gabc_places.specs.StageLaw.{concat_of}
 use Rattle.gabc_score.specs.declared.events.BodyEvent.{BodyEvent}
-use Rattle.gabc_score.specs.Body.{events_onto}
+use Rattle.gabc_score.specs.Body.{events_onto, cut_of}
 use Rattle.gabc_score.specs.Events.{texts_by_definition, text_from, events_from}
 use Rattle.gabc_score.specs.Syllable.{UnplacedSyllable, since_close, kept_of, all_syllables, is_eu, is_nlba}
 use Rattle.gabc_score.specs.SyllablesOfUnits.{ScoreUnit, characters_in, score_unit, HoldsUnit}
@@ -34,7 +34,8 @@ module _ (lines macros : ℕ) (at : Place) (u : BodyUnit) (behind : List Char) (
   emitted_through = emitted_within (length (characters_in u))
 
   -- The unit gives one syllable. It gives it with its last character, and nothing of the next one. The syllable holds the unit; which
-  -- spans are open behind it follows from those before. No more is kept on the way, nor of the syllable, than the unit keeps.
+  -- spans are open behind it follows from those before. No more is kept on the way, nor of the syllable, than the unit keeps. No bracket
+  -- is left open.
   pub record GivesOneSyllable : Type 0 where
     pub made : UnplacedSyllable
     pub none_earlier : (n : ℕ) → n < length (characters_in u) → all_syllables (emitted_within n) ≡ all_syllables before
@@ -47,3 +48,4 @@ module _ (lines macros : ℕ) (at : Place) (u : BodyUnit) (behind : List Char) (
     pub nlba_is : made.nlba ≡ nlba_past made (is_nlba before)
     pub open_eu : is_eu emitted_through ≡ made.eu
     pub open_nlba : is_nlba emitted_through ≡ made.nlba
+    pub uncut : cut_of emitted_through ≡ cut_of before

@@ -15,6 +15,7 @@ pub mod PartPushes
 pub mod Preceded
 pub mod Quiet
 pub mod ReadAlone
+pub mod RegularLen
 pub mod Resumed
 pub mod ReadAgain
 pub mod ScoreMachine

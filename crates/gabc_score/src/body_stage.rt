@@ -96,7 +96,7 @@ impl Model for BodyStage {
 }
 
 /// The line behind a line, of so many NABC lines: behind the last comes GABC again.
-fn next_line(lines: u8, line: u8) -> u8
+pub(crate) fn next_line(lines: u8, line: u8) -> u8
     ensures { result ≡ line_after lines line }
 {
     if line < lines { line + 1 } else { 0 }

@@ -1,6 +1,7 @@
 //! What a stage over a body tells of the part in which it stands.
 
-ghost use Rattle.std.specs.Prelude.{◌≡◌, ℕ};
+ghost use Rattle.std.specs.Prelude.{◌≡◌, ◌↔◌, ℕ, IsTrue};
+ghost use Rattle.gabc_text.specs.TextStage.{fresh_stage};
 ghost use Rattle.gabc_score.specs.ScoreTells.{is_in_comment, moved_part, openers_of};
 ghost use Rattle.gabc_score.specs.machine.PartKeeps.{KeptParts, PartKeeps};
 
@@ -31,6 +32,16 @@ impl BodyStage {
             BodyPart::Comment | BodyPart::Nabc { .. } => None,
         };
         Openers { notes, inner }
+    }
+
+    /// Returns whether a text begins at `at` of which nothing was read.
+    pub(crate) fn begins_text(&self, at: Place) -> bool
+        ensures { IsTrue result ↔ (self.now.part ≡ BodyPart.Text (fresh_stage at)) }
+    {
+        match &self.part {
+            BodyPart::Text(stage) => stage.begins(at),
+            _ => false,
+        }
     }
 
     /// Returns whether a comment is open.

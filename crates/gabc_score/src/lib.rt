@@ -35,6 +35,7 @@ mod part_ends;
 mod part_events;
 mod part_pushes;
 mod reading_again;
+mod regular;
 pub mod regular_laws;
 mod resumed;
 mod score;

@@ -9,8 +9,10 @@ ghost use Rattle.gabc_text.specs.Events.{CountsFit};
 ghost use Rattle.gabc_score.specs.Events.{texts_by_definition, text_from, behind_mark, events_from};
 ghost use Rattle.gabc_score.specs.witness.BodyStage.{texts_by_stage};
 ghost use Rattle.gabc_score.specs.RegularSyllable.{SyllableParts, IsRegularSyllable, IsReadAsItStands, MakesItsSpelling, spelled, unit_at};
-ghost use Rattle.gabc_score.specs.Syllable.{since_close};
+ghost use Rattle.gabc_score.specs.Syllable.{UnplacedSyllable, since_close};
+ghost use Rattle.gabc_score.specs.declared.before.Spans.{Spans};
 ghost use Rattle.gabc_score.specs.declared.events.BodyEvent.{BodyEvent};
+ghost use Rattle.gabc_score.specs.machine.Between.{Makes};
 ghost use Rattle.gabc_score.specs.SyllablesOfUnits.{characters_in};
 
 /// Law: a regular syllable is read as it stands, wherever it begins, whatever macros are defined
@@ -73,4 +75,19 @@ pub fn a_regular_syllable_makes_its_spelling()
     gabc_notes::laws::kept_again();
     gabc_nabc::laws::what_follows_emits_nothing();
     gabc_nabc::laws::kept_again();
+}
+
+/// Law: a regular syllable that begins where a text begins makes one syllable, which depends on the
+/// place, the characters and the open spans alone, whatever was gathered before: it is read to its
+/// end, and what is given with it is the syllable that was held, if one was.
+pub(crate) fn a_regular_syllable_goes_through()
+    ensures { (lines macros : ℕ) (at : Place) (r : SyllableParts) (spans : Spans) →
+        IsRegularSyllable lines r → CountsFit at (spelled r) →
+        length (encode_utf8_all (spelled r)) < 2 ^ 63 →
+        (m : UnplacedSyllable) × Makes lines macros at r spans m }
+{
+    a_stage_reads_a_regular_syllable_as_it_stands();
+    a_regular_syllable_makes_its_spelling();
+    gabc_text::laws::a_regular_text_is_printed_as_it_stands();
+    gabc_text::laws::blanks_before_a_regular_text_begin_a_word();
 }

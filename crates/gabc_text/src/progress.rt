@@ -1,7 +1,7 @@
 //! Where in a text the machine stands, and what it has counted.
 
 ghost use Rattle.std.specs.Prelude.{◌≡◌, None, ℕ};
-ghost use Rattle.gabc_text.specs.TextStage.{count_plus};
+ghost use Rattle.gabc_text.specs.TextStage.{count_plus, fresh_stage};
 ghost use Rattle.gabc_text.specs.View.{centre_by};
 ghost use Rattle.gabc_text.specs.Events.{count_by, option_list_of};
 ghost use Rattle.gabc_text.specs.witness.EventsLeft.{parts_by, piece_by, piece_there, waiting_behind};
@@ -14,7 +14,7 @@ use crate::view::{Piece, PieceKind};
 use gabc_places::{Place, Span};
 
 /// Where in the text and in what was kept of it the machine stands. A count that has reached its last value stays there.
-#[derive(Clone, Copy)]
+#[derive(Clone, Copy, PartialEq)]
 pub(crate) struct Progress {
     /// Where the token that is read begins: its place, and the bytes kept before it.
     pub(crate) place: Place,
@@ -141,6 +141,22 @@ pub(crate) fn centre(progress: Progress) -> Option<Span>
 }
 
 impl Progress {
+    /// Returns where a machine stands that has read nothing, before a character at `at`.
+    pub(crate) fn new(at: Place) -> Progress
+        ensures { result ≡ (fresh_stage at).progress }
+    {
+        Progress {
+            place: at,
+            start: 0,
+            next: at,
+            kept: 0,
+            pieces: 0,
+            blank: None,
+            begin: None,
+            end: None,
+        }
+    }
+
     /// Goes past a token, which ends before this place.
     #[inline(always)]
     pub(crate) fn pass_token(

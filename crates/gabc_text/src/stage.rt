@@ -1,6 +1,6 @@
 //! The machine that reads a text, one character at a time.
 
-ghost use Rattle.std.specs.Prelude.{◌≡◌, ◌==◌, ◌&&◌, not, ℕ, ◌+◌, ◌≤◌, List, [], length, map, true, false, None, IsTrue, IsSome};
+ghost use Rattle.std.specs.Prelude.{◌≡◌, ◌==◌, ◌↔◌, ◌&&◌, not, ℕ, ◌+◌, ◌≤◌, List, [], length, map, true, false, None, IsTrue, IsSome};
 ghost use Rattle.std.specs.Str.{chars, NonePass};
 ghost use Rattle.gabc_places.specs.BoundedList.{Fits, extended_by};
 ghost use Rattle.gabc_text.specs.TextStage.{fresh_stage};
@@ -59,17 +59,20 @@ impl TextStage {
         TextStage {
             state: TokenState::Plain,
             facts: no_facts(),
-            progress: Progress {
-                place: at,
-                start: 0,
-                next: at,
-                kept: 0,
-                pieces: 0,
-                blank: None,
-                begin: None,
-                end: None,
-            },
+            progress: Progress::new(at),
             done: false,
+        }
+    }
+
+    /// Returns whether it has read nothing, and its first character stands at `at`.
+    pub fn begins(&self, at: Place) -> bool
+        ensures { IsTrue result ↔ (self.now ≡ fresh_stage at) }
+    {
+        match self.state {
+            TokenState::Plain => {
+                !self.done && self.facts == no_facts() && self.progress == Progress::new(at)
+            }
+            _ => false,
         }
     }
 

@@ -17,7 +17,7 @@ use crate::view::PieceKind;
 use gabc_places::Code;
 
 /// What the tokens so far have shown.
-#[derive(Clone, Copy)]
+#[derive(Clone, Copy, PartialEq)]
 pub struct TextFacts {
     /// The open styles.
     pub styles: Styles,

@@ -54,13 +54,13 @@ use Rattle.gabc_score.proofs.syllables_of_units.UnitsGiveSyllables.{units_whole}
 
 -- ---- lists
 
-one_byte : (c : ℕ) (t : List ℕ) → c < 128 → encodes (c ∷ t) ≡ c ∷ encodes t
+pub one_byte : (c : ℕ) (t : List ℕ) → c < 128 → encodes (c ∷ t) ≡ c ∷ encodes t
 one_byte c t h = ap (λ (bs : List ℕ). bs ++ encodes t) (encode_ascii c (omega (arith, h)))
 
 with_byte : (a : List ℕ) (c : ℕ) (b : List ℕ) → c < 128 → encodes a ++ c ∷ encodes b ≡ encodes (a ++ c ∷ b)
 with_byte a c b h = ap (λ (k : List ℕ). encodes a ++ k) (sym (one_byte c b h)) ∙ sym (encodes-append a (c ∷ b))
 
-none_left : (es : List EndedPart) (f : EndedPart) → map (λ (e : EndedPart). e.characters) (es ++ f ∷ []) ≡ [] → ⊥
+pub none_left : (es : List EndedPart) (f : EndedPart) → map (λ (e : EndedPart). e.characters) (es ++ f ∷ []) ≡ [] → ⊥
 none_left [] f k = cc
 none_left (e ∷ es) f k = cc
 
@@ -146,6 +146,12 @@ module _ (gabc_again : (split : Bool) (macros : ℕ) (at : Place) (how : NoteEnd
 
 -- ---- the text as it stands
 
+module _ (kept_alone : (t rest : List ℕ) → IsRegularText t → kept (t ++ 40 ∷ rest) ≡ t)
+    (kept_behind : (b : ℕ) (gap t rest : List ℕ) → list_all is_blank (b ∷ gap) ≡ true → IsRegularText t → kept (b ∷ gap ++ (t ++ 40 ∷ rest)) ≡ 32 ∷ t) where
+  pub text_kept : (gap t rest : List ℕ) → list_all is_blank gap ≡ true → IsRegularText t → kept ((gap ++ t) ++ 40 ∷ rest) ≡ gap_kept gap ++ t
+  text_kept [] t rest b r = kept_alone t rest r
+  text_kept (c ∷ gap) t rest b r = ap kept (append_assoc (c ∷ gap) t (40 ∷ rest)) ∙ kept_behind c gap t rest b r
+
 module _ (starts : (t : List ℕ) → (view_in t).word_start ≡ (view_facts t).word_start)
     (spanned : (text : List ℕ) (span : Span) (part : List ℕ) → StandsFor text span part → span_bytes (encodes text) span ≡ encodes part)
     (says_alone : (t rest : List ℕ) → IsRegularText t → view_facts (t ++ 40 ∷ rest) ≡ view_facts t)
@@ -159,10 +165,6 @@ module _ (starts : (t : List ℕ) → (view_in t).word_start ≡ (view_facts t).
   text_starts [] t rest b r = starts (t ++ 40 ∷ rest) ∙ ap (λ v. v.word_start) (says_alone t rest r) ∙ r.no_start
   text_starts (c ∷ gap) t rest b r =
       starts ((c ∷ gap ++ t) ++ 40 ∷ rest) ∙ ap (λ (u : List ℕ). (view_facts u).word_start) (append_assoc (c ∷ gap) t (40 ∷ rest)) ∙ ap (λ v. v.word_start) (says_behind c gap t rest b r)
-
-  text_kept : (gap t rest : List ℕ) → list_all is_blank gap ≡ true → IsRegularText t → kept ((gap ++ t) ++ 40 ∷ rest) ≡ gap_kept gap ++ t
-  text_kept [] t rest b r = kept_alone t rest r
-  text_kept (c ∷ gap) t rest b r = ap kept (append_assoc (c ∷ gap) t (40 ∷ rest)) ∙ kept_behind c gap t rest b r
 
   translations : (all : List ℕ) (o : Option Span) (t : Option (List ℕ)) → IsTranslation all o t → printed_translation (encodes all) o ≡ translation_text (encodes all) o
   translations all None t h = refl
@@ -239,7 +241,7 @@ module _ (starts : (t : List ℕ) → (view_in t).word_start ≡ (view_facts t).
             let kepts : kept_texts ss ≡ r.nexts ++ r.final ∷ [] =
             kept_all gabc_again nabc_again lines h.whole (kept u.text) r.nexts r.final (after_part at (r.gap ++ r.text) 40) 0 [] ss (sym (mod-eq_of_lt (let some : zero < lines + 1 = omega arith in some))) regular.notes n.characters_are k.each in
             let whole_is : h.whole ≡ kept_spelled r =
-            k.whole_is ∙ ap (λ (t : List ℕ). t ++ in_brackets (λ (s : ReadSnippet). s.kept) k.earlier k.last) (ap kept unit_text ∙ text_kept r.gap r.text notes regular.blanks regular.text)
+            k.whole_is ∙ ap (λ (t : List ℕ). t ++ in_brackets (λ (s : ReadSnippet). s.kept) k.earlier k.last) (ap kept unit_text ∙ text_kept kept_alone kept_behind r.gap r.text notes regular.blanks regular.text)
             ∙ ap (λ (t : List ℕ). (gap_kept r.gap ++ r.text) ++ 40 ∷ t) (brackets k.earlier k.last r.nexts r.final kepts) in
             let spelled_bars : with_bars m.kept m.snippets ++ codes ")" ≡ encodes notes =
             ap (λ (bytes : List ℕ). with_bars bytes m.snippets ++ codes ")") h.kept_is ∙ ap (λ (ps : List Snippet). with_bars (encodes h.whole) ps ++ codes ")") k.snippets_are

@@ -51,7 +51,7 @@ neither false false e = (refl, refl)
 neither false true e = absurd (true≢false e)
 neither true b e = absurd (true≢false e)
 
-neither_is : (a b : Bool) → a ≡ false → b ≡ false → (a || b) ≡ false
+pub neither_is : (a b : Bool) → a ≡ false → b ≡ false → (a || b) ≡ false
 neither_is a b e f = ap (λ x. x || b) e ∙ f
 
 is_not : (b : Bool) → not b ≡ true → b ≡ false

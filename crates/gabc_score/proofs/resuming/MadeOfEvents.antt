@@ -60,13 +60,13 @@ pub all_made : (es : List BodyEvent) (ps : List UnplacedSyllable) (g h : Gathere
 all_made [] ps g h r = r
 all_made (e ∷ es) ps g h r = all_made es ps (with_event g e) (with_event h e) (record { read = event_alike g h e r.read; made = event_made ps g h e r })
 
+-- what is read of a syllable with these events
+abbrev pub open_of : List BodyEvent → OpenSyllable
+open_of events = record { kept = kept_of events; from = length (ended_parts_of events); view = view_of events; snippets = snippets_of events }
+
 -- behind events that leave these spans open, and where nothing is read
 module _ (g : Gathered) (spans : Spans) (nothing : g.builder ≡ nothing_open) (eu : g.eu ≡ spans.eu) (nlba : g.nlba ≡ spans.nlba) (none : g.made ≡ []) (before : List BodyEvent) (leaves : LeavesOpen spans before) where
-  open_of : List BodyEvent → OpenSyllable
-  open_of events = record { kept = kept_of events; from = length (ended_parts_of events); view = view_of events; snippets = snippets_of events }
-
   begin_alike : (limit head : ℕ) → MadeAlike (all_syllables before) g (gathered limit head before)
-  unfolding open_of
   begin_alike limit head = record {
     read = record { builder = nothing ∙ ap open_of (sym leaves.nothing); eu = eu ∙ sym leaves.eu; nlba = nlba ∙ sym leaves.nlba };
     made = sym (append-nil (all_syllables before)) ∙ ap (λ ms. all_syllables before ++ ms) (sym none);

@@ -1,5 +1,5 @@
 -- Events that leave given spans open.
-use Rattle.std.proofs.Common.{ℕ, Bool, true, false, List, [], ◌∷◌, ◌++◌, refl}
+use Rattle.std.proofs.Common.{ℕ, Bool, true, false, List, [], ◌∷◌, ◌++◌, None, refl, ◌≡◌}
 use lib.Utf8.{encode}
 use Rattle.gabc_text.specs.declared.text_event.TextEvent.TheVariants.{Kept, Part}
 use Rattle.gabc_text.specs.declared.text_event.TextPart.TheVariants as part
@@ -10,6 +10,7 @@ use Rattle.gabc_notes.specs.declared.stage.NoteEvent.TheVariants.{Ended}
 use Rattle.gabc_score.specs.declared.before.Spans.{Spans}
 use Rattle.gabc_score.specs.declared.events.BodyEvent.{BodyEvent}
 use Rattle.gabc_score.specs.declared.events.BodyEvent.TheVariants.{Text, Notes}
+use Rattle.gabc_score.specs.Body.{cut_of}
 use Rattle.gabc_score.specs.HeldAgain.{LeavesOpen}
 use Rattle.gabc_score.specs.Syllable.{slice}
 use Rattle.gabc_score.specs.machine.PartKeeps.{kept_char}
@@ -45,3 +46,14 @@ leaves_open spans = by spans.eu spans.nlba
     by true false = record { nothing = refl; eu = refl; nlba = refl }
     by false true = record { nothing = refl; eu = refl; nlba = refl }
     by false false = record { nothing = refl; eu = refl; nlba = refl }
+
+-- they leave no bracket open
+pub none_cut : (spans : Spans) → cut_of (opened spans) ≡ None
+unfolding opened close nlba_events eu_events mark kept
+none_cut spans = by spans.eu spans.nlba
+  where
+    by : (eu nlba : Bool) → cut_of (opened (record { eu = eu; nlba = nlba })) ≡ None
+    by true true = refl
+    by true false = refl
+    by false true = refl
+    by false false = refl

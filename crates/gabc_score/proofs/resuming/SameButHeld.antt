@@ -61,42 +61,45 @@ event_sounds g h (event.Notes line (note.Ended note_end.Close n)) r = record { b
 event_sounds g h (event.Notes line (note.Ended (note_end.Cut p) n)) r = record { builder = r.builder; first = r.first }
 
 -- one that has come stays
-stays_past : (first : Option ItemKind) (line : ℕ) (span : Span) (kept : List ℕ) → is_some first ≡ true → is_some (first_past first line span kept) ≡ true
-stays_past None line span kept e = absurd (true≢false (sym e))
-stays_past (Some k) line span kept e = by (line == 0)
+kind_stays : (first : Option ItemKind) (line : ℕ) (span : Span) (kept : List ℕ) → is_some first ≡ true → first_past first line span kept ≡ first
+kind_stays None line span kept e = absurd (true≢false (sym e))
+kind_stays (Some k) line span kept e = by (line == 0)
   where
-    by : (b : Bool) → is_some (cond (b && not (is_some (Some k))) (first_note_or_clef (items_of (text_at span kept))) (Some k)) ≡ true
+    by : (b : Bool) → cond (b && not (is_some (Some k))) (first_note_or_clef (items_of (text_at span kept))) (Some k) ≡ Some k
     by true = refl
     by false = refl
 
-part_stays : (g : Gathered) (p : TextPart) → is_some g.first_kind ≡ true → is_some (with_event g (event.Text (text.Part p))).first_kind ≡ true
-part_stays g part.WordStart h = h
-part_stays g (part.Piece p) h = h
-part_stays g (part.Centre s) h = h
-part_stays g (part.Translation s) h = h
+part_stays : (g : Gathered) (p : TextPart) → (with_event g (event.Text (text.Part p))).first_kind ≡ g.first_kind
+part_stays g part.WordStart = refl
+part_stays g (part.Piece p) = refl
+part_stays g (part.Centre s) = refl
+part_stays g (part.Translation s) = refl
 
-event_stays : (g : Gathered) (e : BodyEvent) → is_some g.first_kind ≡ true → is_some (with_event g e).first_kind ≡ true
-event_stays g (event.Text (text.Kept c)) h = h
-event_stays g (event.Text (text.Part p)) h = part_stays g p h
-event_stays g (event.Text (text.Found f)) h = h
-event_stays g (event.Text (text.Ended text_end.Notes)) h = h
-event_stays g (event.Text (text.Ended text_end.Finished)) h = h
-event_stays g (event.Text (text.Ended (text_end.Cut p))) h = h
-event_stays g (event.Notes line (note.Kept c)) h = h
-event_stays g (event.Notes line (note.Found f)) h = h
-event_stays g (event.Notes line (note.Ended note_end.Next n)) h = stays_past g.first_kind line (span_of g.builder line n) (past_snippet g.builder line n 124).kept h
-event_stays g (event.Notes line (note.Ended note_end.Close n)) h = stays_past g.first_kind line (span_of g.builder line n) (past_snippet g.builder line n 41).kept h
-event_stays g (event.Notes line (note.Ended (note_end.Cut p) n)) h = h
+event_stays : (g : Gathered) (e : BodyEvent) → is_some g.first_kind ≡ true → (with_event g e).first_kind ≡ g.first_kind
+event_stays g (event.Text (text.Kept c)) h = refl
+event_stays g (event.Text (text.Part p)) h = part_stays g p
+event_stays g (event.Text (text.Found f)) h = refl
+event_stays g (event.Text (text.Ended text_end.Notes)) h = refl
+event_stays g (event.Text (text.Ended text_end.Finished)) h = refl
+event_stays g (event.Text (text.Ended (text_end.Cut p))) h = refl
+event_stays g (event.Notes line (note.Kept c)) h = refl
+event_stays g (event.Notes line (note.Found f)) h = refl
+event_stays g (event.Notes line (note.Ended note_end.Next n)) h = kind_stays g.first_kind line (span_of g.builder line n) (past_snippet g.builder line n 124).kept h
+event_stays g (event.Notes line (note.Ended note_end.Close n)) h = kind_stays g.first_kind line (span_of g.builder line n) (past_snippet g.builder line n 41).kept h
+event_stays g (event.Notes line (note.Ended (note_end.Cut p) n)) h = refl
+
+event_some : (g : Gathered) (e : BodyEvent) → is_some g.first_kind ≡ true → is_some (with_event g e).first_kind ≡ true
+event_some g e h = ap (λ (k : Option ItemKind). is_some k) (event_stays g e h) ∙ h
 
 all_sound : (now : List BodyEvent) (g h : Gathered) → SoundAlike g h → SoundAlike (with_all g now) (with_all h now)
 all_sound [] g h r = r
 all_sound (e ∷ now) g h r = all_sound now (with_event g e) (with_event h e) (event_sounds g h e r)
 
-all_stay : (now : List BodyEvent) (g : Gathered) → is_some g.first_kind ≡ true → is_some (with_all g now).first_kind ≡ true
-all_stay [] g h = h
-all_stay (e ∷ now) g h = all_stay now (with_event g e) (event_stays g e h)
+pub all_stay : (now : List BodyEvent) (g : Gathered) → is_some g.first_kind ≡ true → (with_all g now).first_kind ≡ g.first_kind
+all_stay [] g h = refl
+all_stay (e ∷ now) g h = all_stay now (with_event g e) (event_some g e h) ∙ event_stays g e h
 
-not_first : (was now : Option ItemKind) (p : Place) → is_some was ≡ true → found_first was now p ≡ []
+pub not_first : (was now : Option ItemKind) (p : Place) → is_some was ≡ true → found_first was now p ≡ []
 not_first None now p e = absurd (true≢false (sym e))
 not_first (Some k) now p e = refl
 
@@ -111,7 +114,7 @@ first_same a b now p builder (inr e) = not_first b.first_kind _ p e.1 ∙ sym (n
 -- they come alike
 event_comes : (a b : Gathered) (e : BodyEvent) → a.builder ≡ b.builder → ComeAlike a.first_kind b.first_kind → ComeAlike (with_event a e).first_kind (with_event b e).first_kind
 event_comes a b e builder (inl f) = inl (event_sounds a b e (record { builder = builder; first = f })).first
-event_comes a b e builder (inr f) = inr (event_stays a e f.0, event_stays b e f.1)
+event_comes a b e builder (inr f) = inr (event_some a e f.0, event_some b e f.1)
 
 module _ (m n : UnplacedSyllable) where
   -- ---- outputs that are the same

@@ -83,7 +83,7 @@ come_alike (Some k) None e = absurd (cc)
 abbrev gathered_by : ℕ → OpenSyllable → Bool → Bool → List UnplacedSyllable → Bool → ℕ → Bool → Option Place → Option ItemKind → Gathered
 gathered_by limit builder eu nlba made follows total over cut first = record { limit = limit; builder = builder; eu = eu; nlba = nlba; made = made; follows = follows; total = total; over = over; cut = cut; first_kind = first }
 
-same_but : (g h : Gathered) → g.limit ≡ h.limit → ReadAlike g h → g.follows ≡ h.follows → g.total ≡ h.total → g.over ≡ h.over → g.cut ≡ h.cut → h ≡ record g { made = h.made; first_kind = h.first_kind }
+pub same_but : (g h : Gathered) → g.limit ≡ h.limit → ReadAlike g h → g.follows ≡ h.follows → g.total ≡ h.total → g.over ≡ h.over → g.cut ≡ h.cut → h ≡ record g { made = h.made; first_kind = h.first_kind }
 same_but g h limit read follows total over cut =
     ap (λ x. gathered_by x h.builder h.eu h.nlba h.made h.follows h.total h.over h.cut h.first_kind) (sym limit)
     ∙ ap (λ x. gathered_by g.limit x h.eu h.nlba h.made h.follows h.total h.over h.cut h.first_kind) (sym read.builder)

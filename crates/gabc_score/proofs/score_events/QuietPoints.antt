@@ -24,17 +24,17 @@ use Rattle.gabc_score.specs.machine.ScoreStage.{HeldScore, with_held, score_past
 use Rattle.gabc_score.specs.machine.SlotPair.{SlotPairState}
 use Rattle.gabc_score.specs.witness.BodyStage.{BodyStageState, running_events_left}
 
-few_dropped : (ms : List UnplacedSyllable) → length ms ≤ 1 → drop (length ms - 1) ms ≡ ms
+pub few_dropped : (ms : List UnplacedSyllable) → length ms ≤ 1 → drop (length ms - 1) ms ≡ ms
 few_dropped [] few = refl
 few_dropped (m ∷ []) few = refl
 few_dropped (m ∷ n ∷ ms) few = absurd (omega (arith, few))
 
-few_given : (first : Bool) (ms : List UnplacedSyllable) → length ms ≤ 1 → take (length ms - 1) (placed_syllables_by first ms) ≡ []
+pub few_given : (first : Bool) (ms : List UnplacedSyllable) → length ms ≤ 1 → take (length ms - 1) (placed_syllables_by first ms) ≡ []
 few_given first [] few = refl
 few_given first (m ∷ []) few = refl
 few_given first (m ∷ n ∷ ms) few = absurd (omega (arith, few))
 
-few_lent : (has_lent : Bool) (ms : List UnplacedSyllable) → length ms ≤ 1 → (has_lent || nat_lt 1 (length ms)) ≡ has_lent
+pub few_lent : (has_lent : Bool) (ms : List UnplacedSyllable) → length ms ≤ 1 → (has_lent || nat_lt 1 (length ms)) ≡ has_lent
 few_lent has_lent ms few = by has_lent (nat_lt 1 (length ms)) (grind (arith, nat_tests, few))
   where
     by : (a b : Bool) → b ≡ false → (a || b) ≡ a

@@ -23,7 +23,7 @@ use Rattle.gabc_text.specs.TextView.{ViewContent}
 use Rattle.gabc_notes.specs.ReadAgain.{IsWarning}
 use Rattle.gabc_notes.specs.SnippetRead.{findings_of as notes_found}
 use Rattle.gabc_score.specs.declared.events.BodyEvent.{BodyEvent}
-use Rattle.gabc_score.specs.Body.{events_onto, findings_of}
+use Rattle.gabc_score.specs.Body.{events_onto, findings_of, cut_of}
 use Rattle.gabc_score.specs.Events.{PartAhead, texts_by_definition, text_from, snippet_from, next_line, behind_mark, events_from}
 use Rattle.gabc_score.specs.FoundInParts.{TextWarns, SnippetsWarn, snippet_events}
 use Rattle.gabc_score.specs.Syllable.{UnplacedSyllable, closes, since_close, kept_of, all_syllables, syllable_by, is_eu, is_nlba, slice, is_mark, is_open_after}
@@ -372,6 +372,7 @@ module _ (ends : (at : Place) (t : List ℕ) → EndsOnce at t) (emits : (at : P
           nlba_is = nlba_is;
           open_eu = ap is_eu mid_is ∙ g.step.eu ∙ sym g.step.made_eu;
           open_nlba = ap is_nlba mid_is ∙ g.step.nlba ∙ sym g.step.made_nlba;
+          uncut = ap cut_of mid_is ∙ g.step.uncut;
         }
       where
         within : (n w : ℕ) (k : ℕ) → n < w → (if nat_lt n w then 0 else k) ≡ 0

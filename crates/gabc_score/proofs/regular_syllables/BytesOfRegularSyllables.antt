@@ -1,0 +1,258 @@
+-- The bytes of a regular syllable: blanks, a text, a `(`, and snippets with their marks.
+use Rattle.std.proofs.Common.{◌≡◌, ◌≢◌, ℕ, zero, suc, ◌+◌, ◌-◌, ◌<◌, ◌≤◌, List, [], ◌∷◌, ◌++◌, Bool, true, false, ◌&&◌, ◌==◌, length, take, drop, get_or, encode_utf8_all, refl, sym, ap, ap₂, subst, ◌∙◌, arith, append_assoc, append-nil, length-drop, IsUtf8, below_more}
+use Rattle.std.specs.List.{All, list_all}
+use Rattle.std.specs.Str.{chars, IsAscii, IsCharBoundary}
+use Rattle.std.specs.String.Boundary.{IsSplitPoint}
+use Rattle.std.proofs.Math.Seq.{take-add}
+use Rattle.std.proofs.lemmas.Bool.{eqb-true, true≢false}
+use Rattle.std.proofs.lemmas.List.{take_more, take_rest, drop_at, drop-take, get_or-drop, length-take-le}
+use Rattle.std.proofs.lemmas.List.Elements.{All-append, All-head, All-tail, All-cons, All-nil, All-more}
+use Rattle.std.proofs.lemmas.Str.{IsUtf8-append, IsUtf8-take, IsUtf8-drop, IsUtf8-nil, IsUtf8-from_ascii, IsCharBoundary-from_take, chars-append, chars-IsAscii, chars-nil, encodes-chars, encodes-append, encodes-IsAscii}
+use lib.Utf8.{encode}
+use Rattle.gabc_places.specs.TextOfAnInput.{IsPlain, IsText}
+use Rattle.gabc_text.specs.Token.{is_blank}
+use Rattle.gabc_text.specs.RegularText.{IsRegularText}
+use Rattle.gabc_score.specs.Events.{next_line}
+use Rattle.gabc_score.specs.RegularSyllable.{SyllableParts, IsRegularOn, AreRegularFrom, spelled, notes_spelled, gap_kept}
+use Rattle.gabc_score.specs.machine.RegularLen.{begins_mark, IsUnmarked, IsPlainByte, with_bars_after, SnippetsBefore, BeginsWithSnippets, BeginsRegularly}
+use Rattle.gabc_score.proofs.regular_syllables.UnmarkedSyllables.{blank_unmarked}
+
+-- ---- blanks
+
+blank_is : (c : ℕ) → is_blank c ≡ true → (c < 128) × IsPlain c
+blank_is c h = by (32 == c) (9 == c) (10 == c) refl refl refl h
+  where
+    by : (x y z : Bool) → (32 == c) ≡ x → (9 == c) ≡ y → (10 == c) ≡ z → is_blank c ≡ true → (c < 128) × IsPlain c
+    by true y z e f g h = let i = eqb-true 32 c e in (omega arith, ((λ w. omega arith), (λ w. omega arith)))
+    by false true z e f g h = let i = eqb-true 9 c f in (omega arith, ((λ w. omega arith), (λ w. omega arith)))
+    by false false true e f g h = let i = eqb-true 10 c g in (omega arith, ((λ w. omega arith), (λ w. omega arith)))
+    by false false false e f g h = absurd (true≢false (sym h ∙ rw (e, f, g) refl))
+
+and_both : (x y : Bool) → (x && y) ≡ true → (x ≡ true) × (y ≡ true)
+and_both true true e = (refl, refl)
+and_both true false e = absurd (cc)
+and_both false y e = absurd (cc)
+
+blanks_ascii : (bs : List ℕ) → list_all is_blank bs ≡ true → (i : ℕ) → get_or bs i 0 < 128
+blanks_ascii [] h i = omega arith
+blanks_ascii (b ∷ bs) h zero = (blank_is b (and_both (is_blank b) (list_all is_blank bs) h).0).0
+blanks_ascii (b ∷ bs) h (suc i) = blanks_ascii bs (and_both (is_blank b) (list_all is_blank bs) h).1 i
+
+blanks_plain : (bs : List ℕ) → list_all is_blank bs ≡ true → All IsPlain bs
+blanks_plain [] h = All-nil IsPlain
+blanks_plain (b ∷ bs) h =
+    let f = and_both (is_blank b) (list_all is_blank bs) h in
+    All-cons IsPlain b bs (blank_is b f.0).1 (blanks_plain bs f.1)
+
+ascii_one : (c : ℕ) → c < 128 → (i : ℕ) → get_or (c ∷ []) i 0 < 128
+ascii_one c less zero = less
+ascii_one c less (suc i) = omega arith
+
+-- ---- plain bytes
+
+pub more_plain : (l : List ℕ) (n : ℕ) → n < length l → All IsPlainByte (take n l) → IsPlainByte (get_or (take (length l - n) (drop n l)) 0 0) → All IsPlainByte (take (n + 1) l)
+more_plain l n less h p =
+    let same : n + 0 ≡ n = omega arith in
+    All-more IsPlainByte l n 0 less h (subst IsPlainByte (ap (λ (t : List ℕ). get_or t 0 0) (take_rest l n) ∙ (get_or-drop n l 0 0 ∙ ap (λ (k : ℕ). get_or l k 0) same)) p)
+
+pub more_unmarked : (l : List ℕ) (n : ℕ) → ((k : ℕ) → k < n → begins_mark (drop k l) ≡ false) → begins_mark (take (length l - n) (drop n l)) ≡ false
+    → (k : ℕ) → k < n + 1 → begins_mark (drop k l) ≡ false
+more_unmarked l n h e = below_more (λ (k : ℕ). begins_mark (drop k l) ≡ false) n h (ap begins_mark (sym (take_rest l n)) ∙ e)
+
+-- of bytes without a CR and without the first byte of U+FEFF the characters are plain
+plain_spelled : (t : List ℕ) → All IsPlainByte (encode_utf8_all t) → All IsPlain t
+unfolding encode
+plain_spelled [] h = All-nil IsPlain
+plain_spelled (c ∷ t) h = All-cons IsPlain c t (no_cr, no_mark) (plain_spelled t rest)
+  where
+    no_cr : c ≢ 13
+    no_cr e = (All-head IsPlainByte 13 (encode_utf8_all t) (subst (λ (x : ℕ). All IsPlainByte (encode x ++ encode_utf8_all t)) e h)).0 refl
+
+    no_mark : c ≢ 0xFEFF
+    no_mark e = (All-head IsPlainByte 0xEF (0xBB ∷ 0xBF ∷ encode_utf8_all t) (subst (λ (x : ℕ). All IsPlainByte (encode x ++ encode_utf8_all t)) e h)).1 refl
+
+    rest : All IsPlainByte (encode_utf8_all t)
+    rest = after (encode c) h
+      where
+        after : (bs : List ℕ) → All IsPlainByte (bs ++ encode_utf8_all t) → All IsPlainByte (encode_utf8_all t)
+        after [] g = g
+        after (b ∷ bs) g = after bs (All-tail IsPlainByte b (bs ++ encode_utf8_all t) g)
+
+-- ---- cuts
+
+-- a text may be cut after bytes that are a text
+cut_after : (text : List ℕ) (n : ℕ) → IsUtf8 text → n ≤ length text → IsUtf8 (take n text) → IsCharBoundary text n
+cut_after text n u le v = IsCharBoundary-from_take text n u le v
+
+rest_utf8 : (text : List ℕ) (n : ℕ) → IsUtf8 text → n ≤ length text → IsUtf8 (take n text) → IsUtf8 (drop n text)
+rest_utf8 text n u le v = IsUtf8-drop text n u (cut_after text n u le v)
+
+split_utf8 : (text : List ℕ) (n : ℕ) → IsUtf8 text → IsSplitPoint text n → IsUtf8 (take n text)
+split_utf8 text zero u cut = IsUtf8-nil
+split_utf8 text (suc n) u cut = IsUtf8-take text (suc n) u (cut.0, cut.1 (omega arith))
+
+split_at : (text : List ℕ) (n : ℕ) → IsCharBoundary text n → IsSplitPoint text n
+split_at text n cut = (cut.0, λ some. cut.1)
+
+one_utf8 : (c : ℕ) → c < 128 → IsUtf8 (c ∷ [])
+one_utf8 c less = IsUtf8-from_ascii (c ∷ []) (ascii_one c less)
+
+one_chars : (c : ℕ) → c < 128 → chars (c ∷ []) ≡ c ∷ []
+one_chars c less = chars-IsAscii (c ∷ []) (ascii_one c less)
+
+-- bytes, some more and a character of ASCII
+module _ (text : List ℕ) (n k c : ℕ) (utf8 : IsUtf8 text) (within : n ≤ length text) (first : IsUtf8 (take n text)) (cut : IsSplitPoint (drop n text) k)
+    (less : n + k < length text) (at : get_or text (n + k) 0 ≡ c) (low : c < 128) where
+  middle : IsUtf8 (take k (drop n text))
+  middle = split_utf8 (drop n text) k (rest_utf8 text n utf8 within first) cut
+
+  parts_are : take (n + k + 1) text ≡ (take n text ++ take k (drop n text)) ++ c ∷ []
+  parts_are = take_more text (n + k) 0 less ∙ ap₂ (λ (t : List ℕ) (x : ℕ). t ++ x ∷ []) (take-add n k text) at
+
+  parts_utf8 : IsUtf8 (take (n + k + 1) text)
+  parts_utf8 = subst IsUtf8 (sym parts_are) (IsUtf8-append (take n text ++ take k (drop n text)) (c ∷ []) (IsUtf8-append (take n text) (take k (drop n text)) first middle) (one_utf8 c low))
+
+  parts_chars : chars (take (n + k + 1) text) ≡ (chars (take n text) ++ chars (take k (drop n text))) ++ c ∷ []
+  parts_chars =
+      ap chars parts_are ∙ (chars-append (take n text ++ take k (drop n text)) (c ∷ []) (IsUtf8-append (take n text) (take k (drop n text)) first middle)
+      ∙ ap₂ (λ (a b : List ℕ). a ++ b) (chars-append (take n text) (take k (drop n text)) first) (one_chars c low))
+
+-- ---- snippets
+
+with_bar : (before : List (List ℕ)) (s : List ℕ) → with_bars_after (before ++ s ∷ []) ≡ (with_bars_after before ++ s) ++ 124 ∷ []
+with_bar [] s = refl
+with_bar (b ∷ before) s = ap (λ (t : List ℕ). b ++ 124 ∷ t) (with_bar before s) ∙ simp append_assoc
+
+with_close : (before : List (List ℕ)) (s : List ℕ) → notes_spelled before s ≡ (with_bars_after before ++ s) ++ 41 ∷ []
+with_close [] s = refl
+with_close (b ∷ before) s = ap (λ (t : List ℕ). b ++ 124 ∷ t) (with_close before s) ∙ simp append_assoc
+
+pub no_snippets : (lines : ℕ) (text : List ℕ) → SnippetsBefore lines text 0 0
+no_snippets lines text = record {
+  before = [];
+  within = omega arith;
+  utf8 = IsUtf8-nil;
+  spelled_are = chars-nil;
+  goes_on = λ nexts final h. h;
+  single = λ e. refl;
+}
+
+pub begun_cut : (lines : ℕ) (text : List ℕ) (n line : ℕ) → IsUtf8 text → SnippetsBefore lines text n line → IsCharBoundary text n
+begun_cut lines text n line utf8 s = cut_after text n utf8 s.within s.utf8
+
+-- one snippet more, of which this is known
+module _ (lines : ℕ) (text : List ℕ) (n line k : ℕ) (utf8 : IsUtf8 text) (s : SnippetsBefore lines text n line) (cut : IsSplitPoint (drop n text) k)
+    (regular : IsRegularOn line (chars (take k (drop n text)))) (less : n + k < length text) where
+  pub more_snippets : get_or text (n + k) 0 ≡ 124 → 0 < lines → SnippetsBefore lines text (n + k + 1) (next_line lines line)
+  more_snippets at some = record {
+    before = s.before ++ chars (take k (drop n text)) ∷ [];
+    within = omega arith;
+    utf8 = parts_utf8 text n k 124 utf8 s.within s.utf8 cut less at (omega arith);
+    spelled_are = parts_chars text n k 124 utf8 s.within s.utf8 cut less at (omega arith)
+        ∙ (ap (λ (t : List ℕ). (t ++ chars (take k (drop n text))) ++ 124 ∷ []) s.spelled_are ∙ sym (with_bar s.before (chars (take k (drop n text)))));
+    goes_on = λ nexts final h.
+        subst (λ (all : List (List ℕ)). AreRegularFrom lines 0 all final) (sym (append_assoc s.before (chars (take k (drop n text)) ∷ []) nexts))
+        (s.goes_on (chars (take k (drop n text)) ∷ nexts) final (regular, h));
+    single = λ e. absurd (omega arith);
+  }
+
+  pub last_snippet : get_or text (n + k) 0 ≡ 41 → BeginsWithSnippets lines text (n + k + 1)
+  last_snippet at = record {
+    nexts = s.before;
+    final = chars (take k (drop n text));
+    within = omega arith;
+    utf8 = parts_utf8 text n k 41 utf8 s.within s.utf8 cut less at (omega arith);
+    spelled_are = parts_chars text n k 41 utf8 s.within s.utf8 cut less at (omega arith)
+        ∙ (ap (λ (t : List ℕ). (t ++ chars (take k (drop n text))) ++ 41 ∷ []) s.spelled_are ∙ sym (with_close s.before (chars (take k (drop n text)))));
+    regular = subst (λ (all : List (List ℕ)). AreRegularFrom lines 0 all (chars (take k (drop n text)))) (append-nil s.before)
+        (s.goes_on [] (chars (take k (drop n text))) regular);
+    single = s.single;
+  }
+
+-- ---- the syllable
+
+-- Blanks, a regular text, a `(` and snippets are a regular syllable of these bytes, where the bytes after the blanks are plain and no span mark stands
+-- among them.
+module _ (lines : ℕ) (text : List ℕ) (gap k : ℕ) (utf8 : IsUtf8 text) (within : gap ≤ length text) (blanks : list_all is_blank (take gap text) ≡ true)
+    (word : IsText (take k (drop gap text))) (regular : IsRegularText (chars (take k (drop gap text))))
+    (less : gap + k < length text) (at : get_or text (gap + k) 0 ≡ 40) where
+  gap_ascii : IsAscii (take gap text)
+  gap_ascii = blanks_ascii (take gap text) blanks
+
+  gap_utf8 : IsUtf8 (take gap text)
+  gap_utf8 = IsUtf8-from_ascii (take gap text) gap_ascii
+
+  begun_are : take (gap + k + 1) text ≡ (take gap text ++ take k (drop gap text)) ++ 40 ∷ []
+  begun_are = take_more text (gap + k) 0 less ∙ ap₂ (λ (t : List ℕ) (x : ℕ). t ++ x ∷ []) (take-add gap k text) at
+
+  begun_utf8 : IsUtf8 (take (gap + k + 1) text)
+  begun_utf8 = subst IsUtf8 (sym begun_are) (IsUtf8-append (take gap text ++ take k (drop gap text)) (40 ∷ []) (IsUtf8-append (take gap text) (take k (drop gap text)) gap_utf8 word.utf8) (one_utf8 40 (omega arith)))
+
+  begun_chars : chars (take (gap + k + 1) text) ≡ (take gap text ++ chars (take k (drop gap text))) ++ 40 ∷ []
+  begun_chars =
+      ap chars begun_are ∙ (chars-append (take gap text ++ take k (drop gap text)) (40 ∷ []) (IsUtf8-append (take gap text) (take k (drop gap text)) gap_utf8 word.utf8)
+      ∙ ap₂ (λ (a b : List ℕ). a ++ b) (chars-append (take gap text) (take k (drop gap text)) gap_utf8 ∙ ap (λ (t : List ℕ). t ++ chars (take k (drop gap text))) (chars-IsAscii (take gap text) gap_ascii)) (one_chars 40 (omega arith)))
+
+  pub notes_cut : IsCharBoundary text (gap + k + 1)
+  notes_cut = cut_after text (gap + k + 1) utf8 (omega arith) begun_utf8
+
+  module _ (m : ℕ) (notes : BeginsWithSnippets lines (drop (gap + k + 1) text) m) where
+    abbrev made : SyllableParts
+    made = record { gap = take gap text; text = chars (take k (drop gap text)); nexts = notes.nexts; final = notes.final }
+
+    all_are : take (gap + k + 1 + m) text ≡ take (gap + k + 1) text ++ take m (drop (gap + k + 1) text)
+    all_are = take-add (gap + k + 1) m text
+
+    all_utf8 : IsUtf8 (take (gap + k + 1 + m) text)
+    all_utf8 = subst IsUtf8 (sym all_are) (IsUtf8-append (take (gap + k + 1) text) (take m (drop (gap + k + 1) text)) begun_utf8 notes.utf8)
+
+    all_chars : chars (take (gap + k + 1 + m) text) ≡ spelled made
+    all_chars =
+        ap chars all_are ∙ (chars-append (take (gap + k + 1) text) (take m (drop (gap + k + 1) text)) begun_utf8
+        ∙ (ap₂ (λ (a b : List ℕ). a ++ b) begun_chars notes.spelled_are ∙ append_assoc (take gap text ++ chars (take k (drop gap text))) (40 ∷ []) (notes_spelled notes.nexts notes.final)))
+
+    fits : gap + k + 1 + m ≤ length text
+    fits = omega (arith, notes.within, length-drop (gap + k + 1) text)
+
+    abbrev rest : List ℕ
+    rest = made.text ++ 40 ∷ notes_spelled notes.nexts notes.final
+
+    spelled_is : spelled made ≡ take gap text ++ rest
+    spelled_is = append_assoc (take gap text) made.text (40 ∷ notes_spelled notes.nexts notes.final)
+
+    bytes_are : take (gap + k + 1 + m) text ≡ take gap text ++ encode_utf8_all rest
+    bytes_are =
+        sym (encodes-chars (take (gap + k + 1 + m) text) all_utf8) ∙ (ap encode_utf8_all (all_chars ∙ spelled_is)
+        ∙ (encodes-append (take gap text) rest ∙ ap (λ (t : List ℕ). t ++ encode_utf8_all rest) (encodes-IsAscii (take gap text) gap_ascii)))
+
+    rest_are : drop gap (take (gap + k + 1 + m) text) ≡ encode_utf8_all rest
+    rest_are = ap (drop gap) bytes_are ∙ drop_at (take gap text) (encode_utf8_all rest) gap (length-take-le gap text within)
+
+    slice_is : take (gap + k + 1 + m - gap) (drop gap text) ≡ encode_utf8_all rest
+    slice_is =
+        let same : gap + (gap + k + 1 + m - gap) ≡ gap + k + 1 + m = omega arith in
+        sym (drop-take gap (gap + k + 1 + m - gap) text) ∙ (ap (λ (n : ℕ). drop gap (take n text)) same ∙ rest_are)
+
+    kept_unmarked : (gap : List ℕ) → IsUnmarked (encode_utf8_all rest) → IsUnmarked (encode_utf8_all ((gap_kept gap ++ made.text) ++ 40 ∷ notes_spelled notes.nexts notes.final))
+    unfolding encode
+    kept_unmarked [] none = none
+    kept_unmarked (c ∷ gap) none = blank_unmarked (encode_utf8_all rest) none
+
+    pub syllable_here : All IsPlainByte (take (gap + k + 1 + m - gap) (drop gap text)) → IsUnmarked (take (gap + k + 1 + m - gap) (drop gap text))
+        → BeginsRegularly lines text (record { gap = gap; len = gap + k + 1 + m })
+    syllable_here plain none = record {
+      syllable = made;
+      is_regular = record { blanks = blanks; text = regular; notes = notes.regular; single = notes.single };
+      some = omega arith;
+      cut = split_at text (gap + k + 1 + m) (cut_after text (gap + k + 1 + m) utf8 fits all_utf8);
+      cut_gap = split_at text gap (cut_after text gap utf8 within gap_utf8);
+      is_text = record {
+        utf8 = all_utf8;
+        plain = subst (All IsPlain) (sym (all_chars ∙ spelled_is))
+            (All-append IsPlain (take gap text) rest (blanks_plain (take gap text) blanks) (plain_spelled rest (subst (All IsPlainByte) slice_is plain)));
+      };
+      characters_are = all_chars;
+      gap_is = sym (length-take-le gap text within);
+      rest_is = rest_are;
+      unmarked = kept_unmarked (take gap text) (subst IsUnmarked slice_is none);
+    }

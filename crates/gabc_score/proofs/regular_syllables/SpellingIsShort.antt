@@ -1,0 +1,81 @@
+-- A regular syllable keeps no more bytes than it has, and its canonical text has no more.
+use Rattle.std.proofs.Common.{◌≡◌, ℕ, ◌+◌, ◌<◌, ◌≤◌, Bool, true, cond, List, [], ◌∷◌, ◌++◌, length, sym, ap, ◌∙◌, arith, append-nil, length-append, encode_utf8}
+use Rattle.std.specs.List.{list_all}
+use Rattle.std.proofs.lemmas.List.{append_cancel_left}
+use Rattle.std.proofs.lemmas.Str.{encodes-append, length-encode, len_utf8_bounds}
+use lib.Utf8.{encodes}
+use Rattle.gabc_places.specs.declared.place.Place.{Place}
+use Rattle.gabc_text.specs.Token.{is_blank}
+use Rattle.gabc_text.specs.Events.{codes_of}
+use Rattle.gabc_text.specs.RegularText.{IsRegularText}
+use Rattle.gabc_text.specs.View.{kept}
+use Rattle.gabc_score.specs.Canonical.{canonical}
+use Rattle.gabc_score.specs.RegularSyllable.{SyllableParts, IsRegularSyllable, has_gap, gap_kept, canonical_spelled, notes_spelled, spelled, unit_at}
+use Rattle.gabc_score.specs.Syllable.{UnplacedSyllable}
+use Rattle.gabc_score.specs.SyllablesOfUnits.{with_ends, snippets_in, characters_in, score_unit}
+use Rattle.gabc_score.specs.WithinLimits.{KeepsWithin}
+use Rattle.gabc_score.proofs.regular_syllables.RegularSyllableIsMade.{one_byte, text_kept}
+use Rattle.gabc_score.proofs.regular_syllables.RegularSyllableIsRead.{unit_placed}
+use Rattle.gabc_score.proofs.texts_of_body.StageAndDefinitionAgree.{codes_placed}
+use Rattle.gabc_score.proofs.texts_of_body.TextEmitsThroughEnd.{codes_append}
+
+-- ---- bytes
+
+abbrev size : List ℕ → ℕ
+size t = length (encodes t)
+
+size_append : (a b : List ℕ) → size (a ++ b) ≡ size a + size b
+size_append a b = ap (length {A = ℕ}) (encodes-append a b) ∙ length-append (encodes a) (encodes b)
+
+-- one byte in place of a gap
+one_for_gap : (b : ℕ) (gap : List ℕ) → b < 128 → size (cond (has_gap gap) (b ∷ []) []) ≤ size gap
+one_for_gap b [] h = omega arith
+one_for_gap b (c ∷ gap) h =
+    let one : size (b ∷ []) ≡ 1 = ap (length {A = ℕ}) (one_byte b [] h) in
+    let more : size (c ∷ gap) ≡ length (encode_utf8 c) + size gap = length-append (encode_utf8 c) (encodes gap) in
+    let wide = length-encode c in
+    let some = (len_utf8_bounds c).0 in omega (arith, one, more, wide, some)
+
+module _ (r : SyllableParts) where
+  abbrev notes : List ℕ
+  notes = 40 ∷ notes_spelled r.nexts r.final
+
+  sizes : size (spelled r) ≡ (size r.gap + size r.text) + size notes
+  sizes = size_append (r.gap ++ r.text) notes ∙ ap (λ (n : ℕ). n + size notes) (size_append r.gap r.text)
+
+  -- its canonical text, where an LF stands for blanks
+  pub canonical_short : (m : UnplacedSyllable) → m.text.word_start ≡ has_gap r.gap → ((starts : Bool) → canonical starts m ≡ encodes (canonical_spelled starts r)) → length (canonical m.text.word_start m) ≤ size (spelled r)
+  canonical_short m starts are =
+      let same : length (canonical m.text.word_start m) ≡ size (canonical_spelled (has_gap r.gap) r) = ap (λ (b : Bool). length (canonical b m)) starts ∙ ap (length {A = ℕ}) (are (has_gap r.gap)) in
+      let parts : size (canonical_spelled (has_gap r.gap) r) ≡ size (cond (has_gap r.gap) (10 ∷ []) []) + (size r.text + size notes) =
+      size_append (cond (has_gap r.gap) (10 ∷ []) []) (r.text ++ notes) ∙ ap (λ (n : ℕ). size (cond (has_gap r.gap) (10 ∷ []) []) + n) (size_append r.text notes) in
+      let few = one_for_gap 10 r.gap (omega arith) in
+      let all = sizes in omega (arith, same, parts, few, all)
+
+  -- ---- what is kept of its unit
+
+  module _ (kept_alone : (t rest : List ℕ) → IsRegularText t → kept (t ++ 40 ∷ rest) ≡ t)
+      (kept_behind : (b : ℕ) (gap t rest : List ℕ) → list_all is_blank (b ∷ gap) ≡ true → IsRegularText t → kept (b ∷ gap ++ (t ++ 40 ∷ rest)) ≡ 32 ∷ t)
+      (lines : ℕ) (at : Place) (regular : IsRegularSyllable lines r) where
+    abbrev codes : List ℕ
+    codes = codes_of (characters_in (unit_at at r))
+
+    codes_are : codes ≡ spelled r
+    codes_are = ap codes_of (unit_placed at r) ∙ codes_placed at (spelled r)
+
+    text_is : kept (score_unit (unit_at at r) []).text ≡ gap_kept r.gap ++ r.text
+    text_is = ap kept (ap codes_of (append-nil (characters_in (unit_at at r))) ∙ codes_are) ∙ text_kept kept_alone kept_behind r.gap r.text (notes_spelled r.nexts r.final) regular.blanks regular.text
+
+    notes_are : (score_unit (unit_at at r) []).notes ≡ notes
+    notes_are =
+        let u = unit_at at r in
+        append_cancel_left (r.gap ++ r.text) (codes_of (u.text.end ∷ with_ends (snippets_in u))) notes
+        (ap (λ (t : List ℕ). t ++ codes_of (u.text.end ∷ with_ends (snippets_in u))) (sym (codes_placed at (r.gap ++ r.text)))
+        ∙ sym (codes_append u.text.characters (u.text.end ∷ with_ends (snippets_in u))) ∙ codes_are)
+
+    pub keeps_within : (limit : ℕ) → size (spelled r) ≤ limit → KeepsWithin limit (score_unit (unit_at at r) [])
+    keeps_within limit h =
+        let text : size (kept (score_unit (unit_at at r) []).text) ≡ size (gap_kept r.gap) + size r.text = ap size text_is ∙ size_append (gap_kept r.gap) r.text in
+        let rest : size (score_unit (unit_at at r) []).notes ≡ size notes = ap size notes_are in
+        let few = one_for_gap 32 r.gap (omega arith) in
+        let all = sizes in omega (arith, text, rest, few, all, h)
