@@ -37,7 +37,7 @@ returns-clause-fault c = λ over.
     let rest = drop c.args.count c.args.piece.now in
     let bytes = take (c.take_some.result - 1) rest in
     let fault : is_running mid ≡ true → (streams_left mid Broken bytes).status ≡ ReadFault = λ runs.
-        subst (λ (xs : List ℕ). (streams_left mid Broken (take (c.take_some.result - 1) xs)).status ≡ ReadFault) (all_behind c.args.count c.args.piece.now) (c.take_some.ensures.fault runs over) in
+    subst (λ (xs : List ℕ). (streams_left mid Broken (take (c.take_some.result - 1) xs)).status ≡ ReadFault) (all_behind c.args.count c.args.piece.now) (c.take_some.ensures.fault runs over) in
     elim c.match-split_at_checked.branch [
       | in-Some+else-taken-gt0 w ↦
           let same = w.self-is in
