@@ -7,6 +7,8 @@ pub mod ItemsAreRead
 pub mod HeadersAreRead
 pub mod BytesAreTaken
 pub mod FrontIsTaken
+pub mod RunIsWritten
+pub mod RunIsTaken
 pub mod NothingIsKeptBack
 pub mod InputsAreEnded
 pub mod WrittenGoesOn

@@ -7,6 +7,7 @@ pub mod HeldHeaders
 pub mod InMemory
 pub mod InStep
 pub mod Judging
+pub mod OutputsOfARun
 pub mod PartsOfStates
 pub mod ReadsHeaders
 pub mod Restored

@@ -1,14 +1,15 @@
 //! A run that goes on while there is room for what it writes.
 
-ghost use Rattle.std.specs.Prelude.{◌≡◌, ◌-◌, take, true, false};
+ghost use Rattle.std.specs.Prelude.{◌≡◌, ◌<◌, ◌≤◌, ◌-◌, length, take, drop, true, false};
 ghost use Rattle.gregorio.specs.declared.source_ending.SourceEnding.TheVariants.{Broken};
 ghost use Rattle.gregorio_jobs.specs.declared.job.Status.TheVariants.{ReadFault};
-ghost use Rattle.gregorio.specs.Engine.{NothingWaits, TakesFront, is_running};
+ghost use Rattle.gregorio.specs.Engine.{Brings, NothingWaits, StillRuns, TakesFront, is_running};
 ghost use Rattle.gregorio.specs.witness.Engine.{streams_left};
 ghost use Rattle.gregorio.specs.machine.Engine.{LeavesRoom};
 
 use crate::engine::Engine;
 use crate::rooms::most_waiting;
+use gabc_places::valid_front;
 
 impl Engine {
     /// Takes bytes of `piece` until it is used up or what waits leaves no room for what one byte
@@ -25,11 +26,61 @@ impl Engine {
         if self.is_over() {
             return piece.len();
         }
+        let text = valid_front(piece);
         while count < piece.len() && self.has_room() {
-            count += self.take_some(&piece[count..]);
+            count += self.take_next(piece, text, count);
         }
         self.keeps_nothing_back();
         count
+    }
+
+    /// Takes bytes of `piece` after the first `count`, and returns how many: a run of syllables, if
+    /// `text`, the front of `piece` that is UTF-8, can be cut there and one follows, or else what
+    /// `take_some` takes.
+    #[inline(always)]
+    fn take_next(&mut self, piece: &[u8], text: &str, count: usize) -> usize
+        requires room { LeavesRoom self.old }
+        requires running { is_running self.old ≡ true }
+        requires more { count < length piece.now }
+        requires front { text.now ≡ take (length text.now) piece.now }
+        ensures taken { result ≤ length piece.now - count }
+        ensures some { 0 < result }
+        ensures brings { Brings self.old (take result (drop count piece.now)) self.new }
+        ensures format { self.new.written.format ≡ self.old.written.format }
+        ensures job { StillRuns self.old self.new }
+        ensures fault { is_running self.new ≡ false →
+            (streams_left self.old Broken (take (result - 1) (drop count piece.now))).status
+            ≡ ReadFault }
+    {
+        if let Some((_, rest)) = text.split_at_checked(count) {
+            let taken = self.take_run(rest);
+            if taken > 0 {
+                return taken;
+            }
+        }
+        self.take_some(&piece[count..])
+    }
+
+    /// Takes whole syllables from the front of `text`, and returns how many bytes. What they bring
+    /// waits then, after what waited before. Of those that it could take it may leave some to
+    /// `take_some`.
+    #[inline(always)]
+    fn take_run(&mut self, text: &str) -> usize
+        ensures within { result ≤ length text.now }
+        ensures room { result ≡ 0 → LeavesRoom self.old → LeavesRoom self.new }
+        ensures brings { Brings self.old (take result text.now) self.new }
+        ensures format { self.new.written.format ≡ self.old.written.format }
+        ensures job { StillRuns self.old self.new }
+        ensures running { is_running self.new ≡ is_running self.old }
+    {
+        if !self.writer.takes_runs() || self.decoder.after_cr() {
+            return 0;
+        }
+        let most = text.floor_char_boundary(self.decoder.most_skipped());
+        let front = &text[..most];
+        let run = self.writer.take_run(self.decoder.place(), front);
+        self.decoder.skip_text(&front[..run.bytes], run.next);
+        run.bytes
     }
 
     /// Returns whether the run goes on, and there is room for what one byte more may bring.

@@ -12,14 +12,14 @@ ghost use Rattle.gregorio.specs.Streams.{last_text};
 ghost use Rattle.gregorio.specs.Outcome.{shown_line};
 ghost use Rattle.gregorio.specs.witness.Engine.{if_headed, is_before_heads, text_of_heads, text_of_output};
 ghost use Rattle.gregorio.specs.machine.ScoreWriter.{begun_again, fresh_writer};
-ghost use Rattle.gregorio.specs.machine.RunWriter.{syllable_len, out_room, heads_len, line_room, last_room, most_waiting, with_heads, with_last, past_output, past_end};
+ghost use Rattle.gregorio.specs.machine.RunWriter.{TakesRuns, syllable_len, out_room, heads_len, line_room, last_room, most_waiting, with_heads, with_last, past_output, past_end};
 
 use crate::findings::{input_name, is_error, put_finding};
 use crate::rooms::{message_room, most_waiting as most_before_a_step, output_room};
 use gabc_headers::Headers;
 use gabc_neumes::Alterations;
 use gabc_places::{Fault, Finding, Limits, Memory, Room};
-use gabc_score::Syllable;
+use gabc_score::{Give, Syllable};
 use gabc_write::without_notes::a_dump_without_notes_is_shorter;
 use gabc_write::{
     canon_header, canon_syllable, dump_end, dump_header, dump_syllable, message_line,
@@ -280,6 +280,15 @@ impl RunWriter {
         }
     }
 
+    /// Returns whether it takes the syllables of a run: in canonical form, after the headers and
+    /// before the end.
+    #[inline(always)]
+    pub(crate) fn takes_runs(&self) -> bool
+        ensures { result ≡ true → TakesRuns self.now.written }
+    {
+        self.headed && self.ended.is_none() && self.format == Format::Gabc
+    }
+
     /// Writes what stands behind the syllables, which are the `whole` score or not, if the headers were written.
     fn last(&mut self, whole: bool)
         requires { Fits self.old.out last_room }
@@ -348,5 +357,35 @@ impl RunWriter {
     {
         self.out.clear();
         self.messages.clear();
+    }
+}
+
+/// Writes the syllables of a run in canonical form.
+impl Give for RunWriter {
+    ghost use Rattle.gregorio.specs.machine.OutputsOfARun.{past_both, past_none};
+    ghost use Rattle.gregorio.specs.machine.RunWriter.{TakesText, past_syllables};
+
+    ghost given = { past_syllables };
+
+    ghost Takes = { TakesText };
+
+    ghost given_none = { past_none };
+
+    ghost given_both = { past_both };
+
+    fn takes(&self, len: usize) -> bool {
+        self.takes_runs() && len <= self.out.left()
+    }
+
+    fn give(&mut self, syllable: &Syllable) {
+        self.syllable(syllable);
+    }
+
+    fn give_spelled(&mut self, starts: bool, text: &[u8]) {
+        self.count = self.count.saturating_add(1);
+        if starts {
+            self.out.append(b"\n");
+        }
+        self.out.append(text);
     }
 }

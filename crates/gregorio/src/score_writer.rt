@@ -2,6 +2,10 @@
 
 ghost use Rattle.std.specs.Prelude.{◌≡◌, ◌≤◌, ◌||◌, ℕ, Bool, List, [], ◌∷◌, length, take, true, false, is_some, None, IfOk, IfSome, IsSome};
 ghost use Rattle.std.specs.List.{All};
+ghost use Rattle.std.specs.Str.{chars};
+ghost use Rattle.std.specs.String.Boundary.{IsSplitPoint};
+ghost use Rattle.gabc_places.specs.Place.{place_past};
+ghost use Rattle.gabc_places.specs.TextOfAnInput.{IsPlain, IsText};
 ghost use Rattle.gabc_places.specs.Skip.{IsPrintable};
 ghost use Rattle.gabc_headers.specs.declared.head_event.HeadEvent.{HeadEvent as HeadItem};
 ghost use Rattle.gabc_score.specs.witness.BodyStage.{texts_by_stage};
@@ -16,15 +20,14 @@ ghost use Rattle.gregorio.specs.machine.ClefInForce.{HasClefOfSounds};
 ghost use Rattle.gregorio.specs.machine.InStep.{HasForce, PassesOn, written_at};
 ghost use Rattle.gregorio.specs.machine.TellsInStep.{BeginsBody};
 ghost use Rattle.gabc_score.specs.ScoreTells.{StandsInFront, before_of, held_of};
-ghost use Rattle.gabc_places.specs.TextOfAnInput.{IsText};
 ghost use Rattle.gabc_score.specs.ToldWithin.{IsToldWithin, TellsOfText, written_behind};
-ghost use Rattle.gregorio.specs.machine.RunWriter.{HasRoomFor, IsInRoom, IsSteadyWriter, past_output, past_outputs};
-ghost use Rattle.gregorio.specs.machine.ScoreWriter.{output_of_event, outputs_of_events, IsOver, IsShortBook, IsSilent, begun_again, emptied, fresh_writer, IsReserved, IsSteady, FitsEvents, WritesAt, WritesLast, WritesNothing};
+ghost use Rattle.gregorio.specs.machine.RunWriter.{HasRoomFor, IsInRoom, IsSteadyWriter, TakesRuns, past_output, past_outputs};
+ghost use Rattle.gregorio.specs.machine.ScoreWriter.{output_of_event, outputs_of_events, IsOver, IsShortBook, IsSilent, begun_again, emptied, fresh_writer, IsReserved, IsSteady, FitsEvents, WritesAt, WritesLast, WritesNothing, WritesRun};
 
 use crate::run_writer::RunWriter;
 use gabc_headers::{HeadEvent, HeaderStage};
 use gabc_places::{Char, Fault, Limits, Memory, Place, Room, Stage};
-use gabc_score::{ScoreEvent, ScoreStage};
+use gabc_score::{Run, ScoreEvent, ScoreStage};
 use gregorio_jobs::{Job, Status};
 use std::alloc::AllocError;
 use std::marker::Model;
@@ -214,6 +217,33 @@ impl ScoreWriter {
             return 0;
         }
         self.score.take_front(at, bytes)
+    }
+
+    /// Returns whether it takes runs of syllables: in canonical form, after the headers and before
+    /// the end.
+    #[inline(always)]
+    pub(crate) fn takes_runs(&self) -> bool
+        ensures { result ≡ true → TakesRuns self.now.writer.written }
+    {
+        self.writer.takes_runs()
+    }
+
+    /// Takes whole syllables from the front of `text`, of which the first character stands at `at`,
+    /// and returns how far it went. At their characters it writes syllables and nothing else. From
+    /// then on it writes what it would write had each of the characters been passed on. Of those that
+    /// it could take it may leave some to `pass`.
+    #[inline(always)]
+    pub(crate) fn take_run(&mut self, at: Place, text: &str) -> Run
+        requires { TakesRuns self.old.writer.written }
+        ensures within { IsSplitPoint text.now result.bytes }
+        ensures plain { All IsPlain (chars (take result.bytes text.now)) }
+        ensures next { result.next ≡ place_past at (chars (take result.bytes text.now)) }
+        ensures writes { WritesRun self.old at (chars (take result.bytes text.now)) self.new }
+        ensures steady { IsSteady self.old self.new }
+    {
+        self.events.clear();
+        self.score
+            .take_run(at, text, &mut self.events, &mut self.writer)
     }
 
     /// Ends what comes, and returns how the run ended. Where neither a stop nor the end has come, the source has failed.

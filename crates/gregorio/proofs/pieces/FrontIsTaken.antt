@@ -81,7 +81,7 @@ items_skipped at (byte ∷ bytes) more rest Broken =
 
 -- ---- what a stage of headers passes on
 
-inputs_behind : (limits : Limits) (hasher : DefaultHasher) (book : List (List ℕ × List ℕ)) (cs : List Char) (ending : SourceEnding) (more : List (Result Char Fault))
+pub inputs_behind : (limits : Limits) (hasher : DefaultHasher) (book : List (List ℕ × List ℕ)) (cs : List Char) (ending : SourceEnding) (more : List (Result Char Fault))
     → (let h : HeaderStageState = record { limits = limits; progress = behind book; book = book; hasher = hasher } in
     head_events_left h ending (map (λ (c : Char). Ok c) cs ++ more) ≡ map (λ (c : Char). head_event.Body c) cs ++ head_events_left h ending more)
 inputs_behind limits hasher book [] ending more = refl

@@ -124,7 +124,7 @@ reads_begun h old mid new item same reads d e moves ran were =
 -- ---- behind the headers, and where nothing comes
 
 -- where they are written nothing of them is read any more
-headed_read : (limits : Limits) (progress : HeadProgress) (part : ScorePart) (headed : Bool) (place : Place) (error : Bool) → headed ≡ true → AreInOnePart progress part headed → IsReadSoFar limits progress place error
+pub headed_read : (limits : Limits) (progress : HeadProgress) (part : ScorePart) (headed : Bool) (place : Place) (error : Bool) → headed ≡ true → AreInOnePart progress part headed → IsReadSoFar limits progress place error
 headed_read limits (reading t) score_part.Heads headed place error is parts = absurd (false≢true (sym parts ∙ is))
 headed_read limits (reading t) score_part.Body headed place error is parts = absurd parts
 headed_read limits (reading t) score_part.Over headed place error is parts = absurd parts

@@ -1,11 +1,12 @@
 -- What a writer of runs does with what it is given.
-use Rattle.std.specs.Prelude.{◌≡◌, ℕ, ◌+◌, ◌*◌, ◌≤◌, min, List, [], ◌∷◌, Bool, true, false, Some, length}
+use Rattle.std.specs.Prelude.{◌≡◌, ℕ, ◌+◌, ◌*◌, ◌≤◌, min, List, [], ◌∷◌, Bool, true, false, Some, is_none, length, map}
 use Rattle.std.specs.List.{All}
-use Rattle.gabc_places.specs.BoundedList.{BoundedList, extended_by}
+use Rattle.gabc_places.specs.BoundedList.{BoundedList, Fits, extended_by}
 use Rattle.gabc_score.specs.NoNotes.{has_no_notes}
 use Rattle.gabc_score.specs.ScoreEvents.{ScoreOutput, Found, Stop, Syllable, End, syllables_in}
 use Rattle.gabc_places.specs.declared.limits.Limits.{Limits}
 use Rattle.gabc_score.specs.ScoreStage.{IsWithin}
+use Rattle.gabc_score.specs.Syllable.{PlacedSyllable}
 use Rattle.gregorio.specs.witness.Engine.{Written, behind_heads, behind_output, behind_outputs, ceased_status, ceased_text, if_headed, is_before_heads, lines_of_output, lines_of_outputs, text_of_heads, text_of_output, texts_of_outputs}
 use Rattle.gregorio.specs.Streams.{last_text}
 use Rattle.gregorio_jobs.specs.declared.job.Format.{Format}
@@ -38,6 +39,27 @@ past_outputs w outputs = record (with_bytes w (texts_of_outputs w.written output
 -- where its source has failed, if the run is not over
 abbrev pub past_end : RunWriterState → RunWriterState
 past_end w = record w { written = record w.written { ended = Some (ceased_status w.written.ended) }; out = extended_by w.out (ceased_text w.written.ended w.written) }
+
+-- ---- the syllables of a run
+
+-- what a score says where it gives these syllables and nothing else
+abbrev pub outputs_of_syllables : List PlacedSyllable → List ScoreOutput
+outputs_of_syllables ss = map (λ (s : PlacedSyllable). Syllable s) ss
+
+-- where it has written these syllables
+abbrev pub past_syllables : RunWriterState → List PlacedSyllable → RunWriterState
+past_syllables w ss = past_outputs w (outputs_of_syllables ss)
+
+-- The output is in canonical form, the headers were written, and the run is not over.
+pub record TakesRuns (w : Written) : Type 0 where
+  pub canonical : w.format ≡ Gabc
+  pub headed : w.headed ≡ true
+  pub runs : is_none w.ended ≡ true
+
+-- And there is room for a syllable of so many bytes.
+pub record TakesText (w : RunWriterState) (n : ℕ) : Type 0 where
+  pub runs : TakesRuns w.written
+  pub fits : Fits w.out n
 
 -- ---- how much room is reserved, in bytes
 

@@ -12,6 +12,7 @@ use Rattle.gabc_neumes.specs.InForce.{nothing_in_force}
 use Rattle.gabc_headers.specs.witness.HeadEvents.{HeadProgress, events_of_end}
 use Rattle.gabc_score.specs.declared.score_machine.ScorePart.{ScorePart}
 use Rattle.gabc_score.specs.declared.score_machine.ScorePart.TheVariants as score_part
+use Rattle.gabc_score.specs.GivesSyllables.{Runs}
 use Rattle.gabc_score.specs.ScoreEvents.{ScoreOutput, Found, Stop, Syllable, End}
 use Rattle.gabc_score.specs.ScoreStage.{Counts, behind_front, body_inputs, is_final, lent_in}
 use Rattle.gabc_score.specs.ToldWithin.{whole_syllables}
@@ -23,7 +24,7 @@ use Rattle.gregorio.specs.Streams.{Streams, behind_bytes, ended_with}
 use Rattle.gregorio.specs.witness.Engine.{Written, streams_from}
 use Rattle.gregorio.specs.machine.ClefInForce.{HasClefOfSounds}
 use Rattle.gregorio.specs.machine.Telling.{TellsThrough}
-use Rattle.gregorio.specs.machine.RunWriter.{RunWriterState, line_room, syllable_room, room_without_notes, heads_room, last_room, most_waiting, out_room}
+use Rattle.gregorio.specs.machine.RunWriter.{RunWriterState, past_syllables, line_room, syllable_room, room_without_notes, heads_room, last_room, most_waiting, out_room}
 use Rattle.gregorio_jobs.specs.declared.job.Format.{Format}
 use Rattle.gregorio_jobs.specs.declared.job.Status.{Status}
 
@@ -71,6 +72,10 @@ pub record WritesNothing (old : ScoreWriterState) (at : Place) (bytes : List ℕ
   pub writer : new.writer ≡ old.writer
   pub law : (book : List (List ℕ × List ℕ)) (from_heads : List HeadEvent) → streams_of old book (body_inputs at bytes ++ from_heads) ≡ streams_of new book from_heads
   pub tells : TellsThrough old.score at bytes new.score
+
+-- At these characters, the first of which stands at this place, it wrote syllables and nothing else, and it goes on with what follows.
+abbrev pub WritesRun : ScoreWriterState → Place → List ℕ → ScoreWriterState → Type 0
+WritesRun old at t new = Runs past_syllables old.score at t new.score old.writer new.writer
 
 -- At the end of what comes it wrote what was still to come.
 pub record WritesLast (old new : ScoreWriterState) (status : Status) : Type 0 where

@@ -1,4 +1,4 @@
-use Rattle.std.proofs.Common.{◌≡◌, ℕ, ◌+◌, ◌<◌, List, ◌∷◌, length, [], slice_index_or, drop, sym, ap, ◌∙◌, subst, append_assoc}
+use Rattle.std.proofs.Common.{◌≡◌, ℕ, ◌+◌, ◌<◌, List, ◌∷◌, length, [], slice_index_or, drop, sym, ap, ◌∙◌, subst}
 use Rattle.std.proofs.lemmas.List.{at_drop_more}
 use Rattle.gabc_score.specs.declared.score_event.ScoreEvent.{ScoreEvent}
 use Rattle.gabc_score.specs.witness.ScoreStage.{ScoreStageState}
@@ -6,23 +6,14 @@ use Rattle.gabc_score.specs.ScoreEvents.{ScoreOutput}
 use Rattle.gabc_score.specs.declared.score_event.ScoreEvent.TheVariants.{Found}
 use Rattle.gabc_places.specs.declared.code.Code.TheVariants.{E1}
 use Rattle.gabc_places.specs.declared.limits.Limits.{Limits}
-use Rattle.gabc_places.specs.BoundedList.{extended_by}
-use Rattle.gregorio.specs.witness.Engine.{behind_output, lines_of_output, lines_of_outputs, text_of_output, texts_of_outputs}
-use Rattle.gregorio.specs.machine.RunWriter.{RunWriterState, HasRoomFor, IsInRoom, IsSteadyWriter, past_output, past_outputs}
+use Rattle.gregorio.specs.machine.OutputsOfARun.{one_then}
+use Rattle.gregorio.specs.machine.RunWriter.{RunWriterState, HasRoomFor, IsInRoom, IsSteadyWriter, past_outputs}
 use Rattle.gregorio.specs.machine.ScoreWriter.{output_of_event, outputs_of_events}
 use Rattle.gregorio.proofs.WritingStaysInRoom.{first_in_room, steady_both}
 use Rattle.gregorio.proofs.score_writer.write_events.Goals as goal
 
 next_emitted : (score : ScoreStageState) (events : List ScoreEvent) (i : ℕ) (d : ScoreEvent) → i < length events → outputs_of_events score (drop i events) ≡ output_of_event score (slice_index_or events i d) ∷ outputs_of_events score (drop (i + 1) events)
 next_emitted score events i d h = at_drop_more (outputs_of_events score) events i d h
-
-one_then : (w : RunWriterState) (o : ScoreOutput) (rest : List ScoreOutput) → past_outputs (past_output w o) rest ≡ past_outputs w (o ∷ rest)
-one_then w o rest =
-    let v = behind_output w.written o in
-    let p = past_outputs w (o ∷ rest) in
-    ap (λ (text : List ℕ). record p { out = record w.out { items = text }; messages = extended_by (extended_by w.messages (lines_of_output w.written o)) (lines_of_outputs v rest) })
-    (append_assoc w.out.items (text_of_output w.written o) (texts_of_outputs v rest))
-    ∙ ap (λ (lines : List ℕ). record p { messages = record w.messages { items = lines } }) (append_assoc w.messages.items (lines_of_output w.written o) (lines_of_outputs v rest))
 
 -- any event stands behind the last
 abbrev no_event : ScoreEvent

@@ -1,7 +1,6 @@
-use Rattle.std.proofs.Common.{◌≡◌, ◌≤◌, Bool, true, false, not, refl, inl, inr, length, length-drop, ap, sym, subst, ◌∙◌, arith}
+use Rattle.std.proofs.Common.{◌≡◌, ◌≤◌, Bool, true, false, not, refl, inl, inr, length, drop, ap, sym, subst, ◌∙◌, arith}
 use Rattle.gregorio.specs.Engine.{NothingWaits, is_running}
 use Rattle.gregorio.specs.witness.Engine.{EngineState}
-use Rattle.gregorio.proofs.PiecesAreSent.{all_behind}
 use Rattle.gregorio.proofs.pieces.FrontIsTaken.{brings_more}
 use Rattle.gregorio.proofs.pieces.NothingIsKeptBack.{ends_further, took_some}
 use Rattle.gregorio.proofs.engine.Engine.fill.Goals.{else-loop-count-test, then-loop-count-test+else-has_room}
@@ -20,20 +19,18 @@ loop-count-init c = record {
 pub loop-count-preserved : goal.loop-count-preserved
 loop-count-preserved c =
     let i = c.loop-count.invariant in
-    let within = c.take_some-count.ensures.taken in
+    let next = c.take_next-count in
+    let within = next.ensures.taken in
     let more = c.loop-count-test.true in
-    let all = all_behind c.loop-count.count c.args.piece.now in
-    let l = length-drop c.loop-count.count c.args.piece.now in
-    let left = ap length all in
-    let some = c.take_some-count.ensures.some (omega (arith, l, left, more)) in
+    let rest = drop c.loop-count.count c.args.piece.now in
+    let some = next.ensures.some in
     record {
-      brings = brings_more c.args.self.now c.loop-count.self c.take_some-count.new.self c.args.piece.now _ c.loop-count.count c.take_some-count.result all i.brings c.take_some-count.ensures.brings;
-      within = omega (arith, within, l, left, more);
+      brings = brings_more c.args.self.now c.loop-count.self next.new.self c.args.piece.now rest c.loop-count.count next.result refl i.brings next.ensures.brings;
+      within = omega (arith, within, more);
       begun = inl (omega (arith, some));
-      format = c.take_some-count.ensures.format ∙ i.format;
-      job = λ job limits runs. c.take_some-count.ensures.job job limits (i.job job limits runs);
-      fault = λ over. ends_further c.args.self.now c.loop-count.self c.args.piece.now _ c.loop-count.count c.take_some-count.result all i.brings some
-          (c.take_some-count.ensures.fault (c.has_room.ensures.running c.if-has_room.true) over);
+      format = next.ensures.format ∙ i.format;
+      job = λ job limits runs. next.ensures.job job limits (i.job job limits runs);
+      fault = λ over. ends_further c.args.self.now c.loop-count.self c.args.piece.now rest c.loop-count.count next.result refl i.brings some (next.ensures.fault over);
     }
 
 runs_if_not : (b : Bool) → not b ≡ false → b ≡ true

@@ -1,0 +1,227 @@
+-- A text at which a run of syllables is written brings these, and all parts of an engine stay in step.
+use Rattle.std.proofs.Common.{◌≡◌, ℕ, ◌+◌, ◌≤◌, inl, List, [], ◌∷◌, ◌++◌, length, map, take, true, false, Result, Ok, refl, ap, sym, subst, ◌∙◌, length-append, arith, IsUtf8}
+use Rattle.std.proofs.Math.Seq.{take-append-add}
+use Rattle.std.proofs.lemmas.Bool.{false≢true}
+use Rattle.std.proofs.lemmas.Str.{encodes-chars, length-le-encodes}
+use Rattle.std.specs.Str.{chars}
+use Rattle.std.specs.declared.hash.DefaultHasher.{DefaultHasher}
+use Rattle.gabc_places.proofs.PushesAreOne.{joined-append}
+use Rattle.gabc_places.specs.BoundedList.{BoundedList}
+use Rattle.gabc_places.specs.DecoderMachine.{DecoderState, IsReached}
+use Rattle.gabc_places.specs.DecoderTells.{is_after_cr}
+use Rattle.gabc_places.specs.Place.{place_past, placed_characters_from}
+use Rattle.gabc_places.specs.StageLaw.{concat_of}
+use Rattle.gabc_places.specs.declared.code.Fault.{Fault}
+use Rattle.gabc_places.specs.declared.limits.Limits.{Limits}
+use Rattle.gabc_places.specs.declared.place.Char.{Char}
+use Rattle.gabc_places.specs.declared.place.Place.{Place}
+use Rattle.gabc_places.specs.witness.DecoderEvents as decoder
+use Rattle.gabc_headers.specs.HeadEvents.{emitted_by}
+use Rattle.gabc_headers.specs.declared.head_event.HeadEvent.{HeadEvent}
+use Rattle.gabc_headers.specs.witness.HeadEvents.{HeaderStageState, HeadProgress, IsBehind, behind, over, reading}
+use Rattle.gabc_score.specs.GivesSyllables.{next_after}
+use Rattle.gabc_score.specs.ScoreStage.{Counts}
+use Rattle.gabc_score.specs.ScoreTells.{StandsAt}
+use Rattle.gabc_score.specs.Syllable.{PlacedSyllable}
+use Rattle.gabc_score.specs.Before.{with_placed}
+use Rattle.gabc_score.specs.ToldWithin.{whole_syllables}
+use Rattle.gabc_score.specs.declared.before.Preceding.{Preceding}
+use Rattle.gregorio.specs.Outcome.{is_whole}
+use Rattle.gregorio.specs.Streams.{Streams, behind_bytes}
+use Rattle.gregorio.specs.declared.source_ending.SourceEnding.{SourceEnding}
+use Rattle.gregorio.specs.declared.source_ending.SourceEnding.TheVariants.{Whole as Ended, Broken}
+use Rattle.gregorio.specs.machine.Engine.{GoTogether, WritesItems, streams_of_items}
+use Rattle.gregorio.specs.machine.InStep.{HasForce, IsInStep, RunsInStep}
+use Rattle.gregorio.specs.machine.ReadsHeaders.{ReadsHeaders}
+use Rattle.gregorio.specs.machine.RunWriter.{RunWriterState, TakesRuns, outputs_of_syllables}
+use Rattle.gregorio.specs.machine.ScoreWriter.{ScoreWriterState, WritesRun, streams_of}
+use Rattle.gregorio.specs.machine.TellsInStep.{IsTelling}
+use Rattle.gregorio.specs.witness.Engine.{Written, book_behind, head_events_left, lines_of_outputs, texts_of_outputs}
+use Rattle.gregorio.proofs.pieces.BytesAreJoined.{behind_both}
+use Rattle.gregorio.proofs.pieces.FrontIsTaken.{inputs_behind}
+use Rattle.gregorio.proofs.pieces.ItemsAreRead.{past_behind}
+use Rattle.gregorio.proofs.pieces.PartsStayInStep.{IsInBody, in_body, one_part}
+use Rattle.gregorio.proofs.pieces.RunIsWritten.{run_counted, run_law, same_force, syllables_of}
+use Rattle.gregorio.proofs.pieces.TextOfHeaders.{headed_read}
+use Rattle.gregorio.proofs.pieces.WrittenGoesOn.{counted}
+
+-- ---- what a decoder gives
+
+-- these characters of a text
+abbrev pub items_of : Place → List ℕ → List (Result Char Fault)
+items_of at t = map (λ (x : Char). Ok x) (placed_characters_from at t)
+
+-- a decoder has taken this text at once
+pub record SkipsText (d : DecoderState) (text : List ℕ) (e : DecoderState) : Type 0 where
+  pub lists : List (List (Result Char Fault))
+  pub joined : (more : List ℕ) → decoder.events_left d (text ++ more) ≡ lists ++ decoder.events_left e more
+  pub one_each : length lists ≡ length text
+  pub all : concat_of lists ≡ items_of d.place (chars text)
+  pub few : length (chars text) ≤ length text
+  pub limit : e.limit ≡ d.limit
+  pub taken : e.taken ≡ d.taken + length text
+  pub place : e.place ≡ place_past d.place (chars text)
+  pub reached : IsReached e.place (length e.pending) e.taken
+  pub runs : e.running ≡ d.running
+  pub cr : is_after_cr e ≡ false
+
+-- a character has a byte or more
+pub fewer_characters : (text : List ℕ) → IsUtf8 text → length (chars text) ≤ length text
+fewer_characters text u = subst (λ (bytes : List ℕ). length (chars text) ≤ length bytes) (encodes-chars text u) (length-le-encodes (chars text))
+
+module _ (bytes more : List ℕ) (lists rest : List (List (Result Char Fault))) (items : List (Result Char Fault)) (one_each : length lists ≡ length bytes) (all : concat_of lists ≡ items) where
+  first_whole : concat_of (lists ++ rest) ≡ items ++ concat_of rest
+  first_whole = joined-append lists rest ∙ ap (λ (xs : List (Result Char Fault)). xs ++ concat_of rest) all
+
+  first_broken : concat_of (take (length (bytes ++ more)) (lists ++ rest)) ≡ items ++ concat_of (take (length more) rest)
+  first_broken =
+      let both = length-append bytes more in
+      let n : length (bytes ++ more) ≡ length lists + length more = omega (arith, both, one_each) in
+      ap (λ (k : ℕ). concat_of (take k (lists ++ rest))) n
+      ∙ (ap (λ (l : List (List (Result Char Fault))). concat_of l) (take-append-add lists rest (length more))
+      ∙ (joined-append lists (take (length more) rest) ∙ ap (λ (xs : List (Result Char Fault)). xs ++ concat_of (take (length more) rest)) all))
+
+  emitted_first : (ending : SourceEnding) → emitted_by (is_whole ending) (bytes ++ more) (lists ++ rest) ≡ items ++ emitted_by (is_whole ending) more rest
+  emitted_first Ended = first_whole
+  emitted_first Broken = first_broken
+
+-- ---- what a writer writes
+
+module _ (w new : ScoreWriterState) (at : Place) (t : List ℕ) (r : WritesRun w at t new) (headed : w.writer.written.headed ≡ true) where
+  run_behind : (limits : Limits) (hasher : DefaultHasher) (book : List (List ℕ × List ℕ)) (ending : SourceEnding) (more : List (Result Char Fault))
+      → (let h : HeaderStageState = record { limits = limits; progress = behind book; book = book; hasher = hasher } in
+      let outputs = outputs_of_syllables r.syllables in
+      streams_of_items h w ending (items_of at t ++ more)
+      ≡ behind_bytes (texts_of_outputs w.writer.written outputs) (lines_of_outputs w.writer.written outputs) (streams_of_items h new ending more))
+  run_behind limits hasher book ending more =
+      let h : HeaderStageState = record { limits = limits; progress = behind book; book = book; hasher = hasher } in
+      let all = items_of at t ++ more in
+      ap (λ (b : List (List ℕ × List ℕ)). streams_of w b (head_events_left h ending all)) (past_behind limits hasher book all ∙ sym (past_behind limits hasher book more))
+      ∙ (ap (λ (from_heads : List HeadEvent). streams_of w (book_behind h more) from_heads) (inputs_behind limits hasher book (placed_characters_from at t) ending more)
+      ∙ run_law w at t new r headed (book_behind h more) (head_events_left h ending more))
+
+  run_in_body : (limits : Limits) (hasher : DefaultHasher) (progress : HeadProgress) (book : List (List ℕ × List ℕ)) (ending : SourceEnding) (more : List (Result Char Fault)) → IsBehind progress
+      → (let h : HeaderStageState = record { limits = limits; progress = progress; book = book; hasher = hasher } in
+      let outputs = outputs_of_syllables r.syllables in
+      GoTogether h w → streams_of_items h w ending (items_of at t ++ more)
+      ≡ behind_bytes (texts_of_outputs w.writer.written outputs) (lines_of_outputs w.writer.written outputs) (streams_of_items h new ending more))
+  run_in_body limits hasher (reading t) book ending more is together = absurd is
+  run_in_body limits hasher over book ending more is together = absurd is
+  run_in_body limits hasher (behind other) book ending more is together =
+      subst (λ (b : List (List ℕ × List ℕ)). let h : HeaderStageState = record { limits = limits; progress = behind b; book = book; hasher = hasher } in
+      let outputs = outputs_of_syllables r.syllables in
+      streams_of_items h w ending (items_of at t ++ more)
+      ≡ behind_bytes (texts_of_outputs w.writer.written outputs) (lines_of_outputs w.writer.written outputs) (streams_of_items h new ending more))
+      (sym together.book) (run_behind limits hasher book ending more)
+
+  run_of_items : (h : HeaderStageState) → IsBehind h.progress → GoTogether h w → WritesItems h w (items_of at t) h new
+  run_of_items h is together = record {
+    output = texts_of_outputs w.writer.written (outputs_of_syllables r.syllables);
+    lines = lines_of_outputs w.writer.written (outputs_of_syllables r.syllables);
+    out = ap (λ (x : RunWriterState). x.out) r.taken;
+    messages = ap (λ (x : RunWriterState). x.messages) r.taken;
+    law = λ ending more. run_in_body h.limits h.hasher h.progress h.book ending more is together;
+  }
+
+-- ---- what an engine writes
+
+-- At these bytes, of which these items come, what was to come of them waits, and the rest is still to come.
+items_taken : (h now : HeaderStageState) (w new : ScoreWriterState) (items more : List (Result Char Fault)) (ending : SourceEnding) → WritesItems h w items now new
+    → behind_bytes w.writer.out.items w.writer.messages.items (streams_of_items h w ending (items ++ more))
+    ≡ behind_bytes new.writer.out.items new.writer.messages.items (streams_of_items now new ending more)
+items_taken h now w new items more ending a =
+    let later = streams_of_items now new ending more in
+    ap (λ (s : Streams). behind_bytes w.writer.out.items w.writer.messages.items s) (a.law ending more)
+    ∙ (sym (behind_both w.writer.out.items w.writer.messages.items a.output a.lines later)
+    ∙ (ap (λ (o : BoundedList ℕ). behind_bytes o.items (w.writer.messages.items ++ a.lines) later) (sym a.out)
+    ∙ ap (λ (l : BoundedList ℕ). behind_bytes new.writer.out.items l.items later) (sym a.messages)))
+
+module _ (d e : DecoderState) (h : HeaderStageState) (w new : ScoreWriterState) (text : List ℕ) (r : WritesRun w d.place (chars text) new) (takes : TakesRuns w.writer.written) (skips : SkipsText d text e)
+    (step : IsInStep d h w.score w.writer.written) where
+  was : RunsInStep d h w.score w.writer.written
+  was = step.runs takes.runs
+
+  inside : IsInBody h.progress w.score.part
+  inside = in_body h.progress w.score.part w.writer.written.headed takes.headed was.parts
+
+  pub text_taken : GoTogether h w → (more : List ℕ) (ending : SourceEnding)
+      → behind_bytes w.writer.out.items w.writer.messages.items (streams_of_items h w ending (emitted_by (is_whole ending) (text ++ more) (decoder.events_left d (text ++ more))))
+      ≡ behind_bytes new.writer.out.items new.writer.messages.items (streams_of_items h new ending (emitted_by (is_whole ending) more (decoder.events_left e more)))
+  text_taken together more ending =
+      let rest = decoder.events_left e more in
+      let items = items_of d.place (chars text) in
+      ap (λ (xs : List (Result Char Fault)). behind_bytes w.writer.out.items w.writer.messages.items (streams_of_items h w ending xs))
+      (ap (λ (lists : List (List (Result Char Fault))). emitted_by (is_whole ending) (text ++ more) lists) (skips.joined more)
+      ∙ emitted_first text more skips.lists rest items skips.one_each skips.all ending)
+      ∙ items_taken h h w new items (emitted_by (is_whole ending) more rest) ending (run_of_items w new d.place (chars text) r takes.headed h inside.behind_them together)
+
+  pub run_together : GoTogether h w → GoTogether h new
+  run_together together = record {
+    limits = together.limits ∙ sym r.gives.limits;
+    headed = λ headed. inl inside.behind_them;
+    book = together.book;
+    short = together.short;
+  }
+
+  -- ---- in step
+
+  still_headed : new.writer.written.headed ≡ true
+  still_headed = ap (λ (v : Written). v.headed) (run_counted w d.place (chars text) new r).is ∙ takes.headed
+
+  run_forces : HasForce new.writer.written
+  run_forces =
+      let none = ap (λ (x : RunWriterState). x.written.force) r.taken ∙ (same_force r.syllables w.writer.written takes.canonical ∙ step.force.untracked takes.canonical) in
+      record { untracked = λ gabc. none; outset = λ outset. none }
+
+  run_runs : RunsInStep e h new.score new.writer.written
+  run_runs =
+      let gives = r.gives in
+      let v = w.writer.written in
+      let written : new.writer.written.count ≡ (with_placed w.score.before r.syllables).syllables =
+      ap (λ (x : RunWriterState). x.written.count) r.taken
+      ∙ (counted (outputs_of_syllables r.syllables) v w.score.before takes.headed (was.count takes.headed)
+      ∙ ap (λ (ss : List PlacedSyllable). (with_placed w.score.before ss).syllables) (syllables_of r.syllables)) in
+      let before = was.taken takes.headed in
+      let reached = skips.reached.bytes in
+      let whole = gives.whole in
+      let few = skips.few in
+      let taken = skips.taken in
+      let limit = skips.limit in
+      record {
+        runs = skips.runs ∙ was.runs;
+        limit = skips.limit ∙ (was.limit ∙ ap (λ (l : Limits). l.input) (sym gives.limits));
+        parts = one_part h.progress new.score.part new.writer.written.headed still_headed inside.behind_them (gives.part ∙ inside.body);
+        none = λ un. absurd (false≢true (sym un ∙ still_headed));
+        count = λ headed. written ∙ sym (ap (λ (p : Preceding). p.syllables) gives.before_held);
+        taken = λ headed. omega (arith, before, whole, few, taken);
+        column = skips.reached.column;
+        near = omega (arith, reached);
+        counts = λ within. subst (λ (place : Place). Counts place new.score) (sym skips.place) (gives.counts (was.counts (omega (arith, within, taken, limit))));
+      }
+
+  pub run_in_step : IsInStep e h new.score new.writer.written
+  run_in_step = record { force = run_forces; runs = λ running. run_runs }
+
+  pub run_reads_on : ReadsHeaders e h new.writer.written
+  run_reads_on running = headed_read h.limits h.progress w.score.part w.writer.written.headed e.place new.writer.written.errors takes.headed was.parts
+
+  next_place : (at before : Place) (t : List ℕ) → before ≡ at → next_after at t before ≡ place_past at t
+  next_place at before [] here = here
+  next_place at before (c ∷ cs) here = refl
+
+  pub run_stays_telling : IsTelling d w → IsTelling e new
+  run_stays_telling told running =
+      let gives = r.gives in
+      let before = told takes.runs in
+      record {
+        line = skips.reached.line;
+        body = λ headed within.
+            let fewer : d.taken ≤ d.limit = (let taken = skips.taken in let limit = skips.limit in omega (arith, taken, limit, within)) in
+            let b = before.body takes.headed fewer in
+            record {
+              next = gives.next ∙ (next_place d.place w.score.held.next (chars text) b.next ∙ sym skips.place);
+              told = gives.told (sym b.next) (λ body. subst (λ (place : Place). StandsAt place w.score.body.part) (sym b.next) (was.counts fewer body)) b.told;
+              holds = gives.holds b.holds;
+              comment = λ cr. absurd (false≢true (sym skips.cr ∙ cr));
+            };
+      }

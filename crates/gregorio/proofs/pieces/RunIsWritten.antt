@@ -1,0 +1,124 @@
+-- What a writer has written of a run of syllables, and what it will still write.
+use Rattle.std.proofs.Common.{◌≡◌, ℕ, List, [], ◌∷◌, ◌++◌, length, Bool, true, false, Option, Some, None, IsSome, is_none, if◌then◌else◌, refl, ap, sym, subst, ◌∙◌}
+use Rattle.std.proofs.lemmas.Bool.{false≢true, or_parts}
+use Rattle.gabc_headers.specs.declared.head_event.HeadEvent.{HeadEvent}
+use Rattle.gabc_neumes.specs.InForce.{InForce}
+use Rattle.gabc_neumes.specs.declared.sound.Clef.{Clef}
+use Rattle.gabc_places.proofs.PushesAreOne.{joined-append}
+use Rattle.gabc_places.specs.StageLaw.{concat_of}
+use Rattle.gabc_places.specs.declared.place.Place.{Place}
+use Rattle.gabc_score.specs.Before.{sounds, with_placed}
+use Rattle.gabc_score.specs.GivesSyllables.{GivesSyllables, text_inputs}
+use Rattle.gabc_score.specs.ScoreEvents.{ScoreOutput, Syllable, syllables_in}
+use Rattle.gabc_score.specs.Syllable.{PlacedSyllable}
+use Rattle.gabc_score.specs.declared.before.Preceding.{Preceding}
+use Rattle.gabc_score.specs.declared.score_machine.ScorePart.{ScorePart}
+use Rattle.gabc_score.specs.declared.score_machine.ScorePart.TheVariants as score_part
+use Rattle.gabc_score.specs.witness.ScoreStage.{ScoreStageState, left_of}
+use Rattle.gregorio_jobs.specs.declared.job.Format.{Format}
+use Rattle.gregorio_jobs.specs.declared.job.Format.TheVariants.{Gabc}
+use Rattle.gregorio_jobs.specs.declared.job.Status.{Status}
+use Rattle.gregorio.specs.Streams.{Streams, behind_bytes, force_behind}
+use Rattle.gregorio.specs.machine.ClefInForce.{HasClefOfSounds, IsClefIn}
+use Rattle.gregorio.specs.machine.RunWriter.{RunWriterState, TakesRuns, outputs_of_syllables}
+use Rattle.gregorio.specs.machine.ScoreWriter.{IsSilent, IsSteady, ScoreWriterState, WritesRun, streams_of}
+use Rattle.gregorio.specs.witness.Engine.{Written, behind_output, behind_outputs, lines_of_outputs, streams_in, texts_of_outputs}
+use Rattle.gregorio.proofs.StreamsOfOutputs.{headed_stays, in_body, some_and_rest}
+
+-- ---- what is written
+
+-- but for how many syllables were written and what is in force behind them, it is as before
+pub record IsCounted (w v : Written) : Type 0 where
+  pub count : ℕ
+  pub force : InForce
+  pub is : v ≡ record w { count = count; force = force }
+
+pub counted_on : (ss : List PlacedSyllable) (w : Written) → IsCounted w (behind_outputs w (outputs_of_syllables ss))
+counted_on [] w = record { count = w.count; force = w.force; is = refl }
+counted_on (s ∷ ss) w =
+    let c = counted_on ss (behind_output w (Syllable s)) in
+    record { count = c.count; force = c.force; is = c.is }
+
+pub syllables_of : (ss : List PlacedSyllable) → syllables_in (outputs_of_syllables ss) ≡ ss
+syllables_of [] = refl
+syllables_of (s ∷ ss) = ap (λ (l : List PlacedSyllable). s ∷ l) (syllables_of ss)
+
+-- in canonical form nothing is in force that was not
+pub same_force : (ss : List PlacedSyllable) (w : Written) → w.format ≡ Gabc → (behind_outputs w (outputs_of_syllables ss)).force ≡ w.force
+same_force [] w canonical = refl
+same_force (s ∷ ss) w canonical = same_force ss (behind_output w (Syllable s)) canonical ∙ by w.headed
+  where
+    by : (headed : Bool) → (if headed then force_behind w.format w.force s else w.force) ≡ w.force
+    by true = ap (λ (f : Format). force_behind f w.force s) canonical
+    by false = refl
+
+-- where nothing sounds in syllables and before them, nothing sounds before them
+earlier_silent : (ss : List PlacedSyllable) (p : Preceding) → (with_placed p ss).sounded ≡ false → p.sounded ≡ false
+earlier_silent [] p silent = silent
+earlier_silent (s ∷ ss) p silent = (or_parts p.sounded (sounds s.made) (earlier_silent ss (with_placed p (s ∷ [])) silent)).0
+
+module _ (old : ScoreWriterState) (at : Place) (t : List ℕ) (new : ScoreWriterState) (r : WritesRun old at t new) where
+  abbrev outputs : List ScoreOutput
+  outputs = outputs_of_syllables r.syllables
+
+  pub run_counted : IsCounted old.writer.written new.writer.written
+  run_counted =
+      let c = counted_on r.syllables old.writer.written in
+      record { count = c.count; force = c.force; is = ap (λ (w : RunWriterState). w.written) r.taken ∙ c.is }
+
+  pub run_steady : IsSteady old new
+  run_steady =
+      let c = run_counted in
+      record {
+        limits = r.gives.limits;
+        format = ap (λ (v : Written). v.format) c.is;
+        name = ap (λ (v : Written). v.name) c.is;
+        all_warnings = ap (λ (v : Written). v.all_warnings) c.is;
+        out = ap (λ (w : RunWriterState). w.out.limit) r.taken;
+        messages = ap (λ (w : RunWriterState). w.messages.limit) r.taken;
+      }
+
+  -- ---- between two calls
+
+  pub run_silent : TakesRuns old.writer.written → IsSome new.writer.written.ended → IsSilent new.score
+  run_silent takes over = absurd (by new.writer.written.ended (ap (λ (v : Written). is_none v.ended) run_counted.is ∙ takes.runs) over)
+    where
+      by : (o : Option Status) → is_none o ≡ true → IsSome o → ⊥
+      by None none some = cc some
+      by (Some status) none some = cc none
+
+  clef_in : (part : ScorePart) (clef : Option Clef) → IsClefIn part old.score.before.sounded clef → IsClefIn part (with_placed old.score.before r.syllables).sounded clef
+  clef_in score_part.Heads clef was = was
+  clef_in score_part.Body clef was = λ silent. was (earlier_silent r.syllables old.score.before silent)
+  clef_in score_part.Over clef was = tt
+
+  pub run_clef : TakesRuns old.writer.written → HasClefOfSounds old.score old.writer.written → HasClefOfSounds new.score new.writer.written
+  run_clef takes had = λ running.
+      let force : new.writer.written.force ≡ old.writer.written.force = ap (λ (w : RunWriterState). w.written.force) r.taken ∙ same_force r.syllables old.writer.written takes.canonical in
+      subst (λ (f : InForce). IsClefIn new.score.part new.score.before.sounded f.clef) (sym force)
+      (subst (λ (p : Preceding). IsClefIn new.score.part p.sounded old.writer.written.force.clef) (sym r.gives.before_held)
+      (subst (λ (q : ScorePart). IsClefIn q (with_placed old.score.before r.syllables).sounded old.writer.written.force.clef) (sym r.gives.part)
+      (clef_in old.score.part old.writer.written.force.clef (had takes.runs))))
+
+  -- ---- what it will still write
+
+  given_first : (from_heads : List HeadEvent) → concat_of (left_of old.score (text_inputs at t ++ from_heads)) ≡ outputs ++ concat_of (left_of new.score from_heads)
+  given_first from_heads =
+      ap (λ (lists : List (List ScoreOutput)). concat_of lists) (r.gives.law from_heads)
+      ∙ (joined-append r.gives.points (left_of new.score from_heads)
+      ∙ ap (λ (os : List ScoreOutput). os ++ concat_of (left_of new.score from_heads)) r.gives.given_are)
+
+  pub run_law : old.writer.written.headed ≡ true → (book : List (List ℕ × List ℕ)) (from_heads : List HeadEvent)
+      → streams_of old book (text_inputs at t ++ from_heads)
+      ≡ behind_bytes (texts_of_outputs old.writer.written outputs) (lines_of_outputs old.writer.written outputs) (streams_of new book from_heads)
+  run_law headed book from_heads =
+      let v = old.writer.written in
+      let rest = concat_of (left_of new.score from_heads) in
+      let same : new.writer.written ≡ behind_outputs v outputs = ap (λ (w : RunWriterState). w.written) r.taken in
+      let later : streams_of new book from_heads ≡ streams_in (behind_outputs v outputs) rest =
+      in_body new.writer.written book from_heads (left_of new.score from_heads) (ap (λ (u : Written). u.headed) same ∙ (headed_stays v outputs ∙ headed))
+      ∙ ap (λ (u : Written). streams_in u rest) same in
+      in_body v book (text_inputs at t ++ from_heads) (left_of old.score (text_inputs at t ++ from_heads)) headed
+      ∙ (ap (streams_in v) (given_first from_heads)
+      ∙ (some_and_rest v outputs rest
+      ∙ ap (λ (s : Streams). behind_bytes (texts_of_outputs v outputs) (lines_of_outputs v outputs) s) (sym later)))

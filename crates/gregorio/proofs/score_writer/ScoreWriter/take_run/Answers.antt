@@ -1,0 +1,31 @@
+use Rattle.std.proofs.Common.{ap, subst, sym, take, ◌∙◌, arith}
+use Rattle.std.specs.Str.{chars}
+use Rattle.gabc_places.specs.BoundedList.{BoundedList}
+use Rattle.gabc_score.specs.declared.score_event.ScoreEvent.{ScoreEvent}
+use Rattle.gregorio.specs.machine.RunWriter.{TakesRuns}
+use Rattle.gregorio.specs.machine.ScoreWriter.{IsSteady, ScoreWriterState}
+use Rattle.gregorio.proofs.pieces.RunIsWritten.{run_clef, run_silent, run_steady}
+use Rattle.gregorio.proofs.score_writer.ScoreWriter.take_run.Goals as goal
+
+pub invariant_of-self : goal.invariant_of-self
+invariant_of-self c =
+    let i = c.self.inside in
+    let old : ScoreWriterState = record { score = i.score; writer = i.writer } in
+    let new : ScoreWriterState = record { score = c.take_run.new.self; writer = c.take_run.new.out } in
+    let t = chars (take c.take_run.result.bytes c.args.text.now) in
+    let takes = subst (λ (s : ScoreWriterState). TakesRuns s.writer.written) (sym c.self.view_is) c.requires in
+    let given = ap (λ (r : BoundedList ScoreEvent). r.limit) c.take_run.ensures.room in
+    let cleared = ap (λ (r : BoundedList ScoreEvent). r.limit) c.clear.ensures in
+    record {
+      room = omega (arith, c.self.invariant.room, given, cleared);
+      silent = run_silent old c.args.at t new c.take_run.ensures.runs takes;
+      clef = run_clef old c.args.at t new c.take_run.ensures.runs takes c.self.invariant.clef;
+    }
+
+pub returns-clause-steady : goal.returns-clause-steady
+returns-clause-steady c =
+    let i = c.self.inside in
+    let old : ScoreWriterState = record { score = i.score; writer = i.writer } in
+    let new : ScoreWriterState = record { score = c.take_run.new.self; writer = c.take_run.new.out } in
+    subst (λ (s : ScoreWriterState). IsSteady s new) c.self.view_is
+    (run_steady old c.args.at (chars (take c.take_run.result.bytes c.args.text.now)) new c.take_run.ensures.runs)
