@@ -9,7 +9,9 @@ use crate::token_state::TokenState;
 use gabc_places::Place;
 
 impl TextStage {
-    /// Returns the place of the opener, if there is one: the `<` or `[` of a tag, a raw part or a translation that has not ended.
+    /// Returns the place of the opener, if there is one: the `<` or `[` of a tag, a raw part or a
+    /// translation that has not ended. It is the place at which the text would be cut if it ended
+    /// here, by the law `an_opener_is_where_a_text_is_cut`.
     pub fn opener(&self) -> Option<Place>
         ensures { result ≡ opener_of self.now }
     {
@@ -21,7 +23,8 @@ impl TextStage {
         }
     }
 
-    /// Returns whether a comment is open.
+    /// Returns whether a comment is open: whether a `(` would emit nothing, by the law
+    /// `a_comment_is_where_a_bracket_is_silent`.
     pub fn in_comment(&self) -> bool
         ensures { result ≡ is_in_comment self.now }
     {
