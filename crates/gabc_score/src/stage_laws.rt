@@ -230,6 +230,7 @@ pub fn stages_that_tell_the_same_agree_in_line()
 {
     gabc_text::laws::a_kept_character_is_kept_again();
     gabc_text::laws::a_comment_before_a_text_counts_for_nothing();
+    gabc_text::laws::what_is_open_stays_open_elsewhere();
     gabc_notes::laws::a_kept_character_is_kept_again();
     in_front_nothing_is_read();
     stages_that_tell_the_same_agree();

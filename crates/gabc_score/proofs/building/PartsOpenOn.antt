@@ -1,6 +1,7 @@
 -- What is open in a part of the body, behind each character.
 use Rattle.std.proofs.Common.{◌≡◌, ◌⊎◌, inl, inr, ℕ, nat_lt, Bool, true, false, List, [], ◌++◌, Option, Some, None, refl, sym, ap, subst, ◌∙◌}
 use Rattle.std.specs.List.{list_any}
+use Rattle.gabc_text.specs.witness.EventsLeft as fresh_events
 use Rattle.gabc_places.specs.declared.place.Char.{Char}
 use Rattle.gabc_places.specs.declared.place.Place.{Place}
 use Rattle.gabc_text.specs.StageTells as text_tells
@@ -82,6 +83,7 @@ module _ (lines macros : ℕ) (x : Char) where
 -- the text that begins at the LF behind a comment
 pub first_text_opens : (lines macros : ℕ) (x : Char) (s : TextStage) (before mid after : BodyPart) → before ≡ part.Comment → mid ≡ part.Text s → text.Keeps s [] → s ≡ fresh_stage x.place → PartOpensOn lines macros x mid after
     → OpensOn x.place (openers_of before) (openers_of after)
+unfolding fresh_events.events_left
 first_text_opens lines macros x s before mid after was is keeps fresh on =
     subst (λ (o : Openers). OpensOn x.place o (openers_of after)) (ap openers_of is ∙ ap (λ (t : TextStage). openers_of (part.Text t)) fresh ∙ sym (ap openers_of was))
     (on (in_text []) (subst (λ (b : BodyPart). PartKeeps lines macros b (in_text [])) (sym is) keeps) (subst (λ (b : BodyPart). StandsAt x.place b) (sym is) (ap (λ (t : TextStage). text_tells.next_of t) fresh)))

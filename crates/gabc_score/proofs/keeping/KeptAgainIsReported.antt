@@ -2,6 +2,7 @@
 -- reads.
 use Rattle.std.proofs.Common.{◌≡◌, ◌<◌, ◌≤◌, ◌^◌, ℕ, Bool, true, false, List, [], length, encode_utf8_all, refl, sym, ap, ◌∙◌, arith}
 use Rattle.std.proofs.lemmas.Str.{encodes_same}
+use Rattle.gabc_text.specs.witness.EventsLeft as fresh_events
 use Rattle.gabc_places.specs.Place.{place_past}
 use Rattle.gabc_places.specs.StageLaw.{concat_of}
 use Rattle.gabc_places.specs.declared.limits.Limits.{Limits}
@@ -57,7 +58,7 @@ module _ (laws : StageLaws) (reads : FromBeginning) (lines macros : ℕ) (t : Li
     kept = ap kept_of (since_all behind none ∙ sym (emitted_plain reads laws.steps lines macros t few r.read)) ∙ h.kept
 
     plain : is_in_comment r.read.after ≡ false
-    unfolding behind
+    unfolding behind fresh_events.events_left
     plain = r.outside refl (let e = ap length kept in omega (arith, e))
 
     keeps_plain : KeepsText lines macros t false

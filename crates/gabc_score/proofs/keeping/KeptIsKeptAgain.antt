@@ -1,6 +1,7 @@
 -- What a stage reports of a syllable that it reads is kept again, where it is read by itself.
 use Rattle.std.proofs.Common.{◌≡◌, ◌<◌, ◌≤◌, ◌^◌, ℕ, Bool, true, false, List, [], ◌∷◌, ◌++◌, length, drop, Option, is_some, encode_utf8_all, refl, sym, ap, ◌∙◌, subst, arith, append-nil}
 use Rattle.std.proofs.lemmas.Str.{encodes_same, length-le-encodes}
+use Rattle.gabc_text.specs.witness.EventsLeft as fresh_events
 use Rattle.gabc_places.specs.Place.{place_past}
 use Rattle.gabc_places.specs.StageLaw.{concat_of}
 use Rattle.gabc_places.specs.declared.place.Place.{Place}
@@ -32,7 +33,7 @@ use Rattle.gabc_score.proofs.resuming.ScoresAgree.{reads_in_body}
 module _ (laws : StageLaws) (reads : FromBeginning) (lines macros : ℕ) where
   -- where a text begins nothing is kept
   pub begins_text : StandsAfter lines macros first_place begun_text [] []
-  unfolding text.said_of
+  unfolding text.said_of fresh_events.events_left
   begins_text = record {
     reading = record { parts = in_text []; keeps = laws.steps.text_fresh first_place; said = record { builder = refl; eu = refl; nlba = refl }; kept = refl; from = refl; uncut = refl };
     kept = refl;

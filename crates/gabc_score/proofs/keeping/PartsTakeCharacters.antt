@@ -220,6 +220,7 @@ module _ (laws : Steps) (lines macros : ℕ) where
         }
 
     gabc_closes : list_any is_next t.events ≡ false → list_any is_close t.events ≡ true → TakesOne lines macros (part.Notes opened s) x
+    unfolding text_rest.events_left
     gabc_closes next close =
         let b : BodyPart = part.Text (fresh_stage (behind_mark x.place)) in
         record {
@@ -284,6 +285,7 @@ module _ (laws : Steps) (lines macros : ℕ) where
         }
 
     nabc_closes : list_any is_next t.events ≡ false → list_any is_close t.events ≡ true → TakesOne lines macros (part.Nabc line opened s) x
+    unfolding text_rest.events_left
     nabc_closes next close =
         let b : BodyPart = part.Text (fresh_stage (behind_mark x.place)) in
         record {

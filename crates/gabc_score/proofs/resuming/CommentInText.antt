@@ -1,5 +1,6 @@
 -- The comment in front of the first text can be read again as one in a text of which nothing is kept.
 use Rattle.std.proofs.Common.{◌≡◌, [], true, length, is_some, refl, ap, arith}
+use Rattle.gabc_text.specs.witness.EventsLeft as fresh_events
 use Rattle.gabc_text.specs.TextStage.{fresh_stage}
 use Rattle.gabc_text.specs.declared.stage.TextStage.{TextStage}
 use Rattle.gabc_text.specs.declared.token_state.TokenState.TheVariants.{Comment}
@@ -26,6 +27,7 @@ comment_keeps = record {
 }
 
 pub front_in_text : (s : ScoreStageState) → is_some (before_of s) ≡ true → StandsInFront s → CanBeReadInText s
+unfolding fresh_events.events_left
 front_in_text s runs front =
     let body = in_body_by s.part _ runs in
     let nothing = nothing_in_body s.part s.held.gathered.builder.kept body front.nothing_read in

@@ -28,6 +28,7 @@ use Rattle.gabc_score.specs.witness.BodyStage.{BodyStageState, part_with, runnin
 -- A comment in front of a text counts for nothing, where the text keeps nothing yet.
 pub record CommentsCountForNothing : Type 0 where
   pub stays : (s : TextStage) (place : Place) → Keeps s [] → Keeps (text.moved_to place s) []
+  pub goes_on : (s : TextStage) (place : Place) → text.is_in_comment (text.moved_to place s) ≡ text.is_in_comment s
   pub on : (s : TextStage) (c : ℕ) (t : List ℕ) → Keeps s [] → text.is_in_comment s ≡ true → (c == 10) ≡ false → events_left s (c ∷ t) ≡ [] ∷ events_left (text.moved_to (saturating_next_place (text.next_of s) c) s) t
   pub begins : (s : TextStage) (t : List ℕ) → Keeps s [] → text.is_in_comment s ≡ true → events_left s (10 ∷ t) ≡ events_left (fresh_stage (text.next_of s)) (10 ∷ t)
   pub ends : (s : TextStage) → Keeps s [] → text.is_in_comment s ≡ true → events_left s [] ≡ (text_event.Ended text_end.Finished ∷ []) ∷ []
@@ -47,7 +48,7 @@ module _ (law : CommentsCountForNothing) where
     comment_is_text s keeps open_is (head_event.Found f ∷ xs) line = comment_is_text s keeps open_is xs line.1
     comment_is_text s keeps open_is (head_event.Heads l m c ∷ xs) line = comment_is_text s keeps open_is xs line.1
     comment_is_text s keeps open_is (head_event.Body x ∷ xs) line =
-        by (comment_is_text there (law.stays s (saturating_next_place (text.next_of s) x.c) keeps) open_is xs (subst (λ (p : Place). StandInLine (saturating_next_place p x.c) xs) line.0 line.1)) (x.c == 10) refl
+        by (comment_is_text there (law.stays s (saturating_next_place (text.next_of s) x.c) keeps) (law.goes_on s (saturating_next_place (text.next_of s) x.c) ∙ open_is) xs (subst (λ (p : Place). StandInLine (saturating_next_place p x.c) xs) line.0 line.1)) (x.c == 10) refl
       where
         there : TextStage
         there = text.moved_to (saturating_next_place (text.next_of s) x.c) s

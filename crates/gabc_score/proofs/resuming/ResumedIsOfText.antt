@@ -2,6 +2,7 @@
 use Rattle.std.proofs.Common.{◌≡◌, Some, sym, ap, subst, ◌∙◌, arith}
 use Rattle.std.specs.List.{All}
 use Rattle.std.proofs.lemmas.List.Elements.{All-nil}
+use Rattle.gabc_text.specs.witness.EventsLeft as fresh_events
 use Rattle.gabc_places.specs.declared.limits.Limits.{Limits}
 use Rattle.gabc_places.specs.declared.place.Place.{Place}
 use Rattle.gabc_score.specs.declared.before.Before.{Before}
@@ -37,6 +38,7 @@ told_again old new next was limits lines macros before made there is openers tex
 
 -- so it is where nothing was read yet
 pub told_behind : (limits : Limits) (before : Before) (s : ScoreStageState) → StandsBehind limits before s → AreCountsWithin limits before.nabc_lines before.macros before.canonical → TellsOfText s
+unfolding fresh_events.events_left
 told_behind limits before s stands counts body =
     let b = stands.begins in
     let is : before_with s.body s.before ≡ before = some_is (before_with s.body s.before) before (ap (λ (k : ScorePart). in_body k (before_with s.body s.before)) (sym body) ∙ stands.before_is) in

@@ -1,6 +1,4 @@
-use Rattle.std.proofs.Common.{◌≡◌, Bool, Option, Some, None, if◌then◌else◌, sym, ap, ◌∙◌}
-use Rattle.gabc_places.specs.declared.place.Place.{Place}
-use Rattle.gabc_text.specs.StageTells.{opener_of}
+use Rattle.std.proofs.Common.{Bool, Some, None, if◌then◌else◌, sym, ap, ◌∙◌}
 use Rattle.gabc_text.proofs.NothingBehindTheEnd.{opener_told}
 use Rattle.gabc_text.proofs.resuming.ToldByEvents.{opener_over}
 use Rattle.gabc_text.proofs.stage.TextStage.opener.Goals as goal
