@@ -20,12 +20,12 @@ pub(crate) struct RegularState {
 
 impl RegularState {
     /// Returns where the reading stands after `c`; `None` where `c` is not kept or ends a code that
-    /// has no name. The marks that end a snippet have their short way.
+    /// has no name. The marks that end a snippet and what is not of ASCII have a short way.
     #[inline(always)]
     fn after(self, c: char) -> Option<RegularState>
         ensures { result ≡ regular_after self c }
     {
-        if c == ')' || c == '|' {
+        if c == ')' || c == '|' || !c.is_ascii() {
             return None;
         }
         match next_state(self.part, class_of(c)) {
