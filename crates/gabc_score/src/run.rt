@@ -298,6 +298,7 @@ impl ScoreMachine {
             (shown self.new) out.old out.new }
         ensures rests { IsScore self.new }
     {
+        a_regular_syllable_goes_through();
         let none = Run { bytes: 0, next: at };
         if !is_low(at, text) || !self.is_between(at) {
             return none;
