@@ -312,7 +312,13 @@ impl ScoreMachine {
         if !self.give_held(first.starts_word(), out) {
             return none;
         }
-        let reached = self.give_on(Reached { last: first, before }, out);
+        let reached = self.give_on(
+            Reached {
+                last: first,
+                before,
+            },
+            out,
+        );
         let last = reached.last;
         self.go_before(reached);
         self.read_all(last.at, last.spelled, room);

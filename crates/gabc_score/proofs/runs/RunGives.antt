@@ -1,5 +1,5 @@
 -- What a run gives, once its last syllable is held.
-use Rattle.std.proofs.Common.{◌≡◌, ℕ, ◌+◌, ◌<◌, ◌≤◌, ◌^◌, nat_lt, Bool, true, List, [], ◌∷◌, ◌++◌, map, min, length, refl, sym, ap, subst, ◌∙◌, arith, length-append}
+use Rattle.std.proofs.Common.{◌≡◌, ℕ, ◌+◌, ◌<◌, ◌≤◌, ◌^◌, Bool, true, List, [], ◌∷◌, ◌++◌, map, length, refl, sym, ap, subst, ◌∙◌, arith, length-append}
 use Rattle.std.proofs.lemmas.Bool.Decides.{nat_tests}
 use Rattle.std.specs.Str.{chars}
 use Rattle.gabc_text.specs.TextStage.{fresh_stage}
@@ -14,21 +14,20 @@ use Rattle.gabc_score.specs.declared.run.Found.{Found}
 use Rattle.gabc_score.specs.declared.score_machine.ScoreMachine.{ScoreMachine}
 use Rattle.gabc_score.specs.declared.score_machine.ScorePart.{ScorePart}
 use Rattle.gabc_score.specs.declared.score_machine.ScorePart.TheVariants as score_part
-use Rattle.gabc_score.specs.Before.{most, with_one, with_placed}
+use Rattle.gabc_score.specs.Before.{with_one, with_placed}
 use Rattle.gabc_score.specs.Events.{events_from}
 use Rattle.gabc_score.specs.GivesSyllables.{GivesSyllables, next_after, text_inputs}
 use Rattle.gabc_score.specs.ScoreEvents.{ScoreOutput, characters_in}
-use Rattle.gabc_score.specs.ScoreStage.{Counts, StandsInLine}
 use Rattle.gabc_score.specs.ScoreTells.{StandsAt, held_in_body, openers_of}
 use Rattle.gabc_score.specs.Syllable.{UnplacedSyllable, PlacedSyllable}
 use Rattle.gabc_score.specs.ToldWithin.{AreOpenersBefore, HoldsIfAny, IsPlace, TellsOfText, whole_syllables}
 use Rattle.gabc_score.specs.witness.BodyStage.{part_with, texts_by_stage}
 use Rattle.gabc_score.specs.witness.ScoreStage.{ScoreStageState, left_of}
-use Rattle.gabc_score.specs.machine.Between.{GoesThrough, left_between, with_one as gathered_with}
+use Rattle.gabc_score.specs.machine.Between.{left_between, with_one as gathered_with}
 use Rattle.gabc_score.specs.machine.Gatherer.{Gathered}
 use Rattle.gabc_score.specs.machine.PartOnly.{HoldsTexts}
 use Rattle.gabc_score.specs.machine.Run.{IsFound, StandsBetween, RunsBefore}
-use Rattle.gabc_score.specs.machine.ScoreMachine.{held_score, shown, IsInBody}
+use Rattle.gabc_score.specs.machine.ScoreMachine.{held_score, shown}
 use Rattle.gabc_score.specs.machine.ScoreStage.{HeldScore, body_left, outputs_left}
 use Rattle.gabc_score.proofs.runs.FoundSyllable.{some_are, utf8_is}
 use Rattle.gabc_score.proofs.runs.RunEnds.{EndsWith, before_last}

@@ -16,7 +16,7 @@ use Rattle.gabc_score.specs.declared.run.Found.{Found}
 use Rattle.gabc_score.specs.declared.run.Reached.{Reached}
 use Rattle.gabc_score.specs.declared.score_machine.ScoreMachine.{ScoreMachine}
 use Rattle.gabc_score.specs.Canonical.{position_by}
-use Rattle.gabc_score.specs.GivesSyllables.{GivesSyllables, Runs}
+use Rattle.gabc_score.specs.GivesSyllables.{GivesSyllables}
 use Rattle.gabc_score.specs.ScoreStage.{IsWithin}
 use Rattle.gabc_score.specs.Syllable.{UnplacedSyllable, PlacedSyllable}
 use Rattle.gabc_score.specs.witness.BodyStage.{BodyStageState}

@@ -1,5 +1,5 @@
 -- A machine whose slots are used otherwise stands where it stood.
-use Rattle.std.proofs.Common.{◌≡◌, false, refl, sym, ap, subst, ◌∙◌, length}
+use Rattle.std.proofs.Common.{◌≡◌, false, sym, ap, subst, ◌∙◌, length}
 use Rattle.gabc_places.specs.declared.place.Place.{Place}
 use Rattle.gabc_score.specs.declared.score_machine.ScoreMachine.{ScoreMachine}
 use Rattle.gabc_score.specs.machine.Between.{IsBetween}

@@ -1,4 +1,4 @@
-use Rattle.std.proofs.Common.{◌≡◌, ◌+◌, ◌<◌, ◌≤◌, ◌^◌, ◌||◌, not, nat_lt, ℕ, List, [], ◌∷◌, ◌++◌, Bool, true, false, length, take, refl, sym, ap, subst, ◌∙◌, arith}
+use Rattle.std.proofs.Common.{◌≡◌, nat_lt, ℕ, List, [], ◌∷◌, length, refl, sym, ap, subst, ◌∙◌, arith}
 use Rattle.std.proofs.lemmas.List.Elements.{All-nil}
 use Rattle.std.proofs.lemmas.Str.{chars-nil}
 use Rattle.std.specs.List.{All}
@@ -6,12 +6,11 @@ use Rattle.std.specs.Str.{chars}
 use Rattle.gabc_places.specs.Place.{place_past}
 use Rattle.gabc_places.specs.TextOfAnInput.{IsPlain}
 use Rattle.gabc_places.specs.declared.place.Place.{Place}
-use Rattle.gabc_score.specs.GivesSyllables.{GivesSyllables, Runs}
-use Rattle.gabc_score.specs.Syllable.{PlacedSyllable, UnplacedSyllable}
+use Rattle.gabc_score.specs.GivesSyllables.{GivesSyllables}
 use Rattle.gabc_score.specs.witness.ScoreStage.{ScoreStageState}
 use Rattle.gabc_score.specs.machine.Gatherer.{Gathered}
-use Rattle.gabc_score.specs.machine.Run.{IsFound, IsSamePair, StandsBetween, RunsTo, RunsMore}
-use Rattle.gabc_score.specs.machine.ScoreMachine.{shown, IsScore}
+use Rattle.gabc_score.specs.machine.Run.{IsSamePair}
+use Rattle.gabc_score.specs.machine.ScoreMachine.{shown}
 use Rattle.gabc_score.specs.machine.SlotPair.{is_made}
 use Rattle.gabc_score.proofs.runs.FoundSyllable.{utf8_is}
 use Rattle.gabc_score.proofs.runs.LastIsHeld.{GoesBefore}
@@ -93,7 +92,7 @@ read_all-requires-clause-rests g c =
     let m = c.args.self.now in
     let same : IsSamePair m c.give_held.new.self = record { gathered = c.give_held.ensures.same.gathered ∙ c.free.ensures.gathered; is = c.give_held.ensures.same.is } in
     let begun = run_to_first m c.args.at c.args.text.now c.in-Some.first (c.is_between.ensures c.if-not-is_between.false) c.nabc_lines-lines.result c.nabc_lines-lines.ensures c.in-Some.ensures.found
-        c.in-Some.ensures.at c.in-Some.ensures.text (c.is_low.ensures.line c.if-not-is_low.false) (c.is_low.ensures.column c.if-not-is_low.false) c.give_held.new.self same (ap is_made c.give_held.ensures.used) in
+    c.in-Some.ensures.at c.in-Some.ensures.text (c.is_low.ensures.line c.if-not-is_low.false) (c.is_low.ensures.column c.if-not-is_low.false) c.give_held.new.self same (ap is_made c.give_held.ensures.used) in
     let on = c.give_on-reached.ensures c.args.at c.args.text.now _ begun in
     let goes : GoesBefore c.give_held.new.self c.give_on-reached.result.before c.give_on-reached.result.last c.go_before.new.self = record {
       gathered = c.go_before.ensures.gathered;
@@ -110,7 +109,7 @@ read_all-requires-clause-line g c =
     let m = c.args.self.now in
     let same : IsSamePair m c.give_held.new.self = record { gathered = c.give_held.ensures.same.gathered ∙ c.free.ensures.gathered; is = c.give_held.ensures.same.is } in
     let begun = run_to_first m c.args.at c.args.text.now c.in-Some.first (c.is_between.ensures c.if-not-is_between.false) c.nabc_lines-lines.result c.nabc_lines-lines.ensures c.in-Some.ensures.found
-        c.in-Some.ensures.at c.in-Some.ensures.text (c.is_low.ensures.line c.if-not-is_low.false) (c.is_low.ensures.column c.if-not-is_low.false) c.give_held.new.self same (ap is_made c.give_held.ensures.used) in
+    c.in-Some.ensures.at c.in-Some.ensures.text (c.is_low.ensures.line c.if-not-is_low.false) (c.is_low.ensures.column c.if-not-is_low.false) c.give_held.new.self same (ap is_made c.give_held.ensures.used) in
     let on = c.give_on-reached.ensures c.args.at c.args.text.now _ begun in
     let l = (low c.give_held.new.self c.args.at c.args.text.now _ c.give_on-reached.result on.runs).0 in
     omega (arith, l)
@@ -120,7 +119,7 @@ read_all-requires-clause-column g c =
     let m = c.args.self.now in
     let same : IsSamePair m c.give_held.new.self = record { gathered = c.give_held.ensures.same.gathered ∙ c.free.ensures.gathered; is = c.give_held.ensures.same.is } in
     let begun = run_to_first m c.args.at c.args.text.now c.in-Some.first (c.is_between.ensures c.if-not-is_between.false) c.nabc_lines-lines.result c.nabc_lines-lines.ensures c.in-Some.ensures.found
-        c.in-Some.ensures.at c.in-Some.ensures.text (c.is_low.ensures.line c.if-not-is_low.false) (c.is_low.ensures.column c.if-not-is_low.false) c.give_held.new.self same (ap is_made c.give_held.ensures.used) in
+    c.in-Some.ensures.at c.in-Some.ensures.text (c.is_low.ensures.line c.if-not-is_low.false) (c.is_low.ensures.column c.if-not-is_low.false) c.give_held.new.self same (ap is_made c.give_held.ensures.used) in
     let on = c.give_on-reached.ensures c.args.at c.args.text.now _ begun in
     let l = (low c.give_held.new.self c.args.at c.args.text.now _ c.give_on-reached.result on.runs).1 in
     omega (arith, l)
@@ -130,7 +129,7 @@ overflow_sub-result g c =
     let m = c.args.self.now in
     let same : IsSamePair m c.give_held.new.self = record { gathered = c.give_held.ensures.same.gathered ∙ c.free.ensures.gathered; is = c.give_held.ensures.same.is } in
     let begun = run_to_first m c.args.at c.args.text.now c.in-Some.first (c.is_between.ensures c.if-not-is_between.false) c.nabc_lines-lines.result c.nabc_lines-lines.ensures c.in-Some.ensures.found
-        c.in-Some.ensures.at c.in-Some.ensures.text (c.is_low.ensures.line c.if-not-is_low.false) (c.is_low.ensures.column c.if-not-is_low.false) c.give_held.new.self same (ap is_made c.give_held.ensures.used) in
+    c.in-Some.ensures.at c.in-Some.ensures.text (c.is_low.ensures.line c.if-not-is_low.false) (c.is_low.ensures.column c.if-not-is_low.false) c.give_held.new.self same (ap is_made c.give_held.ensures.used) in
     let on = c.give_on-reached.ensures c.args.at c.args.text.now _ begun in
     rest_within c.give_held.new.self c.args.at c.args.text.now _ c.give_on-reached.result on.runs
 
@@ -139,7 +138,7 @@ returns-clause-within g c =
     let m = c.args.self.now in
     let same : IsSamePair m c.give_held.new.self = record { gathered = c.give_held.ensures.same.gathered ∙ c.free.ensures.gathered; is = c.give_held.ensures.same.is } in
     let begun = run_to_first m c.args.at c.args.text.now c.in-Some.first (c.is_between.ensures c.if-not-is_between.false) c.nabc_lines-lines.result c.nabc_lines-lines.ensures c.in-Some.ensures.found
-        c.in-Some.ensures.at c.in-Some.ensures.text (c.is_low.ensures.line c.if-not-is_low.false) (c.is_low.ensures.column c.if-not-is_low.false) c.give_held.new.self same (ap is_made c.give_held.ensures.used) in
+    c.in-Some.ensures.at c.in-Some.ensures.text (c.is_low.ensures.line c.if-not-is_low.false) (c.is_low.ensures.column c.if-not-is_low.false) c.give_held.new.self same (ap is_made c.give_held.ensures.used) in
     let on = c.give_on-reached.ensures c.args.at c.args.text.now _ begun in
     within_is c.give_held.new.self c.args.at c.args.text.now _ c.give_on-reached.result on.runs c.utf8.text
 
@@ -148,7 +147,7 @@ returns-clause-plain g c =
     let m = c.args.self.now in
     let same : IsSamePair m c.give_held.new.self = record { gathered = c.give_held.ensures.same.gathered ∙ c.free.ensures.gathered; is = c.give_held.ensures.same.is } in
     let begun = run_to_first m c.args.at c.args.text.now c.in-Some.first (c.is_between.ensures c.if-not-is_between.false) c.nabc_lines-lines.result c.nabc_lines-lines.ensures c.in-Some.ensures.found
-        c.in-Some.ensures.at c.in-Some.ensures.text (c.is_low.ensures.line c.if-not-is_low.false) (c.is_low.ensures.column c.if-not-is_low.false) c.give_held.new.self same (ap is_made c.give_held.ensures.used) in
+    c.in-Some.ensures.at c.in-Some.ensures.text (c.is_low.ensures.line c.if-not-is_low.false) (c.is_low.ensures.column c.if-not-is_low.false) c.give_held.new.self same (ap is_made c.give_held.ensures.used) in
     let on = c.give_on-reached.ensures c.args.at c.args.text.now _ begun in
     plain_there c.give_held.new.self c.args.at c.args.text.now _ c.give_on-reached.result on.runs
 
@@ -157,7 +156,7 @@ returns-clause-next g c =
     let m = c.args.self.now in
     let same : IsSamePair m c.give_held.new.self = record { gathered = c.give_held.ensures.same.gathered ∙ c.free.ensures.gathered; is = c.give_held.ensures.same.is } in
     let begun = run_to_first m c.args.at c.args.text.now c.in-Some.first (c.is_between.ensures c.if-not-is_between.false) c.nabc_lines-lines.result c.nabc_lines-lines.ensures c.in-Some.ensures.found
-        c.in-Some.ensures.at c.in-Some.ensures.text (c.is_low.ensures.line c.if-not-is_low.false) (c.is_low.ensures.column c.if-not-is_low.false) c.give_held.new.self same (ap is_made c.give_held.ensures.used) in
+    c.in-Some.ensures.at c.in-Some.ensures.text (c.is_low.ensures.line c.if-not-is_low.false) (c.is_low.ensures.column c.if-not-is_low.false) c.give_held.new.self same (ap is_made c.give_held.ensures.used) in
     let on = c.give_on-reached.ensures c.args.at c.args.text.now _ begun in
     next_there c.give_held.new.self c.args.at c.args.text.now _ c.give_on-reached.result on.runs
 
@@ -166,7 +165,7 @@ returns-clause-runs g c =
     let m = c.args.self.now in
     let same : IsSamePair m c.give_held.new.self = record { gathered = c.give_held.ensures.same.gathered ∙ c.free.ensures.gathered; is = c.give_held.ensures.same.is } in
     let begun = run_to_first m c.args.at c.args.text.now c.in-Some.first (c.is_between.ensures c.if-not-is_between.false) c.nabc_lines-lines.result c.nabc_lines-lines.ensures c.in-Some.ensures.found
-        c.in-Some.ensures.at c.in-Some.ensures.text (c.is_low.ensures.line c.if-not-is_low.false) (c.is_low.ensures.column c.if-not-is_low.false) c.give_held.new.self same (ap is_made c.give_held.ensures.used) in
+    c.in-Some.ensures.at c.in-Some.ensures.text (c.is_low.ensures.line c.if-not-is_low.false) (c.is_low.ensures.column c.if-not-is_low.false) c.give_held.new.self same (ap is_made c.give_held.ensures.used) in
     let on = c.give_on-reached.ensures c.args.at c.args.text.now _ begun in
     let goes : GoesBefore c.give_held.new.self c.give_on-reached.result.before c.give_on-reached.result.last c.go_before.new.self = record {
       gathered = c.go_before.ensures.gathered;
@@ -179,13 +178,13 @@ returns-clause-runs g c =
     let good = c.read_all.ensures.alone ∙ alone_on c.give_held.new.self c.args.at c.args.text.now _ c.give_on-reached.result on.runs c.a_regular_syllable_goes_through.ensures c.go_before.new.self goes in
     let held = held_of m.pair.gathered.made (c.is_between.ensures c.if-not-is_between.false).one in
     let first =
-        c.give_held.ensures.given c.if-not-give_held.false held.0 (ap (λ (h : Gathered). h.made) c.free.ensures.gathered ∙ held.1)
-        ∙ ap (λ b. g.G.Give.given c.args.out.now (placed_first m held.0 b ∷ [])) c.starts_word.ensures
+    c.give_held.ensures.given c.if-not-give_held.false held.0 (ap (λ (h : Gathered). h.made) c.free.ensures.gathered ∙ held.1)
+    ∙ ap (λ b. g.G.Give.given c.args.out.now (placed_first m held.0 b ∷ [])) c.starts_word.ensures
     in
     record {
       syllables = _;
       gives = gives_after c.give_held.new.self c.args.at c.args.text.now _ c.give_on-reached.result on.runs c.a_regular_syllable_goes_through.ensures c.go_before.new.self goes
-    c.read_all.new.self (c.read_all.ensures.goes good) c.read_all.ensures.rests (c.read_all.ensures.texts good) c.begin_text.new.self c.begin_text.ensures.text c.begin_text.ensures.counts c.begin_text.ensures.keeps m same;
+          c.read_all.new.self (c.read_all.ensures.goes good) c.read_all.ensures.rests (c.read_all.ensures.texts good) c.begin_text.new.self c.begin_text.ensures.text c.begin_text.ensures.counts c.begin_text.ensures.keeps m same;
       taken = on.taken ∙ ap (λ s. g.G.Give.given s on.more) first ∙ g.met.G.Give.given_both c.args.out.now (placed_first m held.0 (nat_lt 0 c.in-Some.first.gap) ∷ []) on.more;
     }
 
@@ -194,7 +193,7 @@ returns-clause-rests g c =
     let m = c.args.self.now in
     let same : IsSamePair m c.give_held.new.self = record { gathered = c.give_held.ensures.same.gathered ∙ c.free.ensures.gathered; is = c.give_held.ensures.same.is } in
     let begun = run_to_first m c.args.at c.args.text.now c.in-Some.first (c.is_between.ensures c.if-not-is_between.false) c.nabc_lines-lines.result c.nabc_lines-lines.ensures c.in-Some.ensures.found
-        c.in-Some.ensures.at c.in-Some.ensures.text (c.is_low.ensures.line c.if-not-is_low.false) (c.is_low.ensures.column c.if-not-is_low.false) c.give_held.new.self same (ap is_made c.give_held.ensures.used) in
+    c.in-Some.ensures.at c.in-Some.ensures.text (c.is_low.ensures.line c.if-not-is_low.false) (c.is_low.ensures.column c.if-not-is_low.false) c.give_held.new.self same (ap is_made c.give_held.ensures.used) in
     let on = c.give_on-reached.ensures c.args.at c.args.text.now _ begun in
     let goes : GoesBefore c.give_held.new.self c.give_on-reached.result.before c.give_on-reached.result.last c.go_before.new.self = record {
       gathered = c.go_before.ensures.gathered;
