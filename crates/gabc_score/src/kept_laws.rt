@@ -20,7 +20,6 @@ fn laws_of_stages()
     gabc_text::laws::an_opener_may_stand_anywhere();
     gabc_text::laws::a_kept_character_is_kept_again();
     gabc_text::laws::what_is_open_follows_from_the_kept_text();
-    gabc_text::laws::an_opener_is_where_a_text_is_cut();
     gabc_text::laws::events_need_nothing_behind();
     gabc_notes::laws::a_stage_takes_each_character();
     gabc_notes::laws::an_opener_may_stand_anywhere();

@@ -60,6 +60,7 @@ impl ScoreMachine {
         ensures same { self.new.part ≡ ScorePart.Body → IsSameBut self.old self.new }
         ensures again { TakesAgain self.old c openers self.new }
     {
+        gabc_text::laws::what_is_open_stays_open_elsewhere();
         let ScorePart::Body = self.part else {
             return;
         };
@@ -130,6 +131,7 @@ impl ScoreMachine {
             (result ≡ true) × TellsOfReading (shown self.new) kept.now openers in_comment }
     {
         gabc_text::laws::what_is_open_follows_from_the_kept_text();
+        gabc_text::laws::what_is_open_stays_open_elsewhere();
         gabc_text::laws::a_kept_character_is_kept_again();
         gabc_notes::laws::a_kept_character_is_kept_again();
         let ScorePart::Body = self.part else {

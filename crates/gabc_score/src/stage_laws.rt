@@ -99,6 +99,7 @@ pub fn a_stage_may_stand(stage: &ScoreStage)
 pub fn what_is_told_is_within_the_limits()
     ensures { (s : ScoreStageState) → MayStand s → is_some (before_of s) ≡ true → IsToldWithin s }
 {
+    gabc_text::laws::what_is_open_follows_from_the_kept_text();
     gabc_notes::laws::an_opener_is_told_inside_raw();
 }
 
@@ -126,6 +127,7 @@ pub fn what_is_told_may_move(stage: &mut ScoreStage, at: Place)
     requires place { IsPlace at }
     ensures { TellsOfText stage.old → TellsOfText stage.new }
 {
+    gabc_text::laws::what_is_open_stays_open_elsewhere();
     stage.go_to(at);
 }
 

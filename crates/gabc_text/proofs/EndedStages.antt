@@ -6,33 +6,15 @@ use Rattle.gabc_text.specs.declared.token_state.Step.{Step}
 use Rattle.gabc_text.specs.declared.token_state.Step.TheVariants.{Stays, Ends}
 use Rattle.gabc_text.specs.declared.token_state.TokenState.{TokenState}
 use Rattle.gabc_text.specs.declared.token_state.TokenState.TheVariants.{Plain, Dollar, Comment, Tag, Raw, Translation}
-use Rattle.gabc_text.specs.StageTells.{EndedInPlace, is_open, is_comment}
-use Rattle.gabc_text.specs.machine.TextStage.{settle_stage, settle_stage_by, end_stage, stage_past_char, stage_after_step, read_stage, settled_push_stage, push_stage, finish_stage, finish_stage_by}
+use Rattle.gabc_text.specs.StageTells.{EndedInPlace}
+use Rattle.gabc_text.specs.declared.token.TagEffect.TheVariants.{Other}
+use Rattle.gabc_text.specs.machine.TextStage.{token_stage, settle_stage, settle_stage_by, end_stage, stage_past_char, stage_after_step, read_stage, settled_push_stage, push_stage, finish_stage, finish_stage_by}
+use Rattle.gabc_text.proofs.resuming.ToldByEvents.{opener_over, comment_over}
 use Rattle.gabc_text.specs.machine.TokenState.{settled_kind, next_step, kind_at_end, is_plain}
 
--- a stage between tokens that ends
-plain_ends : (t u : TextStage) → is_plain u.state ≡ true → u.progress.next ≡ t.progress.next → EndedInPlace t (end_stage u)
-plain_ends t u p n = record {
-  opener = ap (λ (b : Bool). cond b (Some u.progress.place) None) (closed u.state p);
-  comment = silent u.state p;
-  next = n;
-}
-  where
-    closed : (s : TokenState) → is_plain s ≡ true → is_open s ≡ false
-    closed Plain e = refl
-    closed Dollar e = absurd (cc)
-    closed Comment e = absurd (cc)
-    closed (Tag name) e = absurd (cc)
-    closed (Raw part m) e = absurd (cc)
-    closed Translation e = absurd (cc)
-
-    silent : (s : TokenState) → is_plain s ≡ true → is_comment s ≡ false
-    silent Plain e = refl
-    silent Dollar e = absurd (cc)
-    silent Comment e = absurd (cc)
-    silent (Tag name) e = absurd (cc)
-    silent (Raw part m) e = absurd (cc)
-    silent Translation e = absurd (cc)
+-- a stage that ends
+ends_there : (t u : TextStage) → u.progress.next ≡ t.progress.next → EndedInPlace t (end_stage u)
+ends_there t u n = record { opener = opener_over (end_stage u) refl; comment = comment_over (end_stage u) refl; next = n }
 
 -- a token that ends leaves a stage running, and where it stood
 settled_runs : (t : TextStage) (o : Option TokenKind) → ((settle_stage_by t o).done ≡ t.done) × ((settle_stage_by t o).progress.next ≡ t.progress.next)
@@ -48,14 +30,10 @@ step_runs t (Ends k s) = refl
 settled_ends : (t u next : TextStage) (c : ℕ) → u.done ≡ false → u.progress.next ≡ t.progress.next → next ≡ settled_push_stage u c → next.done ≡ true → EndedInPlace t next
 settled_ends t u next c runs place is d = go (c == 40 && is_plain u.state) refl
   where
-    plain : (b : Bool) → (b && is_plain u.state) ≡ true → is_plain u.state ≡ true
-    plain true e = e
-    plain false e = absurd (cc)
-
     go : (b : Bool) → (c == 40 && is_plain u.state) ≡ b → EndedInPlace t next
     go true e =
         subst (EndedInPlace t) (sym (is ∙ ap (λ (b : Bool). cond b (end_stage u) (read_stage u c)) e))
-        (plain_ends t u (plain (c == 40) e) place)
+        (ends_there t u place)
     go false e =
         let f = ap (λ (s : TextStage). s.done) (is ∙ ap (λ (b : Bool). cond b (end_stage u) (read_stage u c)) e) in
         let g = step_runs (stage_past_char u c) (next_step u.state c) in
@@ -69,19 +47,11 @@ push_ended t next c n r d =
 
 -- at the end of the characters
 pub finish_ended : (t next : TextStage) → next ≡ finish_stage t → t.done ≡ false → EndedInPlace t next
-finish_ended t next n r = subst (EndedInPlace t) (sym (n ∙ ap (λ (b : Bool). cond b t (finish_stage_by t (kind_at_end t.state))) r)) (go (kind_at_end t.state) refl)
+finish_ended t next n r = subst (EndedInPlace t) (sym (n ∙ ap (λ (b : Bool). cond b t (finish_stage_by t (kind_at_end t.state))) r)) (go (kind_at_end t.state))
   where
-    between : (s : TokenState) → kind_at_end s ≡ None → is_plain s ≡ true
-    between Plain e = refl
-    between Dollar e = absurd (cc)
-    between Comment e = absurd (cc)
-    between (Tag name) e = absurd (cc)
-    between (Raw part m) e = absurd (cc)
-    between Translation e = absurd (cc)
-
-    go : (o : Option TokenKind) → kind_at_end t.state ≡ o → EndedInPlace t (finish_stage_by t o)
-    go None e = plain_ends t t (between t.state e) refl
-    go (Some k) e = record { opener = refl; comment = refl; next = refl }
+    go : (o : Option TokenKind) → EndedInPlace t (finish_stage_by t o)
+    go None = ends_there t t refl
+    go (Some k) = ends_there t (token_stage t k Other t.progress.next) refl
 
 -- a stage that has ended stays as it is
 pub push_stays : (t next : TextStage) (c : ℕ) → next ≡ push_stage t c → t.done ≡ true → next ≡ t

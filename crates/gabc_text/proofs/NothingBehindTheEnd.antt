@@ -24,7 +24,8 @@ use Rattle.gabc_text.specs.declared.token.TokenKind.{TokenKind}
 use Rattle.gabc_text.specs.declared.token.TokenKind.TheVariants as kind
 use Rattle.gabc_text.specs.declared.token_state.TokenState.{TokenState}
 use Rattle.gabc_text.specs.declared.token_state.TokenState.TheVariants as state
-use Rattle.gabc_text.specs.StageTells.{is_open, is_comment, opener_of, is_in_comment, cut_place}
+use Rattle.gabc_text.specs.StageTells.{is_open, opener_of, begins_silently, is_in_comment, cut_place}
+use Rattle.gabc_text.specs.machine.StageTells.{is_comment, opener_in, comment_in}
 use Rattle.gabc_text.specs.declared.token.TagEffect.{TagEffect}
 use Rattle.gabc_text.specs.declared.token.TagEffect.TheVariants.{Other}
 use Rattle.gabc_text.specs.ExampleTexts.{stands_for}
@@ -191,12 +192,12 @@ end_cuts facts progress h =
     go text_ending.Finished = refl
     go (text_ending.Cut p) = refl
 
--- the opener of a stage is the place at which its text would be cut
-pub opener_cuts : (t : TextStage) → t.done ≡ false → opener_of t ≡ cut_place (concat_of (events_left t []))
-opener_cuts t r =
-    sym (ap (λ (l : List (List TextEvent)). cut_place (concat_of l)) (rest_is t [])
+-- the place at which the text of a stage would be cut is that of its opener
+pub opener_told : (t : TextStage) → t.done ≡ false → opener_of t ≡ opener_in t
+opener_told t r =
+    ap (λ (l : List (List TextEvent)). cut_place (concat_of l)) (rest_is t [])
     ∙ (ap cut_place (append-nil (events_of_finish t))
-    ∙ (ap (λ (b : Bool). cut_place (cond b [] (events_of_finish_by t (kind_at_end t.state)))) r ∙ at_state t.state t.facts t.progress)))
+    ∙ (ap (λ (b : Bool). cut_place (cond b [] (events_of_finish_by t (kind_at_end t.state)))) r ∙ at_state t.state t.facts t.progress))
   where
     ended : (k : TokenKind) (facts : TextFacts) (progress : Progress)
         → cut_place (events_of_token facts progress k Other progress.start ++ events_of_end (facts_after facts k Other) (progress_after facts progress k Other progress.next) (end_by k progress.place))
@@ -236,14 +237,50 @@ silent_at (state.Tag name) facts progress = (λ e. absurd (cc), λ e. absurd (cc
 silent_at (state.Raw raw m) facts progress = (λ e. absurd (cc), λ e. absurd (cc))
 silent_at state.Translation facts progress = (λ e. absurd (cc), λ e. absurd (cc))
 
+-- what is emitted first is not nothing
+sounds : (events : List TextEvent) (later : List (List TextEvent)) → (events ≡ [] → ⊥) → begins_silently (events ∷ later) ≡ false
+sounds [] later some = absurd (some refl)
+sounds (x ∷ events) later some = refl
+
+-- a comment emits something with the end
+sounds_last : (events : List TextEvent) → EndsLast events → begins_silently ([] ∷ events ∷ []) ≡ true
+sounds_last events l = ap (λ (e : List TextEvent). begins_silently ([] ∷ e ∷ [])) l.events_are ∙ go l.before
+  where
+    go : (before : List TextEvent) → begins_silently ([] ∷ (before ++ l.last ∷ []) ∷ []) ≡ true
+    go [] = refl
+    go (x ∷ before) = refl
+
+-- a stage that goes on emits nothing with a `(` just in a comment
+pub comment_told : (t : TextStage) → t.done ≡ false → is_in_comment t ≡ comment_in t
+comment_told t r =
+    ap begins_silently (rest_is t (40 ∷ []))
+    ∙ (ap (λ (b : Bool). begins_silently (stepwise (record t { done = b }) (40 ∷ []))) r ∙ at_state t.state t.facts t.progress)
+  where
+    other : (s : TokenState) (facts : TextFacts) (progress : Progress) → (is_comment s ≡ true → ⊥) → begins_silently (stepwise (running s facts progress) (40 ∷ [])) ≡ false
+    other s facts progress apart =
+        sounds (events_of_push (running s facts progress) 40) (stepwise (push_stage (running s facts progress) 40) [])
+        (λ e. apart ((silent_at s facts progress).1 e))
+
+    at_state : (s : TokenState) (facts : TextFacts) (progress : Progress) → begins_silently (stepwise (running s facts progress) (40 ∷ [])) ≡ is_comment s
+    at_state state.Plain facts progress = other state.Plain facts progress (λ e. cc)
+    at_state state.Dollar facts progress = other state.Dollar facts progress (λ e. cc)
+    at_state state.Comment facts progress =
+        let u : TextStage = push_stage (running state.Comment facts progress) 40 in
+        sounds_last (events_of_finish u)
+        (behind _ _ (token_endless u.facts u.progress kind.Comment Other u.progress.start)
+        (end_last (facts_after u.facts kind.Comment Other) (progress_after u.facts u.progress kind.Comment Other u.progress.next) (end_by kind.Comment u.progress.place)))
+    at_state (state.Tag name) facts progress = other (state.Tag name) facts progress (λ e. cc)
+    at_state (state.Raw raw m) facts progress = other (state.Raw raw m) facts progress (λ e. cc)
+    at_state state.Translation facts progress = other state.Translation facts progress (λ e. cc)
+
 pub comment_silences : (t : TextStage) → t.done ≡ false → Decides (is_in_comment t) ((later : List (List TextEvent)) × (events_left t (40 ∷ []) ≡ [] ∷ later))
 comment_silences t r =
     let same : t ≡ running t.state t.facts t.progress = ap (λ (b : Bool). record t { done = b }) r in
     let d = silent_at t.state t.facts t.progress in
     let push : events_of_push t 40 ≡ events_of_push (running t.state t.facts t.progress) 40 = ap (λ (u : TextStage). events_of_push u 40) same in
     let all : events_left t (40 ∷ []) ≡ events_of_push t 40 ∷ stepwise (push_stage t 40) [] = rest_is t (40 ∷ []) in (
-      λ e. (stepwise (push_stage t 40) [], all ∙ ap (λ (l : List TextEvent). l ∷ stepwise (push_stage t 40) []) (push ∙ d.0 e)),
-      λ h. d.1 (sym push ∙ first_is (events_of_push t 40) (stepwise (push_stage t 40) []) h.0 (sym all ∙ h.1)),
+      λ e. (stepwise (push_stage t 40) [], all ∙ ap (λ (l : List TextEvent). l ∷ stepwise (push_stage t 40) []) (push ∙ d.0 (sym (comment_told t r) ∙ e))),
+      λ h. comment_told t r ∙ d.1 (sym push ∙ first_is (events_of_push t 40) (stepwise (push_stage t 40) []) h.0 (sym all ∙ h.1)),
     )
   where
     first_is : (a : List TextEvent) (b c : List (List TextEvent)) → a ∷ b ≡ [] ∷ c → a ≡ []

@@ -6,5 +6,6 @@ pub mod PlacesAside
 pub mod ReachedStages
 pub mod StagesKeep
 pub mod StagesTake
+pub mod ToldByEvents
 pub mod ToldSuffices
 pub mod WhatStagesTell

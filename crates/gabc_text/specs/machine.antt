@@ -4,6 +4,7 @@ pub mod PrintedPieces
 pub mod RawPart
 pub mod RegularBytes
 pub mod Runs
+pub mod StageTells
 pub mod TagPrefix
 pub mod TextFacts
 pub mod TextStage

@@ -34,12 +34,11 @@ pub use crate::tags::tag_names_are_these;
 use crate::text_event::{TextEnd, TextEvent};
 use gabc_places::{Char, Place, Room, Stage, drive};
 
-/// The opener that a stage reports is the place at which its text would be cut if it ended here: of a stage that has read the text `t`, the
-/// place at which the definition says that `t` is cut, so that of its last token, if that is a tag, a raw part or a translation without an end.
+/// The opener that a stage reports, of which the text `t` was read, is the place at which the
+/// definition says that `t` is cut: that of its last token, if that is a tag, a raw part or a
+/// translation without an end.
 pub fn an_opener_is_where_a_text_is_cut()
-    ensures stage { (s : TextStage) → s.done ≡ false →
-        opener_of s ≡ cut_place (concat_of (events_left s [])) }
-    ensures text { (at : Place) (t : List ℕ) (s : TextStage) (emitted : List (List TextEvent)) →
+    ensures { (at : Place) (t : List ℕ) (s : TextStage) (emitted : List (List TextEvent)) →
         CountsFit at t → s.done ≡ false → length emitted ≡ length t →
         ((more : List ℕ) → events_left (fresh_stage at) (t ++ more) ≡ emitted ++ events_left s more) →
         opener_of s ≡ cut_place (concat_of (drop (length t) (events_by_point at t))) }
@@ -264,6 +263,14 @@ pub fn a_kept_character_is_kept_again()
 pub fn a_stage_takes_each_character()
     ensures fresh { (at : Place) → Keeps (fresh_stage at) [] }
     ensures takes { (s : TextStage) (c : ℕ) → s.done ≡ false → Takes s c }
+{}
+
+/// Law: where the next character is said to stand elsewhere, what is open stays open, at the same
+/// place.
+pub fn what_is_open_stays_open_elsewhere()
+    ensures opener { (s : TextStage) (at : Place) → opener_of (moved_to at s) ≡ opener_of s }
+    ensures comment { (s : TextStage) (at : Place) →
+        is_in_comment (moved_to at s) ≡ is_in_comment s }
 {}
 
 /// Law: the opener of a stage may stand at any place, and the stage keeps the same text.

@@ -2,31 +2,46 @@
 
 ghost use Rattle.std.specs.Prelude.{◌≡◌, ℕ, List};
 ghost use Rattle.gabc_text.specs.witness.Keeps.{Keeps};
-ghost use Rattle.gabc_text.specs.StageTells.{opener_of, is_in_comment, next_of, moved_to};
+ghost use Rattle.gabc_text.specs.StageTells.{is_open, opener_of, is_in_comment, next_of, moved_to};
 
 use crate::stage::TextStage;
 use crate::token_state::TokenState;
 use gabc_places::Place;
 
 impl TextStage {
-    /// Returns the place of the opener, if there is one: the `<` or `[` of a tag, a raw part or a translation that has not ended.
-    pub fn opener(&self) -> Option<Place>
-        ensures { result ≡ opener_of self.now }
+    /// Whether it stands in a tag, a raw part or a translation, or ended there.
+    fn is_open(&self) -> bool
+        ensures { result ≡ is_open self.now.state }
     {
         match self.state {
-            TokenState::Tag(_) | TokenState::Raw { .. } | TokenState::Translation => {
-                Some(self.progress.place)
-            }
-            TokenState::Plain | TokenState::Dollar | TokenState::Comment => None,
+            TokenState::Tag(_) | TokenState::Raw { .. } | TokenState::Translation => true,
+            TokenState::Plain | TokenState::Dollar | TokenState::Comment => false,
         }
     }
 
-    /// Returns whether a comment is open.
+    /// Returns the place of the opener, if there is one: the `<` or `[` of a tag, a raw part or a
+    /// translation that has not ended. It is the place at which the text is cut if it ends here;
+    /// which one this is in the text that was read, says the law
+    /// `an_opener_is_where_a_text_is_cut`.
+    pub fn opener(&self) -> Option<Place>
+        ensures { result ≡ opener_of self.now }
+    {
+        if self.is_done() {
+            None
+        } else if self.is_open() {
+            Some(self.progress.place)
+        } else {
+            None
+        }
+    }
+
+    /// Returns whether a comment is open: whether with a `(` nothing would be emitted, and something
+    /// with the end after it.
     pub fn in_comment(&self) -> bool
         ensures { result ≡ is_in_comment self.now }
     {
         match self.state {
-            TokenState::Comment => true,
+            TokenState::Comment => !self.is_done(),
             _ => false,
         }
     }
@@ -44,7 +59,7 @@ impl TextStage {
         ensures opener { opener_of self.new ≡ opener_of self.old }
         ensures keeps { (k : List ℕ) → Keeps self.old k → Keeps self.new k }
     {
-        if self.opener().is_none() {
+        if !self.is_open() {
             self.progress.place = place;
         }
         self.progress.next = place;

@@ -123,8 +123,7 @@ module _ (laws : Ends) (lines macros : ℕ) where
   cut_is (part.Text s) (in_text k) keeps front next o =
       ap (λ (c : Option Place). is_other c None)
       (text_cut_of (first_list (text_rest.events_left s []))
-      ∙ ap text_tells.cut_place (sym (one_list (text_rest.events_left s []) (laws.text_each s [])))
-      ∙ sym (laws.text_cut s keeps.goes_on))
+      ∙ ap text_tells.cut_place (sym (one_list (text_rest.events_left s []) (laws.text_each s []))))
       ∙ other_none (text_tells.opener_of s)
   cut_is (part.Text s) (in_notes u earlier k) keeps front next o = absurd keeps
   cut_is (part.Notes opened s) (in_text k) keeps front next o = absurd keeps

@@ -31,21 +31,22 @@ use Rattle.gabc_score.proofs.resuming.ScoresAgree.{reads_in_body}
 
 -- ---- a part whose next character stands elsewhere
 
-openers_moved : (at : Place) (b : BodyPart) → openers_of (moved_part at b) ≡ openers_of b
-openers_moved at part.Comment = refl
-openers_moved at (part.Text s) = ap (λ (x : Option Place). record { notes = None; inner = x }) (by (text_tells.is_open s.state) s.progress.place)
-  where
-    by : (is_open : Bool) (p : Place) → (if is_open then Some (if is_open then p else at) else None) ≡ (if is_open then Some p else None)
-    by true p = refl
-    by false p = refl
-openers_moved at (part.Notes o s) = refl
-openers_moved at (part.Nabc l o s) = refl
+-- what is open in a text stays open
+pub record TextStays : Type 0 where
+  pub opener : (s : TextStage) (at : Place) → text_tells.opener_of (text_tells.moved_to at s) ≡ text_tells.opener_of s
+  pub comment : (s : TextStage) (at : Place) → text_tells.is_in_comment (text_tells.moved_to at s) ≡ text_tells.is_in_comment s
 
-comment_moved : (at : Place) (b : BodyPart) → is_in_comment (moved_part at b) ≡ is_in_comment b
-comment_moved at part.Comment = refl
-comment_moved at (part.Text s) = refl
-comment_moved at (part.Notes o s) = refl
-comment_moved at (part.Nabc l o s) = refl
+openers_moved : TextStays → (at : Place) (b : BodyPart) → openers_of (moved_part at b) ≡ openers_of b
+openers_moved stays at part.Comment = refl
+openers_moved stays at (part.Text s) = ap (λ (x : Option Place). record { notes = None; inner = x }) (stays.opener s at)
+openers_moved stays at (part.Notes o s) = refl
+openers_moved stays at (part.Nabc l o s) = refl
+
+comment_moved : TextStays → (at : Place) (b : BodyPart) → is_in_comment (moved_part at b) ≡ is_in_comment b
+comment_moved stays at part.Comment = refl
+comment_moved stays at (part.Text s) = stays.comment s at
+comment_moved stays at (part.Notes o s) = refl
+comment_moved stays at (part.Nabc l o s) = refl
 
 front_moved : (at : Place) (b : BodyPart) → is_in_front (moved_part at b) ≡ is_in_front b
 front_moved at part.Comment = refl
@@ -65,15 +66,15 @@ stands_moved at (part.Text s) = refl
 stands_moved at (part.Notes o s) = tt
 stands_moved at (part.Nabc l o s) = tt
 
-open_moved : (at outer inner : Place) (b : BodyPart) → OpenAt outer inner b → OpenAt outer inner (moved_part at b)
-open_moved at outer inner b h = record {
-  notes_at = λ o e. h.notes_at o (ap (λ (k : Openers). k.notes) (sym (openers_moved at b)) ∙ e);
-  inner_at = λ o e. h.inner_at o (ap (λ (k : Openers). k.inner) (sym (openers_moved at b)) ∙ e) ∙ sym (place_moved at outer inner b);
+open_moved : TextStays → (at outer inner : Place) (b : BodyPart) → OpenAt outer inner b → OpenAt outer inner (moved_part at b)
+open_moved stays at outer inner b h = record {
+  notes_at = λ o e. h.notes_at o (ap (λ (k : Openers). k.notes) (sym (openers_moved stays at b)) ∙ e);
+  inner_at = λ o e. h.inner_at o (ap (λ (k : Openers). k.inner) (sym (openers_moved stays at b)) ∙ e) ∙ sym (place_moved at outer inner b);
 }
 
 -- ---- a character
 
-module _ (m : ScoreMachine) (openers : Openers) (c : ℕ) (place : Place) (n : ScoreMachine) where
+module _ (stays : TextStays) (m : ScoreMachine) (openers : Openers) (c : ℕ) (place : Place) (n : ScoreMachine) where
   abbrev there : BodyStageState → ScoreMachine
   there b = record m { next = place; body = b }
 
@@ -96,20 +97,20 @@ module _ (m : ScoreMachine) (openers : Openers) (c : ℕ) (place : Place) (n : S
         kept_is = g.kept_is ∙ ap (λ (k : List ℕ). k ++ encode_utf8_all more) h.kept_is ∙ e;
         comment_is = g.comment_is;
         front = g.front;
-        opens = g.openers (outer_of openers) (inner_of openers) (at ∙ sym (place_moved place (outer_of openers) (inner_of openers) m.body.part)) (stands_moved place m.body.part) (open_moved place (outer_of openers) (inner_of openers) m.body.part h.opens);
+        opens = g.openers (outer_of openers) (inner_of openers) (at ∙ sym (place_moved place (outer_of openers) (inner_of openers) m.body.part)) (stands_moved place m.body.part) (open_moved stays place (outer_of openers) (inner_of openers) m.body.part h.opens);
       }
 
       next : (told : BodyPart) (kept done rest : List ℕ) → IsToldBy m.body.nabc_lines m.body.macros m.limits.syllable told kept → StandsSo m openers done false → kept ≡ done ++ (encode_utf8 c ++ rest)
           → StandsSo n openers (done ++ encode_utf8 c) false
       next told kept done rest t h e =
           stands_so (done ++ encode_utf8 c) done (c ∷ []) false h
-          (passes.next told kept rest t (comment_moved place m.body.part ∙ h.comment_is) (e ∙ ap (λ (k : List ℕ). k ++ (encode_utf8 c ++ rest)) (sym h.kept_is)))
+          (passes.next told kept rest t (comment_moved stays place m.body.part ∙ h.comment_is) (e ∙ ap (λ (k : List ℕ). k ++ (encode_utf8 c ++ rest)) (sym h.kept_is)))
           (ap (λ (k : List ℕ). done ++ k) (append-nil (encode_utf8 c)))
 
       comment : (told : BodyPart) (kept : List ℕ) → IsToldBy m.body.nabc_lines m.body.macros m.limits.syllable told kept → is_in_front told ≡ false → is_in_comment told ≡ true → StandsSo m openers kept false → c ≡ 37
           → StandsSo n openers kept true
       comment told kept t front is_open h e =
-          stands_so kept kept [] true h (passes.comment told kept t front is_open (comment_moved place m.body.part ∙ h.comment_is) h.kept_is e) (append-nil kept)
+          stands_so kept kept [] true h (passes.comment told kept t front is_open (comment_moved stays place m.body.part ∙ h.comment_is) h.kept_is e) (append-nil kept)
 
 -- ---- what does not change
 
@@ -189,23 +190,23 @@ module _ (text_opener : (s : TextStage) (k : List ℕ) → text.Keeps s k → is
       (text_ends : (k : List ℕ) → text.ends_behind k ≡ true → text.kept_with k 40 ≡ [])
       (gabc_kept : (split : Bool) (macros : ℕ) (s : NoteStage) (k more : List ℕ) (c : ℕ) → notes.Keeps split macros s (k ++ c ∷ more) → notes.IsKeptAgain split k c) where
     -- Behind the text it tells what is told of it.
-    pub tells_so : (m : ScoreMachine) (s : ScoreStageState) (told : BodyPart) (openers : Openers) (kept : List ℕ) (comment : Bool) (next : Place) → IsScore m → IsToldBy m.body.nabc_lines m.body.macros m.limits.syllable told kept
+    pub tells_so : TextStays → (m : ScoreMachine) (s : ScoreStageState) (told : BodyPart) (openers : Openers) (kept : List ℕ) (comment : Bool) (next : Place) → IsScore m → IsToldBy m.body.nabc_lines m.body.macros m.limits.syllable told kept
         → is_in_front told ≡ false → openers_of told ≡ openers → StandsSo m openers kept comment → s ≡ moved_to next (shown m) → TellsOfReading s kept openers comment
-    tells_so m s told openers kept comment next rests t front openers_are stands is = subst (λ (k : ScoreStageState). TellsOfReading k kept openers comment) (sym is) (record {
-      front = front_moved next m.body.part ∙ stands.front;
-      reading = reads_in_body m.part m.pair.gathered.builder.kept stands.body ∙ stands.kept_is;
+    tells_so stays m s told openers kept comment next rests t front openers_are stood is = subst (λ (k : ScoreStageState). TellsOfReading k kept openers comment) (sym is) (record {
+      front = front_moved next m.body.part ∙ stood.front;
+      reading = reads_in_body m.part m.pair.gathered.builder.kept stood.body ∙ stood.kept_is;
       openers_are =
-          openers_moved next m.body.part
-          ∙ openers_told text_opener m.body.nabc_lines m.body.macros m.body.part told t.parts (subst (PartKeeps m.body.nabc_lines m.body.macros m.body.part) same h.reading.keeps) t.keeps stands.front front
-          (subst (λ (o : Openers). OpenAt (outer_of o) (inner_of o) m.body.part) (sym openers_are) stands.opens)
+          openers_moved stays next m.body.part
+          ∙ openers_told text_opener m.body.nabc_lines m.body.macros m.body.part told t.parts (subst (PartKeeps m.body.nabc_lines m.body.macros m.body.part) same h.reading.keeps) t.keeps stood.front front
+          (subst (λ (o : Openers). OpenAt (outer_of o) (inner_of o) m.body.part) (sym openers_are) stood.opens)
           ∙ openers_are;
-      comment_is = comment_moved next m.body.part ∙ stands.comment_is;
+      comment_is = comment_moved stays next m.body.part ∙ stood.comment_is;
     })
       where
         h : IsInBody m
-        h = subst (λ (p : ScorePart). IsScoreAt p m) stands.body rests
+        h = subst (λ (p : ScorePart). IsScoreAt p m) stood.body rests
 
         same : h.reading.parts ≡ t.parts
         same =
             parts_are_one text_kept text_ends gabc_kept m.body.nabc_lines m.body.macros m.body.part told h.reading.parts t.parts h.reading.keeps t.keeps
-            (encodes_same (joined h.reading.parts) (joined t.parts) (sym h.reading.kept ∙ stands.kept_is ∙ t.is))
+            (encodes_same (joined h.reading.parts) (joined t.parts) (sym h.reading.kept ∙ stood.kept_is ∙ t.is))

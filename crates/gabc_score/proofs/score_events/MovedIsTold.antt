@@ -1,8 +1,9 @@
 -- What a stage tells is still that of a text where its next character stands there or later.
-use Rattle.std.proofs.Common.{◌≡◌, Bool, true, false, Option, Some, None, refl, sym, ap, subst, if◌then◌else◌}
+use Rattle.std.proofs.Common.{◌≡◌, Option, None, refl, sym, ap, subst}
 use Rattle.gabc_places.specs.declared.place.Place.{Place}
 use Rattle.gabc_places.specs.Findings.{IsUpTo}
 use Rattle.gabc_text.specs.StageTells as text_tells
+use Rattle.gabc_text.specs.declared.stage.TextStage.{TextStage}
 use Rattle.gabc_score.specs.declared.body_stage.BodyPart.{BodyPart}
 use Rattle.gabc_score.specs.declared.body_stage.BodyPart.TheVariants as part
 use Rattle.gabc_score.specs.ScoreTells.{moved_part, moved_to, openers_of}
@@ -10,23 +11,20 @@ use Rattle.gabc_score.specs.ToldWithin.{IsPlace, AreOpenersBefore, TellsOfText}
 use Rattle.gabc_score.specs.witness.ScoreStage.{ScoreStageState}
 use Rattle.gabc_score.proofs.score_events.OpenersInOrder.{openers_moved}
 
-openers_stay : (at : Place) (b : BodyPart) → openers_of (moved_part at b) ≡ openers_of b
-openers_stay at part.Comment = refl
-openers_stay at (part.Notes opened s) = refl
-openers_stay at (part.Nabc line opened s) = refl
-openers_stay at (part.Text s) = ap (λ (o : Option Place). record { notes = None; inner = o }) (by (text_tells.is_open s.state))
-  where
-    by : (b : Bool) → (if b then Some (if b then s.progress.place else at) else None) ≡ (if b then Some s.progress.place else None)
-    by true = refl
-    by false = refl
+module _ (text_stays : (s : TextStage) (at : Place) → text_tells.opener_of (text_tells.moved_to at s) ≡ text_tells.opener_of s) where
+  pub openers_stay : (at : Place) (b : BodyPart) → openers_of (moved_part at b) ≡ openers_of b
+  openers_stay at part.Comment = refl
+  openers_stay at (part.Notes opened s) = refl
+  openers_stay at (part.Nabc line opened s) = refl
+  openers_stay at (part.Text s) = ap (λ (o : Option Place). record { notes = None; inner = o }) (text_stays s at)
 
-pub moved_is_told : (at : Place) (s : ScoreStageState) → IsUpTo s.held.next at → IsPlace at → TellsOfText s → TellsOfText (moved_to at s)
-moved_is_told at s up is told body =
-    let t = told body in
-    record {
-      counts = t.counts;
-      next = is;
-      reading = t.reading;
-      held = t.held;
-      openers = subst (AreOpenersBefore at) (sym (openers_stay at s.body.part)) (openers_moved s.held.next at (openers_of s.body.part) up t.openers);
-    }
+  pub moved_is_told : (at : Place) (s : ScoreStageState) → IsUpTo s.held.next at → IsPlace at → TellsOfText s → TellsOfText (moved_to at s)
+  moved_is_told at s up is told body =
+      let t = told body in
+      record {
+        counts = t.counts;
+        next = is;
+        reading = t.reading;
+        held = t.held;
+        openers = subst (AreOpenersBefore at) (sym (openers_stay at s.body.part)) (openers_moved s.held.next at (openers_of s.body.part) up t.openers);
+      }

@@ -6,7 +6,9 @@ use Rattle.std.proofs.lemmas.Bool.Decides.{nat_tests}
 use Rattle.gabc_places.specs.declared.limits.Limits.{Limits}
 use Rattle.gabc_places.specs.declared.place.Place.{Place}
 use Rattle.gabc_text.specs.Canonical.{canonical_text}
-use Rattle.gabc_text.specs.StageTells.{is_comment, is_open}
+use Rattle.gabc_text.specs.StageTells as text_tells
+use Rattle.gabc_text.specs.declared.stage.TextStage.{TextStage}
+use Rattle.gabc_text.specs.witness.Keeps as text
 use Rattle.gabc_text.specs.declared.token_state.TokenState.{TokenState}
 use Rattle.gabc_text.specs.declared.token_state.TokenState.TheVariants as token_state
 use Rattle.gabc_notes.specs.Events.{in_raw}
@@ -59,29 +61,24 @@ module _ (limits : Limits) (p : Preceding) (g : Gathered) (preceded : IsPreceded
       }
   held_by (m ∷ n ∷ ms) is = absurd (subst (λ (ms : List UnplacedSyllable). length ms ≤ 1 → ⊥) (sym is) (λ l. omega (arith, l)) few)
 
--- where a comment is open in a text, nothing else is
-no_opener : (state : TokenState) (place : Place) → is_comment state ≡ true → (if is_open state then Some place else None) ≡ None
-no_opener token_state.Plain place e = refl
-no_opener token_state.Dollar place e = refl
-no_opener token_state.Comment place e = refl
-no_opener (token_state.Tag name) place e = absurd (true≢false (sym e))
-no_opener (token_state.Raw kind matched) place e = absurd (true≢false (sym e))
-no_opener token_state.Translation place e = absurd (true≢false (sym e))
-
 is_none : (o : Option Place) → is_some o ≡ false → o ≡ None
 is_none None e = refl
 is_none (Some p) e = absurd (cc e)
 
--- No comment is open inside an inner opener: a snippet of GABC has one only inside raw.
-pub no_comment_inside : ((split : Bool) (macros : ℕ) (s : NoteStage) (k : List ℕ) → notes.Keeps split macros s k → is_some (opener_of s) ≡ in_raw k)
+-- No comment is open inside an inner opener: in a text, where one is open, nothing else is, and a snippet of GABC has an opener only inside raw.
+pub no_comment_inside : ((s : TextStage) (k : List ℕ) → text.Keeps s k → is_some (text_tells.opener_of s) ≡ text.is_open_behind k)
+    → ((s : TextStage) (k : List ℕ) → text.Keeps s k → text_tells.is_in_comment s ≡ true → text.begins_comment k ≡ true)
+    → ((k : List ℕ) → text.begins_comment k ≡ true → text.is_open_behind k ≡ false)
+    → ((split : Bool) (macros : ℕ) (s : NoteStage) (k : List ℕ) → notes.Keeps split macros s k → is_some (opener_of s) ≡ in_raw k)
     → ((split : Bool) (macros : ℕ) (s : NoteStage) (k : List ℕ) → notes.Keeps split macros s k → comment_of s ≡ true → in_raw k ≡ false)
     → (lines macros : ℕ) (p : BodyPart) (parts : KeptParts) → PartKeeps lines macros p parts → HasNoCommentInside p
-no_comment_inside opener comment lines macros part.Comment parts h open_is = refl
-no_comment_inside opener comment lines macros (part.Text s) parts h open_is = no_opener s.state s.progress.place open_is
-no_comment_inside opener comment lines macros (part.Notes opened s) (in_text k) h open_is = absurd h
-no_comment_inside opener comment lines macros (part.Notes opened s) (in_notes t earlier k) h open_is =
+no_comment_inside text_opener text_comment text_apart opener comment lines macros part.Comment parts h open_is = refl
+no_comment_inside text_opener text_comment text_apart opener comment lines macros (part.Text s) (in_text k) h open_is = is_none (text_tells.opener_of s) (text_opener s k h ∙ text_apart k (text_comment s k h open_is))
+no_comment_inside text_opener text_comment text_apart opener comment lines macros (part.Text s) (in_notes t earlier k) h open_is = absurd h
+no_comment_inside text_opener text_comment text_apart opener comment lines macros (part.Notes opened s) (in_text k) h open_is = absurd h
+no_comment_inside text_opener text_comment text_apart opener comment lines macros (part.Notes opened s) (in_notes t earlier k) h open_is =
     is_none (opener_of s) (opener (nat_lt 0 lines) macros s k h.1 ∙ comment (nat_lt 0 lines) macros s k h.1 open_is)
-no_comment_inside opener comment lines macros (part.Nabc line opened s) parts h open_is = refl
+no_comment_inside text_opener text_comment text_apart opener comment lines macros (part.Nabc line opened s) parts h open_is = refl
 
 pub tells_in_body : (m : ScoreMachine) → m.part ≡ score_part.Body → IsInBody m → length m.pair.gathered.made ≤ 1 → HasNoCommentInside m.body.part → IsToldWithin (shown m)
 tells_in_body m body h few comment = record {

@@ -3,7 +3,6 @@
 use Rattle.std.specs.Prelude.{◌≡◌, ℕ, ◌+◌, List, [], ◌∷◌, ◌++◌, length, Bool, true, false, is_some}
 use Rattle.gabc_places.specs.declared.place.Char.{Char}
 use Rattle.gabc_places.specs.declared.place.Place.{Place}
-use Rattle.gabc_places.specs.StageLaw.{concat_of}
 use Rattle.gabc_text.specs.StageTells as text_tells
 use Rattle.gabc_text.specs.TextStage.{fresh_stage}
 use Rattle.gabc_text.specs.declared.stage.TextStage.{TextStage}
@@ -36,7 +35,6 @@ pub record Again : Type 0 where
 pub record Ends : Type 0 where
   pub text_comment : (s : TextStage) (k : List ℕ) → text.Keeps s k → text_tells.is_in_comment s ≡ true → text.begins_comment k ≡ true
   pub text_opener : (s : TextStage) (k : List ℕ) → text.Keeps s k → is_some (text_tells.opener_of s) ≡ text.is_open_behind k
-  pub text_cut : (s : TextStage) → s.done ≡ false → text_tells.opener_of s ≡ text_tells.cut_place (concat_of (text_events.events_left s []))
   pub text_each : (s : TextStage) (t : List ℕ) → length (text_events.events_left s t) ≡ length t + 1
   pub gabc_opener : (split : Bool) (macros : ℕ) (s : NoteStage) (k : List ℕ) → notes.Keeps split macros s k → is_some (note_tells.opener_of s) ≡ in_raw k
   pub gabc_cut : (s : NoteStage) → s.ended ≡ false → notes.IsCutAtOpener s

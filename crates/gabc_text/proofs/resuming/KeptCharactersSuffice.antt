@@ -21,7 +21,7 @@ use Rattle.gabc_text.specs.View.{piece_kind}
 use Rattle.gabc_text.specs.witness.EventsLeft.{piece_by, parts_by, begin_behind, end_behind}
 use Rattle.gabc_text.specs.declared.view.PieceKind.TheVariants as piece
 use Rattle.gabc_text.specs.machine.TextFacts.{facts_after}
-use Rattle.gabc_text.specs.StageTells.{is_comment}
+use Rattle.gabc_text.specs.machine.StageTells.{is_comment}
 use Rattle.gabc_text.specs.machine.Resuming.{placed, outside, uncommented, IsAlike, kept_at, IsReached}
 use Rattle.gabc_text.specs.machine.TagPrefix.{next_name}
 use Rattle.gabc_text.specs.machine.TokenState.{first_step, step_at_tag_end, wanted_char, keep}

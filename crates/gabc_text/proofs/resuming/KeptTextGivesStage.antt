@@ -8,7 +8,8 @@ use Rattle.gabc_text.specs.declared.stage.TextStage.{TextStage}
 use Rattle.gabc_text.specs.BuiltText.{kept_in}
 use Rattle.gabc_text.specs.witness.Keeps.{Keeps, KeepsOn, GoesOn, end_text, begins_comment, kept_with}
 use Rattle.gabc_text.specs.StageTells.{opener_of, is_in_comment, moved_to}
-use Rattle.gabc_text.proofs.resuming.StagesKeep.{kept_again, comment_not_kept, comment_open, comment_alone, opener_open, moved_keeps, moved_opener}
+use Rattle.gabc_text.proofs.resuming.StagesKeep.{kept_again, comment_not_kept, comment_open, comment_alone, opener_open, moved_keeps}
+use Rattle.gabc_text.proofs.resuming.ToldByEvents.{opener_moved, comment_moved}
 
 -- the stage keeps k, and what is open in it stands at this place
 pub record IsBack (place : Place) (k : List ℕ) (comment : Bool) (s : TextStage) : Type 0 where
@@ -21,15 +22,18 @@ module _ (place : Place) (k : List ℕ) (s : TextStage) (back : IsBack place k f
   pub reads_on : (whole : TextStage) (c : ℕ) (b : List ℕ) (events : List TextEvent) (after : TextStage) → Keeps whole (k ++ c ∷ b) → KeepsOn (moved_to place s) c events after → IsBack place (k ++ c ∷ []) false after
   reads_on whole c b events after keeps on = record {
     keeps = subst (λ (t : List ℕ). Keeps after (k ++ t)) one goes.keeps;
-    comment_is = goes.comment ∙ rw back.comment_is (none (c == 37) (begins_comment k) refl refl);
+    comment_is = goes.comment ∙ rw outside (none (c == 37) (begins_comment k) refl refl);
     opener = λ p e. opens p (goes.opener p e);
   }
     where
       here : Keeps (moved_to place s) k
       here = moved_keeps place s k back.keeps
 
+      outside : is_in_comment (moved_to place s) ≡ false
+      outside = comment_moved s place ∙ back.comment_is
+
       one : kept_in events ≡ c ∷ []
-      one = on.kept k here back.comment_is ∙ kept_again whole k b c keeps
+      one = on.kept k here outside ∙ kept_again whole k b c keeps
 
       still : (d : Bool) → end_text events ≡ d → d ≡ false
       still false e = refl
@@ -44,7 +48,7 @@ module _ (place : Place) (k : List ℕ) (s : TextStage) (back : IsBack place k f
       none true true e f = absurd (let g = sym (kept_again whole k b c keeps) ∙ ap (kept_with k) (eqb-true c 37 e) ∙ comment_not_kept k f in cc)
 
       opens : (p : Place) → (opener_of (moved_to place s) ≡ Some p) ⊎ (place ≡ p) → place ≡ p
-      opens p (inl e) = back.opener p (sym (moved_opener place s) ∙ e)
+      opens p (inl e) = back.opener p (sym (opener_moved s place) ∙ e)
       opens p (inr e) = e
 
   -- the `%` of a comment

@@ -11,7 +11,8 @@ use Rattle.gabc_text.specs.declared.stage.TextStage.{TextStage}
 use Rattle.gabc_text.specs.BuiltText.{kept_in}
 use Rattle.gabc_text.specs.witness.EventsLeft.{events_left}
 use Rattle.gabc_text.specs.witness.Keeps.{IsKeptOf, said, end_text, EndsInNotes, stage_behind, Keeps, said_of, is_open_behind, begins_comment, kept_with, ends_behind, said_at_end, comment_with, GoesOn, EndsBehind, KeepsOn}
-use Rattle.gabc_text.specs.StageTells.{is_open, is_comment, opener_of, is_in_comment, next_of, moved_to, place_told, told}
+use Rattle.gabc_text.specs.StageTells.{is_open, opener_of, is_in_comment, next_of, moved_to, place_told, told}
+use Rattle.gabc_text.specs.machine.StageTells.{is_comment, opener_in, comment_in}
 use Rattle.gabc_text.specs.TextStage.{fresh_stage}
 use Rattle.gabc_text.specs.machine.RawPart.{stage_past, events_of_pushes}
 use Rattle.gabc_text.specs.machine.Resuming.{nowhere, placed, outside, IsAlike, kept_at, kept_past}
@@ -23,7 +24,7 @@ use Rattle.gabc_text.specs.View.{is_space, kept_as}
 use Rattle.gabc_text.specs.witness.FactsPast.{leaves_out}
 use Rattle.std.specs.List.{All}
 use Rattle.std.proofs.lemmas.List.Elements.{All-nil, All-cons}
-use Rattle.std.proofs.Common.{◌||◌, inl, inr}
+use Rattle.std.proofs.Common.{◌||◌, ◌⊎◌, inl, inr}
 use Rattle.gabc_text.specs.machine.TextStage.{settle_stage, events_of_settling, events_of_settled_push, push_stage, events_of_push}
 use Rattle.gabc_places.specs.Place.{saturating_next_place}
 use Rattle.gabc_text.proofs.machine.EventsLeftAreThoseAhead.{rest_is}
@@ -33,6 +34,8 @@ use Rattle.std.proofs.Common.{not, ◌≤◌, length, suc, is_some, arith}
 use Rattle.gabc_text.proofs.resuming.PlacesAside.{said_append, push_placed, push_same}
 use Rattle.gabc_text.proofs.resuming.KeptCharactersSuffice.{StepAlike, step_alike, stays_outside}
 use Rattle.gabc_text.proofs.resuming.ReachedStages.{push_reached, fresh_reached, moved_reached, goes_on}
+use Rattle.gabc_text.proofs.NothingBehindTheEnd.{opener_told, comment_told}
+use Rattle.gabc_text.proofs.resuming.ToldByEvents.{opener_moved, comment_moved}
 use Rattle.gabc_text.proofs.resuming.ToldSuffices.{told_suffices}
 use Rattle.gabc_text.proofs.resuming.EndsAndKept.{kept_said, done_is, kept_is, read_kept, none_kept_at_end, notes_at_end, EndsAt, ended_at}
 use Rattle.gabc_text.proofs.resuming.WhatStagesTell.{next_goes, opener_goes, comment_goes}
@@ -95,10 +98,10 @@ fresh_keeps at = record { goes_on = refl; reached = fresh_reached at; alike = re
 
 module _ (s : TextStage) (c : ℕ) (k : List ℕ) (keeps : Keeps s k) where
   -- with absurd (true≢false comment) open, it stands where the fresh one does, but for places
-  placed_alike : is_in_comment s ≡ false → stage_behind k ≡ placed keeps.alike.place keeps.alike.next s
+  placed_alike : comment_in s ≡ false → stage_behind k ≡ placed keeps.alike.place keeps.alike.next s
   placed_alike e = keeps.alike.same ∙ ap (λ (m : TokenState). placed keeps.alike.place keeps.alike.next (record s { state = m })) (stays_outside s.state e)
 
-  kept_here : is_in_comment s ≡ false → kept_in (events_of_push s c) ≡ kept_with k c
+  kept_here : comment_in s ≡ false → kept_in (events_of_push s c) ≡ kept_with k c
   kept_here e =
       sym (kept_said (events_of_push s c))
       ∙ ap kept_in (sym (push_same keeps.alike.place keeps.alike.next s c))
@@ -106,31 +109,41 @@ module _ (s : TextStage) (c : ℕ) (k : List ℕ) (keeps : Keeps s k) where
       ∙ ap (λ (x : TextStage). kept_in (events_of_push x c)) (sym (placed_alike e))
       ∙ sym (kept_with_is k c)
 
-  ends_same : is_in_comment s ≡ false → c ≡ 40 → ends_behind k ≡ (push_stage s c).done
+  ends_same : comment_in s ≡ false → c ≡ 40 → ends_behind k ≡ (push_stage s c).done
   ends_same e f =
       ends_are k
       ∙ ap (λ (x : TextStage). (push_stage x 40).done) (placed_alike e)
       ∙ ap (λ (x : TextStage). x.done) (push_placed keeps.alike.place keeps.alike.next s 40).same
       ∙ ap (λ (x : ℕ). (push_stage s x).done) (sym f)
 
-  end_here : (d : Bool) → (push_stage s c).done ≡ d → d ≡ (not (is_in_comment s) && (c == 40 && ends_behind k))
+  end_here : (d : Bool) → (push_stage s c).done ≡ d → d ≡ (not (comment_in s) && (c == 40 && ends_behind k))
   end_here true f =
       let at : EndsAt s c = ended_at s c keeps.goes_on f in
       let mark : (c == 40) ≡ true = ap (λ (x : ℕ). x == 40) at.mark in
       rw (at.no_comment, mark, ends_same at.no_comment at.mark ∙ f) refl
-  end_here false f = sym (by (is_in_comment s) (c == 40) refl refl)
+  end_here false f = sym (by (comment_in s) (c == 40) refl refl)
     where
-      by : (a b : Bool) → is_in_comment s ≡ a → (c == 40) ≡ b → (not a && (b && ends_behind k)) ≡ false
+      by : (a b : Bool) → comment_in s ≡ a → (c == 40) ≡ b → (not a && (b && ends_behind k)) ≡ false
       by true b g h = refl
       by false false g h = refl
       by false true g h = ends_same g (eqb-true c 40 h) ∙ f
 
-  comment_here : (push_stage s c).done ≡ false → is_in_comment (push_stage s c) ≡ comment_with k (is_in_comment s) c
-  comment_here goes = comment_goes s c keeps.goes_on goes ∙ by (is_in_comment s) refl
+  comment_here : (push_stage s c).done ≡ false → comment_in (push_stage s c) ≡ comment_with k (comment_in s) c
+  comment_here goes = comment_goes s c keeps.goes_on goes ∙ by (comment_in s) refl
     where
-      by : (b : Bool) → is_in_comment s ≡ b → (if b then not (c == 10) else (c == 37 && is_plain s.state)) ≡ comment_with k b c
+      by : (b : Bool) → comment_in s ≡ b → (if b then not (c == 10) else (c == 37 && is_plain s.state)) ≡ comment_with k b c
       by true e = refl
       by false e = ap (λ (x : Bool). c == 37 && x) (sym (begins_is k ∙ ap (λ (x : TextStage). is_plain x.state) (placed_alike e)))
+
+  opener_here : (push_stage s c).done ≡ false → (p : Place) → opener_of (push_stage s c) ≡ Some p → (opener_of s ≡ Some p) ⊎ (next_of s ≡ p)
+  opener_here goes p e = by (opener_goes s c keeps.goes_on keeps.reached p (sym (opener_told (push_stage s c) goes) ∙ e))
+    where
+      by : (opener_in s ≡ Some p) ⊎ (next_of s ≡ p) → (opener_of s ≡ Some p) ⊎ (next_of s ≡ p)
+      by (inl f) = inl (opener_told s keeps.goes_on ∙ f)
+      by (inr f) = inr f
+
+  comment_now : (push_stage s c).done ≡ false → is_in_comment (push_stage s c) ≡ comment_with k (is_in_comment s) c
+  comment_now goes = comment_told (push_stage s c) goes ∙ comment_here goes ∙ ap (λ (b : Bool). comment_with k b c) (sym (comment_told s keeps.goes_on))
 
   goes_behind : end_text (events_of_push s c) ≡ false → GoesOn s k c (events_of_push s c) (push_stage s c)
   goes_behind e = by (kept_at s c) (kept_is s c keeps.goes_on goes) (step_alike s (stage_behind k) c keeps.reached keeps.goes_on goes keeps.alike)
@@ -142,8 +155,8 @@ module _ (s : TextStage) (c : ℕ) (k : List ℕ) (keeps : Keeps s k) where
       by None f h = record {
         keeps = subst (Keeps (push_stage s c)) (sym (ap (λ (t : List ℕ). k ++ t) f ∙ append-nil k)) (record { goes_on = goes; reached = push_reached s c keeps.reached; alike = h.0; whole = keeps.whole });
         said = ap (λ (t : List ℕ). said_of (k ++ t)) f ∙ ap said_of (append-nil k) ∙ sym (ap (λ (os : List TextEvent). said_of k ++ os) h.1 ∙ append-nil (said_of k));
-        opener = opener_goes s c keeps.goes_on keeps.reached;
-        comment = comment_here goes;
+        opener = opener_here goes;
+        comment = comment_now goes;
         next = next_goes s c keeps.goes_on goes;
       }
       by (Some d) f h = record {
@@ -159,8 +172,8 @@ module _ (s : TextStage) (c : ℕ) (k : List ℕ) (keeps : Keeps s k) where
             ∙ said_append (events_of_pushes (fresh_stage nowhere) k) (events_of_push (stage_behind k) d)
             ∙ ap (λ (os : List TextEvent). said (events_of_pushes (fresh_stage nowhere) k) ++ os) (sym h.1)
             ∙ ap (λ (os : List TextEvent). os ++ said (events_of_push s c)) (sym (said_is k));
-        opener = opener_goes s c keeps.goes_on keeps.reached;
-        comment = comment_here goes;
+        opener = opener_here goes;
+        comment = comment_now goes;
         next = next_goes s c keeps.goes_on goes;
       }
         where
@@ -227,8 +240,8 @@ only_kept s c on = by (push_stage s c).done refl
 -- what a push does
 pub push_keeps : (s next : TextStage) (c : ℕ) (events : List TextEvent) → next ≡ push_stage s c → events ≡ events_of_push s c → KeepsOn s c events next
 push_keeps s next c events e f = rw (e, f) (record {
-  end = λ k h. sym (done_is s c h.goes_on) ∙ end_here s c k h (push_stage s c).done refl;
-  kept = λ k h. kept_here s c k h;
+  end = λ k h. sym (done_is s c h.goes_on) ∙ end_here s c k h (push_stage s c).done refl ∙ ap (λ (b : Bool). not b && (c == 40 && ends_behind k)) (sym (comment_told s h.goes_on));
+  kept = λ k h e. kept_here s c k h (sym (comment_told s h.goes_on) ∙ e);
   goes = λ k h. goes_behind s c k h;
   ends = λ k h. ended_behind s c k h;
   only = λ k h. only_kept s c h.goes_on;
@@ -237,20 +250,13 @@ push_keeps s next c events e f = rw (e, f) (record {
 pub moved_keeps : (at : Place) (s : TextStage) (k : List ℕ) → Keeps s k → Keeps (moved_to at s) k
 moved_keeps at s k h = record { goes_on = h.goes_on; reached = moved_reached at s h.reached; alike = record { place = h.alike.place; next = h.alike.next; same = h.alike.same }; whole = h.whole }
 
-pub moved_opener : (at : Place) (s : TextStage) → opener_of (moved_to at s) ≡ opener_of s
-moved_opener at s = by (is_open s.state)
-  where
-    by : (b : Bool) → (if b then Some (if b then s.progress.place else at) else None) ≡ (if b then Some s.progress.place else None)
-    by true = refl
-    by false = refl
-
 -- ---- what is open
 
 state_alike : (s : TextStage) (k : List ℕ) → Keeps s k → (stage_behind k).state ≡ outside s.state
 state_alike s k h = ap (λ (x : TextStage). x.state) h.alike.same
 
 pub opener_open : (s : TextStage) (k : List ℕ) → Keeps s k → is_some (opener_of s) ≡ is_open_behind k
-opener_open s k h = by (is_open s.state) ∙ sym (open_is k ∙ ap is_open (state_alike s k h) ∙ still s.state)
+opener_open s k h = ap (λ (o : Option Place). is_some o) (opener_told s h.goes_on) ∙ by (is_open s.state) ∙ sym (open_is k ∙ ap is_open (state_alike s k h) ∙ still s.state)
   where
     by : (b : Bool) → is_some (if b then Some s.progress.place else None) ≡ b
     by true = refl
@@ -273,7 +279,7 @@ comment_is (Raw part m) e = absurd (false≢true e)
 comment_is Translation e = absurd (false≢true e)
 
 pub comment_open : (s : TextStage) (k : List ℕ) → Keeps s k → is_in_comment s ≡ true → begins_comment k ≡ true
-comment_open s k h e = begins_is k ∙ ap is_plain (state_alike s k h ∙ ap outside (comment_is s.state e))
+comment_open s k h e = begins_is k ∙ ap is_plain (state_alike s k h ∙ ap outside (comment_is s.state (sym (comment_told s h.goes_on) ∙ e)))
 
 pub comment_alone : (k : List ℕ) → begins_comment k ≡ true → is_open_behind k ≡ false
 comment_alone k e = open_is k ∙ by (stage_behind k).state (sym (begins_is k) ∙ e)
@@ -371,12 +377,12 @@ keeps_agree s r k hs hr opener comment next =
     ∙ ap (λ (m : TokenState). with_places m (stage_behind k) s.progress.place s.progress.next) same
     ∙ ap (λ (p : Place). record (stage_behind k) { state = r.state; progress = record (stage_behind k).progress { place = p; next = s.progress.next } })
     (place_same r.state s.progress.place r.progress.place s.progress.next (λ e. hs.reached.between (ap is_plain same ∙ e)) (λ e. hr.reached.between e ∙ sym next)
-    (ap (λ (m : TokenState). if is_open m then Some s.progress.place else None) (sym same) ∙ opener))
+    (ap (λ (m : TokenState). if is_open m then Some s.progress.place else None) (sym same) ∙ sym (opener_told s hs.goes_on) ∙ opener ∙ opener_told r hr.goes_on))
     ∙ ap (λ (n : Place). with_places r.state (stage_behind k) r.progress.place n) next
     ∙ sym (told_is r (stage_behind k) hr.alike)
   where
     same : s.state ≡ r.state
-    same = state_same s.state r.state (ap (λ (x : TextStage). x.state) (sym hs.alike.same ∙ hr.alike.same)) comment
+    same = state_same s.state r.state (ap (λ (x : TextStage). x.state) (sym hs.alike.same ∙ hr.alike.same)) (sym (comment_told s hs.goes_on) ∙ comment ∙ comment_told r hr.goes_on)
 
 pub kept_suffices : (s r : TextStage) (k : List ℕ) → Keeps s k → Keeps r k → opener_of s ≡ opener_of r → is_in_comment s ≡ is_in_comment r → next_of s ≡ next_of r → (t : List ℕ) → events_left s t ≡ events_left r t
 kept_suffices s r k hs hr opener comment next t = told_suffices s r t (keeps_agree s r k hs hr opener comment next)
@@ -391,12 +397,21 @@ before_keeps : (at : Place) → Keeps (comment_before at) []
 before_keeps at = record { goes_on = refl; reached = record { between = λ e. absurd (false≢true e); start = λ e. refl; blank = λ e. absurd (false≢true e); starts = λ e. absurd (false≢true e) }; alike = record { place = nowhere; next = nowhere; same = refl }; whole = refl }
 
 module _ (s : TextStage) (keeps : Keeps s []) (comment : is_in_comment s ≡ true) where
+  -- nothing is open in it but the comment
+  opens_nothing : (at : Place) → opener_of s ≡ opener_of (comment_before at)
+  opens_nothing at =
+      opener_told s keeps.goes_on
+      ∙ ap (λ (m : TokenState). if is_open m then Some s.progress.place else None) (comment_is s.state (sym (comment_told s keeps.goes_on) ∙ comment))
+      ∙ sym (opener_told (comment_before at) refl)
+
+  is_alike : (at : Place) → is_in_comment s ≡ is_in_comment (comment_before at)
+  is_alike at = comment ∙ sym (comment_told (comment_before at) refl)
+
   as_before : (at : Place) (t : List ℕ) → events_left (moved_to at s) t ≡ events_left (comment_before at) t
-  as_before at t = kept_suffices (moved_to at s) (comment_before at) [] (moved_keeps at s [] keeps) (before_keeps at)
-      (moved_opener at s ∙ ap (λ (m : TokenState). if is_open m then Some s.progress.place else None) (comment_is s.state comment)) comment refl t
+  as_before at t = kept_suffices (moved_to at s) (comment_before at) [] (moved_keeps at s [] keeps) (before_keeps at) (opener_moved s at ∙ opens_nothing at) (comment_moved s at ∙ is_alike at) refl t
 
   as_it_is : (t : List ℕ) → events_left s t ≡ events_left (comment_before (next_of s)) t
-  as_it_is t = kept_suffices s (comment_before (next_of s)) [] keeps (before_keeps (next_of s)) (ap (λ (m : TokenState). if is_open m then Some s.progress.place else None) (comment_is s.state comment)) comment refl t
+  as_it_is t = kept_suffices s (comment_before (next_of s)) [] keeps (before_keeps (next_of s)) (opens_nothing (next_of s)) (is_alike (next_of s)) refl t
 
   -- the LF that ends it is the first character of a text that begins here
   pub comment_then_text : (t : List ℕ) → events_left s (10 ∷ t) ≡ events_left (fresh_stage (next_of s)) (10 ∷ t)

@@ -17,6 +17,7 @@ use Rattle.gabc_text.specs.machine.TextStage.{push_stage, events_of_push}
 use Rattle.gabc_text.proofs.machine.EventsLeftAreThoseAhead.{rest_is}
 use Rattle.gabc_text.proofs.resuming.EndsAndKept.{done_is, ended_at, kept_is, none_kept_at_end}
 use Rattle.gabc_text.proofs.resuming.KeptCharactersSuffice.{comment_kept}
+use Rattle.gabc_text.proofs.NothingBehindTheEnd.{opener_told, comment_told}
 use Rattle.gabc_text.proofs.resuming.StagesKeep.{begins_is, comment_is, comment_not_kept, kept_with_is, push_keeps}
 
 -- ---- what is kept of a character
@@ -91,7 +92,7 @@ module _ (s : TextStage) (k : List ℕ) (keeps : Keeps s k) where
     none_kept opened = by (push_stage s c).done refl
       where
         inside : (b : Bool) → is_in_comment s ≡ b → comment_with k b c ≡ true → (push_stage s c).done ≡ false → kept_in (events_of_push s c) ≡ []
-        inside true e f g = kept_is s c keeps.goes_on g ∙ ap option_to_list (comment_kept s c (comment_is s.state e) (no_feed (c == 10) f))
+        inside true e f g = kept_is s c keeps.goes_on g ∙ ap option_to_list (comment_kept s c (comment_is s.state (sym (comment_told s keeps.goes_on) ∙ e)) (no_feed (c == 10) f))
           where
             no_feed : (b : Bool) → not b ≡ true → b ≡ false
             no_feed true h = absurd (false≢true h)
@@ -132,19 +133,22 @@ takes s c = record {
 
 pub opens_there : (s : TextStage) (k : List ℕ) (at : Place) → Keeps s k → is_some (opener_of s) ≡ true → OpensThere s k at
 opens_there s k at h opened = record {
-  stage = record s { progress = record s.progress { place = at } };
+  stage = there;
   keeps = record {
     goes_on = h.goes_on;
     reached = record { between = λ e. absurd (apart s.state is_opened e); start = h.reached.start; blank = h.reached.blank; starts = h.reached.starts };
     alike = record { place = h.alike.place; next = h.alike.next; same = h.alike.same };
     whole = h.whole;
   };
-  opener = ap (λ (b : Bool). if b then Some at else None) is_opened;
-  comment = refl;
+  opener = opener_told there h.goes_on ∙ ap (λ (b : Bool). if b then Some at else None) is_opened;
+  comment = comment_told there h.goes_on ∙ sym (comment_told s h.goes_on);
 }
   where
+    there : TextStage
+    there = record s { progress = record s.progress { place = at } }
+
     is_opened : is_open s.state ≡ true
-    is_opened = by (is_open s.state) opened
+    is_opened = by (is_open s.state) (ap (λ (o : Option Place). is_some o) (sym (opener_told s h.goes_on)) ∙ opened)
       where
         by : (b : Bool) → is_some (if b then Some s.progress.place else None) ≡ true → b ≡ true
         by true e = refl

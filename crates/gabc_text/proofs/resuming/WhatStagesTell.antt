@@ -9,7 +9,8 @@ use Rattle.gabc_text.specs.declared.token_state.Step.TheVariants.{Stays, Ends}
 use Rattle.gabc_text.specs.declared.token_state.TokenState.{TokenState}
 use Rattle.gabc_text.specs.declared.token_state.TokenState.TheVariants.{Plain, Dollar, Comment, Tag, Raw, Translation}
 use Rattle.gabc_text.specs.declared.stage.TextStage.{TextStage}
-use Rattle.gabc_text.specs.StageTells.{is_open, is_comment, opener_of, is_in_comment, next_of}
+use Rattle.gabc_text.specs.StageTells.{is_open, next_of}
+use Rattle.gabc_text.specs.machine.StageTells.{is_comment, opener_in, comment_in}
 use Rattle.gabc_text.specs.machine.Resuming.{IsReached}
 use Rattle.gabc_text.specs.machine.TokenState.{settled_kind, next_step, is_plain}
 use Rattle.gabc_text.specs.machine.TextStage.{settle_stage, settle_stage_by, token_stage, stage_past_char, stage_after_step, read_stage, end_stage, settled_push_stage, push_stage}
@@ -80,7 +81,7 @@ within s c on reached = by s.state s.done on reached.between
         comment true = settled_opens s.progress.next (token_stage (going s Comment) kind.Comment tag.Other s.progress.next) c refl
         comment false = rw (and-false (c == 40)) (λ o. absurd (false≢true o))
 
-opener_is : (s : TextStage) (p : Place) → opener_of s ≡ Some p → (is_open s.state ≡ true) × (s.progress.place ≡ p)
+opener_is : (s : TextStage) (p : Place) → opener_in s ≡ Some p → (is_open s.state ≡ true) × (s.progress.place ≡ p)
 opener_is s p = by (is_open s.state)
   where
     by : (b : Bool) → (if b then Some s.progress.place else None) ≡ Some p → (b ≡ true) × (s.progress.place ≡ p)
@@ -88,7 +89,7 @@ opener_is s p = by (is_open s.state)
     by false e = absurd (cc)
 
 -- it was open before, or the character begins it
-pub opener_goes : (s : TextStage) (c : ℕ) → s.done ≡ false → IsReached s → (p : Place) → opener_of (push_stage s c) ≡ Some p → (opener_of s ≡ Some p) ⊎ (next_of s ≡ p)
+pub opener_goes : (s : TextStage) (c : ℕ) → s.done ≡ false → IsReached s → (p : Place) → opener_in (push_stage s c) ≡ Some p → (opener_in s ≡ Some p) ⊎ (next_of s ≡ p)
 opener_goes s c on reached p e =
     let o = opener_is (push_stage s c) p e in
     by (is_open s.state) (sym (within s c on reached o.0) ∙ o.1)
@@ -104,20 +105,20 @@ other_one : (c a b : ℕ) → (c == a) ≡ true → (a == b) ≡ false → (c ==
 other_one c a b e f = ap (λ (x : ℕ). x == b) (eqb-true c a e) ∙ f
 
 pub comment_goes : (s : TextStage) (c : ℕ) → s.done ≡ false → (push_stage s c).done ≡ false
-    → is_in_comment (push_stage s c) ≡ (if is_in_comment s then not (c == 10) else (c == 37 && is_plain s.state))
+    → comment_in (push_stage s c) ≡ (if comment_in s then not (c == 10) else (c == 37 && is_plain s.state))
 comment_goes s c on = by s.state s.done on
   where
     by : (m : TokenState) (d : Bool) → d ≡ false → let x : TextStage = record { state = m; facts = s.facts; progress = s.progress; done = d } in
-        (push_stage x c).done ≡ false → is_in_comment (push_stage x c) ≡ (if is_comment m then not (c == 10) else (c == 37 && is_plain m))
+        (push_stage x c).done ≡ false → comment_in (push_stage x c) ≡ (if is_comment m then not (c == 10) else (c == 37 && is_plain m))
     by m true e goes = absurd (true≢false e)
     by Plain false e goes = plain (c == 40 && true) goes
       where
-        plain : (b : Bool) → (cond b (end_stage (going s Plain)) (read_stage (going s Plain) c)).done ≡ false → is_in_comment (cond b (end_stage (going s Plain)) (read_stage (going s Plain) c)) ≡ (c == 37 && true)
+        plain : (b : Bool) → (cond b (end_stage (going s Plain)) (read_stage (going s Plain) c)).done ≡ false → comment_in (cond b (end_stage (going s Plain)) (read_stage (going s Plain) c)) ≡ (c == 37 && true)
         plain true goes = absurd (true≢false goes)
         plain false goes = read (c == 36) (c == 37) (c == 60) (c == 91) (λ f. other_one c 36 37 f refl)
           where
             read : (a b d f : Bool) → (a ≡ true → b ≡ false)
-                → is_in_comment (stage_after_step (stage_past_char (going s Plain) c) (cond a (Stays Dollar) (cond b (Stays Comment) (cond d (Stays (Tag [])) (cond f (Stays Translation) (Ends (single c) tag.Other)))))) ≡ (b && true)
+                → comment_in (stage_after_step (stage_past_char (going s Plain) c) (cond a (Stays Dollar) (cond b (Stays Comment) (cond d (Stays (Tag [])) (cond f (Stays Translation) (Ends (single c) tag.Other)))))) ≡ (b && true)
             read true b d f g = rw (g refl) refl
             read false true d f g = refl
             read false false true f g = refl
@@ -125,12 +126,12 @@ comment_goes s c on = by s.state s.done on
             read false false false false g = refl
     by Dollar false e goes = dollar (is_special c) refl
       where
-        dollar : (b : Bool) → is_special c ≡ b → is_in_comment (settled_push_stage (settle_stage_by (going s Dollar) (cond b None (Some kind.Letter))) c) ≡ (c == 37 && false)
+        dollar : (b : Bool) → is_special c ≡ b → comment_in (settled_push_stage (settle_stage_by (going s Dollar) (cond b None (Some kind.Letter))) c) ≡ (c == 37 && false)
         dollar true f = rw (and-false (c == 40), and-false (c == 37)) refl
         dollar false f = rw (not_one 40 c refl f, not_one 36 c refl f, not_one 37 c refl f, not_one 60 c refl f, not_one 91 c refl f) refl
     by Comment false e goes = comment (c == 10) refl
       where
-        comment : (b : Bool) → (c == 10) ≡ b → is_in_comment (settled_push_stage (settle_stage_by (going s Comment) (cond b (Some kind.Comment) None)) c) ≡ not b
+        comment : (b : Bool) → (c == 10) ≡ b → comment_in (settled_push_stage (settle_stage_by (going s Comment) (cond b (Some kind.Comment) None)) c) ≡ not b
         comment true f = rw (other_one c 10 40 f refl, other_one c 10 36 f refl, other_one c 10 37 f refl, other_one c 10 60 f refl, other_one c 10 91 f refl) refl
         comment false f = rw (and-false (c == 40)) refl
     by (Tag name) false e goes = tag_on s.facts s.progress c name ∙ sym (and-false (c == 37))

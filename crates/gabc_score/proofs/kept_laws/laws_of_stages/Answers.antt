@@ -20,7 +20,6 @@ returns c = record {
   ends = record {
     text_comment = c.what_is_open_follows_from_the_kept_text.ensures.comment;
     text_opener = c.what_is_open_follows_from_the_kept_text.ensures.opener;
-    text_cut = c.an_opener_is_where_a_text_is_cut.ensures.stage;
     text_each = c.events_need_nothing_behind.ensures.each;
     gabc_opener = c.an_opener_is_told_inside_raw.ensures.opener;
     gabc_cut = c.a_stage_takes_each_character-2.ensures.cut;

@@ -10,6 +10,7 @@ use Rattle.std.specs.Option.{unwrap_or}
 use Rattle.gabc_places.specs.declared.place.Place.{Place}
 use Rattle.gabc_text.proofs.resuming.KeptTextGivesStage.{IsBack, reads_on, comment_back, opener_back}
 use Rattle.gabc_text.proofs.resuming.StagesKeep.{kept_suffices}
+use Rattle.gabc_text.proofs.resuming.ToldByEvents.{opener_fresh, comment_fresh, comment_moved}
 use Rattle.gabc_text.proofs.laws.a_kept_text_gives_the_stage_back.Goals as goal
 use Rattle.gabc_text.proofs.laws.a_kept_text_gives_the_stage_back.Goals.{then-in_comment, else-in_comment}
 
@@ -28,7 +29,7 @@ parted_at k i c h e = sym (take-append-drop i k) ∙ ap (λ (t : List ℕ). take
 
 pub loop-c-init : goal.loop-c-init
 loop-c-init c = record {
-  back = record { keeps = c.new-again.ensures.keeps; comment_is = ap is_in_comment c.new-again.ensures.fresh; opener = λ p e. absurd (let f = sym (ap opener_of c.new-again.ensures.fresh) ∙ e in cc) };
+  back = record { keeps = c.new-again.ensures.keeps; comment_is = ap is_in_comment c.new-again.ensures.fresh ∙ comment_fresh c.unwrap_or-place.result; opener = λ p e. absurd (let f = sym (ap opener_of c.new-again.ensures.fresh ∙ opener_fresh c.unwrap_or-place.result) ∙ e in cc) };
   empty = c.requires.room;
 }
 
@@ -71,7 +72,7 @@ opener_behind c =
     (c.unwrap_or-place.ensures ∙ ap (λ (o : Option Place). unwrap_or o (record { line = 1; column = 1 })) c.opener.ensures) (back_behind c)
 
 comment_behind : (c : goal.After-go_to-2) → is_in_comment c.go_to-2.new.self ≡ is_in_comment c.args.stage.now
-comment_behind c = ap is_in_comment c.go_to-2.ensures.moved ∙ (back_behind c).comment_is
+comment_behind c = ap is_in_comment c.go_to-2.ensures.moved ∙ comment_moved _ _ ∙ (back_behind c).comment_is
 
 next_behind : (c : goal.After-go_to-2) → next_of c.go_to-2.new.self ≡ next_of c.args.stage.now
 next_behind c = ap next_of c.go_to-2.ensures.moved ∙ c.next.ensures

@@ -16,11 +16,12 @@ returns-in-Body-part-clause-again c = λ told can limits before tells first.
     let openers = c.args.openers in
     let kept = c.args.kept.now in
     let text = c.a_kept_character_is_kept_again.ensures in
+    let stays = c.what_is_open_stays_open_elsewhere.ensures in
     let text_opener = c.what_is_open_follows_from_the_kept_text.ensures.opener in
     let start = stands_before text_opener old openers c.requires.rests first in
     let t = is_told told old kept can limits before start.body tells.reading in (
       refl,
-      tells_so text_opener text.characters text.ends c.a_kept_character_is_kept_again-2.ensures c.read_told.new.self (shown c.go_to.new.self) told.body.part openers kept c.args.in_comment c.args.next c.read_told.ensures.rests
+      tells_so text_opener text.characters text.ends c.a_kept_character_is_kept_again-2.ensures (record { opener = stays.opener; comment = stays.comment }) c.read_told.new.self (shown c.go_to.new.self) told.body.part openers kept c.args.in_comment c.args.next c.read_told.ensures.rests
           (told_alike old c.read_told.new.self told.body.part kept c.read_told.ensures.run t) tells.front tells.openers_are (c.read_told.ensures.again told.body.part t tells.front tells.comment_is start) c.go_to.ensures.moved,
     )
 

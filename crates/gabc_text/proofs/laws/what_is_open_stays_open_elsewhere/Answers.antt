@@ -1,0 +1,8 @@
+use Rattle.gabc_text.proofs.resuming.ToldByEvents.{opener_moved, comment_moved}
+use Rattle.gabc_text.proofs.laws.what_is_open_stays_open_elsewhere.Goals as goal
+
+pub returns-clause-opener : goal.returns-clause-opener
+returns-clause-opener c = opener_moved
+
+pub returns-clause-comment : goal.returns-clause-comment
+returns-clause-comment c = comment_moved

@@ -1,0 +1,32 @@
+use Rattle.std.proofs.Common.{◌≡◌, Bool, true, false, cond, not, sym, ap, ◌∙◌, refl}
+use Rattle.gabc_text.specs.declared.token_state.TokenState.{TokenState}
+use Rattle.gabc_text.specs.declared.token_state.TokenState.TheVariants.{Plain, Dollar, Comment, Tag, Raw, Translation}
+use Rattle.gabc_text.specs.machine.StageTells.{is_comment}
+use Rattle.gabc_text.proofs.resuming.ToldByEvents.{comment_by}
+use Rattle.gabc_text.proofs.stage.TextStage.in_comment.Goals as goal
+
+turned : (d : Bool) → cond d false true ≡ not d
+turned true = refl
+turned false = refl
+
+never : (d : Bool) → cond d false false ≡ false
+never true = refl
+never false = refl
+
+other : (s : TokenState) → (s ≡ Comment → ⊥) → is_comment s ≡ false
+other Plain e = refl
+other Dollar e = refl
+other Comment e = absurd (e refl)
+other (Tag name) e = refl
+other (Raw part m) e = refl
+other Translation e = refl
+
+pub returns-in-Comment : goal.returns-in-Comment
+returns-in-Comment c =
+    let s = c.args.self.now in
+    sym (comment_by s ∙ ap (λ (m : TokenState). cond s.done false (is_comment m)) c.in-Comment.is ∙ turned s.done ∙ ap (λ (b : Bool). not b) (sym c.is_done.ensures))
+
+pub returns-in_default : goal.returns-in_default
+returns-in_default c =
+    let s = c.args.self.now in
+    sym (comment_by s ∙ ap (λ (b : Bool). cond s.done false b) (other s.state c.in_default.not-Comment) ∙ never s.done)

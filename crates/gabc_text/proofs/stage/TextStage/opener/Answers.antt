@@ -1,0 +1,19 @@
+use Rattle.std.proofs.Common.{◌≡◌, Bool, Option, Some, None, if◌then◌else◌, sym, ap, ◌∙◌}
+use Rattle.gabc_places.specs.declared.place.Place.{Place}
+use Rattle.gabc_text.specs.StageTells.{opener_of}
+use Rattle.gabc_text.proofs.NothingBehindTheEnd.{opener_told}
+use Rattle.gabc_text.proofs.resuming.ToldByEvents.{opener_over}
+use Rattle.gabc_text.proofs.stage.TextStage.opener.Goals as goal
+
+pub returns-then-is_done : goal.returns-then-is_done
+returns-then-is_done c = sym (opener_over c.args.self.now (sym c.is_done.ensures ∙ c.if-is_done.true))
+
+pub returns-then-is_open : goal.returns-then-is_open
+returns-then-is_open c =
+    let s = c.args.self.now in
+    sym (opener_told s (sym c.is_done.ensures ∙ c.if-is_done.false) ∙ ap (λ (b : Bool). if b then Some s.progress.place else None) (sym c.is_open.ensures ∙ c.if-is_open.true))
+
+pub returns-else-is_open : goal.returns-else-is_open
+returns-else-is_open c =
+    let s = c.args.self.now in
+    sym (opener_told s (sym c.is_done.ensures ∙ c.if-is_done.false) ∙ ap (λ (b : Bool). if b then Some s.progress.place else None) (sym c.is_open.ensures ∙ c.if-is_open.false))
