@@ -27,7 +27,7 @@ use Rattle.gregorio.proofs.StreamsOfOutputs.{headed_stays, in_body, some_and_res
 
 -- ---- what is written
 
--- but for how many syllables were written and what is in force behind them, it is as before
+-- It is as before, but for how many syllables were written and what is in force after them.
 pub record IsCounted (w v : Written) : Type 0 where
   pub count : ℕ
   pub force : InForce
