@@ -23,7 +23,6 @@ use Rattle.gabc_score.specs.ScoreStage.{Counts}
 use Rattle.gabc_score.specs.ScoreTells.{StandsAt}
 use Rattle.gabc_score.specs.Syllable.{PlacedSyllable}
 use Rattle.gabc_score.specs.Before.{with_placed}
-use Rattle.gabc_score.specs.ToldWithin.{whole_syllables}
 use Rattle.gabc_score.specs.declared.before.Preceding.{Preceding}
 use Rattle.gregorio.specs.Outcome.{is_whole}
 use Rattle.gregorio.specs.Streams.{behind_bytes}

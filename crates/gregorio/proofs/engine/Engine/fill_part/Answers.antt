@@ -1,9 +1,6 @@
-use Rattle.std.proofs.Common.{◌≡◌, ◌≤◌, true, false, refl, inl, inr, length, drop, ap, sym, subst, ◌∙◌, arith}
-use Rattle.gregorio.specs.Engine.{is_running}
-use Rattle.gregorio.specs.machine.Engine.{LeavesRoom}
-use Rattle.gregorio.specs.witness.Engine.{EngineState}
+use Rattle.std.proofs.Common.{refl, inl, inr, drop, sym, ◌∙◌, arith}
 use Rattle.gregorio.proofs.pieces.FrontIsTaken.{brings_more}
-use Rattle.gregorio.proofs.pieces.NothingIsKeptBack.{ends_further, took_some}
+use Rattle.gregorio.proofs.pieces.NothingIsKeptBack.{ends_further}
 use Rattle.gregorio.proofs.engine.Engine.fill_part.Goals as goal
 
 pub loop-count-init : goal.loop-count-init
