@@ -152,7 +152,7 @@ pub(crate) struct Reached<'a> {
 
 impl SlotPair {
     /// Gives the syllable that is held its place in its word, before one that begins a word or not.
-    /// `has_lent` tells whether a syllable stands before it. Returns it.
+    /// `has_lent` says whether a syllable stands before it.
     fn place_held(&mut self, has_lent: bool, next_starts: bool)
         requires used { self.old.used ≡ SlotUse.Filling }
         ensures gathered { self.new.gathered ≡ self.old.gathered }
