@@ -3,6 +3,7 @@ pub mod FreshStageEmitsEventsByPoint
 pub mod LoopOverBody
 pub mod MachineReadsTable
 pub mod RegularPrefixes
+pub mod RegularShortWays
 pub mod TextWithACharacterMore
 pub mod ViableCharacterIsNoMark
 pub mod WholeSnippetEndsAlone

@@ -1,14 +1,23 @@
 //! How far a text is a regular NABC snippet: it is kept as it stands, and nothing is found in it.
 
-ghost use Rattle.std.specs.Prelude.{◌≡◌};
+ghost use Rattle.std.specs.Prelude.{◌≡◌, true};
 ghost use Rattle.gabc_patterns.specs.LongestPrefix.{IsLongestPrefix};
+ghost use Rattle.gabc_nabc.specs.CharClass.{class_of_character};
 ghost use Rattle.gabc_nabc.specs.Regular.{IsRegular};
 ghost use Rattle.gabc_nabc.specs.machine.Regular.{regular_after};
 ghost use Rattle.gabc_nabc.specs.witness.DescriptorMachine.{whole_at};
 
-use crate::class::class_of;
+use crate::class::{NabcClass, class_of};
 use crate::stage::{first_letter, lacks_name};
 use crate::state::{DescriptorState, is_whole, next_state};
+
+/// Returns whether `c` is known to stand in no snippet: it ends one, or is not of ASCII.
+#[inline(always)]
+fn is_foreign(c: char) -> bool
+    ensures { result ≡ true → class_of_character c ≡ NabcClass.Other }
+{
+    c == ')' || c == '|' || !c.is_ascii()
+}
 
 /// Where the reading of a snippet stands in which nothing was found yet.
 #[derive(Clone, Copy)]
@@ -20,12 +29,12 @@ pub(crate) struct RegularState {
 
 impl RegularState {
     /// Returns where the reading stands after `c`; `None` where `c` is not kept or ends a code that
-    /// has no name. The marks that end a snippet have their short way.
+    /// has no name. What stands in no snippet has a short way.
     #[inline(always)]
     fn after(self, c: char) -> Option<RegularState>
         ensures { result ≡ regular_after self c }
     {
-        if c == ')' || c == '|' {
+        if is_foreign(c) {
             return None;
         }
         match next_state(self.part, class_of(c)) {

@@ -1,8 +1,12 @@
 pub mod BeforeLast
 pub mod FoundSyllable
+pub mod LastIsHeld
 pub mod MoreIsTaken
 pub mod RunBegins
 pub mod RunEnds
+pub mod RunGives
 pub mod RunGoesOn
+pub mod RunIsTaken
+pub mod SameStands
 pub mod StandsThere
 pub mod Throughs

@@ -1,6 +1,6 @@
 //! How far the regular syllable goes that a text begins with.
 
-ghost use Rattle.std.specs.Prelude.{◌≡◌, ◌+◌, ◌≤◌, ◌<◌, length, take, slice_index, true, false, IfSome, IsTrue};
+ghost use Rattle.std.specs.Prelude.{◌≡◌, ◌≤◌, ◌<◌, length, take, slice_index, true, false, IfSome, IsTrue};
 ghost use Rattle.std.specs.List.{All, list_all};
 ghost use Rattle.std.specs.Str.{chars};
 ghost use Rattle.std.specs.String.Boundary.{IsSplitPoint};
@@ -51,10 +51,10 @@ fn begins_mark(bytes: &[u8]) -> bool
         || bytes.starts_with(b"</nlba>")
 }
 
-/// Returns whether `bytes` may begin with what no regular syllable has here: a span mark, a CR or
-/// U+FEFF.
+/// Returns whether `bytes` begin with what is refused in a regular syllable: a span mark, a CR, or
+/// the first byte of U+FEFF.
 #[inline(always)]
-fn begins_apart(bytes: &[u8]) -> bool
+fn begins_refused(bytes: &[u8]) -> bool
     requires { 0 < length bytes.now }
     ensures plain { result ≡ false → IsPlainByte (slice_index bytes.now 0) }
     ensures unmarked { result ≡ false → begins_mark bytes.now ≡ false }
@@ -66,15 +66,14 @@ fn begins_apart(bytes: &[u8]) -> bool
     first == b'\r' || first == 0xEF || (first == b'<' && begins_mark(bytes))
 }
 
-/// Returns whether neither a span mark nor a CR nor U+FEFF stands among `bytes`. Of other
-/// characters that begin as U+FEFF does it says that they do.
+/// Returns whether no span mark, no CR and no first byte of U+FEFF stand among `bytes`.
 fn is_plain(bytes: &[u8]) -> bool
     ensures plain { IsTrue result → All IsPlainByte bytes.now }
     ensures unmarked { IsTrue result → IsUnmarked bytes.now }
 {
     let mut read = 0;
     while read < bytes.len() {
-        if begins_apart(&bytes[read..]) {
+        if begins_refused(&bytes[read..]) {
             return false;
         }
         read += 1;
@@ -82,7 +81,8 @@ fn is_plain(bytes: &[u8]) -> bool
     true
 }
 
-/// Returns how many bytes of `text` its longest prefix has that is a regular snippet of that line.
+/// Returns how many bytes of `text` its longest prefix has that is a regular snippet of line
+/// `line`: of GABC on line 0, of NABC on each other.
 fn snippet_len(line: u8, text: &str) -> usize
     ensures within { IsSplitPoint text.now result }
     ensures regular { IsRegularOn line (chars (take result text.now)) }
@@ -118,9 +118,9 @@ fn snippets_len(lines: u8, text: &str) -> usize
 }
 
 /// Returns how long the regular syllable is that `text` begins with under `lines` NABC lines, if it
-/// begins with one that has no span mark. Each of its characters is kept and nothing is found in it;
-/// but for the blanks before its text, it is its own canonical text
-/// (`regular_laws::a_regular_syllable_makes_its_spelling`).
+/// begins with one that has no span mark. Nothing is found in it, and but for the blanks before its
+/// text it is its own canonical text (`regular_laws::a_regular_syllable_makes_its_spelling`). There
+/// may be one where it returns none.
 pub(crate) fn regular_syllable(lines: u8, text: &str) -> Option<RegularLen>
     ensures { IfSome result (BeginsRegularly lines text.now) }
 {

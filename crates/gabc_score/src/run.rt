@@ -152,7 +152,7 @@ pub(crate) struct Reached<'a> {
 
 impl SlotPair {
     /// Gives the syllable that is held its place in its word, before one that begins a word or not.
-    /// `has_lent` tells whether a syllable stands before it. Returns it.
+    /// `has_lent` says whether a syllable stands before it.
     fn place_held(&mut self, has_lent: bool, next_starts: bool)
         requires used { self.old.used ≡ SlotUse.Filling }
         ensures gathered { self.new.gathered ≡ self.old.gathered }
@@ -298,6 +298,7 @@ impl ScoreMachine {
             (shown self.new) out.old out.new }
         ensures rests { IsScore self.new }
     {
+        a_regular_syllable_goes_through();
         let none = Run { bytes: 0, next: at };
         if !is_low(at, text) || !self.is_between(at) {
             return none;
@@ -311,7 +312,13 @@ impl ScoreMachine {
         if !self.give_held(first.starts_word(), out) {
             return none;
         }
-        let reached = self.give_on(Reached { last: first, before }, out);
+        let reached = self.give_on(
+            Reached {
+                last: first,
+                before,
+            },
+            out,
+        );
         let last = reached.last;
         self.go_before(reached);
         self.read_all(last.at, last.spelled, room);

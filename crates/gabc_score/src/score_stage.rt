@@ -130,7 +130,7 @@ impl ScoreStage {
         ensures runs { Runs G.given self.old at (chars (take result.bytes text.now)) self.new
             out.old out.new }
     {
-        Run { bytes: 0, next: at }
+        self.machine.take_run(at, text, room, out)
     }
 
     /// Does nothing. Its contract is a law: where the inputs cease, at most one syllable is given.

@@ -1,11 +1,6 @@
 -- The texts of a score are read under limits that are enough for them as under those of their state.
-use Rattle.std.proofs.Common.{◌≡◌, ◌↔◌, ◌*◌, ◌≤◌, inl, inr, ℕ, List, [], ◌∷◌, length, sym, ap, subst, ◌∙◌, arith}
+use Rattle.std.proofs.Common.{◌≡◌, ◌↔◌, ◌*◌, ◌≤◌, inl, inr, ℕ, List, length, sym, ap, subst, ◌∙◌, arith}
 use Rattle.std.specs.Str.{chars}
-use Rattle.std.specs.Char.{len_utf8}
-use Rattle.std.proofs.lemmas.List.Sums.{sum_by-cons}
-use Rattle.std.proofs.lemmas.Str.{len_utf8_bounds}
-use Rattle.gabc_headers.specs.Lines.{bytes_len}
-use Rattle.gabc_headers.proofs.entries.TextsAsBytes.{length-encodes}
 use Rattle.gabc_places.specs.declared.limits.Limits.{Limits}
 use Rattle.gabc_places.specs.declared.place.Place.{Place}
 use Rattle.gabc_places.specs.TextOfAnInput.{IsText}
@@ -17,23 +12,7 @@ use Rattle.gregorio_state.specs.Conditions.{ArePhaseFields, AreScoreFields, AreS
 use Rattle.gregorio_state.specs.Fields.{InScore, ScoreFields, StateFields}
 use Rattle.gregorio.specs.SavedState.{IsHeldRead, IsKeptRead, IsScoreRead, TellsLimits}
 use Rattle.gregorio.specs.machine.Judging.{IsEnoughFor, LetsTexts}
-use Rattle.gregorio.proofs.RestoredStands.{text_bytes}
-
--- a text has no fewer bytes than characters
-characters_few : (t : List ℕ) → length t ≤ bytes_len t
-characters_few [] = omega arith
-characters_few (c ∷ t) =
-    let one = (len_utf8_bounds c).0 in
-    let more = sum_by-cons len_utf8 c t in
-    let rest : length t ≤ bytes_len t = characters_few t in
-    omega (arith, one, more, rest)
-
-pub fewer_characters : (bytes : List ℕ) → IsText bytes → length (chars bytes) ≤ length bytes
-fewer_characters bytes is =
-    let few = characters_few (chars bytes) in
-    let size = length-encodes (chars bytes) in
-    let same = ap length (text_bytes bytes is.utf8) in
-    omega (arith, few, size, same)
+use Rattle.gregorio.proofs.pieces.RunIsTaken.{fewer_characters}
 
 module _ (law : (lines macros : ℕ) (at : Place) (text : List ℕ) (spans : Spans) (limit other : ℕ) (m : UnplacedSyllable) → 5 * length text ≤ other → IsOneSyllable lines macros at text spans limit m
     → IsOneSyllable lines macros at text spans other m × (length m.kept ≤ other)) where
@@ -56,7 +35,7 @@ module _ (law : (lines macros : ℕ) (at : Place) (text : List ℕ) (spans : Spa
   score_alike : (limits small : Limits) (f : ScoreFields) → IsText f.held → IsEnoughFor f limits small → IsScoreRead small f ↔ IsScoreRead limits f
   score_alike limits small f is (inl same) = subst (λ (l : Limits). IsScoreRead l f ↔ IsScoreRead limits f) (sym same) ((λ r. r), (λ r. r))
   score_alike limits small f is (inr e) =
-      let few = fewer_characters f.held is in
+      let few = fewer_characters f.held is.utf8 in
       (read_alike small limits f few e.own (sym e.input), read_alike limits small f few e.others e.input)
 
   pub of_fields_alike : (s : StateFields) (limits small : Limits) (f : ScoreFields) → AreStateFields s → s.phase ≡ InScore f → IsEnoughFor f limits small → IsScoreRead small f ↔ IsScoreRead limits f

@@ -3,13 +3,16 @@
 ghost use Rattle.std.specs.Prelude.{◌≡◌, ◌<◌, ◌≤◌, ◌-◌, length, take, drop, true, false};
 ghost use Rattle.gregorio.specs.declared.source_ending.SourceEnding.TheVariants.{Broken};
 ghost use Rattle.gregorio_jobs.specs.declared.job.Status.TheVariants.{ReadFault};
-ghost use Rattle.gregorio.specs.Engine.{Brings, NothingWaits, StillRuns, TakesFront, is_running};
+ghost use Rattle.gregorio.specs.Engine.{Brings, StillRuns, TakesFront, is_running};
 ghost use Rattle.gregorio.specs.witness.Engine.{streams_left};
 ghost use Rattle.gregorio.specs.machine.Engine.{LeavesRoom};
 
 use crate::engine::Engine;
 use crate::rooms::most_waiting;
 use gabc_places::valid_front;
+
+/// How many bytes of a piece are looked at together for whether they are UTF-8.
+const MOST_LOOKED_AT: usize = 65_536;
 
 impl Engine {
     /// Takes bytes of `piece` until it is used up or what waits leaves no room for what one byte
@@ -26,11 +29,33 @@ impl Engine {
         if self.is_over() {
             return piece.len();
         }
-        let text = valid_front(piece);
         while count < piece.len() && self.has_room() {
-            count += self.take_next(piece, text, count);
+            let most = MOST_LOOKED_AT.min(piece.len() - count);
+            count += self.fill_part(&piece[count..count + most]);
         }
         self.keeps_nothing_back();
+        count
+    }
+
+    /// Takes bytes of `part` until it is used up or what waits leaves no room for what one byte more
+    /// may bring, and returns how many, at least one.
+    fn fill_part(&mut self, part: &[u8]) -> usize
+        requires room { LeavesRoom self.old }
+        requires running { is_running self.old ≡ true }
+        requires more { 0 < length part.now }
+        ensures taken { result ≤ length part.now }
+        ensures some { 0 < result }
+        ensures brings { Brings self.old (take result part.now) self.new }
+        ensures format { self.new.written.format ≡ self.old.written.format }
+        ensures job { StillRuns self.old self.new }
+        ensures fault { is_running self.new ≡ false →
+            (streams_left self.old Broken (take (result - 1) part.now)).status ≡ ReadFault }
+    {
+        let text = valid_front(part);
+        let mut count = 0;
+        while count < part.len() && self.has_room() {
+            count += self.take_next(part, text, count);
+        }
         count
     }
 
@@ -88,7 +113,7 @@ impl Engine {
     fn has_room(&self) -> bool
         ensures room { result ≡ true → LeavesRoom self.now }
         ensures running { result ≡ true → is_running self.now ≡ true }
-        ensures some { NothingWaits self.now → is_running self.now ≡ true → result ≡ true }
+        ensures some { LeavesRoom self.now → is_running self.now ≡ true → result ≡ true }
     {
         let most = most_waiting(self.score().limits());
         self.running() && self.out().len() <= most && self.messages().len() <= most

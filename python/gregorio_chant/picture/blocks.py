@@ -56,12 +56,12 @@ def _drawn(glyph: Glyph, lines: int, face: Face, following: str | None) -> Drawn
 
 class _Writer:
     """Writes the blocks of one snippet of notes on a staff of `lines` lines; `following` is the
-    pitch that comes after it."""
+    pitch that comes after it. Offsets count from `base` on."""
 
-    def __init__(self, snippet: NoteSnippet, lines: int, following: str | None, face: Face) -> None:
+    def __init__(self, snippet: NoteSnippet, lines: int, following: str | None, face: Face, base: int) -> None:
         self._glyphs: dict[int, Glyph] = {it.notes[0].place.offset: it for element in snippet.elements for it in element.glyphs}
         self._snippet, self._lines, self._face = snippet, lines, face
-        self._following = following
+        self._following, self._base = following, base
         self.blocks: list[Block] = []
         self._has_space = False
         # The last note, where the next one is fused to it.
@@ -82,7 +82,7 @@ class _Writer:
                 self._fused = self._last
         elif isinstance(item, Break):
             if not self.blocks:
-                self._put(Block(item.place.offset, (), 0.0))
+                self._put(Block(item.place.offset - self._base, (), 0.0))
             self.blocks[-1].ends_line = item.spelling
         elif isinstance(item, (Clef, Alteration, Bar, Custos)):
             self._add_sign(item)
@@ -103,7 +103,7 @@ class _Writer:
         signs = drawn.signs
         if self._fused is not None:
             signs = (_join(height_of(step_of(self._fused.pitch)), height_of(step_of(first.pitch))), *signs)
-        self._put(Block(glyph.place.offset, signs, drawn.width, _AFTER_NEUME, drawn.anchor, first.pitch))
+        self._put(Block(glyph.place.offset - self._base, signs, drawn.width, _AFTER_NEUME, drawn.anchor, first.pitch))
         self._fused, self._last = None, last
 
     @cached_property
@@ -122,7 +122,7 @@ class _Writer:
         return pitches
 
     def _add_sign(self, item: Clef | Alteration | Bar | Custos) -> None:
-        offset = item.place.offset
+        offset = item.place.offset - self._base
         if isinstance(item, Clef):
             signs, width = staff.clef(item.spelling, self._face.shapes)
             self._put(Block(offset, signs, width, _AFTER_CLEF, clef=item))
@@ -132,7 +132,7 @@ class _Writer:
         elif isinstance(item, Bar):
             signs, width = staff.bar(item, self._lines)
             self._put(Block(offset, signs, width, _AFTER_BAR, width / 2, is_bar=True))
-        elif (pitch := item.pitch or self._pitches[offset]) is not None:
+        elif (pitch := item.pitch or self._pitches[item.place.offset]) is not None:
             signs, width = staff.custos(pitch, self._lines, self._face.shapes)
             self._put(Block(offset, signs, width, _AFTER_CUSTOS, is_custos=True))
 
@@ -142,8 +142,8 @@ def _join(before: float, here: float) -> Rect:
     return Rect(-STEM / 2, min(before, here), STEM, abs(before - here))
 
 
-def _blocks_of_notes(snippet: NoteSnippet, lines: int, following: str | None, face: Face) -> list[Block]:
-    writer = _Writer(snippet, lines, following, face)
+def _blocks_of_notes(snippet: NoteSnippet, lines: int, following: str | None, face: Face, base: int) -> list[Block]:
+    writer = _Writer(snippet, lines, following, face, base)
     for item in snippet.items:
         writer.add(item)
     return writer.blocks
@@ -171,11 +171,17 @@ def _with_nabc(blocks: list[Block], snippets: list[NabcSnippet], offset: int) ->
     return blocks
 
 
+def begin_of_notes(syllable: Syllable) -> int:
+    """Returns how many characters of the canonical text stand before the notes of a syllable."""
+    return (syllable.snippets[0] if syllable.snippets else syllable).place.offset
+
+
 def blocks_of(syllable: Syllable, lines: int, following: str | None, face: Face = OWN) -> list[Block]:
     """Returns the blocks of a syllable; `following` is the first pitch after it."""
     snippets = syllable.snippets
+    base = begin_of_notes(syllable)
     if len(snippets) == 1 and isinstance(snippets[0], NoteSnippet):
-        return _blocks_of_notes(snippets[0], lines, following, face)
+        return _blocks_of_notes(snippets[0], lines, following, face, base)
     blocks: list[Block] = []
     nabc: list[NabcSnippet] = []
     group: list[Block] = []
@@ -184,9 +190,9 @@ def blocks_of(syllable: Syllable, lines: int, following: str | None, face: Face 
         if isinstance(snippet, NabcSnippet):
             nabc.append(snippet)
             continue
-        blocks += _with_nabc(group, nabc, snippet.place.offset)
-        nabc, group = [], _blocks_of_notes(snippet, lines, after[at], face)
-    return blocks + _with_nabc(group, nabc, syllable.place.offset)
+        blocks += _with_nabc(group, nabc, snippet.place.offset - base)
+        nabc, group = [], _blocks_of_notes(snippet, lines, after[at], face, base)
+    return blocks + _with_nabc(group, nabc, syllable.place.offset - base)
 
 
 def first_pitch(snippets: Sequence[NoteSnippet | NabcSnippet]) -> str | None:

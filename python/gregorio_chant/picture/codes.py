@@ -4,6 +4,7 @@ from __future__ import annotations
 
 from typing import NamedTuple
 
+from gregorio_chant.picture.blocks import begin_of_notes
 from gregorio_chant.picture.marks import Mark, Places
 from gregorio_chant.picture.values import Line, Placed
 from gregorio_chant.picture.widths import width_of
@@ -35,8 +36,9 @@ def _x_of(placed: Placed, mark: Mark) -> float:
     """Returns where the thing begins that a message is about: a block of the notes, or the text."""
     part = placed.part
     x = part.text_left if part.has_text else part.left
+    base = begin_of_notes(part.syllable)
     for at, block in part.blocks:
-        if mark.offset is not None and block.offset <= mark.offset:
+        if mark.offset is not None and base + block.offset <= mark.offset:
             x = at
     return placed.x + x
 

@@ -9,7 +9,7 @@ from gregorio_chant.items import Attribute, Syllable
 from gregorio_chant.picture.blocks import first_pitch
 from gregorio_chant.picture.faces import OWN, Face
 from gregorio_chant.picture.lines import LineMaker
-from gregorio_chant.picture.parts import parts_of
+from gregorio_chant.picture.parts import PartMaker
 from gregorio_chant.picture.values import Line, Part
 from gregorio_chant.reports import counted
 
@@ -58,8 +58,9 @@ class Layout:
             yield maker.finish(line, end, None if after is None else _first_pitch(after[0]))
 
     def _parts(self) -> Iterator[Part]:
+        maker = PartMaker(self.staff, self._room, self.face)
         for syllable, pitch in _with_pitches(self.syllables):
-            parts, text = parts_of(syllable, self.staff, pitch, self._room, self.face)
+            parts, text = maker.parts_of(syllable, pitch)
             if "[" in syllable.spelling:
                 self.attributes += sum(isinstance(it, Attribute) for it in syllable.items)
             self.raw += text.raw

@@ -3,10 +3,10 @@ note over the middle of the vowel."""
 from __future__ import annotations
 
 from collections.abc import Iterator
-from dataclasses import dataclass
+from typing import NamedTuple
 
 from gregorio_chant.items import Clef, Syllable
-from gregorio_chant.picture.blocks import blocks_of
+from gregorio_chant.picture.blocks import begin_of_notes, blocks_of
 from gregorio_chant.picture.faces import OWN, Face
 from gregorio_chant.picture.shown import shown
 from gregorio_chant.picture.values import Block, Part, Words
@@ -15,32 +15,60 @@ from gregorio_chant.picture.words import SyllableText, read_and_set
 
 TRANSLATION_SIZE, ABOVE_SIZE = 12.0, 11.0
 _DOTS = "…"
+_MOST_KEPT = 4096
 
 
-@dataclass(frozen=True, slots=True)
-class _Row:
-    """Blocks that stand on one line, at their places from the first one's left."""
+class _Row(NamedTuple):
+    """What stands of a syllable's notes on one line: blocks at their places from the first anchor,
+    between `left` and `right`."""
 
     blocks: tuple[tuple[float, Block], ...]
-    width: float
+    left: float
+    right: float
+    has_anchor: bool
+    first: str | None
+    clef: Clef | None
+    ends_line: str
+    is_bar: bool
 
 
-def _rows_of(blocks: list[Block], room: float) -> Iterator[_Row]:
+def _row_of(blocks: list[tuple[float, Block]], width: float) -> _Row:
+    """Returns a row of blocks at these places from the first one's left."""
+    anchor: float | None = None
+    first: str | None = None
+    clef: Clef | None = None
+    ends_line, has_bar = "", False
+    for x, it in blocks:
+        if anchor is None and it.anchor is not None:
+            anchor = x + it.anchor
+        first = first or it.first
+        clef = it.clef or clef
+        ends_line = ends_line or it.ends_line
+        has_bar = has_bar or it.is_bar
+    at = anchor or 0.0
+    placed = tuple([(round(x - at, 2), it) for x, it in blocks])
+    return _Row(placed, round(-at, 2), round(width - at, 2), anchor is not None, first, clef, ends_line, has_bar and first is None)
+
+
+_NO_BLOCKS = _row_of([], 0.0)
+
+
+def _cut_into_rows(blocks: list[Block], room: float) -> Iterator[_Row]:
     """Yields the blocks in rows that are no wider than `room`, a new one after each end of a
     line."""
     row: list[tuple[float, Block]] = []
     x = 0.0
     for block in blocks:
         if row and x + block.width > room:
-            yield _Row(tuple(row), x - row[-1][1].after)
+            yield _row_of(row, x - row[-1][1].after)
             row, x = [], 0.0
         row.append((round(x, 2), block))
         x += block.width + block.after
         if block.ends_line:
-            yield _Row(tuple(row), x - block.after)
+            yield _row_of(row, x - block.after)
             row, x = [], 0.0
     if row:
-        yield _Row(tuple(row), x - row[-1][1].after)
+        yield _row_of(row, x - row[-1][1].after)
 
 
 def _shortened(text: str, size: float, room: float) -> Words:
@@ -81,22 +109,9 @@ def _cut(words: tuple[Words, ...], room: float) -> list[tuple[Words, ...]]:
 
 def _part_of(syllable: Syllable, number: int, row: _Row) -> Part:
     """Returns a part with these blocks and no text."""
-    anchor: float | None = None
-    first: str | None = None
-    clef: Clef | None = None
-    ends_line, has_bar = "", False
-    for x, it in row.blocks:
-        if anchor is None and it.anchor is not None:
-            anchor = x + it.anchor
-        first = first or it.first
-        clef = it.clef or clef
-        ends_line = ends_line or it.ends_line
-        has_bar = has_bar or it.is_bar
-    at = anchor or 0.0
-    blocks = tuple([(round(x - at, 2), it) for x, it in row.blocks])
     return Part(
-        syllable, number, blocks, round(-at, 2), round(row.width - at, 2), has_anchor=anchor is not None, first=first, clef=clef, ends_line=ends_line,
-        is_bar=has_bar and first is None,
+        syllable, number, row.blocks, row.left, row.right, has_anchor=row.has_anchor, first=row.first, clef=row.clef, ends_line=row.ends_line,
+        is_bar=row.is_bar,
     )
 
 
@@ -109,28 +124,51 @@ def _add_text(part: Part, line: tuple[Words, ...], middle: float) -> None:
     part.text_right = round(part.text_left + line[-1].x + line[-1].width, 2)
 
 
-def parts_of(syllable: Syllable, lines: int, following: str | None, room: float, face: Face = OWN) -> tuple[list[Part], SyllableText]:
-    """Returns the parts of a syllable on lines with this much room, and its text."""
-    text, words, middle = read_and_set(syllable.text)
-    blocks = blocks_of(syllable, lines, following, face)
-    rows = list(_rows_of(blocks, room)) or [_Row((), 0.0)]
-    parts = [_part_of(syllable, at, it) for at, it in enumerate(rows)]
-    texts = _cut(words, room) if words and words[-1].x + words[-1].width > room else [words]
-    if len(texts) > 1:
-        middle = 0.0
-    first = parts[0]
-    _add_text(first, texts[0], middle)
-    for line in texts[1:]:
-        parts.append(_part_of(syllable, len(parts), _Row((), 0.0)))
-        _add_text(parts[-1], line, 0.0)
-    if syllable.translation:
-        left = first.text_left if first.has_text else first.left
-        first.translation = _shortened(syllable.translation, TRANSLATION_SIZE, room).moved(left)
-    if text.above:
-        first.above = tuple(_shortened(it, ABOVE_SIZE, room).moved(first.left) for it in text.above)
-    if len(parts) > 1:
-        _add_ends(parts)
-    return parts, text
+class PartMaker:
+    """Makes syllables to parts on lines of a staff with this much room. The rows of notes that were
+    made last are kept, since a score has its snippets often."""
+
+    def __init__(self, lines: int, room: float, face: Face = OWN) -> None:
+        self._lines, self._room, self._face = lines, room, face
+        self._kept: dict[tuple[str, str | None], list[_Row]] = {}
+
+    def parts_of(self, syllable: Syllable, following: str | None) -> tuple[list[Part], SyllableText]:
+        """Returns the parts of a syllable before this pitch, and its text."""
+        text, words, middle = read_and_set(syllable.text)
+        room = self._room
+        parts = [_part_of(syllable, at, it) for at, it in enumerate(self._rows_of(syllable, following))]
+        texts = _cut(words, room) if words and words[-1].x + words[-1].width > room else [words]
+        if len(texts) > 1:
+            middle = 0.0
+        first = parts[0]
+        _add_text(first, texts[0], middle)
+        for line in texts[1:]:
+            parts.append(_part_of(syllable, len(parts), _NO_BLOCKS))
+            _add_text(parts[-1], line, 0.0)
+        if syllable.translation:
+            left = first.text_left if first.has_text else first.left
+            first.translation = _shortened(syllable.translation, TRANSLATION_SIZE, room).moved(left)
+        if text.above:
+            first.above = tuple(_shortened(it, ABOVE_SIZE, room).moved(first.left) for it in text.above)
+        if len(parts) > 1:
+            _add_ends(parts)
+        return parts, text
+
+    def _rows_of(self, syllable: Syllable, following: str | None) -> list[_Row]:
+        """Returns the notes of a syllable in rows. Those of one snippet depend on its spelling and on
+        the pitch after it."""
+        if len(syllable.snippets) != 1:
+            return self._made(syllable, following)
+        key = syllable.snippets[0].spelling, following
+        rows = self._kept.get(key)
+        if rows is None:
+            if len(self._kept) >= _MOST_KEPT:
+                self._kept.clear()
+            rows = self._kept[key] = self._made(syllable, following)
+        return rows
+
+    def _made(self, syllable: Syllable, following: str | None) -> list[_Row]:
+        return list(_cut_into_rows(blocks_of(syllable, self._lines, following, self._face), self._room)) or [_NO_BLOCKS]
 
 
 def _add_ends(parts: list[Part]) -> None:
@@ -138,6 +176,6 @@ def _add_ends(parts: list[Part]) -> None:
     no place there."""
     end: int | None = None
     for part in reversed(parts):
-        part.begin = part.blocks[0][1].offset if part.number and part.blocks else 0
+        part.begin = begin_of_notes(part.syllable) + part.blocks[0][1].offset if part.number and part.blocks else 0
         part.end = end if part.number == 0 or part.blocks else 0
         end = part.begin if part.blocks else end

@@ -66,8 +66,9 @@ class Words(NamedTuple):
 
 @dataclass(slots=True)
 class Block:
-    """Signs that no line end parts. `offset` says where it begins in the canonical text.
-    `anchor` is the middle of its first head, or of a bar; `first` is its first pitch."""
+    """Signs that no line end parts. `offset` says where it begins in the canonical text, from the
+    first snippet of its syllable on. `anchor` is the middle of its first head, or of a bar;
+    `first` is its first pitch."""
 
     offset: int
     signs: tuple[Sign, ...]

@@ -171,8 +171,8 @@ module _ (lines : ℕ) (text : List ℕ) (n line k : ℕ) (utf8 : IsUtf8 text) (
 
 -- ---- the syllable
 
--- Blanks, a regular text, a `(` and snippets are a regular syllable of these bytes, where the bytes after the blanks are plain and no span mark stands
--- among them.
+-- Blanks, a regular text, a `(` and snippets are a regular syllable of these bytes, where the bytes
+-- after the blanks are plain and no span mark stands among them.
 module _ (lines : ℕ) (text : List ℕ) (gap k : ℕ) (utf8 : IsUtf8 text) (within : gap ≤ length text) (blanks : list_all is_blank (take gap text) ≡ true)
     (word : IsText (take k (drop gap text))) (regular : IsRegularText (chars (take k (drop gap text))))
     (less : gap + k < length text) (at : get_or text (gap + k) 0 ≡ 40) where

@@ -1,4 +1,4 @@
--- Bytes among which no span mark stands, and the spans that are open after a syllable that keeps them.
+-- Bytes among which no span mark stands, and the spans that are open after a syllable of these.
 use Rattle.std.proofs.Common.{◌≡◌, ℕ, zero, suc, ◌-◌, List, [], ◌∷◌, ◌++◌, Bool, true, false, ◌||◌, ◌==◌, nat_lt, cond, length, take, drop, codes, refl, sym, ap, ◌∙◌, arith, take-append-drop}
 use Rattle.std.specs.List.{starts_with}
 use Rattle.std.specs.Str.{bytes_eq}

@@ -32,7 +32,7 @@ use Rattle.gabc_score.specs.machine.Preceded.{IsPreceded, behind_headers}
 use Rattle.gabc_score.specs.machine.ScoreStage.{placed_behind, with_held}
 use Rattle.gabc_score.proofs.score_events.WhatPrecedes.{Closed, same_or_closed}
 
-more : (least : ℕ) (p : Preceding) (ms : List UnplacedSyllable) → least < 2 ^ 64 → least ≤ p.canonical → least ≤ (with_each p ms).canonical
+pub more : (least : ℕ) (p : Preceding) (ms : List UnplacedSyllable) → least < 2 ^ 64 → least ≤ p.canonical → least ≤ (with_each p ms).canonical
 more least p [] small h = h
 more least p (m ∷ ms) small h = more least (with_one p m) ms small (grind (arith, nat_tests))
 

@@ -30,7 +30,8 @@ abbrev pub with_bars_after : List (List ℕ) → List ℕ
 with_bars_after [] = []
 with_bars_after (s ∷ snippets) = s ++ 124 ∷ with_bars_after snippets
 
--- The first n bytes of a text are regular snippets, each with a `|` after it, and the next snippet stands on this line.
+-- The first n bytes of a text are regular snippets, each with a `|` after it, and the next snippet
+-- stands on this line.
 pub record SnippetsBefore (lines : ℕ) (text : List ℕ) (n line : ℕ) : Type 0 where
   pub before : List (List ℕ)
   pub within : n ≤ length text
@@ -51,8 +52,8 @@ pub record BeginsWithSnippets (lines : ℕ) (text : List ℕ) (n : ℕ) : Type 0
 
 -- ---- the syllable
 
--- The text begins with a regular syllable, of which this is known: how many bytes it has, and how many of them are the blanks before its text. Its
--- characters may stand in a text of an input, and no span mark stands among its bytes.
+-- The text begins with a regular syllable, which has so long a gap and is so long. Its characters
+-- may stand in a text of an input, and no span mark stands among the bytes that are kept of it.
 pub record BeginsRegularly (lines : ℕ) (text : List ℕ) (n : RegularLen) : Type 0 where
   pub syllable : SyllableParts
   pub is_regular : IsRegularSyllable lines syllable

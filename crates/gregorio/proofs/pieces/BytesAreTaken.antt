@@ -46,6 +46,17 @@ still_reserved old new steady reserved =
 
 -- ---- a byte
 
+-- What was to come of these items waits, after what waited before, and the rest is still to come.
+pub items_taken : (h now : HeaderStageState) (w new : ScoreWriterState) (items more : List (Result Char Fault)) (ending : SourceEnding) → WritesItems h w items now new
+    → behind_bytes w.writer.out.items w.writer.messages.items (streams_of_items h w ending (items ++ more))
+    ≡ behind_bytes new.writer.out.items new.writer.messages.items (streams_of_items now new ending more)
+items_taken h now w new items more ending a =
+    let later = streams_of_items now new ending more in
+    ap (λ (s : Streams). behind_bytes w.writer.out.items w.writer.messages.items s) (a.law ending more)
+    ∙ (sym (behind_both w.writer.out.items w.writer.messages.items a.output a.lines later)
+    ∙ (ap (λ (o : BoundedList ℕ). behind_bytes o.items (w.writer.messages.items ++ a.lines) later) (sym a.out)
+    ∙ ap (λ (l : BoundedList ℕ). behind_bytes new.writer.out.items l.items later) (sym a.messages)))
+
 items_next : (d e : DecoderState) (byte : ℕ) (bytes : List ℕ) (items : List (Result Char Fault)) (ending : SourceEnding) → decoder.events_left d (byte ∷ bytes) ≡ items ∷ decoder.events_left e bytes
     → emitted_by (is_whole ending) (byte ∷ bytes) (decoder.events_left d (byte ∷ bytes)) ≡ items ++ emitted_by (is_whole ending) bytes (decoder.events_left e bytes)
 items_next d e byte bytes items Ended law = ap (λ (lists : List (List (Result Char Fault))). concat_of lists) law
@@ -58,12 +69,8 @@ pub byte_taken : (d e : DecoderState) (h now : HeaderStageState) (w new : ScoreW
     ≡ behind_bytes new.writer.out.items new.writer.messages.items (streams_of_items now new ending (emitted_by (is_whole ending) bytes (decoder.events_left e bytes)))
 byte_taken d e h now w new byte items law a bytes ending =
     let rest = emitted_by (is_whole ending) bytes (decoder.events_left e bytes) in
-    let later = streams_of_items now new ending rest in
-    ap (λ (s : Streams). behind_bytes w.writer.out.items w.writer.messages.items s)
-    (ap (λ (xs : List (Result Char Fault)). streams_of_items h w ending xs) (items_next d e byte bytes items ending (law bytes)) ∙ a.law ending rest)
-    ∙ (sym (behind_both w.writer.out.items w.writer.messages.items a.output a.lines later)
-    ∙ (ap (λ (o : BoundedList ℕ). behind_bytes o.items (w.writer.messages.items ++ a.lines) later) (sym a.out)
-    ∙ ap (λ (l : BoundedList ℕ). behind_bytes new.writer.out.items l.items later) (sym a.messages)))
+    ap (λ (xs : List (Result Char Fault)). behind_bytes w.writer.out.items w.writer.messages.items (streams_of_items h w ending xs)) (items_next d e byte bytes items ending (law bytes))
+    ∙ items_taken h now w new items rest ending a
 
 -- ---- a piece
 

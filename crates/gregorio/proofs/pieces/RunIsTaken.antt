@@ -6,7 +6,6 @@ use Rattle.std.proofs.lemmas.Str.{encodes-chars, length-le-encodes}
 use Rattle.std.specs.Str.{chars}
 use Rattle.std.specs.declared.hash.DefaultHasher.{DefaultHasher}
 use Rattle.gabc_places.proofs.PushesAreOne.{joined-append}
-use Rattle.gabc_places.specs.BoundedList.{BoundedList}
 use Rattle.gabc_places.specs.DecoderMachine.{DecoderState, IsReached}
 use Rattle.gabc_places.specs.DecoderTells.{is_after_cr}
 use Rattle.gabc_places.specs.Place.{place_past, placed_characters_from}
@@ -24,10 +23,9 @@ use Rattle.gabc_score.specs.ScoreStage.{Counts}
 use Rattle.gabc_score.specs.ScoreTells.{StandsAt}
 use Rattle.gabc_score.specs.Syllable.{PlacedSyllable}
 use Rattle.gabc_score.specs.Before.{with_placed}
-use Rattle.gabc_score.specs.ToldWithin.{whole_syllables}
 use Rattle.gabc_score.specs.declared.before.Preceding.{Preceding}
 use Rattle.gregorio.specs.Outcome.{is_whole}
-use Rattle.gregorio.specs.Streams.{Streams, behind_bytes}
+use Rattle.gregorio.specs.Streams.{behind_bytes}
 use Rattle.gregorio.specs.declared.source_ending.SourceEnding.{SourceEnding}
 use Rattle.gregorio.specs.declared.source_ending.SourceEnding.TheVariants.{Whole as Ended, Broken}
 use Rattle.gregorio.specs.machine.Engine.{GoTogether, WritesItems, streams_of_items}
@@ -37,7 +35,7 @@ use Rattle.gregorio.specs.machine.RunWriter.{RunWriterState, TakesRuns, outputs_
 use Rattle.gregorio.specs.machine.ScoreWriter.{ScoreWriterState, WritesRun, streams_of}
 use Rattle.gregorio.specs.machine.TellsInStep.{IsTelling}
 use Rattle.gregorio.specs.witness.Engine.{Written, book_behind, head_events_left, lines_of_outputs, texts_of_outputs}
-use Rattle.gregorio.proofs.pieces.BytesAreJoined.{behind_both}
+use Rattle.gregorio.proofs.pieces.BytesAreTaken.{items_taken}
 use Rattle.gregorio.proofs.pieces.FrontIsTaken.{inputs_behind}
 use Rattle.gregorio.proofs.pieces.ItemsAreRead.{past_behind}
 use Rattle.gregorio.proofs.pieces.PartsStayInStep.{IsInBody, in_body, one_part}
@@ -124,17 +122,6 @@ module _ (w new : ScoreWriterState) (at : Place) (t : List ℕ) (r : WritesRun w
   }
 
 -- ---- what an engine writes
-
--- At these bytes, of which these items come, what was to come of them waits, and the rest is still to come.
-items_taken : (h now : HeaderStageState) (w new : ScoreWriterState) (items more : List (Result Char Fault)) (ending : SourceEnding) → WritesItems h w items now new
-    → behind_bytes w.writer.out.items w.writer.messages.items (streams_of_items h w ending (items ++ more))
-    ≡ behind_bytes new.writer.out.items new.writer.messages.items (streams_of_items now new ending more)
-items_taken h now w new items more ending a =
-    let later = streams_of_items now new ending more in
-    ap (λ (s : Streams). behind_bytes w.writer.out.items w.writer.messages.items s) (a.law ending more)
-    ∙ (sym (behind_both w.writer.out.items w.writer.messages.items a.output a.lines later)
-    ∙ (ap (λ (o : BoundedList ℕ). behind_bytes o.items (w.writer.messages.items ++ a.lines) later) (sym a.out)
-    ∙ ap (λ (l : BoundedList ℕ). behind_bytes new.writer.out.items l.items later) (sym a.messages)))
 
 module _ (d e : DecoderState) (h : HeaderStageState) (w new : ScoreWriterState) (text : List ℕ) (r : WritesRun w d.place (chars text) new) (takes : TakesRuns w.writer.written) (skips : SkipsText d text e)
     (step : IsInStep d h w.score w.writer.written) where

@@ -1,6 +1,6 @@
 -- What a writer has written of a run of syllables, and what it will still write.
-use Rattle.std.proofs.Common.{◌≡◌, ℕ, List, [], ◌∷◌, ◌++◌, length, Bool, true, false, Option, Some, None, IsSome, is_none, if◌then◌else◌, refl, ap, sym, subst, ◌∙◌}
-use Rattle.std.proofs.lemmas.Bool.{false≢true, or_parts}
+use Rattle.std.proofs.Common.{◌≡◌, ℕ, List, [], ◌∷◌, ◌++◌, Bool, true, false, Option, Some, None, IsSome, is_none, if◌then◌else◌, refl, ap, sym, subst, ◌∙◌}
+use Rattle.std.proofs.lemmas.Bool.{or_parts}
 use Rattle.gabc_headers.specs.declared.head_event.HeadEvent.{HeadEvent}
 use Rattle.gabc_neumes.specs.InForce.{InForce}
 use Rattle.gabc_neumes.specs.declared.sound.Clef.{Clef}
@@ -8,13 +8,13 @@ use Rattle.gabc_places.proofs.PushesAreOne.{joined-append}
 use Rattle.gabc_places.specs.StageLaw.{concat_of}
 use Rattle.gabc_places.specs.declared.place.Place.{Place}
 use Rattle.gabc_score.specs.Before.{sounds, with_placed}
-use Rattle.gabc_score.specs.GivesSyllables.{GivesSyllables, text_inputs}
+use Rattle.gabc_score.specs.GivesSyllables.{text_inputs}
 use Rattle.gabc_score.specs.ScoreEvents.{ScoreOutput, Syllable, syllables_in}
 use Rattle.gabc_score.specs.Syllable.{PlacedSyllable}
 use Rattle.gabc_score.specs.declared.before.Preceding.{Preceding}
 use Rattle.gabc_score.specs.declared.score_machine.ScorePart.{ScorePart}
 use Rattle.gabc_score.specs.declared.score_machine.ScorePart.TheVariants as score_part
-use Rattle.gabc_score.specs.witness.ScoreStage.{ScoreStageState, left_of}
+use Rattle.gabc_score.specs.witness.ScoreStage.{left_of}
 use Rattle.gregorio_jobs.specs.declared.job.Format.{Format}
 use Rattle.gregorio_jobs.specs.declared.job.Format.TheVariants.{Gabc}
 use Rattle.gregorio_jobs.specs.declared.job.Status.{Status}
@@ -27,7 +27,7 @@ use Rattle.gregorio.proofs.StreamsOfOutputs.{headed_stays, in_body, some_and_res
 
 -- ---- what is written
 
--- but for how many syllables were written and what is in force behind them, it is as before
+-- It is as before, but for how many syllables were written and what is in force after them.
 pub record IsCounted (w v : Written) : Type 0 where
   pub count : ℕ
   pub force : InForce

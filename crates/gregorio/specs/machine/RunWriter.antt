@@ -56,7 +56,7 @@ pub record TakesRuns (w : Written) : Type 0 where
   pub headed : w.headed ≡ true
   pub runs : is_none w.ended ≡ true
 
--- And there is room for a syllable of so many bytes.
+-- There is room for a syllable of n bytes, too.
 pub record TakesText (w : RunWriterState) (n : ℕ) : Type 0 where
   pub runs : TakesRuns w.written
   pub fits : Fits w.out n

@@ -8,8 +8,8 @@ use Rattle.gabc_score.proofs.regular.is_plain.Goals as goal
 pub loop-read-preserved : goal.loop-read-preserved
 loop-read-preserved c = record {
   within = omega arith;
-  plain = more_plain c.args.bytes.now c.loop-read.read c.loop-read-test.true c.loop-read.invariant.plain (c.begins_apart.ensures.plain c.if-begins_apart.false);
-  unmarked = more_unmarked c.args.bytes.now c.loop-read.read c.loop-read.invariant.unmarked (c.begins_apart.ensures.unmarked c.if-begins_apart.false);
+  plain = more_plain c.args.bytes.now c.loop-read.read c.loop-read-test.true c.loop-read.invariant.plain (c.begins_refused.ensures.plain c.if-begins_refused.false);
+  unmarked = more_unmarked c.args.bytes.now c.loop-read.read c.loop-read.invariant.unmarked (c.begins_refused.ensures.unmarked c.if-begins_refused.false);
 }
 
 pub returns-clause-plain : goal.returns-clause-plain

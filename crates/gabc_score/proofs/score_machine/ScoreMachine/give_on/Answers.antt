@@ -1,6 +1,4 @@
-use Rattle.std.proofs.Common.{◌≡◌, ◌+◌, ◌<◌, ◌≤◌, ◌^◌, ℕ, List, [], ◌++◌, length, sym, ap, subst, ◌∙◌, arith, append-nil}
-use Rattle.std.specs.Str.{chars}
-use Rattle.gabc_places.specs.Place.{place_past}
+use Rattle.std.proofs.Common.{ℕ, List, [], length, sym, ap, subst, arith, append-nil}
 use Rattle.gabc_places.specs.declared.place.Place.{Place}
 use Rattle.gabc_score.specs.Syllable.{PlacedSyllable}
 use Rattle.gabc_score.specs.machine.Run.{IsFound, RunsTo}

@@ -1,8 +1,11 @@
-use Rattle.std.proofs.Common.{◌≡◌, ◌≤◌, Bool, true, false, not, refl, inl, inr, length, drop, ap, sym, subst, ◌∙◌, arith}
-use Rattle.gregorio.specs.Engine.{NothingWaits, is_running}
-use Rattle.gregorio.specs.witness.Engine.{EngineState}
-use Rattle.gregorio.proofs.pieces.FrontIsTaken.{brings_more}
+use Rattle.std.proofs.Common.{◌≡◌, ◌+◌, ◌-◌, ◌≤◌, ℕ, List, Bool, true, false, not, refl, inl, inr, length, length-drop, length-take, drop, ap, sym, subst, ◌∙◌, arith}
+use Rattle.gregorio_jobs.specs.declared.job.Status.TheVariants.{ReadFault}
+use Rattle.gregorio.specs.Engine.{Brings, NothingWaits, is_running}
+use Rattle.gregorio.specs.declared.source_ending.SourceEnding.TheVariants.{Broken}
+use Rattle.gregorio.specs.witness.Engine.{EngineState, streams_left}
+use Rattle.gregorio.proofs.pieces.FrontIsTaken.{brings_more, front_of_front}
 use Rattle.gregorio.proofs.pieces.NothingIsKeptBack.{ends_further, took_some}
+use Rattle.gregorio.proofs.pieces.RoomIsLeft.{leaves_room}
 use Rattle.gregorio.proofs.engine.Engine.fill.Goals.{else-loop-count-test, then-loop-count-test+else-has_room}
 use Rattle.gregorio.proofs.engine.Engine.fill.Goals as goal
 
@@ -19,18 +22,26 @@ loop-count-init c = record {
 pub loop-count-preserved : goal.loop-count-preserved
 loop-count-preserved c =
     let i = c.loop-count.invariant in
-    let next = c.take_next-count in
+    let next = c.fill_part-count in
+    let count = c.loop-count.count in
+    let rest = drop count c.args.piece.now in
+    let most = count + c.min-most.result - count in
     let within = next.ensures.taken in
-    let more = c.loop-count-test.true in
-    let rest = drop c.loop-count.count c.args.piece.now in
     let some = next.ensures.some in
+    let cut = front_of_front next.result most rest within in
+    let before = front_of_front (next.result - 1) most rest (omega (arith, within)) in
+    let len = length-take most rest in
+    let left = length-drop count c.args.piece.now in
+    let more = c.loop-count-test.true in
     record {
-      brings = brings_more c.args.self.now c.loop-count.self next.new.self c.args.piece.now rest c.loop-count.count next.result refl i.brings next.ensures.brings;
-      within = omega (arith, within, more);
+      brings = brings_more c.args.self.now c.loop-count.self next.new.self c.args.piece.now rest count next.result refl i.brings
+          (subst (λ (xs : List ℕ). Brings c.loop-count.self xs next.new.self) cut next.ensures.brings);
+      within = omega (arith, within, len, left, more);
       begun = inl (omega (arith, some));
       format = next.ensures.format ∙ i.format;
       job = λ job limits runs. next.ensures.job job limits (i.job job limits runs);
-      fault = λ over. ends_further c.args.self.now c.loop-count.self c.args.piece.now rest c.loop-count.count next.result refl i.brings some (next.ensures.fault over);
+      fault = λ over. ends_further c.args.self.now c.loop-count.self c.args.piece.now rest count next.result refl i.brings some
+          (subst (λ (xs : List ℕ). (streams_left c.loop-count.self Broken xs).status ≡ ReadFault) before (next.ensures.fault over));
     }
 
 runs_if_not : (b : Bool) → not b ≡ false → b ≡ true
@@ -44,7 +55,7 @@ returns-clause-takes c =
     let runs = runs_if_not (is_running s) (sym c.is_over.ensures.over ∙ c.if-is_over.false) in
     let all : NothingWaits s → c.loop-count.self ≡ s → length c.args.piece.now ≤ c.loop-count.count = λ none same. elim c.loop-count-test.branch [
       | then-loop-count-test+else-has_room w ↦
-          absurd (cc (sym (w.has_room.ensures.some (subst NothingWaits (sym same) none) (ap (λ (e : EngineState). is_running e) same ∙ runs)) ∙ w.if-has_room.false))
+          absurd (cc (sym (w.has_room.ensures.some (leaves_room c.loop-count.self (subst NothingWaits (sym same) none)) (ap (λ (e : EngineState). is_running e) same ∙ runs)) ∙ w.if-has_room.false))
       | else-loop-count-test w ↦ w.loop-count-test.false
     ] in
     record {

@@ -1,4 +1,4 @@
-use Rattle.std.proofs.Common.{◌≡◌, ◌≤◌, ◌<◌, ℕ, zero, suc, List, [], ◌++◌, is_none, length, take, ap, sym, subst, ◌∙◌, arith, IsUtf8}
+use Rattle.std.proofs.Common.{◌≡◌, ◌≤◌, ℕ, zero, suc, List, ◌++◌, is_none, length, take, ap, sym, subst, ◌∙◌, arith, IsUtf8}
 use Rattle.std.proofs.lemmas.Str.{IsCharBoundary-start}
 use Rattle.std.specs.List.{slice_range}
 use Rattle.std.specs.Str.{IsCharBoundary, chars}
@@ -7,6 +7,7 @@ use Rattle.gabc_places.specs.DecoderMachine.{IsReached}
 use Rattle.gabc_places.specs.Place.{place_past}
 use Rattle.gabc_places.specs.declared.place.Place.{Place}
 use Rattle.gregorio.specs.Engine.{with_waiting}
+use Rattle.gregorio.specs.machine.RunWriter.{TakesRuns}
 use Rattle.gregorio.specs.machine.ScoreWriter.{WritesRun}
 use Rattle.gregorio.specs.witness.Engine.{EngineState, Written, streams_left}
 use Rattle.gregorio.proofs.pieces.BytesAreTaken.{still_reserved}
@@ -27,6 +28,41 @@ front_is front bytes n is = is ∙ ap (λ (k : ℕ). take k bytes) (omega arith)
 pub range-requires-clause-end_boundary : goal.range-requires-clause-end_boundary
 range-requires-clause-end_boundary c = cut_there c.range-front.result.now c.take_run-run.result.bytes c.range-front.utf8 c.take_run-run.ensures.within
 
+takes : (c : goal.After-skip_text) → TakesRuns c.self.inside.writer.writer.written
+takes c = c.takes_runs.ensures c.if-not-takes_runs.false
+
+-- the text that the decoder skips is that of the run
+text_is : (c : goal.After-skip_text) → c.range.result.now ≡ take c.take_run-run.result.bytes c.range-front.result.now
+text_is c = front_is c.range.result.now c.range-front.result.now c.take_run-run.result.bytes c.range.ensures.value
+
+writes : (c : goal.After-skip_text) → WritesRun c.self.inside.writer c.self.inside.decoder.place (chars c.range.result.now) c.take_run-run.new.self
+writes c =
+    let w = c.self.inside.writer in
+    let new = c.take_run-run.new.self in
+    subst (λ (at : Place). WritesRun w at (chars c.range.result.now) new) c.place.ensures.place
+    (subst (λ (bytes : List ℕ). WritesRun w c.place.result (chars bytes) new) (sym (text_is c)) c.take_run-run.ensures.writes)
+
+skips : (c : goal.After-skip_text) → SkipsText c.self.inside.decoder c.range.result.now c.skip_text.new.self
+skips c =
+    let e = c.skip_text.new.self in
+    let text = c.range.result.now in
+    record {
+      lists = _;
+      joined = c.skip_text.ensures.joined;
+      one_each = c.skip_text.ensures.one_each;
+      all = c.skip_text.ensures.all;
+      few = fewer_characters text c.range.utf8;
+      limit = c.skip_text.ensures.limit;
+      taken = c.skip_text.ensures.taken;
+      place = c.skip_text.ensures.place
+          ∙ (c.take_run-run.ensures.next
+          ∙ (ap (λ (bytes : List ℕ). place_past c.place.result (chars bytes)) (sym (text_is c))
+          ∙ ap (λ (at : Place). place_past at (chars text)) c.place.ensures.place));
+      reached = subst (λ (at : Place). IsReached at (length e.pending) e.taken) (sym c.skip_text.ensures.place) c.skip_text.ensures.reached;
+      runs = c.skip_text.ensures.runs;
+      cr = c.skip_text.ensures.cr;
+    }
+
 pub invariant_of-self : goal.invariant_of-self
 invariant_of-self c =
     let d = c.self.inside.decoder in
@@ -35,73 +71,31 @@ invariant_of-self c =
     let w = c.self.inside.writer in
     let new = c.take_run-run.new.self in
     let text = c.range.result.now in
-    let here = c.place.ensures.place in
-    let cut = front_is text c.range-front.result.now c.take_run-run.result.bytes c.range.ensures.value in
-    let writes : WritesRun w d.place (chars text) new = subst (λ (at : Place). WritesRun w at (chars text) new) here
-    (subst (λ (bytes : List ℕ). WritesRun w c.place.result (chars bytes) new) (sym cut) c.take_run-run.ensures.writes) in
-    let skips : SkipsText d text e = record {
-      lists = _;
-      joined = c.skip_text.ensures.joined;
-      one_each = c.skip_text.ensures.one_each;
-      all = c.skip_text.ensures.all;
-      few = fewer_characters text c.range.utf8;
-      limit = c.skip_text.ensures.limit;
-      taken = c.skip_text.ensures.taken;
-      place = c.skip_text.ensures.place ∙ (c.take_run-run.ensures.next ∙ (ap (λ (bytes : List ℕ). place_past c.place.result (chars bytes)) (sym cut) ∙ ap (λ (at : Place). place_past at (chars text)) here));
-      reached = subst (λ (at : Place). IsReached at (length e.pending) e.taken) (sym c.skip_text.ensures.place) c.skip_text.ensures.reached;
-      runs = c.skip_text.ensures.runs;
-      cr = c.skip_text.ensures.cr;
-    } in
-    let takes = c.takes_runs.ensures c.if-not-takes_runs.false in
     let step = c.self.invariant.step in
     record {
       few = c.self.invariant.few;
-      together = run_together d e h w new text writes takes skips step c.self.invariant.together;
+      together = run_together d e h w new text (writes c) (takes c) (skips c) step c.self.invariant.together;
       reserved = still_reserved w new c.take_run-run.ensures.steady c.self.invariant.reserved;
-      step = run_in_step d e h w new text writes takes skips step;
-      headers = run_reads_on d e h w new text writes takes skips step;
-      tells = run_stays_telling d e h w new text writes takes skips step c.self.invariant.tells;
+      step = run_in_step d e h w new text (writes c) (takes c) (skips c) step;
+      headers = run_reads_on d e h w new text (writes c) (takes c) (skips c) step;
+      tells = run_stays_telling d e h w new text (writes c) (takes c) (skips c) step c.self.invariant.tells;
     }
 
 pub returns-clause-brings : goal.returns-clause-brings
 returns-clause-brings c = λ more ending.
-    let d = c.self.inside.decoder in
-    let e = c.skip_text.new.self in
-    let h = c.self.inside.heads in
-    let w = c.self.inside.writer in
-    let new = c.take_run-run.new.self in
     let text = c.range.result.now in
     let count = c.take_run-run.result.bytes in
-    let here = c.place.ensures.place in
-    let cut = front_is text c.range-front.result.now c.take_run-run.result.bytes c.range.ensures.value in
-    let writes : WritesRun w d.place (chars text) new = subst (λ (at : Place). WritesRun w at (chars text) new) here
-    (subst (λ (bytes : List ℕ). WritesRun w c.place.result (chars bytes) new) (sym cut) c.take_run-run.ensures.writes) in
-    let skips : SkipsText d text e = record {
-      lists = _;
-      joined = c.skip_text.ensures.joined;
-      one_each = c.skip_text.ensures.one_each;
-      all = c.skip_text.ensures.all;
-      few = fewer_characters text c.range.utf8;
-      limit = c.skip_text.ensures.limit;
-      taken = c.skip_text.ensures.taken;
-      place = c.skip_text.ensures.place ∙ (c.take_run-run.ensures.next ∙ (ap (λ (bytes : List ℕ). place_past c.place.result (chars bytes)) (sym cut) ∙ ap (λ (at : Place). place_past at (chars text)) here));
-      reached = subst (λ (at : Place). IsReached at (length e.pending) e.taken) (sym c.skip_text.ensures.place) c.skip_text.ensures.reached;
-      runs = c.skip_text.ensures.runs;
-      cr = c.skip_text.ensures.cr;
-    } in
-    let takes = c.takes_runs.ensures c.if-not-takes_runs.false in
-    let whole = front_is c.range-front.result.now c.args.text.now c.floor_char_boundary-most.result c.range-front.ensures.value in
-    let within : count ≤ length (take c.floor_char_boundary-most.result c.args.text.now) = subst (λ (bytes : List ℕ). count ≤ length bytes) whole c.take_run-run.ensures.within.0 in
+    let most = c.floor_char_boundary-most.result in
+    let front = front_is c.range-front.result.now c.args.text.now most c.range-front.ensures.value in
+    let within : count ≤ length (take most c.args.text.now) = subst (λ (bytes : List ℕ). count ≤ length bytes) front c.take_run-run.ensures.within.0 in
     let same : take count c.args.text.now ≡ text =
-    sym (front_of_front count c.floor_char_boundary-most.result c.args.text.now within)
-    ∙ (ap (λ (bytes : List ℕ). take count bytes) (sym whole) ∙ sym cut) in
+    sym (front_of_front count most c.args.text.now within) ∙ (ap (λ (bytes : List ℕ). take count bytes) (sym front) ∙ sym (text_is c)) in
     ap (λ (bytes : List ℕ). with_waiting c.args.self.now (streams_left c.args.self.now ending (bytes ++ more))) same
     ∙ (ap (λ (s : EngineState). with_waiting s (streams_left s ending (text ++ more))) (sym c.self.view_is)
-    ∙ text_taken d e h w new text writes takes skips c.self.invariant.step c.self.invariant.together more ending)
+    ∙ text_taken c.self.inside.decoder c.skip_text.new.self c.self.inside.heads c.self.inside.writer c.take_run-run.new.self text (writes c) (takes c) (skips c)
+    c.self.invariant.step c.self.invariant.together more ending)
 
 pub returns-clause-running : goal.returns-clause-running
 returns-clause-running c =
-    let w = c.self.inside.writer in
-    let new = c.take_run-run.new.self in
-    ap (λ (v : Written). is_none v.ended) (run_counted w c.place.result (chars (take c.take_run-run.result.bytes c.range-front.result.now)) new c.take_run-run.ensures.writes).is
+    ap (λ (v : Written). is_none v.ended) (run_counted c.self.inside.writer c.self.inside.decoder.place (chars c.range.result.now) c.take_run-run.new.self (writes c)).is
     ∙ ap (λ (s : EngineState). is_none s.written.ended) c.self.view_is

@@ -1,4 +1,4 @@
-use Rattle.std.proofs.Common.{ap, subst, sym, take, ◌∙◌, arith}
+use Rattle.std.proofs.Common.{ap, subst, sym, take, arith}
 use Rattle.std.specs.Str.{chars}
 use Rattle.gabc_places.specs.BoundedList.{BoundedList}
 use Rattle.gabc_score.specs.declared.score_event.ScoreEvent.{ScoreEvent}

@@ -1,0 +1,185 @@
+-- A run that a machine takes from a text.
+use Rattle.std.proofs.Common.{◌≡◌, ℕ, ◌+◌, ◌-◌, ◌<◌, ◌≤◌, ◌^◌, ◌||◌, not, nat_lt, Bool, true, false, List, [], ◌∷◌, ◌++◌, length, take, refl, sym, ap, subst, ◌∙◌, arith, append_assoc, length-append}
+use Rattle.std.specs.List.{All}
+use Rattle.std.specs.Str.{IsUtf8, chars}
+use Rattle.std.specs.String.Boundary.{IsSplitPoint}
+use Rattle.std.proofs.Math.Seq.{take-append_seam}
+use Rattle.std.proofs.lemmas.List.Elements.{All-append, All-nil}
+use Rattle.std.proofs.lemmas.Str.{IsCharBoundary-from_take, IsUtf8-append, IsUtf8-nil, chars-append, chars-nil}
+use Rattle.gabc_text.specs.TextStage.{fresh_stage}
+use Rattle.gabc_places.specs.Place.{place_past}
+use Rattle.gabc_places.specs.TextOfAnInput.{IsPlain, IsText}
+use Rattle.gabc_places.specs.declared.place.Place.{Place}
+use Rattle.gabc_places.proofs.PlacesOfAText.{place_append}
+use Rattle.gabc_score.specs.declared.body_stage.BodyPart.TheVariants.{Text}
+use Rattle.gabc_score.specs.declared.run.Found.{Found}
+use Rattle.gabc_score.specs.declared.run.Reached.{Reached}
+use Rattle.gabc_score.specs.declared.score_machine.ScoreMachine.{ScoreMachine}
+use Rattle.gabc_score.specs.Canonical.{position_by}
+use Rattle.gabc_score.specs.GivesSyllables.{GivesSyllables}
+use Rattle.gabc_score.specs.ScoreStage.{IsWithin}
+use Rattle.gabc_score.specs.Syllable.{UnplacedSyllable, PlacedSyllable}
+use Rattle.gabc_score.specs.witness.BodyStage.{BodyStageState}
+use Rattle.gabc_score.specs.witness.ScoreStage.{ScoreStageState}
+use Rattle.gabc_score.specs.machine.Gatherer.{Gathered}
+use Rattle.gabc_score.specs.machine.PartCounts.{CountsHold}
+use Rattle.gabc_score.specs.machine.PartKeeps.{in_text, PartKeeps}
+use Rattle.gabc_score.specs.machine.PartOnly.{HoldsTexts}
+use Rattle.gabc_score.specs.machine.ReadAlone.{is_alone, lists_from, HasRead}
+use Rattle.gabc_score.specs.machine.Run.{IsFound, IsSamePair, StandsBetween, RunsBefore, RunsTo}
+use Rattle.gabc_score.specs.machine.ScoreMachine.{shown, IsInBody, IsScoreAt}
+use Rattle.gabc_score.specs.machine.SlotPair.{SlotPairState, is_made}
+use Rattle.gabc_score.specs.machine.SyllableBuilder.{nothing_open}
+use Rattle.gabc_score.proofs.runs.FoundSyllable.{plain_is, utf8_is}
+use Rattle.gabc_score.proofs.runs.LastIsHeld.{GoesBefore, rests_there, is_alone_there, rests_then, holds_then}
+use Rattle.gabc_score.proofs.runs.RunBegins.{held_of, run_begins}
+use Rattle.gabc_score.proofs.runs.RunEnds.{EndsWith, run_ends}
+use Rattle.gabc_score.proofs.runs.RunGives.{run_gives}
+use Rattle.gabc_score.proofs.runs.RunGoesOn.{MakeSyllables, low_there}
+use Rattle.gabc_score.proofs.runs.SameStands.{moved_stands}
+
+-- ---- what is lent does not count
+
+-- at no characters nothing is given
+pub gives_none : (s : ScoreStageState) (at : Place) (first second : PlacedSyllable) → GivesSyllables s at [] [] (record s { first = first; second = second })
+gives_none s at first second = record {
+  limits = refl;
+  part = refl;
+  before_held = refl;
+  next = refl;
+  stands = λ here was. was;
+  whole = omega arith;
+  told = λ here was old body. let t = old body in record { counts = t.counts; next = t.next; openers = t.openers; reading = t.reading; held = t.held };
+  holds = λ was. was;
+  counts = λ was. was;
+  within = All-nil (IsWithin s.limits);
+  points = [];
+  one_each = refl;
+  given_are = refl;
+  law = λ xs. refl;
+  none = λ e. refl;
+}
+
+-- what a machine shows whose slots are used otherwise
+pub shown_same : (old new : ScoreMachine) → IsSamePair old new → (first second : PlacedSyllable) → record (shown new) { first = first; second = second } ≡ record (shown old) { first = first; second = second }
+shown_same old new same first second =
+    ap (λ (m : ScoreMachine). record (shown m) { first = first; second = second }) same.is
+    ∙ ap (λ (g : Gathered). record (shown old) { held = record (shown old).held { gathered = g }; first = first; second = second }) same.gathered
+
+-- ---- the first syllable
+
+-- the syllable that is held, before one that begins a word or not
+abbrev pub placed_first : ScoreMachine → UnplacedSyllable → Bool → PlacedSyllable
+placed_first m x starts = record { made = x; position = position_by (not m.has_lent || x.text.word_start) starts }
+
+module _ (m : ScoreMachine) (at : Place) (text : List ℕ) (first : Found) (stands : StandsBetween m at) (lines : ℕ) (lines_are : lines ≡ m.body.nabc_lines)
+    (found : IsFound lines m.limits m.bounds.behind.canonical first) (place : first.at ≡ at) (is : text ≡ first.spelled.now ++ first.rest.now)
+    (line : at.line + length text < 2 ^ 63) (column : at.column + length text < 2 ^ 63) where
+  abbrev pub reached_first : Reached
+  reached_first = record { last = first; before = m.bounds.behind }
+
+  -- the syllable that is held
+  abbrev held_first : (x : UnplacedSyllable) × (m.pair.gathered.made ≡ x ∷ [])
+  held_first = held_of m.pair.gathered.made stands.one
+
+  abbrev pub given_first : List PlacedSyllable
+  given_first = placed_first m held_first.0 (nat_lt 0 first.gap) ∷ []
+
+  run_from : (pair : SlotPairState) → pair.gathered ≡ m.pair.gathered → is_made pair.used ≡ false → RunsTo (record m { pair = pair }) at text given_first reached_first
+  run_from pair gathered used =
+      let there = moved_stands m pair gathered used at stands in
+      record {
+        stands = there;
+        bytes = [];
+        utf8 = IsUtf8-nil;
+        runs = subst (λ (t : List ℕ). RunsBefore (record m { pair = pair }) at t given_first (nat_lt 0 first.gap) m.bounds.behind first.at) (sym chars-nil)
+            (subst (RunsBefore (record m { pair = pair }) at [] given_first (nat_lt 0 first.gap) m.bounds.behind) (sym place)
+            (run_begins (record m { pair = pair }) at held_first.0 there (ap (λ (g : Gathered). g.made) gathered ∙ held_first.1) (nat_lt 0 first.gap)));
+        found = subst (λ n. IsFound n m.limits m.bounds.behind.canonical first) lines_are found;
+        text_is = is;
+        line = line;
+        column = column;
+      }
+
+  -- a run has given the syllable that was held, and has reached the first one that was found
+  pub run_to_first : (new : ScoreMachine) → IsSamePair m new → is_made new.pair.used ≡ false → RunsTo new at text given_first reached_first
+  run_to_first new same used = subst (λ (n : ScoreMachine). RunsTo n at text given_first reached_first) (sym same.is) (run_from new.pair same.gathered used)
+
+-- ---- the text of a run
+
+module _ (m : ScoreMachine) (at : Place) (text : List ℕ) (given : List PlacedSyllable) (reached : Reached) (to : RunsTo m at text given reached) where
+  abbrev f : Found
+  f = reached.last
+
+  -- the bytes that are taken
+  abbrev pub taken_bytes : ℕ
+  taken_bytes = length text - length f.rest.now
+
+  text_is : text ≡ (to.bytes ++ f.spelled.now) ++ f.rest.now
+  text_is = to.text_is ∙ sym (append_assoc to.bytes f.spelled.now f.rest.now)
+
+  pub rest_within : length f.rest.now ≤ length text
+  rest_within = let n = ap (λ (l : List ℕ). length l) text_is ∙ length-append (to.bytes ++ f.spelled.now) f.rest.now in omega (arith, n)
+
+  len_is : taken_bytes ≡ length (to.bytes ++ f.spelled.now)
+  len_is = let n = ap (λ (l : List ℕ). length l) text_is ∙ length-append (to.bytes ++ f.spelled.now) f.rest.now in omega (arith, n)
+
+  take_is : take taken_bytes text ≡ to.bytes ++ f.spelled.now
+  take_is = ap (λ n. take n text) len_is ∙ ap (take (length (to.bytes ++ f.spelled.now))) text_is ∙ take-append_seam (to.bytes ++ f.spelled.now) f.rest.now
+
+  spelled_utf8 : IsUtf8 f.spelled.now
+  spelled_utf8 = utf8_is f m.body.nabc_lines reached.before.canonical m.limits to.found
+
+  pub chars_are : chars (take taken_bytes text) ≡ chars to.bytes ++ chars f.spelled.now
+  chars_are = ap chars take_is ∙ chars-append to.bytes f.spelled.now to.utf8
+
+  pub within_is : IsUtf8 text → IsSplitPoint text taken_bytes
+  within_is utf8 =
+      let le : taken_bytes ≤ length text = omega arith in
+      let cut = IsCharBoundary-from_take text taken_bytes utf8 le (subst IsUtf8 (sym take_is) (IsUtf8-append to.bytes f.spelled.now to.utf8 spelled_utf8)) in
+      (cut.0, λ some. cut.1)
+
+  pub plain_there : All IsPlain (chars (take taken_bytes text))
+  plain_there = subst (All IsPlain) (sym chars_are) (All-append IsPlain (chars to.bytes) (chars f.spelled.now) to.runs.plain (plain_is f m.body.nabc_lines reached.before.canonical m.limits to.found))
+
+  pub next_there : f.next ≡ place_past at (chars (take taken_bytes text))
+  next_there =
+      to.found.next ∙ ap (λ (q : Place). place_past q (chars f.spelled.now)) to.runs.place ∙ sym (place_append at (chars to.bytes) (chars f.spelled.now))
+      ∙ ap (place_past at) (sym chars_are)
+
+  pub low : (f.at.line + length f.spelled.now < 2 ^ 63) × (f.at.column + length f.spelled.now < 2 ^ 63)
+  low = low_there at f.at to.bytes f.spelled.now f.rest.now text to.utf8 to.text_is to.runs.place to.line to.column
+
+  -- ---- the last syllable
+
+  module _ (law : MakeSyllables) (on : ScoreMachine) (goes : GoesBefore m reached.before f on) where
+    ends : EndsWith m at (chars to.bytes) given reached.before f
+    ends = run_ends m at (chars to.bytes) given (nat_lt 0 f.gap) reached.before f.at to.runs to.stands f to.found refl refl law low.0 low.1
+
+    pub rests_on : IsInBody on
+    rests_on = rests_there m at (chars to.bytes) given (nat_lt 0 f.gap) reached.before f.at to.runs to.stands f on goes
+
+    pub alone_on : is_alone on.limits on.pair.gathered (lists_from on f.at (chars f.spelled.now)) ≡ true
+    alone_on = is_alone_there m at (chars to.bytes) given (nat_lt 0 f.gap) reached.before f.at to.runs to.stands f on goes ends
+
+    module _ (read : ScoreMachine) (has : HasRead on read (lists_from on f.at (chars f.spelled.now))) (was : IsScoreAt read.part read)
+        (texts : IsText f.spelled.now → HoldsTexts on.pair.gathered → HoldsTexts read.pair.gathered)
+        (body : BodyStageState) (begins : body ≡ record read.body { part = Text (fresh_stage f.next) }) (counts : CountsHold body.part nothing_open)
+        (keeps : (lines macros : ℕ) → PartKeeps lines macros body.part (in_text [])) where
+      abbrev then : ScoreMachine
+      then = record read { body = body; next = f.next }
+
+      -- it rests after it
+      pub rests_after : IsScoreAt read.part then
+      rests_after = subst (λ q. IsScoreAt q then) (sym has.part)
+          (rests_then m at (chars to.bytes) given (nat_lt 0 f.gap) reached.before f.at to.runs to.stands f on goes ends to.found read has was texts body begins counts keeps)
+
+      gives_by : (first second : PlacedSyllable) → GivesSyllables (record (shown m) { first = first; second = second }) at (chars to.bytes ++ chars f.spelled.now) given (shown then)
+      gives_by = run_gives m at (chars to.bytes) given (nat_lt 0 f.gap) reached.before f.at to.runs to.stands f to.found refl low.1 ends then
+          (holds_then m at (chars to.bytes) given (nat_lt 0 f.gap) reached.before f.at to.runs to.stands f on goes ends to.found read has was texts body begins counts keeps)
+
+      -- what the run gives, of a machine whose slots were used otherwise
+      pub gives_after : (old : ScoreMachine) → IsSamePair old m → GivesSyllables (shown old) at (chars (take taken_bytes text)) given (shown then)
+      gives_after old same =
+          subst (λ (t : List ℕ). GivesSyllables (shown old) at t given (shown then)) (sym chars_are)
+          (subst (λ (s : ScoreStageState). GivesSyllables s at (chars to.bytes ++ chars f.spelled.now) given (shown then)) (shown_same old m same old.pair.first old.pair.second) (gives_by old.pair.first old.pair.second))
