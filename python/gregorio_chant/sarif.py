@@ -9,7 +9,7 @@ from urllib.parse import quote
 from gregorio_chant.codes import CODES
 from gregorio_chant.explaining import page_of
 from gregorio_chant.reports import LEVELS, Checked, with_help
-from gregorio_chant.results import Message
+from gregorio_chant.results import Kind, Message
 from gregorio_chant.rules import RULES
 from gregorio_chant.source import Lines
 from gregorio_chant.streams import NAME, STDIN
@@ -65,7 +65,8 @@ def _rule(name: str) -> dict[str, object]:
     """Returns what the log says of a code or of a rule."""
     code = CODES.get(name)
     if code is not None:
-        short, meaning, page = code.text, code.meaning, "LANGUAGE.md#errors-and-warnings"
+        heading = "fatal-faults" if code.kind is Kind.FATAL else "errors-and-warnings"
+        short, meaning, page = code.text, code.meaning, f"LANGUAGE.md#{heading}"
     else:
         short, meaning, page = RULES[name].meaning.partition(". ")[0], RULES[name].meaning, "PYTHON.md#rules"
     return {
