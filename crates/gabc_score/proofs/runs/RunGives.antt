@@ -7,6 +7,7 @@ use Rattle.gabc_places.specs.Place.{is_line_feed, next_place, place_past}
 use Rattle.gabc_places.specs.declared.place.Place.{Place}
 use Rattle.gabc_places.proofs.PlacesOfAText.{place_append}
 use Rattle.gabc_headers.specs.declared.head_event.HeadEvent.{HeadEvent}
+use Rattle.gabc_text.specs.witness.EventsLeft as fresh_events
 use Rattle.gabc_score.specs.declared.before.Preceding.{Preceding}
 use Rattle.gabc_score.specs.declared.body_stage.BodyPart.{BodyPart}
 use Rattle.gabc_score.specs.declared.body_stage.BodyPart.TheVariants.{Text}
@@ -141,6 +142,7 @@ module _ (m : ScoreMachine) (at : Place) (t : List ℕ) (given : List PlacedSyll
       }
 
   told_is : at ≡ m.next → TellsOfText before → TellsOfText (shown after)
+  unfolding fresh_events.events_left
   told_is here told body =
       let was = told stands.part in
       let input = runs.input in
