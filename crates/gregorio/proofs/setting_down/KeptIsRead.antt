@@ -3,6 +3,7 @@ use Rattle.std.proofs.Common.{◌≡◌, ℕ, ◌+◌, ◌-◌, List, [], Bool, 
 use Rattle.std.proofs.lemmas.Bool.{false≢true}
 use Rattle.gabc_places.specs.declared.place.Place.{Place}
 use Rattle.gabc_places.specs.TextOfAnInput.{IsText}
+use Rattle.gabc_text.specs.witness.EventsLeft as fresh_events
 use Rattle.gabc_score.specs.Before.{no_syllable, preceding_of}
 use Rattle.gabc_score.specs.ReadAgain.{CanBeReadInText, StandsBefore, TellsOfReading, TellsTheSameBut, no_openers}
 use Rattle.gabc_score.specs.ScoreTells.{StandsInFront, before_of, before_with, in_body, is_in_comment, is_in_front, openers_of, reading_in_body}
@@ -55,6 +56,7 @@ kept_told p kept body = rw body refl
 
 module _ (f : ScoreFields) (old : ScoreStageState) (holds : HoldsHeld f old) where
   stands_before : StandsBefore old
+  unfolding fresh_events.events_left
   stands_before = record {
     runs = ap (λ (b : Option Before). is_some b) holds.behind.before_is;
     nothing_read = holds.begins.nothing_read;
