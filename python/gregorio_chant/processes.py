@@ -30,12 +30,15 @@ def by_processes(work: Callable[[str], _Made], names: Sequence[str], jobs: int) 
 
     chunk = max(1, min(_MOST_IN_A_CHUNK, len(names) // (4 * jobs)))
     pool = ProcessPoolExecutor(jobs, get_context("fork"), _leave_signals)
+    ended = False
     try:
         yield pool.map(work, names, chunksize=chunk)
+        ended = True
     except BrokenProcessPool:
         raise MemoryError("a process was ended from outside") from None
     finally:
-        pool.shutdown(wait=False, cancel_futures=True)
+        # A pool that is still ending when Python ends may write of an exception that it ignored.
+        pool.shutdown(wait=ended, cancel_futures=True)
 
 
 def _leave_signals() -> None:
