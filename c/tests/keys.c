@@ -10,7 +10,7 @@
 #include "../gregorio.h"
 #include "cases.h"
 
-enum { ROUNDS = 10, ROOM = 1 << 17 };
+enum { ROUNDS = 20, ROOM = 1 << 17 };
 
 static uint8_t names[ROOM], output[ROOM], messages[ROOM], state[ROOM];
 static struct gregorio_message records[64];
@@ -44,24 +44,30 @@ static bool reads_in_pieces(const uint64_t *key, size_t key_length) {
   return feed(&options, count, &step, score + length - 3, 3) == GREGORIO_RUNS;
 }
 
-/* The least time of one round: what else the machine does only adds to it. */
-static double time_of(reader read, const uint64_t *key, size_t key_length, const char *what) {
-  double least = 1e9;
-  for (size_t i = 0; i < ROUNDS; i++) {
-    clock_t begun = clock();
-    check(read(key, key_length), what, i);
-    double took = (double)(clock() - begun) / CLOCKS_PER_SEC;
-    if (took < least) least = took;
-  }
-  return least;
+/* The processor time of one round, in seconds. */
+static double time_of(reader read, const uint64_t *key, const char *what, size_t round) {
+  clock_t begun = clock();
+  check(read(key, key == NULL ? 0 : 2), what, round);
+  return (double)(clock() - begun) / CLOCKS_PER_SEC;
 }
 
+static void keep_least(double *least, double took) {
+  if (took < *least) *least = took;
+}
+
+/* Compares the least times of the rounds, which what else the machine does only adds to. The rounds take turns, so that a processor that grows slower or faster
+ * changes all of them alike. */
 static void try_reader(reader read, size_t names_length, double part, const char *what, size_t number) {
   static const uint64_t key[2] = {0x243f6a8885a308d3, 0x13198a2e03707344};
-  score = names + names_length, length = 3;
-  double none = time_of(read, key, 2, what);
-  score = names, length = names_length + 3;
-  double without = time_of(read, NULL, 0, what) - none, with = time_of(read, key, 2, what) - none;
+  double none = 1e9, without = 1e9, with = 1e9;
+  for (size_t round = 0; round < ROUNDS; round++) {
+    score = names + names_length, length = 3;
+    keep_least(&none, time_of(read, key, what, round));
+    score = names, length = names_length + 3;
+    keep_least(&without, time_of(read, NULL, what, round));
+    keep_least(&with, time_of(read, key, what, round));
+  }
+  without -= none, with -= none;
   printf("keys: %s: %.2f ms without a key, %.2f ms with one\n", what, 1e3 * without, 1e3 * with);
   check(with <= part * without, what, number);
 }

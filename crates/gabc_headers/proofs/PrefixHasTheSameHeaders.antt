@@ -1,8 +1,9 @@
 -- What stands behind the line `%%` is no matter to the headers.
 use Rattle.std.proofs.Common.{◌≡◌, ℕ, ◌+◌, ◌<◌, ◌≤◌, ◌==◌, ◌||◌, ◌&&◌, nat_lt, List, [], ◌∷◌, ◌++◌, Bool, true, false, cond, refl, sym, ap, ◌∙◌, arith, length, take, append_assoc, Option, Some, None, Ok}
-use Rattle.std.proofs.lemmas.Bool.{eqb-true}
+use Rattle.std.proofs.lemmas.Bool.{eqb-true, and_parts}
 use Rattle.std.proofs.lemmas.Bool.Decides.{nat_tests}
 use Rattle.std.proofs.Math.Seq.{take-append-add}
+use Rattle.gabc_places.proofs.NothingBehindAnEnd.{both_empty}
 use Rattle.gabc_places.specs.declared.limits.Limits.{Limits}
 use Rattle.gabc_places.specs.declared.code.Code.TheVariants.{F4, F7}
 use Rattle.gabc_places.specs.Findings.{Stop, earliest}
@@ -20,14 +21,6 @@ use Rattle.gabc_headers.proofs.stops.PointsOfStops.{above_within}
 use Rattle.gabc_headers.proofs.stops.TextTooLong.{take_head}
 use Rattle.gabc_headers.proofs.groups.BookNeedsScoreLine.{score_behind, has_score_line}
 
-and_first : (a b : Bool) → (a && b) ≡ true → a ≡ true
-and_first true b h = refl
-and_first false b h = h
-
-and_second : (a b : Bool) → (a && b) ≡ true → b ≡ true
-and_second true b h = h
-and_second false b h = absurd (cc)
-
 -- ---- the text before the line `%%`
 
 -- behind it stands `%%`
@@ -41,7 +34,7 @@ marked_at s (c ∷ r) h = by (s && is_score_line (c ∷ r)) refl h (λ k. marked
 
     by : (b : Bool) → (s && is_score_line (c ∷ r)) ≡ b → (b || is_scored (c == 10) r) ≡ true → (is_scored (c == 10) r ≡ true → (rest : List ℕ) × (r ≡ head_text (c == 10) r ++ 37 ∷ 37 ∷ rest))
         → (rest : List ℕ) × (c ∷ r ≡ cond b [] (c ∷ head_text (c == 10) r) ++ 37 ∷ 37 ∷ rest)
-    by true e k on = let l = and_second s (is_score_line (c ∷ r)) e in percents r (and_first (c == 37) (is_percent r) l) (and_second (c == 37) (is_percent r) l)
+    by true e k on = let l = (and_parts s (is_score_line (c ∷ r)) e).1 in percents r (and_parts (c == 37) (is_percent r) l).0 (and_parts (c == 37) (is_percent r) l).1
     by false e k on = let o = on k in (o.0, ap (λ x. c ∷ x) o.1)
 
 module _ (more : List ℕ) where
@@ -53,7 +46,7 @@ module _ (more : List ℕ) where
   percent_same s (c ∷ r) h = by (s && is_score_line (c ∷ r)) refl
     where
       by : (b : Bool) → (s && is_score_line (c ∷ r)) ≡ b → is_percent (cond b [] (c ∷ head_text (c == 10) r) ++ 37 ∷ 37 ∷ more) ≡ (c == 37)
-      by true e = sym (and_first (c == 37) (is_percent r) (and_second s (is_score_line (c ∷ r)) e))
+      by true e = sym (and_parts (c == 37) (is_percent r) (and_parts s (is_score_line (c ∷ r)) e).1).0
       by false e = refl
 
   record Same (s : Bool) (r : List ℕ) : Type 0 where
@@ -70,7 +63,7 @@ module _ (more : List ℕ) where
     where
       by : (b : Bool) → (s && is_score_line (c ∷ r)) ≡ b → (b || is_scored (c == 10) r) ≡ true → (is_scored (c == 10) r ≡ true → Same (c == 10) r) → Same s (c ∷ r)
       by true e k on =
-          let m = marked s (and_first s (is_score_line (c ∷ r)) e) in
+          let m = marked s (and_parts s (is_score_line (c ∷ r)) e).0 in
           let f : prefix s (c ∷ r) ≡ 37 ∷ 37 ∷ more = ap (λ b. cond b [] (c ∷ head_text (c == 10) r) ++ 37 ∷ 37 ∷ more) e in
           record {
             scored = ap (is_scored s) f ∙ m.0;
@@ -87,10 +80,6 @@ module _ (more : List ℕ) where
           }
 
 -- ---- what stops the headers
-
-nothing_both : {X : Type 0} (xs ys : List X) → xs ++ ys ≡ [] → (xs ≡ []) × (ys ≡ [])
-nothing_both [] ys h = (refl, h)
-nothing_both (x ∷ xs) ys h = absurd (cc)
 
 never_empty : {X : Type 0} (x : X) (b : Bool) (i : ℕ) (n : ℕ) → i < n → (y : X) → cond b (cond (nat_lt i n) (x ∷ []) []) (y ∷ []) ≡ [] → ⊥
 never_empty x true i n h y e = let l : nat_lt i n ≡ true = grind (arith, nat_tests) in let f = ap (λ b. cond b (x ∷ []) []) (sym l) ∙ e in cc
@@ -136,7 +125,7 @@ module _ (limits : Limits) (t more : List ℕ) (heads : Heads) (ok : heads_of li
   pub none_apart : (text_stops limits.header t ≡ []) × (behind_line t ≡ [])
   none_apart =
       let all = ap (λ b. text_stops limits.header t ++ cond b (behind_line t) (open_stops (length t) (open_line (head_parts t)) ++ missing_score (open_line (head_parts t)) t)) (sym (has_score_line limits t heads ok)) ∙ none_stops in
-      nothing_both (text_stops limits.header t) (behind_line t) all
+      both_empty (text_stops limits.header t) (behind_line t) all
 
   not_long : (o : Option ℕ) → first_above limits.header (head_text true t) ≡ o → too_long t o ≡ [] → o ≡ None
   not_long None e h = refl

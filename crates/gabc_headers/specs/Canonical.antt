@@ -8,7 +8,8 @@ wants_lines [] = false
 wants_lines (l ∷ []) = has_mark 1 l
 wants_lines (l ∷ m ∷ ls) = true
 
--- `:;` for the empty value; else `: VALUE;`, or on its own lines `:`, LF, one blank, the value, `;;`. Each ends with LF.
+-- `:;` for the empty value; else `: VALUE;`, or on its own lines `:`, LF, one blank, the value,
+-- `;;`. Each ends with LF.
 abbrev pub printed_value : Bool → List ℕ → List ℕ
 printed_value lined [] = codes ";\n"
 printed_value lined (c ∷ v) = cond lined (codes "\n " ++ (c ∷ v) ++ codes ";;\n") (codes " " ++ (c ∷ v) ++ codes ";\n")

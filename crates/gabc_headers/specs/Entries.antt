@@ -1,4 +1,5 @@
--- What a book of headers shows: the names that its keys stand for, with the values that their spans of a text hold.
+-- What a book of headers shows: the names that its keys stand for, with the values that their spans
+-- of a text hold.
 use Rattle.std.specs.Prelude.{ℕ, List, [], ◌∷◌, codes, slice_range}
 use Rattle.std.specs.Str.{chars}
 use Rattle.gabc_places.specs.declared.place.Span.{Span}
@@ -6,7 +7,8 @@ use Rattle.gabc_headers.specs.declared.entry_map.Key.{Key}
 use Rattle.gabc_headers.specs.declared.entry_map.Key.TheVariants.{Name, Annotation}
 use Rattle.std.specs.declared.hash.DefaultHasher.{DefaultHasher}
 
--- what a map of headers shows: the names with the spans of their values, for how many it has room, and from where it hashes names
+-- what a map of headers shows: the names with the spans of their values, for how many it has room,
+-- and from where it hashes names
 pub record EntryMapState : Type 0 where
   pub items : List (List ℕ × Span)
   pub limit : ℕ

@@ -35,8 +35,8 @@ pub record BeginsHeader (l : List ℕ) : Type 0 where
   pub seen : is_bare l ≡ false
   pub colon : has_colon l ≡ true
 
--- A value ends at the first mark on its header's line, or, where that line has none, with the first line below that has
--- a mark of two or more `;`.
+-- A value ends at the first mark on its header's line, or, where that line has none, with the first
+-- line below that has a mark of two or more `;`.
 abbrev pub EndsValue : List ℕ → List (List ℕ) → Type 0
 EndsValue l [] = has_mark 1 (after_colon l) ≡ true
 EndsValue l (m ∷ ms) = (has_mark 1 (after_colon l) ≡ false) × EndAtMark (m ∷ ms)

@@ -1,4 +1,5 @@
--- What a header stage emits: for each character what the text with it has more than the text before it.
+-- What a header stage emits: for each character what the text with it has more than the text before
+-- it.
 use Rattle.std.specs.Prelude.{ℕ, ◌+◌, List, [], ◌∷◌, ◌++◌, Bool, true, false, if◌then◌else◌, length, take, drop, map, Result, Ok, Err}
 use Rattle.gabc_places.specs.declared.place.Char.{Char}
 use Rattle.gabc_places.specs.declared.code.Fault.{Fault}
@@ -25,15 +26,16 @@ is_last_event event = false
 
 -- ---- a stage
 
--- the characters of a text as they come in, behind this prefix
+-- the characters of a text as they come in, after this prefix
 abbrev pub inputs_behind : List ℕ → List ℕ → List (Result Char Fault)
 inputs_behind prefix t = map (λ c. Ok c) (placed_characters_behind prefix t)
 
--- the characters behind the `%%`
+-- the characters after the `%%`
 abbrev pub body_characters : List ℕ → List Char
 body_characters t = drop (head_len t + 2) (placed_characters t)
 
--- What headers that are read whole emit, and the characters behind them; or what is found before their stop, and the stop.
+-- What headers that are read whole emit, and the characters after them; or what is found before
+-- their stop, and the stop.
 abbrev pub events_of_heads : List ℕ → Result Heads HeadFault → List HeadEvent
 events_of_heads t (Ok heads) = map (λ f. Found f) heads.findings ++ event_of_book heads.book ∷ (map (λ c. Body c) (body_characters t) ++ End ∷ [])
 events_of_heads t (Err stopped) = map (λ f. Found f) stopped.findings ++ Stop stopped.fault ∷ []
@@ -43,7 +45,8 @@ abbrev pub events_of_broken : List ℕ → Result Heads HeadFault → List HeadE
 events_of_broken t (Ok heads) = map (λ f. Found f) heads.findings ++ event_of_book heads.book ∷ map (λ c. Body c) (body_characters t)
 events_of_broken t (Err stopped) = map (λ f. Found f) stopped.findings ++ (if stopped.at_end then [] else Stop stopped.fault ∷ [])
 
--- What they emit of a text that a fault stops. This fault takes the place of one that has the end as its point.
+-- What they emit of a text that a fault stops. This fault takes the place of one that has the end
+-- as its point.
 abbrev pub events_of_stopped : Fault → List ℕ → Result Heads HeadFault → List HeadEvent
 events_of_stopped fault t (Ok heads) = map (λ f. Found f) heads.findings ++ event_of_book heads.book ∷ (map (λ c. Body c) (body_characters t) ++ Stop fault ∷ [])
 events_of_stopped fault t (Err stopped) = map (λ f. Found f) stopped.findings ++ Stop (if stopped.at_end then fault else stopped.fault) ∷ []

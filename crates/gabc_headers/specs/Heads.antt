@@ -1,4 +1,5 @@
--- The headers of a whole text: its book, what is found, and what stops it. A point is an index into the text; its length is the end.
+-- The headers of a whole text: its book, what is found, and what stops it. A point is an index into
+-- the text; its length is the end.
 use Rattle.std.specs.Prelude.{ℕ, ◌+◌, ◌-◌, ◌==◌, List, [], ◌∷◌, ◌++◌, Bool, ◌||◌, ◌&&◌, not, cond, codes, length, take, get_or, nat_lt, Option, Some, None, Result, Ok, Err}
 use Rattle.std.specs.Option.{option_map}
 use Rattle.std.specs.Char.{len_utf8}
@@ -33,7 +34,7 @@ stop_at p place code = record { point = p; fault = record { place = place; code 
 
 -- ---- findings
 
--- what is found at a part, behind headers with these names that count
+-- what is found at a part, after headers with these names that count
 abbrev pub findings_at : List (List ℕ) → HeaderPart → List Known
 findings_at seen (left_out k p) = known_at p (line_place k) E4 ∷ []
 findings_at seen (unended k) = []
@@ -78,7 +79,8 @@ first_above limit (c ∷ t) = cond (nat_lt limit (len_utf8 c)) (Some 0) (option_
 abbrev pub is_line_percent : List ℕ → ℕ → Bool
 is_line_percent t i = (get_or t i 0 == 37) && ((i == 0) || (get_or t (i - 1) 0 == 10))
 
--- The text is too long at i. A `%` that begins a line counts once the next character is there, which is then the point.
+-- The text is too long at i. A `%` that begins a line counts once the next character is there,
+-- which is then the point.
 abbrev pub too_long : List ℕ → Option ℕ → List Stop
 too_long t None = []
 too_long t (Some i) =
@@ -95,7 +97,8 @@ abbrev pub open_stops : ℕ → Option ℕ → List Stop
 open_stops p None = []
 open_stops p (Some k) = stop_at p (line_place k) F3 ∷ []
 
--- at the second `%` of the line `%%`: the canonical lines, or with `%%` and LF the canonical file, have too many bytes
+-- at the second `%` of the line `%%`: the canonical lines, or with `%%` and LF the canonical file,
+-- have too many bytes
 abbrev pub stops_of_score : Limits → List ℕ → List HeaderPart → List Stop
 stops_of_score limits t ps =
     let place = place_after (take (head_len t) t) in
@@ -118,7 +121,7 @@ stops_of_parts limits t ps =
 
 -- ---- the headers
 
--- the byte behind `%%`
+-- the byte after `%%`
 abbrev pub body_byte : List ℕ → ℕ
 body_byte t = bytes_len (take (head_len t + 2) t)
 

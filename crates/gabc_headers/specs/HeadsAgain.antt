@@ -8,11 +8,12 @@ use Rattle.gabc_headers.specs.Lines.{bytes_len}
 use Rattle.gabc_headers.specs.Book.{has_header}
 use Rattle.gabc_headers.specs.Canonical.{header_lines, canonical_heads}
 
--- no header `name`, found at the line `%%` behind the header lines
+-- no header `name`, found at the line `%%` after the header lines
 abbrev pub nameless : List (List ℕ × List ℕ) → Finding
 nameless book = record { place = place_after (header_lines book); code = W1 }
 
--- the book, all of its lines before the body, and nothing found but that there is no header `name`, if there is none
+-- the book, all of its lines before the body, and nothing found but that there is no header `name`,
+-- if there is none
 abbrev pub heads_again : List (List ℕ × List ℕ) → Heads
 heads_again book = record {
   book = book;

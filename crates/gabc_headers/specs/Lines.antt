@@ -45,12 +45,12 @@ abbrev pub run_len : List ℕ → ℕ
 run_len [] = 0
 run_len (c ∷ l) = cond ((c == 59) || is_blank c) (1 + run_len l) 0
 
--- the place behind the first mark and the blanks after it, where the mark becomes known
+-- the place after the first mark and the blanks after it, where the mark becomes known
 abbrev pub mark_end : ℕ → List ℕ → ℕ
 mark_end n [] = 0
 mark_end n (c ∷ l) = cond (is_mark n (c ∷ l)) (run_len (c ∷ l)) (1 + mark_end n l)
 
--- what stands before the first `:`, and behind it
+-- what stands before the first `:`, and after it
 abbrev pub has_colon : List ℕ → Bool
 has_colon [] = false
 has_colon (c ∷ l) = (c == 58) || has_colon l

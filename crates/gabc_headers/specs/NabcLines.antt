@@ -1,4 +1,5 @@
--- The values of `nabc-lines` that are in range, spelled out: each is the digit of the number of lines it says.
+-- The values of `nabc-lines` that are in range, spelled out: each is the digit of the number of
+-- lines it says.
 use Rattle.std.specs.Prelude.{ℕ, List, [], ◌∷◌, codes}
 
 abbrev pub values_in_range : List (List ℕ)

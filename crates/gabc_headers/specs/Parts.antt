@@ -1,11 +1,14 @@
--- The parts that the lines of the headers make: what is left out, the headers, and a value that is not ended.
+-- The parts that the lines of the headers make: what is left out, the headers, and a value that is
+-- not ended.
 use Rattle.std.specs.Prelude.{ℕ, List, [], ◌∷◌, Bool, false, cond, Option, Some, None, nat_le}
 use Rattle.gabc_headers.specs.Lines.{bytes_len, before_colon, trim_name, trim_value}
 
 pub data HeaderPart : Type 0 where
-  -- a line or a header that is left out: the number of its line, and the point at which that becomes known
+  -- a line or a header that is left out: the number of its line, and the point at which that
+  -- becomes known
   left_out : ℕ → ℕ → HeaderPart
-  -- a header: the number of its first line, its name, its value, and the point at which its end becomes known
+  -- a header: the number of its first line, its name, its value, and the point at which its end
+  -- becomes known
   header : ℕ → List ℕ → List ℕ → ℕ → HeaderPart
   -- a value that is not ended: the number of its header's first line
   unended : ℕ → HeaderPart

@@ -2,7 +2,6 @@ pub mod Characters
 pub mod Collected
 pub mod EntryMap
 pub mod Events
-pub mod Groups
 pub mod HeaderBook
 pub mod HeaderMachine
 pub mod HeaderStage

@@ -14,7 +14,8 @@ use std::alloc::{AllocError, Global};
 use std::fmt;
 use std::marker::Model;
 
-/// The headers of a text, in order. Contracts see the list of names and values, each the list of its characters.
+/// The headers of a text, in order. Contracts see the list of names and values, each the list of
+/// its characters.
 #[derive(Drop)]
 pub struct HeaderBook {
     /// The text, at least as far as values stand in it.
@@ -92,21 +93,24 @@ impl HeaderBook {
         self.iter().get(name)
     }
 
-    /// Returns the number of lines of NABC under each snippet of notes: 0 to 4, by the header `nabc-lines` (GregorioRef, "Headers").
+    /// Returns the number of lines of NABC under each snippet of notes: 0 to 4, by the header
+    /// `nabc-lines` (GregorioRef, "Headers").
     pub fn nabc_lines(&self) -> u8
         ensures { result ≡ nabc_lines_of self.now }
     {
         self.iter().nabc_lines()
     }
 
-    /// Returns whether the macro of `digit` is defined (GregorioRef, "Macros"). Only the digits 0 to 9 have macros.
+    /// Returns whether the macro of `digit` is defined (GregorioRef, "Macros"). Only the digits 0
+    /// to 9 have macros.
     pub fn is_macro(&self, digit: u8) -> bool
         ensures { result ≡ (nat_lt digit 10 && has_header (macro_name digit) self.now) }
     {
         self.iter().is_macro(digit)
     }
 
-    /// Returns the macros that are defined: the bit `d` tells it of the macro of the digit `d` (GregorioRef, "Macros").
+    /// Returns the macros that are defined: the bit `d` tells it of the macro of the digit `d`
+    /// (GregorioRef, "Macros").
     pub fn macros(&self) -> u16
         ensures { result ≡ macros_of self.now }
     {

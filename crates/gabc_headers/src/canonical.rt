@@ -9,8 +9,8 @@ ghost use Rattle.gabc_headers.specs.machine.HeaderText.{before_value, after_valu
 use crate::headers::Headers;
 use gabc_places::Put;
 
-/// Returns whether `value` is written on lines of its own: it has several lines, or would end too early on its header's line
-/// (GregorioRef, "Headers").
+/// Returns whether `value` is written on lines of its own: it has several lines, or would end too
+/// early on its header's line (GregorioRef, "Headers").
 pub fn wants_own_lines(value: &str) -> bool
     ensures { result ≡ wants_lines (lines (chars value.now)) }
 {
@@ -35,7 +35,8 @@ struct Frame {
     after: &'static str,
 }
 
-/// Returns what stands round `value`: an empty one has no blank before it, and one on its own lines ends with two `;`.
+/// Returns what stands round `value`: an empty one has no blank before it, and one on its own lines
+/// ends with two `;`.
 fn frame_of(value: &str) -> Frame
     ensures before { result.before.now
         ≡ before_value (wants_lines (lines (chars value.now))) (chars value.now) }
@@ -79,8 +80,9 @@ pub(crate) fn put_header<S: Put>(name: &str, value: &str, out: &mut S)
     put_framed(name, value, frame_of(value), out);
 }
 
-/// Puts the canonical header lines of `headers` and `%%`, as many bytes as `HeaderBook::canonical_len` tells. A room without that
-/// many bytes left gets as many of them as fit.
+/// Puts the canonical header lines of `headers` and `%%`, as many bytes as
+/// `HeaderBook::canonical_len` tells. A room without that many bytes left gets as many of them as
+/// fit.
 pub fn canon_header<S: Put>(headers: Headers<'_>, out: &mut S)
     ensures { out.new ≡ S.taken out.old (encode_utf8_all (canonical_heads headers.entry)) }
 {

@@ -1,4 +1,5 @@
-//! What a character is to a header, and where the end of a value's line so far stands towards a mark.
+//! What a character is to a header, and where the end of a value's line so far stands towards a
+//! mark.
 
 ghost use Rattle.std.specs.Prelude.{◌≡◌};
 ghost use Rattle.gabc_headers.specs.machine.Characters.{header_char_of, next_run, is_mark_run};
@@ -30,7 +31,8 @@ impl HeaderChar {
     }
 }
 
-/// Within a value: no run of `;` ends here, one that is too short for a mark, one that is enough, or one and blanks.
+/// Within a value: no run of `;` ends here, one that is too short for a mark, one that is enough,
+/// or one and blanks.
 #[derive(Clone, Copy)]
 pub(crate) enum Run {
     Text,

@@ -37,7 +37,8 @@ fn finding_at(line: u64, code: Code) -> Finding
     Finding { place, code }
 }
 
-/// Takes an event of the text to the headers, and returns what is found at it. It asks for no memory.
+/// Takes an event of the text to the headers, and returns what is found at it. It asks for no
+/// memory.
 pub(crate) fn take_event(headers: &mut EntryMap, text: &str, event: HeaderEvent) -> Option<Finding>
     requires good { IsGoodEvent text.now event }
     requires room { HasPlace headers.old }

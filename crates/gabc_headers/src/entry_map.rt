@@ -17,7 +17,8 @@ use std::alloc::{AllocError, Global};
 use std::hash::DefaultHasher;
 use std::marker::Model;
 
-/// What a header is found by: its name; or, since each annotation stands at its own place, the number of headers before it.
+/// What a header is found by: its name; or, since each annotation stands at its own place, the
+/// number of headers before it.
 #[derive(Clone, Copy, PartialEq, Eq, Hash)]
 pub(crate) enum Key {
     Name(ArrayString<64>),
@@ -50,8 +51,8 @@ impl Key {
     }
 }
 
-/// Headers with the spans of their values, each name at the place of its first and with the value of its last;
-/// annotations stand by themselves.
+/// Headers with the spans of their values, each name at the place of its first and with the value
+/// of its last; annotations stand by themselves.
 #[derive(Drop)]
 pub(crate) struct EntryMap {
     map: IndexMap<Key, Span, NameHashers>,
@@ -75,7 +76,8 @@ impl Model for EntryMap {
 }
 
 impl EntryMap {
-    /// Returns a map of no headers, with room for `limit` of them, whose names are hashed from `hasher` on.
+    /// Returns a map of no headers, with room for `limit` of them, whose names are hashed from
+    /// `hasher` on.
     pub(crate) fn with_limit(
         alloc: Global,
         limit: usize,
@@ -97,7 +99,8 @@ impl EntryMap {
         self.map.clear();
     }
 
-    /// Puts a header, and answers whether its name comes again. An annotation never does. It asks for no memory.
+    /// Puts a header, and answers whether its name comes again. An annotation never does. It asks
+    /// for no memory.
     pub(crate) fn put(&mut self, name: &str, value: Span) -> bool
         requires short { length name.now ≤ 64 }
         requires room { HasPlace self.old }
@@ -154,7 +157,8 @@ impl EntryMap {
         &text[value.from..value.to]
     }
 
-    /// The number of bytes of the canonical lines of these headers of a text, or the largest number if there are more.
+    /// The number of bytes of the canonical lines of these headers of a text, or the largest number
+    /// if there are more.
     pub(crate) fn canonical_len(&self, text: &str) -> usize
         requires { AreWithin text.now self.now.items }
         ensures { result ≡ min (bytes_len (header_lines (spelled_entries text.now self.now.items)))

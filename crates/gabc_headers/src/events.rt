@@ -2,8 +2,8 @@
 
 use gabc_places::{Place, Span};
 
-/// A header, or a line or header that is left out, of this line from 1. The point at which it becomes known is an index of
-/// a character of the text, and spans are bytes of the text.
+/// A header, or a line or header that is left out, of this line from 1. The point at which it
+/// becomes known is an index of a character of the text, and spans are bytes of the text.
 #[derive(Clone, Copy, Debug)]
 pub(crate) enum HeaderEvent {
     LeftOut {
@@ -18,10 +18,12 @@ pub(crate) enum HeaderEvent {
     },
 }
 
-/// How the headers end. A header whose value is not ended there is named by its first line, `open_line`.
+/// How the headers end. A header whose value is not ended there is named by its first line,
+/// `open_line`.
 #[derive(Clone, Copy, Debug)]
 pub(crate) enum HeaderEnding {
-    /// At the line `%%`, whose first character stands at `place`. The body begins at the byte `body`.
+    /// At the line `%%`, whose first character stands at `place`. The body begins at the byte
+    /// `body`.
     Score {
         place: Place,
         body: usize,

@@ -2,7 +2,7 @@
 
 use gabc_places::{Char, Fault, Finding};
 
-/// What a header stage emits: of the headers of a text, and of what stands behind them.
+/// What a header stage emits: of the headers of a text, and of what stands after them.
 #[derive(Clone, Copy, Debug, PartialEq, Eq)]
 pub enum HeadEvent {
     /// An error or a warning.
@@ -18,9 +18,9 @@ pub enum HeadEvent {
         /// The number of bytes of the canonical header lines and `%%`.
         canonical: u32,
     },
-    /// A character behind the line's `%%`.
+    /// A character after the line's `%%`.
     Body(Char),
-    /// The text has ended behind its headers. Nothing follows.
+    /// The text has ended after its headers. Nothing follows.
     End,
 }
 

@@ -1,4 +1,4 @@
-//! A stage from the characters of a text to its headers and the characters behind them.
+//! A stage from the characters of a text to its headers and the characters after them.
 
 ghost use Rattle.std.specs.Prelude.{◌≡◌, ◌↔◌, IsSome, IfSome, ◌<◌, ◌≤◌, ◌^◌, [], ◌∷◌, ◌++◌, length, map, IfOk};
 ghost use Rattle.std.specs.Str.{chars};
@@ -27,7 +27,8 @@ use std::alloc::{AllocError, Global};
 use std::hash::DefaultHasher;
 use std::marker::Model;
 
-/// Where a stage stands: in the headers, behind their `%%`, or behind its last event, which came before their `%%` or behind it.
+/// Where a stage stands: in the headers, after their `%%`, or after its last event, which came
+/// before their `%%` or after it.
 #[derive(Clone, Copy)]
 pub(crate) enum HeadPart {
     InHeaders,
@@ -37,7 +38,7 @@ pub(crate) enum HeadPart {
 }
 
 impl HeadPart {
-    /// Where a stage stands behind its last event.
+    /// Where a stage stands after its last event.
     fn over(self) -> HeadPart
         ensures { result ≡ part_over self }
     {
@@ -48,7 +49,8 @@ impl HeadPart {
     }
 }
 
-/// Reads the headers of a text one character at a time (GregorioRef, "Headers"), and passes on the characters behind them.
+/// Reads the headers of a text one character at a time (GregorioRef, "Headers"), and passes on the
+/// characters after them.
 #[derive(Drop)]
 pub struct HeaderStage {
     limits: Limits,
@@ -115,9 +117,10 @@ fn emit_heads(book: &Headers<'_>, place: Place, size: usize, out: &mut Room<Head
 }
 
 impl HeaderStage {
-    /// Returns a stage under `limits` before the first character of a text, and reserves all the memory that it takes. It fails only for want
-    /// of memory. Names are hashed with a fixed key, so names can be chosen that are slow to read: 1,872 of 8 bytes
-    /// took 31 ms, where others take 3. Where strangers write the text, take `with_hasher`.
+    /// Returns a stage under `limits` before the first character of a text, and reserves all the
+    /// memory that it takes. It fails only for want of memory. Names are hashed with a fixed key,
+    /// so names can be chosen that are slow to read: 1,872 of 8 bytes took 31 ms, where others take
+    /// 3. Where strangers write the text, take `with_hasher`.
     pub fn with_limits(alloc: Global, limits: Limits) -> Result<HeaderStage, AllocError>
         ensures fresh { IfOk result (λ stage. stage ≡ fresh_stage limits initial) }
         ensures events { IfOk result (EmitsHeaders limits) }
@@ -125,8 +128,9 @@ impl HeaderStage {
         HeaderStage::with_hasher(alloc, limits, DefaultHasher::new())
     }
 
-    /// Returns a stage as `with_limits` does, which hashes names from `hasher` on, such as `RandomState::new(&rt)?.build_hasher()`. What the stage
-    /// emits does not depend on it, but who does not know how it begins cannot choose names that make the reading slow.
+    /// Returns a stage as `with_limits` does, which hashes names from `hasher` on, such as
+    /// `RandomState::new(&rt)?.build_hasher()`. What the stage emits does not depend on it, but who
+    /// does not know how it begins cannot choose names that make the reading slow.
     pub fn with_hasher(
         alloc: Global,
         limits: Limits,
@@ -138,7 +142,8 @@ impl HeaderStage {
         HeaderStage::in_memory(&Memory::with_capacity(alloc, 0)?, limits, hasher)
     }
 
-    /// Returns a stage as `with_hasher` does, whose text lies in `memory`. It fails only for want of memory.
+    /// Returns a stage as `with_hasher` does, whose text lies in `memory`. It fails only for want
+    /// of memory.
     pub fn in_memory(
         memory: &Memory,
         limits: Limits,
@@ -158,7 +163,8 @@ impl HeaderStage {
         })
     }
 
-    /// Begins a text, as a new stage does, wherever the stage stands. It keeps its limits, its hasher and its memory, and asks for none.
+    /// Begins a text, as a new stage does, wherever the stage stands. It keeps its limits, its
+    /// hasher and its memory, and asks for none.
     pub fn restart(&mut self)
         ensures { self.new ≡ fresh_stage self.old.limits self.old.hasher }
     {
@@ -272,8 +278,9 @@ impl HeaderStage {
         self.part = self.part.over();
     }
 
-    /// Returns the text of the headers as far as it is read, with its comments. From the headers' end on it returns `None`. Pushed into a fresh
-    /// stage under the same limits, wherever its characters are said to stand, the text sets the stage down again.
+    /// Returns the text of the headers as far as it is read, with its comments. From the headers'
+    /// end on it returns `None`. Pushed into a fresh stage under the same limits, wherever its
+    /// characters are said to stand, the text sets the stage down again.
     pub fn text(&self) -> Option<&str>
         ensures in_headers { IsSome result ↔ IsInHeaders self.now.progress }
         ensures text { IfSome result (λ t. self.now.progress ≡ reading (chars t.now)) }
@@ -286,8 +293,8 @@ impl HeaderStage {
         }
     }
 
-    /// Returns the headers by name and in order, borrowed, from the event of whole headers on. Before it, and where the text was stopped before
-    /// their `%%`, there are none.
+    /// Returns the headers by name and in order, borrowed, from the event of whole headers on.
+    /// Before it, and where the text was stopped before their `%%`, there are none.
     pub fn book(&self) -> Headers<'_>
         ensures { result ≡ self.now.book }
     {

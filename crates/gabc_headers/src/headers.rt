@@ -101,7 +101,8 @@ impl<'a> Headers<'a> {
         None
     }
 
-    /// Returns the number of lines of NABC under each snippet of notes: 0 to 4, by the header `nabc-lines` (GregorioRef, "Headers").
+    /// Returns the number of lines of NABC under each snippet of notes: 0 to 4, by the header
+    /// `nabc-lines` (GregorioRef, "Headers").
     pub fn nabc_lines(&self) -> u8
         ensures { result ≡ nabc_lines_of self.now }
     {
@@ -111,14 +112,16 @@ impl<'a> Headers<'a> {
         }
     }
 
-    /// Returns whether the macro of `digit` is defined (GregorioRef, "Macros"). Only the digits 0 to 9 have macros.
+    /// Returns whether the macro of `digit` is defined (GregorioRef, "Macros"). Only the digits 0
+    /// to 9 have macros.
     pub fn is_macro(&self, digit: u8) -> bool
         ensures { result ≡ (nat_lt digit 10 && has_header (macro_name digit) self.now) }
     {
         digit < 10 && self.get(macro_header(digit)).is_some()
     }
 
-    /// Returns the macros that are defined: the bit `d` tells it of the macro of the digit `d` (GregorioRef, "Macros").
+    /// Returns the macros that are defined: the bit `d` tells it of the macro of the digit `d`
+    /// (GregorioRef, "Macros").
     pub fn macros(&self) -> u16
         ensures { result ≡ macros_of self.now }
     {
@@ -132,7 +135,8 @@ impl<'a> Headers<'a> {
         }
         macros
     }
-    /// Returns the number of bytes of the canonical lines of these headers and `%%`, or the largest number if there are more.
+    /// Returns the number of bytes of the canonical lines of these headers and `%%`, or the largest
+    /// number if there are more.
     pub fn canonical_len(&self) -> usize
         ensures { result ≡ min (bytes_len (canonical_heads self.now)) (2 ^ 64 - 1) }
     {

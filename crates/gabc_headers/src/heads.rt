@@ -8,12 +8,12 @@ use gabc_places::{Fault, Findings};
 use std::error::Error;
 use std::fmt;
 
-/// The headers of a text that has a line `%%` behind them, and what was found in them.
+/// The headers of a text that has a line `%%` after them, and what was found in them.
 #[derive(Debug, Drop)]
 pub struct Heads {
     /// The headers that count.
     pub book: HeaderBook,
-    /// The byte of the text, from 0, at which its body begins: the one behind the `%%`.
+    /// The byte of the text, from 0, at which its body begins: the one after the `%%`.
     pub body: usize,
     /// What was found, in the order of places.
     pub findings: Findings,
@@ -30,8 +30,8 @@ pub struct HeadFault {
     pub at_end: bool,
 }
 
-/// Prints what the fault's message has behind the file's name: `LINE:COLUMN: KIND: CODE: TEXT`, where KIND is `fatal` for each code of a
-/// fault.
+/// Prints what the fault's message has after the file's name: `LINE:COLUMN: KIND: CODE: TEXT`,
+/// where KIND is `fatal` for each code of a fault.
 impl fmt::Display for HeadFault {
     ghost output = { λ x. Some (message_text x.fault.place x.fault.code) };
 

@@ -29,19 +29,19 @@ ghost use Rattle.gabc_headers.specs.witness.Parts.{outside, parts};
 
 pub use crate::nabc_lines::nabc_lines_are_these;
 
-/// The lines of the headers, whatever they are, can be cut into groups.
+/// Law: the lines of the headers, whatever they are, can be cut into groups.
 pub fn lines_have_groups()
     ensures { (lines : List (List ℕ)) → (groups : List Group) × AreGroups lines groups }
 {}
 
-/// Two cuttings of the same lines are one.
+/// Law: two cuttings of the same lines are one.
 pub fn groups_are_unique()
     ensures { (lines : List (List ℕ)) (groups others : List Group) → AreGroups lines groups →
         AreGroups lines others → groups ≡ others }
 {}
 
-/// The parts of lines, the first of which has the number k and begins at point n, are what their groups tell: of each
-/// header its name and its value, and what is left out.
+/// Law: the parts of lines, the first of which has the number k and begins at point n, are what
+/// their groups tell: of each header its name and its value, and what is left out.
 pub fn groups_tell_parts()
     ensures { (lines : List (List ℕ)) (groups : List Group) (k n : ℕ) → AreGroups lines groups →
         parts outside k n lines ≡ parts_of_groups k n groups }
@@ -54,32 +54,36 @@ pub fn heads_are_of_groups()
         AreHeads limits t read → read ≡ heads_of limits t }
 {}
 
-/// Headers that are put in turn, each of which replaces the value of an earlier one of its name unless it is an
-/// `annotation`, leave what stands: each name at the place of its first header and with the value of its last.
+/// Law: headers that are put in turn, each of which replaces the value of an earlier one of its
+/// name unless it is an `annotation`, leave what stands: each name at the place of its first header
+/// and with the value of its last.
 pub fn last_value_at_first_place()
     ensures { (entries : List (List ℕ × List ℕ)) →
         put_all [] entries ≡ standing_entries [] entries }
 {}
 
-/// What is found in headers stands in order: by its places, none twice.
+/// Law: what is found in headers stands in order: by its places, none twice.
 pub fn findings_in_order()
     ensures { (limits : Limits) (t : List ℕ) → AreInOrder (findings_of (heads_of limits t)) }
 {}
 
-/// Headers that are read without a fault have a line that begins with `%%`; their body stands behind these two characters.
+/// Law: headers that are read without a fault have a line that begins with `%%`; their body stands
+/// after these two characters.
 pub fn the_body_follows_the_mark()
     ensures { (limits : Limits) (t : List ℕ) (heads : Heads) → heads_of limits t ≡ Ok heads →
         head_len t + 2 ≤ length t }
 {}
 
-/// Headers that are read whole have their findings at the first place of the text or later, and no later than the line `%%`.
+/// Law: headers that are read whole have their findings at the first place of the text or later,
+/// and no later than the line `%%`.
 pub fn findings_lie_before_the_body()
     ensures { (limits : Limits) (t : List ℕ) (heads : Heads) → heads_of limits t ≡ Ok heads →
         LieBetween (line_place 1) (place_after (take (head_len t) t)) heads.findings }
 {}
 
-/// What stands behind the line `%%` is no matter to the headers: if those of a text are read whole, then with something else
-/// behind these two characters they end there too, and are read whole with the same book.
+/// Law: what stands after the line `%%` is no matter to the headers: if those of a text are read
+/// whole, then with something else after these two characters they end there too, and are read
+/// whole with the same book.
 pub fn the_headers_end_at_their_mark()
     ensures length { (limits : Limits) (t more : List ℕ) (heads : Heads)
         → heads_of limits t ≡ Ok heads → head_len (take (head_len t + 2) t ++ more) ≡ head_len t }
@@ -89,9 +93,9 @@ pub fn the_headers_end_at_their_mark()
         × (other.book ≡ heads.book) }
 {}
 
-/// The canonical lines of a book, with whatever follows their `%%`, are read as that book under the same limits or larger ones: no
-/// header is left out, none comes twice, and nothing stops them. They end at this `%%`. All that can be found is that there is no
-/// header `name`.
+/// Law: the canonical lines of a book, with whatever follows their `%%`, are read as that book
+/// under the same limits or larger ones: no header is left out, none comes twice, and nothing stops
+/// them. They end at this `%%`. All that can be found is that there is no header `name`.
 pub fn book_again()
     ensures read { (limits larger : Limits) (t more : List ℕ) (heads : Heads)
         → AreNoLess limits larger → heads_of limits t ≡ Ok heads
@@ -101,16 +105,17 @@ pub fn book_again()
         → head_len (canonical_heads heads.book ++ more) ≡ length (header_lines heads.book) }
 {}
 
-/// The canonical lines of a book have no more bytes than headers may have, and with `%%` and an LF no more than the input may
-/// have.
+/// Law: the canonical lines of a book have no more bytes than headers may have, and with `%%` and
+/// an LF no more than the input may have.
 pub fn canonical_lines_are_within_the_limits()
     ensures { (limits : Limits) (t : List ℕ) (heads : Heads) → heads_of limits t ≡ Ok heads →
         (bytes_len (header_lines heads.book) ≤ limits.header)
         × (bytes_len (canonical_heads heads.book) + 1 ≤ limits.input) }
 {}
 
-/// Larger limits change nothing where the headers were not too long: headers that are read, or that are stopped by something else, are
-/// read or stopped so under limits that are no less, if the input may be as long. What stops headers that are too long never stands at the end of the text.
+/// Law: larger limits change nothing where the headers were not too long: headers that are read, or
+/// that are stopped by something else, are read or stopped so under limits that are no less, if the
+/// input may be as long. What stops headers that are too long never stands at the end of the text.
 pub fn larger_limits_change_no_headers()
     ensures same { (limits larger : Limits) (t : List ℕ) → AreNoLess limits larger
         → limits.input ≡ larger.input
@@ -129,7 +134,8 @@ pub fn a_held_text_is_held_under_other_limits()
         heads_of other t ≡ heads_of limits t }
 {}
 
-/// The numbers that the headers of a book give are in range: at most 4 NABC lines, the macros of ten digits, and at least the two bytes of the `%%`.
+/// Law: the numbers that the headers of a book give are in range: at most 4 NABC lines, the macros
+/// of ten digits, and at least the two bytes of the `%%`.
 pub fn the_numbers_of_headers_are_in_range()
     ensures lines { (book : List (List ℕ × List ℕ)) → nabc_lines_of book ≤ 4 }
     ensures macros { (book : List (List ℕ × List ℕ)) → macros_of book < 1024 }
@@ -138,17 +144,18 @@ pub fn the_numbers_of_headers_are_in_range()
     nabc_lines_are_these();
 }
 
-/// Emitted character by character, the headers of a text are what they are when they are read whole, followed by the characters
-/// of its body and its end: no finding, stop or character comes twice, and none is left out.
+/// Law: emitted character by character, the headers of a text are what they are when they are read
+/// whole, followed by the characters of its body and its end: no finding, stop or character comes
+/// twice, and none is left out.
 pub fn events_make_the_headers()
     ensures { (limits : Limits) (t : List ℕ) → All IsScalar t →
         concat_of (events_left limits (reading []) (inputs_behind [] t))
         ≡ events_of_heads t (heads_of limits t) }
 {}
 
-/// The events of a text's characters do not wait for the end of the input. A text that breaks off emits its findings, its headers and
-/// each character of its body. If a fault stops it, this fault comes behind them, unless the headers were stopped before. Then the
-/// end emits nothing more.
+/// Law: the events of a text's characters do not wait for the end of the input. A text that breaks
+/// off emits its findings, its headers and each character of its body. If a fault stops it, this
+/// fault comes after them, unless the headers were stopped before. Then the end emits nothing more.
 pub fn events_need_no_end()
     ensures broken { (limits : Limits) (t : List ℕ) → All IsScalar t →
         let xs = inputs_behind [] t in
@@ -160,7 +167,8 @@ pub fn events_need_no_end()
         ≡ events_of_stopped fault t (heads_of limits t) }
 {}
 
-/// Once a stage has read the characters of a text whose headers are whole, it holds their book; a fault behind them changes nothing of it.
+/// Law: once a stage has read the characters of a text whose headers are whole, it holds their
+/// book; a fault after them changes nothing of it.
 pub fn the_book_is_read()
     ensures { (limits : Limits) (hasher : DefaultHasher) (t : List ℕ) (heads : Heads)
         (fault : Option Fault) → All IsScalar t → heads_of limits t ≡ Ok heads →

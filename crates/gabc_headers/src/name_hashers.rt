@@ -2,7 +2,8 @@
 
 use std::hash::{BuildHasher, DefaultHasher};
 
-/// Makes hashers that begin as `first` does. Whoever knows how it begins can choose names that stand in one group of the map.
+/// Makes hashers that begin as `first` does. Whoever knows how it begins can choose names that
+/// stand in one group of the map.
 #[derive(Clone, Copy)]
 pub(crate) struct NameHashers {
     pub first: DefaultHasher,

@@ -1,4 +1,5 @@
-//! The machine of the headers' lines, a character at a time. It knows no end: not the line `%%`, and no limit.
+//! The machine of the headers' lines, a character at a time. It knows no end: not the line `%%`,
+//! and no limit.
 
 ghost use Rattle.std.specs.Prelude.{◌≡◌, ◌+◌, ◌<◌, ◌^◌};
 ghost use Rattle.gabc_headers.specs.declared.characters.HeaderChar.TheVariants.{Colon};
@@ -8,8 +9,8 @@ use crate::characters::{HeaderChar, Run};
 use crate::events::HeaderEvent;
 use gabc_places::Span;
 
-/// What is left of a text when it is trimmed: the byte at which it begins, so far, the byte behind it, and whether all
-/// of it is left out.
+/// What is left of a text when it is trimmed: the byte at which it begins, so far, the byte after
+/// it, and whether all of it is left out.
 #[derive(Clone, Copy)]
 pub(crate) struct Trim {
     pub from: usize,
@@ -29,7 +30,8 @@ impl Trim {
         }
     }
 
-    /// With one character more, which ends before the byte `next`, and is left out at the start or at the end.
+    /// With one character more, which ends before the byte `next`, and is left out at the start or
+    /// at the end.
     fn after(self, next: usize, lead: bool, last: bool) -> Trim
         ensures { result ≡ next_trim self next lead last }
     {
@@ -59,8 +61,8 @@ impl Trim {
     }
 }
 
-/// Where the machine stands: in a line that begins no header yet or in its name; in the rest of a line that is skipped;
-/// or in a value, on the header's own line or a later one (`long`).
+/// Where the machine stands: in a line that begins no header yet or in its name; in the rest of a
+/// line that is skipped; or in a value, on the header's own line or a later one (`long`).
 #[derive(Clone, Copy)]
 pub(crate) enum PartState {
     Name,
@@ -68,8 +70,8 @@ pub(crate) enum PartState {
     Value { long: bool, run: Run },
 }
 
-/// A machine of lines. `line` is the current one, from 1; `header` and `name` are those of the value in which it stands,
-/// the name unless its header is left out.
+/// A machine of lines. `line` is the current one, from 1; `header` and `name` are those of the
+/// value in which it stands, the name unless its header is left out.
 #[derive(Clone, Copy)]
 pub(crate) struct PartMachine {
     pub state: PartState,
@@ -132,7 +134,7 @@ impl PartMachine {
         }
     }
 
-    // Behind the `:` of a name.
+    // After the `:` of a name.
     fn value(self, point: usize, next: usize) -> (PartMachine, Option<HeaderEvent>)
         ensures { result ≡ name_step self Colon point next (is_good_span (span_of self.trim)) }
     {
@@ -223,7 +225,8 @@ impl PartMachine {
         }
     }
 
-    /// The machine after a character with this point, which ends before the byte `next`, and what that makes known.
+    /// The machine after a character with this point, which ends before the byte `next`, and what
+    /// that makes known.
     pub(crate) fn step(
         self,
         kind: HeaderChar,

@@ -35,7 +35,8 @@ pub(crate) fn end_fault(place: Place, open_line: Option<u64>) -> Fault
     }
 }
 
-/// The number of bytes of the canonical header lines at the line `%%`, or what stops the headers there.
+/// The number of bytes of the canonical header lines at the line `%%`, or what stops the headers
+/// there.
 pub(crate) fn score_len(
     limits: Limits,
     text: &str,

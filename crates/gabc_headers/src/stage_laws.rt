@@ -1,4 +1,5 @@
-//! Laws of a stage of headers. Each function's contract is a law. Its body drives a stage, gives it one input, calls other laws, or does nothing.
+//! Laws of a stage of headers. Each function's contract is a law. Its body drives a stage, gives it
+//! one input, calls other laws, or does nothing.
 
 ghost use Rattle.std.specs.Prelude.{◌≡◌, ℕ, ◌+◌, ◌*◌, ◌≤◌, List, [], ◌∷◌, ◌++◌, true, false, length, map, None, Ok, OnErr, OnOk, Result, encode_utf8_all};
 ghost use Rattle.std.specs.Char.{IsScalar};
@@ -22,7 +23,8 @@ use crate::header_stage::HeaderStage;
 use gabc_places::{Chain, Char, Decoder, Fault, Limits, Room, Stage, drive};
 use std::alloc::{AllocError, Global};
 
-/// A fresh stage of headers, driven over `inputs`, emits what the definition says of them. For want of memory nothing is emitted.
+/// Law: a fresh stage of headers, driven over `inputs`, emits what the definition says of them. For
+/// want of memory nothing is emitted.
 pub fn a_fresh_stage_emits(
     alloc: Global,
     limits: Limits,
@@ -39,9 +41,10 @@ pub fn a_fresh_stage_emits(
     Ok(())
 }
 
-/// A fresh stage of headers behind a fresh decoder, driven over the `bytes` of an input that ended, emits what the definition says
-/// of the characters and the fault that `text_of` returns. Without a fault that is what `headers_whole` returns for the text, then the
-/// characters of its body and the end. For want of memory nothing is emitted.
+/// Law: a fresh stage of headers after a fresh decoder, driven over the `bytes` of an input that
+/// ended, emits what the definition says of the characters and the fault that `text_of` returns.
+/// Without a fault that is what `headers_whole` returns for the text, then the characters of its
+/// body and the end. For want of memory nothing is emitted.
 pub fn a_fresh_stage_reads_bytes(
     alloc: Global,
     limits: Limits,
@@ -63,7 +66,8 @@ pub fn a_fresh_stage_reads_bytes(
     Ok(())
 }
 
-/// Behind its headers a stage passes on each character as it is, and stays behind them: a run may leave the stage out there.
+/// Law: after its headers a stage passes on each character as it is, and stays after them: a run
+/// may leave the stage out there.
 pub fn the_body_is_passed_on(stage: &mut HeaderStage, c: Char, out: &mut Room<HeadEvent>)
     requires behind { IsBehind stage.old.progress }
     requires room { Fits out.old 2 }
@@ -74,7 +78,8 @@ pub fn the_body_is_passed_on(stage: &mut HeaderStage, c: Char, out: &mut Room<He
     stage.push(Ok(c), out);
 }
 
-/// What an input does to a stage, and with it to the book that the stage lends: from the event `Heads` on it is that of the headers.
+/// Law: what an input does to a stage, and with it to the book that the stage lends: from the event
+/// `Heads` on it is that of the headers.
 pub fn an_input_is_taken(
     stage: &mut HeaderStage,
     input: Result<Char, Fault>,
@@ -88,7 +93,7 @@ pub fn an_input_is_taken(
     stage.push(input, out);
 }
 
-/// The end is the last that a stage takes. It keeps its book.
+/// Law: the end is the last that a stage takes. It keeps its book.
 pub fn the_end_is_taken(stage: &mut HeaderStage, out: &mut Room<HeadEvent>)
     requires { Fits out.old 2 }
     ensures state { stage.new ≡ stage_at stage.old over }
@@ -98,7 +103,8 @@ pub fn the_end_is_taken(stage: &mut HeaderStage, out: &mut Room<HeadEvent>)
     stage.finish(out);
 }
 
-/// Two stages with the same limits that hold the same text of the headers emit the same of whatever follows.
+/// Law: two stages with the same limits that hold the same text of the headers emit the same of
+/// whatever follows.
 pub fn stages_of_one_text_agree()
     ensures { (one other : HeaderStageState) → one.limits ≡ other.limits →
         one.progress ≡ reading (text_held one.progress) →
@@ -108,8 +114,9 @@ pub fn stages_of_one_text_agree()
         ≡ events_left other.limits other.progress xs }
 {}
 
-/// The text that a stage holds sets it down again: pushed into a fresh stage, wherever its characters are said to stand, it leaves a stage that
-/// holds this text. What that emits are the findings of the text.
+/// Law: the text that a stage holds sets it down again: pushed into a fresh stage, wherever its
+/// characters are said to stand, it leaves a stage that holds this text. What that emits are the
+/// findings of the text.
 pub fn a_held_text_is_held_again()
     ensures state { (limits : Limits) (hasher : DefaultHasher) (xs : List Char) →
         All IsScalar (text_in xs) → IsHeld limits (text_in xs) →
@@ -121,8 +128,8 @@ pub fn a_held_text_is_held_again()
         ≡ map (λ f. Found f) (findings_held limits (text_in xs)) }
 {}
 
-/// Of no character a text is held. Where a text is held, and held still with a character more, what was found in it stays found, and what is found
-/// more comes behind it.
+/// Law: of no character a text is held. Where a text is held, and held still with a character more,
+/// what was found in it stays found, and what is found more comes after it.
 pub fn a_held_text_grows()
     ensures begins { (limits : Limits) → IsHeld limits [] }
     ensures found { (limits : Limits) (t : List ℕ) (c : ℕ) → All IsScalar t → IsScalar c →
@@ -130,8 +137,8 @@ pub fn a_held_text_grows()
         ≡ findings_held limits t ++ new_findings limits t (t ++ c ∷ []) }
 {}
 
-/// The text that a stage holds is within the limit of the headers, or one `%` that begins a line is above it: the next character tells whether that
-/// belongs to the line `%%`.
+/// Law: the text that a stage holds is within the limit of the headers, or one `%` that begins a
+/// line is above it: the next character tells whether that belongs to the line `%%`.
 pub fn a_held_text_is_within_its_limit()
     ensures { (limits : Limits) (t : List ℕ) → 1 ≤ limits.header → IsHeld limits t →
         IsWithinHeaders limits.header (encode_utf8_all t) }
@@ -139,14 +146,16 @@ pub fn a_held_text_is_within_its_limit()
     gabc_places::laws::earliest_is_least();
 }
 
-/// Two stages behind their headers emit the same of whatever follows, whatever the headers were.
+/// Law: two stages after their headers emit the same of whatever follows, whatever the headers
+/// were.
 pub fn stages_behind_headers_agree()
     ensures { (one other : HeaderStageState) → IsBehind one.progress → IsBehind other.progress →
         (xs : List (Result Char Fault)) → events_left one.limits one.progress xs
         ≡ events_left other.limits other.progress xs }
 {}
 
-/// The character with which the headers of a stage are whole is a `%`, the second one of their line.
+/// Law: the character with which the headers of a stage are whole is a `%`, the second one of their
+/// line.
 pub fn a_percent_ends_the_headers(stage: &HeaderStage)
     ensures { (t : List ℕ) (c : ℕ) (heads : Heads) → stage.now.progress ≡ reading t →
         heads_of stage.now.limits (t ++ c ∷ []) ≡ Ok heads → c ≡ 37 }

@@ -18,11 +18,12 @@ use gabc_places::{Code, Fault, Finding, Findings, Limits, Place, Text};
 use std::alloc::{AllocError, Global};
 use std::hash::DefaultHasher;
 
-/// Reads the headers of `text`, whose end is the input's end (GregorioRef, "Headers"). Returns the headers and where the body
-/// begins, or what stopped them: no line `%%` (F2), a value that is not ended (F3), more bytes than `limits.header`, as read or in
-/// canonical form (F4), or with `%%` and an LF more canonical bytes than `limits.input` (F7). It fails only for want of memory. Names are hashed with
-/// a fixed key, so names can be chosen that are slow to read: 1,872 of 8 bytes took 31 ms, where others take 3. Where strangers write the
-/// text, take `headers_whole_with_hasher`.
+/// Reads the headers of `text`, whose end is the input's end (GregorioRef, "Headers"). Returns the
+/// headers and where the body begins, or what stopped them: no line `%%` (F2), a value that is not
+/// ended (F3), more bytes than `limits.header`, as read or in canonical form (F4), or with `%%` and
+/// an LF more canonical bytes than `limits.input` (F7). It fails only for want of memory. Names are
+/// hashed with a fixed key, so names can be chosen that are slow to read: 1,872 of 8 bytes took 31
+/// ms, where others take 3. Where strangers write the text, take `headers_whole_with_hasher`.
 pub fn headers_whole(
     alloc: Global,
     text: &Text,
@@ -34,8 +35,9 @@ pub fn headers_whole(
     headers_whole_with_hasher(alloc, text, limits, DefaultHasher::new())
 }
 
-/// Reads the headers of `text` as `headers_whole` does, and hashes their names from `hasher` on. What it returns does not depend on `hasher`, but
-/// who does not know how it begins cannot choose names that make the reading slow.
+/// Reads the headers of `text` as `headers_whole` does, and hashes their names from `hasher` on.
+/// What it returns does not depend on `hasher`, but who does not know how it begins cannot choose
+/// names that make the reading slow.
 pub fn headers_whole_with_hasher(
     alloc: Global,
     text: &Text,

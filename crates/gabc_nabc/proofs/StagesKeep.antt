@@ -1,6 +1,8 @@
 -- A stage keeps the text that it has kept.
 use Rattle.std.proofs.Common.{◌≡◌, ◌==◌, ◌&&◌, ◌||◌, not, ℕ, List, [], ◌∷◌, ◌++◌, Bool, true, false, Option, Some, None, is_some, length, drop, map, refl, sym, ap, ◌∙◌, subst, inl, inr, append-nil, append_assoc, eqb-true, if◌then◌else◌}
 use Rattle.std.proofs.Math.Seq.{drop-append_seam}
+use Rattle.std.proofs.lemmas.Bool.{true≢false}
+use Rattle.std.proofs.lemmas.List.{same_from_push}
 use Rattle.gabc_places.specs.BoundedList.{BoundedList, extended_by}
 use Rattle.gabc_places.specs.declared.code.Code.TheVariants.{E3, E6, W7}
 use Rattle.gabc_places.specs.declared.place.Char.{Char}
@@ -24,9 +26,6 @@ use Rattle.gabc_nabc.specs.declared.stage.NabcRole.TheVariants.{Silent, Ends, Ke
 use Rattle.gabc_nabc.specs.declared.stage.NabcStage.{NabcStage}
 use Rattle.gabc_nabc.specs.declared.state.DescriptorState.{DescriptorState}
 use Rattle.gabc_nabc.proofs.machine.TextWithACharacterMore.{comment_more, end_more, kept_more, kept_same}
-
-no : {A : Type 0} → true ≡ false → A
-no e = absurd (cc)
 
 -- ---- what is emitted behind a text, by its kept text and whether a comment is open
 
@@ -94,22 +93,10 @@ text_with : (k : List ℕ) (m : Bool) → IsKeptWhole k → TextIs k m (with_com
 text_with k false w = text_whole [] k (record { no_end = refl; comment = refl; kept = refl }) w
 text_with k true w = text_on k false k 37 (text_whole [] k (record { no_end = refl; comment = refl; kept = refl }) w) refl
 
-push_same : (k before : List ℕ) (c d : ℕ) → before ++ d ∷ [] ≡ k ++ c ∷ [] → (before ≡ k) × (d ≡ c)
-push_same [] [] c d e = (refl, cc)
-push_same [] (b ∷ []) c d e = absurd (cc)
-push_same [] (b ∷ a ∷ before) c d e = absurd (cc)
-push_same (a ∷ []) [] c d e = absurd (cc)
-push_same (a ∷ b ∷ k) [] c d e = absurd (cc)
-push_same (a ∷ k) (b ∷ before) c d e =
-    let f : before ++ d ∷ [] ≡ k ++ c ∷ [] = cc in
-    let g : b ≡ a = cc in
-    let y = push_same k before c d f in
-    (cc (g, y.0), y.1)
-
 whole_more : (k : List ℕ) (c : ℕ) → IsKeptWhole k → IsKeptAgain k c → IsKeptWhole (k ++ c ∷ [])
 whole_more k c w again before more d e =
     elim (split_push k (before ++ d ∷ []) more c (e ∙ sym (append_assoc before (d ∷ []) more))) [
-      | inl f ↦ (let y = push_same k before c d f in subst (λ (t : List ℕ). IsKeptAgain t d) (sym y.0) (subst (IsKeptAgain k) (sym y.1) again))
+      | inl f ↦ (let y = same_from_push before k d c f in subst (λ (t : List ℕ). IsKeptAgain t d) (sym y.0) (subst (IsKeptAgain k) (sym y.1) again))
       | inr y ↦ w before y.0 d (y.1 ∙ append_assoc before (d ∷ []) y.0)
     ]
 
@@ -172,7 +159,7 @@ not_ends false false false false e = absurd (cc)
 comment_after : (s : NabcStage) (c : ℕ) → s.ended ≡ false → is_end_behind (comment_of s) c ≡ false → comment_of (stage_after s c) ≡ comment_in (comment_of s) c
 comment_after s c on e =
     ap (λ (b : Bool). comment_of (if b then s else stage_moved_on s (role_at s c) (facts_at s c) (next_at s c) c)) on
-    ∙ by (role_at s c) (next_at s c) (λ f. no (sym (not_ends s.comment ((c == 41) || (c == 124)) (is_in c (37 ∷ 32 ∷ 9 ∷ 10 ∷ [])) (is_some (next_at s c)) f) ∙ e))
+    ∙ by (role_at s c) (next_at s c) (λ f. absurd (true≢false (sym (not_ends s.comment ((c == 41) || (c == 124)) (is_in c (37 ∷ 32 ∷ 9 ∷ 10 ∷ [])) (is_some (next_at s c)) f) ∙ e)))
   where
     by : (r : NabcRole) (o : Option DescriptorState) → (r ≡ Ends → ⊥) → comment_of (stage_moved_on s r (facts_at s c) o c) ≡ comment_in s.comment c
     by Silent o n = refl

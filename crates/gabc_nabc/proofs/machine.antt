@@ -2,8 +2,7 @@ pub mod EventsBuildSnippet
 pub mod FreshStageEmitsEventsByPoint
 pub mod LoopOverBody
 pub mod MachineReadsTable
+pub mod RegularBytes
 pub mod RegularPrefixes
 pub mod RegularShortWays
 pub mod TextWithACharacterMore
-pub mod ViableCharacterIsNoMark
-pub mod WholeSnippetEndsAlone

@@ -7,11 +7,12 @@ use Rattle.gabc_nabc.specs.Parts.{bytes_of}
 use Rattle.gabc_nabc.specs.declared.code.GlyphCode.{GlyphCode}
 use Rattle.gabc_nabc.specs.declared.descriptor.Descriptor.{Descriptor}
 
--- the code whose second letter stands at this place: if its first letter is at the start of the text, or behind a `!`
+-- the code whose second letter stands at this place: if its first letter is at the start of the
+-- text, or after a `!`
 abbrev pub code_at : List ℕ → ℕ → List GlyphCode
 code_at text i = if (i == 1) || (slice_index text (i - 2) == 33) then record { first = slice_index text (i - 1); second = slice_index text i } ∷ [] else []
 
--- the codes at that place of the text and at those behind it, in order
+-- the codes at that place of the text and at those after it, in order
 abbrev pub codes_from : List ℕ → ℕ → List GlyphCode
 codes_from text at = flat_map (code_at text) (range_with_len at (length text - at))
 

@@ -14,16 +14,17 @@ use Rattle.gabc_notes.specs.declared.stage.NoteEvent.TheVariants.{Kept, Ended}
 
 -- ---- the characters of a snippet
 
--- a comment is open behind the text: a `%` of it has no LF behind it
+-- a comment is open after the text: a `%` of it has no LF after it
 abbrev pub in_comment : List ℕ → Bool
 in_comment [] = false
 in_comment (c ∷ t) = ((c == 37) && not (is_in 10 t)) || in_comment t
 
--- the character c behind the text is one of the snippet's: no comment is open, it begins none, and it is no blank
+-- the character c after the text is one of the snippet's: no comment is open, it begins none, and
+-- it is no blank
 abbrev pub is_character : List ℕ → ℕ → Bool
 is_character t c = not (in_comment t) && not (is_in c (37 ∷ 32 ∷ 9 ∷ 10 ∷ []))
 
--- the character c behind the text ends the snippet: a `)` or a `|`, and no comment is open
+-- the character c after the text ends the snippet: a `)` or a `|`, and no comment is open
 abbrev pub is_end : List ℕ → ℕ → Bool
 is_end t c = not (in_comment t) && ((c == 41) || (c == 124))
 
@@ -71,7 +72,7 @@ before_last t = take (length t - 1) t
 abbrev pub joins : List ℕ → Bool
 joins t = is_in 33 (last_of t)
 
--- a code may begin behind the text
+-- a code may begin after the text
 abbrev pub takes_code : List ℕ → Bool
 takes_code t = is_snippet nabc t || joins t
 
@@ -95,28 +96,30 @@ is_missing (Some a) c = is_code a c && not (is_known a c)
 abbrev pub bytes_in : List ℕ → ℕ
 bytes_in t = min (length (encode_utf8_all t)) (2 ^ 64 - 1)
 
--- The end at the character x, where that is kept: E6 if it is no NABC snippet, and the bytes of its longest prefix that is one.
+-- The end at the character x, where that is kept: E6 if it is no NABC snippet, and the bytes of its
+-- longest prefix that is one.
 abbrev pub end_events : List ℕ → Char → List NoteEvent
 end_events kept x = (if is_snippet nabc kept then [] else finding_event x.place E6 ∷ []) ++ Ended (end_by_mark x.c) (bytes_in (trim nabc kept)) ∷ []
 
--- The character x of the snippet, where that is kept: kept, with W7 if it ends a code without a name, or E3.
+-- The character x of the snippet, where that is kept: kept, with W7 if it ends a code without a
+-- name, or E3.
 abbrev pub character_events : List ℕ → Char → List NoteEvent
 character_events kept x =
     if is_viable nabc (kept ++ x.c ∷ []) then Kept x ∷ (if is_missing (first_of kept) x.c then finding_event x.place W7 ∷ [] else []) else
     finding_event x.place E3 ∷ []
 
--- what is emitted of the character x behind the text
+-- what is emitted of the character x after the text
 abbrev pub events_at : List ℕ → Char → List NoteEvent
 events_at t x =
     if has_end t then [] else
     if is_end t x.c then end_events (kept_of t) x else
     if is_character t x.c then character_events (kept_of t) x else []
 
--- what is emitted of the end of the characters behind the text
+-- what is emitted of the end of the characters after the text
 abbrev pub cut_events : List ℕ → List NoteEvent
 cut_events t = if has_end t then [] else Ended (Cut (record { line = 0; column = 0 })) (bytes_in (kept_of t)) ∷ []
 
--- what is emitted of each of these characters behind the text, and of their end
+-- what is emitted of each of these characters after the text, and of their end
 abbrev pub nabc_events_behind : List ℕ → List Char → List (List NoteEvent)
 nabc_events_behind t [] = cut_events t ∷ []
 nabc_events_behind t (x ∷ xs) = events_at t x ∷ nabc_events_behind (t ++ x.c ∷ []) xs

@@ -12,4 +12,3 @@ pub mod ReadAgain
 pub mod Regular
 pub mod SnippetRead
 pub mod Table
-pub mod TakenAtOnce

@@ -1,4 +1,5 @@
--- What is emitted of an NABC snippet, by relations over the whole of the text before: a list for each character, and one for the end of them.
+-- What is emitted of an NABC snippet, by relations over the whole of the text before: a list for
+-- each character, and one for the end of them.
 use Rattle.std.specs.Prelude.{◌≡◌, ◌⊎◌, ℕ, List, [], ◌∷◌, ◌++◌, true, false, map}
 use Rattle.gabc_places.specs.declared.code.Finding.{Finding}
 use Rattle.gabc_places.specs.declared.place.Char.{Char}
@@ -14,7 +15,8 @@ use Rattle.gabc_nabc.specs.Table.{nabc}
 use Rattle.gabc_nabc.specs.Events.{is_end, bytes_in}
 use Rattle.gabc_nabc.specs.NabcRead.{IsKeptOf, IsKeptAfter, IsFoundAfter, IsUnfinished}
 
--- Of the character x after the text, which does not end the snippet: that it is kept, where it is, and what is found at it.
+-- Of the character x after the text, which does not end the snippet: that it is kept, where it is,
+-- and what is found at it.
 pub record AreOfCharacter (t : List ℕ) (x : Char) (events : List NoteEvent) : Type 0 where
   pub no_end : is_end t x.c ≡ false
   pub kept : List NoteEvent
@@ -23,7 +25,8 @@ pub record AreOfCharacter (t : List ℕ) (x : Char) (events : List NoteEvent) : 
   pub is_found : AreThoseFound (IsFoundAfter t x) found
   pub all : events ≡ kept ++ map Found found
 
--- Of the mark x that ends the snippet after the text: that its end is unfinished, where it is, and the end, with the bytes of what is kept but that.
+-- Of the mark x that ends the snippet after the text: that its end is unfinished, where it is, and
+-- the end, with the bytes of what is kept but that.
 pub record AreOfMark (t : List ℕ) (x : Char) (events : List NoteEvent) : Type 0 where
   pub mark : is_end t x.c ≡ true
   pub kept : List ℕ

@@ -1,4 +1,5 @@
--- What `nabc_whole` says of a text, by relations over the whole of the snippet with which it begins.
+-- What `nabc_whole` says of a text, by relations over the whole of the snippet with which it
+-- begins.
 use Rattle.std.specs.Prelude.{◌≡◌, ◌⊎◌, ℕ, List, [], ◌∷◌, ◌++◌, ◌==◌, true, false, chars, if◌then◌else◌, length, map, string_bytes, encode_utf8_all}
 use Rattle.gabc_places.specs.declared.code.Code.{Code}
 use Rattle.gabc_places.specs.declared.code.Code.TheVariants.{E3, E6, W7}
@@ -16,7 +17,8 @@ use Rattle.gabc_nabc.specs.Table.{nabc, code}
 use Rattle.gabc_nabc.specs.Names.{is_known}
 use Rattle.gabc_nabc.specs.Events.{is_character, is_end, characters_behind}
 
--- that is kept of the text: of its characters each one, exactly if what is kept before it, followed by it, is viable
+-- that is kept of the text: of its characters each one, exactly if what is kept before it, followed
+-- by it, is viable
 abbrev pub IsKeptOf : List ℕ → List ℕ → Type 0
 IsKeptOf t kept = Keeps nabc [] (characters_behind [] t) kept
 
@@ -29,7 +31,8 @@ abbrev pub AreKept : List ℕ → List Char → List Char → Type 0
 AreKept t [] cs = cs ≡ []
 AreKept t (x ∷ xs) cs = (later : List Char) × AreKept (t ++ x.c ∷ []) xs later × ((IsKeptAfter t x.c × (cs ≡ x ∷ later)) ⊎ ((¬ IsKeptAfter t x.c) × (cs ≡ later)))
 
--- The letter c ends a code that the table of names lacks. A code may begin after a snippet, and after the `!` that joins glyphs.
+-- The letter c ends a code that the table of names lacks. A code may begin after a snippet, and
+-- after the `!` that joins glyphs.
 pub record EndsUnknownCode (kept : List ℕ) (c : ℕ) : Type 0 where
   pub before : List ℕ
   pub first : ℕ
@@ -57,7 +60,8 @@ AreFound t (x ∷ xs) fs = (here later : List Finding) × (fs ≡ here ++ later)
 abbrev pub IsUnfinished : List ℕ → Place → Finding → Type 0
 IsUnfinished kept place f = (f ≡ record { place = place; code = E6 }) × (¬ IsSnippet nabc kept)
 
--- The snippet ends at the mark c after its text, of which that is kept and found. An unfinished end is left out, and found at the mark.
+-- The snippet ends at the mark c after its text, of which that is kept and found. An unfinished end
+-- is left out, and found at the mark.
 pub record IsEnded (at : Place) (front kept : List ℕ) (found : List Finding) (c : ℕ) (r : SnippetRead) : Type 0 where
   pub mark : is_end front c ≡ true
   pub whole : List ℕ
@@ -85,7 +89,8 @@ pub record IsNabcRead (at : Place) (t : List ℕ) (r : SnippetRead) : Type 0 whe
   pub finds : AreFound [] (placed_characters_from at front) found
   pub is_read : IsRead at front kept found rest r
 
--- The characters are those of the text that is read, each with its place: the first of those that are kept.
+-- The characters are those of the text that is read, each with its place: the first of those that
+-- are kept.
 pub record AreKeptChars (at : Place) (t : List ℕ) (cs : List Char) : Type 0 where
   pub read : SnippetRead
   pub is_read : IsNabcRead at t read

@@ -24,26 +24,29 @@ read_as bytes i = (i.space, chars (bytes_of bytes i))
 abbrev pub piece_of : Descriptor → ItemSpan Bool
 piece_of i = (i.space, i.span.from, i.span.to)
 
--- The parts make up the text: each is the longest that begins at its place, and begins where the one before it ends.
+-- The parts make up the text: each is the longest that begins at its place, and begins where the
+-- one before it ends.
 pub record MakeUp (bytes : List ℕ) (parts : List Descriptor) : Type 0 where
   pub reads : IsReading nabc (map (read_as bytes) parts) (chars bytes)
   pub joined : FollowOn 0 (map piece_of parts) (length bytes)
 
--- parts of these kinds and characters, which stand one behind the other from that byte on
+-- parts of these kinds and characters, which stand one after the other from that byte on
 abbrev pub placed_parts : ℕ → List (Bool × List ℕ) → List Descriptor
 placed_parts at [] = []
 placed_parts at (i ∷ is) =
     let to = at + length (encode_utf8_all i.1) in
     record { space = i.0; span = record { from = at; to = to } } ∷ placed_parts to is
 
--- The parts of the text, as far as one begins: each is the longest that begins where the one before it ends. Of a snippet they are all.
+-- The parts of the text, as far as one begins: each is the longest that begins where the one before
+-- it ends. Of a snippet they are all.
 pub record AreDescriptorsOf (bytes : List ℕ) (parts : List Descriptor) : Type 0 where
   pub texts : List (Bool × List ℕ)
   pub rest : List ℕ
   pub reads : ReadsTo nabc texts (chars bytes) rest
   pub placed : parts ≡ placed_parts 0 texts
 
--- the descriptors and spaces of what is left of a text from that byte on, each the longest that begins at its place, as far as one begins
+-- the descriptors and spaces of what is left of a text from that byte on, each the longest that
+-- begins at its place, as far as one begins
 abbrev pub parts_from : ℕ → List ℕ → List Descriptor
 parts_from at rest = placed_parts at (items nabc (chars rest))
 

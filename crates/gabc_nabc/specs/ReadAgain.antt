@@ -10,8 +10,9 @@ use Rattle.gabc_nabc.specs.Events.{bytes_in, nabc_events}
 use Rattle.gabc_notes.specs.Events.{end_by_mark}
 use Rattle.gabc_nabc.specs.SnippetRead.{before_end, from_end, kept_before, kept_chars_in}
 
--- The text t begins at that place, and behind it stand the mark and the rest. The snippet is all of t and ends at the mark; its
--- kept text is t, each character at its place; the end is emitted of the mark; and what is found are warnings, so no E3 and no E6.
+-- The text t begins at that place, and after it stand the mark and the rest. The snippet is all of
+-- t and ends at the mark; its kept text is t, each character at its place; the end is emitted of
+-- the mark; and what is found are warnings, so no E3 and no E6.
 pub record IsNabcReadAgain (at : Place) (t : List ℕ) (mark : ℕ) (rest : List ℕ) : Type 0 where
   pub before : before_end (t ++ mark ∷ rest) ≡ t
   pub from : from_end (t ++ mark ∷ rest) ≡ mark ∷ rest

@@ -10,8 +10,8 @@ use Rattle.gabc_notes.specs.declared.stage.NoteEvent.TheVariants.{Ended}
 use Rattle.gabc_nabc.specs.Table.{nabc}
 use Rattle.gabc_nabc.specs.Events.{bytes_in, nabc_events}
 
--- The text is an NABC snippet. In front of a mark that ends it, wherever it stands, each of its characters is kept, and nothing else is emitted but
--- that end: nothing is found.
+-- The text is an NABC snippet. In front of a mark that ends it, wherever it stands, each of its
+-- characters is kept, and nothing else is emitted but that end: nothing is found.
 pub record IsRegular (t : List ℕ) : Type 0 where
   pub snippet : IsSnippet nabc t
   pub events : (at : Place) (how : NoteEnd) (mark : ℕ) → IsMarkOf true how mark

@@ -33,12 +33,14 @@ before_end t = before_end_behind [] t
 abbrev pub from_end : List ℕ → List ℕ
 from_end t = drop (length (before_end t)) t
 
--- what is kept: of a snippet that is ended the longest prefix that is an NABC snippet, else what was kept so far
+-- what is kept: of a snippet that is ended the longest prefix that is an NABC snippet, else what
+-- was kept so far
 abbrev pub kept_before : List ℕ → List ℕ → List ℕ
 kept_before prefix [] = kept_of prefix
 kept_before prefix (c ∷ cs) = trim nabc (kept_of prefix)
 
--- the characters of the kept text, each with its place: of those that are emitted as kept as many as it has
+-- the characters of the kept text, each with its place: of those that are emitted as kept as many
+-- as it has
 abbrev pub kept_chars_in : Place → List ℕ → List Char
 kept_chars_in at t = take (length (kept_before (before_end t) (from_end t))) (kept_chars_of (concat_of (nabc_events (placed_characters_from at t))))
 
@@ -52,7 +54,8 @@ abbrev pub ending_behind : List ℕ → List ℕ → SnippetEnding
 ending_behind prefix [] = Cut (record { line = 0; column = 0 })
 ending_behind prefix (c ∷ cs) = if c == 124 then Next (length (encode_utf8_all prefix)) else Close (length (encode_utf8_all prefix))
 
--- So what `nabc_whole` says of a text is computed. The findings are those that a stage emits of the characters, in order.
+-- So what `nabc_whole` says of a text is computed. The findings are those that a stage emits of the
+-- characters, in order.
 pub record IsComputed (at : Place) (t : List ℕ) (r : SnippetRead) : Type 0 where
   pub kept_is : string_bytes r.kept ≡ encode_utf8_all (kept_before (before_end t) (from_end t))
   pub findings_are : r.findings ≡ findings_of (concat_of (nabc_events (placed_characters_from at t)))

@@ -2,8 +2,8 @@
 
 use gabc_places::{Sequence, Span};
 
-/// A part of a kept text: a descriptor (one or more glyphs, with their points and letters), or a space between two. Its span is in
-/// bytes of the kept text.
+/// A part of a kept text: a descriptor (one or more glyphs, with their points and letters), or a
+/// space between two. Its span is in bytes of the kept text.
 #[derive(Clone, Copy, Debug, PartialEq, Eq)]
 pub struct Descriptor {
     /// Whether it is a space and no descriptor.

@@ -35,7 +35,8 @@ fn first_part(text: &str) -> Option<(bool, usize)>
     best
 }
 
-/// Goes over the descriptors and spaces of a kept text, in order. Contracts see the list of those to come.
+/// Goes over the descriptors and spaces of a kept text, in order. Contracts see the list of those
+/// to come.
 #[derive(Drop)]
 pub struct PartReader<'a> {
     /// The text from the next part on.
@@ -77,9 +78,10 @@ impl<'a> Iterator for PartReader<'a> {
     }
 }
 
-/// Returns an iterator over the descriptors and spaces of `kept`, in order: spans that count its bytes, each part the longest that begins
-/// where the one before it ends. They are all of an NABC snippet, such as what `nabc_whole` keeps wherever the snippet ended; another text
-/// is read as far as a part begins. It asks for no memory, and each part is read when it is asked for.
+/// Returns an iterator over the descriptors and spaces of `kept`, in order: spans that count its
+/// bytes, each part the longest that begins where the one before it ends. They are all of an NABC
+/// snippet, such as what `nabc_whole` keeps wherever the snippet ended; another text is read as far
+/// as a part begins. It asks for no memory, and each part is read when it is asked for.
 pub fn parts_in(kept: &str) -> PartReader<'_>
     ensures parts { result ≡ parts_of kept.now }
     ensures within { AreWithin kept.now (parts_of kept.now) }
@@ -88,7 +90,8 @@ pub fn parts_in(kept: &str) -> PartReader<'_>
     PartReader { rest: kept, at: 0 }
 }
 
-/// Returns the descriptors and spaces of `kept`, as `parts_in` gives them. It fails only for want of memory.
+/// Returns the descriptors and spaces of `kept`, as `parts_in` gives them. It fails only for want
+/// of memory.
 pub fn descriptors_whole(alloc: Global, kept: &str) -> Result<Descriptors, AllocError>
     ensures { IfOk result (λ parts. AreDescriptorsOf kept.now parts) }
 {
@@ -100,8 +103,8 @@ pub fn descriptors_whole(alloc: Global, kept: &str) -> Result<Descriptors, Alloc
     Ok(parts)
 }
 
-/// Adds to `out` the descriptors and spaces of `kept`, as `parts_in` gives them, and asks for no memory. `out` has to take as many parts
-/// more as `kept` has bytes.
+/// Adds to `out` the descriptors and spaces of `kept`, as `parts_in` gives them, and asks for no
+/// memory. `out` has to take as many parts more as `kept` has bytes.
 pub fn descriptors_into(kept: &str, out: &mut Room<Descriptor>)
     requires { Fits out.old (length kept.now) }
     ensures { out.new ≡ extended_by out.old (parts_of kept.now) }

@@ -1,5 +1,5 @@
-//! Laws of the definitions that contracts speak of. Each function is there for its clauses: all but one do nothing, and that one
-//! drives a fresh stage.
+//! Laws of the definitions that contracts speak of. Each function is there for its clauses: all but
+//! one do nothing, and that one drives a fresh stage.
 
 ghost use Rattle.std.specs.Prelude.{◌≡◌, ◌≤◌, ◌+◌, ◌*◌, ℕ, List, [], ◌∷◌, ◌++◌, Bool, length, take, drop, map, true, Some, encode_utf8_all, IsTrue, ◌↔◌};
 ghost use Rattle.gabc_places.specs.Findings.{AreInOrder, LieBetween};
@@ -36,7 +36,8 @@ use crate::stage::NabcStage;
 use gabc_notes::NoteEvent;
 use gabc_places::{Char, Room, drive};
 
-/// A fresh stage, driven over all characters and then ended, emits the events of the definition.
+/// Law: a fresh stage, driven over all characters and then ended, emits the events of the
+/// definition.
 pub fn a_fresh_stage_emits(inputs: Vec<Char>, out: &mut Room<NoteEvent>)
     requires { Fits out.old (3 * (length inputs.items + 1)) }
     ensures { out.new ≡ extended_by out.old (concat_of (nabc_events inputs.items)) }
@@ -45,17 +46,18 @@ pub fn a_fresh_stage_emits(inputs: Vec<Char>, out: &mut Room<NoteEvent>)
     drive(&mut stage, inputs, out);
 }
 
-/// No row of the table spells the empty text: what the laws of tables in `gabc_patterns` ask of a table.
+/// Law: no row of the table spells the empty text: what the laws of tables in `gabc_patterns` ask
+/// of a table.
 pub fn no_part_is_empty()
     ensures { ¬ IsItem nabc [] }
 {}
 
-/// No text is spelled both as a space and as a descriptor.
+/// Law: no text is spelled both as a space and as a descriptor.
 pub fn a_part_has_one_kind()
     ensures { OneKind nabc }
 {}
 
-/// A text has one reading at most, and one list of descriptors and spaces.
+/// Law: a text has one reading at most, and one list of descriptors and spaces.
 pub fn descriptors_are_one()
     ensures readings { (is js : List (Bool × List ℕ)) (t : List ℕ) → IsReading nabc is t →
         IsReading nabc js t → is ≡ js }
@@ -63,7 +65,8 @@ pub fn descriptors_are_one()
         AreDescriptorsOf bytes qs → ps ≡ qs }
 {}
 
-/// The function `parts_of` gives the parts of any text, which lie in it if it is UTF-8. Those of an NABC snippet make it up.
+/// Law: the function `parts_of` gives the parts of any text, which lie in it if it is UTF-8. Those
+/// of an NABC snippet make it up.
 pub fn parts_are_computed()
     ensures parts { (bytes : List ℕ) → AreDescriptorsOf bytes (parts_of bytes) }
     ensures snippet { (bytes : List ℕ) → IsUtf8 bytes → IsNabc bytes →
@@ -71,7 +74,8 @@ pub fn parts_are_computed()
     ensures within { (bytes : List ℕ) → IsUtf8 bytes → AreWithin bytes (parts_of bytes) }
 {}
 
-/// What is read of a text, by relations over the whole of it, is what is computed a character at a time.
+/// Law: what is read of a text, by relations over the whole of it, is what is computed a character
+/// at a time.
 pub fn what_is_read_is_computed()
     ensures { (at : Place) (t : List ℕ) (read : SnippetRead) →
         IsNabcRead at t read ↔ IsComputed at t read }
@@ -90,18 +94,19 @@ pub fn kept_characters_are_computed()
         AreKeptChars at t cs → cs ≡ kept_chars_in at t }
 {}
 
-/// A viable text is an NABC snippet with at most two characters more.
+/// Law: a viable text is an NABC snippet with at most two characters more.
 pub fn two_characters_complete()
     ensures { (t : List ℕ) → IsViable nabc t →
         (more : List ℕ) × (length more ≤ 2) × IsSnippet nabc (t ++ more) }
 {}
 
-/// The two letters that W7 takes for a code are those that the table spells as one.
+/// Law: the two letters that W7 takes for a code are those that the table spells as one.
 pub fn codes_are_two_letters()
     ensures { (a c : ℕ) → IsTrue (is_code a c) ↔ Spells code (a ∷ c ∷ []) }
 {}
 
-/// What is emitted of characters does not depend on what follows them, and behind the end nothing is emitted.
+/// Law: what is emitted of characters does not depend on what follows them, and after the end
+/// nothing is emitted.
 pub fn what_follows_emits_nothing()
     ensures prefix { (xs ys zs : List Char) →
         take (length xs) (nabc_events (xs ++ ys)) ≡ take (length xs) (nabc_events (xs ++ zs)) }
@@ -109,13 +114,15 @@ pub fn what_follows_emits_nothing()
         concat_of (nabc_events_behind t xs) ≡ [] }
 {}
 
-/// The characters that are emitted as kept are what the table keeps of the text before the snippet's end.
+/// Law: the characters that are emitted as kept are what the table keeps of the text before the
+/// snippet's end.
 pub fn the_kept_text_is_emitted()
     ensures { (xs : List Char) →
         kept_in (concat_of (nabc_events xs)) ≡ kept_of (before_end (map (λ x. x.c) xs)) }
 {}
 
-/// One end is emitted, with the bytes of the kept text: at most those of the characters that are emitted as kept.
+/// Law: one end is emitted, with the bytes of the kept text: at most those of the characters that
+/// are emitted as kept.
 pub fn one_end_is_emitted()
     ensures end { (xs : List Char) → (let t = map (λ x. x.c) xs in
         ends_of (concat_of (nabc_events xs))
@@ -125,29 +132,29 @@ pub fn one_end_is_emitted()
         ≤ length (encode_utf8_all (kept_in (concat_of (nabc_events xs))))) }
 {}
 
-/// What is emitted of a character has at most one finding, which stands at its place.
+/// Law: what is emitted of a character has at most one finding, which stands at its place.
 pub fn one_finding_a_character()
     ensures { (t : List ℕ) (x : Char) → AreAtMostOne x.place (findings_of (events_at t x)) }
 {}
 
-/// The findings of a text are in the order of their places, none twice.
+/// Law: the findings of a text are in the order of their places, none twice.
 pub fn findings_are_in_order()
     ensures { (at : Place) (t : List ℕ) →
         AreInOrder (findings_of (concat_of (nabc_events (placed_characters_from at t)))) }
 {}
 
-/// The codes of a descriptor are the first two letters of its glyphs, in order.
+/// Law: the codes of a descriptor are the first two letters of its glyphs, in order.
 pub fn codes_are_of_glyphs()
     ensures { (t : List ℕ) → Spells descriptor t → HasCodesOfGlyphs t }
 {}
 
-/// Each name of the table of names has at most 20 bytes.
+/// Law: each name of the table of names has at most 20 bytes.
 pub fn names_are_short()
     ensures { (a c : ℕ) (name : List ℕ) → name_by a c ≡ Some name → length name ≤ 20 }
 {}
 
-/// What is emitted of a text through the character behind a prefix has its findings at the text's place or later, and no later
-/// than that character.
+/// Law: what is emitted of a text through the character after a prefix has its findings at the
+/// text's place or later, and no later than that character.
 pub fn findings_lie_within()
     ensures { (at : Place) (prefix rest : List ℕ) →
         let events = concat_of (take (length prefix + 1)
@@ -155,15 +162,16 @@ pub fn findings_lie_within()
         LieBetween at (place_past at prefix) (findings_of events) }
 {}
 
-/// Of a character at most one end is emitted, behind all else: at a `)` or a `|`. Of the end of the characters nothing is emitted
-/// but that they were cut.
+/// Law: of a character at most one end is emitted, after all else: at a `)` or a `|`. Of the end of
+/// the characters nothing is emitted but that they were cut.
 pub fn a_snippet_ends_at_its_mark()
     ensures mark { (t : List ℕ) (x : Char) → EndAtMost true x.c (events_at t x) }
     ensures last { (t : List ℕ) → AreCutAtMost (cut_events t) }
 {}
 
-/// A snippet of the table in front of its mark, whatever follows, is read again as exactly that snippet: it ends at that mark, each
-/// character is kept at its place, and no error is found. The kept text of each snippet that has ended is one.
+/// Law: a snippet of the table in front of its mark, whatever follows, is read again as exactly
+/// that snippet: it ends at that mark, each character is kept at its place, and no error is found.
+/// The kept text of each snippet that has ended is one.
 pub fn kept_again()
     ensures snippet { (at : Place) (how : NoteEnd) (t rest : List ℕ) (mark : ℕ) →
         IsSnippet nabc t → IsMarkOf true how mark → IsNabcReadAgain at t mark rest }
@@ -171,7 +179,8 @@ pub fn kept_again()
         IsSnippet nabc (kept_before prefix (mark ∷ rest)) }
 {}
 
-/// Two stages behind one kept text emit the same of whatever follows, if both tell the same of whether a comment is open.
+/// Law: two stages after one kept text emit the same of whatever follows, if both tell the same of
+/// whether a comment is open.
 pub fn stages_behind_one_text_agree()
     ensures { (one other : NabcStage) (k : List ℕ) → Keeps one k → Keeps other k →
         comment_of one ≡ comment_of other →
@@ -184,8 +193,8 @@ pub fn a_stage_takes_each_character()
     ensures takes { (s : NabcStage) (x : Char) → Takes s x }
 {}
 
-/// A kept text gives the stage back. A fresh stage keeps it again whole, and behind it, and a `%` where a comment is open, placed anywhere,
-/// it emits the same of whatever follows.
+/// Law: a kept text gives the stage back. A fresh stage keeps it again whole, and after it, and a
+/// `%` where a comment is open, placed anywhere, it emits the same of whatever follows.
 pub fn a_kept_text_gives_the_stage_back(stage: &NabcStage)
     ensures whole { (k more : List ℕ) (c : ℕ) →
         Keeps stage.now (k ++ c ∷ more) → IsKeptAgain k c }

@@ -1,22 +1,24 @@
-//! One NABC snippet: which of its characters are kept, and the descriptors and spaces into which the kept text falls.
+//! One NABC snippet: which of its characters are kept, and the descriptors and spaces into which
+//! the kept text falls.
 //!
-//! NABC is how the manual writes unheighted neumes (GregorioRef, the NABC reference).
-//! The parts are the rows of one table (`specs/Table.antt`), which reads like the grammar. A text is read by taking at each
-//! place the longest part that begins there; a text that is read whole is an NABC snippet, and one that a snippet begins with
-//! is viable. Going left to right, a character is kept exactly if the kept text with it is viable.
+//! NABC is how the manual writes unheighted neumes (GregorioRef, the NABC reference). The parts are
+//! the rows of one table (`specs/Table.antt`), which reads like the grammar. A text is read by
+//! taking at each place the longest part that begins there; a text that is read whole is an NABC
+//! snippet, and one that a snippet begins with is viable. Going left to right, a character is kept
+//! exactly if the kept text with it is viable.
 //!
-//! - `nabc_whole` reads the snippet with which a text begins: its kept text, its findings and its end. `kept_chars` gives the
-//!   characters of that kept text with their places in the source.
-//! - `is_nabc` tells whether a text is an NABC snippet. `parts_in` goes over its descriptors and spaces, and `codes_in` over the codes of
-//!   one of them; `descriptors_whole`, `descriptors_into` and `codes_into` gather them. Spans count its bytes. `name_of` names a code.
-//!   `regular_nabc` says how far a text is an NABC snippet in which nothing is left out or found.
-//! - `NabcStage` reads the characters of a snippet one at a time. Its `take_kept` is a short way for a character that is kept and
-//!   brings no finding: it needs no room for events. `NabcStage::in_comment` tells what matters of a stage beside the text that it kept
-//!   (`specs/Keeps.antt`).
+//! - `nabc_whole` reads the snippet with which a text begins: its kept text, its findings and its
+//!   end. `kept_chars` gives the characters of that kept text with their places in the source.
+//! - `is_nabc` tells whether a text is an NABC snippet. `parts_in` goes over its descriptors and
+//!   spaces, and `codes_in` over the codes of one of them; `descriptors_whole`, `descriptors_into`
+//!   and `codes_into` gather them. Spans count its bytes. `name_of` names a code. `regular_nabc`
+//!   says how far a text is an NABC snippet in which nothing is left out or found.
+//! - `NabcStage` reads the characters of a snippet one at a time. `NabcStage::in_comment` tells
+//!   what matters of a stage beside the text that it kept (`specs/witness/Keeps.antt`).
 //! - `laws` has what follows of the definitions.
 //!
-//! Texts and places come from `gabc_places`: lines and columns from 1, a column a character. An NABC snippet of a score begins behind
-//! a `|`.
+//! Texts and places come from `gabc_places`: lines and columns from 1, a column a character. An
+//! NABC snippet of a score begins after a `|`.
 //!
 //! ```
 //! let body = "vi pe7)";
@@ -25,7 +27,8 @@
 //! assert_eq!(rt; read.how, SnippetEnding::Close(6));
 //! if is_nabc(&read.kept) {
 //!     let parts = descriptors_whole(alloc, &read.kept)?;
-//!     assert_eq!(rt; parts.as_slice(), [virga, pes].as_slice()); // `vi` and `pe`, from byte 2 to byte 4
+//!     // `vi` and `pe`, from byte 2 to byte 4
+//!     assert_eq!(rt; parts.as_slice(), [virga, pes].as_slice());
 //! }
 //! assert_eq!(rt;
 //!     codes_in("vipe", pes).next().and_then(|code| code.name()),

@@ -40,8 +40,8 @@ pub(crate) fn is_named(first: char, second: char) -> bool
     name_at(first, second).is_some()
 }
 
-/// Returns the name of `code` in this project's words, such as `virga` of `vi`; `None` for a code that the table of names lacks, and for
-/// a text of other than two characters.
+/// Returns the name of `code` in this project's words, such as `virga` of `vi`; `None` for a code
+/// that the table of names lacks, and for a text of other than two characters.
 pub fn name_of(code: &str) -> Option<&str>
     ensures { MatchOption result (name_in (chars code.now) ≡ None) (λ name. name_in (chars code.now)
         ≡ Some name.now) }

@@ -62,18 +62,20 @@ impl RegularState {
 pub fn regular_nabc(text: &str) -> usize
     ensures { IsLongestPrefix IsRegular text.now result }
 {
+    // each character that is kept is of ASCII
+    let bytes = text.as_bytes();
     let mut state = RegularState {
         part: DescriptorState::Start,
         letter: '/',
     };
     let mut read = 0;
     let mut regular = 0;
-    for c in text.chars() {
-        match state.after(c) {
+    while read < bytes.len() {
+        match state.after(char::from(bytes[read])) {
             Some(next) => state = next,
             None => return regular,
         }
-        read += c.len_utf8();
+        read += 1;
         if state.is_whole() {
             regular = read;
         }

@@ -1,15 +1,13 @@
 //! A machine that reads an NABC snippet a character at a time.
 
-ghost use Rattle.std.specs.Prelude.{◌≡◌, ◌≢◌, List, [], ◌∷◌, true, false, None, IfSome, IsSome};
+ghost use Rattle.std.specs.Prelude.{◌≡◌, List, [], true, false, None};
 ghost use Rattle.gabc_places.specs.declared.place.Char.{Char};
 ghost use Rattle.gabc_places.specs.BoundedList.{Fits, extended_by};
 ghost use Rattle.gabc_notes.specs.Ends.{is_ended};
 ghost use Rattle.gabc_notes.specs.declared.stage.NoteEvent.{NoteEvent};
 ghost use Rattle.gabc_notes.specs.declared.stage.NoteEnd.{NoteEnd};
 ghost use Rattle.gabc_notes.specs.declared.stage.NoteEvent.TheVariants.{Kept, Ended};
-ghost use Rattle.gabc_notes.specs.TakenAtOnce.{TakesNext};
 ghost use Rattle.gabc_nabc.specs.witness.Keeps.{comment_of, Keeps, KeepsOn};
-ghost use Rattle.gabc_nabc.specs.TakenAtOnce.{StandsBeforeNext};
 ghost use Rattle.gabc_nabc.specs.Events.{is_code, is_missing};
 ghost use Rattle.gabc_nabc.specs.NabcEmitted.{AreNabcEvents};
 ghost use Rattle.gabc_nabc.specs.witness.DescriptorMachine.{first_at, facts_by_states, role_in, events_in, event_list, stage_kept, stage_moved_on, stage_events_at, stage_after, events_of_cut, events_left};
@@ -50,7 +48,8 @@ pub(crate) struct NabcEvents {
     pub(crate) second: Option<NoteEvent>,
 }
 
-/// Returns the first letter of a code whose second letter is to come: the last letter, in these states.
+/// Returns the first letter of a code whose second letter is to come: the last letter, in these
+/// states.
 pub(crate) fn first_letter(state: DescriptorState, letter: char) -> Option<char>
     ensures { result ≡ first_at state letter }
 {
@@ -77,7 +76,8 @@ fn makes_code(first: char, second: char) -> bool
     }
 }
 
-/// Returns whether a character ends a code that has no name, where `first` is the first letter of one.
+/// Returns whether a character ends a code that has no name, where `first` is the first letter of
+/// one.
 pub(crate) fn lacks_name(first: Option<char>, c: char) -> bool
     ensures { result ≡ is_missing first c }
 {
@@ -117,7 +117,8 @@ fn role_of(comment: bool, viable: bool, c: char) -> NabcRole
     }
 }
 
-/// Returns what is emitted at a character. The longest prefix of the kept text that is an NABC snippet has `whole` bytes.
+/// Returns what is emitted at a character. The longest prefix of the kept text that is an NABC
+/// snippet has `whole` bytes.
 fn events_by(role: NabcRole, facts: NabcFacts, whole: usize, x: Char) -> NabcEvents
     ensures { result ≡ events_in role facts whole x }
 {
@@ -163,8 +164,8 @@ fn emit(events: NabcEvents, out: &mut Room<NoteEvent>)
     }
 }
 
-/// Reads an NABC snippet (GregorioRef, the NABC reference): emits each character that is kept, the findings as they become known, and the end. It asks for no
-/// memory.
+/// Reads an NABC snippet (GregorioRef, the NABC reference): emits each character that is kept, the
+/// findings as they become known, and the end. It asks for no memory.
 #[derive(Drop)]
 pub struct NabcStage {
     state: DescriptorState,
@@ -195,7 +196,8 @@ impl NabcStage {
         }
     }
 
-    /// Adds a character to the kept text. With it that stands at `next`, and `whole` tells that it is an NABC snippet then.
+    /// Adds a character to the kept text. With it that stands at `next`, and `whole` tells that it
+    /// is an NABC snippet then.
     fn keep(&mut self, next: DescriptorState, whole: bool, c: char)
         ensures { self.new ≡ stage_kept self.old next whole c }
     {
@@ -219,48 +221,6 @@ impl NabcStage {
         if let (NabcRole::Keep, Some(next)) = (role, next) {
             self.keep(next, facts.whole_after, c);
         }
-    }
-
-    /// Takes `x` if it is kept and nothing else is emitted at it, and returns whether it did. Where it did not, nothing changes, and `push`
-    /// takes `x`. It takes no `)` and no `|`.
-    pub fn take_kept(&mut self, x: Char) -> bool
-        ensures taken { result ≡ true → (xs : List Char)
-            → events_left self.old (x ∷ xs) ≡ (Kept x ∷ []) ∷ events_left self.new xs }
-        ensures keeps { result ≡ true → KeepsOn self.old x (Kept x ∷ []) self.new }
-        ensures same { result ≡ false → self.new ≡ self.old }
-        ensures left { result ≡ false → (xs : List Char) (rest : List (List NoteEvent))
-            → events_left self.old (x ∷ xs) ≢ (Kept x ∷ []) ∷ rest }
-        ensures no_mark { result ≡ true → (x.c ≢ 41) × (x.c ≢ 124) }
-    {
-        if self.ended || self.comment {
-            return false;
-        }
-        match next_state(self.state, class_of(x.c)) {
-            Some(next) if !lacks_name(first_letter(self.state, self.letter), x.c) => {
-                self.keep(next, is_whole(next), x.c);
-                true
-            }
-            _ => false,
-        }
-    }
-
-    /// Takes the `|` that ends the snippet without a room for its events, where nothing else is emitted at it: no comment is open, and
-    /// the kept text is an NABC snippet. Returns how many bytes it has, as the end tells. Where it returns none, nothing changes, and
-    /// `push` takes the `|`.
-    pub fn take_next(&mut self) -> Option<usize>
-        ensures taken { IfSome result (λ kept.
-            TakesNext (events_left self.old) (events_left self.new) kept) }
-        ensures keeps { IfSome result (λ kept. (x : Char) → x.c ≡ 124
-            → KeepsOn self.old x (Ended NoteEnd.Next kept ∷ []) self.new) }
-        ensures same { result ≡ None → self.new ≡ self.old }
-        ensures takes { StandsBeforeNext self.old → IsSome result }
-        ensures ended { IfSome result (λ _. self.new ≡ record self.old { ended = true }) }
-    {
-        if self.ended || self.comment || !is_whole(self.state) {
-            return None;
-        }
-        self.ended = true;
-        Some(self.whole)
     }
 
     /// Returns whether a comment is open.

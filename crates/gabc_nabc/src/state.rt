@@ -11,42 +11,42 @@ use crate::class::NabcClass;
 pub(crate) enum DescriptorState {
     /// Between parts.
     Start,
-    /// Behind the first letter of a code: `l`, `p`, `s`, or another.
+    /// After the first letter of a code: `l`, `p`, `s`, or another.
     CodeL,
     CodeP,
     CodeS,
     Code,
-    /// Behind a code and its modifiers.
+    /// After a code and its modifiers.
     Glyph,
-    /// Behind a modifier that may have a digit.
+    /// After a modifier that may have a digit.
     Modified,
-    /// Behind the `h` of a glyph's pitch.
+    /// After the `h` of a glyph's pitch.
     GlyphH,
-    /// Behind a glyph with its pitch.
+    /// After a glyph with its pitch.
     Pitched,
-    /// Behind the `!` that joins glyphs.
+    /// After the `!` that joins glyphs.
     Joined,
-    /// Behind a descriptor and `l`, `p`, `s`, which begin a code if no letters and no points follow.
+    /// After a descriptor and `l`, `p`, `s`, which begin a code if no letters and no points follow.
     TailL,
     TailP,
     TailS,
-    /// Behind `su` or `pp`.
+    /// After `su` or `pp`.
     Points,
-    /// Behind the letter of points.
+    /// After the letter of points.
     PointsLetter,
-    /// Behind `ls` or `lt`.
+    /// After `ls` or `lt`.
     Letters,
-    /// Behind a letter of letters.
+    /// After a letter of letters.
     LettersMore,
-    /// Behind the digit of points or letters.
+    /// After the digit of points or letters.
     Counted,
-    /// Behind the `h` of their pitch.
+    /// After the `h` of their pitch.
     CountedH,
-    /// Behind their pitch.
+    /// After their pitch.
     Tail,
     Slash,
     Tick,
-    /// Behind a space that nothing can follow.
+    /// After a space that nothing can follow.
     Space,
 }
 
@@ -71,7 +71,7 @@ fn is_pitch(class: NabcClass) -> bool
     }
 }
 
-/// Returns where a part stands behind the first character of a code, if that may begin one.
+/// Returns where a part stands after the first character of a code, if that may begin one.
 fn code_begins(class: NabcClass) -> Option<DescriptorState>
     ensures { result ≡ code_begun class }
 {
@@ -86,7 +86,7 @@ fn code_begins(class: NabcClass) -> Option<DescriptorState>
     }
 }
 
-/// Returns where a part stands behind its first character, if that may begin one.
+/// Returns where a part stands after its first character, if that may begin one.
 fn begins(class: NabcClass) -> Option<DescriptorState>
     ensures { result ≡ part_begun class }
 {
@@ -97,7 +97,7 @@ fn begins(class: NabcClass) -> Option<DescriptorState>
     }
 }
 
-/// Returns where a part stands behind the first character of points or letters.
+/// Returns where a part stands after the first character of points or letters.
 fn tail_begins(class: NabcClass) -> Option<DescriptorState>
     ensures { result ≡ in_tail class }
 {
@@ -183,7 +183,8 @@ fn falls_back(state: DescriptorState) -> Option<DescriptorState>
     }
 }
 
-/// Returns where the reading stands with a character more: the part goes on, or it ended at its longest and another begins there.
+/// Returns where the reading stands with a character more: the part goes on, or it ended at its
+/// longest and another begins there.
 pub(crate) fn next_state(state: DescriptorState, class: NabcClass) -> Option<DescriptorState>
     ensures { result ≡ next_state state class }
 {

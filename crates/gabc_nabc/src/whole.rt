@@ -121,9 +121,10 @@ impl NabcBuilder {
     }
 }
 
-/// Reads the NABC snippet with which `body` begins, up to its `)` or `|`, or the end of `body`. The first character of `body` stands
-/// at `at`, a line and a column from 1, as `gabc_places` counts them in a `Text`. Each number of `at` and the bytes of `body` together have to
-/// be below 2^64. It fails only for want of memory.
+/// Reads the NABC snippet with which `body` begins, up to its `)` or `|`, or the end of `body`. The
+/// first character of `body` stands at `at`, a line and a column from 1, as `gabc_places` counts
+/// them in a `Text`. Each number of `at` and the bytes of `body` together have to be below 2^64. It
+/// fails only for want of memory.
 pub fn nabc_whole(alloc: Global, body: &str, at: Place) -> Result<SnippetRead, AllocError>
     requires line { at.line + length body.now < 2 ^ 64 }
     requires column { at.column + length body.now < 2 ^ 64 }

@@ -11,7 +11,8 @@ use Rattle.gabc_neumes.specs.declared.glyph.GlyphKind.{GlyphKind}
 abbrev pub kind_by : List Note → Option GlyphKind
 kind_by notes = end_kind (rows_run neumes (letters notes))
 
--- the longest of the glyphs of at most n notes with which the notes begin: its kind, and its number of notes
+-- the longest of the glyphs of at most n notes with which the notes begin: its kind, and its number
+-- of notes
 abbrev pub longest_glyph : ℕ → List Note → Option (GlyphKind × ℕ)
 longest_glyph zero notes = None
 longest_glyph (suc n) notes = elim (kind_by (take (suc n) notes)) as (λ _. Option (GlyphKind × ℕ)) [
@@ -19,7 +20,8 @@ longest_glyph (suc n) notes = elim (kind_by (take (suc n) notes)) as (λ _. Opti
   | Some kind ↦ Some (kind, suc n)
 ]
 
--- at most n glyphs of notes that stand in their segment from that index on, each the longest at its place
+-- at most n glyphs of notes that stand in their segment from that index on, each the longest at its
+-- place
 abbrev pub glyphs_within : ℕ → ℕ → List Note → List Glyph
 glyphs_within zero from notes = []
 glyphs_within (suc n) from notes = elim (longest_glyph (length notes) notes) as (λ _. List Glyph) [

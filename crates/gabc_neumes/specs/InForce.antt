@@ -1,5 +1,5 @@
--- Which clef and which alterations are in force at a note. In these definitions `before` is what stands before it, the nearest first,
--- and `outset` is what is in force before all of that.
+-- Which clef and which alterations are in force at a note. In these definitions `before` is what
+-- stands before it, the nearest first, and `outset` is what is in force before all of that.
 use Rattle.std.specs.Prelude.{ℕ, ◌==◌, List, [], ◌∷◌, map, reverse, replicate, Bool, true, false, not, codes, get_or, Option, Some, None, if◌then◌else◌}
 use Rattle.std.specs.List.{range_with_len}
 use Rattle.std.specs.Option.{option_map, option_or}
@@ -63,8 +63,8 @@ ends_alterations (AnItem kind.Clef t) = true
 ends_alterations (AnItem kind.Bar t) = not (is_virgula t)
 ends_alterations _ = false
 
--- On the way back: the nearest alteration of that height. Where what ends alterations comes first, there is none; where neither comes, it
--- is that of the outset.
+-- On the way back: the nearest alteration of that height. Where what ends alterations comes first,
+-- there is none; where neither comes, it is that of the outset.
 abbrev pub alter_in_force : InForce → List ScoreStep → ℕ → Alter
 alter_in_force outset [] height = get_or outset.alters height alter.None
 alter_in_force outset (s ∷ before) height = elim (alter_of height s) as (λ _. Alter) [
@@ -78,7 +78,7 @@ alter_in_force outset (s ∷ before) height = elim (alter_of height s) as (λ _.
 abbrev pub heights : List ℕ
 heights = range_with_len 0 15
 
--- behind these steps; where there are none, the outset itself
+-- after these steps; where there are none, the outset itself
 abbrev pub in_force_behind : InForce → List ScoreStep → InForce
 in_force_behind outset [] = outset
 in_force_behind outset (s ∷ before) = record {

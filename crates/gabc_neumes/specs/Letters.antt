@@ -1,5 +1,6 @@
--- The notes of a segment as letters, one for each: of the first its shape; of another whether it is joinable, an inclinatum or
--- neither, and whether it is higher or lower than the note before it, or level with it.
+-- The notes of a segment as letters, one for each: of the first its shape; of another whether it is
+-- joinable, an inclinatum or neither, and whether it is higher or lower than the note before it, or
+-- level with it.
 use Rattle.std.specs.Prelude.{ℕ, nat_lt, List, [], ◌∷◌, Bool, codes, Option, Some, None, if◌then◌else◌}
 use Rattle.gabc_notes.specs.declared.note.Note.{Note}
 use Rattle.gabc_notes.specs.declared.note.Shape.{Shape}
@@ -26,7 +27,8 @@ shape_letter Cavum = 114
 shape_letter Lined = 82
 shape_letter Linea = 61
 
--- the letters of joinable shapes: punctum, oriscus, oriscus-scapus, quilisma, quilisma-quadratum, quadratum
+-- the letters of joinable shapes: punctum, oriscus, oriscus-scapus, quilisma, quilisma-quadratum,
+-- quadratum
 abbrev pub joinable_letters : List ℕ
 joinable_letters = codes "poOwWq"
 
@@ -34,8 +36,8 @@ joinable_letters = codes "poOwWq"
 abbrev pub is_joinable : Shape → Bool
 is_joinable s = is_in (shape_letter s) joinable_letters
 
--- the letter of a note at the height here behind one at the height before: D U E joinable, d u e an inclinatum, x neither;
--- lower, higher, level
+-- the letter of a note at the height here after one at the height before: D U E joinable, d u e an
+-- inclinatum, x neither; lower, higher, level
 abbrev pub step_letter : Shape → ℕ → ℕ → ℕ
 step_letter Inclinatum before here = if nat_lt here before then 100 else if nat_lt before here then 117 else 101
 step_letter s before here = if is_joinable s then (if nat_lt here before then 68 else if nat_lt before here then 85 else 69) else 120

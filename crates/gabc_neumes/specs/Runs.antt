@@ -9,8 +9,8 @@ passes_at p [] i = false
 passes_at p (x ∷ xs) zero = p x
 passes_at p (x ∷ xs) (suc i) = passes_at p xs i
 
--- The span, which counts indices, holds at least one index; what stands there passes, and what stands before it and behind it does
--- not.
+-- The span, which counts indices, holds at least one index; what stands there passes, and what
+-- stands before it and after it does not.
 pub record IsRun {X : Type 0} (p : X → Bool) (xs : List X) (s : Span) : Type 0 where
   pub some : s.from < s.to
   pub inside : (i : ℕ) → s.from ≤ i → i < s.to → passes_at p xs i ≡ true

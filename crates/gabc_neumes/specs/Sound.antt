@@ -14,7 +14,7 @@ abbrev pub line_at : List ℕ → Option ℕ
 line_at [] = None
 line_at (c ∷ t) = if is_in c (codes "12345") then Some (c - 48) else None
 
--- a `b` stands behind the letter of a clef
+-- a `b` stands after the letter of a clef
 abbrev pub has_flat : List ℕ → Bool
 has_flat t = begins_with (codes "b") (drop 1 t)
 
@@ -24,7 +24,7 @@ clef_at t =
     option_map (λ line. record { f = begins_with (codes "f") t; flat = has_flat t; line = line })
     (line_at (if has_flat t then drop 2 t else drop 1 t))
 
--- the alteration whose sign stands behind the pitch with which a text begins
+-- the alteration whose sign stands after the pitch with which a text begins
 abbrev pub sign_of : List ℕ → Alter
 sign_of t =
     if begins_with (codes "x") (drop 1 t) || begins_with (codes "X") (drop 1 t) then alter.Flat else
@@ -32,8 +32,9 @@ sign_of t =
 
 -- ---- degrees
 
--- The degree of a height, from 0 for ut to 6 for si: how far it lies above the line of a `c`, or above that of an `f`, which is fa.
--- Line k of the staff is the height 2k + 1. Two octaves more keep the difference above 0.
+-- The degree of a height, from 0 for ut to 6 for si: how far it lies above the line of a `c`, or
+-- above that of an `f`, which is fa. Line k of the staff is the height 2k + 1. Two octaves more
+-- keep the difference above 0.
 abbrev pub degree : Clef → ℕ → ℕ
 degree clef height = (height + 14 + (if clef.f then 3 else 0) - (2 * clef.line + 1)) % 7
 

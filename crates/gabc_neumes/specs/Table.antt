@@ -29,7 +29,7 @@ falling = text (codes "d") · many (text (codes "d"))
 abbrev pub rising : Pattern
 rising = note · up · up · many up
 
--- a neume of joinable notes; the same with falling inclinata, and with a higher note behind these
+-- a neume of joinable notes; the same with falling inclinata, and with a higher note after these
 abbrev pub rows_of : Base → Pattern → Table GlyphKind
 rows_of b p =
     (record { base = b; tail = Plain }, p)

@@ -43,7 +43,7 @@ base_word Climacus = codes "climacus"
 base_word Inclinata = codes "inclinata"
 base_word (One s) = shape_word s
 
--- the word of a tail behind that base: a climacus falls by itself
+-- the word of a tail after that base: a climacus falls by itself
 abbrev pub tail_word : Base → Tail → List ℕ
 tail_word _ Plain = []
 tail_word _ Subpunctis = codes "-subpunctis"

@@ -14,8 +14,9 @@ const HEIGHTS: usize = 15;
 
 /// The clef and the alterations that are in force at a place of a score. It asks for no memory.
 ///
-/// What stands in the score is passed in its order: the start of each word by `start_word`, before the first item of the syllable that
-/// begins it, and each item of the notes by `pass`. Contracts see the clef and the alteration of each height.
+/// What stands in the score is passed in its order: the start of each word by `start_word`, before
+/// the first item of the syllable that begins it, and each item of the notes by `pass`. Contracts
+/// see the clef and the alteration of each height.
 #[derive(Clone, Copy, Debug)]
 pub struct Alterations {
     clef: Option<Clef>,
@@ -37,7 +38,7 @@ impl Model for Alterations {
         × IfSome a.clef (λ clef. (1 ≤ clef.line) × (clef.line ≤ 5)) };
 }
 
-/// Returns the line that `text`, which stands behind the letters of a clef, begins with.
+/// Returns the line that `text`, which stands after the letters of a clef, begins with.
 fn line_at(text: &[u8]) -> Option<u8>
     ensures line { result ≡ line_at text.now }
     ensures range { IfSome result (λ line. (1 ≤ line) × (line ≤ 5)) }
@@ -62,8 +63,8 @@ fn clef_at(text: &[u8]) -> Option<Clef>
     Some(Clef { f, flat, line })
 }
 
-/// Returns the alteration that `text` is, by the sign behind its pitch: `x` or `X` is a flat, `y` or `Y` a natural, `#` a sharp
-/// (GregorioRef, "Additional Symbols").
+/// Returns the alteration that `text` is, by the sign after its pitch: `x` or `X` is a flat, `y` or
+/// `Y` a natural, `#` a sharp (GregorioRef, "Additional Symbols").
 pub fn sign_of(text: &[u8]) -> Alter
     ensures { result ≡ sign_of text.now }
 {
@@ -115,8 +116,9 @@ impl Alterations {
         }
     }
 
-    /// Returns what is in force where the clef is `clef`, if there is one, and `alters` are the alterations of the heights from 0 to 14,
-    /// without the `b` of the clef. Returns `None` where the line of `clef` is none of 1 to 5.
+    /// Returns what is in force where the clef is `clef`, if there is one, and `alters` are the
+    /// alterations of the heights from 0 to 14, without the `b` of the clef. Returns `None` where
+    /// the line of `clef` is none of 1 to 5.
     pub fn resume(clef: Option<Clef>, alters: [Alter; HEIGHTS]) -> Option<Alterations>
         ensures some { IsSome result ↔ IfSome clef (λ c. (1 ≤ c.line) × (c.line ≤ 5)) }
         ensures made { IfSome result (λ a. a ≡ record { clef = clef; alters = alters }) }
@@ -127,7 +129,7 @@ impl Alterations {
         }
     }
 
-    /// Passes the start of a word: no alteration is in force behind it.
+    /// Passes the start of a word: no alteration is in force after it.
     pub fn start_word(&mut self)
         ensures { self.new ≡ in_force_behind self.old (WordStart ∷ []) }
     {
@@ -165,10 +167,11 @@ impl Alterations {
         }
     }
 
-    /// Passes `item`, an item of `kept`. A clef is in force behind it, of two joined clefs the first, and no alteration (GregorioRef,
-    /// "Clefs"). An alteration is in force at its own height ("Additional Symbols"). Behind a bar that is no virgula no alteration is in
-    /// force ("Separation Bars"). Behind each other item the same is in force as before it. The span of `item` has to lie within `kept`,
-    /// as that of each item of `items_whole` does.
+    /// Passes `item`, an item of `kept`. A clef is in force after it, of two joined clefs the
+    /// first, and no alteration (GregorioRef, "Clefs"). An alteration is in force at its own height
+    /// ("Additional Symbols"). After a bar that is no virgula no alteration is in force
+    /// ("Separation Bars"). After each other item the same is in force as before it. The span of
+    /// `item` has to lie within `kept`, as that of each item of `items_whole` does.
     pub fn pass(&mut self, kept: &str, item: Item)
         requires { (item.span.from ≤ item.span.to) × (item.span.to ≤ length kept.now) }
         ensures { self.new ≡ in_force_behind self.old (step_of kept.now item ∷ []) }
@@ -199,7 +202,8 @@ impl Alterations {
         self.alters
     }
 
-    /// Returns the alteration in force at `height`, without the `b` of the clef. A height above 14, that of `p`, has none.
+    /// Returns the alteration in force at `height`, without the `b` of the clef. A height above 14,
+    /// that of `p`, has none.
     pub fn own(&self, height: u8) -> Alter
         ensures { result ≡ own_alter self.now height }
     {
@@ -209,8 +213,9 @@ impl Alterations {
         }
     }
 
-    /// Returns how a note of this `height` sounds: its degree under the clef in force, and the alteration in force at `height`; with none,
-    /// the flat by which the clef's `b` makes a si flat.
+    /// Returns how a note of this `height` sounds: its degree under the clef in force, and the
+    /// alteration in force at `height`; with none, the flat by which the clef's `b` makes a si
+    /// flat.
     pub fn sound(&self, height: u8) -> Sound
         ensures { result ≡ sound_of self.now height }
     {

@@ -38,7 +38,7 @@ pub enum Tail {
     Plain,
     /// Inclinata, each lower than the note before it.
     Subpunctis,
-    /// A joinable note behind such inclinata, higher than the last of them.
+    /// A joinable note after such inclinata, higher than the last of them.
     Resupinus,
 }
 
@@ -51,7 +51,8 @@ pub struct GlyphKind {
     pub tail: Tail,
 }
 
-/// A glyph of a segment: its kind, the index of its first note in the segment, and how many notes it has.
+/// A glyph of a segment: its kind, the index of its first note in the segment, and how many notes
+/// it has.
 #[derive(Clone, Copy, Debug, PartialEq, Eq)]
 pub struct Glyph {
     /// What neume it is.

@@ -38,7 +38,7 @@ impl GlyphSearch {
         best: None,
     };
 
-    /// Returns the search behind `note`, if a glyph may go on with it.
+    /// Returns the search after `note`, if a glyph may go on with it.
     #[inline(always)]
     fn with(self, note: Note) -> Option<GlyphSearch>
         requires { self.read + 1 < 2 ^ 64 }
@@ -74,9 +74,10 @@ fn first_glyph(notes: &[Note]) -> Option<(GlyphKind, usize)>
     search.best
 }
 
-/// Returns the first glyph of the notes of a segment from `first` on, which are `first` and those among the items of the segment that
-/// begin `behind`: the longest neume that begins there, as its kind, and how many notes it has. `behind` has to give items of `kept`,
-/// fewer than it has bytes, as `gabc_notes::items_in` does behind an item. It asks for no memory.
+/// Returns the first glyph of the notes of a segment from `first` on, which are `first` and those
+/// among the items of the segment that begin `behind`: the longest neume that begins there, as its
+/// kind, and how many notes it has. `behind` has to give items of `kept`, fewer than it has bytes,
+/// as `gabc_notes::items_in` does after an item. It asks for no memory.
 pub fn glyph_from(kept: &str, first: Note, behind: &ItemReader<'_>) -> Option<(GlyphKind, usize)>
     requires within { AreWithin kept.now behind.now }
     requires few { length behind.now < length kept.now }
@@ -99,9 +100,10 @@ pub fn glyph_from(kept: &str, first: Note, behind: &ItemReader<'_>) -> Option<(G
     search.best
 }
 
-/// Adds to `out` the glyphs of a segment whose notes are `notes`, in order: each is the longest neume that begins where the one
-/// before it ends, and its notes count from 0 in `notes` (GregorioRef, "Complex Neumes"). `out` has to take
-/// as many glyphs more as there are notes. It asks for no memory.
+/// Adds to `out` the glyphs of a segment whose notes are `notes`, in order: each is the longest
+/// neume that begins where the one before it ends, and its notes count from 0 in `notes`
+/// (GregorioRef, "Complex Neumes"). `out` has to take as many glyphs more as there are notes. It
+/// asks for no memory.
 pub fn cut(notes: &[Note], out: &mut Room<Glyph>)
     requires { Fits out.old (length notes.now) }
     ensures { (glyphs : List Glyph) × AreGlyphsOf notes.now glyphs ×

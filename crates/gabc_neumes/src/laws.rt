@@ -1,4 +1,5 @@
-//! Laws of the definitions that contracts speak of. Each function is there for its clauses, and does nothing.
+//! Laws of the definitions that contracts speak of. Each function is there for its clauses, and
+//! does nothing.
 
 ghost use Rattle.std.specs.Prelude.{◌≡◌, ◌≤◌, ◌<◌, ℕ, ◌⊎◌, List, [], ◌∷◌, ◌++◌, Bool, true, false};
 ghost use Rattle.gabc_patterns.specs.LongestItems.{HasSome};
@@ -13,32 +14,32 @@ ghost use Rattle.gabc_neumes.specs.Runs.{passes_at, IsRun};
 ghost use Rattle.gabc_neumes.specs.declared.glyph.Glyph.{Glyph};
 ghost use Rattle.gabc_neumes.specs.declared.glyph.GlyphKind.{GlyphKind};
 
-/// A list of notes is of one kind at most, and no notes are of none.
+/// Law: a list of notes is of one kind at most, and no notes are of none.
 pub fn a_glyph_has_one_kind()
     ensures one { (k j : GlyphKind) (notes : List Note) → HasKind k notes → HasKind j notes
         → k ≡ j }
     ensures some { (k : GlyphKind) → ¬ HasKind k [] }
 {}
 
-/// A segment is cut into glyphs in one way.
+/// Law: a segment is cut into glyphs in one way.
 pub fn glyphs_are_one()
     ensures { (notes : List Note) (gs hs : List Glyph) →
         AreGlyphsOf notes gs → AreGlyphsOf notes hs → gs ≡ hs }
 {}
 
-/// The function `glyphs_of` gives the glyphs of each segment.
+/// Law: the function `glyphs_of` gives the glyphs of each segment.
 pub fn glyphs_are_computed()
     ensures { (notes : List Note) → AreGlyphsOf notes (glyphs_of notes) }
 {}
 
-/// Where a glyph begins with some notes, all of them are a glyph, or all but the last: whoever reads on as long as a glyph may go
-/// on has read at most one note behind the longest glyph.
+/// Law: where a glyph begins with some notes, all of them are a glyph, or all but the last: whoever
+/// reads on as long as a glyph may go on has read at most one note after the longest glyph.
 pub fn an_open_glyph_has_one_note_more()
     ensures { (k : GlyphKind) (notes more : List Note) (n : Note) → HasKind k (notes ++ n ∷ more) →
         HasSome HasKind (notes ++ n ∷ []) ⊎ HasSome HasKind notes }
 {}
 
-/// Items have one list of elements, and one of segments.
+/// Law: items have one list of elements, and one of segments.
 pub fn elements_are_one()
     ensures elements { (kept : List ℕ) (items : List Item) (ss ts : List Span) →
         AreElementsOf kept items ss → AreElementsOf kept items ts → ss ≡ ts }
@@ -46,19 +47,21 @@ pub fn elements_are_one()
         AreSegmentsOf items ss → AreSegmentsOf items ts → ss ≡ ts }
 {}
 
-/// What passes a test stands in a run: each item but a divider in an element, and each note in a segment.
+/// Law: what passes a test stands in a run: each item but a divider in an element, and each note in
+/// a segment.
 pub fn what_passes_stands_in_a_run()
     ensures { (p : Item → Bool) (items : List Item) (i : ℕ) → passes_at p items i ≡ true →
         (s : Span) × IsRun p items s × (s.from ≤ i) × (i < s.to) }
 {}
 
-/// What is part of a segment is part of an element.
+/// Law: what is part of a segment is part of an element.
 pub fn segments_stand_in_elements()
     ensures { (kept : List ℕ) (i : Item) → is_in_segment i ≡ true → is_in_element kept i ≡ true }
 {}
 
-/// The clef in force behind some steps is the nearest on the way back, else that of the outset. The alteration in force at a height is the
-/// nearest of that height, if nothing that ends alterations comes first; where neither comes, it is that of the outset.
+/// Law: the clef in force after some steps is the nearest on the way back, else that of the outset.
+/// The alteration in force at a height is the nearest of that height, if nothing that ends
+/// alterations comes first; where neither comes, it is that of the outset.
 pub fn positions_say_what_is_in_force()
     ensures clef { (outset : InForce) (before : List ScoreStep) →
         (in_force_behind outset before).clef ≡ clef_in_force outset before }
@@ -66,8 +69,9 @@ pub fn positions_say_what_is_in_force()
         own_alter (in_force_behind outset before) height ≡ alter_in_force outset before height }
 {}
 
-/// What is in force behind some steps, and then behind more, is in force behind all of them: so whoever passes them one by one has what
-/// the definition says of all. It is also said of steps in the order of the score.
+/// Law: what is in force after some steps, and then after more, is in force after all of them: so
+/// whoever passes them one by one has what the definition says of all. It is also said of steps in
+/// the order of the score.
 pub fn steps_are_passed_one_by_one()
     ensures back { (outset : InForce) (before more : List ScoreStep) →
         in_force_behind (in_force_behind outset before) more

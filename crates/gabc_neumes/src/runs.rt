@@ -41,8 +41,8 @@ fn is_divider(kind: ItemKind, text: &[u8]) -> bool
     }
 }
 
-/// Returns whether `item` of `kept` is part of an element: whether it is no divider. The span of `item` has to lie within `kept`, as
-/// that of each item of `items_whole` does.
+/// Returns whether `item` of `kept` is part of an element: whether it is no divider. The span of
+/// `item` has to lie within `kept`, as that of each item of `items_whole` does.
 pub fn is_in_element(kept: &str, item: Item) -> bool
     requires { (item.span.from ≤ item.span.to) × (item.span.to ≤ length kept.now) }
     ensures { result ≡ is_in_element kept.now item }
@@ -101,10 +101,10 @@ fn add_runs(kind: RunKind, kept: &str, items: &[Item], out: &mut Room<Span>)
     add_run(from, items.len(), out);
 }
 
-/// Adds to `out` the elements of `items`, items of `kept`, in order. Their spans count the items from 0. An element is as many items in a
-/// row as have no divider among them; it may hold no note (GregorioRef, "Neume Spacing").
-/// The items have to lie in `kept`, as those of `items_whole` do, and `out` has to take as many spans more as there are items. It
-/// asks for no memory.
+/// Adds to `out` the elements of `items`, items of `kept`, in order. Their spans count the items
+/// from 0. An element is as many items in a row as have no divider among them; it may hold no note
+/// (GregorioRef, "Neume Spacing"). The items have to lie in `kept`, as those of `items_whole` do,
+/// and `out` has to take as many spans more as there are items. It asks for no memory.
 pub fn elements(kept: &str, items: &[Item], out: &mut Room<Span>)
     requires within { AreWithin kept.now items.now }
     requires room { Fits out.old (length items.now) }
@@ -114,10 +114,11 @@ pub fn elements(kept: &str, items: &[Item], out: &mut Room<Span>)
     add_runs(RunKind::Element, kept, items, out);
 }
 
-/// Adds to `out` the segments of `items`, items of `kept`, in order. Their spans count the items from 0. A segment is as
-/// many notes, attributes and fusion marks in a row as there are; it may hold no note. What is cut into glyphs are its notes. The
-/// items have to lie in `kept`, as those of `items_whole` do, and `out` has to take as many spans more as there are items. It asks
-/// for no memory.
+/// Adds to `out` the segments of `items`, items of `kept`, in order. Their spans count the items
+/// from 0. A segment is as many notes, attributes and fusion marks in a row as there are; it may
+/// hold no note. What is cut into glyphs are its notes. The items have to lie in `kept`, as those
+/// of `items_whole` do, and `out` has to take as many spans more as there are items. It asks for no
+/// memory.
 pub fn segments(kept: &str, items: &[Item], out: &mut Room<Span>)
     requires within { AreWithin kept.now items.now }
     requires room { Fits out.old (length items.now) }

@@ -36,9 +36,10 @@ pub struct Sound {
     pub alter: Alter,
 }
 
-/// Returns the degree of a note of this `height` under `clef`: 0 for ut to 6 for si. A `height` counts from 0 for the pitch `a`, as
-/// `height_of` does. The line of `clef` has to be one of 1 to 5; line 1 is the height 3, and each line lies 2 above the one before it
-/// (GregorioRef, "Pitches", "Clefs").
+/// Returns the degree of a note of this `height` under `clef`: 0 for ut to 6 for si. A `height`
+/// counts from 0 for the pitch `a`, as `height_of` does. The line of `clef` has to be one of 1 to
+/// 5; line 1 is the height 3, and each line lies 2 above the one before it (GregorioRef, "Pitches",
+/// "Clefs").
 pub fn degree(clef: Clef, height: u8) -> u8
     requires { (1 ≤ clef.line) × (clef.line ≤ 5) }
     ensures { result ≡ degree clef height }

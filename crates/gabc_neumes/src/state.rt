@@ -7,7 +7,8 @@ ghost use Rattle.gabc_neumes.specs.machine.GlyphMachine.{step_class, class_at, n
 use crate::glyph::{Base, GlyphKind, Tail};
 use gabc_notes::{Note, Shape};
 
-/// What a note may do in a glyph: a first note by its shape, another one by its shape and by how it lies to the note before it.
+/// What a note may do in a glyph: a first note by its shape, another one by its shape and by how it
+/// lies to the note before it.
 #[derive(Clone, Copy)]
 pub(crate) enum NoteClass {
     First(Shape),
@@ -40,15 +41,15 @@ pub(crate) enum JoinedBase {
 #[derive(Clone, Copy)]
 pub(crate) enum GlyphState {
     Start,
-    /// Behind one note of that shape, or behind inclinata alone.
+    /// After one note of that shape, or after inclinata alone.
     One(Shape),
     Plain(JoinedBase),
-    /// Behind the base and its falling inclinata.
+    /// After the base and its falling inclinata.
     Falling(JoinedBase),
-    /// Behind one note and one lower inclinatum, which are no glyph.
+    /// After one note and one lower inclinatum, which are no glyph.
     Half,
     Climacus,
-    /// Behind the higher note that ends the glyph.
+    /// After the higher note that ends the glyph.
     Resumed(JoinedBase),
     ResumedClimacus,
 }
@@ -64,7 +65,7 @@ fn is_joinable_shape(shape: Shape) -> bool
     }
 }
 
-/// Returns the class of `note` behind a note at the height `before`.
+/// Returns the class of `note` after a note at the height `before`.
 fn class_behind(before: u8, note: Note) -> NoteClass
     ensures { result ≡ step_class note.shape before note.height }
 {
@@ -92,7 +93,7 @@ fn class_behind(before: u8, note: Note) -> NoteClass
     }
 }
 
-/// Returns the class of `note` behind a note at the height `before`, or as the first.
+/// Returns the class of `note` after a note at the height `before`, or as the first.
 pub(crate) fn class_of(before: Option<u8>, note: Note) -> NoteClass
     ensures { result ≡ class_at before note }
 {

@@ -53,7 +53,8 @@ pub fn word_of_base(base: Base) -> &'static str
     }
 }
 
-/// Returns the word of `tail` behind `base`, which is empty for a plain one. A climacus has its falling inclinata already.
+/// Returns the word of `tail` after `base`, which is empty for a plain one. A climacus has its
+/// falling inclinata already.
 pub fn word_of_tail(base: Base, tail: Tail) -> &'static str
     ensures { result.now ≡ tail_word base tail }
 {

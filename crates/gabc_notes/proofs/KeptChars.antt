@@ -1,5 +1,5 @@
 -- The characters that are emitted as kept, one call after another.
-use Rattle.std.proofs.Common.{◌≡◌, ℕ, ◌+◌, ◌<◌, ◌≤◌, List, [], ◌∷◌, ◌++◌, refl, sym, ap, ◌∙◌, append_assoc, append-nil, length, length-append, take, get_or, arith}
+use Rattle.std.proofs.Common.{◌≡◌, ℕ, ◌+◌, ◌<◌, ◌≤◌, List, [], ◌∷◌, ◌++◌, refl, sym, ap, ◌∙◌, append_assoc, append-nil, length, take, get_or, arith}
 use Rattle.std.specs.Prelude.{map}
 use native.Mathlib.Decide.{dec_lt}
 use Rattle.std.proofs.lemmas.List.{take_more, take_all, take-append-le, length-take}
@@ -45,10 +45,6 @@ kept_more first now new count events i d h f g =
 -- so long as it is no longer than the count
 pub no_longer : {X : Type 0} (count : ℕ) (now all : List X) → now ≡ take count all → length now ≤ count
 no_longer {X} count now all e = omega (arith, ap (λ (l : List X). length l) e, length-take count all)
-
--- a character that is added
-pub pushed : {X : Type 0} (count : ℕ) (now new : List X) (x : X) → length now < count → new ≡ now ++ x ∷ [] → new ≡ take count (now ++ x ∷ [])
-pushed count now new x h e = e ∙ sym (take_all count (now ++ x ∷ []) (omega (arith, length-append now (x ∷ []))))
 
 -- nothing is added where the count is reached, whatever follows
 pub full : {X : Type 0} (count : ℕ) (now more : List X) → length now ≡ count → now ≡ take count (now ++ more)

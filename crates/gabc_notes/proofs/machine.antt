@@ -4,6 +4,7 @@ pub mod FreshStageEmitsEventsByPoint
 pub mod LoopOverBody
 pub mod MachineReadsTable
 pub mod OneCharacterMore
+pub mod RegularFronts
 pub mod RegularPrefixes
 pub mod ShortWays
 pub mod StageEmitsItsEvents

@@ -7,13 +7,14 @@ use Rattle.gabc_notes.specs.declared.stage.NoteEnd.TheVariants.{Next, Close, Cut
 use Rattle.gabc_notes.specs.declared.stage.NoteEvent.{NoteEvent}
 use Rattle.gabc_notes.specs.declared.stage.NoteEvent.TheVariants.{Ended}
 
--- the character is the mark of that end: `)` of the last snippet, and `|` of another, where snippets are split
+-- the character is the mark of that end: `)` of the last snippet, and `|` of another, where
+-- snippets are split
 abbrev pub IsMarkOf : Bool → NoteEnd → ℕ → Type 0
 IsMarkOf split Close c = c ≡ 41
 IsMarkOf split Next c = (c ≡ 124) × (split ≡ true)
 IsMarkOf split (Cut place) c = ⊥
 
--- The events have one end, behind all else, and the character is its mark.
+-- The events have one end, after all else, and the character is its mark.
 pub record EndWithMark (split : Bool) (c : ℕ) (events : List NoteEvent) : Type 0 where
   pub before : List NoteEvent
   pub how : NoteEnd
@@ -22,7 +23,7 @@ pub record EndWithMark (split : Bool) (c : ℕ) (events : List NoteEvent) : Type
   pub endless : ends_of before ≡ []
   pub mark : IsMarkOf split how c
 
--- The events have no end, or one, behind all else, at its mark.
+-- The events have no end, or one, after all else, at its mark.
 abbrev pub EndAtMost : Bool → ℕ → List NoteEvent → Type 0
 EndAtMost split c events = (ends_of events ≡ []) ⊎ EndWithMark split c events
 

@@ -1,5 +1,5 @@
--- What is emitted of a snippet, character by character. What is emitted of a character depends on it and on the characters before
--- it; these are listed with the nearest first, and called `back`.
+-- What is emitted of a snippet, character by character. What is emitted of a character depends on
+-- it and on the characters before it; these are listed with the nearest first, and called `back`.
 use Rattle.std.specs.Prelude.{ℕ, ◌^◌, ◌-◌, ◌/◌, ◌%◌, nat_lt, min, sum_by, find, List, [], ◌∷◌, ◌++◌, Bool, false, not, ◌&&◌, ◌||◌, ◌==◌, codes, if◌then◌else◌, Option, Some, None}
 use Rattle.std.specs.Char.{len_utf8}
 use Rattle.std.specs.List.{list_any}
@@ -45,7 +45,8 @@ abbrev pub ends_in_comment : List (ℕ × Bool) → Bool
 ends_in_comment [] = false
 ends_in_comment (m ∷ back) = m.1
 
--- whether c lies in a comment: it is no LF, and is a `%` outside raw or follows a character that lies in one
+-- whether c lies in a comment: it is no LF, and is a `%` outside raw or follows a character that
+-- lies in one
 abbrev pub goes_in_comment : List (ℕ × Bool) → ℕ → Bool
 goes_in_comment back c = not (c == 10) && (ends_in_comment back || (not (in_raw (keep gabc (outside_comments back))) && (c == 37)))
 
@@ -116,7 +117,8 @@ abbrev pub is_fused : List Char → Bool
 is_fused back = option_map_or (λ (p : Point). opens_fusion (item_at p))
     (find (λ (p : Point). opens_fusion (item_at p) || closes_fusion (item_at p)) (points back)) false
 
--- the place of the last character that is kept and lies outside raw: inside raw, of the bracket that opened it
+-- the place of the last character that is kept and lies outside raw: inside raw, of the bracket
+-- that opened it
 abbrev pub opener : List Char → Place
 opener back = option_map_or (λ (p : Point). p.here.place)
     (find (λ (p : Point). is_kept p && not (is_in_raw p)) (points back)) (record { line = 0; column = 0 })
@@ -141,7 +143,8 @@ is_missing macros (Some digit) = not (is_defined macros digit)
 abbrev pub bytes_of : List ℕ → ℕ
 bytes_of t = min (sum_by len_utf8 t) (2 ^ 64 - 1)
 
--- the end of the snippet: a `)` outside raw that lies in no comment, or if the notes are split a `|`
+-- the end of the snippet: a `)` outside raw that lies in no comment, or if the notes are split a
+-- `|`
 abbrev pub is_end : Bool → Point → Bool
 is_end split p = not (is_comment p) && (not (is_in_raw p) && ((p.here.c == 41) || (split && (p.here.c == 124))))
 
@@ -159,14 +162,16 @@ warnings macros p =
     (if is_unpaired p then finding_event p.here.place W10 ∷ [] else [])
     ++ (if is_missing macros (macro_of (item_at p)) then finding_event (opener p.back) W8 ∷ [] else [])
 
--- at the end E6 of an unfinished end, and W10 of an `@[` that is open; the bytes are those of the kept text without that end
+-- at the end E6 of an unfinished end, and W10 of an `@[` that is open; the bytes are those of the
+-- kept text without that end
 abbrev pub at_end : Point → List NoteEvent
 at_end p =
     (if is_snippet gabc (kept p.back) then [] else finding_event p.here.place E6 ∷ [])
     ++ ((if is_fused p.back then finding_event p.here.place W10 ∷ [] else [])
     ++ Ended (end_by_mark p.here.c) (bytes_of (trim gabc (kept p.back))) ∷ [])
 
--- what is emitted of a character: of one in a comment or behind the end nothing; E1 of one that is not kept
+-- what is emitted of a character: of one in a comment or after the end nothing; E1 of one that is
+-- not kept
 abbrev pub events_at : Bool → ℕ → Point → List NoteEvent
 events_at split macros p =
     if is_over split p.back then [] else
@@ -180,7 +185,7 @@ cut_events split back =
     if is_over split back then [] else
     Ended (Cut (if in_raw (kept back) then opener back else record { line = 0; column = 0 })) (bytes_of (kept back)) ∷ []
 
--- what is emitted of these characters behind those, a list for each, and of their end, a list more
+-- what is emitted of these characters after those, a list for each, and of their end, a list more
 abbrev pub note_events_behind : Bool → ℕ → List Char → List Char → List (List NoteEvent)
 note_events_behind split macros back [] = cut_events split back ∷ []
 note_events_behind split macros back (x ∷ xs) = events_at split macros (record { back = back; here = x }) ∷ note_events_behind split macros (x ∷ back) xs

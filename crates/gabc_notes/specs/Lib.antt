@@ -14,4 +14,3 @@ pub mod Regular
 pub mod SnippetRead
 pub mod StageTells
 pub mod Table
-pub mod TakenAtOnce

@@ -25,11 +25,12 @@ abbrev pub digits_of : List ℕ → List ℕ
 digits_of [] = []
 digits_of (c ∷ t) = if is_digit c then c ∷ digits_of t else []
 
--- `r` with these digits behind it is a sign: they are neither empty nor `0`
+-- `r` with these digits after it is a sign: they are neither empty nor `0`
 abbrev pub is_sign : List ℕ → Bool
 is_sign digits = not (same_texts digits [] || same_texts digits (codes "0"))
 
--- the letters that name the shape: those out of `v V s o O w W q r R =`, in order, without each `r` that is a sign
+-- the letters that name the shape: those out of `v V s o O w W q r R =`, in order, without each `r`
+-- that is a sign
 abbrev pub letters : List ℕ → List ℕ
 letters [] = []
 letters (c ∷ t) = if is_in c (codes "vVsoOwWqrR=") && not ((c == 114) && is_sign (digits_of t)) then c ∷ letters t else letters t
@@ -76,7 +77,7 @@ abbrev pub height_at : List ℕ → ℕ
 height_at [] = 0
 height_at (c ∷ t) = height_of c
 
--- the shape of such a text: a capital is an inclinatum, else the letters behind the pitch say it
+-- the shape of such a text: a capital is an inclinatum, else the letters after the pitch say it
 abbrev pub shape_at : List ℕ → Shape
 shape_at [] = Punctum
 shape_at (c ∷ t) = if is_capital c then Inclinatum else shape_by (letters t)

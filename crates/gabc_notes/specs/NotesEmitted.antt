@@ -1,5 +1,6 @@
--- What is emitted of a snippet, by relations over the whole of what stands before: a list for each character, and one for the end of them.
--- The characters before are listed with the nearest first, each with whether it lies in a comment.
+-- What is emitted of a snippet, by relations over the whole of what stands before: a list for each
+-- character, and one for the end of them. The characters before are listed with the nearest first,
+-- each with whether it lies in a comment.
 use Rattle.std.specs.Prelude.{◌≡◌, ◌⊎◌, ◌↔◌, ℕ, List, [], ◌∷◌, ◌++◌, Bool, IsTrue, map}
 use Rattle.gabc_places.specs.declared.code.Finding.{Finding}
 use Rattle.gabc_places.specs.declared.place.Char.{Char}
@@ -18,7 +19,8 @@ use Rattle.gabc_notes.specs.declared.stage.NoteEvent.TheVariants.{Kept, Found, E
 abbrev pub AreIfKept : Type 0 → Char → List NoteEvent → Type 0
 AreIfKept IsKept x events = (IsKept × (events ≡ Kept x ∷ [])) ⊎ ((¬ IsKept) × (events ≡ []))
 
--- Of the character m after those, which does not end the snippet: that it is kept, where it is, and what is found at it.
+-- Of the character m after those, which does not end the snippet: that it is kept, where it is, and
+-- what is found at it.
 pub record AreOfCharacter (split : Bool) (macros : ℕ) (back : List Marked) (m : Marked) (events : List NoteEvent) : Type 0 where
   pub no_end : ¬ IsEnd split back m.0
   pub marked : IsTrue m.1 ↔ IsInComment (m ∷ back)
@@ -28,7 +30,8 @@ pub record AreOfCharacter (split : Bool) (macros : ℕ) (back : List Marked) (m 
   pub is_found : AreThoseFound (λ f. IsFound macros m back f.code f.place) found
   pub all : events ≡ kept ++ map Found found
 
--- Of the mark x that ends the snippet after those: what is found there, and the end, with the bytes of what is kept but an unfinished end.
+-- Of the mark x that ends the snippet after those: what is found there, and the end, with the bytes
+-- of what is kept but an unfinished end.
 pub record AreOfMark (split : Bool) (back : List Marked) (x : Char) (events : List NoteEvent) : Type 0 where
   pub mark : IsEnd split back x
   pub kept : List ℕ
@@ -39,7 +42,8 @@ pub record AreOfMark (split : Bool) (back : List Marked) (x : Char) (events : Li
   pub is_found : AreFoundAtEnd back kept x found
   pub all : events ≡ map Found found ++ Ended (end_by_mark x.c) (bytes_of whole) ∷ []
 
--- Of the end of the characters: that they are cut, at the bracket that is open, with the bytes of what is kept.
+-- Of the end of the characters: that they are cut, at the bracket that is open, with the bytes of
+-- what is kept.
 pub record AreOfCut (back : List Marked) (events : List NoteEvent) : Type 0 where
   pub kept : List ℕ
   pub keeps : IsKeptOf back kept

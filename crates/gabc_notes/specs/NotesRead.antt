@@ -1,5 +1,5 @@
--- What `snippet_whole` says of a text, by relations over the whole of the snippet with which it begins. Characters are listed with the
--- nearest first, each with whether it lies in a comment.
+-- What `snippet_whole` says of a text, by relations over the whole of the snippet with which it
+-- begins. Characters are listed with the nearest first, each with whether it lies in a comment.
 use Rattle.std.specs.Prelude.{◌≡◌, ◌⊎◌, ◌↔◌, ℕ, List, [], ◌∷◌, ◌++◌, ◌==◌, Bool, true, false, IsTrue, codes, chars, if◌then◌else◌, Some, map, reverse, sum_by, string_bytes, encode_utf8_all}
 use Rattle.std.specs.Char.{len_utf8}
 use Rattle.std.specs.List.{list_any}
@@ -30,7 +30,8 @@ abbrev pub outside : List Marked → List ℕ
 outside [] = []
 outside (m ∷ back) = if m.1 then outside back else outside back ++ m.0.c ∷ []
 
--- that is kept of them: each one outside comments, exactly if what is kept before it, followed by it, is viable
+-- that is kept of them: each one outside comments, exactly if what is kept before it, followed by
+-- it, is viable
 abbrev pub IsKeptOf : List Marked → List ℕ → Type 0
 IsKeptOf back kept = Keeps gabc [] (outside back) kept
 
@@ -81,7 +82,8 @@ abbrev pub IsKeptOutside : List Marked → Type 0
 IsKeptOutside [] = ⊥
 IsKeptOutside (m ∷ back) = ((t : List ℕ) × IsKeptWith (m ∷ back) t) × (¬ IsInRaw back)
 
--- the last one that is kept and stands outside raw stands there: inside raw it is the bracket that is open
+-- the last one that is kept and stands outside raw stands there: inside raw it is the bracket that
+-- is open
 abbrev pub IsOpener : List Marked → Place → Type 0
 IsOpener [] place = place ≡ record { line = 0; column = 0 }
 IsOpener (m ∷ back) place = (IsKeptOutside (m ∷ back) × (place ≡ m.0.place)) ⊎ ((¬ IsKeptOutside (m ∷ back)) × IsOpener back place)
@@ -104,13 +106,15 @@ AreFound macros (m ∷ back) fs = (before here : List Finding) × (fs ≡ before
 
 -- ---- the end
 
--- The character x after them ends the snippet: a `)` outside raw and in no comment, or if the notes are split a `|`.
+-- The character x after them ends the snippet: a `)` outside raw and in no comment, or if the notes
+-- are split a `|`.
 pub record IsEnd (split : Bool) (back : List Marked) (x : Char) : Type 0 where
   pub mark : (x.c ≡ 41) ⊎ ((split ≡ true) × (x.c ≡ 124))
   pub no_comment : ¬ IsInComment ((x, false) ∷ back)
   pub no_raw : ¬ IsInRaw back
 
--- At the mark x after those, of which that is kept, these are found: E6 of an unfinished end, and W10 of an `@[` that is open.
+-- At the mark x after those, of which that is kept, these are found: E6 of an unfinished end, and
+-- W10 of an `@[` that is open.
 pub record AreFoundAtEnd (back : List Marked) (kept : List ℕ) (x : Char) (found : List Finding) : Type 0 where
   pub unfinished : List Finding
   pub fused : List Finding
@@ -151,7 +155,8 @@ pub record IsSnippetRead (at : Place) (split : Bool) (macros : ℕ) (text : List
   pub finds : AreFound macros back found
   pub is_read : IsRead split back kept found rest r
 
--- The characters are those of the text that is read, each with its place: the first of those that are kept.
+-- The characters are those of the text that is read, each with its place: the first of those that
+-- are kept.
 pub record AreKeptChars (at : Place) (split : Bool) (macros : ℕ) (text : List ℕ) (cs : List Char) : Type 0 where
   pub read : SnippetRead
   pub is_read : IsSnippetRead at split macros text read

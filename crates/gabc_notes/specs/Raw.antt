@@ -17,7 +17,8 @@ pub record IsOpen (t : List ℕ) : Type 0 where
   pub not_at : (items : List ItemText) → ¬ IsReading gabc (items ++ (Fusion, codes "@") ∷ []) before
   pub unclosed : is_in 93 behind ≡ false
 
--- The characters, the nearest first, end with a `%` outside raw and what follows it, and there is no LF from there on.
+-- The characters, the nearest first, end with a `%` outside raw and what follows it, and there is
+-- no LF from there on.
 pub record InComment (back : List Char) : Type 0 where
   pub line : List Char
   pub mark : Char
@@ -27,8 +28,8 @@ pub record InComment (back : List Char) : Type 0 where
   pub outside : in_raw (kept before) ≡ false
   pub no_feed : list_any (λ (x : Char). x.c == 10) line ≡ false
 
--- The characters, the nearest first, end with a `[` at the opener's place and what follows it. Before it the kept text lies
--- outside raw; what is kept from it on is that `[` and no `]`.
+-- The characters, the nearest first, end with a `[` at the opener's place and what follows it.
+-- Before it the kept text lies outside raw; what is kept from it on is that `[` and no `]`.
 pub record IsOpenedAt (back : List Char) : Type 0 where
   pub line : List Char
   pub mark : Char

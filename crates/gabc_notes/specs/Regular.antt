@@ -18,8 +18,9 @@ only_kept x = Kept x ∷ []
 abbrev pub each_kept : List Char → List (List NoteEvent)
 each_kept xs = map only_kept xs
 
--- The text is a snippet. In front of a mark that ends it, wherever it stands and whatever macros are defined, each of its characters is kept, and
--- nothing else is emitted but that end: nothing is found.
+-- The text is a snippet. In front of a mark that ends it, wherever it stands and whatever macros
+-- are defined, each of its characters is kept, and nothing else is emitted but that end: nothing is
+-- found.
 pub record IsRegular (t : List ℕ) : Type 0 where
   pub snippet : IsSnippet gabc t
   pub events : (split : Bool) (macros : ℕ) (at : Place) (how : NoteEnd) (mark : ℕ) → IsMarkOf split how mark

@@ -41,12 +41,13 @@ ends_of [] = []
 ends_of (Ended how bytes ∷ emitted) = (how, bytes) ∷ ends_of emitted
 ends_of (o ∷ emitted) = ends_of emitted
 
--- where a snippet stops: the characters before its end, the nearest first, and the mark that ends it, if there is one
+-- where a snippet stops: the characters before its end, the nearest first, and the mark that ends
+-- it, if there is one
 pub record SnippetStop : Type 0 where
   pub back : List Char
   pub mark : Option ℕ
 
--- of these characters behind those: at the first mark that ends the snippet
+-- of these characters after those: at the first mark that ends the snippet
 abbrev pub stop_after : Bool → List Char → List Char → SnippetStop
 stop_after split back [] = record { back = back; mark = None }
 stop_after split back (x ∷ xs) =
@@ -57,7 +58,8 @@ abbrev pub kept_by : Option ℕ → List Char → List ℕ
 kept_by None back = kept back
 kept_by (Some c) back = trim gabc (kept back)
 
--- the characters of the kept text, each with its place: of those that are emitted as kept as many as it has
+-- the characters of the kept text, each with its place: of those that are emitted as kept as many
+-- as it has
 abbrev pub kept_chars_in : Bool → ℕ → List Char → List Char
 kept_chars_in split macros xs = let s = stop_after split [] xs in take (length (kept_by s.mark s.back)) (kept_chars_of (concat_of (note_events split macros xs)))
 

@@ -51,8 +51,9 @@ fn characters(text: &str) -> usize
     text.chars().count()
 }
 
-/// Returns the first of the characters that `stage` emits as kept, driven over `body` and then ended: as many as `kept` has, or all
-/// if there are fewer. The first character of `body` stands at `at`. It fails only for want of memory. The stage is spent either way.
+/// Returns the first of the characters that `stage` emits as kept, driven over `body` and then
+/// ended: as many as `kept` has, or all if there are fewer. The first character of `body` stands at
+/// `at`. It fails only for want of memory. The stage is spent either way.
 pub fn kept_chars_by<S>(
     alloc: Global,
     mut stage: S,
@@ -86,8 +87,9 @@ where
     Ok(found)
 }
 
-/// Returns the characters of the text that `snippet_whole` keeps of the same arguments, each with its place in the source: a byte
-/// of that text belongs to the character whose bytes it is among. It fails only for want of memory.
+/// Returns the characters of the text that `snippet_whole` keeps of the same arguments, each with
+/// its place in the source: a byte of that text belongs to the character whose bytes it is among.
+/// It fails only for want of memory.
 pub fn kept_chars(
     alloc: Global,
     body: &str,

@@ -24,8 +24,8 @@ fn is_pitch_from(first: u8, byte: u8) -> bool
     first <= byte && byte <= b'n'
 }
 
-/// Returns whether `text` begins with a small pitch that is sure to be an item by itself: nothing stands behind it, or one of the small
-/// pitches from `c` to `n`.
+/// Returns whether `text` begins with a small pitch that is sure to be an item by itself: nothing
+/// stands after it, or one of the small pitches from `c` to `n`.
 fn begins_with_one_pitch(text: &[u8]) -> bool
     ensures { IsTrue result → IsUtf8 text.now → IsFirstItem text.now ItemKind.Note 1 }
 {
@@ -36,7 +36,8 @@ fn begins_with_one_pitch(text: &[u8]) -> bool
     }
 }
 
-/// Returns the longest item that begins `text`: its kind, and how many bytes it has. Many items are one pitch, so these are found first.
+/// Returns the longest item that begins `text`: its kind, and how many bytes it has. Many items are
+/// one pitch, so these are found first.
 #[inline(always)]
 fn first_item(text: &str) -> Option<(ItemKind, usize)>
     ensures found { IfSome result (λ i. IsFirstItem text.now i.0 i.1) }
@@ -130,9 +131,11 @@ impl<'a> Iterator for ItemReader<'a> {
     }
 }
 
-/// Returns an iterator over the items of `kept`, in order: spans that count its bytes, each item the longest that begins where the one
-/// before it ends. They make up all of a snippet, as `is_snippet` tells it; what `snippet_whole` keeps is one wherever the snippet ended.
-/// Of another text they go as far as an item begins. It asks for no memory, and each item is read when it is asked for.
+/// Returns an iterator over the items of `kept`, in order: spans that count its bytes, each item
+/// the longest that begins where the one before it ends. They make up all of a snippet, as
+/// `is_snippet` tells it; what `snippet_whole` keeps is one wherever the snippet ended. Of another
+/// text they go as far as an item begins. It asks for no memory, and each item is read when it is
+/// asked for.
 pub fn items_in(kept: &str) -> ItemReader<'_>
     ensures items { result ≡ items_of kept.now }
     ensures within { AreWithin kept.now (items_of kept.now) }
@@ -155,8 +158,8 @@ pub fn items_whole(alloc: Global, kept: &str) -> Result<Items, AllocError>
     Ok(items)
 }
 
-/// Adds to `out` the items of `kept`, as `items_in` gives them, and asks for no memory. `out` has to take as many items more as `kept`
-/// has bytes.
+/// Adds to `out` the items of `kept`, as `items_in` gives them, and asks for no memory. `out` has
+/// to take as many items more as `kept` has bytes.
 pub fn items_into(kept: &str, out: &mut Room<Item>)
     requires { Fits out.old (length kept.now) }
     ensures items { out.new ≡ extended_by out.old (items_of kept.now) }
@@ -178,8 +181,8 @@ fn is_note_or_clef(kind: ItemKind) -> bool
     }
 }
 
-/// Returns which comes first among the items of `kept`, as `items_in` gives them: a note or a clef. Where neither is among them it
-/// returns `None`. It asks for no memory.
+/// Returns which comes first among the items of `kept`, as `items_in` gives them: a note or a clef.
+/// Where neither is among them it returns `None`. It asks for no memory.
 pub fn first_note_or_clef(kept: &str) -> Option<ItemKind>
     ensures { result ≡ first_of (items_of kept.now) }
 {

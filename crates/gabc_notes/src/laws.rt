@@ -1,5 +1,5 @@
-//! Laws of the definitions that contracts speak of. Each function is there for its clauses: all but one do nothing, and that one
-//! drives a fresh stage.
+//! Laws of the definitions that contracts speak of. Each function is there for its clauses: all but
+//! one do nothing, and that one drives a fresh stage.
 
 ghost use Rattle.std.specs.Prelude.{◌≡◌, ◌↔◌, ◌≤◌, ◌+◌, ◌*◌, ℕ, List, [], ◌∷◌, ◌++◌, Bool, true, length, take, drop, map, sum_by, codes, false, Some, is_some, Decides};
 ghost use Rattle.std.specs.Char.{len_utf8};
@@ -33,7 +33,8 @@ ghost use Rattle.gabc_notes.specs.StageTells.{opener_of, comment_of, told};
 use crate::stage::{NoteEvent, NoteStage};
 use gabc_places::{Char, Room, drive};
 
-/// A fresh stage, driven over all characters and then ended, emits the events of the definition.
+/// Law: a fresh stage, driven over all characters and then ended, emits the events of the
+/// definition.
 pub fn a_fresh_stage_emits(split: bool, macros: u16, inputs: Vec<Char>, out: &mut Room<NoteEvent>)
     requires { Fits out.old (3 * (length inputs.items + 1)) }
     ensures { out.new ≡ extended_by out.old (concat_of (note_events split macros inputs.items)) }
@@ -42,23 +43,24 @@ pub fn a_fresh_stage_emits(split: bool, macros: u16, inputs: Vec<Char>, out: &mu
     drive(&mut stage, inputs, out);
 }
 
-/// The characters that a stage emits as kept, without their places, are the kept text.
+/// Law: the characters that a stage emits as kept, without their places, are the kept text.
 pub fn kept_characters_are_the_kept_text()
     ensures { (events : List NoteEvent) →
         map (λ x. x.c) (kept_chars_of events) ≡ kept_of events }
 {}
 
-/// No row of the table spells the empty text: what the laws of tables in `gabc_patterns` ask of a table.
+/// Law: no row of the table spells the empty text: what the laws of tables in `gabc_patterns` ask
+/// of a table.
 pub fn no_item_is_empty()
     ensures { ¬ IsItem gabc [] }
 {}
 
-/// Rows of the table that spell one text are of one kind.
+/// Law: rows of the table that spell one text are of one kind.
 pub fn an_item_has_one_kind()
     ensures { OneKind gabc }
 {}
 
-/// A text has one reading at most, and one list of items.
+/// Law: a text has one reading at most, and one list of items.
 pub fn items_are_one()
     ensures readings { (is js : List (ItemKind × List ℕ)) (t : List ℕ) → IsReading gabc is t →
         IsReading gabc js t → is ≡ js }
@@ -66,15 +68,15 @@ pub fn items_are_one()
         AreItemsOf bytes js → is ≡ js }
 {}
 
-/// The function `items_of` gives the items of any text. Those of a snippet make it up.
+/// Law: the function `items_of` gives the items of any text. Those of a snippet make it up.
 pub fn items_are_computed()
     ensures items { (kept : List ℕ) → AreItemsOf kept (items_of kept) }
     ensures snippet { (kept : List ℕ) → IsUtf8 kept → IsKept kept →
         MakeUp kept (items_of kept) }
 {}
 
-/// The kept text goes on with each character outside comments that leaves it viable, and at a mark the longest prefix of it that is a snippet is
-/// what stays.
+/// Law: the kept text goes on with each character outside comments that leaves it viable, and at a
+/// mark the longest prefix of it that is a snippet is what stays.
 pub fn what_is_kept_goes_on()
     ensures keep { (back : List Char) →
         KeepsOf gabc [] (outside_comments (with_comments back)) (kept back) }
@@ -82,7 +84,8 @@ pub fn what_is_kept_goes_on()
         Trims gabc (kept back) (kept_by (Some mark) back) }
 {}
 
-/// What is read of a text, by relations over the whole of it, is what is computed a character at a time.
+/// Law: what is read of a text, by relations over the whole of it, is what is computed a character
+/// at a time.
 pub fn what_is_read_is_computed()
     ensures { (at : Place) (split : Bool) (macros : ℕ) (t : List ℕ) (read : SnippetRead) →
         IsSnippetRead at split macros t read ↔ IsComputed at split macros t read }
@@ -102,41 +105,44 @@ pub fn kept_characters_are_computed()
         cs ≡ kept_chars_in split macros (placed_characters_from at t) }
 {}
 
-/// A viable text is a snippet with at most one character more.
+/// Law: a viable text is a snippet with at most one character more.
 pub fn one_character_completes()
     ensures { (t : List ℕ) → IsViable gabc t →
         (more : List ℕ) × (length more ≤ 1) × IsSnippet gabc (t ++ more) }
 {}
 
-/// A text lies inside raw exactly if it is no snippet, but is one with a `]` more.
+/// Law: a text lies inside raw exactly if it is no snippet, but is one with a `]` more.
 pub fn inside_raw_is_decided()
     ensures { (t : List ℕ) →
         Decides (in_raw t) (IsSnippet gabc (t ++ codes "]") × (¬ IsSnippet gabc t)) }
 {}
 
-/// A text lies inside raw exactly if it is a snippet whose last item is no `@`, a `[`, and characters other than `]`.
+/// Law: a text lies inside raw exactly if it is a snippet whose last item is no `@`, a `[`, and
+/// characters other than `]`.
 pub fn inside_raw_is_an_open_bracket()
     ensures { (t : List ℕ) → Decides (in_raw t) (IsOpen t) }
 {}
 
-/// Inside raw, the opener is the place of the `[` from which on the kept text lies inside raw.
+/// Law: inside raw, the opener is the place of the `[` from which on the kept text lies inside raw.
 pub fn the_opener_is_the_bracket()
     ensures { (back : List Char) → in_raw (kept back) ≡ true → IsOpenedAt back }
 {}
 
-/// A character lies in a comment exactly if from a `%` outside raw up to it there is no LF.
+/// Law: a character lies in a comment exactly if from a `%` outside raw up to it there is no LF.
 pub fn a_comment_begins_with_a_percent()
     ensures { (back : List Char) (x : Char) →
         Decides (is_comment (record { back = back; here = x })) (InComment (x ∷ back)) }
 {}
 
-/// The characters that are emitted as kept are the kept text of the characters before the end of the snippet.
+/// Law: the characters that are emitted as kept are the kept text of the characters before the end
+/// of the snippet.
 pub fn the_kept_text_is_emitted()
     ensures { (split : Bool) (macros : ℕ) (xs : List Char) →
         kept_of (concat_of (note_events split macros xs)) ≡ kept (stop_after split [] xs).back }
 {}
 
-/// One end is emitted, with the bytes of the kept text: at most those of the characters that are emitted as kept.
+/// Law: one end is emitted, with the bytes of the kept text: at most those of the characters that
+/// are emitted as kept.
 pub fn one_end_is_emitted()
     ensures end { (split : Bool) (macros : ℕ) (xs : List Char) → (let s = stop_after split [] xs in
         ends_of (concat_of (note_events split macros xs))
@@ -147,7 +153,8 @@ pub fn one_end_is_emitted()
         ≤ sum_by len_utf8 (kept_of (concat_of (note_events split macros xs)))) }
 {}
 
-/// What is emitted of characters does not depend on those that follow them, and behind the end nothing is emitted.
+/// Law: what is emitted of characters does not depend on those that follow them, and after the end
+/// nothing is emitted.
 pub fn what_follows_emits_nothing()
     ensures end { (split : Bool) (macros : ℕ) (p : Point) → is_over split p.back ≡ true →
         events_at split macros p ≡ [] }
@@ -156,14 +163,14 @@ pub fn what_follows_emits_nothing()
         ≡ take (length xs) (note_events split macros (xs ++ zs)) }
 {}
 
-/// Of a text, each finding stands strictly before the next.
+/// Law: of a text, each finding stands strictly before the next.
 pub fn findings_are_in_order()
     ensures { (at : Place) (split : Bool) (macros : ℕ) (t : List ℕ) →
         AreInOrder (findings_of (concat_of (note_events split macros (placed_characters_from at t)))) }
 {}
 
-/// What is emitted of a text through the character behind a prefix has its findings at the text's place or later, and no later
-/// than that character.
+/// Law: what is emitted of a text through the character after a prefix has its findings at the
+/// text's place or later, and no later than that character.
 pub fn findings_lie_within()
     ensures { (at : Place) (split : Bool) (macros : ℕ) (prefix rest : List ℕ) →
         let events = concat_of (take (length prefix + 1)
@@ -171,16 +178,17 @@ pub fn findings_lie_within()
         LieBetween at (place_past at prefix) (findings_of events) }
 {}
 
-/// Of a character at most one end is emitted, behind all else: at a `)`, or where notes are split at a `|`. Of the end of the
-/// characters nothing is emitted but that they were cut.
+/// Law: of a character at most one end is emitted, after all else: at a `)`, or where notes are
+/// split at a `|`. Of the end of the characters nothing is emitted but that they were cut.
 pub fn a_snippet_ends_at_its_mark()
     ensures mark { (split : Bool) (macros : ℕ) (p : Point) →
         EndAtMost split p.here.c (events_at split macros p) }
     ensures last { (split : Bool) (back : List Char) → AreCutAtMost (cut_events split back) }
 {}
 
-/// A snippet of the table in front of its mark, whatever follows, is read again as exactly that snippet: it ends at that mark, each
-/// character is kept at its place, and no error is found. The kept text of each snippet that has ended is one.
+/// Law: a snippet of the table in front of its mark, whatever follows, is read again as exactly
+/// that snippet: it ends at that mark, each character is kept at its place, and no error is found.
+/// The kept text of each snippet that has ended is one.
 pub fn kept_again()
     ensures snippet { (split : Bool) (macros : ℕ) (at : Place) (how : NoteEnd) (t rest : List ℕ)
         (mark : ℕ) → IsSnippet gabc t → IsMarkOf split how mark →
@@ -188,14 +196,15 @@ pub fn kept_again()
     ensures kept { (mark : ℕ) (back : List Char) → IsSnippet gabc (kept_by (Some mark) back) }
 {}
 
-/// Two stages emit the same of whatever follows, if they stand alike, but for a place outside raw.
+/// Law: two stages emit the same of whatever follows, if they stand alike, but for a place outside
+/// raw.
 pub fn stages_that_tell_the_same_agree(one: &NoteStage, other: &NoteStage)
     requires { told one.now ≡ told other.now }
     ensures { (xs : List Char) → events_left one.now xs ≡ events_left other.now xs }
 {}
 
-/// Two stages behind one kept text that tell the same emit the same of whatever follows: the place of the bracket that is open, and whether a
-/// comment is open.
+/// Law: two stages after one kept text that tell the same emit the same of whatever follows: the
+/// place of the bracket that is open, and whether a comment is open.
 pub fn stages_behind_one_text_agree()
     ensures { (split : Bool) (macros : ℕ) (one other : NoteStage) (k : List ℕ) →
         Keeps split macros one k → Keeps split macros other k →
@@ -203,7 +212,8 @@ pub fn stages_behind_one_text_agree()
         (xs : List Char) → events_left one xs ≡ events_left other xs }
 {}
 
-/// A stage that keeps a text tells an opener exactly if that text lies inside raw, and there no comment is open.
+/// Law: a stage that keeps a text tells an opener exactly if that text lies inside raw, and there
+/// no comment is open.
 pub fn an_opener_is_told_inside_raw()
     ensures opener { (split : Bool) (macros : ℕ) (s : NoteStage) (k : List ℕ) →
         Keeps split macros s k → is_some (opener_of s) ≡ in_raw k }
@@ -211,7 +221,8 @@ pub fn an_opener_is_told_inside_raw()
         Keeps split macros s k → comment_of s ≡ true → in_raw k ≡ false }
 {}
 
-/// Of a text that a stage keeps, each character is kept again behind those before it, and none of them ends the snippet.
+/// Law: of a text that a stage keeps, each character is kept again after those before it, and none
+/// of them ends the snippet.
 pub fn a_kept_character_is_kept_again()
     ensures { (split : Bool) (macros : ℕ) (s : NoteStage) (k more : List ℕ) (c : ℕ) →
         Keeps split macros s (k ++ c ∷ more) → IsKeptAgain split k c }
@@ -233,8 +244,8 @@ pub fn an_opener_may_stand_anywhere()
         OpensThere split macros s k at }
 {}
 
-/// A kept text gives the stage back. Behind it, each character placed at the bracket that is open, and a `%` where a comment is open, a fresh
-/// stage emits the same of whatever follows.
+/// Law: a kept text gives the stage back. After it, each character placed at the bracket that is
+/// open, and a `%` where a comment is open, a fresh stage emits the same of whatever follows.
 pub fn a_kept_text_gives_the_stage_back(stage: &NoteStage)
     ensures { (split : Bool) (macros : ℕ) (k : List ℕ) (at : Place) →
         Keeps split macros stage.now k → OpensAt at stage.now →

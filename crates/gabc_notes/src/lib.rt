@@ -1,24 +1,27 @@
-//! The notes of one snippet of GABC: which characters are kept, and the items into which the kept text falls.
+//! The notes of one snippet of GABC: which characters are kept, and the items into which the kept
+//! text falls.
 //!
-//! The items are the rows of one table (`specs/Table.antt`), which reads like the grammar. A text is read by taking at each
-//! place the longest item that begins there; a text that is read whole is a snippet, and one that a snippet begins with is
-//! viable. Going left to right, a character is kept exactly if the kept text with it is viable.
+//! The items are the rows of one table (`specs/Table.antt`), which reads like the grammar. A text
+//! is read by taking at each place the longest item that begins there; a text that is read whole is
+//! a snippet, and one that a snippet begins with is viable. Going left to right, a character is
+//! kept exactly if the kept text with it is viable.
 //!
-//! - `snippet_whole` reads the snippet with which a text begins: its kept text, its findings and its end. `kept_chars` gives the
-//!   characters of that kept text with their places in the source.
-//! - `is_snippet` tells whether a text is a snippet. `items_in` goes over the items of a kept text as far as an item begins, of a
-//!   snippet to its end; `items_whole` and `items_into` gather them. `regular_notes` says how far a text is a snippet in which nothing is
-//!   left out or found. `note_of` reads an item. `first_note_or_clef` tells which of the
-//!   two comes first. Spans count bytes of the kept text.
-//! - `NoteStage` reads the characters of a snippet one at a time: it emits those that are kept, the findings, and the end. What it
-//!   emits is `note_events` of `specs/Events.antt`, a definition without states: what is emitted of a character depends on it and
-//!   on the characters before it. `NoteStage::take_kept` takes a character of which nothing but itself is emitted (no `)` and no
-//!   `|`, and none while a comment is open), and else leaves the stage as it was. `NoteStage::opener` and `NoteStage::in_comment` tell what matters
-//!   of a stage beside the text that it kept (`specs/Keeps.antt`).
+//! - `snippet_whole` reads the snippet with which a text begins: its kept text, its findings and
+//!   its end. `kept_chars` gives the characters of that kept text with their places in the source.
+//! - `is_snippet` tells whether a text is a snippet. `items_in` goes over the items of a kept text
+//!   as far as an item begins, of a snippet to its end; `items_whole` and `items_into` gather them.
+//!   `regular_notes` says how far a text is a snippet in which nothing is left out or found.
+//!   `note_of` reads an item. `first_note_or_clef` tells which of the two comes first. Spans count
+//!   bytes of the kept text.
+//! - `NoteStage` reads the characters of a snippet one at a time: it emits those that are kept, the
+//!   findings, and the end. What it emits is `note_events` of `specs/Events.antt`, a definition
+//!   without states: what is emitted of a character depends on it and on the characters before it.
+//!   `NoteStage::opener` and `NoteStage::in_comment` tell what matters of a stage beside the text
+//!   that it kept (`specs/witness/Keeps.antt`).
 //! - `laws` has what follows of the definitions.
 //!
-//! Texts and places come from `gabc_places`: lines and columns from 1, a column a character. A snippet of a score begins behind
-//! its `(`, or behind a `|`.
+//! Texts and places come from `gabc_places`: lines and columns from 1, a column a character. A
+//! snippet of a score begins after its `(`, or after a `|`.
 //!
 //! ```
 //! let body = "g1hv)";
@@ -27,7 +30,8 @@
 //! assert_eq!(rt; read.how, SnippetEnding::Close(4));
 //! if is_snippet(&read.kept) {
 //!     let items = items_whole(alloc, &read.kept)?;
-//!     assert_eq!(rt; items.as_slice(), [first, second].as_slice()); // `g` and `hv`, from byte 1 to byte 3
+//!     // `g` and `hv`, from byte 1 to byte 3
+//!     assert_eq!(rt; items.as_slice(), [first, second].as_slice());
 //! }
 //! assert_eq!(rt;
 //!     note_of("ghv", second).map(|note| note.shape),
@@ -39,9 +43,11 @@
 //!
 //! The rules are those of GregorioRef, "Notation — Note Syntax".
 //!
-//! The machine of `state.rt` is proved to read the table (`proofs/machine/MachineReadsTable.antt`): each state stands for a text that ends in
-//! it, and what may follow that text in the table is compared with the machine's next state, for each character below 128.
-//! What the stage holds is proved to be what the definition says of the characters so far (`proofs/machine/StageEmitsItsEvents.antt`).
+//! The machine of `state.rt` is proved to read the table (`proofs/machine/MachineReadsTable.antt`):
+//! each state stands for a text that ends in it, and what may follow that text in the table is
+//! compared with the machine's next state, for each character below 128. What the stage holds is
+//! proved to be what the definition says of the characters so far
+//! (`proofs/machine/StageEmitsItsEvents.antt`).
 #![tactic(auto)]
 
 mod chars;

@@ -10,11 +10,11 @@ pub(crate) enum MacroPrefix {
     /// No bracket is open.
     Closed,
     Opened,
-    /// Behind one of `n`, `g`, `e`.
+    /// After one of `n`, `g`, `e`.
     Letter,
-    /// Behind `m`.
+    /// After `m`.
     Named,
-    /// Behind a character more.
+    /// After a character more.
     Last(char),
     Other,
 }

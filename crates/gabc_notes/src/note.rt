@@ -47,8 +47,8 @@ pub enum Shape {
     Linea,
 }
 
-/// A note: its height from 0 for `a` to 13 for `n` and 14 for `p`, its shape, whether it is initio debilis, and the span of its
-/// item, in bytes of the kept text.
+/// A note: its height from 0 for `a` to 13 for `n` and 14 for `p`, its shape, whether it is initio
+/// debilis, and the span of its item, in bytes of the kept text.
 #[derive(Clone, Copy, Debug, PartialEq, Eq)]
 pub struct Note {
     /// Its height: 0 for `a` to 13 for `n`, and 14 for `p`.
@@ -68,7 +68,7 @@ fn is_digit_byte(byte: u8) -> bool
     b'0' <= byte && byte <= b'9'
 }
 
-/// Returns whether `r` with `text` behind it is a sign: its digits are neither none nor `0` alone.
+/// Returns whether `r` with `text` after it is a sign: its digits are neither none nor `0` alone.
 fn makes_sign(text: &[u8]) -> bool
     ensures { result ≡ is_sign (digits_of text.now) }
 {
@@ -104,7 +104,8 @@ fn next_letter(text: &[u8]) -> Option<(u8, &[u8])>
     None
 }
 
-/// Returns how many letters in a row are `letter`, of at most three: those of `text`, and one before it.
+/// Returns how many letters in a row are `letter`, of at most three: those of `text`, and one
+/// before it.
 fn count_in_a_row(letter: u8, text: &[u8]) -> u8
     ensures { result ≡ run_of letter (letters text.now) }
 {
@@ -117,7 +118,7 @@ fn count_in_a_row(letter: u8, text: &[u8]) -> u8
     }
 }
 
-/// Returns the shape that `text`, which stands behind a small pitch, names.
+/// Returns the shape that `text`, which stands after a small pitch, names.
 fn shape_behind(text: &[u8]) -> Shape
     ensures { result ≡ shape_by (letters text.now) }
 {
@@ -148,7 +149,8 @@ fn shape_behind(text: &[u8]) -> Shape
     }
 }
 
-/// Returns the height of `pitch`, a letter of either case: from 0 for `a` to 13 for `n`, and 14 for `p` (GregorioRef, "Pitches").
+/// Returns the height of `pitch`, a letter of either case: from 0 for `a` to 13 for `n`, and 14 for
+/// `p` (GregorioRef, "Pitches").
 pub fn height_of(pitch: u8) -> u8
     ensures { result ≡ height_of pitch }
 {
@@ -170,7 +172,8 @@ fn split_debilis(text: &[u8]) -> (bool, &[u8])
     }
 }
 
-/// Returns the height and the shape of `text`, which begins with its pitch. Most notes are one small pitch, so these are found first.
+/// Returns the height and the shape of `text`, which begins with its pitch. Most notes are one
+/// small pitch, so these are found first.
 fn height_and_shape(text: &[u8]) -> (u8, Shape)
     ensures height { result.0 ≡ height_at text.now }
     ensures shape { result.1 ≡ shape_at text.now }
@@ -181,7 +184,8 @@ fn height_and_shape(text: &[u8]) -> (u8, Shape)
     }
 }
 
-/// Returns the height and the shape of `text`, as `height_and_shape` does, by reading it. It stays out of line.
+/// Returns the height and the shape of `text`, as `height_and_shape` does, by reading it. It stays
+/// out of line.
 #[inline(never)]
 fn height_and_shape_read(text: &[u8]) -> (u8, Shape)
     ensures height { result.0 ≡ height_at text.now }
@@ -193,8 +197,9 @@ fn height_and_shape_read(text: &[u8]) -> (u8, Shape)
     }
 }
 
-/// Returns the note that `item` is, by its bytes in `kept`: `None` unless its kind is `ItemKind::Note` (GregorioRef, "One-Note Neumes"). The span of `item` has to
-/// lie within `kept`, as that of each item of `items_whole` does.
+/// Returns the note that `item` is, by its bytes in `kept`: `None` unless its kind is
+/// `ItemKind::Note` (GregorioRef, "One-Note Neumes"). The span of `item` has to lie within `kept`,
+/// as that of each item of `items_whole` does.
 pub fn note_of(kept: &str, item: Item) -> Option<Note>
     requires { (item.span.from ≤ item.span.to) × (item.span.to ≤ length kept.now) }
     ensures { result ≡ note_in kept.now item }
@@ -215,7 +220,7 @@ pub fn note_of(kept: &str, item: Item) -> Option<Note>
     }
 }
 
-/// Returns the shape of the note of `pitch` with `rest` behind it: an inclinatum for a capital.
+/// Returns the shape of the note of `pitch` with `rest` after it: an inclinatum for a capital.
 fn shape_of(pitch: u8, rest: &[u8]) -> Shape
     ensures { result ≡ shape_at (pitch ∷ rest.now) }
 {

@@ -1,9 +1,9 @@
 //! How far a text is a regular snippet: it is kept as it stands, and nothing is found in it.
 
-ghost use Rattle.std.specs.Prelude.{◌≡◌};
+ghost use Rattle.std.specs.Prelude.{◌≡◌, ◌≤◌, ◌==◌, ◌||◌, length, take, true};
 ghost use Rattle.gabc_patterns.specs.LongestPrefix.{IsLongestPrefix};
 ghost use Rattle.gabc_notes.specs.Regular.{IsRegular};
-ghost use Rattle.gabc_notes.specs.machine.Regular.{ends_regularly, regular_after, warns_at};
+ghost use Rattle.gabc_notes.specs.machine.Regular.{begins_front, ends_regularly, front_state, goes_on_front, is_front, item_at, regular_after, warns_at};
 
 use crate::class::class_of;
 use crate::macro_prefix::{MacroPrefix, digit_of_prefix, prefix_with};
@@ -84,20 +84,88 @@ impl RegularState {
     }
 }
 
-/// Returns how many bytes of `text` its longest prefix has that is a regular snippet: in front of
-/// the `)` or `|` that ends it, each of its characters is kept and nothing is found, whatever
-/// macros are defined (GregorioRef, "Notation — Note Syntax"). The empty one is such a prefix.
-pub fn regular_notes(text: &str) -> usize
-    ensures { IsLongestPrefix IsRegular text.now result }
+/// Returns whether `byte` is a mark that ends a snippet.
+fn is_mark(byte: u8) -> bool
+    ensures { result ≡ (byte == 41 || byte == 124) }
 {
-    let mut state = RegularState {
-        item: ItemState::Start,
+    byte == b')' || byte == b'|'
+}
+
+/// Returns whether `byte` is a pitch but `b`.
+fn begins_front(byte: u8) -> bool
+    ensures { result ≡ begins_front byte }
+{
+    (byte >= b'c' && byte <= b'n') || byte == b'a' || byte == b'p'
+}
+
+/// Returns whether `byte` is a pitch but `b`, or a frequent suffix or sign. Most bytes of notes are
+/// known by one comparison.
+fn goes_on_front(byte: u8) -> bool
+    ensures { result ≡ goes_on_front byte }
+{
+    if byte >= b'c' && byte <= b'p' {
+        return true;
+    }
+    match byte {
+        b'a' | b'.' | b'_' | b'\'' | b'v' | b's' | b'w' => true,
+        _ => false,
+    }
+}
+
+/// Returns where the item stands after the character `byte` of a front.
+fn item_at(byte: u8) -> ItemState
+    ensures { result ≡ item_at byte }
+{
+    match byte {
+        b'c' | b'f' => ItemState::ClefPitch,
+        b'a' | b'd' | b'e' | b'g'..=b'n' | b'p' => ItemState::Pitch,
+        _ => ItemState::Body,
+    }
+}
+
+/// Returns how many bytes the front has that `bytes` begin with: pitches but `b`, and after the
+/// first of them frequent suffixes and signs too. Each that it goes over ends a regular snippet.
+fn front_len(bytes: &[u8]) -> usize
+    ensures within { result ≤ length bytes.now }
+    ensures front { is_front (take result bytes.now) ≡ true }
+{
+    if bytes.is_empty() || !begins_front(bytes[0]) {
+        return 0;
+    }
+    let mut len = 1;
+    while len < bytes.len() && goes_on_front(bytes[len]) {
+        len += 1;
+    }
+    len
+}
+
+/// Returns where the reading stands after the front that the first `len` of `bytes` are.
+fn front_state(bytes: &[u8], len: usize) -> RegularState
+    requires { len ≤ length bytes.now }
+    ensures { result ≡ front_state (take len bytes.now) }
+{
+    RegularState {
+        item: if len == 0 {
+            ItemState::Start
+        } else {
+            item_at(bytes[len - 1])
+        },
         name: MacroPrefix::Closed,
         fused: false,
-    };
-    let mut read = 0;
-    let mut regular = 0;
-    for c in text.chars() {
+    }
+}
+
+/// Returns what `regular_notes` returns, where the first `front` bytes of `text` are a front.
+#[inline(never)]
+fn regular_after_front(text: &str, front: usize) -> usize
+    requires within { front ≤ length text.now }
+    requires is_front { is_front (take front text.now) ≡ true }
+    ensures { IsLongestPrefix IsRegular text.now result }
+{
+    let mut state = front_state(text.as_bytes(), front);
+    let mut read = front;
+    let mut regular = front;
+    for c in text[front..].chars() {
         match state.after(c) {
             Some(next) => state = next,
             None => return regular,
@@ -108,4 +176,19 @@ pub fn regular_notes(text: &str) -> usize
         }
     }
     regular
+}
+
+/// Returns how many bytes of `text` its longest prefix has that is a regular snippet: in front of
+/// the `)` or `|` that ends it, each of its characters is kept and nothing is found, whatever
+/// macros are defined (GregorioRef, "Notation — Note Syntax"). The empty one is such a prefix.
+pub fn regular_notes(text: &str) -> usize
+    ensures { IsLongestPrefix IsRegular text.now result }
+{
+    let bytes = text.as_bytes();
+    let front = front_len(bytes);
+    // most snippets are a front alone
+    if front < bytes.len() && is_mark(bytes[front]) {
+        return front;
+    }
+    regular_after_front(text, front)
 }

@@ -13,12 +13,14 @@ pub enum SnippetEnding {
     Next(usize),
     /// At a `)`, with the byte where it stands.
     Close(usize),
-    /// The body ends before the snippet does: the place of the bracket that is open; line 0 and column 0 where none is.
+    /// The body ends before the snippet does: the place of the bracket that is open; line 0 and
+    /// column 0 where none is.
     Cut(Place),
 }
 
 impl SnippetEnding {
-    /// Returns how a snippet ends whose stage emitted `end` with the character at the byte `index` of the body.
+    /// Returns how a snippet ends whose stage emitted `end` with the character at the byte `index`
+    /// of the body.
     pub fn at(end: NoteEnd, index: usize) -> SnippetEnding
         ensures { result ≡ ending_at end index }
     {
@@ -33,8 +35,8 @@ impl SnippetEnding {
 /// What a snippet says: what is kept of it, what was found, and how it ended.
 #[derive(Debug, Drop)]
 pub struct SnippetRead {
-    /// The text that is kept, as UTF-8. Of a snippet that ended it is a snippet itself, without an unfinished end. After a `Cut` it
-    /// is all that was kept so far, and need be no snippet.
+    /// The text that is kept, as UTF-8. Of a snippet that ended it is a snippet itself, without an
+    /// unfinished end. After a `Cut` it is all that was kept so far, and need be no snippet.
     pub kept: String,
     /// What was found, each at its line and column in the source.
     pub findings: Findings,

@@ -1,6 +1,6 @@
 //! A machine that reads a snippet a character at a time.
 
-ghost use Rattle.std.specs.Prelude.{◌≡◌, ◌≢◌, ℕ, List, [], ◌∷◌, true, false, None, IfSome, IsSome, IsTrue};
+ghost use Rattle.std.specs.Prelude.{◌≡◌, ℕ, List, [], true, false, None};
 ghost use Rattle.gabc_places.specs.declared.place.Char.{Char};
 ghost use Rattle.gabc_places.specs.BoundedList.{Fits, extended_by};
 ghost use Rattle.gabc_places.specs.StageLaw.{Pushes, StopsAtEnd};
@@ -11,7 +11,6 @@ ghost use Rattle.gabc_notes.specs.machine.StageBehind.{stage_behind};
 ghost use Rattle.gabc_notes.specs.StageTells.{opener_of, comment_of};
 ghost use Rattle.gabc_notes.specs.witness.Keeps.{Keeps, KeepsOn};
 ghost use Rattle.gabc_notes.specs.Ends.{is_ended};
-ghost use Rattle.gabc_notes.specs.TakenAtOnce.{TakesNext, StandsBeforeKept, StandsBeforeNext};
 ghost use Rattle.gabc_notes.specs.witness.StageEvents.{role_in, warning_in, before_in, events_in, event_list};
 ghost use Rattle.gabc_notes.specs.Events.{end_by_mark, finding_event};
 ghost use Rattle.gabc_notes.specs.NotesEmitted.{AreNoteEvents};
@@ -21,7 +20,8 @@ use crate::macro_prefix::{MacroPrefix, defines, digit_of_prefix, prefix_with};
 use crate::state::{ItemState, is_attribute, is_raw, is_whole, next_state, short_step};
 use gabc_places::{Char, Code, Finding, Place, Room, Stage};
 
-/// How a snippet ends. A place is that of the bracket that is open; line 0 and column 0 where none is.
+/// How a snippet ends. A place is that of the bracket that is open; line 0 and column 0 where none
+/// is.
 #[derive(Clone, Copy, Debug, PartialEq, Eq)]
 pub enum NoteEnd {
     /// At a `|`.
@@ -52,8 +52,8 @@ pub enum NoteEvent {
     Kept(Char),
     /// What was found, with its place.
     Found(Finding),
-    /// The end, behind which nothing more comes: how the snippet ended, and how many bytes its kept text has, without an unfinished
-    /// end; of a cut snippet the bytes kept so far.
+    /// The end, after which nothing more comes: how the snippet ended, and how many bytes its kept
+    /// text has, without an unfinished end; of a cut snippet the bytes kept so far.
     Ended { how: NoteEnd, kept: usize },
 }
 
@@ -67,7 +67,8 @@ pub(crate) struct CharFacts {
     pub(crate) raw: bool,
     /// The kept text is a snippet.
     pub(crate) whole: bool,
-    /// The kept text with the character is viable, lies inside raw, is a snippet, ends with an attribute.
+    /// The kept text with the character is viable, lies inside raw, is a snippet, ends with an
+    /// attribute.
     pub(crate) viable: bool,
     pub(crate) raw_after: bool,
     pub(crate) whole_after: bool,
@@ -204,7 +205,8 @@ fn found(x: Char, code: Code) -> NoteEvent
     })
 }
 
-/// Emits the end of the snippet: an unfinished end and an open `@[` are found there. `whole` tells that the kept text is a snippet.
+/// Emits the end of the snippet: an unfinished end and an open `@[` are found there. `whole` tells
+/// that the kept text is a snippet.
 fn emit_end(before: Before, whole: bool, x: Char, out: &mut Room<NoteEvent>)
     requires { Fits out.old 3 }
     ensures { (macros : ℕ) (facts : CharFacts) → facts.whole ≡ whole → out.new
@@ -248,7 +250,7 @@ fn emit(
     }
 }
 
-/// Returns what the open bracket holds behind a character that is kept, if one is open there.
+/// Returns what the open bracket holds after a character that is kept, if one is open there.
 fn prefix_after(facts: CharFacts, name: MacroPrefix, c: char) -> MacroPrefix
     ensures { result ≡ prefix_after facts name c }
 {
@@ -259,8 +261,8 @@ fn prefix_after(facts: CharFacts, name: MacroPrefix, c: char) -> MacroPrefix
     }
 }
 
-/// Reads a snippet (GregorioRef, "Notation — Note Syntax"): emits each character that is kept, the findings as they become known, and the
-/// end. It asks for no memory.
+/// Reads a snippet (GregorioRef, "Notation — Note Syntax"): emits each character that is kept, the
+/// findings as they become known, and the end. It asks for no memory.
 #[derive(Drop)]
 pub struct NoteStage {
     split: bool,
@@ -272,8 +274,8 @@ pub struct NoteStage {
 }
 
 impl NoteStage {
-    /// Returns a stage before the first character of a snippet. With `split` a `|` ends the snippet too. The bit `d` of `macros`,
-    /// from 0 to 9, tells that the macro of the digit `d` is defined.
+    /// Returns a stage before the first character of a snippet. With `split` a `|` ends the snippet
+    /// too. The bit `d` of `macros`, from 0 to 9, tells that the macro of the digit `d` is defined.
     pub fn new(split: bool, macros: u16) -> NoteStage
         ensures events { (xs : List Char) →
             AreNoteEvents split macros xs (events_left result xs) }
@@ -326,7 +328,8 @@ impl NoteStage {
         self.advance(role, facts, next, x);
     }
 
-    /// Goes past a character on the short way to `next`. This does what `advance` does, without its tests.
+    /// Goes past a character on the short way to `next`. This does what `advance` does, without its
+    /// tests.
     #[inline(always)]
     fn pass_short(&mut self, next: ItemState, x: Char)
         requires comment { self.old.before.comment ≡ false }
@@ -368,72 +371,6 @@ impl NoteStage {
     {
         emit_end(self.before, is_whole(self.state), x, out);
         self.ended = true;
-    }
-
-    /// Takes `x` if it is kept and nothing else is emitted at it, and returns whether it did. This does what `take_kept` does, off
-    /// the short way.
-    #[inline(never)]
-    fn take_if_kept(&mut self, x: Char) -> bool
-        requires runs { self.old.ended ≡ false }
-        ensures state { result ≡ true → self.new ≡ stage_behind self.old x }
-        ensures taken { result ≡ true → (xs : List Char) → events_left self.old (x ∷ xs)
-            ≡ (NoteEvent.Kept x ∷ []) ∷ events_left self.new xs }
-        ensures same { result ≡ false → self.new ≡ self.old }
-        ensures takes { StandsBeforeKept self.old x → IsTrue result }
-    {
-        let next = next_state(self.state, class_of(x.c));
-        let facts = look(self.state, next, self.name);
-        let role = role_of(self.split, self.before.comment, facts, x.c);
-        if let (CharRole::Keep, None) = (role, warning(self.macros, self.before, facts, x)) {
-            self.advance(role, facts, next, x);
-            true
-        } else {
-            false
-        }
-    }
-
-    /// Takes `x` if it is kept and nothing else is emitted at it, and returns whether it did. Else nothing changes, and `push` takes
-    /// `x`: so too each `)` and `|`, and what follows while a comment is open.
-    #[inline(always)]
-    pub fn take_kept(&mut self, x: Char) -> bool
-        ensures taken { result ≡ true → (xs : List Char) → events_left self.old (x ∷ xs)
-            ≡ (NoteEvent.Kept x ∷ []) ∷ events_left self.new xs }
-        ensures keeps { result ≡ true → KeepsOn self.old x (NoteEvent.Kept x ∷ []) self.new }
-        ensures no_mark { result ≡ true → (x.c ≢ 41) × (x.c ≢ 124) }
-        ensures same { result ≡ false → self.new ≡ self.old }
-        ensures takes { StandsBeforeKept self.old x → IsTrue result }
-    {
-        if self.ended || self.before.comment {
-            return false;
-        }
-        match short_step(self.state, x.c) {
-            Some(next) => {
-                self.pass_short(next, x);
-                true
-            }
-            None if x.c == ')' || x.c == '|' => false,
-            None => self.take_if_kept(x),
-        }
-    }
-
-    /// Takes the `|` that ends the snippet without a room for its events, where nothing else is emitted at it: snippets are split, no
-    /// comment and no `@[` is open, and the kept text is a snippet. Returns how many bytes it has, as the end tells. Where it returns
-    /// none, nothing changes, and `push` takes the `|`.
-    pub fn take_next(&mut self) -> Option<usize>
-        ensures taken { IfSome result (λ kept.
-            TakesNext (events_left self.old) (events_left self.new) kept) }
-        ensures keeps { IfSome result (λ kept. (x : Char) → x.c ≡ 124
-            → KeepsOn self.old x (NoteEvent.Ended NoteEnd.Next kept ∷ []) self.new) }
-        ensures same { result ≡ None → self.new ≡ self.old }
-        ensures takes { StandsBeforeNext self.old → IsSome result }
-        ensures ended { IfSome result (λ _. self.new ≡ record self.old { ended = true }) }
-    {
-        let before = self.before;
-        if self.ended || !self.split || before.comment || before.fused || !is_whole(self.state) {
-            return None;
-        }
-        self.ended = true;
-        Some(before.whole)
     }
 
     /// Returns the place of the `[` that is open: inside raw one is.

@@ -23,35 +23,35 @@ pub(crate) enum FullItem {
 pub(crate) enum ItemState {
     /// Between items.
     Start,
-    /// Behind the `-` of a note.
+    /// After the `-` of a note.
     Dash,
-    /// Behind `-` and a small pitch.
+    /// After `-` and a small pitch.
     DashPitch,
-    /// In a note: behind a capital, a suffix or its digits.
+    /// In a note: after a capital, a suffix or its digits.
     Body,
-    /// Behind a small pitch that begins no clef.
+    /// After a small pitch that begins no clef.
     Pitch,
-    /// Behind `c` or `f`.
+    /// After `c` or `f`.
     ClefPitch,
-    /// Behind `cb` or `fb`, which are two notes if no digit follows.
+    /// After `cb` or `fb`, which are two notes if no digit follows.
     ClefFlat,
-    /// Behind a clef.
+    /// After a clef.
     Clef,
-    /// Behind a clef and `@`.
+    /// After a clef and `@`.
     Join,
-    /// Behind a clef, `@` and `c` or `f`.
+    /// After a clef, `@` and `c` or `f`.
     JoinPitch,
-    /// Behind a clef, `@` and `cb` or `fb`.
+    /// After a clef, `@` and `cb` or `fb`.
     JoinFlat,
-    /// Behind an alteration that may have `?`.
+    /// After an alteration that may have `?`.
     Altered,
-    /// Behind a pitch and `#`.
+    /// After a pitch and `#`.
     Sharp,
     Bar,
     Colon,
-    /// Behind the `?` of a bar.
+    /// After the `?` of a bar.
     BarAsked,
-    /// Behind a `'` or `_` of a bar or its digits.
+    /// After a `'` or `_` of a bar or its digits.
     BarSigned,
     Slash,
     Blanks,
@@ -65,7 +65,7 @@ pub(crate) enum ItemState {
     Done(FullItem),
 }
 
-/// Returns where an item stands behind its first character, if that may begin one.
+/// Returns where an item stands after its first character, if that may begin one.
 fn begins(class: CharClass) -> Option<ItemState>
     ensures { result ≡ begun_item class }
 {
@@ -88,7 +88,7 @@ fn begins(class: CharClass) -> Option<ItemState>
     }
 }
 
-/// Returns where an item stands that goes on behind a small pitch.
+/// Returns where an item stands that goes on after a small pitch.
 fn on_pitch(class: CharClass) -> Option<ItemState>
     ensures { result ≡ in_pitch class }
 {
@@ -196,8 +196,8 @@ fn goes_on_again(state: ItemState, class: CharClass) -> Option<ItemState>
     }
 }
 
-/// Returns where the reading stands with a character more: the item goes on, or it ended at its longest and the reading goes on
-/// from there.
+/// Returns where the reading stands with a character more: the item goes on, or it ended at its
+/// longest and the reading goes on from there.
 pub(crate) fn next_state(state: ItemState, class: CharClass) -> Option<ItemState>
     ensures { result ≡ next_state state class }
 {
@@ -230,8 +230,8 @@ fn goes_on_note(state: ItemState) -> bool
     }
 }
 
-/// Returns where the reading stands behind a character, on a short way for those that most notes have: a pitch but `b` that begins
-/// one, or a frequent suffix or sign that goes on with one.
+/// Returns where the reading stands after a character, on a short way for those that most notes
+/// have: a pitch but `b` that begins one, or a frequent suffix or sign that goes on with one.
 #[inline(always)]
 pub(crate) fn short_step(state: ItemState, c: char) -> Option<ItemState>
     ensures { IfSome result (λ next. IsShortStep state c next) }

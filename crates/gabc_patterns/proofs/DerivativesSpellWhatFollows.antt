@@ -93,10 +93,6 @@ first_part P c t ((d ∷ a) ∷ parts) h e =
     let same : d ∷ a ≡ c ∷ a = cc in
     (a, parts, subst P same h.0, h.1, (let f : t ≡ a ++ concat parts = cc in f))
 
--- one of the characters: nothing more follows
-pub one_left : (c : ℕ) (b : Bool) → b ≡ true → Spells (cond b nothing never) []
-one_left c b e = rw e refl
-
 -- after the first of two, or the second where the first may end
 pub two_ways : (b : Bool) (p q r : Pattern) (t : List ℕ) → Spells (p · q) t ⊎ ((b ≡ true) × Spells r t) → Spells (cond b (either (join p q) r) (join p q)) t
 two_ways true p q r t (inl h) = either_from (join p q) r t (inl (join_from p q t h))
@@ -139,10 +135,6 @@ after_to (p or q) c t (inr h) = either_from (derivative c p) (derivative c q) t 
 after_to (many p) c t (parts, each, e) =
     let (a, rest, x, y, f) = first_part (Spells p) c t parts each e in
     join_from (derivative c p) (many p) t (a, concat rest, after_to p c a x, (rest, y, refl), f)
-
--- one part more
-pub each_first : (P : List ℕ → Type 0) (a : List ℕ) (parts : List (List ℕ)) → P a → Each P parts → Each P (a ∷ parts)
-each_first P a parts x y = (x, y)
 
 -- a character that tests as one of cs
 pub test_left : (cs : List ℕ) (c : ℕ) (b : Bool) (t : List ℕ) → is_in c cs ≡ b → Spells (cond b nothing never) t → Spells (one_of cs) (c ∷ t)

@@ -6,7 +6,7 @@ use Rattle.gabc_patterns.specs.Derivative.{rows_end, is_snippet, is_viable}
 use Rattle.gabc_patterns.specs.Function.{more_kept, keep_from, keep, trim_from, trim, kept_text}
 use Rattle.gabc_patterns.proofs.LongestMunchByCharacter.{viable_to, viable_from, snippet_to, snippet_from}
 use Rattle.gabc_patterns.proofs.LongestPrefixIsOne.{longest_all, longest_push}
-use Rattle.gabc_patterns.proofs.KeptTextIsKeptAgain.{one_keep, one_trim, one_kept_text, keeps_all, snippet_kept, trims_all}
+use Rattle.gabc_patterns.proofs.KeptTextIsKeptAgain.{one_keep, one_trim, one_kept_text, trims_all}
 
 -- what is kept of two texts, one after the other
 pub keep_append : {K : Type 0} (table : Table K) (kept s t : List ℕ) → keep_from table kept (s ++ t) ≡ keep_from table (keep_from table kept s) t
@@ -94,14 +94,6 @@ module _ {K : Type 0} (table : Table K) (none_empty : rows_end table ≡ false) 
   pub is_kept_text_is : (t kept : List ℕ) → IsKeptText table t kept → kept ≡ kept_text table t
   is_kept_text_is t kept h = one_kept_text table t kept (kept_text table t) h (kept_text_is t)
 
-  -- a viable text keeps itself
-  pub keep_viable : (t : List ℕ) → IsViable table t → keep table t ≡ t
-  keep_viable t v = sym (keeps_is [] t t (keeps_all table [] t v))
-
   -- a snippet is trimmed to itself
   pub trim_snippet : (t : List ℕ) → IsSnippet table t → trim table t ≡ t
   trim_snippet t s = sym (trims_is t t (trims_all table t s))
-
-  -- a snippet is its own kept text
-  pub kept_text_snippet : (t : List ℕ) → IsSnippet table t → kept_text table t ≡ t
-  kept_text_snippet t s = sym (is_kept_text_is t t (snippet_kept table t s))

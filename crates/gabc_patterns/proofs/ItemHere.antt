@@ -1,10 +1,9 @@
 -- The longest item at a place of a text, by indexes into the text.
-use Rattle.std.proofs.Common.{◌≡◌, ℕ, List, false, refl, sym, ap, ◌∙◌, subst, Option, Some, None, take, drop, length, get_or, ◌≤◌, ◌<◌, ◌+◌, ◌-◌, arith, length-drop, drop-drop, get_or-drop}
-use Rattle.gabc_patterns.specs.LongestItems.{Table, Longest, IsItem, IsSnippet}
+use Rattle.std.proofs.Common.{◌≡◌, ℕ, List, refl, sym, ap, ◌∙◌, subst, Option, Some, None, take, drop, length, get_or, ◌≤◌, ◌<◌, ◌+◌, ◌-◌, arith, length-drop, drop-drop, get_or-drop}
+use Rattle.gabc_patterns.specs.LongestItems.{Table, Longest, IsItem}
 use Rattle.gabc_patterns.specs.Items.{IsItemAt, ItemSpan}
-use Rattle.gabc_patterns.specs.Derivative.{rows_end}
 use Rattle.gabc_patterns.proofs.AutomatonsByTests.{Automaton, ReadsItems}
-use Rattle.gabc_patterns.proofs.ItemSoFar.{IsBest, ItemSoFar, best_longest, none_begins, item_start, item_ends, item_on, item_stops}
+use Rattle.gabc_patterns.proofs.ItemSoFar.{IsBest, ItemSoFar, best_longest, item_start, item_ends, item_on, item_stops}
 
 -- the piece is what is found from there on: an item of that kind and number of characters, or none
 abbrev pub IsFound : {K : Type 0} → ℕ → Option (ItemSpan K) → Option (K × ℕ) → Type 0
@@ -91,11 +90,3 @@ module _ {K : Type 0} (table : Table K) where
               longest = rw (n) (subst (λ u. Longest (IsItem table) (take e (drop from t)) u) (drop-drop e from t ∙ ap (λ (m : ℕ). drop m t) (sym ends)) best);
             },
           )
-
-  -- where there is none, a rest that is not empty is no snippet
-  pub best_none : rows_end table ≡ false → (t : List ℕ) (from : ℕ) → from < length t → BestHere table t from None → ¬ IsSnippet table (drop from t)
-  best_none none_empty t from l h = go h.found h.same h.is_best
-    where
-      go : (found : Option (K × ℕ)) → IsFound from None found → IsBest table (drop from t) (length (drop from t)) found → ¬ IsSnippet table (drop from t)
-      go (Some i) s b = absurd s
-      go None s b = none_begins table none_empty (drop from t) b (omega (arith, length-drop from t))

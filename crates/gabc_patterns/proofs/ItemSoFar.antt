@@ -1,6 +1,6 @@
 -- The longest item at a place, found a character at a time.
 use Rattle.std.proofs.Common.{◌≡◌, ℕ, List, [], ◌∷◌, ◌++◌, true, false, refl, sym, ap, ◌∙◌, subst, Option, Some, None, append_assoc, take, drop, length, get_or, ◌≤◌, ◌<◌, ◌+◌, arith, length-append, length-take, take-append-drop, take_at, take-take}
-use Rattle.std.proofs.lemmas.List.{take_more, take-append-le}
+use Rattle.std.proofs.lemmas.List.{take_more}
 use native.Mathlib.Decide.{dec_lt}
 use Rattle.gabc_patterns.specs.LongestItems.{Table, Longest, IsItemOf, IsItem, OneKind, IsSnippet}
 use Rattle.gabc_patterns.specs.Derivative.{rows_after, rows_run, rows_end, end_kind}
@@ -45,17 +45,6 @@ module _ {K : Type 0} (table : Table K) where
   best_stop : (text : List ℕ) (n : ℕ) (best : Option (K × ℕ)) → n < length text → rows_run table (take (n + 1) text) ≡ [] → IsBest table text n best → IsBest table text (length text) best
   best_stop text n None l r h = stop_none text 0 n l r h
   best_stop text n (Some i) l r h = (h.0, omega arith, h.2, stop_none text i.1 n l r h.3)
-
-  item_before : (text later : List ℕ) (n : ℕ) → n ≤ length text → (m : ℕ) → m ≤ n → IsItem table (take m (text ++ later)) → IsItem table (take m text)
-  item_before text later n l m y i = let b : m ≤ length text = omega arith in subst (IsItem table) (take-append-le m text later b) i
-
-  -- the longest item of some prefixes stays it when more text comes
-  pub best_later : (text later : List ℕ) (n : ℕ) (best : Option (K × ℕ)) → n ≤ length text → IsBest table text n best → IsBest table (text ++ later) n best
-  best_later text later n None l h = λ m x y i. h m x y (item_before text later n l m y i)
-  best_later text later n (Some j) l h =
-      let fits = h.1 in
-      let b : j.1 ≤ length text = omega arith in
-      (h.0, h.1, subst (IsItemOf table j.0) (sym (take-append-le j.1 text later b)) h.2, λ m x y i. h.3 m x y (item_before text later n l m y i))
 
   -- the longest item among all prefixes is the longest item
   pub best_longest : (text : List ℕ) (k : K) (e : ℕ) → IsBest table text (length text) (Some (k, e)) → Longest (IsItem table) (take e text) (drop e text)
@@ -119,16 +108,6 @@ module _ {K S C : Type 0} (table : Table K) (a : Automaton K S C) (r : ReadsItem
   pub item_stops : (text : List ℕ) (n c : ℕ) (s : S) (best : Option (K × ℕ)) → n < length text → c ≡ get_or text n c
       → a.goes_on s (a.class_of c) ≡ None → ItemSoFar table a text n s best → IsBest table text (length text) best
   item_stops text n c s best l e g h = best_stop table text n best l (sym (rows_more text n c s None l e h.rows g)) h.is_best
-
-  -- the same, when more text comes
-  pub item_later : (text later : List ℕ) (n : ℕ) (s : S) (best : Option (K × ℕ)) → ItemSoFar table a text n s best → ItemSoFar table a (text ++ later) n s best
-  item_later text later n s best h =
-      let fits = h.fits in
-      record {
-        fits = omega (arith, length-append text later);
-        rows = h.rows ∙ ap (rows_run table) (sym (take-append-le n text later fits));
-        is_best = best_later table text later n best fits h.is_best;
-      }
 
   -- ---- an item has one kind
 

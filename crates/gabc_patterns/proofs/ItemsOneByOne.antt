@@ -70,12 +70,6 @@ module _ {K : Type 0} (table : Table K) where
           let some = b.0 in
           ap (λ (u : List (K × List ℕ)). (kind, take e t) ∷ u) (F (drop e t) (omega (arith, length-drop e t)) (omega (arith, length-drop e t)))
 
-  -- where none begins, there are none
-  pub items_none : (t : List ℕ) → longest_item table t ≡ None → items table t ≡ []
-  items_none [] e = refl
-  items_none (c ∷ t) e =
-      ap (λ (o : Option (K × ℕ)). elim o as (λ _. List (K × List ℕ)) [ None ↦ [] | Some i ↦ (i.0, take i.1 (c ∷ t)) ∷ items_within table (length t) (drop i.1 (c ∷ t)) ]) e
-
   -- the first, and the items behind it
   pub items_more : (t : List ℕ) (k : K) (e : ℕ) → longest_item table t ≡ Some (k, e) → items table t ≡ (k, take e t) ∷ items table (drop e t)
   items_more [] k e f = absurd (cc)

@@ -39,12 +39,6 @@ module _ {K : Type 0} (table : Table K) where
   keeps_viable kept (c ∷ t) all v (inl h) = keeps_viable (kept ++ c ∷ []) t all h.0 h.1
   keeps_viable kept (c ∷ t) all v (inr h) = keeps_viable kept t all v h.1
 
-  -- of two texts, one after the other
-  pub keeps_append : (kept s t some all : List ℕ) → Keeps table kept s some → Keeps table some t all → Keeps table kept (s ++ t) all
-  keeps_append kept [] t some all h k = subst (λ u. Keeps table u t all) h k
-  keeps_append kept (c ∷ s) t some all (inl h) k = inl (h.0, keeps_append (kept ++ c ∷ []) s t some all h.1 k)
-  keeps_append kept (c ∷ s) t some all (inr h) k = inr (h.0, keeps_append kept s t some all h.1 k)
-
   -- what is kept is kept again
   pub keeps_again : (t all : List ℕ) → Keeps table [] t all → Keeps table [] all all
   keeps_again t all h = keeps_all [] all (keeps_viable [] t all nothing_viable h)
@@ -73,7 +67,3 @@ module _ {K : Type 0} (table : Table K) where
   -- a kept text is its own kept text
   pub kept_again : (t kept : List ℕ) → IsKeptText table t kept → IsKeptText table kept kept
   kept_again t kept h = snippet_kept kept (kept_snippet t kept h)
-
-  -- a prefix of a kept text is viable
-  pub kept_prefix : (t kept a b : List ℕ) → IsKeptText table t kept → kept ≡ a ++ b → IsViable table a
-  kept_prefix t kept a b h e = viable_prefix a b (subst (IsViable table) e (snippet_viable kept (kept_snippet t kept h)))

@@ -1,4 +1,3 @@
-pub mod AutomatonKeeps
 pub mod AutomatonsByTests
 pub mod BothOfTwoTests
 pub mod CharactersBeyondTheTable

@@ -3,6 +3,7 @@ use Rattle.std.proofs.Common.{◌≡◌, ℕ, ◌⊎◌, inl, inr, List, [], ◌
 use Rattle.gabc_patterns.specs.Pattern.{Pattern, Spells}
 use Rattle.gabc_patterns.specs.LongestItems.{Table, Longest, IsItemOf, IsItem, IsSnippet, IsViable}
 use Rattle.gabc_patterns.specs.Derivative.{derivative, possible, rows_after, rows_end, Munch, start, nowhere, within, enter, step, run, is_whole, is_alive}
+use Rattle.gabc_patterns.specs.ItemsRead.{NoneBegins}
 use Rattle.gabc_patterns.proofs.BothOfTwoTests.{append_none}
 use Rattle.gabc_patterns.proofs.RowsAfterACharacter.{possible_from, rows_to, rows_from, rows_end_to, rows_end_from}
 
@@ -26,10 +27,6 @@ Follows table (within rows back) w = GoesOn table rows w ⊎ (Ended rows w × Fo
 abbrev pub Here : {K : Type 0} → Table K → Table K → List ℕ → Type 0
 Here table rows w = (x y : List ℕ) × (w ≡ x ++ y) × Longest (IsItem rows) x y × IsSnippet table y
 
--- no item begins here, not even an empty one
-abbrev pub NotHere : {K : Type 0} → Table K → List ℕ → Type 0
-NotHere rows w = (x y : List ℕ) → w ≡ x ++ y → ¬ IsItem rows x
-
 module _ {K : Type 0} (table : Table K) where
   longest_to : (rows : Table K) (c : ℕ) (x y : List ℕ) → Longest (IsItem rows) (c ∷ x) y → Longest (IsItem (rows_after c rows)) x y
   longest_to rows c x y l = record {
@@ -37,7 +34,7 @@ module _ {K : Type 0} (table : Table K) where
     longest = λ more after e h. l.longest more after e (h.0, rows_from rows h.0 c (x ++ more) h.1);
   }
 
-  longest_from : (rows : Table K) (c : ℕ) (x y : List ℕ) → Longest (IsItem (rows_after c rows)) x y → Longest (IsItem rows) (c ∷ x) y
+  pub longest_from : (rows : Table K) (c : ℕ) (x y : List ℕ) → Longest (IsItem (rows_after c rows)) x y → Longest (IsItem rows) (c ∷ x) y
   longest_from rows c x y l = record {
     has = (l.has.0, rows_from rows l.has.0 c x l.has.1);
     longest = λ more after e h. l.longest more after e (h.0, rows_to rows h.0 c (x ++ more) h.1);
@@ -52,12 +49,12 @@ module _ {K : Type 0} (table : Table K) where
   here_from : (rows : Table K) (c : ℕ) (w : List ℕ) → Here table (rows_after c rows) w → GoesOn table rows (c ∷ w)
   here_from rows c w (x, y, e, l, s) = (c, x, y, ap (λ (u : List ℕ). c ∷ u) e, longest_from rows c x y l, s)
 
-  not_here_to : (rows : Table K) (c : ℕ) (w : List ℕ) → Ended rows (c ∷ w) → NotHere (rows_after c rows) w
+  not_here_to : (rows : Table K) (c : ℕ) (w : List ℕ) → Ended rows (c ∷ w) → NoneBegins (rows_after c rows) w
   not_here_to rows c w h x y e i =
       let f = h (c ∷ x) y (ap (λ (u : List ℕ). c ∷ u) e) (i.0, rows_from rows i.0 c x i.1) in
       absurd (cc)
 
-  not_here_from : (rows : Table K) (c : ℕ) (w : List ℕ) → NotHere (rows_after c rows) w → Ended rows (c ∷ w)
+  not_here_from : (rows : Table K) (c : ℕ) (w : List ℕ) → NoneBegins (rows_after c rows) w → Ended rows (c ∷ w)
   not_here_from rows c w h [] y e i = refl
   not_here_from rows c w h (d ∷ x) y e i =
       let ed : d ≡ c = cc in
@@ -66,7 +63,7 @@ module _ {K : Type 0} (table : Table K) where
 
   -- an item that may end here
   ends_to : (rows : Table K) (back : Munch K) (w : List ℕ) (b : Bool) → rows_end rows ≡ b
-      → Here table rows w ⊎ (NotHere rows w × Follows table back w) → Follows table (within rows (cond b start back)) w
+      → Here table rows w ⊎ (NoneBegins rows w × Follows table back w) → Follows table (within rows (cond b start back)) w
   ends_to rows back w b e (inl ((d ∷ x), y, f, l, s)) = inl (d, x, y, f, l, s)
   ends_to rows back w true e (inl ([], y, f, l, s)) =
       inr ((λ x z g i. l.longest x z (sym f ∙ g) i), subst (IsSnippet table) (sym f) s)
@@ -75,20 +72,20 @@ module _ {K : Type 0} (table : Table K) where
   ends_to rows back w false e (inr h) = inr ((λ x y f i. absurd (h.0 x y f i)), h.1)
 
   ends_from : (rows : Table K) (back : Munch K) (w : List ℕ) (b : Bool) → rows_end rows ≡ b
-      → Follows table (within rows (cond b start back)) w → Here table rows w ⊎ (NotHere rows w × Follows table back w)
+      → Follows table (within rows (cond b start back)) w → Here table rows w ⊎ (NoneBegins rows w × Follows table back w)
   ends_from rows back w b e (inl (d, x, y, f, l, s)) = inl ((d ∷ x), y, f, l, s)
   ends_from rows back w true e (inr h) =
       inl ([], w, refl, record { has = rows_end_from rows e; longest = λ more after f i. h.0 more after f i }, h.1)
   ends_from rows back w false e (inr h) = inr ((λ x y f i. let g : rows_end rows ≡ true = rows_end_to rows i.0 (subst (IsItemOf rows i.0) (h.0 x y f i) i.1) in absurd (cc)), h.1)
 
   enter_to : (rows : Table K) (back : Munch K) (w : List ℕ)
-      → Here table rows w ⊎ (NotHere rows w × Follows table back w) → Follows table (enter rows back) w
+      → Here table rows w ⊎ (NoneBegins rows w × Follows table back w) → Follows table (enter rows back) w
   enter_to [] back w (inl h) = absurd (let l = h.3 in l.has.1)
   enter_to [] back w (inr h) = h.1
   enter_to (row ∷ rows) back w h = ends_to (row ∷ rows) back w (rows_end (row ∷ rows)) refl h
 
   enter_from : (rows : Table K) (back : Munch K) (w : List ℕ)
-      → Follows table (enter rows back) w → Here table rows w ⊎ (NotHere rows w × Follows table back w)
+      → Follows table (enter rows back) w → Here table rows w ⊎ (NoneBegins rows w × Follows table back w)
   enter_from [] back w h = inr ((λ x y e i. i.1), h)
   enter_from (row ∷ rows) back w h = ends_from (row ∷ rows) back w (rows_end (row ∷ rows)) refl h
 

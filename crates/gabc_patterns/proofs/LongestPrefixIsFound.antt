@@ -1,5 +1,5 @@
 -- The longest prefix of a text that is of some kind is found character by character.
-use Rattle.std.proofs.Common.{◌≡◌, ◌≤◌, ◌<◌, ◌⊎◌, inl, inr, ℕ, ◌+◌, List, [], ◌∷◌, ◌++◌, length, take, encode_utf8_all, refl, sym, ap, subst, ◌∙◌, arith, IsUtf8, append-nil, append_assoc, length-append, Bool, true, ◌&&◌}
+use Rattle.std.proofs.Common.{◌≡◌, ◌≤◌, ◌⊎◌, inl, inr, ℕ, ◌+◌, List, [], ◌∷◌, ◌++◌, length, take, encode_utf8_all, refl, sym, ap, subst, ◌∙◌, arith, IsUtf8, append-nil, append_assoc, length-append, Bool, true, ◌&&◌}
 use Rattle.std.specs.Char.{len_utf8}
 use Rattle.std.specs.Str.{chars, IsCharBoundary}
 use Rattle.std.specs.String.Boundary.{IsSplitPoint}
@@ -11,7 +11,7 @@ use Rattle.gabc_patterns.proofs.BothOfTwoTests.{and_true, append_none}
 use Rattle.gabc_patterns.proofs.LongestPrefixIsOne.{compare}
 
 -- a text that begins another one ends before a character of it, or goes on after that
-begins_or_goes_on : (t rest y : List ℕ) (c : ℕ) (m : List ℕ) → t ++ rest ≡ y ++ c ∷ m → ((q : List ℕ) × (y ≡ t ++ q)) ⊎ ((u : List ℕ) × (t ≡ y ++ c ∷ u) × (u ++ rest ≡ m))
+pub begins_or_goes_on : (t rest y : List ℕ) (c : ℕ) (m : List ℕ) → t ++ rest ≡ y ++ c ∷ m → ((q : List ℕ) × (y ≡ t ++ q)) ⊎ ((u : List ℕ) × (t ≡ y ++ c ∷ u) × (u ++ rest ≡ m))
 begins_or_goes_on t rest y c m e = by (compare t y rest (c ∷ m) e)
   where
     by : ((q : List ℕ) × (y ≡ t ++ q) × (rest ≡ q ++ c ∷ m)) ⊎ ((q : List ℕ) × (t ≡ y ++ q) × (c ∷ m ≡ q ++ rest)) → ((q : List ℕ) × (y ≡ t ++ q)) ⊎ ((u : List ℕ) × (t ≡ y ++ c ∷ u) × (u ++ rest ≡ m))
@@ -25,7 +25,7 @@ bytes_append a b = ap (λ (l : List ℕ). length l) (encodes-append a b) ∙ len
 pub bytes_more : (y : List ℕ) (c : ℕ) → length (encode_utf8_all (y ++ c ∷ [])) ≡ length (encode_utf8_all y) + len_utf8 c
 bytes_more y c = bytes_append y (c ∷ []) ∙ ap (λ (n : ℕ). length (encodes y) + n) (ap (λ (l : List ℕ). length l) (append-nil (encode c)) ∙ length-encode c)
 
-scalars_parts : (a b : List ℕ) → scalars (a ++ b) ≡ true → (scalars a ≡ true) × (scalars b ≡ true)
+pub scalars_parts : (a b : List ℕ) → scalars (a ++ b) ≡ true → (scalars a ≡ true) × (scalars b ≡ true)
 scalars_parts [] b e = (refl, e)
 scalars_parts (c ∷ a) b e = (let h = and_true (scalar c) (scalars (a ++ b)) e in let g = scalars_parts a b h.1 in (ap (λ (s : Bool). s && scalars a) h.0 ∙ g.0, g.1))
 

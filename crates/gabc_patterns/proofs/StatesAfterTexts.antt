@@ -2,7 +2,7 @@
 use Rattle.std.proofs.Common.{◌≡◌, ℕ, List, [], ◌∷◌, ◌++◌, true, false, refl, sym, ap, ◌∙◌, subst, Option, Some, None}
 use Rattle.gabc_patterns.specs.LongestItems.{Table, IsSnippet, IsViable}
 use Rattle.gabc_patterns.specs.Derivative.{Munch, start, nowhere, step, run, is_whole, is_alive, is_snippet}
-use Rattle.gabc_patterns.proofs.LongestMunchByCharacter.{viable_to, viable_from, snippet_to, snippet_from}
+use Rattle.gabc_patterns.proofs.LongestMunchByCharacter.{viable_to, snippet_to, snippet_from}
 use Rattle.gabc_patterns.proofs.AutomatonsByTests.{Automaton, reading, reading_of, ReadsSnippets}
 
 -- where the reading stands after two texts
@@ -35,10 +35,6 @@ module _ {K S C : Type 0} (table : Table K) (a : Automaton K S C) (r : ReadsSnip
       let f = viable_to table r.none_empty (t ++ c ∷ []) v in
       let x : false ≡ true = subst (λ m. is_alive m ≡ true) (after_char s t c None h e) f in
       absurd (cc)
-
-  -- a text with a state is viable
-  pub viable_at : (s : S) (t : List ℕ) → Stands table a s t → IsViable table t
-  viable_at s t h = viable_from table r.none_empty t (subst (λ m. is_alive m ≡ true) h.reads (r.alive s))
 
   -- whether the text is a snippet is read off the state
   pub whole_is : (s : S) (t : List ℕ) → Stands table a s t → is_snippet table t ≡ a.whole s

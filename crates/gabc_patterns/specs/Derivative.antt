@@ -93,8 +93,8 @@ abbrev pub end_kind : {K : Type 0} → Table K → Option K
 end_kind [] = None
 end_kind (row ∷ rows) = cond (may_end row.1) (Some row.0) (end_kind rows)
 
--- Where the reading of a text stands: at the start of an item; in an item whose rows may go on so, and where it stands
--- if that item ended at its longest so far; or nowhere.
+-- Where the reading of a text stands: at the start of an item; in an item whose rows may go on so,
+-- and where it stands if that item ended at its longest so far; or nowhere.
 pub data Munch (K : Type 0) : Type 0 where
   start nowhere : Munch K
   within : Table K → Munch K → Munch K

@@ -8,7 +8,8 @@ abbrev pub best_of : {K : Type 0} → Option K → ℕ → Option (K × ℕ) →
 best_of None n best = best
 best_of (Some k) n best = Some (k, n)
 
--- the longest item with n characters before t, where these rows may go on so, and best is the longest before
+-- the longest item with n characters before t, where these rows may go on so, and best is the
+-- longest before
 abbrev pub longest_from : {K : Type 0} → Table K → ℕ → Option (K × ℕ) → List ℕ → Option (K × ℕ)
 longest_from rows n best [] = best
 longest_from rows n best (c ∷ t) = longest_from (rows_after c rows) (n + 1) (best_of (end_kind (rows_after c rows)) (n + 1) best) t

@@ -2,7 +2,8 @@
 use Rattle.std.specs.Prelude.{◌≡◌, ℕ, ◌⊎◌, List, [], ◌∷◌, ◌++◌}
 use Rattle.gabc_patterns.specs.LongestItems.{Table, Longest, IsSnippet, IsViable}
 
--- all is kept, then the characters of the text that are kept: each one, exactly if what is kept before it, followed by it, is viable
+-- all is kept, then the characters of the text that are kept: each one, exactly if what is kept
+-- before it, followed by it, is viable
 abbrev pub Keeps : {K : Type 0} → Table K → List ℕ → List ℕ → List ℕ → Type 0
 Keeps rows kept [] all = all ≡ kept
 Keeps rows kept (c ∷ t) all =

@@ -20,7 +20,8 @@ IsItemOf (row ∷ rows) k t = ((row.0 ≡ k) × Spells row.1 t) ⊎ IsItemOf row
 abbrev pub HasSome : {K X : Type 0} → (K → List X → Type 0) → List X → Type 0
 HasSome {K} Has t = (k : K) × Has k t
 
--- these items, each a kind and what it takes, make up the list, and each is the longest item that begins at its place
+-- these items, each a kind and what it takes, make up the list, and each is the longest item that
+-- begins at its place
 abbrev pub IsReadingBy : {K X : Type 0} → (K → List X → Type 0) → List (K × List X) → List X → Type 0
 IsReadingBy Has [] t = t ≡ []
 IsReadingBy {K} {X} Has (i ∷ is) t = (rest : List X) × (t ≡ i.1 ++ rest) × Has i.0 i.1 × Longest (HasSome Has) i.1 rest × IsReadingBy Has is rest

@@ -1,6 +1,7 @@
 //! The laws of patterns and of tables, each the contract of a function that does nothing.
 //!
-//! A law of tables holds for rows of any type `K` of kinds. `¬ IsItem rows []` says that no row spells the empty text.
+//! A law of tables holds for rows of any type `K` of kinds. `¬ IsItem rows []` says that no row
+//! spells the empty text.
 
 ghost use Rattle.std.specs.Prelude.{◌≡◌, ◌↔◌, ℕ, List, [], ◌∷◌, ◌++◌, map, Decides};
 ghost use Rattle.gabc_patterns.specs.Pattern.{Pattern, Spells};
@@ -10,7 +11,8 @@ ghost use Rattle.gabc_patterns.specs.Kept.{Keeps, Trims, IsKeptText};
 ghost use Rattle.gabc_patterns.specs.Derivative.{may_end, derivative, is_snippet, is_viable};
 ghost use Rattle.gabc_patterns.specs.Function.{items, keep, more_kept, trim, kept_text};
 
-/// The derivative of a pattern spells what may follow a character, and a test tells whether it spells the empty text.
+/// Law: the derivative of a pattern spells what may follow a character, and a test tells whether it
+/// spells the empty text.
 pub fn derivative_spells_what_follows()
     ensures to { (p : Pattern) (c : ℕ) (t : List ℕ) → Spells p (c ∷ t) → Spells (derivative c p) t }
     ensures from { (p : Pattern) (c : ℕ) (t : List ℕ) → Spells (derivative c p) t →
@@ -18,13 +20,14 @@ pub fn derivative_spells_what_follows()
     ensures end { (p : Pattern) → Decides (may_end p) (Spells p []) }
 {}
 
-/// Two longest items that begin at one place are one.
+/// Law: two longest items that begin at one place are one.
 pub fn longest_is_one<K>()
     ensures { (rows : Table K) (a b x y : List ℕ) → a ++ x ≡ b ++ y → Longest (IsItem rows) a x →
         Longest (IsItem rows) b y → (a ≡ b) × (x ≡ y) }
 {}
 
-/// Two readings of a text cut it alike, and are one if no text is spelled by rows of two kinds.
+/// Law: two readings of a text cut it alike, and are one if no text is spelled by rows of two
+/// kinds.
 pub fn reading_is_one<K>()
     ensures texts { (rows : Table K) → ¬ IsItem rows [] → (is js : List (K × List ℕ)) (t : List ℕ) →
         IsReading rows is t → IsReading rows js t → map (λ i. i.1) is ≡ map (λ i. i.1) js }
@@ -33,7 +36,8 @@ pub fn reading_is_one<K>()
         IsReading rows js t → is ≡ js }
 {}
 
-/// Reading by derivatives, with the fallback run in parallel, decides which texts are snippets and which are viable.
+/// Law: reading by derivatives, with the fallback run in parallel, decides which texts are snippets
+/// and which are viable.
 pub fn derivatives_decide<K>()
     ensures snippet { (rows : Table K) → ¬ IsItem rows [] → (t : List ℕ) →
         Decides (is_snippet rows t) (IsSnippet rows t) }
@@ -41,14 +45,14 @@ pub fn derivatives_decide<K>()
         Decides (is_viable rows t) (IsViable rows t) }
 {}
 
-/// The function `items` reads each snippet.
+/// Law: the function `items` reads each snippet.
 pub fn items_read<K>()
     ensures { (rows : Table K) → ¬ IsItem rows [] → (t : List ℕ) → IsSnippet rows t →
         IsReading rows (items rows t) t }
 {}
 
-/// A text has one list of items that reads it as far as an item begins, if no text is spelled by rows of two kinds, and the function `items`
-/// gives such a list. A snippet is read to its end.
+/// Law: a text has one list of items that reads it as far as an item begins, if no text is spelled
+/// by rows of two kinds, and the function `items` gives such a list. A snippet is read to its end.
 pub fn items_read_as_far_as_one_begins<K>()
     ensures items { (rows : Table K) → ¬ IsItem rows [] → (t : List ℕ) →
         (rest : List ℕ) × ReadsTo rows (items rows t) t rest }
@@ -59,7 +63,8 @@ pub fn items_read_as_far_as_one_begins<K>()
         IsReading rows is t ↔ ReadsTo rows is t [] }
 {}
 
-/// The functions `keep`, `trim` and `kept_text` give what the relations say, and nothing else is so related.
+/// Law: the functions `keep`, `trim` and `kept_text` give what the relations say, and nothing else
+/// is so related.
 pub fn kept_is_computed<K>()
     ensures keeps { (rows : Table K) → ¬ IsItem rows [] → (t all : List ℕ) → Keeps rows [] t all →
         all ≡ keep rows t }
@@ -74,20 +79,21 @@ pub fn kept_is_computed<K>()
         IsKeptText rows t (kept_text rows t) }
 {}
 
-/// What is kept of a prefix of a text stays kept, whatever follows; what is kept after it depends on what was kept of it.
+/// Law: what is kept of a prefix of a text stays kept, whatever follows; what is kept after it
+/// depends on what was kept of it.
 pub fn kept_prefix_stays<K>()
     ensures { (rows : Table K) (s t : List ℕ) →
         keep rows (s ++ t) ≡ keep rows s ++ more_kept rows (keep rows s) t }
 {}
 
-/// A viable text is kept whole; a snippet is its own longest prefix and its own kept text.
+/// Law: a viable text is kept whole; a snippet is its own longest prefix and its own kept text.
 pub fn viable_text_is_kept<K>()
     ensures keeps { (rows : Table K) (t : List ℕ) → IsViable rows t → Keeps rows [] t t }
     ensures trims { (rows : Table K) (t : List ℕ) → IsSnippet rows t → Trims rows t t }
     ensures is_kept_text { (rows : Table K) (t : List ℕ) → IsSnippet rows t → IsKeptText rows t t }
 {}
 
-/// What is kept is kept again, whole; so is a kept text, and it is a snippet.
+/// Law: what is kept is kept again, whole; so is a kept text, and it is a snippet.
 pub fn kept_text_is_kept_again<K>()
     ensures keeps { (rows : Table K) (t all : List ℕ) → Keeps rows [] t all →
         Keeps rows [] all all }
@@ -97,7 +103,7 @@ pub fn kept_text_is_kept_again<K>()
         IsSnippet rows kept }
 {}
 
-/// Each prefix of what is kept is viable.
+/// Law: each prefix of what is kept is viable.
 pub fn prefixes_of_kept_are_viable<K>()
     ensures { (rows : Table K) (t all prefix rest : List ℕ) → Keeps rows [] t all →
         all ≡ prefix ++ rest → IsViable rows prefix }

@@ -1,11 +1,8 @@
 -- Calls one behind the other: which are late, and whether an end goes on.
-use Rattle.std.proofs.Common.{◌≡◌, Bool, true, false, ◌||◌, if◌then◌else◌, ℕ, ◌+◌, ◌<◌, ◌==◌, ◌&&◌, not, arith, refl, ap, ◌∙◌}
+use Rattle.std.proofs.Common.{◌≡◌, Bool, true, false, if◌then◌else◌, ℕ, ◌+◌, ◌<◌, ◌==◌, ◌&&◌, not, arith, refl, ap, ◌∙◌}
 use Rattle.std.proofs.lemmas.Bool.Decides.{nat_tests}
+use Rattle.std.proofs.Math.Bool.{or-false}
 use Rattle.gabc_places.specs.Calls.{Calls, NoneLate, GoesOn, FailsOnce, is_end, behind_answer, behind_failure}
-
-or_false : (b : Bool) → (b || false) ≡ b
-or_false true = refl
-or_false false = refl
 
 in_time : (b : Bool) (late : ℕ) → b ≡ false → (if b then late + 1 else late) ≡ late
 in_time true late h = cc
@@ -16,7 +13,7 @@ in_time false late h = refl
 pub answered : (old new : Calls) → new ≡ behind_answer false old → GoesOn old new
 answered old new h = record {
   failures = ap (λ (c : Calls). c.failures) h;
-  is_stopped = ap (λ (c : Calls). c.is_stopped) h ∙ or_false old.is_stopped;
+  is_stopped = ap (λ (c : Calls). c.is_stopped) h ∙ or-false old.is_stopped;
   none_late = λ runs. ap (λ (c : Calls). c.late) h ∙ in_time old.is_stopped old.late runs;
 }
 

@@ -9,6 +9,8 @@ pub mod GatheredOfAText
 mod Lent
 pub mod LimitsAreNumbers
 pub mod NothingBehindAnEnd
+pub mod NumbersByTests
+pub mod PlacesInOrder
 pub mod PlacesOfAText
 pub mod PushesAreOne
 pub mod TakenInTurn

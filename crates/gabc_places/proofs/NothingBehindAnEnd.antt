@@ -1,6 +1,7 @@
 -- Behind an output that ends a stage, several calls give nothing, as each of them does.
 use Rattle.std.proofs.Common.{ℕ, List, [], ◌∷◌, ◌++◌, ◌≡◌, ◌||◌, ◌⊎◌, inl, inr, Bool, true, false, refl, ap, sym, ◌∙◌, append_assoc}
 use Rattle.std.proofs.lemmas.List.{append_cancel_left}
+use Rattle.std.proofs.Math.Bool.{or-true}
 use Rattle.std.specs.List.{list_any}
 use Rattle.gabc_places.specs.BoundedList.{BoundedList, extended_by}
 use Rattle.gabc_places.specs.StageLaw.{concat_of, Pushes, Finishes, EmitsNothing, StopsAtEnd}
@@ -25,13 +26,9 @@ where_it_lies (y ∷ a) c (z ∷ before) behind x e = by (where_it_lies a c befo
     by (inl i) = let e1 = i.first_is in inl (record { left = i.left; first_is = cc; behind_is = i.behind_is })
     by (inr i) = inr (record { left = i.left; second_is = i.second_is })
 
-empty_prefix : {T : Type 0} (a b : List T) → a ++ b ≡ [] → a ≡ []
-empty_prefix [] b e = refl
-empty_prefix (x ∷ a) b e = absurd (cc)
-
-empty_back : {T : Type 0} (a b : List T) → a ++ b ≡ [] → b ≡ []
-empty_back [] b e = e
-empty_back (x ∷ a) b e = absurd (cc)
+pub both_empty : {T : Type 0} (a b : List T) → a ++ b ≡ [] → (a ≡ []) × (b ≡ [])
+both_empty [] b e = (refl, e)
+both_empty (x ∷ a) b e = absurd (cc)
 
 items_of : {T : Type 0} (r t : BoundedList T) → r ≡ t → r.items ≡ t.items
 items_of r t e = ap (λ h. h.items) e
@@ -56,14 +53,14 @@ stops-both {I} {O} ends mid after r s t a b se te over first second before behin
 nothing-pushed : {I O : Type 0} (mid after : List I → List (List O)) (x : I) (most : ℕ) (s t : BoundedList O) (g : Pushes mid after x most s t)
     → EmitsNothing mid → (g.events ≡ []) × EmitsNothing after
 nothing-pushed mid after x most s t g none = (
-  empty_prefix g.events (concat_of (after [])) (sym (ap concat_of (g.law [])) ∙ none (x ∷ [])),
-  λ xs. empty_back g.events (concat_of (after xs)) (sym (ap concat_of (g.law xs)) ∙ none (x ∷ xs)),
+  (both_empty g.events (concat_of (after [])) (sym (ap concat_of (g.law [])) ∙ none (x ∷ []))).0,
+  λ xs. (both_empty g.events (concat_of (after xs)) (sym (ap concat_of (g.law xs)) ∙ none (x ∷ xs))).1,
 )
 
 -- and at its end
 nothing-ended : {I O : Type 0} (mid after : List I → List (List O)) (most : ℕ) (s t : BoundedList O) (g : Finishes mid most s t)
     → EmitsNothing after → EmitsNothing mid → (g.events ≡ []) × EmitsNothing after
-nothing-ended mid after most s t g over none = (empty_prefix g.events [] (sym (ap concat_of g.law) ∙ none []), over)
+nothing-ended mid after most s t g over none = ((both_empty g.events [] (sym (ap concat_of g.law) ∙ none [])).0, over)
 
 -- pushes of all of some inputs, and then a push
 pub stops-pushed : {I O : Type 0} {before mid after : List I → List (List O)} {xs : List I} {x : I} {most more : ℕ} {r s t : BoundedList O} (ends : O → Bool)
@@ -80,10 +77,6 @@ stops-ended {mid = mid} {more = more} {r = r} {s = s} {t = t} ends after all g o
     stops-both ends mid after r s t (concat_of all.events) g.events all.out g.out (nothing-ended mid after more s t g over) first second
 
 -- ---- for the proof of a stage: what a call gives has no end, or has it last
-
-or-true : (b : Bool) → (b || true) ≡ true
-or-true true = refl
-or-true false = refl
 
 has_end : {O : Type 0} (ends : O → Bool) (before behind : List O) (x : O) → ends x ≡ true → list_any ends (before ++ x ∷ behind) ≡ true
 has_end ends [] behind x e = ap (λ b. b || list_any ends behind) e

@@ -4,8 +4,6 @@ pub mod AByteIsTaken
 pub mod BytesAreDecoded
 pub mod PlainTextsAreReadAgain
 pub mod PrefixesAreRead
-pub mod SkippedBytesAreJoined
-pub mod PrintableBytesAreSkipped
 pub mod DecodersAgree
 pub mod TextsAreEmitted
 pub mod TextsAreSkipped

@@ -1,8 +1,8 @@
 -- How the calls of a source or a sink went.
 use Rattle.std.specs.Prelude.{◌≡◌, ℕ, ◌+◌, ◌==◌, Bool, true, false, not, ◌&&◌, ◌||◌, if◌then◌else◌, Result, MatchResult}
 
--- How many calls came; how many of them failed; whether one of them failed or told the end, so that this end is stopped; and how many
--- were late: they came when it was stopped.
+-- How many calls came; how many of them failed; whether one of them failed or told the end, so that
+-- this end is stopped; and how many were late: they came when it was stopped.
 pub record Calls : Type 0 where
   pub made : ℕ
   pub failures : ℕ

@@ -7,8 +7,9 @@ pub record StagePair (A B : Type 0) : Type 0 where
   pub first : A
   pub second : B
 
--- What the second stage emits, by the inputs of the first: of each input, what it emits for all that the first emitted then; of
--- the end, what is left. `counts` has how many the first emits for each input, `lists` what the second emits for each of those.
+-- What the second stage emits, by the inputs of the first: of each input, what it emits for all
+-- that the first emitted then; of the end, what is left. `counts` has how many the first emits for
+-- each input, `lists` what the second emits for each of those.
 abbrev pub events_by_input : {I O : Type 0} → List I → List ℕ → List (List O) → List (List O)
 events_by_input [] counts lists = concat_of lists ∷ []
 events_by_input (x ∷ xs) [] lists = [] ∷ events_by_input xs [] lists

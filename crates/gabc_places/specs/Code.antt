@@ -34,7 +34,8 @@ rank_of F5 = 23
 rank_of F6 = 24
 rank_of F7 = 25
 
--- of each row of the table, in the order of the ranks: how grave the code is, its name in messages, what a message says of it
+-- of each row of the table, in the order of the ranks: how grave the code is, its name in messages,
+-- what a message says of it
 abbrev pub severity_of : Code → Severity
 severity_of code = slice_index_or (map (λ row. row.0) CODES) (rank_of code - 1) Fatal
 

@@ -6,8 +6,9 @@ use Rattle.gabc_places.specs.declared.place.Char.{Char}
 use Rattle.gabc_places.specs.declared.code.Fault.{Fault}
 use Rattle.gabc_places.specs.Place.{place_after}
 
--- what a decoder holds: the limit and the bytes taken so far, the place of the next character, the bytes of a character that is
--- not whole yet, and the character before it (0 where there is none, or where it is only known to be no CR)
+-- what a decoder holds: the limit and the bytes taken so far, the place of the next character, the
+-- bytes of a character that is not whole yet, and the character before it (0 where there is none,
+-- or where it is only known to be no CR)
 pub record DecoderState : Type 0 where
   pub limit : ℕ
   pub taken : ℕ
@@ -27,8 +28,8 @@ pub record IsWrong (bs : List ℕ) : Type 0 where
   pub size : ℕ
   pub fault : utf8_error_len bs ≡ Some size
 
--- Where the next character can stand behind so many bytes, of which the last `pending` are a part of it: each byte before brings it on by a line
--- or a column, if at all.
+-- Where the next character can stand after so many bytes, of which the last `pending` are a part of
+-- it: each byte before brings it on by a line or a column, if at all.
 pub record IsReached (place : Place) (pending taken : ℕ) : Type 0 where
   pub line : 1 ≤ place.line
   pub column : 1 ≤ place.column

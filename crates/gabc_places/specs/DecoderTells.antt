@@ -11,8 +11,8 @@ use Rattle.gabc_places.specs.TextOfAnInput.{IsTextCharacter}
 abbrev pub is_after_cr : DecoderState → Bool
 is_after_cr s = not (is_unfinished s.pending) && (s.previous == 13)
 
--- Two decoders tell the same: how many bytes they took, where the next character stands, the bytes of one that is not whole, and whether a CR
--- stands directly before the next byte.
+-- Two decoders tell the same: how many bytes they took, where the next character stands, the bytes
+-- of one that is not whole, and whether a CR stands directly before the next byte.
 pub record TellTheSame (one other : DecoderState) : Type 0 where
   pub taken : one.taken ≡ other.taken
   pub place : one.place ≡ other.place
@@ -33,7 +33,7 @@ resumed limit taken place pending cr = record { limit = limit; taken = taken; pl
 
 -- ---- a byte
 
--- the next character stands behind the one that is whole
+-- the next character stands after the one that is whole
 abbrev pub moved_place : List (Result Char Fault) → Place → Place
 moved_place [] p = p
 moved_place (Ok x ∷ items) p = next_place x.place x.c
@@ -69,7 +69,8 @@ EndALine [] = ⊥
 EndALine (Ok x ∷ items) = x.c ≡ 10
 EndALine (Err fault ∷ items) = ⊥
 
--- With a byte, at which these came, a decoder goes on under its limit. Where a CR stands directly before the next byte then, this byte was the CR.
+-- With a byte, at which these came, a decoder goes on under its limit. Where a CR stands directly
+-- before the next byte then, this byte was the CR.
 pub record MovesOn (old : DecoderState) (items : List (Result Char Fault)) (new : DecoderState) : Type 0 where
   pub limit : new.limit ≡ old.limit
   pub taken : AreCounted items old.taken new.taken

@@ -34,7 +34,7 @@ module _ {X : Type 0} where
   pub filled_len_both : (buf : List X) (at : ℕ) (a b : List X) → filled_len (filled buf at a) (filled_len buf at a) b ≡ filled_len buf at (a ++ b)
   filled_len_both buf at a b = omega (arith, filled_length buf at a, length-append a b)
 
-  -- behind its end it takes nothing
+  -- after its end it takes nothing
   past_end : (buf : List X) (at : ℕ) (a : List X) → length buf ≤ at → filled buf at a ≡ buf
   past_end buf at a le =
       let no_room : length buf - at ≡ 0 = omega arith in

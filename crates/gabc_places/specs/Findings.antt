@@ -1,4 +1,5 @@
--- Findings and stops with the points at which they become known. A point is an index into the text; its length is the end.
+-- Findings and stops with the points at which they become known. A point is an index into the text;
+-- its length is the end.
 use Rattle.std.specs.Prelude.{◌≡◌, ℕ, ◌<◌, ◌≤◌, ◌==◌, ◌||◌, ◌&&◌, nat_lt, List, [], ◌∷◌, map, filter, if◌then◌else◌, Option, None, Some, ◌⊎◌}
 use Rattle.gabc_places.specs.declared.code.Finding.{Finding}
 use Rattle.gabc_places.specs.declared.place.Place.{Place}

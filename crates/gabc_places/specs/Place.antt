@@ -7,11 +7,12 @@ use Rattle.gabc_places.specs.declared.place.Char.{Char}
 abbrev pub is_line_feed : ℕ → Bool
 is_line_feed c = c == 10
 
--- the place behind the text: its line is 1 plus the LFs of the text, its column 1 plus the characters since the last of them
+-- the place after the text: its line is 1 plus the LFs of the text, its column 1 plus the
+-- characters since the last of them
 abbrev pub place_after : List ℕ → Place
 place_after text = record { line = 1 + count_by is_line_feed text; column = 1 + length (after_last is_line_feed text) }
 
--- the place behind a character that stands at p
+-- the place after a character that stands at p
 abbrev pub next_place : Place → ℕ → Place
 next_place p c = if is_line_feed c then record { line = p.line + 1; column = 1 } else record { line = p.line; column = p.column + 1 }
 
@@ -29,7 +30,7 @@ placed_characters_behind prefix (c ∷ cs) = record { c = c; place = place_after
 abbrev pub placed_characters : List ℕ → List Char
 placed_characters text = placed_characters_behind [] text
 
--- the place behind a text that begins at p
+-- the place after a text that begins at p
 abbrev pub place_past : Place → List ℕ → Place
 place_past p [] = p
 place_past p (c ∷ cs) = place_past (next_place p c) cs

@@ -12,7 +12,7 @@ pub record LiesBefore (next p : Place) : Type 0 where
   pub in_64_bits : p.column < 2 ^ 64
   pub earlier : IsEarlier p next
 
--- of two places the second stands behind the first, where both are there
+-- of two places the second stands after the first, where both are there
 abbrev pub AreInOrder : Option Place → Option Place → Type 0
 AreInOrder (Some p) (Some q) = IsEarlier p q
 AreInOrder _ _ = Unit {0}

@@ -53,7 +53,8 @@ text_of_characters cs = map (λ (p : ℕ × ℕ). read_as p.1) (filter (λ (p : 
 abbrev pub text_of_bytes : ℕ → List ℕ → List ℕ
 text_of_bytes limit bytes = text_of_characters (utf8_prefix_of (take limit bytes))
 
--- What stops it: bytes that begin no character; else more bytes than the limit; else an unfinished character, where the source ended.
+-- What stops it: bytes that begin no character; else more bytes than the limit; else an unfinished
+-- character, where the source ended.
 abbrev pub stop_code_of : Bool → Bool → Tail → Option Code
 stop_code_of over ended Wrong = Some F1
 stop_code_of over ended Nothing = if over then Some F7 else None

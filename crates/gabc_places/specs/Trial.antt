@@ -2,14 +2,16 @@
 use Rattle.std.specs.Prelude.{ℕ, ◌-◌, min, List, length, Option, Some, None}
 use Rattle.gabc_places.specs.Calls.{Calls}
 
--- a source that has these bytes left, gives at most `most` a read, and fails behind so many bytes more, if it is told to
+-- a source that has these bytes left, gives at most `most` a read, and fails after so many bytes
+-- more, if it is told to
 pub record SourceState : Type 0 where
   pub rest : List ℕ
   pub most : ℕ
   pub fails_after : Option ℕ
   pub calls : Calls
 
--- a sink that holds these bytes, takes at most `most` a write, and fails where it holds `fails_at` and is given more
+-- a sink that holds these bytes, takes at most `most` a write, and fails where it holds `fails_at`
+-- and is given more
 pub record SinkState : Type 0 where
   pub held : List ℕ
   pub most : ℕ

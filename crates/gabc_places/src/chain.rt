@@ -1,6 +1,7 @@
 //! Two stages as one.
 //!
-//! What the first stage emits for one input waits in a room between the two. The caller gives that room, so that no call of a chain asks for memory.
+//! What the first stage emits for one input waits in a room between the two. The caller gives that
+//! room, so that no call of a chain asks for memory.
 
 ghost use Rattle.std.specs.Prelude.{◌≡◌, ℕ, ◌+◌, ◌*◌, ◌^◌, ◌<◌, ◌≤◌, length};
 ghost use Rattle.gabc_places.specs.BoundedList.{Fits};
@@ -11,7 +12,8 @@ ghost use Rattle.gabc_places.specs.Chain.{chain_events};
 use crate::{Room, Stage};
 use std::marker::Model;
 
-/// Passes the events of the first stage to the second. It emits at most `(first.most() + 1) * second.most()` events a call.
+/// Passes the events of the first stage to the second. It emits at most `(first.most() + 1) *
+/// second.most()` events a call.
 #[derive(Drop)]
 pub struct Chain<A: Stage, B: Stage<Input = A::Output>> {
     first: A,
@@ -32,8 +34,8 @@ impl<A: Stage, B: Stage<Input = A::Output>> Model for Chain<A, B> {
 }
 
 impl<A: Stage, B: Stage<Input = A::Output>> Chain<A, B> {
-    /// Returns a chain of `first` and `second`. `between` has to take `first.most()` events, and those that it has are dropped.
-    /// `(first.most() + 1) * second.most()` has to fit a `usize`.
+    /// Returns a chain of `first` and `second`. `between` has to take `first.most()` events, and
+    /// those that it has are dropped. `(first.most() + 1) * second.most()` has to fit a `usize`.
     pub fn new(first: A, second: B, between: Room<A::Output>) -> Chain<A, B>
         requires fits { (A.most_of first + 1) * B.most_of second < 2 ^ 64 }
         requires room { A.most_of first ≤ between.limit }

@@ -6,8 +6,8 @@ use crate::codes::CODES;
 use crate::place::Place;
 use crate::severity::Severity;
 
-/// What is found in an input, or what stops a run. An error tells of a character, a part or a header left out, a warning of something
-/// else. A fatal fault stops the run.
+/// What is found in an input, or what stops a run. An error tells of a character, a part or a
+/// header left out, a warning of something else. A fatal fault stops the run.
 #[derive(Clone, Copy, Debug, PartialEq, Eq)]
 pub enum Code {
     /// A character left out of the notes.

@@ -9,8 +9,9 @@ ghost use Rattle.gabc_places.specs.Place.{placed_characters_from};
 use crate::{Char, Place, Room, Sequence, Stage};
 use std::alloc::{AllocError, Global};
 
-/// Pushes the characters of `text` to `stage`, ends them, and returns all that it emitted, in order. The first character stands at
-/// `at`. It fails only for want of memory: the stage then stands behind some of the characters, or behind their end.
+/// Pushes the characters of `text` to `stage`, ends them, and returns all that it emitted, in
+/// order. The first character stands at `at`. It fails only for want of memory: the stage then
+/// stands after some of the characters, or after their end.
 pub fn outputs_of<S: Stage<Input = Char>>(
     alloc: Global,
     stage: &mut S,

@@ -12,11 +12,13 @@ use crate::text::Text;
 use memchr::memchr;
 use std::alloc::{AllocError, Global};
 
-/// Returns the text of an input's `bytes`, and its fault. `ended` tells that the source ended and did not fail.
+/// Returns the text of an input's `bytes`, and its fault. `ended` tells that the source ended and
+/// did not fail.
 ///
-/// The text is the longest prefix of the bytes that is UTF-8, without U+FEFF, with CR LF and CR as LF. Bytes past
-/// `limits.input` are not read. The fault is F1 at bytes that begin no character, else F7 where there are more bytes than
-/// the limit, else F1 at an unfinished character if the source ended. Its place is behind the text.
+/// The text is the longest prefix of the bytes that is UTF-8, without U+FEFF, with CR LF and CR as
+/// LF. Bytes past `limits.input` are not read. The fault is F1 at bytes that begin no character,
+/// else F7 where there are more bytes than the limit, else F1 at an unfinished character if the
+/// source ended. Its place is after the text.
 pub fn text_of(
     alloc: Global,
     bytes: &[u8],

@@ -3,7 +3,8 @@
 use crate::code::Fault;
 use crate::text::Text;
 
-/// What follows the longest prefix of some bytes that is UTF-8: nothing, a part of a character, or bytes that begin none.
+/// What follows the longest prefix of some bytes that is UTF-8: nothing, a part of a character, or
+/// bytes that begin none.
 #[derive(Clone, Copy)]
 pub(crate) enum Tail {
     Nothing,

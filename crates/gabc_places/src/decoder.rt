@@ -9,11 +9,11 @@ ghost use Rattle.gabc_places.specs.witness.DecoderEvents.{stop_with, take_charac
 ghost use Rattle.gabc_places.specs.DecoderMachine.{IsPartial, IsReached, BeginsLine};
 ghost use Rattle.gabc_places.specs.DecoderTells.{MayBeTold, MovesOn, MovesThrough, is_after_cr, resumed};
 ghost use Rattle.gabc_places.specs.machine.Decoder.{take_part as taken_part};
-ghost use Rattle.gabc_places.specs.Skip.{IsPrintable, most_skipped as most_skipped_by, skipped_events, text_events};
+ghost use Rattle.gabc_places.specs.Skip.{most_skipped as most_skipped_by, text_events};
 ghost use Rattle.std.specs.Str.{chars};
 ghost use Rattle.gabc_places.specs.Place.{place_past, placed_characters_from};
 ghost use Rattle.gabc_places.specs.TextOfAnInput.{IsPlain};
-ghost use Rattle.gabc_places.specs.Text.{utf8_prefix_of, tail_of, is_left_out as left_out_after, read_as as read};
+ghost use Rattle.gabc_places.specs.Text.{is_left_out as left_out_after, read_as as read};
 
 use crate::code::{Code, Fault};
 use crate::decode::{is_partial, prefix_and_tail};
@@ -24,10 +24,12 @@ use crate::{Room, Stage};
 use arrayvec::ArrayVec;
 use std::marker::Model;
 
-/// Reads an input's bytes one at a time: emits each character of the text with its place, and what stops the text. It asks for no memory.
+/// Reads an input's bytes one at a time: emits each character of the text with its place, and what
+/// stops the text. It asks for no memory.
 ///
-/// Together these are the text and the fault of `text_of`. A character is emitted with its last byte, and F7 with the first byte past the
-/// limit. A source that fails is not ended: then an unfinished character is no fault.
+/// Together these are the text and the fault of `text_of`. A character is emitted with its last
+/// byte, and F7 with the first byte past the limit. A source that fails is not ended: then an
+/// unfinished character is no fault.
 #[derive(Drop)]
 pub struct Decoder {
     limit: u32,
@@ -62,14 +64,7 @@ impl Model for Decoder {
     }) };
 }
 
-/// Returns whether `byte` is a printable character of ASCII: from 32, a blank, to 126, `~`.
-pub fn is_printable(byte: u8) -> bool
-    ensures { IsTrue result ↔ IsPrintable byte }
-{
-    32 <= byte && byte <= 126
-}
-
-/// Returns whether `c` is left out behind `previous`: an LF directly after a CR, and each U+FEFF.
+/// Returns whether `c` is left out after `previous`: an LF directly after a CR, and each U+FEFF.
 fn is_left_out(previous: char, c: char) -> bool
     ensures { result ≡ left_out_after (previous, c) }
 {
@@ -83,7 +78,8 @@ fn read_as(c: char) -> char
     if c == '\r' { '\n' } else { c }
 }
 
-/// Returns whether the next character can stand at `place` behind so many bytes, of which the last `pending` are a part of it.
+/// Returns whether the next character can stand at `place` after so many bytes, of which the last
+/// `pending` are a part of it.
 fn is_reached(place: Place, pending: usize, taken: u32) -> bool
     requires { pending < 2 ^ 32 }
     ensures { IsTrue result ↔ IsReached place pending taken }
@@ -115,7 +111,8 @@ fn may_be_told(limit: u32, taken: u32, place: Place, pending: &[u8], after_cr: b
 }
 
 impl Decoder {
-    /// Returns a decoder before the first byte of an input, which reads at most `limits.input` bytes.
+    /// Returns a decoder before the first byte of an input, which reads at most `limits.input`
+    /// bytes.
     pub fn new(limits: Limits) -> Decoder
         ensures fresh { result ≡ fresh_decoder limits.input }
         ensures known { (bytes more : List ℕ) →
@@ -134,10 +131,11 @@ impl Decoder {
         }
     }
 
-    /// Returns a decoder that has taken `taken` bytes under `limits`. The next character stands at `place`, `pending` are the bytes of it that
-    /// have come, and `after_cr` tells whether a CR stands directly before the next byte. Returns `None` where that cannot be: more bytes
-    /// than the limit, a place that so many bytes do not reach, bytes that are not the beginning of one character, a CR with bytes pending
-    /// or not at the end of a line.
+    /// Returns a decoder that has taken `taken` bytes under `limits`. The next character stands at
+    /// `place`, `pending` are the bytes of it that have come, and `after_cr` tells whether a CR
+    /// stands directly before the next byte. Returns `None` where that cannot be: more bytes than
+    /// the limit, a place that so many bytes do not reach, bytes that are not the beginning of one
+    /// character, a CR with bytes pending or not at the end of a line.
     pub fn resume(
         limits: Limits,
         taken: u32,
@@ -168,8 +166,8 @@ impl Decoder {
         })
     }
 
-    /// Takes `byte`, and returns the character that is whole with it, or the fault known by it. After a fault and after the end it
-    /// returns nothing more, and the decoder stays as it is.
+    /// Takes `byte`, and returns the character that is whole with it, or the fault known by it.
+    /// After a fault and after the end it returns nothing more, and the decoder stays as it is.
     pub fn take(&mut self, byte: u8) -> Option<Result<Char, Fault>>
         ensures item { (bytes : List ℕ) → events_left self.old (byte ∷ bytes)
             ≡ option_to_list result ∷ events_left self.new bytes }
@@ -194,8 +192,8 @@ impl Decoder {
         self.take_part(byte)
     }
 
-    /// Ends the input, and returns the fault of a character that is not whole. From then on it returns nothing; else the decoder stays as
-    /// it is.
+    /// Ends the input, and returns the fault of a character that is not whole. From then on it
+    /// returns nothing; else the decoder stays as it is.
     pub fn end(&mut self) -> Option<Result<Char, Fault>>
         ensures item { events_left self.old [] ≡ option_to_list result ∷ [] }
         ensures over { EmitsNothing (events_left self.new) }
@@ -232,7 +230,8 @@ impl Decoder {
         self.pending.as_slice()
     }
 
-    /// Returns whether the last character is a CR directly before the next byte. An LF would be left out there.
+    /// Returns whether the last character is a CR directly before the next byte. An LF would be
+    /// left out there.
     pub fn after_cr(&self) -> bool
         ensures cr { result ≡ is_after_cr self.now }
         ensures begins { result ≡ true → BeginsLine self.now.place }
@@ -240,8 +239,9 @@ impl Decoder {
         self.pending.is_empty() && self.previous == '\r'
     }
 
-    /// Returns how many bytes `skip` and `skip_text` may take now: as many as are left to the limit, or 0 where the decoder has stopped
-    /// or a character is not whole. A column that is counted on for so many characters fits a `u64`.
+    /// Returns how many bytes `skip_text` may take now: as many as are left to the limit, or 0
+    /// where the decoder has stopped or a character is not whole. A column that is counted on for
+    /// so many characters fits a `u64`.
     pub fn most_skipped(&self) -> usize
         ensures most { result ≡ most_skipped_by self.now }
         ensures column { self.now.place.column + result < 2 ^ 64 }
@@ -254,32 +254,10 @@ impl Decoder {
         }
     }
 
-    /// Takes `bytes` at once, as `take` takes them one by one. What it emits for them is known without it: each byte is a character, at
-    /// the next column of this line. Each of `bytes` has to be printable, and there may be at most `most_skipped` of them.
-    pub fn skip(&mut self, bytes: &[u8])
-        requires few { length bytes.now ≤ most_skipped_by self.old }
-        requires printable { All IsPrintable bytes.now }
-        ensures joined { (more : List ℕ) → events_left self.old (bytes.now ++ more)
-            ≡ skipped_events self.old.place bytes.now ++ events_left self.new more }
-        ensures limit { self.new.limit ≡ self.old.limit }
-        ensures taken { self.new.taken ≡ self.old.taken + length bytes.now }
-        ensures line { self.new.place.line ≡ self.old.place.line }
-        ensures column { self.new.place.column ≡ self.old.place.column + length bytes.now }
-        ensures runs { self.new.running ≡ self.old.running }
-        ensures none { bytes.now ≡ [] → self.new ≡ self.old }
-        ensures cr { 0 < length bytes.now → is_after_cr self.new ≡ false }
-    {
-        if let Some(last) = bytes.last() {
-            self.taken += bytes.len() as u32;
-            self.place.column += bytes.len() as u64;
-            self.previous = char::from(*last);
-        }
-    }
-
     /// Takes `text` at once, as `take` takes its bytes one by one. What it emits for them is known
     /// without it: each character with its last byte, and nothing with each other byte. `text` must
-    /// have at most `most_skipped` bytes, no CR and no U+FEFF, and no CR may stand directly before it.
-    /// `next` is the place after it, which the caller has counted.
+    /// have at most `most_skipped` bytes, no CR and no U+FEFF, and no CR may stand directly before
+    /// it. `next` is the place after it, which the caller has counted.
     pub fn skip_text(&mut self, text: &str, next: Place)
         requires few { length text.now ≤ most_skipped_by self.old }
         requires plain { All IsPlain (chars text.now) }

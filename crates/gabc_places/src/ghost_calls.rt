@@ -14,7 +14,8 @@ enum Link {
     Failure(Snapshot<GhostCalls>),
 }
 
-/// How calls went, which contracts alone see: it has no bytes, costs nothing when the program runs, and its counts have no last value.
+/// How calls went, which contracts alone see: it has no bytes, costs nothing when the program runs,
+/// and its counts have no last value.
 #[derive(Drop)]
 #[cycle(calls)]
 pub struct GhostCalls {

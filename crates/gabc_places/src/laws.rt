@@ -1,4 +1,5 @@
-//! Laws of the definitions that contracts speak of. Each function is there for its clauses: all but two do nothing, and those run a fresh decoder.
+//! Laws of the definitions that contracts speak of. Each function is there for its clauses: all but
+//! two do nothing, and those run a fresh decoder.
 
 ghost use Rattle.std.specs.Prelude.{◌≡◌, ◌≢◌, ℕ, ◌<◌, List, [], ◌∷◌, ◌++◌, map, length, take, Bool, true, ◌≤◌, Some, None, IsSome, slice_index, encode_utf8_all};
 ghost use Rattle.std.specs.Char.{IsScalar};
@@ -29,20 +30,22 @@ use crate::place::{Char, Place};
 use crate::room::Room;
 use crate::stage::drive;
 
-/// The text of an input has no CR and no U+FEFF.
+/// Law: the text of an input has no CR and no U+FEFF.
 pub fn texts_are_plain()
     ensures { (limit : ℕ) (bytes : List ℕ) →
         All (λ c. (c ≢ 13) × (c ≢ 0xFEFF)) (text_of_bytes limit bytes) }
 {}
 
-/// The characters of the text of an input are Unicode scalar values, and have no more bytes than the input may have.
+/// Law: the characters of the text of an input are Unicode scalar values, and have no more bytes
+/// than the input may have.
 pub fn texts_are_scalars_within_the_limit()
     ensures scalars { (limit : ℕ) (bytes : List ℕ) → All IsScalar (text_of_bytes limit bytes) }
     ensures short { (limit : ℕ) (bytes : List ℕ) →
         length (encode_utf8_all (text_of_bytes limit bytes)) ≤ limit }
 {}
 
-/// A text without CR and U+FEFF is read again from its own bytes, with no fault, if they are within the limit.
+/// Law: a text without CR and U+FEFF is read again from its own bytes, with no fault, if they are
+/// within the limit.
 pub fn text_again()
     ensures { (limits : Limits) (ended : Bool) (text : List ℕ) → All IsScalar text →
         All (λ c. (c ≢ 13) × (c ≢ 0xFEFF)) text →
@@ -50,19 +53,20 @@ pub fn text_again()
         decoded_of limits ended (encode_utf8_all text) ≡ record { text = text; fault = None } }
 {}
 
-/// Each prefix of the text of an input is the text of a prefix of its bytes, which is read without a fault.
+/// Law: each prefix of the text of an input is the text of a prefix of its bytes, which is read
+/// without a fault.
 pub fn a_prefix_of_a_text_is_read_of_a_prefix_of_its_bytes()
     ensures { (limits : Limits) (ended whole : Bool) (bytes : List ℕ) (n : ℕ) → (count : ℕ)
         × (decoded_of limits whole (take count bytes)
         ≡ record { text = take n (decoded_of limits ended bytes).text; fault = None }) }
 {}
 
-/// The first character of a text stands at line 1 and column 1.
+/// Law: the first character of a text stands at line 1 and column 1.
 pub fn first_place()
     ensures { Place.START ≡ place_after [] }
 {}
 
-/// Each character stands at the place that the text before it tells.
+/// Law: each character stands at the place that the text before it tells.
 pub fn characters_stand_behind_the_text_before()
     ensures len { (text : List ℕ) → length (placed_characters text) ≡ length text }
     ensures at { (text : List ℕ) (i : ℕ) → i < length text →
@@ -70,13 +74,14 @@ pub fn characters_stand_behind_the_text_before()
         ≡ Some (record { c = slice_index text i; place = place_after (take i text) }) }
 {}
 
-/// The places of a text do not depend on what follows it.
+/// Law: the places of a text do not depend on what follows it.
 pub fn places_need_nothing_behind()
     ensures { (xs : List ℕ) (ys : List ℕ) →
         placed_characters (xs ++ ys) ≡ placed_characters xs ++ placed_characters_behind xs ys }
 {}
 
-/// The earliest of some stops is one of them, and none of them is earlier. At one point the lower code is the earlier.
+/// Law: the earliest of some stops is one of them, and none of them is earlier. At one point the
+/// lower code is the earlier.
 pub fn earliest_is_least()
     ensures some { (s : Stop) (stops : List Stop) → IsSome (earliest (s ∷ stops)) }
     ensures found { (stops : List Stop) (s : Stop) → earliest stops ≡ Some s → Contains stops s }
@@ -84,8 +89,8 @@ pub fn earliest_is_least()
         All (IsNoLater s) stops }
 {}
 
-/// What two stages in a row emit in all is what the second emits for all that the first emits; there is a list for each
-/// input and one for the end.
+/// Law: what two stages in a row emit in all is what the second emits for all that the first emits;
+/// there is a list for each input and one for the end.
 pub fn a_chain_emits_what_its_second_emits<I, M, O>()
     ensures all { (first : List I → List (List M)) (second : List M → List (List O)) (xs : List I) →
         concat_of (chain_events first second xs) ≡ concat_of (second (concat_of (first xs))) }
@@ -93,7 +98,8 @@ pub fn a_chain_emits_what_its_second_emits<I, M, O>()
         (xs : List I) → length (chain_events first second xs) ≡ length xs + 1 }
 {}
 
-/// A fresh decoder, driven over all the bytes of an input that ended, emits the text and the fault that `text_of` returns.
+/// Law: a fresh decoder, driven over all the bytes of an input that ended, emits the text and the
+/// fault that `text_of` returns.
 pub fn a_fresh_decoder_emits_the_text(
     limits: Limits,
     bytes: Vec<u8>,
@@ -106,7 +112,8 @@ pub fn a_fresh_decoder_emits_the_text(
     drive(&mut decoder, bytes, out);
 }
 
-/// A decoder has emitted all that is known of the bytes so far, whatever follows them. Nothing is held back, and nothing guessed.
+/// Law: a decoder has emitted all that is known of the bytes so far, whatever follows them. Nothing
+/// is held back, and nothing guessed.
 pub fn a_decoder_emits_what_is_known(
     limits: Limits,
     bytes: &[u8],
@@ -119,15 +126,15 @@ pub fn a_decoder_emits_what_is_known(
     push_all(&mut decoder, bytes, out);
 }
 
-/// Two decoders that run, under one limit, and tell the same emit the same of whatever follows. The bytes that they tell of a
-/// character that is not whole are a part of one.
+/// Law: two decoders that run, under one limit, and tell the same emit the same of whatever
+/// follows. The bytes that they tell of a character that is not whole are a part of one.
 pub fn decoders_that_tell_the_same_agree()
     ensures { (one other : DecoderState) → one.running ≡ true → other.running ≡ true →
         one.limit ≡ other.limit → IsPartial one.pending → TellTheSame one other →
         (bytes : List ℕ) → events_left one bytes ≡ events_left other bytes }
 {}
 
-/// What a decoder tells may be told: a decoder can be made from it.
+/// Law: what a decoder tells may be told: a decoder can be made from it.
 pub fn what_a_decoder_tells_may_be_told(decoder: &Decoder)
     ensures { MayBeTold decoder.now.limit decoder.now.taken decoder.now.place
         decoder.now.pending (is_after_cr decoder.now) }
@@ -138,7 +145,7 @@ pub fn what_a_decoder_tells_may_be_told(decoder: &Decoder)
     decoder.after_cr();
 }
 
-/// Each code is as grave as its letter says: E an error, W a warning, F a fatal fault.
+/// Law: each code is as grave as its letter says: E an error, W a warning, F a fatal fault.
 pub fn codes_are_graded_by_their_letters()
     ensures { (code : Code) → severity_of code ≡ severity_by_kind code }
 {}
@@ -148,7 +155,8 @@ pub fn codes_are_these()
     ensures { map (λ row. (row.1.now, row.2.now)) CODES ≡ codes_spelled }
 {}
 
-/// The limits of a run that is given no others are 65,536 bytes of headers, 16,384 of a syllable and 4,294,967,295 of input.
+/// Law: the limits of a run that is given no others are 65,536 bytes of headers, 16,384 of a
+/// syllable and 4,294,967,295 of input.
 pub fn usual_limits() -> Limits
     ensures { AreUsual result.header result.syllable result.input }
 {

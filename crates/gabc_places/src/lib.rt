@@ -1,5 +1,5 @@
-//! The base of a reader of Gregorian chant: bytes as text with places, findings and faults, where bytes come from and go to,
-//! and machines that take one input at a time.
+//! The base of a reader of Gregorian chant: bytes as text with places, findings and faults, where
+//! bytes come from and go to, and machines that take one input at a time.
 //!
 //! An input's bytes are read as a text, up to the first byte that is no UTF-8:
 //!
@@ -44,7 +44,7 @@ pub use codes::CODES;
 pub use collect::outputs_of;
 pub use decode::{text_of, valid_front};
 pub use decoded::Decoded;
-pub use decoder::{Decoder, is_printable};
+pub use decoder::Decoder;
 pub use filler::BufferFiller;
 pub use findings::Findings;
 pub use ghost_calls::GhostCalls;

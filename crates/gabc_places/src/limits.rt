@@ -16,14 +16,16 @@ pub struct Limits {
 }
 
 impl Limits {
-    /// The limits of a run that is given no others: 65,536 bytes of headers, 16,384 of a syllable, 4,294,967,295 of input.
+    /// The limits of a run that is given no others: 65,536 bytes of headers, 16,384 of a syllable,
+    /// 4,294,967,295 of input.
     pub const DEFAULT: Limits = Limits {
         header: 65_536,
         syllable: 16_384,
         input: u32::MAX,
     };
 
-    /// Returns limits in bytes. `header` and `syllable` are 64 to 16,777,216, and `input` is at least 64; other numbers give `None`.
+    /// Returns limits in bytes. `header` and `syllable` are 64 to 16,777,216, and `input` is at
+    /// least 64; other numbers give `None`.
     pub fn new(header: u32, syllable: u32, input: u32) -> Option<Limits>
         ensures in_range { IsSome result ↔ AreLimits header syllable input }
         ensures header { IfSome result (λ limits. limits.header ≡ header) }

@@ -7,7 +7,8 @@ use std::alloc::{AllocError, Allocator, Global};
 use std::marker::Model;
 use std::rc::Rc;
 
-/// An allocator with several owners. Each list that lies in its memory is one of them; the memory goes with the last.
+/// An allocator with several owners. Each list that lies in its memory is one of them; the memory
+/// goes with the last.
 #[derive(Drop)]
 pub struct Shared<B> {
     inner: Rc<B>,
@@ -33,7 +34,8 @@ impl<B: Allocator> Shared<B> {
         Ok(Shared { inner, alloc })
     }
 
-    /// Returns one more owner of the same memory. It fails only where the owners cannot be counted any more.
+    /// Returns one more owner of the same memory. It fails only where the owners cannot be counted
+    /// any more.
     pub fn share(&self) -> Result<Shared<B>, AllocError>
         ensures { IfOk result (λ s. s ≡ self.now) }
     {
@@ -51,8 +53,8 @@ impl<B: Allocator> Shared<B> {
 }
 
 impl Shared<Bump> {
-    /// Returns the first owner of an arena that has reserved `capacity` bytes at once. Where its lists need more, it asks again. It fails only for
-    /// want of memory.
+    /// Returns the first owner of an arena that has reserved `capacity` bytes at once. Where its
+    /// lists need more, it asks again. It fails only for want of memory.
     pub fn with_capacity(alloc: Global, capacity: usize) -> Result<Memory, AllocError> {
         Shared::new(alloc, Bump::try_with_capacity(alloc, capacity)?)
     }

@@ -51,7 +51,7 @@ impl fmt::Display for Code {
     }
 }
 
-/// Prints the words of a message behind the file's name: `LINE:COLUMN: KIND: CODE: TEXT`.
+/// Prints the words of a message after the file's name: `LINE:COLUMN: KIND: CODE: TEXT`.
 impl fmt::Display for Finding {
     ghost output = { λ x. Some (message_text x.place x.code) };
 
@@ -61,7 +61,8 @@ impl fmt::Display for Finding {
     }
 }
 
-/// Prints what a message has behind the file's name: `LINE:COLUMN: KIND: CODE: TEXT`, where KIND is `fatal` for each code of a fault.
+/// Prints what a message has after the file's name: `LINE:COLUMN: KIND: CODE: TEXT`, where KIND is
+/// `fatal` for each code of a fault.
 impl fmt::Display for Fault {
     ghost output = { λ x. Some (message_text x.place x.code) };
 

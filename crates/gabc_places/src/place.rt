@@ -17,8 +17,8 @@ impl Place {
     /// The place of the first character of a text.
     pub const START: Place = Place { line: 1, column: 1 };
 
-    /// Returns the place behind `c`, which stands here. If here is the place behind some text, it is the place behind that
-    /// text with the character.
+    /// Returns the place after `c`, which stands here. If here is the place after some text, it is
+    /// the place after that text with the character.
     pub fn after(self, c: char) -> Place
         requires line { self.line + 1 < 2 ^ 64 }
         requires column { self.column + 1 < 2 ^ 64 }
@@ -39,7 +39,8 @@ impl Place {
         }
     }
 
-    /// Returns the place behind `c`, which stands here. A count that has reached the last value of a `u64` stays there.
+    /// Returns the place after `c`, which stands here. A count that has reached the last value of a
+    /// `u64` stays there.
     #[inline(always)]
     pub fn saturating_after(self, c: char) -> Place
         ensures { result ≡ saturating_next_place self c }
@@ -67,11 +68,12 @@ pub struct Char {
     pub place: Place,
 }
 
-/// A part of a text: its bytes from `from` up to before `to`, counted from 0; of elements and segments, a part of the items.
+/// A part of a text: its bytes from `from` up to before `to`, counted from 0; of elements and
+/// segments, a part of the items.
 #[derive(Clone, Copy, Debug, PartialEq, Eq)]
 pub struct Span {
     /// The first byte, from 0.
     pub from: usize,
-    /// The byte behind the last one.
+    /// The byte after the last one.
     pub to: usize,
 }

@@ -1,4 +1,5 @@
-//! What takes bytes: a room, or a count of them. A writer that is generic over it writes a text, and tells how long the text is.
+//! What takes bytes: a room, or a count of them. A writer that is generic over it writes a text,
+//! and tells how long the text is.
 
 ghost use Rattle.std.specs.Prelude.{◌≡◌, [], ◌++◌, ℕ, List};
 ghost use Rattle.gabc_places.specs.Put.{filled_with, counted_with};
@@ -44,7 +45,8 @@ impl Put for Room<u8> {
     }
 }
 
-/// Adds as many of `bytes` at the end of `room` as there is room for. Where all have room it is not called, so it stays out of line.
+/// Adds as many of `bytes` at the end of `room` as there is room for. Where all have room it is not
+/// called, so it stays out of line.
 #[inline(never)]
 fn fill(room: &mut Room<u8>, bytes: &[u8])
     ensures { room.new ≡ filled_with room.old bytes.now }

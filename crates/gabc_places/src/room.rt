@@ -26,14 +26,16 @@ impl<T: Copy> Model for Room<T> {
 }
 
 impl<T: Copy> Room<T> {
-    /// Returns an empty room for `limit` items, and reserves their memory. It fails only for want of memory.
+    /// Returns an empty room for `limit` items, and reserves their memory. It fails only for want
+    /// of memory.
     pub fn with_limit(alloc: Global, limit: usize) -> Result<Room<T>, AllocError>
         ensures { IfOk result (λ r. r ≡ record { items = []; limit = limit }) }
     {
         Room::in_memory(&Memory::with_capacity(alloc, 0)?, limit)
     }
 
-    /// Returns an empty room for `limit` items, which are reserved in `memory`. It fails only for want of memory.
+    /// Returns an empty room for `limit` items, which are reserved in `memory`. It fails only for
+    /// want of memory.
     pub fn in_memory(memory: &Memory, limit: usize) -> Result<Room<T>, AllocError>
         ensures { IfOk result (λ r. r ≡ record { items = []; limit = limit }) }
     {

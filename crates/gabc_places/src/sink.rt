@@ -23,7 +23,8 @@ pub trait Sink {
     // how its writes went
     ghost calls: { Self → Calls };
 
-    /// Takes a prefix of `bytes`, and returns how many bytes it has: at least 1, if there is one. Where it fails, it took none.
+    /// Takes a prefix of `bytes`, and returns how many bytes it has: at least 1, if there is one.
+    /// Where it fails, it took none.
     fn write(&mut self, bytes: &[u8]) -> Result<usize, SinkFault>
         ensures bound { WritesAtMost result bytes.now }
         ensures bytes { WriteAppends (written self.old) (written self.new) result bytes.now }
@@ -39,7 +40,8 @@ pub struct Unsent {
     pub sent: usize,
 }
 
-/// Writes all `bytes` to `sink`. Where the sink fails, it took the first `sent` of them, fewer than all.
+/// Writes all `bytes` to `sink`. Where the sink fails, it took the first `sent` of them, fewer than
+/// all.
 pub fn send_all<S: Sink>(sink: &mut S, bytes: &[u8]) -> Result<(), Unsent>
     ensures all { OnOk result (Appends (S.written sink.old) (S.written sink.new) bytes.now) }
     ensures prefix { IfErr result (λ u. Appends (S.written sink.old) (S.written sink.new)
@@ -58,7 +60,8 @@ pub fn send_all<S: Sink>(sink: &mut S, bytes: &[u8]) -> Result<(), Unsent>
     Ok(())
 }
 
-/// A writer as a sink. Each of the writer's errors is a failure, and so is a write of at least one byte that takes none.
+/// A writer as a sink. Each of the writer's errors is a failure, and so is a write of at least one
+/// byte that takes none.
 #[derive(Drop)]
 pub struct ToWriter<W: Write + Drop> {
     inner: W,

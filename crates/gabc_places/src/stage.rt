@@ -6,7 +6,8 @@ ghost use Rattle.gabc_places.specs.StageLaw.{concat_of, Pushes, Finishes, EmitsN
 
 use crate::Room;
 
-/// A machine that takes inputs one at a time, and emits at most a stated number of events for each and for the end.
+/// A machine that takes inputs one at a time, and emits at most a stated number of events for each
+/// and for the end.
 pub trait Stage {
     /// What it takes.
     type Input;
@@ -14,20 +15,22 @@ pub trait Stage {
     /// What it emits.
     type Output: Copy;
 
-    // what it will still emit for these inputs and then the end: a list for each of them, and one for the end
+    // what it will still emit for these inputs and then the end: a list for each of them, and one
+    // for the end
     ghost rest: { Self → List Self.Input → List (List Self.Output) };
 
     // how many events one call emits at most
     ghost most_of: { Self → ℕ };
 
-    // the events that end it: behind one of them it emits nothing more
+    // the events that end it: after one of them it emits nothing more
     ghost is_end: { Self.Output → Bool };
 
     /// Returns how many events one call emits at most.
     fn most(&self) -> usize
         ensures { result ≡ most_of self.now };
 
-    /// Takes `input`, and adds to `out` the events that it emits for it. `out` has to take `most()` events more.
+    /// Takes `input`, and adds to `out` the events that it emits for it. `out` has to take `most()`
+    /// events more.
     fn push(&mut self, input: Self::Input, out: &mut Room<Self::Output>)
         requires { Fits out.old (most_of self.old) }
         ensures most { most_of self.new ≡ most_of self.old }
@@ -35,7 +38,8 @@ pub trait Stage {
             (rest self.new) input (most_of self.old) out.old out.new }
         ensures end { StopsAtEnd is_end (rest self.new) out.old out.new };
 
-    /// Ends the inputs, and adds to `out` the events still to come. `out` has to take `most()` events more. From then on it emits nothing.
+    /// Ends the inputs, and adds to `out` the events still to come. `out` has to take `most()`
+    /// events more. From then on it emits nothing.
     fn finish(&mut self, out: &mut Room<Self::Output>)
         requires { Fits out.old (most_of self.old) }
         ensures most { most_of self.new ≡ most_of self.old }
@@ -44,8 +48,8 @@ pub trait Stage {
         ensures over { EmitsNothing (rest self.new) };
 }
 
-/// Pushes all `inputs` to `stage`, and then ends them. `out` has to take `most()` events more for each input and for the end. From then on
-/// `stage` emits nothing.
+/// Pushes all `inputs` to `stage`, and then ends them. `out` has to take `most()` events more for
+/// each input and for the end. From then on `stage` emits nothing.
 pub fn drive<S: Stage>(stage: &mut S, inputs: Vec<S::Input>, out: &mut Room<S::Output>)
 where
     S::Input: Drop,

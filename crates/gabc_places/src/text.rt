@@ -79,7 +79,7 @@ impl Text {
         self.push_str(rest)
     }
 
-    /// Returns the place behind the last character.
+    /// Returns the place after the last character.
     pub fn end(&self) -> Place
         ensures { result ≡ place_after self.now }
     {

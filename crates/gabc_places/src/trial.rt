@@ -1,4 +1,5 @@
-//! A source and a sink for trials: they give and take as much as they are told, and fail where they are told.
+//! A source and a sink for trials: they give and take as much as they are told, and fail where they
+//! are told.
 
 ghost use Rattle.std.specs.Prelude.{◌≡◌, ◌<◌, ◌↔◌, [], length, IfOk, IsErr, OnErr, Some};
 ghost use Rattle.std.specs.Io.{ReadsAtMost, WritesAtMost};
@@ -15,7 +16,8 @@ use crate::source::{Source, SourceFault};
 use std::alloc::{AllocError, Global};
 use std::marker::Model;
 
-/// A source that gives bytes, at most so many a read. Behind a number of bytes all its reads fail, if it is told to.
+/// A source that gives bytes, at most so many a read. After a number of bytes all its reads fail,
+/// if it is told to.
 #[derive(Drop)]
 pub struct TrialSource<'a> {
     rest: &'a [u8],
@@ -41,8 +43,8 @@ impl<'a> Model for TrialSource<'a> {
 }
 
 impl<'a> TrialSource<'a> {
-    /// Returns a source of `bytes`, at most `most` a read, whose reads fail once it gave `fails_after` bytes; with `None` none fails. `most`
-    /// is at least 1.
+    /// Returns a source of `bytes`, at most `most` a read, whose reads fail once it gave
+    /// `fails_after` bytes; with `None` none fails. `most` is at least 1.
     pub fn new(bytes: &'a [u8], most: usize, fails_after: Option<usize>) -> TrialSource<'a>
         requires { 0 < most }
         ensures { result ≡ record {
@@ -94,7 +96,8 @@ impl Source for TrialSource<'_> {
     }
 }
 
-/// A sink that takes at most so many bytes a write. Once it holds a number of bytes, all its writes of more fail.
+/// A sink that takes at most so many bytes a write. Once it holds a number of bytes, all its writes
+/// of more fail.
 #[derive(Drop)]
 pub struct TrialSink {
     taken: Room<u8>,
@@ -119,7 +122,8 @@ impl Model for TrialSink {
 }
 
 impl TrialSink {
-    /// Returns a sink that takes at most `most` bytes a write, and fails where it holds `fails_at` bytes and is given more.
+    /// Returns a sink that takes at most `most` bytes a write, and fails where it holds `fails_at`
+    /// bytes and is given more.
     pub fn new(alloc: Global, most: usize, fails_at: usize) -> Result<TrialSink, AllocError>
         requires { 0 < most }
         ensures { IfOk result (λ s. s ≡ record {

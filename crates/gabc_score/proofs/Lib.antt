@@ -1,3 +1,4 @@
+pub mod PlacesByBytes
 pub mod building
 pub mod holding
 pub mod keeping

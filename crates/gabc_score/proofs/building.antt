@@ -16,8 +16,6 @@ pub mod PartsOfKeptNotes
 pub mod PartsOfKeptText
 pub mod PartsOpenOn
 pub mod PartsStandOn
-pub mod QuietParts
-pub mod QuietTexts
 pub mod SnippetsAsKept
 pub mod SnippetsWithBars
 pub mod SpansOfParts

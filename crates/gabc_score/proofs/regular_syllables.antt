@@ -1,4 +1,6 @@
 pub mod BytesOfRegularSyllables
+pub mod GapsAreRead
+pub mod MarkedSyllables
 pub mod OneMore
 pub mod PlaceIsPast
 pub mod PointsPass
@@ -6,7 +8,8 @@ pub mod RegularPartsEnd
 pub mod RegularSyllableIsMade
 pub mod RegularSyllableIsRead
 pub mod RegularSyllablePasses
+pub mod SlicesAreRead
 pub mod SpellingIsShort
 pub mod StagesReadRegularSyllables
+pub mod TagsOfTexts
 pub mod UnitIsGathered
-pub mod UnmarkedSyllables

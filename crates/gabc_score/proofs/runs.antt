@@ -8,5 +8,6 @@ pub mod RunGives
 pub mod RunGoesOn
 pub mod RunIsTaken
 pub mod SameStands
+pub mod SlicesOfFound
 pub mod StandsThere
 pub mod Throughs

@@ -20,13 +20,11 @@ pub mod MovedIsTold
 pub mod NoStopWhereInputsCease
 pub mod NothingBehindAStop
 pub mod NothingBehindTheEnd
-pub mod NothingIsGiven
 pub mod OpenersInOrder
 pub mod OutputsAreCollected
 pub mod OutputsOfLentSyllables
 pub mod PartsFollow
 pub mod PlainScores
-pub mod QuietPoints
 pub mod ScoreOutputs
 pub mod TextsArePlain
 pub mod TextsAreReadInFull

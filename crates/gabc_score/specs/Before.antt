@@ -1,5 +1,5 @@
--- What stands before a syllable in its score: how many syllables, how many canonical bytes, which spans are open, and whether a note or a
--- clef has come in GABC.
+-- What stands before a syllable in its score: how many syllables, how many canonical bytes, which
+-- spans are open, and whether a note or a clef has come in GABC.
 use Rattle.std.specs.Prelude.{ℕ, ◌+◌, ◌-◌, ◌^◌, ◌==◌, ◌||◌, ◌&&◌, min, List, [], ◌∷◌, map, Bool, false, length, is_some}
 use Rattle.std.specs.List.{list_any}
 use Rattle.gabc_notes.specs.FirstNoteOrClef.{first_note_or_clef}
@@ -33,7 +33,7 @@ sounds m = sounds_in m.kept m.snippets
 abbrev pub most : ℕ
 most = 2 ^ 64 - 1
 
--- what stands before the syllable behind this one
+-- what stands before the syllable after this one
 abbrev pub with_one : Preceding → UnplacedSyllable → Preceding
 with_one p m = record {
   syllables = min (p.syllables + 1) most;
@@ -42,7 +42,7 @@ with_one p m = record {
   sounded = p.sounded || sounds m;
 }
 
--- what stands before the syllable behind these
+-- what stands before the syllable after these
 abbrev pub with_each : Preceding → List UnplacedSyllable → Preceding
 with_each p [] = p
 with_each p (m ∷ ms) = with_each (with_one p m) ms

@@ -1,5 +1,6 @@
--- What a body says, by the lists of what is emitted of it: one for each character, and one for the end. A thing that is emitted in the
--- list of a character becomes known there. In these definitions `before` is what was emitted so far, the nearest first.
+-- What a body says, by the lists of what is emitted of it: one for each character, and one for the
+-- end. A thing that is emitted in the list of a character becomes known there. In these definitions
+-- `before` is what was emitted so far, the nearest first.
 use Rattle.std.specs.Prelude.{ℕ, ◌+◌, ◌||◌, ◌&&◌, not, nat_lt, List, [], ◌∷◌, ◌++◌, Bool, true, false, cond, length, Option, Some, None, is_some}
 use Rattle.std.specs.List.{list_any}
 use Rattle.std.specs.Option.{option_map}
@@ -30,7 +31,8 @@ use Rattle.gabc_score.specs.Canonical.{canonicals, canonical_bytes, with_positio
 abbrev pub is_longer : ℕ → List ℕ → Bool
 is_longer limit bytes = nat_lt limit (length bytes)
 
--- F5: the kept text that is being read, or the kept or canonical text of one of these syllables, is longer than a syllable may be
+-- F5: the kept text that is being read, or the kept or canonical text of one of these syllables, is
+-- longer than a syllable may be
 abbrev pub is_over : ℕ → List UnplacedSyllable → List ℕ → Bool
 is_over limit made kept =
     is_longer limit kept
@@ -41,7 +43,8 @@ abbrev pub is_none : {A : Type 0} → List A → Bool
 is_none [] = true
 is_none (x ∷ xs) = false
 
--- F7: the canonical file of these syllables, with its last LF, is longer than the input may be; `head` are the bytes of its headers
+-- F7: the canonical file of these syllables, with its last LF, is longer than the input may be;
+-- `head` are the bytes of its headers
 abbrev pub is_full : ℕ → ℕ → List UnplacedSyllable → Bool
 is_full limit head made = not (is_none made) && nat_lt limit (head + canonical_bytes made + 1)
 
@@ -60,7 +63,8 @@ abbrev pub events_onto : List BodyEvent → List BodyEvent → List BodyEvent
 events_onto [] before = before
 events_onto (t ∷ now) before = events_onto now (t ∷ before)
 
--- what was emitted before the stop, the fault that stops the reading at a character, and what is emitted at the end
+-- what was emitted before the stop, the fault that stops the reading at a character, and what is
+-- emitted at the end
 pub record EventsToStop : Type 0 where
   pub before : List BodyEvent
   pub fault : Option Fault
@@ -110,7 +114,7 @@ has_text view = not (is_none view.pieces) || (is_some view.centre || is_some vie
 abbrev pub has_last : List BodyEvent → Bool
 has_last before = has_text (view_of (since_close before))
 
--- its notes are one empty snippet behind its kept text
+-- its notes are one empty snippet after its kept text
 abbrev pub empty_snippet : List ℕ → Snippet
 empty_snippet kept = record { line = 0; span = record { from = length kept; to = length kept } }
 
@@ -164,8 +168,9 @@ abbrev pub result_by : Limits → ℕ → List Finding → Place → InputEnding
 result_by limits head found at ending before last (Some fault) = result_stopped found before (Some fault)
 result_by limits head found at ending before last None = result_at_end limits head found at ending before (events_onto last before)
 
--- What a body says with these characters, of which these lists are emitted, and whose end is at this place. `head` are the bytes of
--- the canonical headers with `%%`, and `found` is what was found in the headers.
+-- What a body says with these characters, of which these lists are emitted, and whose end is at
+-- this place. `head` are the bytes of the canonical headers with `%%`, and `found` is what was
+-- found in the headers.
 abbrev pub body_of : Limits → ℕ → List Finding → Place → InputEnding → List Char → List (List BodyEvent) → BodyResult
 body_of limits head found at ending xs lists =
     let r = events_to_stop limits head [] xs lists in

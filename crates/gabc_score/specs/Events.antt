@@ -1,10 +1,12 @@
 -- What each character of a body emits, and its end: one list for each.
 --
--- The body begins with a comment, up to its first LF. Then comes a text, up to its `(`, then a snippet of notes, up to its end;
--- at a `|` the next snippet, at a `)` the next text. Each part is read from where it begins by the definition of texts, of GABC or
--- of NABC snippets, and its events come from there to the character that ends it.
+-- The body begins with a comment, up to its first LF. Then comes a text, up to its `(`, then a
+-- snippet of notes, up to its end; at a `|` the next snippet, at a `)` the next text. Each part is
+-- read from where it begins by the definition of texts, of GABC or of NABC snippets, and its events
+-- come from there to the character that ends it.
 --
--- In these definitions `texts` is how a text is read. What a body emits, `body_events`, takes the definition of texts for it.
+-- In these definitions `texts` is how a text is read. What a body emits, `body_events`, takes the
+-- definition of texts for it.
 use Rattle.std.specs.Prelude.{ℕ, ◌+◌, nat_lt, List, [], ◌∷◌, map, Bool, true, false, ◌==◌, if◌then◌else◌}
 use Rattle.std.specs.List.{list_any}
 use Rattle.gabc_places.specs.Place.{saturating_next_place}
@@ -23,8 +25,8 @@ use Rattle.gabc_nabc.specs.Events as nabc
 use Rattle.gabc_score.specs.declared.events.BodyEvent.{BodyEvent}
 use Rattle.gabc_score.specs.declared.events.BodyEvent.TheVariants.{Text, Notes}
 
--- The part of a body that a character stands in, with the lists that the part will still emit: for each character to come and the
--- end. The notes with their line and the place of their `(`.
+-- The part of a body that a character stands in, with the lists that the part will still emit: for
+-- each character to come and the end. The notes with their line and the place of their `(`.
 pub data PartAhead : Type 0 where
   InComment : PartAhead
   InText : List (List TextEvent) → PartAhead
@@ -71,7 +73,8 @@ abbrev pub events_at_end : PartAhead → List BodyEvent
 events_at_end InComment = Text (text_out.Ended text_end.Finished) ∷ []
 events_at_end part = events_in part
 
--- what a text emits that begins at a place with these characters: a list for each of them, and one for the end
+-- what a text emits that begins at a place with these characters: a list for each of them, and one
+-- for the end
 abbrev pub Texts : Type 0
 Texts = Place → List Char → List (List TextEvent)
 
@@ -84,11 +87,11 @@ abbrev pub snippet_from : ℕ → ℕ → ℕ → Place → List Char → PartAh
 snippet_from lines macros line opened xs =
     InNotes line opened (if line == 0 then notes.note_events (nat_lt 0 lines) macros xs else nabc.nabc_events xs)
 
--- behind the last NABC line comes GABC again
+-- after the last NABC line comes GABC again
 abbrev pub next_line : ℕ → ℕ → ℕ
 next_line lines line = if nat_lt line lines then line + 1 else 0
 
--- the place behind a `)`
+-- the place after a `)`
 abbrev pub behind_mark : Place → Place
 behind_mark place = saturating_next_place place 41
 
@@ -97,7 +100,7 @@ abbrev pub part_at : Texts → PartAhead → Char → List Char → PartAhead
 part_at texts InComment x xs = if x.c == 10 then text_from texts x.place (x ∷ xs) else InComment
 part_at texts part x xs = part
 
--- the part in which the characters xs behind x stand, where x stands in this part
+-- the part in which the characters xs after x stand, where x stands in this part
 abbrev pub part_behind : Texts → ℕ → ℕ → PartAhead → Char → List Char → PartAhead
 part_behind texts lines macros InComment x xs = InComment
 part_behind texts lines macros (InText lists) x xs =

@@ -23,7 +23,7 @@ abbrev pub TextWarns : List ℕ → Type 0
 TextWarns t = (at : Place) → All IsWarning (findings at t)
 
 module _ (lines macros : ℕ) where
-  -- so is what is found in snippets, from that line on, with those characters behind them
+  -- so is what is found in snippets, from that line on, with those characters after them
   abbrev pub SnippetsWarn : ℕ → List EndedPart → List Char → Type 0
   SnippetsWarn line [] behind = Unit {0}
   SnippetsWarn line (e ∷ es) behind =

@@ -7,6 +7,7 @@ use Rattle.gabc_places.specs.Place.{place_past, placed_characters_from}
 use Rattle.gabc_places.specs.StageLaw.{concat_of}
 use Rattle.gabc_headers.specs.declared.head_event.HeadEvent.{HeadEvent}
 use Rattle.gabc_headers.specs.declared.head_event.HeadEvent.TheVariants as head_event
+use Rattle.gabc_score.specs.declared.score_machine.ScorePart.TheVariants as score_part
 use Rattle.gabc_score.specs.Before.{with_placed}
 use Rattle.gabc_score.specs.ScoreEvents.{ScoreOutput, Syllable}
 use Rattle.gabc_score.specs.ScoreStage.{Counts, IsWithin, StandsInLine}
@@ -18,12 +19,14 @@ use Rattle.gabc_score.specs.witness.ScoreStage.{ScoreStageState, left_of}
 abbrev pub text_inputs : Place → List ℕ → List HeadEvent
 text_inputs at t = map (λ (x : Char). head_event.Body x) (placed_characters_from at t)
 
--- the place of the next character after these, the first of which stands at `at`; after none, where the next one stood before
+-- the place of the next character after these, the first of which stands at `at`; after none, where
+-- the next one stood before
 abbrev pub next_after : Place → List ℕ → Place → Place
 next_after at [] before = before
 next_after at (c ∷ cs) before = place_past at (c ∷ cs)
 
--- At these characters it gave these syllables and nothing else, and it goes on in its part with what follows under the same limits.
+-- At these characters it gave these syllables and nothing else, none in the headers, and it goes on
+-- in its part with what follows under the same limits.
 pub record GivesSyllables (before : ScoreStageState) (at : Place) (t : List ℕ) (given : List PlacedSyllable) (after : ScoreStageState) : Type 0 where
   pub limits : after.limits ≡ before.limits
   pub part : after.part ≡ before.part
@@ -40,6 +43,7 @@ pub record GivesSyllables (before : ScoreStageState) (at : Place) (t : List ℕ)
   pub given_are : concat_of points ≡ map (λ (s : PlacedSyllable). Syllable s) given
   pub law : (xs : List HeadEvent) → left_of before (text_inputs at t ++ xs) ≡ points ++ left_of after xs
   pub none : t ≡ [] → after.body.part ≡ before.body.part
+  pub in_heads : before.part ≡ score_part.Heads → given ≡ []
 
 -- a canonical text, with an LF before it if it begins a word
 abbrev pub spelled_canonical : Bool → List ℕ → List ℕ

@@ -15,7 +15,7 @@ use Rattle.gabc_score.specs.Syllable.{UnplacedSyllable, since_close, kept_of, al
 use Rattle.gabc_score.specs.ToldWithin.{written_behind}
 use Rattle.gabc_score.specs.UnitRead.{first_events}
 
--- behind these events, the nearest first, nothing is read, and these spans are open
+-- after these events, the nearest first, nothing is read, and these spans are open
 pub record LeavesOpen (spans : Spans) (before : List BodyEvent) : Type 0 where
   pub nothing : since_close before ≡ []
   pub eu : is_eu before ≡ spans.eu
@@ -35,8 +35,8 @@ module _ (lines macros : ℕ) (at : Place) (text : List ℕ) where
   abbrev pub emitted_behind : List BodyEvent → ℕ → List BodyEvent
   emitted_behind before n = events_onto (emitted_first n) before
 
-  -- Where these spans are open, the text is this one syllable, whole with the last character and not before, and no more than so many bytes are
-  -- kept on the way. What is found are warnings.
+  -- Where these spans are open, the text is this one syllable, whole with the last character and
+  -- not before, and no more than so many bytes are kept on the way. What is found are warnings.
   pub record IsOneSyllable (spans : Spans) (limit : ℕ) (m : UnplacedSyllable) : Type 0 where
     pub before : List BodyEvent
     pub leaves : LeavesOpen spans before
@@ -45,7 +45,7 @@ module _ (lines macros : ℕ) (at : Place) (text : List ℕ) where
     pub few : (n : ℕ) → n ≤ length text → length (kept_of (since_close (emitted_behind before n))) ≤ limit
     pub warnings : All IsWarning (findings_of (emitted_behind [] (length text)))
 
--- Behind what `before` tells, the text is this syllable, and no limit is passed with it.
+-- After what `before` tells, the text is this syllable, and no limit is passed with it.
 pub record MayBeHeld (limits : Limits) (before : Before) (text : List ℕ) (m : UnplacedSyllable) : Type 0 where
   pub read : IsOneSyllable before.nabc_lines before.macros first_place text before.spans limits.syllable m
   pub kept : length m.kept ≤ limits.syllable

@@ -1,4 +1,5 @@
--- What a syllable holds: the parts of its kept text, for which its view and the spans of its snippets stand.
+-- What a syllable holds: the parts of its kept text, for which its view and the spans of its
+-- snippets stand.
 use Rattle.std.specs.Prelude.{◌≡◌, ◌⊎◌, ℕ, zero, suc, ◌+◌, ◌%◌, List, [], ◌∷◌, ◌++◌, map, length, reverse, Option, Some, None, codes, encode_utf8_all}
 use Rattle.std.specs.List.{All, flat_map}
 use Rattle.gabc_places.specs.declared.place.Char.{Char}
@@ -36,7 +37,7 @@ abbrev pub kept_on_line : ℕ → List Char → List ℕ
 kept_on_line zero xs = trim gabc (notes.kept (reverse xs))
 kept_on_line (suc line) xs = trim nabc (nabc.kept_of (codes_of xs))
 
--- a `(`, and a part of each of these snippets with a `|` behind it
+-- a `(`, and a part of each of these snippets with a `|` after it
 abbrev pub bracket_with : (ReadSnippet → List ℕ) → List ReadSnippet → List ℕ
 bracket_with part before = codes "(" ++ flat_map (λ s. part s ++ codes "|") before
 
@@ -44,8 +45,9 @@ bracket_with part before = codes "(" ++ flat_map (λ s. part s ++ codes "|") bef
 abbrev pub in_brackets : (ReadSnippet → List ℕ) → List ReadSnippet → ReadSnippet → List ℕ
 in_brackets part earlier last = bracket_with part earlier ++ (part last ++ codes ")")
 
--- Behind this text and these snippets, a snippet stands for its kept text, which its characters keep and which is a snippet of its
--- line. That is the line whose turn it is, of GABC and so many NABC lines.
+-- After this text and these snippets, a snippet stands for its kept text, which its characters keep
+-- and which is a snippet of its line. That is the line whose turn it is, of GABC and so many NABC
+-- lines.
 pub record IsHeld (lines : ℕ) (whole text : List ℕ) (before : List ReadSnippet) (s : ReadSnippet) : Type 0 where
   pub line_is : s.snippet.line ≡ length before % (lines + 1)
   pub kept_is : s.kept ≡ kept_on_line s.snippet.line s.characters
@@ -53,7 +55,8 @@ pub record IsHeld (lines : ℕ) (whole text : List ℕ) (before : List ReadSnipp
   pub stands : StandsFor whole s.snippet.span s.kept
   pub behind : stands.prefix ≡ text ++ bracket_with (λ b. b.kept) before
 
--- Notes that were read from these characters: behind the text the whole has the kept texts of their snippets, each held in its place.
+-- Notes that were read from these characters: after the text the whole has the kept texts of their
+-- snippets, each held in its place.
 pub record HoldsNotes (lines : ℕ) (characters whole text : List ℕ) (snippets : List Snippet) : Type 0 where
   pub earlier : List ReadSnippet
   pub last : ReadSnippet
@@ -62,7 +65,7 @@ pub record HoldsNotes (lines : ℕ) (characters whole text : List ℕ) (snippets
   pub snippets_are : snippets ≡ map (λ s. s.snippet) (earlier ++ last ∷ [])
   pub each : (before after : List ReadSnippet) (s : ReadSnippet) → earlier ++ last ∷ [] ≡ before ++ s ∷ after → IsHeld lines whole text before s
 
--- No notes: the whole is the text, and the one snippet is empty, behind it.
+-- No notes: the whole is the text, and the one snippet is empty, after it.
 pub record HoldsNoNotes (characters whole text : List ℕ) (snippets : List Snippet) : Type 0 where
   pub characters_are : characters ≡ []
   pub whole_is : whole ≡ text
@@ -70,9 +73,10 @@ pub record HoldsNoNotes (characters whole text : List ℕ) (snippets : List Snip
 
 -- ---- the syllable
 
--- A syllable holds its parts. Somewhere in the input stand the characters of its text, and behind them those of its notes. Its view
--- is the view of the text that begins there, and the spans of the view stand for what it says in the whole that the syllable keeps:
--- the kept text of its text, and its notes.
+-- A syllable holds its parts. Somewhere in the input stand the characters of its text, and after
+-- them those of its notes. Its view is the view of the text that begins there, and the spans of the
+-- view stand for what it says in the whole that the syllable keeps: the kept text of its text, and
+-- its notes.
 pub record Holds (Notes : List ℕ → List ℕ → List ℕ → List Snippet → Type 0) (input : List ℕ) (m : UnplacedSyllable) : Type 0 where
   pub before : List ℕ
   pub text : List ℕ

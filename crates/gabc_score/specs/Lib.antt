@@ -14,6 +14,7 @@ pub mod Marks
 pub mod NoNotes
 pub mod NoteBeforeClef
 pub mod RegularSyllable
+pub mod SpelledSyllable
 pub mod Resumed
 pub mod ReadAgain
 pub mod Score

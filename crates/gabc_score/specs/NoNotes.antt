@@ -13,7 +13,7 @@ are_no_notes (s ∷ t ∷ snippets) = false
 abbrev pub has_no_notes : UnplacedSyllable → Bool
 has_no_notes m = are_no_notes m.snippets
 
--- of these, those behind the first have no notes
+-- of these, those after the first have no notes
 abbrev pub OnlyFirstHasNotes : List PlacedSyllable → Type 0
 OnlyFirstHasNotes [] = Unit {0}
 OnlyFirstHasNotes (s ∷ later) = All (λ (t : PlacedSyllable). has_no_notes t.made ≡ true) later

@@ -1,5 +1,6 @@
--- A note before any clef. Of the items of all GABC snippets that have ended, in order, the first that is a note or a clef is a note: this is
--- found with the mark that ends the snippet of this note. What a score emits is what its body emits, and behind it this finding.
+-- A note before any clef. Of the items of all GABC snippets that have ended, in order, the first
+-- that is a note or a clef is a note: this is found with the mark that ends the snippet of this
+-- note. What a score emits is what its body emits, and after it this finding.
 --
 -- In these definitions `before` is what was emitted so far, the nearest first.
 use Rattle.std.specs.Prelude.{ℕ, ◌==◌, List, [], ◌∷◌, ◌++◌, map, Bool, true, false, cond, Option, Some, None}
@@ -53,6 +54,7 @@ with_first_each before [] lists = lists
 with_first_each before (x ∷ xs) [] = []
 with_first_each before (x ∷ xs) (now ∷ lists) = with_first before x now ∷ with_first_each (events_onto (with_first before x now) before) xs lists
 
--- what a score emits of the characters of its body, with so many NABC lines and the macros of these bits
+-- what a score emits of the characters of its body, with so many NABC lines and the macros of these
+-- bits
 abbrev pub score_events : ℕ → ℕ → List Char → List (List BodyEvent)
 score_events lines macros xs = with_first_each [] xs (body_events lines macros xs)

@@ -1,4 +1,4 @@
--- A kept text that is read again: what a stage tells before it, and behind it.
+-- A kept text that is read again: what a stage tells before it, and after it.
 use Rattle.std.specs.Prelude.{◌≡◌, ℕ, List, [], Bool, true, false, Some, None, is_some, encode_utf8_all}
 use Rattle.gabc_places.specs.declared.place.Place.{Place}
 use Rattle.gabc_places.specs.declared.limits.Limits.{Limits}
@@ -13,7 +13,7 @@ pub record StandsBefore (s : ScoreStageState) : Type 0 where
   pub nothing_read : reading_of s ≡ []
   pub outside : is_in_comment s.body.part ≡ false
 
--- Behind the comment in front it tells this of the syllable that it reads.
+-- After the comment in front it tells this of the syllable that it reads.
 pub record TellsOfReading (s : ScoreStageState) (kept : List ℕ) (openers : Openers) (comment : Bool) : Type 0 where
   pub front : is_in_front s.body.part ≡ false
   pub reading : reading_of s ≡ kept
@@ -31,7 +31,8 @@ pub record TellsTheSameBut (before after : ScoreStageState) (next : Place) : Typ
 abbrev pub no_openers : Openers
 no_openers = record { notes = None; inner = None }
 
--- What can be read again is told in a comment of a text of which nothing is kept, behind the same and under the same limits.
+-- What can be read again is told in a comment of a text of which nothing is kept, after the same
+-- and under the same limits.
 pub record CanBeReadInText (s : ScoreStageState) : Type 0 where
   pub told : ScoreStageState
   pub again : CanBeReadAgain told

@@ -1,22 +1,24 @@
 -- Regular syllables: those that are read as they stand, and in which nothing is found.
-use Rattle.std.specs.Prelude.{◌≡◌, ℕ, zero, suc, List, [], ◌∷◌, ◌++◌, length, Bool, true, false, cond, encode_utf8_all}
-use Rattle.std.specs.List.{list_all}
+use Rattle.std.specs.Prelude.{◌≡◌, ℕ, zero, suc, List, [], ◌∷◌, ◌++◌, length, map, Bool, true, false, cond, encode_utf8_all}
 use Rattle.gabc_places.specs.StageLaw.{concat_of}
 use Rattle.gabc_places.specs.declared.place.Place.{Place}
 use Rattle.gabc_places.specs.declared.place.Char.{Char}
 use Rattle.gabc_places.specs.Place.{next_place, place_past, placed_characters_from}
-use Rattle.gabc_text.specs.Token.{is_blank}
-use Rattle.gabc_text.specs.RegularText.{IsRegularText}
+use Rattle.gabc_text.specs.Canonical.{canonical_text}
+use Rattle.gabc_text.specs.RegularText.{IsRegularText, is_gap}
 use Rattle.gabc_notes.specs.Regular as notes
 use Rattle.gabc_nabc.specs.Regular as nabc
 use Rattle.gabc_score.specs.declared.events.BodyEvent.{BodyEvent}
 use Rattle.gabc_score.specs.Body.{events_onto, findings_of}
-use Rattle.gabc_score.specs.Canonical.{canonical}
+use Rattle.gabc_score.specs.Canonical.{canonical, translation_text}
+use Rattle.gabc_score.specs.Syllable.{UnplacedSyllable, text_at}
+use Rattle.gabc_score.specs.declared.snippets.Snippet.{Snippet}
 use Rattle.gabc_score.specs.Events.{texts_by_definition, text_from, next_line, behind_mark, events_from}
 use Rattle.gabc_score.specs.UnitRead.{GivesOneSyllable, emitted_through}
 use Rattle.gabc_score.specs.Units.{EndedPart, BodyUnit}
 
--- blanks, a text and snippets, of which each of the first ends at a `|`, and the last at the `)`
+-- blanks with comments among them, a text and snippets, of which each of the first ends at a `|`,
+-- and the last at the `)`
 pub record SyllableParts : Type 0 where
   pub gap : List ℕ
   pub text : List ℕ
@@ -43,10 +45,10 @@ module _ (lines : ℕ) where
   AreRegularFrom line [] final = IsRegularOn line final
   AreRegularFrom line (s ∷ nexts) final = IsRegularOn line s × AreRegularFrom (next_line lines line) nexts final
 
-  -- Blanks or none, a regular text and regular snippets are a regular syllable under n NABC lines:
-  -- with none there is one snippet.
+  -- Blanks and comments or none, a regular text and regular snippets are a regular syllable under n
+  -- NABC lines: with none there is one snippet.
   pub record IsRegularSyllable (r : SyllableParts) : Type 0 where
-    pub blanks : list_all is_blank r.gap ≡ true
+    pub blanks : is_gap r.gap ≡ true
     pub text : IsRegularText r.text
     pub notes : AreRegularFrom 0 r.nexts r.final
     pub single : lines ≡ 0 → r.nexts ≡ []
@@ -92,7 +94,7 @@ pub record IsReadAsItStands (lines macros : ℕ) (at : Place) (r : SyllableParts
 
 -- ---- what is made
 
--- blanks before a text begin a word, and one of them is kept
+-- blanks before a text begin a word, and one of them is kept; comments are not
 abbrev pub has_gap : List ℕ → Bool
 has_gap [] = false
 has_gap (c ∷ gap) = true
@@ -108,12 +110,30 @@ kept_spelled r = (gap_kept r.gap ++ r.text) ++ 40 ∷ notes_spelled r.nexts r.fi
 abbrev pub canonical_spelled : Bool → SyllableParts → List ℕ
 canonical_spelled starts r = cond starts (10 ∷ []) [] ++ (r.text ++ 40 ∷ notes_spelled r.nexts r.final)
 
+-- ---- its snippets
+
+-- the bytes of these snippets, each with its line, the first of them on this line
+abbrev pub with_lines : ℕ → ℕ → List (List ℕ) → List ℕ → List (ℕ × List ℕ)
+with_lines lines line [] final = (line, encode_utf8_all final) ∷ []
+with_lines lines line (s ∷ nexts) final = (line, encode_utf8_all s) ∷ with_lines lines (next_line lines line) nexts final
+
+-- those of a syllable
+abbrev pub line_and_text : List ℕ → Snippet → ℕ × List ℕ
+line_and_text kept s = (s.line, text_at s.span kept)
+
+abbrev pub snippet_texts : UnplacedSyllable → List (ℕ × List ℕ)
+snippet_texts m = map (line_and_text m.kept) m.snippets
+
+-- ---- all of it
+
 -- The syllable gives one syllable with its last character, after whatever was emitted before, and
 -- nothing is found in it. It keeps its spelling, with one blank where there are some before its
--- text, and its spelling is its canonical text.
+-- text, and its spelling is its canonical text: text and translation, and each snippet on its line.
 pub record MakesItsSpelling (lines macros : ℕ) (at : Place) (r : SyllableParts) (before : List BodyEvent) : Type 0 where
   pub one : GivesOneSyllable lines macros at (unit_at at r) [] before
   pub nothing : findings_of (emitted_through lines macros at (unit_at at r) [] before) ≡ findings_of before
   pub kept_is : one.made.kept ≡ encode_utf8_all (kept_spelled r)
   pub starts_is : one.made.text.word_start ≡ has_gap r.gap
   pub canonical_is : (starts : Bool) → canonical starts one.made ≡ encode_utf8_all (canonical_spelled starts r)
+  pub text_is : canonical_text one.made.text one.made.kept ++ translation_text one.made.kept one.made.text.translation ≡ encode_utf8_all r.text
+  pub snippets_are : snippet_texts one.made ≡ with_lines lines 0 r.nexts r.final

@@ -1,4 +1,4 @@
--- A stage over a score that goes on behind syllables which another one has read.
+-- A stage over a score that goes on after syllables which another one has read.
 use Rattle.std.specs.Prelude.{◌≡◌, ℕ, List, [], Some, None}
 use Rattle.gabc_places.specs.declared.limits.Limits.{Limits}
 use Rattle.gabc_text.specs.TextStage.{fresh_stage}
@@ -18,14 +18,15 @@ pub record BeginsText (s : ScoreStageState) : Type 0 where
   pub begins : s.body.part ≡ Text (fresh_stage first_place)
   pub next : s.held.next ≡ first_place
 
--- It stands behind the syllables of which `before` tells, holds none and begins to read a text.
+-- It stands after the syllables of which `before` tells, holds none and begins to read a text.
 pub record StandsBehind (limits : Limits) (before : Before) (s : ScoreStageState) : Type 0 where
   pub limits_are : s.limits ≡ limits
   pub before_is : before_of s ≡ Some before
   pub none_held : held_of s ≡ None
   pub begins : BeginsText s
 
--- With a text it holds the syllable that the text is, stands behind the same as before, and begins to read the next one.
+-- With a text it holds the syllable that the text is, stands after the same as before, and begins
+-- to read the next one.
 pub record HoldsAgain (text : List ℕ) (old new : ScoreStageState) : Type 0 where
   pub m : UnplacedSyllable
   pub may : MayBeHeld old.limits (before_with old.body old.before) text m

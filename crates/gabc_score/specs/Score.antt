@@ -16,7 +16,7 @@ use Rattle.gabc_score.specs.declared.score.Score.{Score}
 use Rattle.gabc_score.specs.Body.{body_of}
 use Rattle.gabc_score.specs.NoteBeforeClef.{score_events}
 
--- the text through the `%%` that ends the headers, and the body behind it
+-- the text through the `%%` that ends the headers, and the body after it
 abbrev pub heads_text : List ℕ → List ℕ
 heads_text t = take (head_len t + 2) t
 
@@ -43,6 +43,6 @@ abbrev pub score_by : Limits → InputEnding → List ℕ → Result Heads HeadF
 score_by limits ending t (Ok heads) = with_body heads (body_in limits ending t heads)
 score_by limits ending t (Err stop) = record { book = None; syllables = []; findings = stop.findings; fault = head_fault_by ending stop.at_end stop.fault }
 
--- The score of a text: its headers, and the body behind them.
+-- The score of a text: its headers, and the body after them.
 abbrev pub score_of : Limits → InputEnding → List ℕ → Score
 score_of limits ending t = score_by limits ending t (heads_of limits t)

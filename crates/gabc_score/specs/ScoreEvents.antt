@@ -1,8 +1,9 @@
--- What a score emits of what a header stage gives it: one list for each event that comes in, and one for their end. A thing stands
--- in the list of the event with which it becomes known.
+-- What a score emits of what a header stage gives it: one list for each event that comes in, and
+-- one for their end. A thing stands in the list of the event with which it becomes known.
 --
--- In these definitions `before` is what the body emitted so far, the nearest first, `now` and `lists` are what it emits next, as
--- specs/Events.antt says, and `head` are the bytes of the canonical headers with `%%`.
+-- In these definitions `before` is what the body emitted so far, the nearest first, `now` and
+-- `lists` are what it emits next, as specs/Events.antt says, and `head` are the bytes of the
+-- canonical headers with `%%`.
 use Rattle.std.specs.Prelude.{ℕ, ◌-◌, List, [], ◌∷◌, ◌++◌, Bool, true, false, length, map, take, drop, Option, Some, None, Result, Ok, Err}
 use Rattle.gabc_places.specs.declared.code.Code.{Code}
 use Rattle.gabc_places.specs.declared.code.Finding.{Finding}
@@ -29,7 +30,8 @@ use Rattle.gabc_score.specs.Score.{head_fault_by}
 use Rattle.gabc_score.specs.Syllable.{UnplacedSyllable, PlacedSyllable, all_syllables}
 use Rattle.gabc_score.specs.SyllablesOfUnits.{body_characters}
 
--- What a score emits, with the syllable itself where the code names the slot that holds it. Behind a stop or the end comes nothing.
+-- What a score emits, with the syllable itself where the code names the slot that holds it. After a
+-- stop or the end comes nothing.
 pub data ScoreOutput : Type 0 where
   Found : Finding → ScoreOutput
   Stop : Fault → ScoreOutput
@@ -38,12 +40,14 @@ pub data ScoreOutput : Type 0 where
 
 -- ---- syllables
 
--- A syllable is given when the next one is made, for then it is known whether it ends its word; the last one is given at the stop
--- or the end. Until then it is held. Of these syllables, those that were not given when so many were made: from the held one on.
+-- A syllable is given when the next one is made, for then it is known whether it ends its word; the
+-- last one is given at the stop or the end. Until then it is held. Of these syllables, those that
+-- were not given when so many were made: from the held one on.
 abbrev pub not_given : ℕ → List UnplacedSyllable → List PlacedSyllable
 not_given count made = drop (count - 1) (with_positions made)
 
--- those of them that are given with the character at which these are made: all but the last, which is held
+-- those of them that are given with the character at which these are made: all but the last, which
+-- is held
 abbrev pub given_now : ℕ → List UnplacedSyllable → List PlacedSyllable
 given_now count made = drop (count - 1) (take (length made - 1) (with_positions made))
 
@@ -93,8 +97,8 @@ abbrev pub outputs_by : Option Code → Char → List BodyEvent → List BodyEve
 outputs_by (Some code) x before now xs later = outputs_at_stop before (fault_at x.place code) ∷ silence xs
 outputs_by None x before now xs later = outputs_at before now ∷ later
 
--- What is emitted behind the headers, the next character of the body at this place. Where what comes in just ceases, the source has
--- failed.
+-- What is emitted after the headers, the next character of the body at this place. Where what comes
+-- in just ceases, the source has failed.
 abbrev pub body_outputs : Limits → ℕ → Place → List BodyEvent → List (List BodyEvent) → List HeadEvent → List (List ScoreOutput)
 body_outputs limits head at before lists [] = held_output before ∷ []
 body_outputs limits head at before (now ∷ lists) (head_event.Body x ∷ xs) =
@@ -113,7 +117,8 @@ body_outputs limits head at before lists (head_event.Heads lines macros canonica
 abbrev pub first_place : Place
 first_place = record { line = 1; column = 1 }
 
--- What is emitted from the headers on, where texts are read so: what is found in the headers and what stops them is passed on.
+-- What is emitted from the headers on, where texts are read so: what is found in the headers and
+-- what stops them is passed on.
 abbrev pub score_outputs : Texts → Limits → List HeadEvent → List (List ScoreOutput)
 score_outputs texts limits [] = [] ∷ []
 score_outputs texts limits (head_event.Heads lines macros canonical ∷ xs) =

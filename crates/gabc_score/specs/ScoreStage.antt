@@ -1,11 +1,10 @@
 -- What a stage over a score gives: each syllable in a slot that it lends.
-use Rattle.std.specs.Prelude.{◌≡◌, ℕ, zero, suc, ◌+◌, ◌<◌, ◌≤◌, ◌^◌, List, [], ◌∷◌, ◌++◌, Bool, true, false, length, map, take, if◌then◌else◌}
+use Rattle.std.specs.Prelude.{◌≡◌, ℕ, ◌+◌, ◌<◌, ◌≤◌, ◌^◌, List, [], ◌∷◌, Bool, true, false, length, map, take, if◌then◌else◌}
 use Rattle.gabc_places.specs.BoundedList.{BoundedList, extended_by}
 use Rattle.gabc_places.specs.declared.limits.Limits.{Limits}
 use Rattle.gabc_places.specs.declared.place.Char.{Char}
 use Rattle.gabc_places.specs.declared.place.Place.{Place}
 use Rattle.gabc_places.specs.Place.{saturating_next_place}
-use Rattle.gabc_places.specs.Skip.{characters_at}
 use Rattle.gabc_headers.specs.declared.head_event.HeadEvent.{HeadEvent}
 use Rattle.gabc_headers.specs.declared.head_event.HeadEvent.TheVariants as head_event
 use Rattle.gabc_score.specs.declared.before.Preceding.{Preceding}
@@ -44,7 +43,8 @@ pub record GivesOutputs (outputs : List ScoreOutput) (old new : BoundedList Scor
   pub few : length (events_of outputs) ≤ 16
   pub lent : syllables_in outputs ≡ take (length (syllables_in outputs)) (first ∷ second ∷ [])
 
--- The kept text of a syllable is within the limits, and so is its canonical text, but for the LF before it.
+-- The kept text of a syllable is within the limits, and so is its canonical text, but for the LF
+-- before it.
 pub record IsWithin (limits : Limits) (s : PlacedSyllable) : Type 0 where
   pub kept : length s.made.kept ≤ limits.syllable
   pub canonical : length (canonical_in_place s) ≤ limits.syllable + 1
@@ -53,7 +53,8 @@ pub record IsWithin (limits : Limits) (s : PlacedSyllable) : Type 0 where
 abbrev pub IsWithinAnywhere : Limits → UnplacedSyllable → Type 0
 IsWithinAnywhere limits m = (position : Position) → IsWithin limits (record { made = m; position = position })
 
--- So many syllables at most are lent, and they are within the limits. Those behind the first have no notes.
+-- So many syllables at most are lent, and they are within the limits. Those after the first have no
+-- notes.
 pub record Lends (limits : Limits) (most : ℕ) (outputs : List ScoreOutput) : Type 0 where
   pub few : length (syllables_in outputs) ≤ most
   pub later : OnlyFirstHasNotes (syllables_in outputs)
@@ -67,24 +68,27 @@ most_lent head_event.End = 2
 most_lent (head_event.Found f) = 0
 most_lent (head_event.Heads lines macros canonical) = 0
 
--- What stands before the first syllable that was not given, behind an input at which these were given: behind the headers no syllable was.
+-- What stands before the first syllable that was not given, after an input at which these were
+-- given: after the headers no syllable was.
 abbrev pub preceding_past : ScorePart → HeadEvent → List ScoreOutput → Preceding → Preceding
 preceding_past score_part.Heads (head_event.Heads lines macros canonical) outputs p = no_syllable canonical
 preceding_past part x outputs p = with_placed p (syllables_in outputs)
 
--- the place of the next character behind an input: that of the first behind the headers
+-- the place of the next character after an input: that of the first after the headers
 abbrev pub next_past : ScorePart → HeadEvent → Place → Place
 next_past score_part.Heads (head_event.Heads lines macros canonical) next = first_place
 next_past score_part.Body (head_event.Body x) next = saturating_next_place x.place x.c
 next_past part x next = next
 
--- How many syllables may be whole behind an input, where so many were: none behind the headers, one more behind a character.
+-- How many syllables may be whole after an input, where so many were: none after the headers, one
+-- more after a character.
 abbrev pub most_whole : ScorePart → HeadEvent → ℕ → ℕ
 most_whole score_part.Heads (head_event.Heads lines macros canonical) n = 0
 most_whole score_part.Body (head_event.Body x) n = n + 1
 most_whole part x n = n
 
--- The part in which it stands behind an input at which these were given. A stop or the end is the last of all.
+-- The part in which it stands after an input at which these were given. A stop or the end is the
+-- last of all.
 abbrev pub part_past : ScorePart → HeadEvent → List ScoreOutput → ScorePart
 part_past score_part.Over x outputs = score_part.Over
 part_past score_part.Heads (head_event.Heads lines macros canonical) outputs = score_part.Body
@@ -99,7 +103,8 @@ StandsHere x next = Unit {0}
 abbrev pub IsPlaceBelow : Char → Type 0
 IsPlaceBelow x = (x.place.line + 1 < 2 ^ 64) × (x.place.column + 1 < 2 ^ 64)
 
--- An input may come of a text where the next character stands at this place: the numbers of its headers, or this character.
+-- An input may come of a text where the next character stands at this place: the numbers of its
+-- headers, or this character.
 abbrev pub MayCome : Limits → Place → HeadEvent → Type 0
 MayCome limits next (head_event.Heads lines macros canonical) = AreCountsWithin limits lines macros canonical
 MayCome limits next (head_event.Body x) = (x.place ≡ next) × (IsPlaceBelow x × IsTextCharacter x.c)
@@ -131,12 +136,12 @@ PassesOn x outputs = Unit {0}
 abbrev pub Counts : Place → ScoreStageState → Type 0
 Counts place s = s.part ≡ score_part.Body → StandsAt place s.body.part
 
--- the place of the next character behind an input, where this one is that of the next before
+-- the place of the next character after an input, where this one is that of the next before
 abbrev pub place_behind : HeadEvent → Place → Place
 place_behind (head_event.Body x) place = saturating_next_place x.place x.c
 place_behind x place = place
 
--- the characters among these inputs stand one behind the other, the first of them at this place
+-- the characters among these inputs stand one after the other, the first of them at this place
 abbrev pub StandInLine : Place → List HeadEvent → Type 0
 StandInLine place [] = Unit {0}
 StandInLine place (x ∷ xs) = StandsHere x place × StandInLine (place_behind x place) xs
@@ -168,35 +173,6 @@ pub record GivesLast (before after : ScoreStageState) (old new : BoundedList Sco
   pub limits : after.limits ≡ before.limits
   pub law : left_of before [] ≡ outputs ∷ []
   pub emitted : GivesOutputs outputs old new after.first after.second
-
--- ---- characters at which nothing is given
-
--- these printable characters as inputs of the body: the first stands at this place, and each next one in the next column
-abbrev pub body_inputs : Place → List ℕ → List HeadEvent
-body_inputs at bytes = map (λ (x : Char). head_event.Body x) (characters_at at bytes)
-
--- nothing at each of them
-abbrev pub nothing_each : List ℕ → List (List ScoreOutput)
-nothing_each bytes = map (λ (byte : ℕ). []) bytes
-
--- the place behind so many characters of one line, of which the first stands at `at`; behind none, where the next one stood before
-abbrev pub behind_front : Place → ℕ → Place → Place
-behind_front at zero before = before
-behind_front at (suc n) before = record { line = at.line; column = at.column + suc n }
-
--- At these characters nothing was to come, nothing was given, and it goes on in its part with what follows under the same limits.
-pub record GivesNothing (before : ScoreStageState) (at : Place) (bytes : List ℕ) (after : ScoreStageState) : Type 0 where
-  pub limits : after.limits ≡ before.limits
-  pub part : after.part ≡ before.part
-  pub before_held : after.before ≡ before.before
-  pub next : after.held.next ≡ behind_front at (length bytes) before.held.next
-  pub stands : at ≡ before.held.next → StandsInLine before → StandsInLine after
-  pub whole : whole_syllables after ≡ whole_syllables before
-  pub told : at ≡ before.held.next → StandsInLine before → TellsOfText before → TellsOfText after
-  pub holds : HoldsIfAny before → HoldsIfAny after
-  pub counts : Counts at before → Counts (behind_front at (length bytes) at) after
-  pub law : (xs : List HeadEvent) → left_of before (body_inputs at bytes ++ xs) ≡ nothing_each bytes ++ left_of after xs
-  pub none : bytes ≡ [] → after.body.part ≡ before.body.part
 
 -- ---- counts that have not reached their last value
 

@@ -1,7 +1,9 @@
--- What a stage over a score tells of where it stands in the body. Before the body and behind the last event it tells nothing.
+-- What a stage over a score tells of where it stands in the body. Before the body and after the
+-- last event it tells nothing.
 use Rattle.std.specs.Prelude.{◌≡◌, ℕ, List, [], ◌∷◌, Bool, true, false, Option, Some, None}
 use Rattle.gabc_places.specs.declared.place.Place.{Place}
 use Rattle.gabc_text.specs.StageTells as text
+use Rattle.gabc_text.specs.witness.StageReports as text_reports
 use Rattle.gabc_notes.specs.StageTells as notes
 use Rattle.gabc_nabc.specs.witness.Keeps as nabc
 use Rattle.gabc_score.specs.declared.before.Before.{Before}
@@ -64,7 +66,7 @@ is_in_comment (part.Text stage) = text.is_in_comment stage
 is_in_comment (part.Notes opened stage) = notes.comment_of stage
 is_in_comment (part.Nabc line opened stage) = nabc.comment_of stage
 
--- the comment behind the `%%` is open, in front of the first text
+-- the comment after the `%%` is open, in front of the first text
 abbrev pub is_in_front : BodyPart → Bool
 is_in_front part.Comment = true
 is_in_front part = false
@@ -82,13 +84,13 @@ next_of s = in_body s.part s.held.next
 
 -- a text has counted this place for the next character
 abbrev pub StandsAt : Place → BodyPart → Type 0
-StandsAt place (part.Text stage) = text.next_of stage ≡ place
+StandsAt place (part.Text stage) = text_reports.next_of stage ≡ place
 StandsAt place part = Unit {0}
 
 -- ---- the next character stands elsewhere
 
 abbrev pub moved_part : Place → BodyPart → BodyPart
-moved_part place (part.Text stage) = part.Text (text.moved_to place stage)
+moved_part place (part.Text stage) = part.Text (text_reports.moved_to place stage)
 moved_part place part = part
 
 -- The next character stands at this place. What is open keeps the place where it began.

@@ -4,8 +4,9 @@ use Rattle.gabc_score.specs.HeldAside.{HoldTheSame}
 use Rattle.gabc_score.specs.ScoreTells.{StandsAt, before_of, held_of, is_in_comment, openers_of, reading_of}
 use Rattle.gabc_score.specs.witness.ScoreStage.{ScoreStageState}
 
--- They run under the same limits behind the same, hold none or syllables that may stand for one another, and tell the same of the syllable that is
--- not whole. The next character stands where a text that is read has counted it.
+-- They run under the same limits after the same, hold none or syllables that may stand for one
+-- another, and tell the same of the syllable that is not whole. The next character stands where a
+-- text that is read has counted it.
 pub record StandAlike (one other : ScoreStageState) : Type 0 where
   pub runs : is_some (before_of one) ≡ true
   pub limits : one.limits ≡ other.limits

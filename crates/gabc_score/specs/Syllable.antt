@@ -1,5 +1,6 @@
--- What a score says of a syllable, by what was emitted of its characters. In these definitions `before` is what was emitted so far,
--- the nearest first, and `events` is what was emitted of one syllable, the nearest first.
+-- What a score says of a syllable, by what was emitted of its characters. In these definitions
+-- `before` is what was emitted so far, the nearest first, and `events` is what was emitted of one
+-- syllable, the nearest first.
 use Rattle.std.specs.Prelude.{ℕ, ◌+◌, ◌-◌, ◌||◌, ◌&&◌, nat_lt, nat_le, List, [], ◌∷◌, ◌++◌, Bool, true, false, cond, length, take, drop, codes, string_bytes, encode_utf8, bytes_eq}
 use Rattle.gabc_places.specs.declared.place.Span.{Span}
 use Rattle.gabc_text.specs.declared.view.PieceKind.{PieceKind}
@@ -76,7 +77,8 @@ abbrev pub part_of : List BodyEvent → List ℕ
 part_of [] = []
 part_of (t ∷ events) = part_with (part_of events) t
 
--- The parts that have ended, each with the mark that ended it. What a snippet keeps at its end is emitted there.
+-- The parts that have ended, each with the mark that ended it. What a snippet keeps at its end is
+-- emitted there.
 abbrev pub ended_parts_with : List ℕ → List ℕ → BodyEvent → List ℕ
 ended_parts_with ended part (event.Text (text.Ended Notes)) = ended ++ (part ++ codes "(")
 ended_parts_with ended part (event.Notes line (note.Ended Next n)) = ended ++ (prefix_of n part ++ codes "|")
@@ -131,7 +133,8 @@ abbrev pub is_mark : PieceKind → Bool
 is_mark Mark = true
 is_mark _ = false
 
--- a span is open after a piece of this kind and spelling, by the tags that open and close it, if it was open or not before
+-- a span is open after a piece of this kind and spelling, by the tags that open and close it, if it
+-- was open or not before
 abbrev pub is_open_after : List ℕ → List ℕ → Bool → PieceKind → List ℕ → Bool
 is_open_after opening closing was kind spelled =
     cond (is_mark kind) (cond (bytes_eq spelled opening) true (cond (bytes_eq spelled closing) false was)) was

@@ -37,7 +37,7 @@ snippets_in u = u.nexts ++ u.final ∷ []
 abbrev pub characters_in : BodyUnit → List Char
 characters_in u = with_ends (u.text ∷ snippets_in u)
 
--- the characters behind the last `)`
+-- the characters after the last `)`
 abbrev pub last_in : LastUnit → List Char
 last_in (JustText xs) = xs
 last_in (OpenNotes text nexts xs) = with_ends (text ∷ nexts) ++ xs
@@ -47,13 +47,13 @@ abbrev pub characters_from : List BodyUnit → LastUnit → List Char
 characters_from [] last = last_in last
 characters_from (u ∷ units) last = characters_in u ++ characters_from units last
 
--- those of all units of a body, with what stands behind the last `)`
+-- those of all units of a body, with what stands after the last `)`
 abbrev pub unit_characters : Option Units → List Char
 unit_characters None = []
 unit_characters (Some u) = characters_from u.closed u.last
 
--- A unit of a score: all that stands from its text on, its notes from their `(` through their `)`, and the characters of each
--- snippet of its notes. A last text has no notes.
+-- A unit of a score: all that stands from its text on, its notes from their `(` through their `)`,
+-- and the characters of each snippet of its notes. A last text has no notes.
 pub record ScoreUnit : Type 0 where
   pub text : List ℕ
   pub notes : List ℕ
@@ -71,7 +71,7 @@ abbrev pub closed_units : List BodyUnit → LastUnit → List ScoreUnit
 closed_units [] last = []
 closed_units (u ∷ units) last = score_unit u (characters_from units last) ∷ closed_units units last
 
--- the text behind the last `)` is a unit if it has a piece, a centre or a translation
+-- the text after the last `)` is a unit if it has a piece, a centre or a translation
 abbrev pub last_units : LastUnit → List ScoreUnit
 last_units (JustText xs) =
     if has_text (view_in (codes_of xs)) then record { text = codes_of xs; notes = []; snippets = [] } ∷ [] else []
@@ -112,7 +112,8 @@ next_begins_word (u ∷ after) = (view_in u.text).word_start
 
 -- ---- the syllables
 
--- the notes of a unit: their snippets are read from the characters of the unit's snippets, one after the other
+-- the notes of a unit: their snippets are read from the characters of the unit's snippets, one
+-- after the other
 pub record HasNotes (lines : ℕ) (u : ScoreUnit) (whole : List ℕ) (snippets : List Snippet) : Type 0 where
   pub holds : HoldsNotes lines u.notes whole (kept u.text) snippets
   pub characters_are : map (λ s. s.characters) (holds.earlier ++ holds.last ∷ []) ≡ u.snippets
@@ -122,8 +123,8 @@ abbrev pub NotesAre : ℕ → ScoreUnit → List (List Char) → List ℕ → Li
 NotesAre lines u [] whole snippets = HoldsNoNotes u.notes whole (kept u.text) snippets
 NotesAre lines u (xs ∷ xss) whole snippets = HasNotes lines u whole snippets
 
--- A syllable holds a unit: it has the view of the unit's text, and keeps this text and the unit's notes as the whole for which its
--- spans stand.
+-- A syllable holds a unit: it has the view of the unit's text, and keeps this text and the unit's
+-- notes as the whole for which its spans stand.
 pub record HoldsUnit (lines : ℕ) (u : ScoreUnit) (m : UnplacedSyllable) : Type 0 where
   pub whole : List ℕ
   pub kept_is : m.kept ≡ encode_utf8_all whole
@@ -131,8 +132,8 @@ pub record HoldsUnit (lines : ℕ) (u : ScoreUnit) (m : UnplacedSyllable) : Type
   pub stands : StandsForView whole m.text u.text
   pub notes : NotesAre lines u u.snippets whole m.snippets
 
--- A syllable is that of a unit which stands between these: it holds the unit, it lies in the spans that the texts through its own
--- leave open, and it stands in its word where its unit does.
+-- A syllable is that of a unit which stands between these: it holds the unit, it lies in the spans
+-- that the texts through its own leave open, and it stands in its word where its unit does.
 pub record IsSyllableOf (lines : ℕ) (before : List ScoreUnit) (u : ScoreUnit) (after : List ScoreUnit) (s : PlacedSyllable) : Type 0 where
   pub holds : HoldsUnit lines u s.made
   pub eu_is : IsTrue s.made.eu ↔ IsLeftOpen (codes "<eu>") (codes "</eu>") (tags_in (before ++ u ∷ []))
@@ -147,7 +148,7 @@ pub record AreSyllablesOf (lines : ℕ) (units : List ScoreUnit) (syllables : Li
 
 -- ---- the body of a text
 
--- the characters of the body behind the headers
+-- the characters of the body after the headers
 abbrev pub body_characters : List ℕ → List Char
 body_characters t = placed_characters_behind (heads_text t) (behind_heads t)
 
@@ -163,13 +164,13 @@ count_within n [] = 0
 count_within n (u ∷ units) =
     if nat_lt n (length (characters_in u)) then 0 else suc (count_within (n - length (characters_in u)) units)
 
--- the units whose `)` is one of so many characters behind the comment
+-- the units whose `)` is one of so many characters after the comment
 abbrev pub units_within : ℕ → Option Units → List ScoreUnit
 units_within n None = []
 units_within n (Some u) = take (count_within n u.closed) (closed_units u.closed u.last)
 
--- So many characters of a body stand before its stop, the first point at which a limit is passed. Where none is passed at a
--- character, all do.
+-- So many characters of a body stand before its stop, the first point at which a limit is passed.
+-- Where none is passed at a character, all do.
 abbrev pub StandBeforeStop : Limits → ℕ → List Char → List (List BodyEvent) → ℕ → Type 0
 StandBeforeStop limits head xs lists n =
     let r = events_to_stop limits head [] xs lists in
@@ -183,7 +184,7 @@ StandBeforeBodyStop limits book t n =
 
 -- ---- the prefix of a stopped score
 
--- how many units end within so many characters behind the comment, and within so many of the body
+-- how many units end within so many characters after the comment, and within so many of the body
 abbrev pub count_in : ℕ → Option Units → ℕ
 count_in n None = 0
 count_in n (Some u) = count_within n u.closed
@@ -201,6 +202,7 @@ abbrev pub through_unit : ℕ → BodyCutting → List Char
 through_unit zero cut = []
 through_unit (suc k) cut = cut.comment ++ first_characters (suc k) cut.units
 
--- A text through the `)` of the last unit that ends within so many characters of its body, or through its `%%`, if none does.
+-- A text through the `)` of the last unit that ends within so many characters of its body, or
+-- through its `%%`, if none does.
 abbrev pub whole_prefix : List ℕ → BodyCutting → ℕ → List ℕ
 whole_prefix t cut n = heads_text t ++ codes_of (through_unit (whole_count n cut) cut)

@@ -15,11 +15,12 @@ use Rattle.gabc_score.specs.ScoreTells.{held_of, reading_of, openers_of, is_in_c
 use Rattle.gabc_score.specs.Syllable.{UnplacedSyllable}
 use Rattle.gabc_score.specs.witness.ScoreStage.{ScoreStageState}
 
--- the canonical text of a syllable behind these: the first one begins a word
+-- the canonical text of a syllable after these: the first one begins a word
 abbrev pub written_behind : Preceding → UnplacedSyllable → List ℕ
 written_behind p m = canonical ((p.syllables == 0) || m.text.word_start) m
 
--- The canonical text of a syllable behind these is within the limit, and with theirs and an LF behind it within that of the input.
+-- The canonical text of a syllable after these is within the limit, and with theirs and an LF after
+-- it within that of the input.
 pub record IsHeldWithin (limits : Limits) (p : Preceding) (m : UnplacedSyllable) : Type 0 where
   pub some : 2 ≤ length (written_behind p m)
   pub short : length (written_behind p m) ≤ limits.syllable
@@ -46,7 +47,8 @@ whole_syllables s = s.before.syllables + length s.held.gathered.made
 
 -- ---- as long as what comes in is what a text gives
 
--- the numbers that the headers give are those of headers within the limit of the input, with their `%%`
+-- the numbers that the headers give are those of headers within the limit of the input, with their
+-- `%%`
 pub record AreCountsWithin (limits : Limits) (lines macros canonical : ℕ) : Type 0 where
   pub few_lines : lines ≤ 4
   pub ten_macros : macros < 1024

@@ -1,4 +1,5 @@
--- A syllable as the one of a unit, and a unit that is read from any place on, behind whatever was emitted before.
+-- A syllable as the one of a unit, and a unit that is read from any place on, after whatever was
+-- emitted before.
 use Rattle.std.specs.Prelude.{◌≡◌, ◌≢◌, ℕ, ◌<◌, ◌≤◌, List, [], ◌∷◌, ◌++◌, length, take}
 use Rattle.gabc_places.specs.declared.place.Place.{Place}
 use Rattle.gabc_places.specs.declared.place.Char.{Char}
@@ -12,8 +13,8 @@ use Rattle.gabc_score.specs.SpansPast.{eu_past, nlba_past}
 use Rattle.gabc_score.specs.Units.{BodyUnit}
 use Rattle.gabc_score.specs.WithinLimits.{KeepsWithin}
 
--- A syllable holds some unit with notes: one snippet, where there are no NABC lines. That is said of the syllable alone, whatever it was
--- read from.
+-- A syllable holds some unit with notes: one snippet, where there are no NABC lines. That is said
+-- of the syllable alone, whatever it was read from.
 pub record HoldsSomeUnit (lines : ℕ) (m : UnplacedSyllable) : Type 0 where
   pub unit : ScoreUnit
   pub noted : unit.snippets ≢ []
@@ -25,17 +26,17 @@ abbrev pub first_events : ℕ → ℕ → Place → List Char → ℕ → List B
 first_events lines macros at xs n = concat_of (take n (events_from texts_by_definition lines macros (text_from texts_by_definition at xs) xs))
 
 module _ (lines macros : ℕ) (at : Place) (u : BodyUnit) (behind : List Char) (before : List BodyEvent) where
-  -- what was emitted, the nearest first, behind the first n characters of a unit whose text begins at this place, with those characters
-  -- behind it and this before it
+  -- what was emitted, the nearest first, after the first n characters of a unit whose text begins
+  -- at this place, with those characters after it and this before it
   abbrev pub emitted_within : ℕ → List BodyEvent
   emitted_within n = events_onto (first_events lines macros at (characters_in u ++ behind) n) before
 
   abbrev pub emitted_through : List BodyEvent
   emitted_through = emitted_within (length (characters_in u))
 
-  -- The unit gives one syllable. It gives it with its last character, and nothing of the next one. The syllable holds the unit; which
-  -- spans are open behind it follows from those before. No more is kept on the way, nor of the syllable, than the unit keeps. No bracket
-  -- is left open.
+  -- The unit gives one syllable. It gives it with its last character, and nothing of the next one.
+  -- The syllable holds the unit; which spans are open after it follows from those before. No more
+  -- is kept on the way, nor of the syllable, than the unit keeps. No bracket is left open.
   pub record GivesOneSyllable : Type 0 where
     pub made : UnplacedSyllable
     pub none_earlier : (n : ℕ) → n < length (characters_in u) → all_syllables (emitted_within n) ≡ all_syllables before

@@ -1,8 +1,9 @@
--- The cutting of a body: a comment, then units, and what stands behind the last `)`.
+-- The cutting of a body: a comment, then units, and what stands after the last `)`.
 --
--- A unit is a text with the `(` that ends it, and a note part: snippets of the lines 0, 1, .. and 0 again, the last of which ends at
--- a `)`, each other at a `|`. Read one after the other, these are the parts of the body: each is a text or a snippet, as
--- `specs/Events.antt` reads it from where it begins, and ends at the first character whose list has its end.
+-- A unit is a text with the `(` that ends it, and a note part: snippets of the lines 0, 1, .. and 0
+-- again, the last of which ends at a `)`, each other at a `|`. Read one after the other, these are
+-- the parts of the body: each is a text or a snippet, as `specs/Events.antt` reads it from where it
+-- begins, and ends at the first character whose list has its end.
 use Rattle.std.specs.Prelude.{◌≡◌, ℕ, List, [], ◌∷◌, ◌++◌, map, true, false, ◌==◌, if◌then◌else◌, Option, Some, None}
 use Rattle.std.specs.List.{list_any}
 use Rattle.std.specs.Option.{option_map}
@@ -13,8 +14,8 @@ use Rattle.gabc_score.specs.Events.{PartAhead, InComment, InText, InNotes, is_te
 
 -- ---- parts
 
--- How a part ends: a text at its `(`, a snippet at a `)`, or at a `|` behind which stands a snippet of that line, in the notes whose
--- `(` is there.
+-- How a part ends: a text at its `(`, a snippet at a `)`, or at a `|` after which stands a snippet
+-- of that line, in the notes whose `(` is there.
 pub data Mark : Type 0 where
   Opens : Mark
   Next : ℕ → Place → Mark
@@ -42,7 +43,8 @@ part_onward InComment = InComment
 part_onward (InText lists) = InText (other_lists lists)
 part_onward (InNotes line opened lists) = InNotes line opened (other_lists lists)
 
--- what is emitted of the characters of a part and of the point behind them: the character that ends the part, or the end
+-- what is emitted of the characters of a part and of the point after them: the character that ends
+-- the part, or the end
 abbrev pub events_through : PartAhead → List Char → List (List BodyEvent)
 events_through part [] = events_in part ∷ []
 events_through part (x ∷ xs) = events_in part ∷ events_through (part_onward part) xs
@@ -62,13 +64,13 @@ module _ (lines : ℕ) where
   Endless part [] = Unit
   Endless part (x ∷ xs) = (mark_in part ≡ None) × Endless (part_onward part) xs
 
-  -- the character behind these is the first that ends the part
+  -- the character after these is the first that ends the part
   abbrev pub EndsBehind : PartAhead → List Char → Mark → Type 0
   EndsBehind part [] mark = mark_in part ≡ Some mark
   EndsBehind part (x ∷ xs) mark = (mark_in part ≡ None) × EndsBehind (part_onward part) xs mark
 
 module _ (texts : Texts) (lines macros : ℕ) where
-  -- the part that begins with the characters xs, behind a part that ended so at x
+  -- the part that begins with the characters xs, after a part that ended so at x
   abbrev pub part_following : Mark → Char → List Char → PartAhead
   part_following Opens x xs = snippet_from lines macros 0 x.place xs
   part_following (Next line opened) x xs = snippet_from lines macros line opened xs
@@ -97,7 +99,8 @@ pub record BodyUnit : Type 0 where
   pub nexts : List EndedPart
   pub final : EndedPart
 
--- behind the last `)`: a text, or a text with its `(` and notes that never end, the snippets with their `|` and the rest
+-- after the last `)`: a text, or a text with its `(` and notes that never end, the snippets with
+-- their `|` and the rest
 pub data LastUnit : Type 0 where
   JustText : List Char → LastUnit
   OpenNotes : EndedPart → List EndedPart → List Char → LastUnit
@@ -114,7 +117,8 @@ last_characters (JustText xs) = xs
 last_characters (OpenNotes text nexts xs) = xs
 
 module _ (lines : ℕ) where
-  -- snippets that end at a `|`, from that line on in the notes whose `(` is there, and the parts behind them
+  -- snippets that end at a `|`, from that line on in the notes whose `(` is there, and the parts
+  -- after them
   abbrev pub snippets_with : ℕ → Place → List EndedPart → List CutPart → List CutPart
   snippets_with line opened [] more = more
   snippets_with line opened (e ∷ nexts) more =
@@ -148,7 +152,7 @@ abbrev pub BeginsWithLf : List Char → Type 0
 BeginsWithLf [] = ⊥
 BeginsWithLf (x ∷ xs) = (x.c == 10) ≡ true
 
--- the text that begins with the LF behind the comment
+-- the text that begins with the LF after the comment
 abbrev pub first_text : Texts → List Char → PartAhead
 first_text texts [] = InComment
 first_text texts (x ∷ xs) = text_from texts x.place (x ∷ xs)
@@ -169,6 +173,7 @@ module _ (texts : Texts) (lines macros : ℕ) where
   events_of_parts None = events_at_end InComment ∷ []
   events_of_parts (Some cut) = events_of_cutting texts lines macros (first_text texts (whole cut.pieces cut.last)) cut.pieces cut.last
 
-  -- what a body emits that is cut so: nothing of the comment, then what each part emits through its end, and what the last part emits
+  -- what a body emits that is cut so: nothing of the comment, then what each part emits through its
+  -- end, and what the last part emits
   abbrev pub events_of_body_cutting : BodyCutting → List (List BodyEvent)
   events_of_body_cutting cut = map (λ (x : Char). []) cut.comment ++ events_of_parts (option_map (cutting_of lines) cut.units)

@@ -7,8 +7,8 @@ use Rattle.gabc_score.specs.Canonical.{canonical_in_place}
 use Rattle.gabc_score.specs.Syllable.{PlacedSyllable}
 use Rattle.gabc_score.specs.SyllablesOfUnits.{ScoreUnit}
 
--- No canonical text of these syllables is longer than a syllable may be, and their canonical file is no longer than the input may be;
--- `head` are the bytes of its headers with `%%`.
+-- No canonical text of these syllables is longer than a syllable may be, and their canonical file
+-- is no longer than the input may be; `head` are the bytes of its headers with `%%`.
 pub record CanonicalWithin (limits : Limits) (head : ℕ) (syllables : List PlacedSyllable) : Type 0 where
   pub texts : All (λ (s : PlacedSyllable). length (canonical_in_place s) ≤ limits.syllable) syllables
   pub file : head + length (flat_map canonical_in_place syllables) + 1 ≤ limits.input
@@ -18,6 +18,7 @@ pub record AreWithin (limits : Limits) (head : ℕ) (syllables : List PlacedSyll
   pub kept_texts : All (λ (s : PlacedSyllable). length s.made.kept ≤ limits.syllable) syllables
   pub canonical : CanonicalWithin limits head syllables
 
--- What a unit keeps has no more bytes than that while it is read: the kept text of its text, and its notes.
+-- What a unit keeps has no more bytes than that while it is read: the kept text of its text, and
+-- its notes.
 abbrev pub KeepsWithin : ℕ → ScoreUnit → Type 0
 KeepsWithin limit u = length (encode_utf8_all (kept u.text)) + length (encode_utf8_all u.notes) ≤ limit

@@ -1,7 +1,6 @@
 pub mod Between
 pub mod BodyBuilder
 pub mod Collected
-pub mod Fronts
 pub mod Gatherer
 pub mod HeldAside
 pub mod HeldWithin
@@ -12,8 +11,8 @@ pub mod PartMakes
 pub mod PartOnly
 pub mod PartOpens
 pub mod PartPushes
+pub mod PlaceByBytes
 pub mod Preceded
-pub mod Quiet
 pub mod ReadAlone
 pub mod RegularLen
 pub mod Resumed

@@ -18,9 +18,10 @@ pub struct Before {
     pub macros: u16,
     /// The number of syllables, a count that saturates at the last value of a `u64`.
     pub syllables: u64,
-    /// The bytes of the canonical headers and of the canonical texts of these syllables, a count that saturates at the last value of a `usize`.
+    /// The bytes of the canonical headers and of the canonical texts of these syllables, a count
+    /// that saturates at the last value of a `usize`.
     pub canonical: usize,
-    /// The spans that are open behind these syllables.
+    /// The spans that are open after these syllables.
     pub spans: Spans,
     /// Whether one of these syllables has a note or a clef in GABC.
     pub sounded: bool,
@@ -33,7 +34,7 @@ pub(crate) struct Preceding {
     pub(crate) syllables: u64,
     /// The bytes of the canonical headers and of their canonical texts, which saturate.
     pub(crate) canonical: usize,
-    /// The spans that are open behind them.
+    /// The spans that are open after them.
     pub(crate) spans: Spans,
     /// Whether one of them has a note or a clef in GABC.
     pub(crate) sounded: bool,

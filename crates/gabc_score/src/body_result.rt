@@ -11,7 +11,8 @@ use crate::syllables::Syllables;
 use gabc_places::{Fault, Findings, Memory, Room};
 use std::alloc::AllocError;
 
-/// What the body of a score says: its whole syllables, what was found, and what stopped the reading.
+/// What the body of a score says: its whole syllables, what was found, and what stopped the
+/// reading.
 #[derive(Drop)]
 pub(crate) struct BodyResult {
     pub(crate) syllables: Syllables,
@@ -43,7 +44,8 @@ impl BodyResult {
         Ok(())
     }
 
-    /// Adds all that was given with an input. Copies lie in `memory`, and nothing stays in the room.
+    /// Adds all that was given with an input. Copies lie in `memory`, and nothing stays in the
+    /// room.
     pub(crate) fn add_all(
         &mut self,
         memory: &Memory,

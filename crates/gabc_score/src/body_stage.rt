@@ -1,6 +1,6 @@
 //! A machine over the texts and notes of a body, one part after the other.
 
-ghost use Rattle.std.specs.Prelude.{◌≡◌, ◌≢◌, ◌+◌, ◌∷◌, ◌<◌, ℕ, List, [], length, ◌≤◌, None, Some, IfOk, true, false};
+ghost use Rattle.std.specs.Prelude.{◌≡◌, ◌≢◌, ◌+◌, ◌∷◌, ◌<◌, ℕ, List, [], length, ◌≤◌, None, IfOk, true, false};
 ghost use Rattle.gabc_places.specs.declared.place.Char.{Char};
 ghost use Rattle.gabc_notes.specs.declared.stage.NoteEvent.{NoteEvent};
 ghost use Rattle.gabc_score.specs.machine.PartPushes.{ClosesLast};
@@ -17,7 +17,6 @@ ghost use Rattle.gabc_score.specs.machine.PartMakes.{PartMakes};
 ghost use Rattle.gabc_score.specs.machine.PartOnly.{PartKeepsOnly};
 ghost use Rattle.gabc_score.specs.machine.PartOpens.{PartEndsLine, PartOpensOn};
 ghost use Rattle.gabc_score.specs.ScoreTells.{StandsAt, is_in_comment, openers_of};
-ghost use Rattle.gabc_score.specs.machine.Quiet.{TakesQuietly};
 ghost use Rattle.gabc_score.specs.machine.ReadAgain.{ReadsAgain, OpensNotes};
 ghost use Rattle.gabc_score.specs.machine.SyllableBuilder.{OpenSyllable, nothing_open};
 ghost use Rattle.gabc_score.specs.machine.Slot.{FitEach};
@@ -31,17 +30,16 @@ use crate::part_events::{emit_notes, emit_text, hold_notes, hold_text};
 use crate::part_pushes::{finish_part, push_gabc, push_nabc, push_text};
 use crate::slot_pair::{SlotPair, SlotUse};
 use gabc_nabc::NabcStage;
-use gabc_notes::{NoteEnd, NoteEvent, NoteStage};
+use gabc_notes::{NoteEvent, NoteStage};
 use gabc_places::{Char, Finding, Memory, Place, Room, Stage};
-use gabc_text::laws::a_fresh_stage_emits_the_events_by_point;
-use gabc_text::{TextEnd, TextEvent, TextPart, TextStage};
+use gabc_text::{TextEnd, TextEvent, TextStage};
 use std::alloc::AllocError;
 use std::marker::Model;
 
 /// The part of a body that the next character stands in. The notes know the place of their `(`.
 #[derive(Drop)]
 pub(crate) enum BodyPart {
-    /// The comment behind the `%%`, up to the first LF.
+    /// The comment after the `%%`, up to the first LF.
     Comment,
     Text(TextStage),
     Notes {
@@ -65,7 +63,8 @@ pub(crate) enum Emitter {
     Notes { line: u8, opened: Place },
 }
 
-/// Reads the body of a score a character at a time, and emits what its texts and notes emit. It asks for no memory once made.
+/// Reads the body of a score a character at a time, and emits what its texts and notes emit. It
+/// asks for no memory once made.
 #[derive(Drop)]
 pub struct BodyStage {
     pub(crate) nabc_lines: u8,
@@ -95,14 +94,14 @@ impl Model for BodyStage {
     ghost invariant = { λ b. (8 ≤ b.texts.limit) × (3 ≤ b.notes.limit) };
 }
 
-/// The line behind a line, of so many NABC lines: behind the last comes GABC again.
+/// The line after a line, of so many NABC lines: after the last comes GABC again.
 pub(crate) fn next_line(lines: u8, line: u8) -> u8
     ensures { result ≡ line_after lines line }
 {
     if line < lines { line + 1 } else { 0 }
 }
 
-/// The text behind the `)` that stands at `mark`.
+/// The text after the `)` that stands at `mark`.
 fn text_behind(mark: Place) -> BodyPart
     ensures part { (xs : List Char) → part_with result xs
         ≡ text_from texts_by_stage (behind_mark mark) xs }
@@ -116,9 +115,10 @@ fn text_behind(mark: Place) -> BodyPart
 }
 
 impl BodyStage {
-    /// Returns a stage before the first character of a body, behind the `%%` of the headers. `nabc_lines` is the number of NABC lines
-    /// under each GABC snippet, and the bit `d` of `macros` tells that the macro of the digit `d` is defined. It tells what the
-    /// definition says of each body in which no count reaches its last value. Its rooms lie in `memory`.
+    /// Returns a stage before the first character of a body, after the `%%` of the headers.
+    /// `nabc_lines` is the number of NABC lines under each GABC snippet, and the bit `d` of
+    /// `macros` tells that the macro of the digit `d` is defined. It tells what the definition says
+    /// of each body in which no count reaches its last value. Its rooms lie in `memory`.
     pub fn new(memory: &Memory, nabc_lines: u8, macros: u16) -> Result<BodyStage, AllocError>
         ensures run { IfOk result (λ stage. (xs : List Char) →
             events_left stage xs ≡ events_from texts_by_stage nabc_lines macros InComment xs) }
@@ -129,7 +129,7 @@ impl BodyStage {
             ≡ body_events nabc_lines macros (placed_characters_from at t)) }
     {
         // Its clause says where the machine over a text emits what the definition says.
-        a_fresh_stage_emits_the_events_by_point();
+        gabc_text::laws::a_fresh_stage_emits_the_events_by_point();
         let texts = Room::in_memory(memory, 8)?;
         let notes = Room::in_memory(memory, 3)?;
         Ok(BodyStage {
@@ -184,7 +184,7 @@ impl BodyStage {
         }
     }
 
-    /// The snippet behind one of that line that ended at a `|`.
+    /// The snippet after one of that line that ended at a `|`.
     fn next_snippet(&self, line: u8, opened: Place) -> BodyPart
         ensures part { (xs : List Char) → part_with result xs
             ≡ snippet_from self.now.nabc_lines self.now.macros
@@ -301,143 +301,6 @@ impl BodyStage {
         self.push_part(x);
     }
 
-    /// Takes the character `x`, which is ASCII, without rooms for its events, where they are no more than what is kept, a piece, the start of a
-    /// word, the `(` of the notes or the `|` behind a snippet, and adds them to what was gathered in `pair`. Returns whether it did. Where it
-    /// did not, nothing changes.
-    #[inline(always)]
-    pub(crate) fn take_quietly(&mut self, x: Char, pair: &mut SlotPair) -> bool
-        requires reads { pair.old.used ≡ SlotUse.Filling }
-        requires counts { CountsHold self.old.part pair.old.gathered.builder }
-        requires kept { length pair.old.gathered.builder.kept ≤ pair.old.gathered.limit }
-        requires ascii { x.c < 128 }
-        ensures taken { result ≡ true → TakesQuietly self.old x pair.old self.new pair.new }
-        ensures same { result ≡ false → (self.new ≡ self.old) × (pair.new ≡ pair.old) }
-    {
-        match &mut self.part {
-            BodyPart::Comment => false,
-            BodyPart::Text(stage) => match stage.take_letter(x) {
-                Some(piece) => {
-                    pair.add_text(TextEvent::Kept(x));
-                    pair.add_text(TextEvent::Part(TextPart::Piece(piece)));
-                    true
-                }
-                None => self.pass_quietly(x, pair),
-            },
-            BodyPart::Notes { opened: _, stage } => {
-                if !stage.take_kept(x) {
-                    return x.c == '|' && self.next_quietly(x, pair);
-                }
-                pair.add_note(0, NoteEvent::Kept(x));
-                true
-            }
-            BodyPart::Nabc {
-                line,
-                opened: _,
-                stage,
-            } => {
-                if !stage.take_kept(x) {
-                    return x.c == '|' && self.next_quietly(x, pair);
-                }
-                pair.add_note(*line, NoteEvent::Kept(x));
-                true
-            }
-        }
-    }
-
-    /// Takes `x`, which is no letter of a text, as `take_quietly` does: the `(` of the notes, the blank that begins a word, or a character that
-    /// is kept with no other event.
-    #[inline(never)]
-    fn pass_quietly(&mut self, x: Char, pair: &mut SlotPair) -> bool
-        requires reads { pair.old.used ≡ SlotUse.Filling }
-        requires counts { CountsHold self.old.part pair.old.gathered.builder }
-        requires kept { length pair.old.gathered.builder.kept ≤ pair.old.gathered.limit }
-        requires ascii { x.c < 128 }
-        ensures taken { result ≡ true → TakesQuietly self.old x pair.old self.new pair.new }
-        ensures same { result ≡ false → (self.new ≡ self.old) × (pair.new ≡ pair.old) }
-    {
-        if x.c == '(' {
-            return self.open_quietly(x, pair);
-        }
-        let BodyPart::Text(stage) = &mut self.part else {
-            return false;
-        };
-        if stage.take_blank(x) {
-            pair.add_text(TextEvent::Kept(x));
-            pair.add_text(TextEvent::Part(TextPart::WordStart));
-            return true;
-        }
-        if !stage.take_kept(x) {
-            return false;
-        }
-        pair.add_text(TextEvent::Kept(x));
-        true
-    }
-
-    /// Takes `x`, a `(`, as `take_quietly` does: a text that ends with nothing more to emit, and opens its notes.
-    fn open_quietly(&mut self, x: Char, pair: &mut SlotPair) -> bool
-        requires reads { pair.old.used ≡ SlotUse.Filling }
-        requires counts { CountsHold self.old.part pair.old.gathered.builder }
-        requires kept { length pair.old.gathered.builder.kept ≤ pair.old.gathered.limit }
-        requires mark { x.c ≡ 40 }
-        ensures taken { result ≡ true → TakesQuietly self.old x pair.old self.new pair.new }
-        ensures same { result ≡ false → (self.new ≡ self.old) × (pair.new ≡ pair.old) }
-    {
-        let BodyPart::Text(stage) = &mut self.part else {
-            return false;
-        };
-        if !stage.take_end() {
-            return false;
-        }
-        pair.add_text(TextEvent::Ended(TextEnd::Notes));
-        self.part = self.snippet(0, x.place);
-        true
-    }
-
-    /// Takes `x`, a `|`, as `take_quietly` does: a snippet that ends with nothing more to emit, before the next one. It takes none that
-    /// ends a snippet of GABC which may bring the first note or clef.
-    #[inline(never)]
-    fn next_quietly(&mut self, x: Char, pair: &mut SlotPair) -> bool
-        requires reads { pair.old.used ≡ SlotUse.Filling }
-        requires counts { CountsHold self.old.part pair.old.gathered.builder }
-        requires kept { length pair.old.gathered.builder.kept ≤ pair.old.gathered.limit }
-        requires mark { x.c ≡ 124 }
-        ensures taken { result ≡ true → TakesQuietly self.old x pair.old self.new pair.new }
-        ensures same { result ≡ false → (self.new ≡ self.old) × (pair.new ≡ pair.old) }
-    {
-        let how = NoteEnd::Next;
-        match &mut self.part {
-            BodyPart::Comment | BodyPart::Text(_) => false,
-            BodyPart::Notes { opened, stage } => {
-                let opened = *opened;
-                if pair.awaits(0) {
-                    return false;
-                }
-                let Some(kept) = stage.take_next() else {
-                    return false;
-                };
-                pair.add_note(0, NoteEvent::Ended { how, kept });
-                self.part = self.next_snippet(0, opened);
-                true
-            }
-            BodyPart::Nabc {
-                line,
-                opened,
-                stage,
-            } => {
-                let (line, opened) = (*line, *opened);
-                if pair.awaits(line) {
-                    return false;
-                }
-                let Some(kept) = stage.take_next() else {
-                    return false;
-                };
-                pair.add_note(line, NoteEvent::Ended { how, kept });
-                self.part = self.next_snippet(line, opened);
-                true
-            }
-        }
-    }
-
     /// Ends the input. What that emits stands in the part's room.
     pub(crate) fn close(&mut self)
         ensures events { EmitsLast (running_events_left self.old) 8 self.new.events }
@@ -486,7 +349,8 @@ impl BodyStage {
         }
     }
 
-    /// Adds the events of the last point to what was gathered, and what is found among them to `found`.
+    /// Adds the events of the last point to what was gathered, and what is found among them to
+    /// `found`.
     #[inline(always)]
     pub(crate) fn hold(&self, pair: &mut SlotPair, found: &mut Room<Finding>)
         requires reads { pair.old.used ≡ SlotUse.Filling }

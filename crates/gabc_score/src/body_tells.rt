@@ -13,7 +13,8 @@ use gabc_places::Place;
 pub struct Openers {
     /// The place of the `(` of the notes that are read.
     pub notes: Option<Place>,
-    /// The place of the `<` or `[` of a tag, a raw part, a translation or a raw bracket of GABC that is read.
+    /// The place of the `<` or `[` of a tag, a raw part, a translation or a raw bracket of GABC
+    /// that is read.
     pub inner: Option<Place>,
 }
 

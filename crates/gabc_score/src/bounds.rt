@@ -1,4 +1,4 @@
-//! What stands before and behind the syllable that is held.
+//! What stands before and after the syllable that is held.
 
 ghost use Rattle.std.specs.Prelude.{◌≡◌};
 ghost use Rattle.gabc_score.specs.machine.Preceded.{behind_headers, past_point};
@@ -6,7 +6,8 @@ ghost use Rattle.gabc_score.specs.machine.Preceded.{behind_headers, past_point};
 use crate::before::{Preceding, Spans};
 use crate::slot_pair::SlotPair;
 
-/// What stands before the syllable that is held, and what behind it. Where none is held, the same stands there.
+/// What stands before the syllable that is held, and what after it. Where none is held, the same
+/// stands there.
 #[derive(Clone, Copy)]
 pub(crate) struct Bounds {
     pub(crate) before: Preceding,
@@ -14,7 +15,8 @@ pub(crate) struct Bounds {
 }
 
 impl Bounds {
-    /// Returns what stands before the first syllable, where the canonical headers have `canonical` bytes.
+    /// Returns what stands before the first syllable, where the canonical headers have `canonical`
+    /// bytes.
     pub(crate) fn behind_headers(canonical: usize) -> Bounds
         ensures { result ≡ behind_headers canonical }
     {
@@ -33,8 +35,9 @@ impl Bounds {
         }
     }
 
-    /// Goes past a point at which a syllable has become whole, which is held from then on, or none has. `gave` tells whether the one that was held
-    /// before is given; `pair` has gathered what is behind this point.
+    /// Goes past a point at which a syllable has become whole, which is held from then on, or none
+    /// has. `gave` tells whether the one that was held before is given; `pair` has gathered what is
+    /// after this point.
     pub(crate) fn pass(&mut self, is_whole: bool, gave: bool, pair: &SlotPair)
         ensures { self.new ≡ past_point is_whole gave self.old pair.now.gathered }
     {

@@ -21,7 +21,8 @@ use gabc_headers::HeadEvent;
 use gabc_places::{Char, Limits, Memory, Room};
 use std::alloc::AllocError;
 
-/// Reads a body to its end or the first fault, by a new stage. Most of what it takes lies in `memory`.
+/// Reads a body to its end or the first fault, by a new stage. Most of what it takes lies in
+/// `memory`.
 pub(crate) fn build_body(
     memory: &Memory,
     stage: BodyStage,

@@ -67,8 +67,9 @@ fn put_notes<S: Put>(syllable: &Syllable, out: &mut S)
     out.put(b")");
 }
 
-/// Puts the canonical text of `syllable` but for the LF before a word, part by part: the text, the translation, and the notes. It stays out of
-/// line: to count bytes it does well, but few syllables are written so.
+/// Puts the canonical text of `syllable` but for the LF before a word, part by part: the text, the
+/// translation, and the notes. It stays out of line: to count bytes it does well, but few syllables
+/// are written so.
 #[inline(never)]
 fn put_parts<S: Put>(syllable: &Syllable, out: &mut S)
     ensures { out.new ≡ S.taken out.old (canonical false (unplaced_of syllable.now)) }
@@ -78,8 +79,8 @@ fn put_parts<S: Put>(syllable: &Syllable, out: &mut S)
     put_notes(syllable, out);
 }
 
-/// Returns the number of bytes of the canonical text of `syllable`, if it `starts` a word or not; it saturates at the last value
-/// of a `usize`.
+/// Returns the number of bytes of the canonical text of `syllable`, if it `starts` a word or not;
+/// it saturates at the last value of a `usize`.
 pub(crate) fn canonical_len(syllable: &Syllable, starts: bool) -> usize
     ensures { result ≡ min (length (canonical starts (unplaced_of syllable.now))) (2 ^ 64 - 1) }
 {
@@ -89,8 +90,9 @@ pub(crate) fn canonical_len(syllable: &Syllable, starts: bool) -> usize
     counter.count()
 }
 
-/// Puts the canonical text of `syllable`, as many bytes as `canon_len` tells: an LF before a word, the text, the translation, and
-/// the notes. A room without that many bytes left gets as many of them as fit. Most syllables are put as they are kept.
+/// Puts the canonical text of `syllable`, as many bytes as `canon_len` tells: an LF before a word,
+/// the text, the translation, and the notes. A room without that many bytes left gets as many of
+/// them as fit. Most syllables are put as they are kept.
 pub fn canon_syllable<S: Put>(syllable: &Syllable, out: &mut S)
     ensures { out.new
         ≡ S.taken out.old (canonical (starts_word syllable.now.position)
@@ -99,7 +101,8 @@ pub fn canon_syllable<S: Put>(syllable: &Syllable, out: &mut S)
     canon_starting(syllable, syllable.starts_word(), out);
 }
 
-/// Puts the canonical text of `syllable` as `canon_syllable` does, where it `starts` a word or not, whatever its position says.
+/// Puts the canonical text of `syllable` as `canon_syllable` does, where it `starts` a word or not,
+/// whatever its position says.
 pub fn canon_starting<S: Put>(syllable: &Syllable, starts: bool, out: &mut S)
     ensures { out.new ≡ S.taken out.old (canonical starts (unplaced_of syllable.now)) }
 {
@@ -110,7 +113,8 @@ pub fn canon_starting<S: Put>(syllable: &Syllable, starts: bool, out: &mut S)
     }
 }
 
-/// Returns the number of bytes of the canonical text of `syllable`; it saturates at the last value of a `usize`.
+/// Returns the number of bytes of the canonical text of `syllable`; it saturates at the last value
+/// of a `usize`.
 pub fn canon_len(syllable: &Syllable) -> usize
     ensures { result ≡ min (length (canonical (starts_word syllable.now.position)
         (unplaced_of syllable.now))) (2 ^ 64 - 1) }

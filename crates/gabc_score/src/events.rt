@@ -8,7 +8,7 @@ use gabc_text::TextEvent;
 pub enum BodyEvent {
     /// Of a text.
     Text(TextEvent),
-    /// Of a snippet of notes. Line 0 is GABC, and the lines from 1 on are its NABC lines. The place of a cut is that of the
-    /// innermost bracket that is open.
+    /// Of a snippet of notes. Line 0 is GABC, and the lines from 1 on are its NABC lines. The place
+    /// of a cut is that of the innermost bracket that is open.
     Notes { line: u8, out: NoteEvent },
 }

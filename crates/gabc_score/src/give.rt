@@ -1,10 +1,11 @@
 //! What takes the syllables of a run.
 
-ghost use Rattle.std.specs.Prelude.{◌≡◌, ◌≤◌, ℕ, List, [], ◌∷◌, ◌++◌, length, true};
+ghost use Rattle.std.specs.Prelude.{◌≡◌, ◌≤◌, ℕ, List, [], ◌∷◌, ◌++◌, length, true, false};
 ghost use Rattle.gabc_score.specs.Canonical.{canonical_in_place};
-ghost use Rattle.gabc_score.specs.GivesSyllables.{spelled_canonical};
+ghost use Rattle.gabc_score.specs.SpelledSyllable.{IsSpelling, Spells};
 ghost use Rattle.gabc_score.specs.Syllable.{PlacedSyllable, placed_of};
 
+use crate::spelled::SpelledSyllable;
 use crate::syllable::Syllable;
 use gabc_places::Place;
 
@@ -25,11 +26,12 @@ pub trait Give {
         requires { Takes self.old (length (canonical_in_place (placed_of syllable.now))) }
         ensures { self.new ≡ given self.old (placed_of syllable.now ∷ []) };
 
-    /// Takes the syllable whose canonical text is `text`, with an LF before it if it `starts` a word.
-    fn give_spelled(&mut self, starts: bool, text: &[u8])
-        requires { Takes self.old (length (spelled_canonical starts text.now)) }
-        ensures { (s : PlacedSyllable) → canonical_in_place s ≡ spelled_canonical starts text.now →
-            self.new ≡ given self.old (s ∷ []) };
+    /// Takes the syllable that these slices spell, or leaves it. Returns whether it takes it.
+    fn give_spelled(&mut self, syllable: SpelledSyllable<'_>) -> bool
+        requires { IsSpelling syllable }
+        ensures given { result ≡ true → (s : PlacedSyllable) → Spells syllable.entry s →
+            self.new ≡ given self.old (s ∷ []) }
+        ensures same { result ≡ false → self.new ≡ self.old };
 
     // to take none changes nothing
     ghost given_none: { (s : Self) → given s [] ≡ s };

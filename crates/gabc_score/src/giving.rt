@@ -14,7 +14,8 @@ use crate::slot_pair::{SlotPair, SlotUse};
 use gabc_notes::ItemKind;
 use gabc_places::{Code, Fault, Finding, Place, Room};
 
-/// Finds a note before any clef at `place`: which of the two came first in GABC was not known before, and is a note now.
+/// Finds a note before any clef at `place`: which of the two came first in GABC was not known
+/// before, and is a note now.
 #[inline(always)]
 pub(crate) fn find_first(
     was: Option<ItemKind>,
@@ -83,8 +84,8 @@ fn give_lent(count: usize, out: &mut Room<ScoreEvent>)
     }
 }
 
-/// Gives what was found at a point, and the held syllable if another is whole, which is held then. `has_lent` tells whether one was
-/// lent before. Returns whether it gave one.
+/// Gives what was found at a point, and the held syllable if another is whole, which is held then.
+/// `has_lent` tells whether one was lent before. Returns whether it gave one.
 pub(crate) fn give_point(
     pair: &mut SlotPair,
     has_lent: bool,
@@ -143,8 +144,8 @@ pub(crate) fn give_broken(pair: &mut SlotPair, has_lent: bool, out: &mut Room<Sc
     give_lent(count, out);
 }
 
-/// Gives what was found at the end, which is at this place, the syllables that are left, and the end. `has_last` tells
-/// whether a last text is a syllable.
+/// Gives what was found at the end, which is at this place, the syllables that are left, and the
+/// end. `has_last` tells whether a last text is a syllable.
 pub(crate) fn give_end(
     pair: &mut SlotPair,
     has_lent: bool,

@@ -1,4 +1,5 @@
-//! Where a stage over a score stands in front of the first text of its body, in the comment behind the `%%`.
+//! Where a stage over a score stands in front of the first text of its body, in the comment after
+//! the `%%`.
 
 ghost use Rattle.std.specs.Prelude.{◌≡◌, List};
 ghost use Rattle.gabc_headers.specs.declared.head_event.HeadEvent.{HeadEvent};
@@ -11,7 +12,8 @@ use crate::score_machine::ScoreMachine;
 use crate::score_stage::ScoreStage;
 
 impl ScoreMachine {
-    /// Does nothing. Its contract is a law: in front of the first text a machine gives the same, wherever the next character is said to stand.
+    /// Does nothing. Its contract is a law: in front of the first text a machine gives the same,
+    /// wherever the next character is said to stand.
     fn begins_anywhere(&self)
         requires rests { IsScore self.now }
         requires front { StandsInFront (shown self.now) }
@@ -21,7 +23,8 @@ impl ScoreMachine {
 }
 
 impl ScoreStage {
-    /// Does nothing. Its contract is a law: in front of the first text a stage gives the same, wherever the next character is said to stand.
+    /// Does nothing. Its contract is a law: in front of the first text a stage gives the same,
+    /// wherever the next character is said to stand.
     pub(crate) fn begins_anywhere(&self)
         requires { StandsInFront self.now }
         ensures { (place : Place) (xs : List HeadEvent) →

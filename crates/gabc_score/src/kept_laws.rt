@@ -10,7 +10,7 @@ ghost use Rattle.gabc_score.specs.machine.StageLaws.{StageLaws};
 ghost use Rattle.gabc_score.specs.witness.ReadAgain.{CanBeReadAgain};
 ghost use Rattle.gabc_score.specs.witness.ScoreStage.{ScoreStageState};
 
-use crate::stage_laws::a_text_is_read_from_its_beginning;
+use crate::stage_laws;
 
 /// Calls the laws of the stages of texts and snippets on which the laws below stand.
 fn laws_of_stages()
@@ -40,7 +40,7 @@ pub fn what_is_told_is_kept_again()
         length (encode_utf8_all t) ≤ s.limits.syllable }
 {
     laws_of_stages();
-    a_text_is_read_from_its_beginning();
+    stage_laws::a_text_is_read_from_its_beginning();
 }
 
 /// Law: a text that is kept again where it is read by itself, no longer than a syllable may be, is
@@ -52,5 +52,5 @@ pub fn what_is_kept_again_is_told()
         IsReported limits lines macros t openers comment }
 {
     laws_of_stages();
-    a_text_is_read_from_its_beginning();
+    stage_laws::a_text_is_read_from_its_beginning();
 }

@@ -9,7 +9,8 @@ use crate::snippets::Snippet;
 use crate::syllable::Syllable;
 use gabc_text::text_span;
 
-/// Returns whether the rest of `kept` from `from` on is `snippets`, each with a `|` before it, and a `)`.
+/// Returns whether the rest of `kept` from `from` on is `snippets`, each with a `|` before it, and
+/// a `)`.
 #[inline(always)]
 fn rest_is_snippets(kept: &[u8], snippets: &[Snippet], from: usize) -> bool
     ensures { IsTrue result →
@@ -26,7 +27,8 @@ fn rest_is_snippets(kept: &[u8], snippets: &[Snippet], from: usize) -> bool
     end < kept.len() && end + 1 == kept.len() && kept[end] == b')'
 }
 
-/// Returns from which byte on the kept text of `syllable` is its notes in their brackets, if it ends with them.
+/// Returns from which byte on the kept text of `syllable` is its notes in their brackets, if it
+/// ends with them.
 #[inline(always)]
 #[tactic(auto, using(crate::proofs::building::SnippetsAsKept::notes_as_kept))]
 fn notes_from(syllable: &Syllable) -> Option<usize>
@@ -50,7 +52,8 @@ fn notes_from(syllable: &Syllable) -> Option<usize>
     }
 }
 
-/// Returns from which byte on the kept text of `syllable` is its canonical text but for the LF before a word, if it is.
+/// Returns from which byte on the kept text of `syllable` is its canonical text but for the LF
+/// before a word, if it is.
 #[inline(always)]
 pub(crate) fn kept_from(syllable: &Syllable) -> Option<usize>
     ensures kept { (from : ℕ) → result ≡ Some from →

@@ -1,5 +1,5 @@
-//! Laws of the definitions that contracts speak of. The functions do nothing, or call the laws below that they stand on: each is
-//! there for its clauses.
+//! Laws of the definitions that contracts speak of. The functions do nothing, or call the laws
+//! below that they stand on: each is there for its clauses.
 
 ghost use Rattle.std.specs.Prelude.{◌≡◌, ◌≢◌, ◌+◌, ◌-◌, ◌*◌, ◌<◌, ◌≤◌, ◌^◌, ℕ, List, [], ◌∷◌, ◌++◌, length, take, ◌⊎◌, encode_utf8_all, Some, None, Err, Bool, true, false};
 ghost use Rattle.std.specs.Char.{IsScalar};
@@ -41,7 +41,8 @@ ghost use Rattle.gabc_headers.specs.HeadEvents.{emitted_by, inputs_behind};
 ghost use Rattle.gabc_headers.specs.witness.HeadEvents.{events_left, reading};
 ghost use Rattle.gabc_places.specs.StageLaw.{concat_of};
 
-/// Each body has one cutting into a comment, units and what stands behind the last `)`, however its texts are read.
+/// Law: each body has one cutting into a comment, units and what stands after the last `)`, however
+/// its texts are read.
 pub fn a_body_has_one_cutting()
     ensures one { (texts : Texts) (lines macros : ℕ) (xs : List Char) → (cut : BodyCutting) ×
         IsCut texts lines macros xs cut }
@@ -50,21 +51,22 @@ pub fn a_body_has_one_cutting()
         IsCut texts lines macros xs other → cut ≡ other }
 {}
 
-/// A body emits a list for each character, and one for its end.
+/// Law: a body emits a list for each character, and one for its end.
 pub fn a_body_has_events_for_each_character()
     ensures { (lines macros : ℕ) (xs : List Char) →
         length (body_events lines macros xs) ≡ length xs + 1 }
 {}
 
-/// What a body emits is what the parts of its units emit, one after the other: each through the character that ends it.
+/// Law: what a body emits is what the parts of its units emit, one after the other: each through
+/// the character that ends it.
 pub fn a_body_emits_the_events_of_its_units()
     ensures { (lines macros : ℕ) (xs : List Char) (cut : BodyCutting) →
         IsCut texts_by_definition lines macros xs cut →
         body_events lines macros xs ≡ events_of_body_cutting texts_by_definition lines macros cut }
 {}
 
-/// Each text of a body ends at a `(`, the last snippet of its notes at a `)`, and each other snippet at a `|`. Without NABC lines
-/// no unit has more than one snippet.
+/// Law: each text of a body ends at a `(`, the last snippet of its notes at a `)`, and each other
+/// snippet at a `|`. Without NABC lines no unit has more than one snippet.
 pub fn units_end_at_their_marks()
     ensures marks { (lines macros : ℕ) (xs : List Char) (cut : BodyCutting) →
         IsCut texts_by_definition lines macros xs cut → AllEndAtTheirMarks cut.units }
@@ -77,7 +79,8 @@ pub fn units_end_at_their_marks()
     gabc_nabc::laws::a_snippet_ends_at_its_mark();
 }
 
-/// The findings of a score are sorted: by their places, those of one place by their codes, and none stands twice.
+/// Law: the findings of a score are sorted: by their places, those of one place by their codes, and
+/// none stands twice.
 pub fn findings_in_order()
     ensures { (limits : Limits) (ending : InputEnding) (t : List ℕ) → length t < 2 ^ 63 →
         AreInOrder (score_of limits ending t).findings }
@@ -96,8 +99,8 @@ pub fn findings_in_order()
     gabc_nabc::laws::a_snippet_ends_at_its_mark();
 }
 
-/// The reading of a body stops at the first character at which a limit is passed, if there is one: at no earlier one a limit
-/// is passed.
+/// Law: the reading of a body stops at the first character at which a limit is passed, if there is
+/// one: at no earlier one a limit is passed.
 pub fn the_stop_is_the_first_point()
     ensures { (limits : Limits) (head : ℕ) (xs : List Char) (lists : List (List BodyEvent)) →
         length lists ≡ length xs + 1 →
@@ -105,9 +108,9 @@ pub fn the_stop_is_the_first_point()
         NeverStops limits head [] xs lists r ⊎ StopsAt limits head [] xs lists r) }
 {}
 
-/// Each syllable of a score holds its parts: its view is that of a text, its kept text is that of this text and of its notes, and
-/// the spans of its view and its snippets stand for parts of it. Only the last may have no notes. A span that stands for a part of
-/// a text has that part's bytes.
+/// Law: each syllable of a score holds its parts: its view is that of a text, its kept text is that
+/// of this text and of its notes, and the spans of its view and its snippets stand for parts of it.
+/// Only the last may have no notes. A span that stands for a part of a text has that part's bytes.
 pub fn a_syllable_holds_its_parts()
     ensures held { (limits : Limits) (ending : InputEnding) (t : List ℕ) →
         length (encode_utf8_all t) < 2 ^ 63 →
@@ -127,7 +130,8 @@ pub fn a_syllable_holds_its_parts()
     gabc_text::laws::spans_stand_for_the_view();
 }
 
-/// The spans of the snippets of a score's syllables begin and end between characters: each has its text.
+/// Law: the spans of the snippets of a score's syllables begin and end between characters: each has
+/// its text.
 pub fn snippets_stand_between_characters()
     ensures { (limits : Limits) (ending : InputEnding) (t : List ℕ) →
         length (encode_utf8_all t) < 2 ^ 63 →
@@ -136,7 +140,7 @@ pub fn snippets_stand_between_characters()
     a_syllable_holds_its_parts();
 }
 
-/// What a score finds is an error or a warning: no finding is a fault.
+/// Law: what a score finds is an error or a warning: no finding is a fault.
 pub fn findings_are_no_faults()
     ensures { (limits : Limits) (ending : InputEnding) (t : List ℕ)
         → All (λ (f : Finding). severity_of f.code ≢ Fatal) (score_of limits ending t).findings }
@@ -144,7 +148,8 @@ pub fn findings_are_no_faults()
     gabc_text::laws::findings_lie_within();
 }
 
-/// A score whose headers, texts and snippets have no error has none: what is found are warnings.
+/// Law: a score whose headers, texts and snippets have no error has none: what is found are
+/// warnings.
 pub fn a_score_warns_as_its_parts_do()
     ensures { (limits : Limits) (ending : InputEnding) (t : List ℕ) (heads : Heads)
         (cut : BodyCutting) (units : List BodyUnit) (last : List Char)
@@ -157,9 +162,9 @@ pub fn a_score_warns_as_its_parts_do()
     gabc_text::laws::findings_lie_within();
 }
 
-/// Where the reading of a body gets to the end, no limit is passed by what is emitted there: at its end a body keeps nothing
-/// and ends no syllable. So where the input ends inside notes, a tag, a raw part or a translation, F6 hides no F5 or F7 of
-/// the same point.
+/// Law: where the reading of a body gets to the end, no limit is passed by what is emitted there:
+/// at its end a body keeps nothing and ends no syllable. So where the input ends inside notes, a
+/// tag, a raw part or a translation, F6 hides no F5 or F7 of the same point.
 pub fn no_limit_is_passed_at_an_open_end()
     ensures { (limits : Limits) (head lines macros : ℕ) (xs : List Char)
         → (let r = events_to_stop limits head [] xs (body_events lines macros xs) in
@@ -168,9 +173,10 @@ pub fn no_limit_is_passed_at_an_open_end()
     gabc_text::laws::a_text_ends_once();
 }
 
-/// The syllables of a score are those of the units of its body: of a whole score there are as many, and the syllable at a
-/// place is that of the unit at this place. Of a stopped score they are those of the units whose `)` stands before the stop.
-/// A body is its comment and the characters of its units, one after the other.
+/// Law: the syllables of a score are those of the units of its body: of a whole score there are as
+/// many, and the syllable at a place is that of the unit at this place. Of a stopped score they are
+/// those of the units whose `)` stands before the stop. A body is its comment and the characters of
+/// its units, one after the other.
 pub fn the_syllables_are_those_of_the_units()
     ensures characters { (texts : Texts) (lines macros : ℕ) (xs : List Char) (cut : BodyCutting)
         → IsCut texts lines macros xs cut → xs ≡ cut.comment ++ unit_characters cut.units }
@@ -196,7 +202,8 @@ pub fn the_syllables_are_those_of_the_units()
     gabc_text::laws::spans_stand_for_the_view();
 }
 
-/// The prefix of a text through a unit of its body that ends at its `)`, or through the `%%`, is so many of its first characters.
+/// Law: the prefix of a text through a unit of its body that ends at its `)`, or through the `%%`,
+/// is so many of its first characters.
 pub fn whole_prefixes_are_first_characters()
     ensures { (book : List (List ℕ × List ℕ)) (t : List ℕ) (cut : BodyCutting) (n : ℕ)
         → IsBodyCut book t cut → (m : ℕ) × (whole_prefix t cut n ≡ take m t) }
@@ -204,9 +211,10 @@ pub fn whole_prefixes_are_first_characters()
     the_syllables_are_those_of_the_units();
 }
 
-/// A score that is stopped behind the headers, by a fault or by a source that failed, has the book and the syllables of its
-/// prefix read as a whole: of the text through the `)` of the last unit that ends before the stop, or through the `%%`, if
-/// none does. This prefix is read without a fault.
+/// Law: a score that is stopped after the headers, by a fault or by a source that failed, has the
+/// book and the syllables of its prefix read as a whole: of the text through the `)` of the last
+/// unit that ends before the stop, or through the `%%`, if none does. This prefix is read without a
+/// fault.
 pub fn a_stopped_score_is_that_of_its_prefix()
     ensures { (limits : Limits) (ending : InputEnding) (t : List ℕ)
         (book : List (List ℕ × List ℕ)) (cut : BodyCutting) (n : ℕ)
@@ -230,8 +238,9 @@ pub fn a_stopped_score_is_that_of_its_prefix()
     gabc_nabc::laws::what_follows_emits_nothing();
 }
 
-/// The syllables of a score are within the limits, and so is its canonical file: no kept and no canonical text of a syllable has
-/// more bytes than a syllable may have, and the canonical file has no more than the input may have.
+/// Law: the syllables of a score are within the limits, and so is its canonical file: no kept and
+/// no canonical text of a syllable has more bytes than a syllable may have, and the canonical file
+/// has no more than the input may have.
 pub fn given_syllables_are_within_the_limits()
     ensures { (limits : Limits) (ending : InputEnding) (t : List ℕ)
         (book : List (List ℕ × List ℕ))
@@ -243,7 +252,8 @@ pub fn given_syllables_are_within_the_limits()
     gabc_text::laws::a_text_ends_once();
 }
 
-/// A score has at most half as many syllables as the input may have bytes: each has at least two bytes of the canonical file.
+/// Law: a score has at most half as many syllables as the input may have bytes: each has at least
+/// two bytes of the canonical file.
 pub fn syllables_are_fewer_than_bytes()
     ensures { (limits : Limits) (ending : InputEnding) (t : List ℕ) →
         2 * length (score_of limits ending t).syllables ≤ limits.input }
@@ -251,8 +261,9 @@ pub fn syllables_are_fewer_than_bytes()
     given_syllables_are_within_the_limits();
 }
 
-/// A score has no fault whose text ends with an LF behind the last `)`, if no unit keeps more bytes than a syllable may have, and if
-/// the canonical texts of its units' syllables, and the file of these, are within the limits.
+/// Law: a score has no fault whose text ends with an LF after the last `)`, if no unit keeps more
+/// bytes than a syllable may have, and if the canonical texts of its units' syllables, and the file
+/// of these, are within the limits.
 pub fn no_limit_is_passed_by_short_units()
     ensures { (limits : Limits) (t : List ℕ) (book : List (List ℕ × List ℕ)) (cut : BodyCutting)
         (units : List BodyUnit) (last : List Char) → length (encode_utf8_all t) < 2 ^ 63
@@ -272,8 +283,9 @@ pub fn no_limit_is_passed_by_short_units()
     gabc_text::laws::spans_stand_for_the_view();
 }
 
-/// Larger limits change nothing where neither the headers nor a syllable were too long: a text that is read, or that is stopped for
-/// another reason, says the same score under limits that are no less, if the input may be as long.
+/// Law: larger limits change nothing where neither the headers nor a syllable were too long: a text
+/// that is read, or that is stopped for another reason, says the same score under limits that are
+/// no less, if the input may be as long.
 pub fn larger_limits_change_no_score()
     ensures { (limits larger : Limits) (ending : InputEnding) (t : List ℕ)
         → AreNoLess limits larger → limits.input ≡ larger.input
@@ -283,9 +295,9 @@ pub fn larger_limits_change_no_score()
     gabc_headers::laws::larger_limits_change_no_headers();
 }
 
-/// What a score emits, character by character, is what the score says: no finding and no syllable comes twice or is left out,
-/// the syllables have their positions, and a stop is the fault. The end is emitted where the input has ended and nothing
-/// stopped the reading.
+/// Law: what a score emits, character by character, is what the score says: no finding and no
+/// syllable comes twice or is left out, the syllables have their positions, and a stop is the
+/// fault. The end is emitted where the input has ended and nothing stopped the reading.
 pub fn a_score_says_what_it_emits()
     ensures findings { (limits : Limits) (ending : InputEnding) (t : List ℕ) →
         findings_in (outputs_of_text limits ending t) ≡ (score_of limits ending t).findings }
@@ -298,8 +310,9 @@ pub fn a_score_says_what_it_emits()
         ≡ is_whole ending (score_of limits ending t).fault }
 {}
 
-/// The events that a score takes of a text are those that a stage of headers emits of it, whether the text has ended, breaks off or is stopped by a
-/// fault. Behind this fault it is no matter whether the end has come.
+/// Law: the events that a score takes of a text are those that a stage of headers emits of it,
+/// whether the text has ended, breaks off or is stopped by a fault. After this fault it is no
+/// matter whether the end has come.
 pub fn a_stage_of_headers_emits_the_events()
     ensures whole { (limits : Limits) (t : List ℕ) → All IsScalar t →
         let xs = inputs_behind [] t in
@@ -316,7 +329,7 @@ pub fn a_stage_of_headers_emits_the_events()
     gabc_headers::laws::events_need_no_end();
 }
 
-/// Behind a stop or the end a score emits nothing, whatever it takes.
+/// Law: after a stop or the end a score emits nothing, whatever it takes.
 pub fn nothing_follows_the_end()
     ensures { (texts : Texts) (limits : Limits) (inputs : List HeadEvent)
         (before behind : List ScoreOutput) (o : ScoreOutput)

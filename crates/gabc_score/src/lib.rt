@@ -9,7 +9,8 @@
 //!     }
 //! }
 //! for finding in &score.findings {
-//!     let message = format!(in alloc; "{finding}")?; // E1 at 3:20 and at 3:21: "3:20: error: E1: character left out of the notes"
+//!     // E1 at 3:20 and at 3:21: "3:20: error: E1: character left out of the notes"
+//!     let message = format!(in alloc; "{finding}")?;
 //! }
 //! ```
 #![tactic(auto)]
@@ -48,9 +49,11 @@ mod slot;
 mod slot_pair;
 mod slot_tells;
 mod snippets;
+mod spelled;
 pub mod stage_laws;
 mod syllable;
 mod syllables;
+mod text_places;
 mod told_laws;
 pub mod unit_laws;
 mod whole;
@@ -66,6 +69,7 @@ pub use score::Score;
 pub use score_event::{LentSyllable, ScoreEvent};
 pub use score_stage::ScoreStage;
 pub use snippets::{Snippet, Snippets};
+pub use spelled::{SpelledSnippet, SpelledSnippets, SpelledSyllable};
 pub use syllable::{Position, Syllable};
 pub use syllables::Syllables;
 pub use whole::{score_whole, score_whole_with_hasher};

@@ -17,7 +17,8 @@ use gabc_notes::{NoteEnd, NoteEvent};
 use gabc_places::{Finding, Place, Room};
 use gabc_text::TextEvent;
 
-/// Returns how a snippet ended whose `(` stands at `opened`: where it is cut, with the place of its innermost open bracket.
+/// Returns how a snippet ended whose `(` stands at `opened`: where it is cut, with the place of its
+/// innermost open bracket.
 fn innermost(opened: Place, how: NoteEnd) -> NoteEnd
     ensures { result ≡ with_innermost opened how }
 {
@@ -79,7 +80,8 @@ fn hold_in_text(event: TextEvent, pair: &mut SlotPair, found: &mut Room<Finding>
     }
 }
 
-/// Adds an event of a snippet of that line to what was gathered, and what is found with it to `found`.
+/// Adds an event of a snippet of that line to what was gathered, and what is found with it to
+/// `found`.
 #[inline(always)]
 fn hold_in_notes(
     line: u8,
@@ -127,7 +129,8 @@ pub(crate) fn hold_text(events: &[TextEvent], pair: &mut SlotPair, found: &mut R
     }
 }
 
-/// Adds the events of a snippet of that line to what was gathered, and what is found among them to `found`.
+/// Adds the events of a snippet of that line to what was gathered, and what is found among them to
+/// `found`.
 #[inline(always)]
 pub(crate) fn hold_notes(
     line: u8,

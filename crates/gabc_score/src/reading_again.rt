@@ -17,7 +17,8 @@ use crate::score_stage::ScoreStage;
 use gabc_places::{Char, Place};
 
 impl BodyStage {
-    /// Returns where the next character of a kept text stands that is read again: what is open behind this text at `openers` begins there.
+    /// Returns where the next character of a kept text stands that is read again: what is open
+    /// after this text at `openers` begins there.
     pub(crate) fn place_again(&self, openers: Openers) -> Place
         ensures { result ≡ place_in (outer_of openers) (inner_of openers) self.now.part }
     {
@@ -30,7 +31,8 @@ impl BodyStage {
 }
 
 impl ScoreMachine {
-    /// Reads a character of the body, and gives nothing. Where a syllable becomes whole or a limit is passed, the reading is over.
+    /// Reads a character of the body, and gives nothing. Where a syllable becomes whole or a limit
+    /// is passed, the reading is over.
     fn pass_again(&mut self, x: Char)
         requires part { self.old.part ≡ ScorePart.Body }
         requires rests { IsInBody self.old }
@@ -51,8 +53,8 @@ impl ScoreMachine {
         }
     }
 
-    /// Reads `c` again, a character of a kept text behind which this is open at `openers`, or a `%` behind it. Where a syllable becomes whole or a
-    /// limit is passed, the reading is over.
+    /// Reads `c` again, a character of a kept text after which this is open at `openers`, or a `%`
+    /// after it. Where a syllable becomes whole or a limit is passed, the reading is over.
     fn take_again(&mut self, c: char, openers: Openers)
         requires rests { IsScore self.old }
         ensures rests { IsScore self.new }
@@ -70,7 +72,7 @@ impl ScoreMachine {
         self.pass_again(Char { c, place });
     }
 
-    /// Reads each character of `kept` again, a kept text behind which this is open at `openers`.
+    /// Reads each character of `kept` again, a kept text after which this is open at `openers`.
     fn read_kept(&mut self, kept: &str, openers: Openers)
         requires rests { IsScore self.old }
         ensures rests { IsScore self.new }
@@ -85,7 +87,7 @@ impl ScoreMachine {
         }
     }
 
-    /// Reads each character of `kept` again, and the `%` of a comment behind it if `in_comment`.
+    /// Reads each character of `kept` again, and the `%` of a comment after it if `in_comment`.
     fn read_told(&mut self, kept: &str, openers: Openers, in_comment: bool)
         requires rests { IsScore self.old }
         ensures rests { IsScore self.new }
@@ -102,9 +104,10 @@ impl ScoreMachine {
         }
     }
 
-    /// Reads `kept` again, the kept text of a syllable, where nothing is read of it yet: behind it this is open at `openers`, a comment is open if
-    /// `in_comment`, and the next character stands at `next`. Returns whether no syllable became whole, and no limit was passed. Where one
-    /// was, the reading is over.
+    /// Reads `kept` again, the kept text of a syllable, where nothing is read of it yet: after it
+    /// this is open at `openers`, a comment is open if `in_comment`, and the next character stands
+    /// at `next`. Returns whether no syllable became whole, and no limit was passed. Where one was,
+    /// the reading is over.
     pub(crate) fn read_again(
         &mut self,
         kept: &str,
@@ -148,7 +151,8 @@ impl ScoreMachine {
         }
     }
 
-    /// Does nothing. Its contract is a law: in the body the kept text of the syllable that is read can be read again.
+    /// Does nothing. Its contract is a law: in the body the kept text of the syllable that is read
+    /// can be read again.
     pub(crate) fn can_be_read_again(&self)
         requires rests { IsScore self.now }
         ensures { is_some (before_of (shown self.now)) ≡ true → CanBeReadAgain (shown self.now) }
@@ -159,10 +163,10 @@ impl ScoreStage {
     /// Reads `kept` again, the kept text of a syllable that is not whole. The stage stands before
     /// this syllable, of which nothing is read. After the text this is open at `openers`, a comment
     /// is open if `in_comment`, and the next character stands at `next`. Nothing is given, and what
-    /// is found is left out. Returns whether no syllable became whole and no limit was passed. Where
-    /// one was, the stage has come to its end. From then on it reports what any stage reports that
-    /// has read this syllable so, after the same and under the same limits. Outside the body it
-    /// changes nothing and returns `false`.
+    /// is found is left out. Returns whether no syllable became whole and no limit was passed.
+    /// Where one was, the stage has come to its end. From then on it reports what any stage reports
+    /// that has read this syllable so, after the same and under the same limits. Outside the body
+    /// it changes nothing and returns `false`.
     pub fn read_again(
         &mut self,
         kept: &str,
@@ -188,7 +192,8 @@ impl ScoreStage {
         self.machine.read_again(kept, openers, in_comment, next)
     }
 
-    /// Does nothing. Its contract is a law: in the body the kept text of the syllable that is read can be read again.
+    /// Does nothing. Its contract is a law: in the body the kept text of the syllable that is read
+    /// can be read again.
     pub(crate) fn can_be_read_again(&self)
         ensures { is_some (before_of self.now) ≡ true → CanBeReadAgain self.now }
     {

@@ -1,23 +1,70 @@
 //! How far the regular syllable goes that a text begins with.
 
-ghost use Rattle.std.specs.Prelude.{◌≡◌, ◌≤◌, ◌<◌, length, take, slice_index, true, false, IfSome, IsTrue};
-ghost use Rattle.std.specs.List.{All, list_all};
+ghost use Rattle.std.specs.Prelude.{◌≡◌, ◌≤◌, ◌<◌, length, take, drop, slice_index, true, false, IfSome, IsTrue};
+ghost use Rattle.std.specs.List.{All};
 ghost use Rattle.std.specs.Str.{chars};
 ghost use Rattle.std.specs.String.Boundary.{IsSplitPoint};
+ghost use Rattle.gabc_patterns.specs.LongestPrefix.{IsLongestPrefix};
 ghost use Rattle.gabc_text.specs.Token.{is_blank};
 ghost use Rattle.gabc_score.specs.RegularSyllable.{IsRegularOn};
-ghost use Rattle.gabc_score.specs.machine.RegularLen.{begins_mark, IsUnmarked, IsPlainByte, BeginsWithSnippets, BeginsRegularly};
+ghost use Rattle.gabc_score.specs.machine.RegularLen.{begins_mark, begins_other, mark_at, past_mark, tag_of, HasOnly, IsMarked, IsUnmarked, IsPlainByte, BeginsWithSnippets, BeginsRegularly, IsPlainGap, is_printable};
 
+use crate::before::Spans;
 use crate::body_stage::next_line;
 use gabc_nabc::regular_nabc;
 use gabc_notes::regular_notes;
 use gabc_text::regular_text;
 
+/// A tag that opens or closes a span of several syllables.
+#[derive(Clone, Copy)]
+pub(crate) enum SpanMark {
+    OpensEu,
+    ClosesEu,
+    OpensNlba,
+    ClosesNlba,
+}
+
+impl SpanMark {
+    /// Returns how it is spelled.
+    fn tag(self) -> &'static str
+        ensures { result.now ≡ tag_of self }
+    {
+        match self {
+            SpanMark::OpensEu => "<eu>",
+            SpanMark::ClosesEu => "</eu>",
+            SpanMark::OpensNlba => "<nlba>",
+            SpanMark::ClosesNlba => "</nlba>",
+        }
+    }
+}
+
+/// Returns which spans are open after `mark`, where `spans` are open before it.
+#[inline(always)]
+pub(crate) fn spans_past(mark: Option<SpanMark>, spans: Spans) -> Spans
+    ensures { result ≡ past_mark mark spans }
+{
+    match mark {
+        None => spans,
+        Some(SpanMark::OpensEu) => Spans { eu: true, ..spans },
+        Some(SpanMark::ClosesEu) => Spans { eu: false, ..spans },
+        Some(SpanMark::OpensNlba) => Spans {
+            nlba: true,
+            ..spans
+        },
+        Some(SpanMark::ClosesNlba) => Spans {
+            nlba: false,
+            ..spans
+        },
+    }
+}
+
 /// How long a regular syllable is.
 #[derive(Clone, Copy)]
 pub(crate) struct RegularLen {
-    /// The bytes of the blanks before its text.
+    /// The bytes of the blanks and comments before its text.
     pub(crate) gap: usize,
+    /// The bytes before its `(`.
+    pub(crate) opening: usize,
     /// All its bytes.
     pub(crate) len: usize,
 }
@@ -29,14 +76,58 @@ fn is_blank_byte(byte: u8) -> bool
     byte == b' ' || byte == b'\t' || byte == b'\n'
 }
 
-/// Returns how many of the first of `bytes` are blanks.
+/// Returns whether `byte` is of printable ASCII.
+fn is_printable(byte: u8) -> bool
+    ensures { result ≡ is_printable byte }
+{
+    byte > 0x1F && byte < 0x7F
+}
+
+/// Returns how many bytes the comment has that `bytes` begin with, with the LF that ends it, if it
+/// is of printable ASCII; else 0 (GregorioRef, "Comments").
+fn comment_len(bytes: &[u8]) -> usize
+    ensures within { result ≤ length bytes.now }
+    ensures gap { IsPlainGap (take result bytes.now) }
+{
+    if bytes.is_empty() || bytes[0] != b'%' {
+        return 0;
+    }
+    let mut end = 1;
+    while end < bytes.len() && is_printable(bytes[end]) {
+        end += 1;
+    }
+    match bytes.get(end) {
+        Some(b'\n') => end + 1,
+        _ => 0,
+    }
+}
+
+/// Returns how many bytes the blank or the comment has that `bytes` begin with; 0, if none is known
+/// to be there.
+fn gap_part_len(bytes: &[u8]) -> usize
+    requires { 0 < length bytes.now }
+    ensures within { result ≤ length bytes.now }
+    ensures gap { IsPlainGap (take result bytes.now) }
+{
+    if is_blank_byte(bytes[0]) {
+        1
+    } else {
+        comment_len(bytes)
+    }
+}
+
+/// Returns how many of the first of `bytes` are blanks and comments that have ended.
 fn gap_len(bytes: &[u8]) -> usize
     ensures within { result ≤ length bytes.now }
-    ensures blanks { list_all is_blank (take result bytes.now) ≡ true }
+    ensures gap { IsPlainGap (take result bytes.now) }
 {
     let mut end = 0;
-    while end < bytes.len() && is_blank_byte(bytes[end]) {
-        end += 1;
+    while end < bytes.len() {
+        let more = gap_part_len(&bytes[end..]);
+        if more == 0 {
+            return end;
+        }
+        end += more;
     }
     end
 }
@@ -66,6 +157,20 @@ fn begins_refused(bytes: &[u8]) -> bool
     first == b'\r' || first == 0xEF || (first == b'<' && begins_mark(bytes))
 }
 
+/// Returns whether what is refused in a regular syllable begins at `index` in `bytes`.
+#[inline(always)]
+fn is_refused_at(bytes: &[u8], index: usize) -> bool
+    requires { index < length bytes.now }
+    ensures plain { result ≡ false → IsPlainByte (slice_index bytes.now index) }
+    ensures unmarked { result ≡ false → begins_mark (drop index bytes.now) ≡ false }
+{
+    let byte = bytes[index];
+    if byte > b'<' && byte < 0xEF {
+        return false;
+    }
+    begins_refused(&bytes[index..])
+}
+
 /// Returns whether no span mark, no CR and no first byte of U+FEFF stand among `bytes`.
 fn is_plain(bytes: &[u8]) -> bool
     ensures plain { IsTrue result → All IsPlainByte bytes.now }
@@ -73,7 +178,7 @@ fn is_plain(bytes: &[u8]) -> bool
 {
     let mut read = 0;
     while read < bytes.len() {
-        if begins_refused(&bytes[read..]) {
+        if is_refused_at(bytes, read) {
             return false;
         }
         read += 1;
@@ -81,11 +186,91 @@ fn is_plain(bytes: &[u8]) -> bool
     true
 }
 
+/// Returns the span mark that `bytes` begin with, if they begin with one.
+#[inline(always)]
+pub(crate) fn mark_at(bytes: &[u8]) -> Option<SpanMark>
+    ensures { result ≡ mark_at bytes.now }
+{
+    if bytes.is_empty() || bytes[0] != b'<' {
+        None
+    } else {
+        tag_at(bytes)
+    }
+}
+
+/// Returns the span mark that `bytes` begin with, if they begin with one.
+#[inline(never)]
+fn tag_at(bytes: &[u8]) -> Option<SpanMark>
+    ensures { result ≡ mark_at bytes.now }
+{
+    if bytes.starts_with(b"<eu>") {
+        Some(SpanMark::OpensEu)
+    } else if bytes.starts_with(b"</eu>") {
+        Some(SpanMark::ClosesEu)
+    } else if bytes.starts_with(b"<nlba>") {
+        Some(SpanMark::OpensNlba)
+    } else if bytes.starts_with(b"</nlba>") {
+        Some(SpanMark::ClosesNlba)
+    } else {
+        None
+    }
+}
+
+/// Returns whether `bytes` begin with what is refused in a regular syllable beside `mark`: another
+/// span mark, a CR, or the first byte of U+FEFF.
+fn begins_refused_but(mark: SpanMark, bytes: &[u8]) -> bool
+    requires { 0 < length bytes.now }
+    ensures plain { result ≡ false → IsPlainByte (slice_index bytes.now 0) }
+    ensures only { result ≡ false → begins_other mark bytes.now ≡ false }
+{
+    if bytes[0] == b'<' && bytes.starts_with(mark.tag().as_bytes()) {
+        return false;
+    }
+    begins_refused(bytes)
+}
+
+/// Returns whether no span mark but `mark`, no CR and no first byte of U+FEFF stand among `bytes`.
+fn has_only(mark: SpanMark, bytes: &[u8]) -> bool
+    ensures plain { IsTrue result → All IsPlainByte bytes.now }
+    ensures only { IsTrue result → HasOnly mark bytes.now }
+{
+    let mut read = 0;
+    while read < bytes.len() {
+        if begins_refused_but(mark, &bytes[read..]) {
+            return false;
+        }
+        read += 1;
+    }
+    true
+}
+
+/// Returns whether `bytes` begin with a span mark, and no other one, no CR and no first byte of
+/// U+FEFF stand among them.
+#[inline(never)]
+fn has_only_first(bytes: &[u8]) -> bool
+    ensures plain { IsTrue result → All IsPlainByte bytes.now }
+    ensures marked { IsTrue result → IsMarked (mark_at bytes.now) bytes.now }
+{
+    match mark_at(bytes) {
+        Some(mark) => has_only(mark, bytes),
+        None => false,
+    }
+}
+
+/// Returns whether no CR and no first byte of U+FEFF stand among `bytes`, and no span mark but one
+/// that they begin with.
+#[inline(always)]
+fn may_be_kept(bytes: &[u8]) -> bool
+    ensures plain { IsTrue result → All IsPlainByte bytes.now }
+    ensures marked { IsTrue result → IsMarked (mark_at bytes.now) bytes.now }
+{
+    is_plain(bytes) || has_only_first(bytes)
+}
+
 /// Returns how many bytes of `text` its longest prefix has that is a regular snippet of line
 /// `line`: of GABC on line 0, of NABC on each other.
-fn snippet_len(line: u8, text: &str) -> usize
-    ensures within { IsSplitPoint text.now result }
-    ensures regular { IsRegularOn line (chars (take result text.now)) }
+pub(crate) fn snippet_len(line: u8, text: &str) -> usize
+    ensures { IsLongestPrefix (IsRegularOn line) text.now result }
 {
     if line == 0 {
         regular_notes(text)
@@ -118,9 +303,9 @@ fn snippets_len(lines: u8, text: &str) -> usize
 }
 
 /// Returns how long the regular syllable is that `text` begins with under `lines` NABC lines, if it
-/// begins with one that has no span mark. Nothing is found in it, and but for the blanks before its
-/// text it is its own canonical text (`regular_laws::a_regular_syllable_makes_its_spelling`). There
-/// may be one where it returns none.
+/// begins with one that has no span mark but one at the beginning of its text. Nothing is found in
+/// it, and but for the blanks before its text it is its own canonical text
+/// (`regular_laws::a_regular_syllable_makes_its_spelling`). There may be one where it returns none.
 pub(crate) fn regular_syllable(lines: u8, text: &str) -> Option<RegularLen>
     ensures { IfSome result (BeginsRegularly lines text.now) }
 {
@@ -133,8 +318,8 @@ pub(crate) fn regular_syllable(lines: u8, text: &str) -> Option<RegularLen>
     let begun = opening + 1;
     let notes = snippets_len(lines, &text[begun..]);
     let len = begun + notes;
-    if notes == 0 || !is_plain(&bytes[gap..len]) {
+    if notes == 0 || !may_be_kept(&bytes[gap..len]) {
         return None;
     }
-    Some(RegularLen { gap, len })
+    Some(RegularLen { gap, opening, len })
 }

@@ -1,4 +1,4 @@
-//! A stage over a score that goes on behind syllables which another one has read.
+//! A stage over a score that goes on after syllables which another one has read.
 
 ghost use Rattle.std.specs.Prelude.{◌≡◌, ◌+◌, ◌<◌, ◌≤◌, ◌^◌, not, ℕ, None, IfOk, [], length, true, false};
 ghost use Rattle.std.specs.List.{list_any};
@@ -26,13 +26,14 @@ use crate::score_event::ScoreEvent;
 use crate::score_machine::{ScoreMachine, ScorePart};
 use crate::score_stage::ScoreStage;
 use crate::slot_pair::SlotPair;
-use crate::stage_laws::a_text_is_read_from_its_beginning;
+use crate::stage_laws;
 use gabc_notes::ItemKind;
 use gabc_places::{Char, Limits, Memory, Place, Room, Severity};
 use gabc_text::TextStage;
 use std::alloc::AllocError;
 
-/// Returns which came first, a note or a clef, where one has come: what was found of it counts no more.
+/// Returns which came first, a note or a clef, where one has come: what was found of it counts no
+/// more.
 fn first_sounded(sounded: bool) -> Option<ItemKind>
     ensures { result ≡ first_sounded sounded }
 {
@@ -80,7 +81,8 @@ impl BodyStage {
 }
 
 impl ScoreMachine {
-    /// Returns a machine in the body, behind the syllables of which `before` tells, and reserves in `memory` what it ever takes.
+    /// Returns a machine in the body, after the syllables of which `before` tells, and reserves in
+    /// `memory` what it ever takes.
     fn resume(memory: &Memory, limits: Limits, before: Before) -> Result<ScoreMachine, AllocError>
         requires { IsAtOutset (preceding_of before) }
         ensures stands { IfOk result (λ m. StandsBehind limits before (shown m)) }
@@ -142,7 +144,8 @@ impl ScoreMachine {
         }
     }
 
-    /// Reads a character, where no syllable is held. Returns whether no limit is passed with it, and no error is found.
+    /// Reads a character, where no syllable is held. Returns whether no limit is passed with it,
+    /// and no error is found.
     fn read_alone(&mut self, x: Char, room: &mut Room<ScoreEvent>) -> bool
         requires part { self.old.part ≡ ScorePart.Body }
         requires rests { IsInBody self.old }
@@ -159,9 +162,9 @@ impl ScoreMachine {
         is_fine
     }
 
-    /// Reads the characters of `text`, the first of which stands at `at`, where no syllable is held.
-    /// Returns whether one is whole with the last of them and none before, no limit is passed and no
-    /// error is found.
+    /// Reads the characters of `text`, the first of which stands at `at`, where no syllable is
+    /// held. Returns whether one is whole with the last of them and none before, no limit is passed
+    /// and no error is found.
     pub(crate) fn read_all(&mut self, at: Place, text: &str, room: &mut Room<ScoreEvent>) -> bool
         requires part { self.old.part ≡ ScorePart.Body }
         requires rests { IsInBody self.old }
@@ -192,8 +195,9 @@ impl ScoreMachine {
         self.pair.has_held()
     }
 
-    /// Reads `text` as one syllable, which is held then, and begins to read the next text. Returns whether it is one, with which no limit is passed
-    /// and in which no error is found. Where it is none, nothing is read any more.
+    /// Reads `text` as one syllable, which is held then, and begins to read the next text. Returns
+    /// whether it is one, with which no limit is passed and in which no error is found. Where it is
+    /// none, nothing is read any more.
     fn hold_again(&mut self, text: &str, room: &mut Room<ScoreEvent>) -> bool
         requires rests { IsScore self.old }
         requires begins { BeginsText (shown self.old) }
@@ -213,7 +217,7 @@ impl ScoreMachine {
         ensures over { result ≡ false → before_of (shown self.new) ≡ None }
         ensures ends { result ≡ false → self.new.part ≡ ScorePart.Over }
     {
-        a_text_is_read_from_its_beginning();
+        stage_laws::a_text_is_read_from_its_beginning();
         if !self.read_all(Place::START, text, room) {
             self.part = ScorePart::Over;
             return false;
@@ -226,10 +230,12 @@ impl ScoreMachine {
 }
 
 impl ScoreStage {
-    /// Returns a stage in the body that stands behind the syllables of which `before` tells, and reserves the memory that it ever takes, as
-    /// `in_memory` does. It holds no syllable, and the next character is the first of a text. `before` is what another stage under the same
-    /// limits told of what stands before the syllable that it held: where no syllable does, no span is open and nothing has sounded. `go_to` says
-    /// where the next character stands. It fails only for want of memory.
+    /// Returns a stage in the body that stands after the syllables of which `before` tells, and
+    /// reserves the memory that it ever takes, as `in_memory` does. It holds no syllable, and the
+    /// next character is the first of a text. `before` is what another stage under the same limits
+    /// told of what stands before the syllable that it held: where no syllable does, no span is
+    /// open and nothing has sounded. `go_to` says where the next character stands. It fails only
+    /// for want of memory.
     pub fn resume(memory: &Memory, limits: Limits, before: Before) -> Result<ScoreStage, AllocError>
         requires { IsAtOutset (preceding_of before) }
         ensures { IfOk result (λ stage. StandsBehind limits before stage) }
@@ -239,9 +245,11 @@ impl ScoreStage {
         })
     }
 
-    /// Reads `text`, less than 2^63 bytes, as one syllable, which is held from then on, and begins to read the next text. Returns whether it is one: whole with
-    /// its last character and not before, with which no limit is passed and in which no error is found. Where it is none, the stage has come to
-    /// its end. `room` is empty, and has room for 16 events; nothing stands in it afterwards.
+    /// Reads `text`, less than 2^63 bytes, as one syllable, which is held from then on, and begins
+    /// to read the next text. Returns whether it is one: whole with its last character and not
+    /// before, with which no limit is passed and in which no error is found. Where it is none, the
+    /// stage has come to its end. `room` is empty, and has room for 16 events; nothing stands in it
+    /// afterwards.
     pub fn hold_again(&mut self, text: &str, room: &mut Room<ScoreEvent>) -> bool
         requires begins { BeginsText self.old }
         requires none { held_of self.old ≡ None }

@@ -7,25 +7,30 @@ ghost use Rattle.std.specs.String.Boundary.{IsSplitPoint};
 ghost use Rattle.gabc_places.specs.Place.{place_past};
 ghost use Rattle.gabc_places.specs.TextOfAnInput.{IsPlain};
 ghost use Rattle.gabc_text.specs.TextStage.{fresh_stage};
-ghost use Rattle.gabc_score.specs.Canonical.{canonical_in_place, position_by};
-ghost use Rattle.gabc_score.specs.GivesSyllables.{Runs, spelled_canonical};
+ghost use Rattle.gabc_score.specs.Canonical.{position_by};
+ghost use Rattle.gabc_score.specs.GivesSyllables.{GivesSyllables, Runs};
+ghost use Rattle.gabc_score.specs.SpelledSyllable.{IsSpelling, Spells};
+ghost use Rattle.gabc_score.specs.machine.RegularLen.{BeginsRegularly};
 ghost use Rattle.gabc_score.specs.Syllable.{PlacedSyllable, UnplacedSyllable};
 ghost use Rattle.gabc_score.specs.machine.PartCounts.{CountsHold};
 ghost use Rattle.gabc_score.specs.machine.PartKeeps.{in_text, PartKeeps};
-ghost use Rattle.gabc_score.specs.machine.Run.{IsFound, IsSamePair, StandsBetween, RunsTo, RunsMore, past_found};
+ghost use Rattle.gabc_score.specs.RegularSyllable.{with_lines};
+ghost use Rattle.gabc_score.specs.machine.Run.{IsFound, IsSamePair, IsSpelledBy, IsSteady, SpellsFound, StandsBetween, RunsTo, RunsMore, len_of, mark_of, past_found, sounds_among};
 ghost use Rattle.gabc_score.specs.machine.SyllableBuilder.{nothing_open};
 ghost use Rattle.gabc_score.specs.machine.ScoreMachine.{shown, IsScore, IsShort};
 
-use crate::before::Preceding;
+use crate::before::{Preceding, Spans};
 use crate::body_stage::BodyPart;
 use crate::bounds::Bounds;
 use crate::give::{Give, Run};
-use crate::regular::regular_syllable;
-use crate::regular_laws::a_regular_syllable_goes_through;
+use crate::regular::{SpanMark, mark_at, regular_syllable, spans_past};
+use crate::regular_laws;
 use crate::score_event::ScoreEvent;
 use crate::score_machine::{ScoreMachine, ScorePart};
 use crate::slot_pair::{SlotPair, SlotUse};
+use crate::spelled::SpelledSyllable;
 use crate::syllables::position_by;
+use crate::text_places::place_past;
 use gabc_places::{Limits, Place, Room};
 
 /// A regular syllable of a run, which is not given yet.
@@ -35,35 +40,16 @@ pub(crate) struct Found<'a> {
     spelled: &'a str,
     /// What follows them.
     rest: &'a str,
-    /// The bytes of the blanks before its text.
+    /// The bytes of the blanks and comments before its text.
     gap: usize,
-    /// The place of its first character.
-    at: Place,
-    /// The place of the next character after it.
-    next: Place,
+    /// The bytes before its `(`.
+    opening: usize,
 }
 
-/// Returns the place after `text`, whose first character stands at `at`.
-fn place_after(at: Place, text: &str) -> Place
-    requires line { at.line + length text.now < 2 ^ 64 }
-    requires column { at.column + length text.now < 2 ^ 64 }
-    ensures { result ≡ place_past at (chars text.now) }
-{
-    let mut place = at;
-    for c in text.chars() {
-        place = place.after(c);
-    }
-    place
-}
-
-/// Returns the regular syllable that `text` begins with, whose first character stands at `at`, if it
-/// begins with one under `lines` NABC lines, and no limit is passed with it after `total` canonical
-/// bytes.
-fn find(lines: u8, limits: Limits, at: Place, text: &str, total: usize) -> Option<Found<'_>>
-    requires line { at.line + length text.now < 2 ^ 64 }
-    requires column { at.column + length text.now < 2 ^ 64 }
+/// Returns the regular syllable that `text` begins with, if it begins with one under `lines` NABC
+/// lines, and no limit is passed with it after `total` canonical bytes.
+fn find(lines: u8, limits: Limits, text: &str, total: usize) -> Option<Found<'_>>
     ensures found { IfSome result (λ f. IsFound lines limits total f) }
-    ensures at { IfSome result (λ f. f.at ≡ at) }
     ensures text { IfSome result (λ f. text.now ≡ f.spelled.now ++ f.rest.now) }
 {
     let Some(found) = regular_syllable(lines, text) else {
@@ -78,13 +64,12 @@ fn find(lines: u8, limits: Limits, at: Place, text: &str, total: usize) -> Optio
         spelled,
         rest,
         gap: found.gap,
-        at,
-        next: place_after(at, spelled),
+        opening: found.opening,
     })
 }
 
-/// Returns whether the lines and columns of `text`, whose first character stands at `at`, are far below
-/// the last value of a `u64`.
+/// Returns whether the lines and columns of `text`, whose first character stands at `at`, are far
+/// below the last value of a `u64`.
 fn is_low(at: Place, text: &str) -> bool
     ensures line { result ≡ true → at.line + length text.now < 2 ^ 63 }
     ensures column { result ≡ true → at.column + length text.now < 2 ^ 63 }
@@ -94,19 +79,20 @@ fn is_low(at: Place, text: &str) -> bool
 }
 
 impl<'a> Found<'a> {
-    /// Returns its canonical text but for the LF before a word.
-    fn canonical(self) -> &'a [u8]
-        requires { self.gap ≤ length self.spelled.now }
-        ensures { result.now ≡ drop self.entry.gap self.entry.spelled.now }
-    {
-        &self.spelled.as_bytes()[self.gap..]
-    }
-
     /// Returns whether it begins a word.
     fn starts_word(self) -> bool
         ensures { result ≡ nat_lt 0 self.entry.gap }
     {
         self.gap > 0
+    }
+
+    /// Returns the span mark that its text begins with, if it begins with one.
+    #[inline(always)]
+    fn mark(self) -> Option<SpanMark>
+        requires { self.gap ≤ length self.spelled.now }
+        ensures { result ≡ mark_of self.entry }
+    {
+        mark_at(&self.spelled.as_bytes()[self.gap..])
     }
 
     /// Returns what stands before the syllable after it, where `p` stands before it.
@@ -118,26 +104,59 @@ impl<'a> Found<'a> {
         let start = if self.starts_word() { 1 } else { 0 };
         Preceding {
             syllables: p.syllables.saturating_add(1),
-            canonical: p.canonical + self.canonical().len() + start,
+            canonical: p.canonical + (self.spelled.len() - self.gap) + start,
+            spans: spans_past(self.mark(), p.spans),
             ..p
         }
     }
 
-    /// Gives it to `out`, if it takes it.
-    fn give<G: Give>(self, out: &mut G) -> bool
-        requires { self.gap ≤ length self.spelled.now }
-        ensures given { result ≡ true → (s : PlacedSyllable) →
-            canonical_in_place s
-            ≡ spelled_canonical (nat_lt 0 self.entry.gap) (drop self.entry.gap self.entry.spelled.now) →
+    /// Returns its slices, where there are `lines` NABC lines, these spans are open, and it stands
+    /// before one that begins a word or not.
+    fn slices(self, lines: u8, spans: Spans, next_starts: bool) -> SpelledSyllable<'a>
+        requires { BeginsRegularly lines (self.spelled.now ++ self.rest.now) (len_of self) }
+        ensures is { IsSpelling result }
+        ensures parts { (is : BeginsRegularly lines (self.entry.spelled.now ++ self.entry.rest.now)
+            (len_of self.entry)) → IsSpelledBy result lines is.syllable }
+        ensures spells { (is : BeginsRegularly lines (self.entry.spelled.now ++ self.entry.rest.now)
+            (len_of self.entry)) (s : PlacedSyllable) →
+            SpellsFound lines spans next_starts self.entry is.syllable s → Spells result s }
+    {
+        let (_, canonical) = self.spelled.split_at(self.gap);
+        SpelledSyllable {
+            position: position_by(self.starts_word(), next_starts),
+            spans,
+            lines,
+            canonical,
+            opening: self.opening - self.gap,
+        }
+    }
+
+    /// Returns whether a note or a clef comes with it in GABC, where there are `lines` NABC lines.
+    #[inline(never)]
+    fn sounds(self, lines: u8) -> bool
+        requires { BeginsRegularly lines (self.spelled.now ++ self.rest.now) (len_of self) }
+        ensures { (is : BeginsRegularly lines (self.entry.spelled.now ++ self.entry.rest.now)
+            (len_of self.entry)) →
+            result ≡ sounds_among (with_lines lines 0 is.syllable.nexts is.syllable.final) }
+    {
+        let any = Spans {
+            eu: false,
+            nlba: false,
+        };
+        self.slices(lines, any, true).sounds()
+    }
+
+    /// Gives it to `out`, where there are `lines` NABC lines, these spans are open, and it stands
+    /// before one that begins a word or not. Returns whether `out` takes it.
+    fn give<G: Give>(self, lines: u8, spans: Spans, next_starts: bool, out: &mut G) -> bool
+        requires { BeginsRegularly lines (self.spelled.now ++ self.rest.now) (len_of self) }
+        ensures given { result ≡ true → (is : BeginsRegularly lines
+            (self.entry.spelled.now ++ self.entry.rest.now) (len_of self.entry))
+            (s : PlacedSyllable) → SpellsFound lines spans next_starts self.entry is.syllable s →
             out.new ≡ G.given out.old (s ∷ []) }
         ensures same { result ≡ false → out.new ≡ out.old }
     {
-        let text = self.canonical();
-        if !out.takes(text.len() + 1) {
-            return false;
-        }
-        out.give_spelled(self.starts_word(), text);
-        true
+        out.give_spelled(self.slices(lines, spans, next_starts))
     }
 }
 
@@ -167,21 +186,28 @@ impl SlotPair {
         self.holder.place(position_by(starts, next_starts));
     }
 
-    /// Forgets the syllable that is held. `total` are the canonical bytes before the next one.
-    fn forget_held(&mut self, total: usize)
+    /// Forgets the syllable that is held. `total` are the canonical bytes before the next one, and
+    /// `spans` are open before it.
+    fn forget_held(&mut self, total: usize, spans: Spans)
         requires used { self.old.used ≡ SlotUse.Filling }
-        ensures gathered { self.new.gathered
-            ≡ record self.old.gathered { made = []; total = total } }
+        ensures gathered { self.new.gathered ≡ record self.old.gathered {
+          made = [];
+          total = total;
+          eu = spans.eu;
+          nlba = spans.nlba;
+        } }
         ensures used { self.new.used ≡ SlotUse.Filling }
     {
         self.held = false;
         self.total = total;
+        self.eu = spans.eu;
+        self.nlba = spans.nlba;
     }
 }
 
 impl ScoreMachine {
-    /// Returns whether it stands between two syllables, the first of which is held, a text begins at
-    /// `at`, and a note or a clef has come.
+    /// Returns whether it stands between two syllables, the first of which is held, and a text
+    /// begins at `at`.
     fn is_between(&self, at: Place) -> bool
         requires rests { IsScore self.now }
         ensures { result ≡ true → StandsBetween self.now at }
@@ -192,14 +218,30 @@ impl ScoreMachine {
         let Some(_) = self.pair.held() else {
             return false;
         };
-        if !self.pair.reading().is_empty() || self.pair.first_kind().is_none() {
+        if !self.pair.reading().is_empty() {
             return false;
         }
         self.body.begins_text(at)
     }
 
-    /// Gives the syllable that is held to `out`, before one that begins a word or not. Returns whether
-    /// `out` takes it.
+    /// Returns whether the first note or clef comes with `found`, where there are `lines` NABC
+    /// lines.
+    #[inline(always)]
+    fn is_first_with(&self, lines: u8, found: &Found<'_>) -> bool
+        requires { BeginsRegularly lines (found.now.spelled.now ++ found.now.rest.now)
+            (len_of found.now) }
+        ensures { result ≡ false → (is : BeginsRegularly lines
+            (found.now.spelled.now ++ found.now.rest.now) (len_of found.now)) →
+            IsSteady lines self.now.pair.gathered.first_kind is.syllable }
+    {
+        if self.pair.first_kind().is_none() {
+            return found.sounds(lines);
+        }
+        false
+    }
+
+    /// Gives the syllable that is held to `out`, before one that begins a word or not. Returns
+    /// whether `out` takes it.
     fn give_held<G: Give>(&mut self, next_starts: bool, out: &mut G) -> bool
         requires used { self.old.pair.used ≡ SlotUse.Filling }
         requires short { All (IsShort self.old.limits.syllable) self.old.pair.gathered.made }
@@ -221,43 +263,47 @@ impl ScoreMachine {
         true
     }
 
-    /// Gives the syllables of a run to `out`, from the one that `reached` has found on, as long as one
-    /// follows and `out` takes them. Returns where it stands then.
+    /// Gives the syllables of a run to `out`, from the one that `reached` has found on, as long as
+    /// one follows and `out` takes them. Returns where it stands then.
     fn give_on<'a, G: Give>(&self, begun: Reached<'a>, out: &mut G) -> Reached<'a>
         requires found { IsFound self.now.body.nabc_lines self.now.limits begun.before.canonical
             begun.last }
-        requires line { begun.last.next.line + length begun.last.rest.now < 2 ^ 64 }
-        requires column { begun.last.next.column + length begun.last.rest.now < 2 ^ 64 }
         ensures { (at : Place) (text : List ℕ) (given : List PlacedSyllable) →
             RunsTo self.now at text given begun.entry →
             RunsMore G.given self.now at text given out.old result out.new }
     {
-        a_regular_syllable_goes_through();
+        regular_laws::a_regular_syllable_goes_through();
         let lines = self.body.nabc_lines();
         let mut reached = begun;
         loop {
             let last = reached.last;
             let before = last.past(reached.before);
-            let Some(next) = find(lines, self.limits, last.next, last.rest, before.canonical) else {
+            let Some(next) = find(lines, self.limits, last.rest, before.canonical) else {
                 return reached;
             };
-            if !last.give(out) {
+            if self.is_first_with(lines, &next) {
+                return reached;
+            }
+            if !last.give(lines, before.spans, next.starts_word(), out) {
                 return reached;
             }
             reached = Reached { last: next, before };
         }
     }
 
-    /// Goes on before the syllable that `reached` has found: those before it are given, none is held.
-    fn go_before(&mut self, reached: Reached<'_>)
+    /// Goes on before the syllable that `reached` has found, whose first character stands at `at`:
+    /// those before it are given, none is held.
+    fn go_before(&mut self, reached: Reached<'_>, at: Place)
         requires { self.old.pair.used ≡ SlotUse.Filling }
         ensures gathered { self.new.pair.gathered ≡ record self.old.pair.gathered {
           made = [];
           total = reached.entry.before.canonical;
+          eu = reached.entry.before.spans.eu;
+          nlba = reached.entry.before.spans.nlba;
         } }
         ensures used { self.new.pair.used ≡ SlotUse.Filling }
         ensures body { self.new.body ≡ record self.old.body {
-          part = BodyPart.Text (fresh_stage reached.entry.last.at);
+          part = BodyPart.Text (fresh_stage at);
         } }
         ensures counts { CountsHold self.new.body.part nothing_open }
         ensures keeps { (lines macros : ℕ) → PartKeeps lines macros self.new.body.part (in_text []) }
@@ -266,17 +312,54 @@ impl ScoreMachine {
           has_lent = true;
           bounds = record { before = reached.entry.before; behind = reached.entry.before };
           body = self.new.body;
-          next = reached.entry.last.at;
+          next = at;
         } }
     {
-        self.pair.forget_held(reached.before.canonical);
+        self.pair
+            .forget_held(reached.before.canonical, reached.before.spans);
         self.has_lent = true;
         self.bounds = Bounds {
             before: reached.before,
             behind: reached.before,
         };
-        self.body.begin_text(reached.last.at);
-        self.next = reached.last.at;
+        self.body.begin_text(at);
+        self.next = at;
+    }
+
+    /// Ends a run in `text`, whose first character stands at `at`: reads the syllable that
+    /// `reached` has found by its characters, and holds it.
+    fn end_run(
+        &mut self,
+        at: Place,
+        text: &str,
+        reached: Reached<'_>,
+        room: &mut Room<ScoreEvent>,
+    ) -> Run
+        requires used { self.old.pair.used ≡ SlotUse.Filling }
+        requires to { (given : List PlacedSyllable) × RunsTo self.old at text.now given reached }
+        requires empty { room.old.items ≡ [] }
+        requires room { 16 ≤ room.old.limit }
+        ensures room { room.new ≡ room.old }
+        ensures within { IsSplitPoint text.now result.bytes }
+        ensures plain { All IsPlain (chars (take result.bytes text.now)) }
+        ensures next { result.next ≡ place_past at (chars (take result.bytes text.now)) }
+        ensures gives { (given : List PlacedSyllable) →
+            RunsTo self.old at text.now given reached.entry →
+            GivesSyllables (shown self.old) at (chars (take result.bytes text.now)) given
+            (shown self.new) }
+        ensures rests { IsScore self.new }
+    {
+        regular_laws::a_regular_syllable_goes_through();
+        let last = reached.last;
+        let bytes = text.len() - last.rest.len();
+        let (before, _) = text.split_at(bytes - last.spelled.len());
+        let start = place_past(at, before);
+        let next = place_past(start, last.spelled);
+        self.go_before(reached, start);
+        self.read_all(start, last.spelled, room);
+        self.body.begin_text(next);
+        self.next = next;
+        Run { bytes, next }
     }
 
     /// Takes whole syllables from the front of `text`, as `ScoreStage::take_run` does.
@@ -298,35 +381,27 @@ impl ScoreMachine {
             (shown self.new) out.old out.new }
         ensures rests { IsScore self.new }
     {
-        a_regular_syllable_goes_through();
         let none = Run { bytes: 0, next: at };
         if !is_low(at, text) || !self.is_between(at) {
             return none;
         }
         let before = self.bounds.behind;
         let lines = self.body.nabc_lines();
-        let Some(first) = find(lines, self.limits, at, text, before.canonical) else {
+        let Some(first) = find(lines, self.limits, text, before.canonical) else {
             return none;
         };
+        if self.is_first_with(lines, &first) {
+            return none;
+        }
         self.pair.free();
         if !self.give_held(first.starts_word(), out) {
             return none;
         }
-        let reached = self.give_on(
-            Reached {
-                last: first,
-                before,
-            },
-            out,
-        );
-        let last = reached.last;
-        self.go_before(reached);
-        self.read_all(last.at, last.spelled, room);
-        self.body.begin_text(last.next);
-        self.next = last.next;
-        Run {
-            bytes: text.len() - last.rest.len(),
-            next: last.next,
-        }
+        let begun = Reached {
+            last: first,
+            before,
+        };
+        let reached = self.give_on(begun, out);
+        self.end_run(at, text, reached, room)
     }
 }

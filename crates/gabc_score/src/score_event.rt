@@ -7,7 +7,7 @@ use gabc_places::{Fault, Finding};
 pub enum LentSyllable {
     /// The first of them.
     First,
-    /// The one behind it.
+    /// The one after it.
     Second,
 }
 

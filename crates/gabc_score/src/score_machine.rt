@@ -1,25 +1,19 @@
 //! A machine from what a stage of headers emits to the score.
 
-ghost use Rattle.std.specs.Prelude.{◌≡◌, ◌≢◌, ◌+◌, ◌<◌, ◌≤◌, ◌^◌, List, [], ◌∷◌, ◌++◌, true, false, length, take, None, Some, IfOk, MatchOption};
-ghost use Rattle.std.specs.List.{All};
-ghost use Rattle.gabc_places.specs.Place.{saturating_next_place};
-ghost use Rattle.gabc_places.specs.Skip.{IsPrintable};
+ghost use Rattle.std.specs.Prelude.{◌≡◌, ◌≢◌, ◌+◌, ◌<◌, ◌≤◌, ◌^◌, List, [], ◌∷◌, ◌++◌, false, length, take, None, Some, IfOk, MatchOption};
 ghost use Rattle.gabc_headers.specs.declared.head_event.HeadEvent.{HeadEvent as HeadItem};
 ghost use Rattle.gabc_score.specs.declared.body_stage.BodyPart.{BodyPart};
 ghost use Rattle.gabc_score.specs.witness.BodyStage.{running_events_left};
 ghost use Rattle.gabc_places.specs.BoundedList.{Fits};
 ghost use Rattle.gabc_places.specs.StageLaw.{concat_of};
 ghost use Rattle.gabc_score.specs.ScoreEvents.{outputs_of, Stop, characters_in, syllables_in};
-ghost use Rattle.gabc_score.specs.ScoreStage.{GivesOutputs, GivesAt, GivesLast, GivesNothing};
-ghost use Rattle.gabc_score.specs.ScoreTells.{StandsAt, before_with, held_of, openers_of, reading_of};
-ghost use Rattle.gabc_score.specs.machine.PartOpens.{OpensOn};
+ghost use Rattle.gabc_score.specs.ScoreStage.{GivesOutputs, GivesAt, GivesLast};
+ghost use Rattle.gabc_score.specs.ScoreTells.{before_with, held_of, reading_of};
 ghost use Rattle.gabc_score.specs.Syllable.{unplaced_of};
 ghost use Rattle.gabc_score.specs.witness.ScoreStage.{left_of};
 ghost use Rattle.gabc_score.specs.machine.ScoreStage.{placed_behind, begun_score, body_left};
-ghost use Rattle.gabc_score.specs.machine.Fronts.{shown_before};
-ghost use Rattle.gabc_score.specs.machine.ScoreMachine.{shown, IsInBody, IsBeforeBody, IsScore, IsFreed, KeepsMemory, PassesQuietly};
+ghost use Rattle.gabc_score.specs.machine.ScoreMachine.{shown, IsInBody, IsBeforeBody, IsScore, KeepsMemory};
 ghost use Rattle.gabc_score.specs.machine.ReadAlone.{Reads};
-ghost use Rattle.gabc_score.specs.machine.SlotPair.{is_made};
 
 use crate::before::Before;
 use crate::body_stage::{BodyPart, BodyStage};
@@ -29,10 +23,10 @@ use crate::score_event::ScoreEvent;
 use crate::slot_pair::{SlotPair, SlotUse};
 use crate::syllable::Syllable;
 use gabc_headers::HeadEvent;
-use gabc_places::{Char, Fault, Finding, Limits, Memory, Place, Room, is_printable};
+use gabc_places::{Char, Fault, Finding, Limits, Memory, Place, Room};
 use std::alloc::AllocError;
 
-/// Where a machine stands: before the body, in it, or behind its last event.
+/// Where a machine stands: before the body, in it, or after its last event.
 #[derive(Clone, Copy)]
 pub(crate) enum ScorePart {
     Heads,
@@ -49,26 +43,17 @@ pub(crate) struct ScoreMachine {
     pub(crate) pair: SlotPair,
     /// What is found with the input that is read.
     pub(crate) found: Room<Finding>,
-    /// The place behind the last character of the body.
+    /// The place after the last character of the body.
     pub(crate) next: Place,
     /// Whether a syllable was lent.
     pub(crate) has_lent: bool,
-    /// What stands before and behind what is held.
+    /// What stands before and after what is held.
     pub(crate) bounds: Bounds,
 }
 
-/// Returns how many of `count` columns, the first of which is `column`, fit a `u64` with the one behind them.
-fn columns_within(column: u64, count: usize) -> usize
-    ensures within { result ≤ count }
-    ensures fits { column + result < 2 ^ 64 }
-{
-    let most = (u64::MAX - column) as usize;
-    most.min(count)
-}
-
 impl ScoreMachine {
-    /// Reserves in `memory` what the reading of a body ever takes, whose first character stands at `at`. Its canonical headers
-    /// have `head` bytes, and `body` is a new stage.
+    /// Reserves in `memory` what the reading of a body ever takes, whose first character stands at
+    /// `at`. Its canonical headers have `head` bytes, and `body` is a new stage.
     pub(crate) fn in_body(
         memory: &Memory,
         limits: Limits,
@@ -261,78 +246,8 @@ impl ScoreMachine {
         }
     }
 
-    /// Takes a character at which nothing is given, and returns whether it did. Where it did not, nothing has changed. The place behind it is left
-    /// as it was, for `take_printable`.
-    #[inline(always)]
-    fn take_quietly(&mut self, x: Char) -> bool
-        requires ascii { x.c < 128 }
-        requires freed { IsFreed self.old }
-        ensures taken { result ≡ true → (at : Place) → PassesQuietly (shown_before self.old at) x
-            (shown_before self.new (saturating_next_place x.place x.c)) }
-        ensures stands { result ≡ true → StandsAt x.place self.old.body.part
-            → StandsAt (saturating_next_place x.place x.c) self.new.body.part }
-        ensures opens { result ≡ true → StandsAt x.place self.old.body.part
-            → OpensOn x.place (openers_of self.old.body.part) (openers_of self.new.body.part) }
-        ensures same { result ≡ false → shown self.new ≡ shown self.old }
-        ensures next { self.new.next ≡ self.old.next }
-        ensures freed { IsFreed self.new }
-    {
-        if !self.pair.has_room() {
-            return false;
-        }
-        self.body.take_quietly(x, &mut self.pair)
-    }
-
-    /// Takes printable characters from the front of `bytes`, as `take_front` does, where nothing is lent and no limit is passed.
-    fn take_printable(&mut self, at: Place, bytes: &[u8]) -> usize
-        requires freed { IsFreed self.old }
-        ensures within { result ≤ length bytes.now }
-        ensures printable { All IsPrintable (take result bytes.now) }
-        ensures step { GivesNothing (shown self.old) at (take result bytes.now) (shown self.new) }
-        ensures freed { IsFreed self.new }
-    {
-        let most = columns_within(at.column, bytes.len());
-        let mut count = 0;
-        while count < most && is_printable(bytes[count]) {
-            let place = Place {
-                line: at.line,
-                column: at.column + count as u64,
-            };
-            let c = char::from(bytes[count]);
-            if !self.take_quietly(Char { c, place }) {
-                break;
-            }
-            count += 1;
-        }
-        if count > 0 {
-            self.next = Place {
-                line: at.line,
-                column: at.column + count as u64,
-            };
-        }
-        count
-    }
-
-    /// Takes characters from the front of `bytes` at which nothing is given, and returns how many: printable characters of ASCII, the first of
-    /// which stands at `at`. Outside the body, and where a limit is passed, it takes none.
-    pub(crate) fn take_front(&mut self, at: Place, bytes: &[u8]) -> usize
-        requires rests { IsScore self.old }
-        ensures within { result ≤ length bytes.now }
-        ensures printable { All IsPrintable (take result bytes.now) }
-        ensures step { GivesNothing (shown self.old) at (take result bytes.now) (shown self.new) }
-        ensures rests { IsScore self.new }
-    {
-        let ScorePart::Body = self.part else {
-            return 0;
-        };
-        self.pair.free();
-        match self.pair.code(self.limits) {
-            Some(_) => 0,
-            None => self.take_printable(at, bytes),
-        }
-    }
-
-    /// Returns what stands before the syllable that is held, or before the one that is read where none is held.
+    /// Returns what stands before the syllable that is held, or before the one that is read where
+    /// none is held.
     pub(crate) fn before(&self) -> Before
         ensures { result ≡ before_with self.now.body self.now.bounds.before }
     {

@@ -11,8 +11,7 @@ ghost use Rattle.std.specs.String.Boundary.{IsSplitPoint};
 ghost use Rattle.gabc_places.specs.Place.{place_past};
 ghost use Rattle.gabc_places.specs.TextOfAnInput.{IsPlain};
 ghost use Rattle.gabc_score.specs.GivesSyllables.{Runs};
-ghost use Rattle.gabc_places.specs.Skip.{IsPrintable};
-ghost use Rattle.gabc_score.specs.ScoreStage.{AreCountsBelow, GivesNothing, lent_in};
+ghost use Rattle.gabc_score.specs.ScoreStage.{AreCountsBelow, lent_in};
 ghost use Rattle.gabc_score.specs.witness.ScoreStage.{left_of};
 ghost use Rattle.gabc_score.specs.ScoreTells.{before_of, held_of, in_body, is_in_comment, moved_to, next_of, openers_of, reading_of};
 ghost use Rattle.gabc_score.specs.Syllable.{placed_of, unplaced_of};
@@ -31,8 +30,9 @@ use gabc_places::{Limits, Memory, Place, Room, Stage};
 use std::alloc::{AllocError, Global};
 use std::marker::Model;
 
-/// Reads a score from what a stage of headers emits: what is found, each whole syllable with its position, and what stops the
-/// reading (GregorioRef, "Syllable Text Syntax"). It asks for no memory once made.
+/// Reads a score from what a stage of headers emits: what is found, each whole syllable with its
+/// position, and what stops the reading (GregorioRef, "Syllable Text Syntax"). It asks for no
+/// memory once made.
 #[derive(Drop)]
 pub struct ScoreStage {
     pub(crate) machine: ScoreMachine,
@@ -50,9 +50,9 @@ impl Model for ScoreStage {
 }
 
 impl ScoreStage {
-    /// Returns a stage before the first event of the headers, and reserves the memory that it ever takes: for two syllables of
-    /// `limits.syllable` bytes. It gives what the definition says of all events of which no count reaches its last value. It
-    /// fails only for want of memory.
+    /// Returns a stage before the first event of the headers, and reserves the memory that it ever
+    /// takes: for two syllables of `limits.syllable` bytes. It gives what the definition says of
+    /// all events of which no count reaches its last value. It fails only for want of memory.
     pub fn with_limits(alloc: Global, limits: Limits) -> Result<ScoreStage, AllocError>
         ensures outputs { IfOk result (λ stage. (xs : List HeadEvent) → AreCountsBelow xs →
             left_of stage xs ≡ score_outputs texts_by_stage limits xs) }
@@ -87,8 +87,8 @@ impl ScoreStage {
         })
     }
 
-    /// Begins a score, as a new stage does, wherever the stage stands. What was lent is taken back. It keeps its limits and its memory, and asks
-    /// for none.
+    /// Begins a score, as a new stage does, wherever the stage stands. What was lent is taken back.
+    /// It keeps its limits and its memory, and asks for none.
     pub fn restart(&mut self)
         ensures outputs { (xs : List HeadEvent) → AreCountsBelow xs →
             left_of self.new xs ≡ score_outputs texts_by_stage self.old.limits xs }
@@ -98,22 +98,11 @@ impl ScoreStage {
         self.machine.restart();
     }
 
-    /// Takes characters from the front of `bytes` at which nothing is given, and returns how many. They are printable characters of ASCII, of
-    /// which the first stands at `at` and each next one in the next column. From then on it gives what it would give had each of them been
-    /// pushed. Of those that it could take it may leave some to `push`.
-    pub fn take_front(&mut self, at: Place, bytes: &[u8]) -> usize
-        ensures within { result ≤ length bytes.now }
-        ensures printable { All IsPrintable (take result bytes.now) }
-        ensures step { GivesNothing self.old at (take result bytes.now) self.new }
-    {
-        self.machine.take_front(at, bytes)
-    }
-
-    /// Takes whole syllables from the front of `text`, of which the first character stands at `at`, and
-    /// returns how far it went. At their characters it gives syllables and nothing else, to `out`. From
-    /// then on it gives what it would give had each of the characters been pushed. Of those that it
-    /// could take it may leave some to `push`. `room` is empty, and has room for 16 events; nothing
-    /// stands in it afterwards.
+    /// Takes whole syllables from the front of `text`, of which the first character stands at `at`,
+    /// and returns how far it went. At their characters it gives syllables and nothing else, to
+    /// `out`. From then on it gives what it would give had each of the characters been pushed. Of
+    /// those that it could take it may leave some to `push`. `room` is empty, and has room for 16
+    /// events; nothing stands in it afterwards.
     pub fn take_run<G: Give>(
         &mut self,
         at: Place,
@@ -148,8 +137,8 @@ impl ScoreStage {
         self.machine.limits
     }
 
-    /// Returns what stands before the syllable that is held, or before the one that is read where none is held. Before the headers are whole, and
-    /// behind the last event, it returns `None`.
+    /// Returns what stands before the syllable that is held, or before the one that is read where
+    /// none is held. Before the headers are whole, and after the last event, it returns `None`.
     pub fn before(&self) -> Option<Before>
         ensures { result ≡ before_of self.now }
     {
@@ -159,8 +148,9 @@ impl ScoreStage {
         }
     }
 
-    /// Returns the whole syllable that is held, if one is: it is given when the next one is whole, or at the last event. Outside the body it
-    /// returns `None`. The syllable's position is not known yet, and what it says of it counts for nothing.
+    /// Returns the whole syllable that is held, if one is: it is given when the next one is whole,
+    /// or at the last event. Outside the body it returns `None`. The syllable's position is not
+    /// known yet, and what it says of it counts for nothing.
     pub fn held(&self) -> Option<&Syllable>
         ensures { MatchOption result (held_of self.now ≡ None)
             (λ s. held_of self.now ≡ Some (unplaced_of s.now)) }
@@ -168,7 +158,8 @@ impl ScoreStage {
         self.machine.held()
     }
 
-    /// Returns the kept text of the syllable that is read. Outside the body it returns an empty text.
+    /// Returns the kept text of the syllable that is read. Outside the body it returns an empty
+    /// text.
     pub fn reading(&self) -> &str
         ensures { result.now ≡ reading_of self.now }
     {
@@ -212,7 +203,8 @@ impl ScoreStage {
         self.machine.go_to(at);
     }
 
-    /// Returns the syllable that the last call gave as `lent`. What it returns where none was given is not said.
+    /// Returns the syllable that the last call gave as `lent`. What it returns where none was given
+    /// is not said.
     pub fn syllable(&self, lent: LentSyllable) -> &Syllable
         ensures { placed_of result.now ≡ lent_in lent self.now }
     {

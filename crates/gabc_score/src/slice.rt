@@ -15,7 +15,8 @@ pub(crate) fn slice_of(kept: &str, span: Span) -> &[u8]
     &bytes[from..to]
 }
 
-/// Returns the text of a span of `kept`. A span that does not begin and end between characters of `kept` has none.
+/// Returns the text of a span of `kept`. A span that does not begin and end between characters of
+/// `kept` has none.
 pub(crate) fn text_of(kept: &str, span: Span) -> &str
     ensures { result.now ≡ text_at span kept.now }
 {

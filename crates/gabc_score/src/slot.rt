@@ -9,12 +9,13 @@ use gabc_text::{TextPart, TextView};
 use std::alloc::AllocError;
 use std::marker::Model;
 
-/// A syllable that is being read, or was read. Its memory is reserved: so many bytes as a syllable may have, and what one
-/// character can add.
+/// A syllable that is being read, or was read. Its memory is reserved: so many bytes as a syllable
+/// may have, and what one character can add.
 #[derive(Drop)]
 pub(crate) struct Slot {
     syllable: Syllable,
-    /// The bytes of the kept text before the part that is being read, which is the text or a snippet.
+    /// The bytes of the kept text before the part that is being read, which is the text or a
+    /// snippet.
     from: usize,
     limit: usize,
 }
@@ -30,7 +31,7 @@ impl Model for Slot {
 }
 
 impl Slot {
-    ghost use Rattle.std.specs.Prelude.{◌≡◌, ◌+◌, ◌<◌, ◌^◌, nat_lt, length, [], ◌∷◌, IfOk, string_bytes};
+    ghost use Rattle.std.specs.Prelude.{◌≡◌, ◌+◌, ◌<◌, ◌^◌, [], ◌∷◌, IfOk, string_bytes};
     ghost use Rattle.gabc_notes.specs.FirstNoteOrClef.{first_note_or_clef};
     ghost use Rattle.gabc_notes.specs.Items.{items_of};
     ghost use Rattle.gabc_text.specs.BuiltText.{with_part};
@@ -40,7 +41,8 @@ impl Slot {
     ghost use Rattle.gabc_score.specs.machine.Slot.{placed_in, made_in, FitsKept, FitsPiece, FitsSnippet};
     ghost use Rattle.gabc_score.specs.machine.SyllableBuilder.{nothing_open, with_kept, past_mark, past_text, past_snippet};
 
-    /// Returns a slot in which nothing was read, and reserves room for a syllable of `limit` bytes. Its kept text lies in `memory`.
+    /// Returns a slot in which nothing was read, and reserves room for a syllable of `limit` bytes.
+    /// Its kept text lies in `memory`.
     pub(crate) fn with_limit(memory: &Memory, limit: usize) -> Result<Slot, AllocError>
         requires { limit < 2 ^ 32 }
         ensures reading { IfOk result (λ slot. slot.reading ≡ nothing_open) }
@@ -167,14 +169,6 @@ impl Slot {
         slice_of(self.syllable.kept.as_str(), span)
     }
 
-    /// Returns whether anything is kept of the part that is being read.
-    #[inline(always)]
-    pub(crate) fn has_part(&self) -> bool
-        ensures { result ≡ nat_lt self.now.reading.from (length self.now.reading.kept) }
-    {
-        self.from < self.syllable.kept.len()
-    }
-
     /// Returns which comes first in the snippet of this span, a note or a clef.
     #[inline(always)]
     pub(crate) fn first_kind_in(&self, span: Span) -> Option<ItemKind>
@@ -205,7 +199,7 @@ impl Slot {
     }
 }
 
-ghost use Rattle.std.specs.Prelude.{◌≡◌, ◌≤◌, string_bytes};
+ghost use Rattle.std.specs.Prelude.{◌≡◌, string_bytes};
 ghost use Rattle.std.specs.String.{string_capacity};
 ghost use Rattle.gabc_score.specs.Syllable.{prefix_of};
 

@@ -40,7 +40,8 @@ pub(crate) struct SlotPair {
     /// Whether the span of `<eu>` is open, and that of `<nlba>`.
     pub(crate) eu: bool,
     pub(crate) nlba: bool,
-    /// The bytes of the canonical headers and of all syllables that stand before the one that is read, or the last value.
+    /// The bytes of the canonical headers and of all syllables that stand before the one that is
+    /// read, or the last value.
     pub(crate) total: usize,
     /// Whether one of them is longer than the limit.
     over: bool,
@@ -92,15 +93,16 @@ impl Model for SlotPair {
 }
 
 impl SlotPair {
-    ghost use Rattle.std.specs.Prelude.{◌≡◌, ◌≢◌, ◌||◌, ◌-◌, ◌<◌, ◌≤◌, ◌^◌, not, nat_lt, [], ◌∷◌, take, length, false, IfOk, IsTrue, if◌then◌else◌};
+    ghost use Rattle.std.specs.Prelude.{◌≡◌, ◌≢◌, ◌||◌, ◌-◌, ◌<◌, ◌≤◌, ◌^◌, nat_lt, take, length, false, IfOk};
     ghost use Rattle.gabc_score.specs.Body.{has_text, is_none};
     ghost use Rattle.gabc_score.specs.machine.BodyBuilder.{code_in, end_fault};
-    ghost use Rattle.gabc_score.specs.machine.Gatherer.{nothing_gathered, with_mark, with_mark_of, with_view_part, with_text_end, with_text, with_syllable, with_note_end, with_note, with_last, awaits, awaits_in, first_past};
+    ghost use Rattle.gabc_score.specs.machine.Gatherer.{nothing_gathered, with_mark, with_mark_of, with_text_end, with_text, with_syllable, with_note_end, with_note, with_last, awaits, first_past};
     ghost use Rattle.gabc_score.specs.machine.ScoreStage.{placed_behind, with_held};
-    ghost use Rattle.gabc_score.specs.machine.Slot.{FitsText, FitsNote, FitsKept, FitsPiece, FitsSnippet};
+    ghost use Rattle.gabc_score.specs.machine.Slot.{FitsText, FitsNote, FitsKept, FitsSnippet};
     ghost use Rattle.gabc_score.specs.machine.SlotPair.{is_made, used_past, lent_syllables};
 
-    /// Returns two slots in which nothing was read, and reserves room for syllables of `limit` bytes in `memory`.
+    /// Returns two slots in which nothing was read, and reserves room for syllables of `limit`
+    /// bytes in `memory`.
     pub(crate) fn with_limit(memory: &Memory, limit: usize) -> Result<SlotPair, AllocError>
         requires { limit < 2 ^ 32 }
         ensures gathered { IfOk result (λ pair. pair.gathered ≡ nothing_gathered limit 0) }
@@ -163,7 +165,8 @@ impl SlotPair {
         self.used = SlotUse::Filling;
     }
 
-    /// Does nothing. Its contract is a law: where no slot holds a syllable beside the one held, at most one was gathered.
+    /// Does nothing. Its contract is a law: where no slot holds a syllable beside the one held, at
+    /// most one was gathered.
     #[inline(always)]
     pub(crate) fn at_most_one_is_held(&self)
         requires { is_made self.now.used ≡ false }
@@ -270,15 +273,6 @@ impl SlotPair {
         }
     }
 
-    /// Returns whether neither a note nor a clef has come in GABC, and the snippet that is being read may bring one: `line` is a line of
-    /// GABC, and something is kept.
-    pub(crate) fn awaits(&self, line: u8) -> bool
-        requires { self.now.used ≡ SlotUse.Filling }
-        ensures { result ≡ awaits_in self.now.gathered.first_kind line self.now.gathered.builder }
-    {
-        self.awaits_on(line) && self.reader.has_part()
-    }
-
     /// Returns whether neither a note nor a clef has come in GABC, where `line` is a line of GABC.
     #[inline(always)]
     fn awaits_on(&self, line: u8) -> bool
@@ -287,7 +281,8 @@ impl SlotPair {
         line == 0 && self.first_kind.is_none()
     }
 
-    /// Finds the first note or clef in the snippet of `line` that has ended, which has this span, where neither came before.
+    /// Finds the first note or clef in the snippet of `line` that has ended, which has this span,
+    /// where neither came before.
     #[inline(always)]
     fn add_first_kind(&mut self, line: u8, span: Span)
         requires { self.old.used ≡ SlotUse.Filling }
@@ -317,8 +312,8 @@ impl SlotPair {
         self.used = SlotUse::Made;
     }
 
-    /// Closes the last text, where it has a piece, a centre or a translation: its notes are one empty snippet. Returns whether
-    /// it has.
+    /// Closes the last text, where it has a piece, a centre or a translation: its notes are one
+    /// empty snippet. Returns whether it has.
     pub(crate) fn close_last(&mut self) -> bool
         requires { self.old.used ≢ SlotUse.Lent }
         ensures gathered { self.new.gathered ≡ with_last self.old.gathered }
@@ -355,14 +350,6 @@ impl SlotPair {
         }
     }
 
-    /// Returns whether a byte more of the syllable that is read is within the limit.
-    #[inline(always)]
-    pub(crate) fn has_room(&self) -> bool
-        ensures { IsTrue result → length self.now.gathered.builder.kept < self.now.gathered.limit }
-    {
-        self.kept_len() < self.limit
-    }
-
     /// The bytes of the syllable that is read.
     fn kept_len(&self) -> usize
         ensures { result ≡ length self.now.gathered.builder.kept }
@@ -397,8 +384,8 @@ impl SlotPair {
         self.reader.syllable().text.word_start
     }
 
-    /// Gives the held syllable where the one that was read is whole, which is held from then on. `has_lent` tells whether one was
-    /// lent before. Returns how many it gave, one or none.
+    /// Gives the held syllable where the one that was read is whole, which is held from then on.
+    /// `has_lent` tells whether one was lent before. Returns how many it gave, one or none.
     pub(crate) fn turn(&mut self, has_lent: bool) -> usize
         ensures gathered { self.new.gathered ≡ with_held self.old.gathered }
         ensures lends { lent_syllables result self.new ≡ take (length self.old.gathered.made - 1)
@@ -437,7 +424,7 @@ impl SlotPair {
         if self.held { 1 } else { 0 }
     }
 
-    /// Gives the held syllable, and behind it the one that was made last. Returns how many it gave.
+    /// Gives the held syllable, and after it the one that was made last. Returns how many it gave.
     pub(crate) fn give_all(&mut self, has_lent: bool) -> usize
         requires { self.old.used ≢ SlotUse.Lent }
         ensures limit { self.new.gathered.limit ≡ self.old.gathered.limit }
@@ -473,7 +460,8 @@ fn has_text(view: &TextView) -> bool
     !view.pieces.as_slice().is_empty() || view.centre.is_some() || view.translation.is_some()
 }
 
-/// Whether a span is open behind a piece of this kind and spelling, by the tags that open and close it.
+/// Whether a span is open after a piece of this kind and spelling, by the tags that open and close
+/// it.
 fn is_open_after(opening: &[u8], closing: &[u8], was: bool, kind: PieceKind, spelled: &[u8]) -> bool
     ensures { result ≡ is_open_after opening.now closing.now was kind spelled.now }
 {

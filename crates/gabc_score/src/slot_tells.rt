@@ -24,7 +24,8 @@ impl SlotPair {
         }
     }
 
-    /// Returns the bytes of the canonical headers and of all syllables that were made, a count that saturates.
+    /// Returns the bytes of the canonical headers and of all syllables that were made, a count that
+    /// saturates.
     #[inline(always)]
     pub(crate) fn canonical(&self) -> usize
         ensures { result ≡ self.now.gathered.total }

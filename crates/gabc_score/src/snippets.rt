@@ -3,8 +3,8 @@
 use gabc_places::Span;
 use smallvec::SmallVec;
 
-/// A snippet of the notes: line 0 is GABC, and the lines from 1 on are the NABC of the GABC snippet before them (GregorioRef,
-/// "Headers": `nabc-lines`). The span counts bytes of the kept text.
+/// A snippet of the notes: line 0 is GABC, and the lines from 1 on are the NABC of the GABC snippet
+/// before them (GregorioRef, "Headers": `nabc-lines`). The span counts bytes of the kept text.
 #[derive(Clone, Copy, Debug, PartialEq, Eq)]
 pub struct Snippet {
     /// 0 for GABC, and 1 to 4 for NABC.

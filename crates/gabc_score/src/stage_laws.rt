@@ -1,4 +1,5 @@
-//! Laws of a stage over a score. Each function's contract is a law. Its body drives a stage, gives it one input, calls other laws, or does nothing.
+//! Laws of a stage over a score. Each function's contract is a law. Its body drives a stage, gives
+//! it one input, calls other laws, or does nothing.
 
 ghost use Rattle.std.specs.Prelude.{◌≡◌, ◌==◌, ◌+◌, ◌*◌, ◌<◌, ◌≤◌, ◌^◌, ℕ, List, [], ◌∷◌, None, true, false, length, map, is_some, option_to_list, encode_utf8_all, IfOk, IfSome, OnErr, OnOk, Ok};
 ghost use Rattle.gabc_headers.specs.declared.head_event.HeadEvent.{HeadEvent};
@@ -24,7 +25,7 @@ ghost use Rattle.gabc_score.specs.HeldAside.{HoldTheSame, GiveTheSame};
 ghost use Rattle.gabc_score.specs.StandAlike.{StandAlike};
 ghost use Rattle.gabc_score.specs.HeldAgain.{IsOneSyllable, MayBeHeld};
 ghost use Rattle.gabc_score.specs.ReadAgain.{CanBeReadInText, StandsBefore};
-ghost use Rattle.gabc_score.specs.Resumed.{StandsBehind};
+ghost use Rattle.gabc_score.specs.Resumed.{BeginsText, StandsBehind};
 ghost use Rattle.gabc_score.specs.declared.before.Before.{Before};
 ghost use Rattle.gabc_score.specs.declared.before.Spans.{Spans};
 ghost use Rattle.gabc_score.specs.ScoreTells.{before_of, held_of, moved_to, reading_of, openers_of, is_in_comment, is_in_front, StandsAt, StandsInFront};
@@ -44,8 +45,9 @@ use gabc_headers::HeadEvent;
 use gabc_places::{Limits, Place, Room, Stage, drive};
 use std::alloc::{AllocError, Global};
 
-/// A fresh stage over a score, driven over `inputs` of which no count reaches its last value, gives what the definition gives of them,
-/// each syllable as the event that lends it. For want of memory nothing is given.
+/// Law: a fresh stage over a score, driven over `inputs` of which no count reaches its last value,
+/// gives what the definition gives of them, each syllable as the event that lends it. For want of
+/// memory nothing is given.
 pub fn a_fresh_stage_emits(
     alloc: Global,
     limits: Limits,
@@ -64,7 +66,7 @@ pub fn a_fresh_stage_emits(
     Ok(())
 }
 
-/// What an input gives: the next outputs, as events, and the stage lends their syllables.
+/// Law: what an input gives: the next outputs, as events, and the stage lends their syllables.
 pub fn an_input_is_taken(stage: &mut ScoreStage, input: HeadEvent, out: &mut Room<ScoreEvent>)
     requires { Fits out.old 16 }
     ensures { GivesAt stage.old input stage.new out.old out.new }
@@ -72,29 +74,33 @@ pub fn an_input_is_taken(stage: &mut ScoreStage, input: HeadEvent, out: &mut Roo
     stage.push(input, out);
 }
 
-/// Where the inputs of a stage just cease, it gives no finding, no stop and no end then, whatever it has read.
+/// Law: where the inputs of a stage just cease, it gives no finding, no stop and no end then,
+/// whatever it has read.
 pub fn inputs_that_cease_give_no_stop()
     ensures findings { (s : ScoreStageState) → findings_in (concat_of (left_of s [])) ≡ [] }
     ensures stop { (s : ScoreStageState) → fault_in (concat_of (left_of s [])) ≡ None }
     ensures end { (s : ScoreStageState) → has_end (concat_of (left_of s [])) ≡ false }
 {}
 
-/// Where the inputs of a stage just cease, it gives at most one syllable then, the one that it holds.
+/// Law: where the inputs of a stage just cease, it gives at most one syllable then, the one that it
+/// holds.
 pub fn at_most_one_syllable_is_held(stage: &ScoreStage)
     ensures { length (syllables_in (concat_of (left_of stage.now []))) ≤ 1 }
 {
     stage.at_most_one_is_held();
 }
 
-/// Where a stage stands, whatever it has read, a stage may stand. The laws of stages that may stand so hold of it, and of what it told once it is gone.
+/// Law: where a stage stands, whatever it has read, a stage may stand. The laws of stages that may
+/// stand so hold of it, and of what it told once it is gone.
 pub fn a_stage_may_stand(stage: &ScoreStage)
     ensures { MayStand stage.now }
 {
     stage.may_stand();
 }
 
-/// In the body what a stage tells is within its limits, whatever it has read: the kept text of the syllable that is read, and of the one that is
-/// held the canonical text, also with what stands before it. Before the first syllable no span is open, and no comment is open inside an inner
+/// Law: in the body what a stage tells is within its limits, whatever it has read: the kept text of
+/// the syllable that is read, and of the one that is held the canonical text, also with what stands
+/// before it. Before the first syllable no span is open, and no comment is open inside an inner
 /// opener.
 pub fn what_is_told_is_within_the_limits()
     ensures { (s : ScoreStageState) → MayStand s → is_some (before_of s) ≡ true → IsToldWithin s }
@@ -103,7 +109,8 @@ pub fn what_is_told_is_within_the_limits()
     gabc_notes::laws::an_opener_is_told_inside_raw();
 }
 
-/// In the body the whole syllables are those that were given, and the one that is held, if one is, whatever a stage has read.
+/// Law: in the body the whole syllables are those that were given, and the one that is held, if one
+/// is, whatever a stage has read.
 pub fn whole_syllables_are_given_or_held(stage: &ScoreStage)
     requires runs { is_some (before_of stage.now) ≡ true }
     ensures { whole_syllables stage.now
@@ -112,7 +119,8 @@ pub fn whole_syllables_are_given_or_held(stage: &ScoreStage)
     stage.gave_or_holds();
 }
 
-/// What a stage of headers gives before the body may come of a text, wherever the next character stands.
+/// Law: what a stage of headers gives before the body may come of a text, wherever the next
+/// character stands.
 pub fn headers_may_come()
     ensures { (limits : Limits) (t : List ℕ) (x : Char) (next : Place) →
         All (MayCome limits next) (events_of_input limits (reading t) (Ok x)) }
@@ -121,7 +129,8 @@ pub fn headers_may_come()
     gabc_headers::laws::the_numbers_of_headers_are_in_range();
 }
 
-/// What a stage tells is still that of a text where its next character is said to stand there, if that is no earlier.
+/// Law: what a stage tells is still that of a text where its next character is said to stand there,
+/// if that is no earlier.
 pub fn what_is_told_may_move(stage: &mut ScoreStage, at: Place)
     requires later { IsUpTo stage.old.held.next at }
     requires place { IsPlace at }
@@ -131,23 +140,30 @@ pub fn what_is_told_may_move(stage: &mut ScoreStage, at: Place)
     stage.go_to(at);
 }
 
-/// What a stage tells that goes on behind syllables, and has read nothing yet, is that of a text, where the counts of what stands before it are in
-/// range.
+/// Law: what a stage tells that goes on after syllables, and has read nothing yet, is that of a
+/// text, where the counts of what stands before it are in range.
 pub fn a_resumed_stage_tells_of_a_text()
     ensures { (limits : Limits) (before : Before) (s : ScoreStageState) →
         StandsBehind limits before s →
         AreCountsWithin limits before.nabc_lines before.macros before.canonical → TellsOfText s }
 {}
 
-/// In the body, while the comment behind the `%%` is open, a stage stands in front of the first text: no syllable is whole, and nothing is read of
-/// one.
+/// Law: where a stage begins to read a text, no comment is open.
+pub fn a_text_begins_outside_a_comment()
+    ensures { (s : ScoreStageState) → BeginsText s → is_in_comment s.body.part ≡ false }
+{
+    gabc_text::laws::a_fresh_stage_reports_nothing_open();
+}
+
+/// Law: in the body, while the comment after the `%%` is open, a stage stands in front of the first
+/// text: no syllable is whole, and nothing is read of one.
 pub fn in_front_nothing_is_read()
     ensures { (s : ScoreStageState) → MayStand s → is_some (before_of s) ≡ true →
         is_in_front s.body.part ≡ true → StandsInFront s }
 {}
 
-/// In front of the first text a stage gives the same of whatever follows, wherever the next character is said to stand: its place counts only once
-/// the character has come.
+/// Law: in front of the first text a stage gives the same of whatever follows, wherever the next
+/// character is said to stand: its place counts only once the character has come.
 pub fn a_body_may_begin_anywhere(stage: &ScoreStage)
     requires { StandsInFront stage.now }
     ensures { (place : Place) (xs : List HeadEvent) →
@@ -156,20 +172,20 @@ pub fn a_body_may_begin_anywhere(stage: &ScoreStage)
     stage.begins_anywhere();
 }
 
-/// A stage gives the end only where the end is among its inputs, whatever it has read.
+/// Law: a stage gives the end only where the end is among its inputs, whatever it has read.
 pub fn the_end_comes_with_the_end()
     ensures { (s : ScoreStageState) (xs : List HeadEvent) → HasNoEnd xs →
         has_end (concat_of (left_of s xs)) ≡ false }
 {}
 
-/// Behind a stop a stage gives nothing, whatever it has read and whatever follows.
+/// Law: after a stop a stage gives nothing, whatever it has read and whatever follows.
 pub fn nothing_follows_a_stop()
     ensures { (s : ScoreStageState) (fault : Fault) (later : List HeadEvent) →
         concat_of (left_of s (Stop fault ∷ later)) ≡ concat_of (left_of s (Stop fault ∷ [])) }
 {}
 
-/// Of whatever a stage of headers emits of a text with fewer than 2^63 bytes no count reaches its last value, and a score reads the
-/// texts of its body by their machine as by their definition.
+/// Law: of whatever a stage of headers emits of a text with fewer than 2^63 bytes no count reaches
+/// its last value, and a score reads the texts of its body by their machine as by their definition.
 pub fn texts_are_read_in_full()
     ensures counts { (limits : Limits) (ending : InputEnding) (t : List ℕ) →
         length (encode_utf8_all t) < 2 ^ 63 → AreCountsBelow (head_events limits ending t) }
@@ -182,8 +198,9 @@ pub fn texts_are_read_in_full()
     gabc_text::laws::a_fresh_stage_emits_the_events_by_point();
 }
 
-/// A stage over a body that stands at the beginning of a text emits of the characters from there on what the definition says of a text that begins
-/// there, if no count of theirs reaches its last value.
+/// Law: a stage over a body that stands at the beginning of a text emits of the characters from
+/// there on what the definition says of a text that begins there, if no count of theirs reaches its
+/// last value.
 pub fn a_text_is_read_from_its_beginning()
     ensures { (r : BodyStageState) (at : Place) (t : List ℕ) →
         r.part ≡ Text (fresh_stage at) → CountsFit at t →
@@ -194,8 +211,9 @@ pub fn a_text_is_read_from_its_beginning()
     gabc_text::laws::a_fresh_stage_emits_the_events_by_point();
 }
 
-/// A fresh stage over a score gives what the definition says of a text with fewer than 2^63 bytes, however its input ended, once it takes
-/// what a stage of headers emits of this text. Returns this stage.
+/// Law: a fresh stage over a score gives what the definition says of a text with fewer than 2^63
+/// bytes, however its input ended, once it takes what a stage of headers emits of this text.
+/// Returns this stage.
 pub fn a_fresh_stage_reads_texts(alloc: Global, limits: Limits) -> Result<ScoreStage, AllocError>
     ensures { IfOk result (λ stage. (ending : InputEnding) (t : List ℕ) →
         length (encode_utf8_all t) < 2 ^ 63 →
@@ -205,9 +223,10 @@ pub fn a_fresh_stage_reads_texts(alloc: Global, limits: Limits) -> Result<ScoreS
     ScoreStage::with_limits(alloc, limits)
 }
 
-/// Two stages in the body that run under the same limits and tell the same give the same of whatever follows, if both or none of them stand in front of
-/// the first text. Only the syllable that the one holds stands where the other gives its own, which says the same. The next character stands where a
-/// text that is read has counted it.
+/// Law: two stages in the body that run under the same limits and tell the same give the same of
+/// whatever follows, if both or none of them stand in front of the first text. Only the syllable
+/// that the one holds stands where the other gives its own, which says the same. The next character
+/// stands where a text that is read has counted it.
 pub fn stages_that_tell_the_same_agree()
     ensures { (one other : ScoreStageState) → MayStand one → MayStand other → StandAlike one other →
         is_in_front one.body.part ≡ is_in_front other.body.part →
@@ -221,8 +240,9 @@ pub fn stages_that_tell_the_same_agree()
     gabc_nabc::laws::stages_behind_one_text_agree();
 }
 
-/// So it is where only one of them stands in front of the first text, and the other in a comment of a text of which nothing is read, if the characters
-/// that follow stand one behind the other, from the place of the next one on.
+/// Law: so it is where only one of them stands in front of the first text, and the other in a
+/// comment of a text of which nothing is read, if the characters that follow stand one after the
+/// other, from the place of the next one on.
 pub fn stages_that_tell_the_same_agree_in_line()
     ensures { (one other : ScoreStageState) → MayStand one → MayStand other → StandAlike one other →
         (xs : List HeadEvent) → StandInLine one.held.next xs →
@@ -236,8 +256,8 @@ pub fn stages_that_tell_the_same_agree_in_line()
     stages_that_tell_the_same_agree();
 }
 
-/// The whole syllable that a stage holds, whatever it has read, holds some unit: a text and its notes, with one snippet where there are no NABC
-/// lines.
+/// Law: the whole syllable that a stage holds, whatever it has read, holds some unit: a text and
+/// its notes, with one snippet where there are no NABC lines.
 pub fn what_is_held_holds_a_unit()
     ensures { (s : ScoreStageState) → MayStand s →
         IfSome (held_of s) (HoldsSomeUnit s.body.nabc_lines) }
@@ -258,8 +278,8 @@ pub fn what_breaks_off_holds_a_unit()
     what_is_held_holds_a_unit();
 }
 
-/// Which spans are open behind the whole syllable that a stage holds, whatever it has read, follows from its text and from those that are open
-/// before it.
+/// Law: which spans are open after the whole syllable that a stage holds, whatever it has read,
+/// follows from its text and from those that are open before it.
 pub fn spans_of_what_is_held_follow()
     ensures { (s : ScoreStageState) → MayStand s →
         IfSome (held_of s) (FollowsSpans s.before.spans) }
@@ -270,7 +290,8 @@ pub fn spans_of_what_is_held_follow()
     gabc_nabc::laws::kept_again();
 }
 
-/// The canonical text of the syllable that a stage holds is a text of an input, as long as what the stage tells is that of a text.
+/// Law: the canonical text of the syllable that a stage holds is a text of an input, as long as
+/// what the stage tells is that of a text.
 pub fn what_is_held_is_a_text()
     ensures { (s : ScoreStageState) → MayStand s → TellsOfText s →
         IfSome (held_of s) (λ m. IsText (written_behind s.before m)) }
@@ -279,26 +300,28 @@ pub fn what_is_held_is_a_text()
     what_is_held_holds_a_unit();
 }
 
-/// The whole syllable that a stage holds, whatever it has read, is within the stage's limits, wherever it stands in its word.
+/// Law: the whole syllable that a stage holds, whatever it has read, is within the stage's limits,
+/// wherever it stands in its word.
 pub fn what_is_held_is_within_the_limits()
     ensures { (s : ScoreStageState) → MayStand s →
         IfSome (held_of s) (IsWithinAnywhere s.limits) }
 {}
 
-/// Of a stage in the body the kept text of the syllable that it reads can be read again.
+/// Law: of a stage in the body the kept text of the syllable that it reads can be read again.
 pub fn what_is_read_can_be_read_again(stage: &ScoreStage)
     ensures { is_some (before_of stage.now) ≡ true → CanBeReadAgain stage.now }
 {
     stage.can_be_read_again();
 }
 
-/// In front of the first text the comment that is open can be read again as one in a text of which nothing is kept.
+/// Law: in front of the first text the comment that is open can be read again as one in a text of
+/// which nothing is kept.
 pub fn a_comment_in_front_can_be_read_in_a_text()
     ensures { (s : ScoreStageState) → is_some (before_of s) ≡ true → StandsInFront s →
         CanBeReadInText s }
 {}
 
-/// A text that is read by itself behind the same is one syllable, and no other.
+/// Law: a text that is read by itself after the same is one syllable, and no other.
 pub fn a_text_is_one_syllable()
     ensures { (limits : Limits) (before : Before) (text : List ℕ) (m n : UnplacedSyllable) →
         MayBeHeld limits before text m → MayBeHeld limits before text n → m ≡ n }
@@ -313,8 +336,9 @@ pub fn one_syllable_keeps_no_more_than_its_text()
         IsOneSyllable lines macros at text spans other m × (length m.kept ≤ other) }
 {}
 
-/// Reads again what `told` tells of the syllable that it reads, in a stage that stands before this syllable. Both stand behind the same and under the same
-/// limits, and the syllables that they hold say the same. From then on `again` gives what `told` gives, but for the syllable that is held.
+/// Reads again what `told` tells of the syllable that it reads, in a stage that stands before this
+/// syllable. Both stand after the same and under the same limits, and the syllables that they hold
+/// say the same. From then on `again` gives what `told` gives, but for the syllable that is held.
 pub fn a_kept_text_gives_the_stage_back(told: &ScoreStage, again: &mut ScoreStage)
     requires runs { is_some (before_of told.now) ≡ true }
     requires front { is_in_front told.now.body.part ≡ false }

@@ -7,8 +7,9 @@ use gabc_places::{Memory, Span};
 use gabc_text::TextView;
 use std::alloc::AllocError;
 
-/// Where in its word a syllable stands. A syllable begins a word if blanks stand before its text (GregorioRef, "Syllable Text
-/// Syntax"); the first one of a score does, and behind the last one a word would begin.
+/// Where in its word a syllable stands. A syllable begins a word if blanks stand before its text
+/// (GregorioRef, "Syllable Text Syntax"); the first one of a score does, and after the last one a
+/// word would begin.
 #[derive(Clone, Copy, Debug, PartialEq, Eq)]
 pub enum Position {
     /// It is the whole word.
@@ -41,15 +42,18 @@ impl Position {
 pub struct Syllable {
     /// What its text says.
     pub text: TextView,
-    /// The text from the blanks before it to its `)`, without comments and what was left out. Spans count its bytes.
+    /// The text from the blanks before it to its `)`, without comments and what was left out. Spans
+    /// count its bytes.
     pub kept: String<Memory>,
     /// Its snippets, in order.
     pub snippets: Snippets,
     /// Where in its word it stands.
     pub position: Position,
-    /// Whether the span that `<eu>` opens is open at the end of its text (GregorioRef, "Syllable Text Syntax").
+    /// Whether the span that `<eu>` opens is open at the end of its text (GregorioRef, "Syllable
+    /// Text Syntax").
     pub eu: bool,
-    /// Whether the span that `<nlba>` opens is open at the end of its text (GregorioRef, "Syllable Text Syntax").
+    /// Whether the span that `<nlba>` opens is open at the end of its text (GregorioRef, "Syllable
+    /// Text Syntax").
     pub nlba: bool,
 }
 
@@ -65,7 +69,8 @@ impl Syllable {
         slice_of(self.kept.as_str(), span)
     }
 
-    /// Returns the text of `span` in its kept text. A span that does not begin and end between characters of it has none.
+    /// Returns the text of `span` in its kept text. A span that does not begin and end between
+    /// characters of it has none.
     pub fn text_at(&self, span: Span) -> &str
         ensures { result.now ≡ text_at span (string_bytes self.now.kept) }
     {
@@ -93,7 +98,8 @@ impl Syllable {
         })
     }
 
-    /// Returns the number of bytes of its canonical text; it saturates at the last value of a `usize`.
+    /// Returns the number of bytes of its canonical text; it saturates at the last value of a
+    /// `usize`.
     pub fn canonical_len(&self) -> usize
         ensures { result ≡ min (length (canonical (starts_word self.now.position)
             (unplaced_of self.now))) (2 ^ 64 - 1) }

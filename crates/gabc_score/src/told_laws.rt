@@ -1,4 +1,5 @@
-//! What is known of any stage over a score. Each function's contract is a law, and its body calls other laws or does nothing.
+//! What is known of any stage over a score. Each function's contract is a law, and its body calls
+//! other laws or does nothing.
 
 ghost use Rattle.std.specs.Prelude.{◌≡◌, ◌+◌, length, true, is_some, option_to_list};
 ghost use Rattle.gabc_score.specs.ScoreTells.{before_of, held_of};
@@ -10,7 +11,8 @@ use crate::score_machine::{ScoreMachine, ScorePart};
 use crate::score_stage::ScoreStage;
 
 impl ScoreMachine {
-    /// Does nothing but call a law. Its contract is one: where a machine stands between two calls, a stage may stand.
+    /// Does nothing but call a law. Its contract is one: where a machine stands between two calls,
+    /// a stage may stand.
     fn may_stand(&self)
         requires rests { IsScore self.now }
         ensures { MayStand (shown self.now) }
@@ -21,7 +23,8 @@ impl ScoreMachine {
         }
     }
 
-    /// Does nothing but call laws. Its contract is one: in the body the whole syllables are those that were given, and the one that is held.
+    /// Does nothing but call laws. Its contract is one: in the body the whole syllables are those
+    /// that were given, and the one that is held.
     fn gave_or_holds(&self)
         requires body { self.now.part ≡ ScorePart.Body }
         requires rests { IsInBody self.now }
@@ -40,7 +43,8 @@ impl ScoreStage {
         self.machine.may_stand();
     }
 
-    /// Does nothing but call laws. Its contract is one: in the body the whole syllables are those that were given, and the one that is held.
+    /// Does nothing but call laws. Its contract is one: in the body the whole syllables are those
+    /// that were given, and the one that is held.
     pub(crate) fn gave_or_holds(&self)
         requires { is_some (before_of self.now) ≡ true }
         ensures { whole_syllables self.now

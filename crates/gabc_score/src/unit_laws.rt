@@ -1,5 +1,5 @@
-//! Laws of a unit and its syllable, apart from the score in which they stand. Each function's contract is a law; its body calls the laws below that
-//! it stands on.
+//! Laws of a unit and its syllable, apart from the score in which they stand. Each function's
+//! contract is a law; its body calls the laws below that it stands on.
 
 ghost use Rattle.std.specs.Prelude.{◌≡◌, ◌<◌, ◌≤◌, ◌^◌, ◌++◌, ℕ, Bool, List, [], ◌∷◌, false, length, encode_utf8_all};
 ghost use Rattle.std.specs.List.{All};
@@ -22,8 +22,9 @@ ghost use Rattle.gabc_places.specs.TextOfAnInput.{IsText};
 ghost use Rattle.gabc_score.specs.UnitRead.{HoldsSomeUnit, GivesOneSyllable, first_events};
 ghost use Rattle.gabc_score.specs.Units.{BodyUnit, LastUnit, Cuts, units_pieces, last_characters};
 
-/// A unit gives one syllable, with its last character, wherever its text begins, whatever follows and whatever was emitted before. It keeps
-/// no more on the way than it keeps in all. What is found in it are warnings, if that is so of its text and its snippets.
+/// Law: a unit gives one syllable, with its last character, wherever its text begins, whatever
+/// follows and whatever was emitted before. It keeps no more on the way than it keeps in all. What
+/// is found in it are warnings, if that is so of its text and its snippets.
 pub fn a_unit_gives_one_syllable()
     ensures given { (lines macros : ℕ) (at : Place) (u : BodyUnit) (units : List BodyUnit)
         (last : LastUnit) (before : List BodyEvent) → let xs = characters_from (u ∷ units) last in
@@ -47,12 +48,14 @@ pub fn a_unit_gives_one_syllable()
     gabc_text::laws::findings_lie_within();
 }
 
-/// The spans of the snippets of a syllable that holds a unit begin and end between characters: each has its text.
+/// Law: the spans of the snippets of a syllable that holds a unit begin and end between characters:
+/// each has its text.
 pub fn snippets_of_a_unit_stand_between_characters()
     ensures { (lines : ℕ) (m : UnplacedSyllable) → HoldsSomeUnit lines m → HasWholeSnippets m }
 {}
 
-/// The canonical text of a syllable that holds a unit is a text of an input, if its kept text is one: no CR and no U+FEFF comes of it.
+/// Law: the canonical text of a syllable that holds a unit is a text of an input, if its kept text
+/// is one: no CR and no U+FEFF comes of it.
 pub fn the_canonical_text_of_a_unit_is_a_text()
     ensures { (lines : ℕ) (m : UnplacedSyllable) → HoldsSomeUnit lines m → IsText m.kept →
         (starts : Bool) → IsText (canonical starts m) }
@@ -60,7 +63,8 @@ pub fn the_canonical_text_of_a_unit_is_a_text()
     gabc_text::laws::spans_stand_for_the_view();
 }
 
-/// Which spans are open behind a syllable of units follows from its text and from those that are open behind the one before it. Before the first none is.
+/// Law: which spans are open after a syllable of units follows from its text and from those that
+/// are open after the one before it. Before the first none is.
 pub fn spans_follow_one_another()
     ensures first { (lines : ℕ) (units : List ScoreUnit) (syllables after : List PlacedSyllable)
         (s : PlacedSyllable) → AreSyllablesOf lines units syllables → syllables ≡ s ∷ after
@@ -72,13 +76,15 @@ pub fn spans_follow_one_another()
         × (next.made.nlba ≡ nlba_past next.made s.made.nlba) }
 {}
 
-/// A syllable that holds its parts in some input, with its notes, holds a unit, if it has but one snippet where there are no NABC lines.
+/// Law: a syllable that holds its parts in some input, with its notes, holds a unit, if it has but
+/// one snippet where there are no NABC lines.
 pub fn a_syllable_with_its_parts_holds_a_unit()
     ensures { (input : List ℕ) (lines : ℕ) (m : UnplacedSyllable) → HoldsWithNotes input lines m →
         (lines ≡ 0 → length m.snippets ≤ 1) → HoldsSomeUnit lines m }
 {}
 
-/// Whichever spans are to be open, some events leave just these open, and nothing is read behind them.
+/// Law: whichever spans are to be open, some events leave just these open, and nothing is read
+/// after them.
 pub fn some_events_leave_spans_open()
     ensures { (spans : Spans) → CanBeOpen spans }
 {}

@@ -3,7 +3,6 @@
 ghost use Rattle.std.specs.Prelude.{◌≡◌, ◌+◌, ◌<◌, ◌≤◌, ◌^◌, [], length, IfOk};
 ghost use Rattle.std.specs.Str.{chars};
 ghost use Rattle.gabc_headers.specs.Heads.{body_byte};
-ghost use Rattle.gabc_places.specs.Place.{place_past};
 ghost use Rattle.gabc_score.specs.Score.{body_in, with_body, head_fault_by, score_of};
 
 use crate::body_result::BodyResult;
@@ -13,16 +12,17 @@ use crate::context::BodyContext;
 use crate::ending::InputEnding;
 use crate::score::Score;
 use crate::syllables::Syllables;
-use gabc_headers::laws::heads_are_of_groups;
+use crate::text_places::place_past;
 use gabc_headers::{HeadFault, Heads, headers_whole_with_hasher};
 use gabc_places::{Fault, Limits, Memory, Place, Text};
 use std::alloc::{AllocError, Global};
 use std::hash::DefaultHasher;
 
-/// Reads the score of `text`, whose input ended as `ending` tells, under `limits`: its headers, its syllables and what was found, up to the first fault (GregorioRef,
-/// "Headers" and "Syllable Text Syntax"). `gabc_places::text_of` gives the text, and the fault of an `InputEnding::At`. It fails only
-/// for want of memory. The names of headers are hashed with a fixed key: where strangers write the text and `limits.header` is large, take
-/// `score_whole_with_hasher`.
+/// Reads the score of `text`, whose input ended as `ending` tells, under `limits`: its headers, its
+/// syllables and what was found, up to the first fault (GregorioRef, "Headers" and "Syllable Text
+/// Syntax"). `gabc_places::text_of` gives the text, and the fault of an `InputEnding::At`. It fails
+/// only for want of memory. The names of headers are hashed with a fixed key: where strangers write
+/// the text and `limits.header` is large, take `score_whole_with_hasher`.
 pub fn score_whole(
     alloc: Global,
     text: &Text,
@@ -34,8 +34,8 @@ pub fn score_whole(
     score_whole_with_hasher(alloc, text, ending, limits, DefaultHasher::new())
 }
 
-/// Reads the score of `text` as `score_whole` does, and hashes the names of its headers from `hasher` on. What it returns does not depend on
-/// `hasher`.
+/// Reads the score of `text` as `score_whole` does, and hashes the names of its headers from
+/// `hasher` on. What it returns does not depend on `hasher`.
 pub fn score_whole_with_hasher(
     alloc: Global,
     text: &Text,
@@ -45,7 +45,7 @@ pub fn score_whole_with_hasher(
 ) -> Result<Score, AllocError>
     ensures { IfOk result (λ score. score ≡ score_of limits ending text.now) }
 {
-    heads_are_of_groups();
+    gabc_headers::laws::heads_are_of_groups();
     match headers_whole_with_hasher(alloc, text, limits, hasher)? {
         Ok(heads) => score_behind(alloc, text, ending, limits, heads),
         Err(stop) => Ok(stopped_in_heads(alloc, ending, stop)),
@@ -109,7 +109,7 @@ fn score_behind(
     let memory = Memory::with_capacity(alloc, 0)?;
     let stage = BodyStage::new(&memory, book.nabc_lines(), book.macros())?;
     let start = BodyContext {
-        at: place_past(prefix),
+        at: place_past(Place::START, prefix),
         head: book.canonical_len(),
         findings,
     };
@@ -124,18 +124,4 @@ fn score_behind(
         findings,
         fault,
     })
-}
-
-/// The place behind a text.
-fn place_past(prefix: &str) -> Place
-    requires { length prefix.now < 2 ^ 63 }
-    ensures place { result ≡ place_past Place.START (chars prefix.now) }
-    ensures line { result.line ≤ 1 + length prefix.now }
-    ensures column { result.column ≤ 1 + length prefix.now }
-{
-    let mut place = Place::START;
-    for c in prefix.chars() {
-        place = place.after(c);
-    }
-    place
 }

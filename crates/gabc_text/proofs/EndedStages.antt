@@ -1,13 +1,22 @@
--- A stage that has ended reports no opener and no comment, and the place at which it stood.
-use Rattle.std.proofs.Common.{◌≡◌, ◌==◌, ◌&&◌, ℕ, Bool, true, false, cond, Option, Some, None, refl, ap, sym, ◌∙◌, subst}
+-- A stage that has ended reports no opener and no comment, and the place at which it stood. One that
+-- goes on has counted the character.
+use Rattle.std.proofs.Common.{◌≡◌, ◌==◌, ◌&&◌, ◌||◌, ℕ, List, [], ◌∷◌, Bool, true, false, cond, Option, Some, None, refl, ap, sym, ◌∙◌, subst}
+use Rattle.std.specs.List.{list_any}
+use Rattle.gabc_places.specs.Place.{saturating_next_place}
+use Rattle.gabc_text.specs.End.{is_end}
+use Rattle.gabc_text.specs.declared.text_event.TextEvent.{TextEvent}
 use Rattle.gabc_text.specs.declared.stage.TextStage.{TextStage}
 use Rattle.gabc_text.specs.declared.token.TokenKind.{TokenKind}
 use Rattle.gabc_text.specs.declared.token_state.Step.{Step}
 use Rattle.gabc_text.specs.declared.token_state.Step.TheVariants.{Stays, Ends}
 use Rattle.gabc_text.specs.StageTells.{EndedInPlace}
 use Rattle.gabc_text.specs.declared.token.TagEffect.TheVariants.{Other}
-use Rattle.gabc_text.specs.machine.TextStage.{token_stage, settle_stage, settle_stage_by, end_stage, stage_past_char, stage_after_step, read_stage, settled_push_stage, push_stage, finish_stage, finish_stage_by}
+use Rattle.gabc_text.specs.machine.TextStage.{token_stage, settle_stage, settle_stage_by, end_stage, stage_past_char, stage_after_step, read_stage, settled_push_stage, push_stage, events_of_push, finish_stage, finish_stage_by}
+use Rattle.gabc_text.specs.witness.StageReports.{next_of}
+use Rattle.gabc_text.proofs.resuming.EndsAndKept.{done_is}
+use Rattle.gabc_text.proofs.resuming.ReachedStages.{goes_on}
 use Rattle.gabc_text.proofs.resuming.ToldByEvents.{opener_over, comment_over}
+use Rattle.gabc_text.proofs.resuming.WhatStagesTell.{next_goes}
 use Rattle.gabc_text.specs.machine.TokenState.{settled_kind, next_step, kind_at_end, is_plain}
 
 -- a stage that ends
@@ -57,3 +66,19 @@ push_stays t next c n d = n ∙ ap (λ (b : Bool). cond b t (settled_push_stage 
 
 pub finish_stays : (t next : TextStage) → next ≡ finish_stage t → t.done ≡ true → next ≡ t
 finish_stays t next n d = n ∙ ap (λ (b : Bool). cond b t (finish_stage_by t (kind_at_end t.state))) d
+
+-- ---- a stage ends with the event that ends its text
+
+push_ends_by : (t : TextStage) (c : ℕ) (d : Bool) → t.done ≡ d → (push_stage t c).done ≡ (d || list_any is_end (events_of_push t c))
+push_ends_by t c true e = ap (λ (s : TextStage). s.done) (push_stays t (push_stage t c) c refl e) ∙ e
+push_ends_by t c false e = done_is t c e
+
+pub push_ends : (t next : TextStage) (c : ℕ) (events : List TextEvent) → next ≡ push_stage t c → events ≡ events_of_push t c → next.done ≡ (t.done || list_any is_end events)
+push_ends t next c events n e = rw (n, e) (push_ends_by t c t.done refl)
+
+-- ---- the place of the next character, behind one that does not end the text
+
+pub push_next : (t next : TextStage) (c : ℕ) → next ≡ push_stage t c → next.done ≡ false → next_of next ≡ saturating_next_place (next_of t) c
+push_next t next c n goes =
+    let on : (push_stage t c).done ≡ false = ap (λ (s : TextStage). s.done) (sym n) ∙ goes in
+    ap next_of n ∙ next_goes t c (goes_on t (c ∷ []) on) on

@@ -29,7 +29,7 @@ one_more events i was d less e =
     ∙ sym (kept_append (take i events) (get_or events i d ∷ []))
     ∙ ap kept_chars_in (sym (take_more events i d less))
 
-codes_placed : (p : Place) (t : List ℕ) → codes_of (placed_characters_from p t) ≡ t
+pub codes_placed : (p : Place) (t : List ℕ) → codes_of (placed_characters_from p t) ≡ t
 codes_placed p [] = refl
 codes_placed p (c ∷ t) = ap (λ (v : List ℕ). c ∷ v) (codes_placed (next_place p c) t)
 

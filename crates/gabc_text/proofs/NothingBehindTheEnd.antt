@@ -24,8 +24,8 @@ use Rattle.gabc_text.specs.declared.token.TokenKind.{TokenKind}
 use Rattle.gabc_text.specs.declared.token.TokenKind.TheVariants as kind
 use Rattle.gabc_text.specs.declared.token_state.TokenState.{TokenState}
 use Rattle.gabc_text.specs.declared.token_state.TokenState.TheVariants as state
-use Rattle.gabc_text.specs.StageTells.{is_open, opener_of, begins_silently, is_in_comment, cut_place}
-use Rattle.gabc_text.specs.machine.StageTells.{is_comment, opener_in, comment_in}
+use Rattle.gabc_text.specs.StageTells.{opener_of, begins_silently, is_in_comment, cut_place}
+use Rattle.gabc_text.specs.machine.StageTells.{is_open, is_comment, opener_in, comment_in}
 use Rattle.gabc_text.specs.declared.token.TagEffect.{TagEffect}
 use Rattle.gabc_text.specs.declared.token.TagEffect.TheVariants.{Other}
 use Rattle.gabc_text.specs.ExampleTexts.{stands_for}
@@ -46,10 +46,13 @@ joined_nothing : (t : List ℕ) → concat_of (no_events_each t) ≡ []
 joined_nothing [] = refl
 joined_nothing (c ∷ t) = joined_nothing t
 
+pub ended_is_silent : (s : TextStage) (t : List ℕ) → s.done ≡ true → concat_of (events_left s t) ≡ []
+ended_is_silent s t e =
+    ap concat_of (rest_by s t ∙ ap (λ (b : Bool). cond b ([] ∷ no_events_each t) (lists_ahead (stands_for s.state) s (stands_for s.state ++ t))) e)
+    ∙ joined_nothing t
+
 pub done_emits_nothing : (s : TextStage) → s.done ≡ true → EmitsNothing (λ (cs : List Char). events_left s (codes_of cs))
-done_emits_nothing s e cs =
-    ap concat_of (rest_by s (codes_of cs) ∙ ap (λ (b : Bool). cond b ([] ∷ no_events_each (codes_of cs)) (lists_ahead (stands_for s.state) s (stands_for s.state ++ codes_of cs))) e)
-    ∙ joined_nothing (codes_of cs)
+done_emits_nothing s e cs = ended_is_silent s (codes_of cs) e
 
 -- ---- which events are no end
 

@@ -28,7 +28,8 @@ use Rattle.gabc_text.specs.declared.text_event.TextEvent.{TextEvent}
 use Rattle.gabc_text.specs.declared.text_event.TextEvent.TheVariants as out
 use Rattle.gabc_text.specs.declared.stage.TextStage.{TextStage}
 use Rattle.gabc_text.specs.BuiltText.{kept_in}
-use Rattle.gabc_text.specs.PiecesOwed.{pieces_in, one_if, is_dollar, pieces_owed, PiecesArePaid}
+use Rattle.gabc_text.specs.PiecesOwed.{pieces_in, PiecesArePaid}
+use Rattle.gabc_text.specs.witness.PiecesOwed.{one_if, is_dollar, pieces_owed}
 use Rattle.gabc_text.specs.Token.{single, effect_of, is_special}
 use Rattle.gabc_text.specs.View.{centre_by, piece_kind, is_space, kept_as}
 use Rattle.gabc_text.specs.machine.TagPrefix.{next_name}

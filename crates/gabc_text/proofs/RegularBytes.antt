@@ -3,13 +3,14 @@ use Rattle.std.proofs.Common.{◌≡◌, ℕ, ◌<◌, List, [], ◌∷◌, ◌+
 use Rattle.std.specs.List.{All, list_all}
 use Rattle.std.specs.Str.{chars, all_scalars}
 use Rattle.std.proofs.lemmas.List.Elements.{All-append, All-from_recursion}
-use Rattle.std.proofs.lemmas.Bool.{eqb-true, eqb-false, ltb-true, ltb-false, lt-ltb, true≢false}
+use Rattle.std.proofs.lemmas.Bool.{eqb-true, eqb-false, ltb-true, ltb-false, lt-ltb, true≢false, and_parts, le-ltb, not-true}
 use Rattle.std.proofs.Math.Nat.{div-add-mod}
 use Rattle.std.proofs.Math.Seq.{take-add}
-use Rattle.std.proofs.lemmas.List.{length-take-le, take_more}
+use Rattle.std.proofs.lemmas.List.{length-take-le}
 use Rattle.std.proofs.lemmas.Str.{encodes-append, chars-encodes}
 use Rattle.std.proofs.lemmas.Grind.{common_steps}
 use lib.Utf8.{encode, low_scalar}
+use Rattle.gabc_places.proofs.NumbersByTests.{below_eqb}
 use Rattle.gabc_places.specs.TextOfAnInput.{IsPlain, IsText}
 use Rattle.gabc_text.specs.declared.view.PieceKind.{PieceKind}
 use Rattle.gabc_text.specs.declared.view.PieceKind.TheVariants as piece
@@ -19,16 +20,15 @@ use Rattle.gabc_text.specs.Printed.{printed_piece}
 use Rattle.gabc_text.specs.RegularText.{is_letter_byte, is_continuation, is_first_of_two, is_first_of_three}
 use Rattle.gabc_text.specs.machine.PrintedPieces.{Good, Says}
 use Rattle.gabc_text.specs.machine.RegularBytes.{is_low, word_after, blank_after, printed_text, IsSpelled, IsWord, IsRun}
-use Rattle.gabc_text.proofs.tokens.CasesOfCharacters.{and_both, no_not}
 use Rattle.gabc_text.proofs.printing.TokensAreReadAgain.{letter_stable}
 use Rattle.gabc_text.proofs.printing.PiecesPrintWell.{letter_emits, special_no_blank}
-use Rattle.gabc_text.proofs.printing.PrintedPiecesAreJoined.{printed_join, good_join, known_join, word_join, blank_join, other}
+use Rattle.gabc_text.proofs.printing.PrintedPiecesAreJoined.{printed_join, good_join, known_join, word_join, blank_join}
 
 -- ---- spelled characters
 
 scalars_join : (t u : List ℕ) → all_scalars t ≡ true → all_scalars u ≡ true → all_scalars (t ++ u) ≡ true
 scalars_join [] u h g = g
-scalars_join (c ∷ t) u h g = let f = and_both _ (all_scalars t) h in rw (f.0) (scalars_join t u f.1 g)
+scalars_join (c ∷ t) u h g = let f = and_parts _ (all_scalars t) h in rw (f.0) (scalars_join t u f.1 g)
 
 pub spelled_join : (t u bs more : List ℕ) → IsSpelled t bs → IsSpelled u more → IsSpelled (t ++ u) (bs ++ more)
 spelled_join t u bs more s r = record {
@@ -56,9 +56,9 @@ one_spelled b less n = record {
 pub ascii_spelled : (t : List ℕ) → list_all is_low t ≡ true → IsSpelled t t
 ascii_spelled [] h = none_spelled
 ascii_spelled (b ∷ t) h =
-    let f = and_both (is_low b) (list_all is_low t) h in
-    let g = and_both (nat_lt b 128) (not (b == 13)) f.0 in
-    spelled_join (b ∷ []) t (b ∷ []) t (one_spelled b (ltb-true b 128 g.0) (eqb-false b 13 (no_not (b == 13) g.1))) (ascii_spelled t f.1)
+    let f = and_parts (is_low b) (list_all is_low t) h in
+    let g = and_parts (nat_lt b 128) (not (b == 13)) f.0 in
+    spelled_join (b ∷ []) t (b ∷ []) t (one_spelled b (ltb-true b 128 g.0) (eqb-false b 13 (not-true (b == 13) g.1))) (ascii_spelled t f.1)
 
 -- ---- pieces and runs
 
@@ -83,10 +83,6 @@ blank_good = record { test = λ s. false; styles_are = refl; stable = λ u. refl
 
 after_word : (bs : List ℕ) (p : IsWord bs) (w : Bool) → (is_word_kind (Some p.kind) || w) ≡ true
 after_word bs p w = rw (p.word) refl
-
-some_bytes : (a b : List ℕ) → 0 < length a → 0 < length (a ++ b)
-some_bytes [] b h = absurd (omega arith)
-some_bytes (x ∷ a) b h = omega arith
 
 pub run_more : (bs more : List ℕ) → IsWord more → IsRun bs → IsRun (bs ++ more)
 run_more bs more p r =
@@ -120,9 +116,6 @@ run_blank bs more some p r =
       word = λ _. word_join false r.pieces (blank ∷ q ∷ []) ∙ after_word more p true;
     }
 
-pub none_run : IsRun []
-none_run = record { pieces = []; spells = none_spelled; good = tt; known = tt; no_blank = refl; word = λ less. absurd (omega arith) }
-
 -- ---- letters
 
 -- a letter that no `$` stands before
@@ -152,27 +145,20 @@ escaped_word c bytes special s = record {
 no_special : (c : ℕ) → 128 ≤ c → is_special c ≡ false
 no_special c h =
     rw (
-      other 40 c (omega arith),
-      other 41 c (omega arith),
-      other 91 c (omega arith),
-      other 93 c (omega arith),
-      other 123 c (omega arith),
-      other 125 c (omega arith),
-      other 60 c (omega arith),
-      other 62 c (omega arith),
-      other 37 c (omega arith),
-      other 36 c (omega arith),
+      below_eqb 40 c (omega arith),
+      below_eqb 41 c (omega arith),
+      below_eqb 91 c (omega arith),
+      below_eqb 93 c (omega arith),
+      below_eqb 123 c (omega arith),
+      below_eqb 125 c (omega arith),
+      below_eqb 60 c (omega arith),
+      below_eqb 62 c (omega arith),
+      below_eqb 37 c (omega arith),
+      below_eqb 36 c (omega arith),
     ) refl
 
 no_blank_past : (c : ℕ) → 32 < c → is_blank c ≡ false
-no_blank_past c h = rw (other 32 c (omega arith), other 9 c (omega arith), other 10 c (omega arith)) refl
-
-no_lt : (a b : ℕ) → b ≤ a → nat_lt a b ≡ false
-no_lt a b h = by (nat_lt a b) refl
-  where
-    by : (x : Bool) → nat_lt a b ≡ x → x ≡ false
-    by false e = refl
-    by true e = absurd (let f = ltb-true a b e in omega arith)
+no_blank_past c h = rw (below_eqb 32 c (omega arith), below_eqb 9 c (omega arith), below_eqb 10 c (omega arith)) refl
 
 digits : (q r d m : ℕ) → r < 64 → m < 64 → 64 * d + m ≡ q * 64 + r → (d ≡ q) × (m ≡ r)
 digits q r d m less small e = (omega arith, omega arith)
@@ -185,7 +171,7 @@ two : (q r : ℕ) → 2 ≤ q → q < 32 → r < 64 → IsWord ((192 + q) ∷ (1
 unfolding encode
 two q r h g k =
     let d = last_of q r (q * 64 + r) k refl in
-    let no_one : nat_lt (q * 64 + r) 128 ≡ false = no_lt (q * 64 + r) 128 (omega arith) in
+    let no_one : nat_lt (q * 64 + r) 128 ≡ false = le-ltb (q * 64 + r) 128 (omega arith) in
     let at_two : nat_lt (q * 64 + r) 2048 ≡ true = lt-ltb (q * 64 + r) 2048 (omega arith) in
     bare_word (q * 64 + r) ((192 + q) ∷ (128 + r) ∷ []) (no_special (q * 64 + r) (omega arith)) (no_blank_past (q * 64 + r) (omega arith)) (record {
       spelled = rw (no_one, at_two, d.0, d.1) refl;
@@ -200,8 +186,8 @@ three q s r h g k l =
     let d = last_of (q * 64 + s) r ((q * 64 + s) * 64 + r) l refl in
     let f = last_of q s (q * 64 + s) k refl in
     let top : ((q * 64 + s) * 64 + r) / 4096 ≡ q = omega (arith, div-add-mod ((q * 64 + s) * 64 + r) 4096, mod-lt ((q * 64 + s) * 64 + r) {m = 4096} (omega arith)) in
-    let no_one : nat_lt ((q * 64 + s) * 64 + r) 128 ≡ false = no_lt ((q * 64 + s) * 64 + r) 128 (omega arith) in
-    let no_two : nat_lt ((q * 64 + s) * 64 + r) 2048 ≡ false = no_lt ((q * 64 + s) * 64 + r) 2048 (omega arith) in
+    let no_one : nat_lt ((q * 64 + s) * 64 + r) 128 ≡ false = le-ltb ((q * 64 + s) * 64 + r) 128 (omega arith) in
+    let no_two : nat_lt ((q * 64 + s) * 64 + r) 2048 ≡ false = le-ltb ((q * 64 + s) * 64 + r) 2048 (omega arith) in
     let at_three : nat_lt ((q * 64 + s) * 64 + r) 65536 ≡ true = lt-ltb ((q * 64 + s) * 64 + r) 65536 (omega arith) in
     bare_word ((q * 64 + s) * 64 + r) ((224 + q) ∷ (128 + s) ∷ (128 + r) ∷ []) (no_special ((q * 64 + s) * 64 + r) (omega arith)) (no_blank_past ((q * 64 + s) * 64 + r) (omega arith)) (record {
       spelled = rw (no_one, no_two, at_three, top, d.0, d.1, f.1) refl;
@@ -210,7 +196,7 @@ three q s r h g k l =
     })
 
 within_bounds : (lo hi b : ℕ) → (nat_lt lo b && nat_lt b hi) ≡ true → (lo < b) × (b < hi)
-within_bounds lo hi b h = let f = and_both (nat_lt lo b) (nat_lt b hi) h in (ltb-true lo b f.0, ltb-true b hi f.1)
+within_bounds lo hi b h = let f = and_parts (nat_lt lo b) (nat_lt b hi) h in (ltb-true lo b f.0, ltb-true b hi f.1)
 
 pair_is : (a b : ℕ) → is_first_of_two a ≡ true → is_continuation b ≡ true → IsWord (a ∷ b ∷ [])
 pair_is a b h g =
@@ -235,9 +221,9 @@ triple_is a b d h g k =
 
 letter_is : (a : ℕ) → is_letter_byte a ≡ true → IsWord (a ∷ [])
 letter_is a h =
-    let f = and_both (not (is_special a)) (nat_lt 32 a && nat_lt a 127) h in
+    let f = and_parts (not (is_special a)) (nat_lt 32 a && nat_lt a 127) h in
     let x = within_bounds 32 127 a f.1 in
-    bare_word a (a ∷ []) (no_not (is_special a) f.0) (no_blank_past a x.0) (one_spelled a (omega (arith, x.1)) (λ e. omega (arith, x.0)))
+    bare_word a (a ∷ []) (not-true (is_special a) f.0) (no_blank_past a x.0) (one_spelled a (omega (arith, x.1)) (λ e. omega (arith, x.0)))
 
 special_is_low : (c : ℕ) → is_special c ≡ true → c < 128
 special_is_low c h = by (nat_lt c 128) refl
@@ -259,23 +245,23 @@ one_at (a ∷ l) h = letter_is a h
 
 escaped_at : (l : List ℕ) → (get_or l 0 0 == 36 && is_special (get_or l 1 0)) ≡ true → IsWord (take 2 l)
 escaped_at [] h = absurd (cc)
-escaped_at (a ∷ []) h = absurd (let f = (and_both (a == 36) false h).1 in cc)
+escaped_at (a ∷ []) h = absurd (let f = (and_parts (a == 36) false h).1 in cc)
 escaped_at (a ∷ b ∷ l) h =
-    let f = and_both (a == 36) (is_special b) h in
+    let f = and_parts (a == 36) (is_special b) h in
     subst (λ (x : ℕ). IsWord (x ∷ b ∷ [])) (sym (eqb-true a 36 f.0)) (escaped_is b f.1)
 
 two_at : (l : List ℕ) → (is_first_of_two (get_or l 0 0) && is_continuation (get_or l 1 0)) ≡ true → IsWord (take 2 l)
 two_at [] h = absurd (cc)
-two_at (a ∷ []) h = absurd (let f = (and_both (is_first_of_two a) false h).1 in cc)
-two_at (a ∷ b ∷ l) h = let f = and_both (is_first_of_two a) (is_continuation b) h in pair_is a b f.0 f.1
+two_at (a ∷ []) h = absurd (let f = (and_parts (is_first_of_two a) false h).1 in cc)
+two_at (a ∷ b ∷ l) h = let f = and_parts (is_first_of_two a) (is_continuation b) h in pair_is a b f.0 f.1
 
 three_at : (l : List ℕ) → (is_first_of_three (get_or l 0 0) && (is_continuation (get_or l 1 0) && is_continuation (get_or l 2 0))) ≡ true → IsWord (take 3 l)
 three_at [] h = absurd (cc)
-three_at (a ∷ []) h = absurd (let f = (and_both (is_first_of_three a) false h).1 in cc)
-three_at (a ∷ b ∷ []) h = absurd (let f = (and_both (is_continuation b) false (and_both (is_first_of_three a) (is_continuation b && false) h).1).1 in cc)
+three_at (a ∷ []) h = absurd (let f = (and_parts (is_first_of_three a) false h).1 in cc)
+three_at (a ∷ b ∷ []) h = absurd (let f = (and_parts (is_continuation b) false (and_parts (is_first_of_three a) (is_continuation b && false) h).1).1 in cc)
 three_at (a ∷ b ∷ d ∷ l) h =
-    let f = and_both (is_first_of_three a) (is_continuation b && is_continuation d) h in
-    let g = and_both (is_continuation b) (is_continuation d) f.1 in
+    let f = and_parts (is_first_of_three a) (is_continuation b && is_continuation d) h in
+    let g = and_parts (is_continuation b) (is_continuation d) f.1 in
     triple_is a b d f.0 g.0 g.1
 
 -- by the bytes that were read
@@ -302,9 +288,6 @@ pub word_step : (l : List ℕ) (n r : ℕ) → IsWord (take r (take (length l - 
 word_step l n r h s =
     subst IsRun (sym (take-add n r l))
     (run_more (take n l) (take r (drop n l)) (subst (λ (xs : List ℕ). IsWord (take r xs)) (behind_is l n) h) s)
-
-pub letter_step : (l : List ℕ) (n : ℕ) → n < length l → is_letter_byte (get_or l n 0) ≡ true → IsRun (take n l) → IsRun (take (n + 1) l)
-letter_step l n less h s = subst IsRun (sym (take_more l n 0 less)) (run_more (take n l) (get_or l n 0 ∷ []) (letter_is (get_or l n 0) h) s)
 
 -- from where a blank stands
 pub at_blank : (l : List ℕ) (n r : ℕ) → n < length l → get_or l n 0 ≡ 32 → take (r + 1) (drop n l) ≡ 32 ∷ take r (drop (n + 1) l)

@@ -2,7 +2,7 @@
 use Rattle.std.proofs.Common.{◌≡◌, ℕ, ◌<◌, ◌≤◌, ◌+◌, ◌-◌, ◌==◌, List, [], ◌∷◌, ◌++◌, Bool, true, false, not, ◌||◌, ◌&&◌, length, refl, sym, ap, ap₂, subst, ◌∙◌, arith, take, drop, get_or, map, append-nil, append_assoc, length-append, Option, Some, None, nat_lt, zero, suc}
 use Rattle.std.specs.Str.{chars}
 use Rattle.std.specs.Cmp.Lexicographic.{pointwise}
-use Rattle.std.proofs.lemmas.Bool.{true≢false}
+use Rattle.std.proofs.lemmas.Bool.{true≢false, or_parts}
 use Rattle.std.proofs.lemmas.Bool.Decides.{Decides-eqb}
 use Rattle.std.proofs.lemmas.Slice.Eq.{starts_is}
 use Rattle.std.proofs.Math.Seq.{take-add}
@@ -26,9 +26,8 @@ use Rattle.gabc_text.specs.machine.PrintedPieces.{Good, AllGood}
 use Rattle.gabc_text.specs.machine.RegularBytes.{no_styles, word_after, blank_after, first_styles, last_styles, AreApart, printed_text, IsSpelled, IsRun, IsEnclosed, IsPart, IsBegun}
 use Rattle.gabc_text.proofs.printing.PiecesPrintWell.{any_blank}
 use Rattle.gabc_text.proofs.RegularBytes.{ascii_spelled, spelled_join, one_spelled, none_spelled, chars_of, is_text, behind_is, at_blank, blank, blank_good}
-use Rattle.gabc_text.proofs.tokens.CasesOfCharacters.{no_or}
 use Rattle.gabc_text.proofs.printing.PrintedTagsOpenStyles.{member, member_filter}
-use Rattle.gabc_text.proofs.printing.PrintedTextIsReadAgain.{Sound, IsCentre}
+use Rattle.gabc_text.proofs.printing.PrintedTextIsReadAgain.{Sound}
 use Rattle.gabc_text.proofs.printing.PrintedViewIsRegular.{regular_is}
 use Rattle.gabc_text.proofs.printing.PrintedPiecesAreJoined.{in_styles, good_in, known_in, blank_in, word_in, first_in, last_in, none_taken, plain_printed, styled_printed, text_join, good_join, good_behind, known_join, word_join, word_stays, blank_join, among_more, centre_text, last_join, after_blank, some_blank, apart_none}
 
@@ -55,7 +54,7 @@ apart_style ss s h = by (listed_styles ss) (member_filter s (λ r. has_style ss 
   where
     by : (old : List Style) → member s old ≡ false → AreApart old (s ∷ [])
     by [] e = refl
-    by (r ∷ old) e = rw ((no_or (is_same r s) (member s old) e).0) refl
+    by (r ∷ old) e = rw ((or_parts (is_same r s) (member s old) e).0) refl
 
 -- ---- parts
 
@@ -273,7 +272,7 @@ view_of b bs x = record { word_start = false; pieces = x.pieces; centre = x.midd
 pub begun_sound : (b : Before) (bs : List ℕ) (x : IsBegun b bs) → Sound (view_of b bs x)
 begun_sound b bs x = record { good = x.good; no_last = none_taken x.pieces x.no_blank; centre_in = centre x.middle x.middle_in; translation_in = tt }
   where
-    centre : (m : Option Span) → LiesAmong (length x.pieces) m → IsCentre (length x.pieces) m
+    centre : (m : Option Span) → LiesAmong (length x.pieces) m → LiesAmong (length x.pieces) m
     centre None h = h
     centre (Some c) h = h
 

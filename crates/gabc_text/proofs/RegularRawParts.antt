@@ -1,9 +1,9 @@
 -- Raw parts, span marks and translations of a regular text.
-use Rattle.std.proofs.Common.{◌≡◌, ℕ, ◌<◌, ◌+◌, ◌-◌, ◌==◌, List, [], ◌∷◌, ◌++◌, Bool, true, false, not, ◌&&◌, length, refl, sym, ap, ap₂, subst, ◌∙◌, arith, take, drop, get_or, append-nil, Some, codes, nat_lt, suc, zero, add-one, eq-eqb}
+use Rattle.std.proofs.Common.{◌≡◌, ℕ, ◌<◌, ◌+◌, ◌-◌, ◌==◌, List, [], ◌∷◌, ◌++◌, Bool, true, false, not, ◌&&◌, length, refl, sym, ap, ap₂, subst, ◌∙◌, arith, take, drop, get_or, append-nil, Some, codes, nat_lt, suc, zero, eq-eqb}
 use Rattle.std.specs.Str.{chars}
 use Rattle.std.specs.List.{list_all}
 use Rattle.std.specs.Cmp.Lexicographic.{pointwise}
-use Rattle.std.proofs.lemmas.Bool.{ltb-true, lt-ltb, eqb-true}
+use Rattle.std.proofs.lemmas.Bool.{ltb-true, lt-ltb, eqb-true, and_parts, not-true}
 use Rattle.gabc_places.specs.TextOfAnInput.{IsText}
 use Rattle.gabc_text.specs.declared.styles.Styles.{Styles}
 use Rattle.gabc_text.specs.declared.regular.Before.{Before}
@@ -23,7 +23,6 @@ use Rattle.gabc_text.proofs.RegularBytes.{ascii_spelled, spelled_join, chars_of,
 use Rattle.gabc_text.proofs.RegularParts.{none_listed, starts_so, taken_first, between_is, view_of, begun_sound, begun_text, begun_regular}
 use Rattle.std.proofs.Math.Seq.{take-add}
 use Rattle.std.proofs.lemmas.List.{get_or-drop}
-use Rattle.gabc_text.proofs.tokens.CasesOfCharacters.{and_both, no_not}
 use Rattle.gabc_text.proofs.tokens.RawEndingIsMatched.{begins_itself}
 use Rattle.gabc_text.proofs.printing.TokensAreReadAgain.{again_by}
 use Rattle.gabc_text.proofs.printing.PrintedTextIsKept.{written_append}
@@ -34,8 +33,8 @@ use Rattle.gabc_text.proofs.printing.PrintedViewIsRegular.{regular_is}
 
 plain_low : (but b : ℕ) → is_plain_byte but b ≡ true → is_low b ≡ true
 plain_low but b h =
-    let f = and_both (nat_lt 31 b && nat_lt b 127) (not (but == b)) h in
-    let g = and_both (nat_lt 31 b) (nat_lt b 127) f.0 in
+    let f = and_parts (nat_lt 31 b && nat_lt b 127) (not (but == b)) h in
+    let g = and_parts (nat_lt 31 b) (nat_lt b 127) f.0 in
     let low = ltb-true 31 b g.0 in
     let high = ltb-true b 127 g.1 in
     rw (lt-ltb b 128 (omega (arith, high))) (no_cr (b == 13) refl low)
@@ -46,23 +45,15 @@ plain_low but b h =
 
 all_low : (but : ℕ) (t : List ℕ) → list_all (is_plain_byte but) t ≡ true → list_all is_low t ≡ true
 all_low but [] h = refl
-all_low but (b ∷ t) h = let f = and_both (is_plain_byte but b) (list_all (is_plain_byte but) t) h in rw (plain_low but b f.0) (all_low but t f.1)
-
-pub plain_more : (but : ℕ) (l : List ℕ) (i : ℕ) → list_all (is_plain_byte but) (take i l) ≡ true → i < length l → is_plain_byte but (get_or l i 0) ≡ true → list_all (is_plain_byte but) (take (i + 1) l) ≡ true
-plain_more but l i h less e = rw (add-one) (by l i h less e)
-  where
-    by : (l : List ℕ) (i : ℕ) → list_all (is_plain_byte but) (take i l) ≡ true → i < length l → is_plain_byte but (get_or l i 0) ≡ true → list_all (is_plain_byte but) (take (suc i) l) ≡ true
-    by [] i h less e = refl
-    by (b ∷ l) zero h less e = rw e refl
-    by (b ∷ l) (suc i) h less e = let f = and_both (is_plain_byte but b) (list_all (is_plain_byte but) (take i l)) h in rw (f.0) (by l i f.1 (omega arith) e)
+all_low but (b ∷ t) h = let f = and_parts (is_plain_byte but b) (list_all (is_plain_byte but) t) h in rw (plain_low but b f.0) (all_low but t f.1)
 
 -- what such bytes end at
 through_plain : (x : ℕ) (e inner u : List ℕ) → list_all (is_plain_byte x) inner ≡ true → through (x ∷ e) ((inner ++ x ∷ e) ++ u) ≡ Some (inner ++ x ∷ e)
 through_plain x e [] u h = rw (eq-eqb x x refl, begins_itself e u) refl
 through_plain x e (c ∷ inner) u h =
-    let f = and_both (is_plain_byte x c) (list_all (is_plain_byte x) inner) h in
-    let g = and_both (nat_lt 31 c && nat_lt c 127) (not (x == c)) f.0 in
-    rw (no_not (x == c) g.1, through_plain x e inner u f.1) refl
+    let f = and_parts (is_plain_byte x c) (list_all (is_plain_byte x) inner) h in
+    let g = and_parts (nat_lt 31 c && nat_lt c 127) (not (x == c)) f.0 in
+    rw (not-true (x == c) g.1, through_plain x e inner u f.1) refl
 
 -- ---- raw parts
 
@@ -82,7 +73,7 @@ raw_stable Alt inner h = again_by (record { kind = kind.Raw; first = 60; more = 
 
 all_join : (t u : List ℕ) → list_all is_low t ≡ true → list_all is_low u ≡ true → list_all is_low (t ++ u) ≡ true
 all_join [] u h g = g
-all_join (c ∷ t) u h g = let f = and_both (is_low c) (list_all is_low t) h in rw (f.0) (all_join t u f.1 g)
+all_join (c ∷ t) u h g = let f = and_parts (is_low c) (list_all is_low t) h in rw (f.0) (all_join t u f.1 g)
 
 raw_low : (raw : RawKind) (inner : List ℕ) → list_all (is_plain_byte 60) inner ≡ true → list_all is_low (60 ∷ raw_name raw ++ (inner ++ ending_of raw)) ≡ true
 unfolding raw_name
@@ -111,18 +102,6 @@ raw_word raw a b bytes e f x =
     }
 
 -- ---- marks
-
-pub mark_eu : IsMark (codes "<eu>")
-mark_eu = record { some = omega arith; low = refl; spelled = refl; stable = λ u. refl; says = λ w b. (refl, refl, refl) }
-
-pub mark_eu_end : IsMark (codes "</eu>")
-mark_eu_end = record { some = omega arith; low = refl; spelled = refl; stable = λ u. refl; says = λ w b. (refl, refl, refl) }
-
-pub mark_nlba : IsMark (codes "<nlba>")
-mark_nlba = record { some = omega arith; low = refl; spelled = refl; stable = λ u. refl; says = λ w b. (refl, refl, refl) }
-
-pub mark_nlba_end : IsMark (codes "</nlba>")
-mark_nlba_end = record { some = omega arith; low = refl; spelled = refl; stable = λ u. refl; says = λ w b. (refl, refl, refl) }
 
 pub mark_is_part : (t bytes : List ℕ) (ss : Styles) → IsMark t → bytes ≡ t → ss ≡ no_styles → IsPart ss false bytes
 mark_is_part t bytes ss m same e =

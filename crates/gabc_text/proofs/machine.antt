@@ -8,12 +8,10 @@ pub mod FactsOfTokens
 pub mod FactsPastTokens
 pub mod FreshStageEmitsEventsByPoint
 pub mod KeptOfOpenToken
-pub mod KeptCharactersAreTaken
 pub mod LoopOverText
 pub mod ProgressAfterToken
 pub mod RawPartIsPassed
 pub mod TagNameByCharacter
-pub mod TakenAtOnce
 pub mod TokenEventsAgree
 pub mod TokenStateByCharacter
 pub mod TokensOneAfterAnother

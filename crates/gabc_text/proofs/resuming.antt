@@ -1,5 +1,6 @@
 pub mod EndsAndKept
 pub mod KeptCharactersSuffice
+pub mod KeptStandsFromNext
 pub mod KeptTextGivesStage
 pub mod KeptTextIsSaidInFull
 pub mod PlacesAside

@@ -50,8 +50,8 @@ braces (Some c) i =
     cond (c.from == i) (cond (c.to == i) (codes "{}") (codes "{"))
     (cond (c.to == i) (codes "}") [])
 
--- Between two neighbours with these styles: the first one's styles that do not stay open are closed from the last on, then
--- come the braces, then the second one's other styles are opened.
+-- Between two neighbours with these styles: the first one's styles that do not stay open are closed
+-- from the last on, then come the braces, then the second one's other styles are opened.
 abbrev pub boundary : List Style → List Style → List ℕ → List ℕ
 boundary old new middle = flat_map style_closing (reverse (after_common old new).0) ++ (middle ++ flat_map style_opening (after_common old new).1)
 
@@ -80,7 +80,7 @@ piece_text kept p = piece_text_by p.kind (span_bytes kept p.span)
 
 -- ---- the text
 
--- the pieces from index i on, behind a piece with the styles old
+-- the pieces from index i on, after a piece with the styles old
 abbrev pub text_from : Option Span → List ℕ → ℕ → List Style → List Piece → List ℕ
 text_from centre kept i old [] = boundary old [] (braces centre i)
 text_from centre kept i old (p ∷ ps) = boundary old (listed_styles p.styles) (braces centre i) ++ (piece_text kept p ++ text_from centre kept (i + 1) (listed_styles p.styles) ps)

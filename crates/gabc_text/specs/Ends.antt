@@ -19,8 +19,9 @@ abbrev pub Leaves : TextEnd → List ℕ → Type 0
 Leaves ending.Notes rest = rest ≡ 40 ∷ drop 1 rest
 Leaves _ rest = rest ≡ []
 
--- Behind the prefix of a text its end is emitted, as the last of what is emitted there: in front of what its tokens leave.
--- Nothing before it is an end, and for the characters from there on nothing more is emitted.
+-- After the prefix of a text its end is emitted, as the last of what is emitted there: in front of
+-- what its tokens leave. Nothing before it is an end, and for the characters from there on nothing
+-- more is emitted.
 pub record EndsOnce (at : Place) (t : List ℕ) : Type 0 where
   pub prefix : List ℕ
   pub rest : List ℕ

@@ -1,4 +1,5 @@
--- What a text emits as it is read: its kept characters, the parts of its view, its findings and its end.
+-- What a text emits as it is read: its kept characters, the parts of its view, its findings and its
+-- end.
 use Rattle.std.specs.Prelude.{if◌then◌else◌, ℕ, ◌+◌, ◌-◌, ◌<◌, ◌^◌, List, [], ◌∷◌, ◌++◌, Bool, true, false, cond, not, ◌&&◌, length, Option, Some, None, map, reverse, drop, codes}
 use Rattle.gabc_places.specs.Place.{placed_characters_from}
 use Rattle.gabc_places.specs.declared.place.Place.{Place}
@@ -46,7 +47,8 @@ but_last c (d ∷ s) = c ∷ but_last d s
 abbrev pub last_at : List Token → Token → ℕ
 last_at before k = bytes_of (kept_of before ++ but_last k.first k.more)
 
--- a piece has the span of its token in the kept text, a character that of the token's last character
+-- a piece has the span of its token in the kept text, a character that of the token's last
+-- character
 abbrev pub from_of : List Token → Token → PieceKind → ℕ
 from_of before k piece.Char = last_at before k
 from_of before k _ = bytes_of (kept_of before)
@@ -161,7 +163,8 @@ no_events_each t = map (λ _. []) t
 abbrev pub kept_each : Place → List ℕ → List (List TextEvent)
 kept_each p t = map (λ (c : Char). out.Kept c ∷ []) (placed_characters_from p t)
 
--- what is kept of each of these characters of a token, where the first stands at this place, if this is each of them
+-- what is kept of each of these characters of a token, where the first stands at this place, if
+-- this is each of them
 abbrev pub kept_lists_as : Bool → Bool → TokenKind → Place → List ℕ → List (List TextEvent) → List (List TextEvent)
 kept_lists_as left_out space k p s each =
     if left_out then no_events_each s
@@ -172,7 +175,8 @@ abbrev pub kept_lists_by : Place → List Token → TokenKind → List ℕ → L
 kept_lists_by at before k s =
     kept_lists_as (is_left_out before k) (follows_space before) k (place_of at before) s (kept_each (place_of at before) s)
 
--- a `$` that is no escape shows only by the character after it, or by the end, that it stands for itself
+-- a `$` that is no escape shows only by the character after it, or by the end, that it stands for
+-- itself
 abbrev pub is_lone : Token → Bool
 is_lone k = is_text (codes "$") (spelling k)
 
@@ -194,8 +198,8 @@ with_last xs [] = []
 with_last xs (ys ∷ []) = (ys ++ xs) ∷ []
 with_last xs (ys ∷ zs ∷ lists) = ys ∷ with_last xs (zs ∷ lists)
 
--- What is emitted with each character of a token: with its first what the token before owes and the finding of a second
--- translation, then what is kept of each, and with its last the rest.
+-- What is emitted with each character of a token: with its first what the token before owes and the
+-- finding of a second translation, then what is kept of each, and with its last the rest.
 abbrev pub lists_at : Place → List Token → Token → List (List TextEvent)
 lists_at at before k =
     with_last (last_char_events at before k)
@@ -206,7 +210,8 @@ lists_at at before k =
 abbrev pub lists_end : Place → List Token → List ℕ → List (List TextEvent)
 lists_end at before rest = (owed_events at before ++ end_events at before rest) ∷ no_events_each rest
 
--- What a text emits whose first character stands at this place: a list for each of its characters, and one for the end.
+-- What a text emits whose first character stands at this place: a list for each of its characters,
+-- and one for the end.
 abbrev pub events_by_point : Place → List ℕ → List (List TextEvent)
 events_by_point at t = along (lists_at at) [] (tokens t) ++ lists_end at (reverse (tokens t)) (after_tokens t)
 

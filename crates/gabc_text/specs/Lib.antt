@@ -12,7 +12,6 @@ pub mod PrintedView
 pub mod RegularText
 pub mod StageTells
 pub mod TagNames
-pub mod TakenAtOnce
 pub mod TextFacts
 pub mod TextRead
 pub mod TextSpan

@@ -1,4 +1,5 @@
--- The printed form of what a text says, as tokens: its canonical text, with the LF before a word and the translation.
+-- The printed form of what a text says, as tokens: its canonical text, with the LF before a word
+-- and the translation.
 use Rattle.std.specs.Prelude.{ℕ, ◌+◌, List, [], ◌∷◌, ◌++◌, Bool, true, false, cond, ◌==◌, Option, Some, None, map, reverse, codes}
 use Rattle.std.specs.List.{concat}
 use Rattle.gabc_text.specs.declared.styles.Style.{Style}

@@ -1,7 +1,7 @@
 -- The texts that are printed as they stand, and in which nothing is found.
-use Rattle.std.specs.Prelude.{◌≡◌, ℕ, ◌+◌, List, [], Bool, false, not, ◌&&◌, ◌||◌, nat_lt, slice_index}
+use Rattle.std.specs.Prelude.{◌≡◌, ℕ, ◌+◌, ◌==◌, List, [], ◌∷◌, Bool, true, false, not, ◌&&◌, ◌||◌, if◌then◌else◌, nat_lt, slice_index}
 use Rattle.gabc_places.specs.declared.place.Place.{Place}
-use Rattle.gabc_text.specs.Token.{is_special}
+use Rattle.gabc_text.specs.Token.{is_blank, is_special}
 use Rattle.gabc_text.specs.View.{findings}
 use Rattle.gabc_text.specs.ViewFacts.{view_facts}
 use Rattle.gabc_text.specs.Printed.{print}
@@ -11,6 +11,16 @@ pub record IsRegularText (t : List ℕ) : Type 0 where
   pub printed : print (view_facts t) ≡ t
   pub no_start : (view_facts t).word_start ≡ false
   pub nothing : (at : Place) → findings at t ≡ []
+
+-- blanks and comments in any order, each comment with the LF that ends it; the first flag says
+-- whether a comment is open before them
+abbrev pub is_gap_after : Bool → List ℕ → Bool
+is_gap_after within [] = not within
+is_gap_after true (c ∷ t) = is_gap_after (not (10 == c)) t
+is_gap_after false (c ∷ t) = if is_blank c then is_gap_after false t else ((37 == c) && is_gap_after true t)
+
+abbrev pub is_gap : List ℕ → Bool
+is_gap t = is_gap_after false t
 
 -- a byte of ASCII that is a letter by itself
 abbrev pub is_letter_byte : ℕ → Bool

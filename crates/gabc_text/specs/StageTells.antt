@@ -1,14 +1,17 @@
--- What a stage tells of where it stands, beside the text that it has kept, and how it is set there again.
-use Rattle.std.specs.Prelude.{◌≡◌, List, [], ◌∷◌, Bool, true, false, Option, Some, None, if◌then◌else◌}
+-- What a stage reports of where it stands beside the text that it keeps, by what it still emits.
+use Rattle.std.specs.Prelude.{◌≡◌, ℕ, List, [], ◌∷◌, Bool, true, false, Option, Some, None}
+use Rattle.std.specs.List.{All}
+use Rattle.gabc_places.specs.Place.{saturating_next_place}
 use Rattle.gabc_places.specs.StageLaw.{concat_of}
+use Rattle.gabc_places.specs.declared.place.Char.{Char}
 use Rattle.gabc_places.specs.declared.place.Place.{Place}
-use Rattle.gabc_text.specs.declared.token_state.TokenState.{TokenState}
-use Rattle.gabc_text.specs.declared.token_state.TokenState.TheVariants.{Dollar, Comment, Tag, Raw, Translation}
 use Rattle.gabc_text.specs.declared.stage.TextStage.{TextStage}
 use Rattle.gabc_text.specs.declared.text_event.TextEnd.TheVariants.{Cut}
 use Rattle.gabc_text.specs.declared.text_event.TextEvent.{TextEvent}
 use Rattle.gabc_text.specs.declared.text_event.TextEvent.TheVariants.{Ended}
+use Rattle.gabc_text.specs.BuiltText.{kept_chars_in}
 use Rattle.gabc_text.specs.witness.EventsLeft.{events_left}
+use Rattle.gabc_text.specs.witness.StageReports.{next_of}
 
 -- the place at which these events say that the text is cut, if they do
 abbrev pub cut_place : List TextEvent → Option Place
@@ -29,32 +32,21 @@ begins_silently _ = false
 abbrev pub is_in_comment : TextStage → Bool
 is_in_comment s = begins_silently (events_left s (40 ∷ []))
 
--- the place of the next character
-abbrev pub next_of : TextStage → Place
-next_of s = s.progress.next
+-- What is kept with each character of a text stands where this character stands, if the text begins
+-- at p and counts stay at their last value. With its end nothing is kept.
+abbrev pub KeptStands : Place → List ℕ → List (List TextEvent) → Type 0
+KeptStands p [] lists = kept_chars_in (concat_of lists) ≡ []
+KeptStands p (c ∷ t) [] = ⊥
+KeptStands p (c ∷ t) (events ∷ lists) =
+    All (λ (x : Char). x.place ≡ p) (kept_chars_in events) × KeptStands (saturating_next_place p c) t lists
 
--- in a tag, a raw part or a translation
-abbrev pub is_open : TokenState → Bool
-is_open (Tag name) = true
-is_open (Raw part m) = true
-is_open Translation = true
-is_open _ = false
+-- the next character stands at p: what is kept of any text that follows stands as in one that
+-- begins at p
+abbrev pub IsNext : TextStage → Place → Type 0
+IsNext s p = (t : List ℕ) → KeptStands p t (events_left s t)
 
 -- What a stage that has ended reports: no opener, no comment, and the place at which it stood.
 pub record EndedInPlace (before after : TextStage) : Type 0 where
   pub opener : opener_of after ≡ None
   pub comment : is_in_comment after ≡ false
   pub next : next_of after ≡ next_of before
-
--- The next character stands at this place. What is open keeps the place where it began.
-abbrev pub moved_to : Place → TextStage → TextStage
-moved_to at s = record s { progress = record s.progress { place = if is_open s.state then s.progress.place else at; next = at } }
-
--- What matters of where a stage stands: the place of a `$` or of a comment does not.
-abbrev pub place_told : TokenState → Place → Place → Place
-place_told Dollar place next = next
-place_told Comment place next = next
-place_told _ place next = place
-
-abbrev pub told : TextStage → TextStage
-told s = record s { progress = record s.progress { place = place_told s.state s.progress.place s.progress.next } }

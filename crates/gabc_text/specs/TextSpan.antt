@@ -14,7 +14,7 @@ pub record IsAsKept (kept : List ℕ) (p : Piece) : Type 0 where
   pub within : p.span.to ≤ length kept
   pub text : piece_text kept p ≡ span_bytes kept p.span
 
--- a piece that goes on at this byte as it is kept, behind pieces with these styles
+-- a piece that goes on at this byte as it is kept, after pieces with these styles
 pub record GoesOnAt (kept : List ℕ) (old : Styles) (at : ℕ) (p : Piece) : Type 0 where
   pub styles : old ≡ p.styles
   pub meets : at ≡ p.span.from

@@ -111,7 +111,8 @@ token_at c t =
     (cond (c == 91) (ended_token Translation OpenTranslation 91 [] t (through (codes "]") t))
     (record { kind = single c; first = c; more = [] }))))
 
--- the tokens of the text after its first n characters; a text ends where a token would begin with `(`
+-- the tokens of the text after its first n characters; a text ends where a token would begin with
+-- `(`
 abbrev pub tokens_after : ℕ → List ℕ → List Token
 tokens_after n [] = []
 tokens_after (suc n) (c ∷ t) = tokens_after n t

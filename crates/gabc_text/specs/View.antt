@@ -1,4 +1,5 @@
--- What a text means, by its tokens. In these definitions `before` are the tokens before a place, the nearest first.
+-- What a text means, by its tokens. In these definitions `before` are the tokens before a place,
+-- the nearest first.
 use Rattle.std.specs.Prelude.{if◌then◌else◌, ℕ, ◌+◌, List, [], ◌∷◌, ◌++◌, Bool, true, false, cond, not, ◌||◌, ◌&&◌, ◌==◌, length, take, filter, min, Option, Some, None, is_some, map, reverse, drop}
 use Rattle.std.specs.List.{list_any}
 use Rattle.gabc_text.specs.declared.styles.Style.{Style}
@@ -196,8 +197,8 @@ has_translation before = list_any (λ k. is_translation k.kind) before
 
 -- ---- the kept text
 
--- A comment, a stray character, or a brace that is not the first `{` or the first `}` after it: by whether a `{` stands before,
--- and a `}` after one.
+-- A comment, a stray character, or a brace that is not the first `{` or the first `}` after it: by
+-- whether a `{` stands before, and a `}` after one.
 abbrev pub is_left_out_by : Bool → Bool → TokenKind → Bool
 is_left_out_by begun ended Comment = true
 is_left_out_by begun ended Stray = true
@@ -213,8 +214,8 @@ abbrev pub follows_space : List Token → Bool
 follows_space [] = false
 follows_space (k ∷ before) = is_space k.kind || (is_left_out before k.kind && follows_space before)
 
--- Nothing is kept of a token that is left out, of several blanks one, and all of any other token: by whether it is left out,
--- and whether what is kept before it is a blank.
+-- Nothing is kept of a token that is left out, of several blanks one, and all of any other token:
+-- by whether it is left out, and whether what is kept before it is a blank.
 abbrev pub kept_as : {X : Type 0} → Bool → Bool → TokenKind → X → X → X → X
 kept_as out space k nothing blank all =
     if out then nothing else (if is_space k then (if space then nothing else blank) else all)
@@ -235,12 +236,13 @@ abbrev pub is_cut : List Token → Bool
 is_cut [] = false
 is_cut (k ∷ before) = is_open_kind k.kind
 
--- what follows the tokens is empty, or begins with the `(`, behind this prefix
+-- what follows the tokens is empty, or begins with the `(`, after this prefix
 abbrev pub ending_by : List ℕ → List ℕ → TextEnding
 ending_by prefix [] = Finished
 ending_by prefix (c ∷ rest) = Notes (bytes_of prefix)
 
--- how a text ends whose tokens are these, the nearest first, where they spell the prefix and rest follows
+-- how a text ends whose tokens are these, the nearest first, where they spell the prefix and rest
+-- follows
 abbrev pub ending_after : Place → List Token → List ℕ → List ℕ → TextEnding
 ending_after at [] prefix rest = ending_by prefix rest
 ending_after at (k ∷ before) prefix rest = cond (is_open_kind k.kind) (Cut (place_of at before)) (ending_by prefix rest)

@@ -34,7 +34,8 @@ abbrev pub translation_text : List Token → Option (List ℕ)
 translation_text [] = None
 translation_text (k ∷ before) = cond (is_whole_translation k.kind && not (has_translation before)) (Some (but_end k.more)) (translation_text before)
 
--- what a text says, without the spelling: its pieces, the centre between them, the translation, and whether it begins a word
+-- what a text says, without the spelling: its pieces, the centre between them, the translation, and
+-- whether it begins a word
 pub record ViewFacts : Type 0 where
   pub word_start : Bool
   pub pieces : List PieceFacts

@@ -1,4 +1,6 @@
 pub mod EventsLeft
 pub mod FactsPast
 pub mod Keeps
+pub mod PiecesOwed
 pub mod SaidInFull
+pub mod StageReports

@@ -35,7 +35,8 @@ fn differs(before: bool, old: bool, new: bool) -> bool
     before || old != new
 }
 
-/// The first style in which two neighbours differ, and those listed after it: these do not stay open between them.
+/// The first style in which two neighbours differ, and those listed after it: these do not stay
+/// open between them.
 fn changed_styles(old: Styles, new: Styles) -> Styles
     ensures { result ≡ changed_styles old new }
 {
@@ -137,7 +138,8 @@ fn slice_of(kept: &str, span: Span) -> &[u8]
     }
 }
 
-/// One of the characters that a `$` makes letters. Most characters are small letters, so these are tried first.
+/// One of the characters that a `$` makes letters. Most characters are small letters, so these are
+/// tried first.
 fn needs_dollar(text: &[u8]) -> bool
     ensures { result ≡ needs_dollar text.now }
 {
@@ -166,7 +168,8 @@ fn put_span<S: Put>(span: Span, kept: &str, out: &mut S)
     }
 }
 
-/// Puts the tags and braces between two neighbours with these styles. Where they are the same there are no tags.
+/// Puts the tags and braces between two neighbours with these styles. Where they are the same there
+/// are no tags.
 fn put_boundary<S: Put>(old: Styles, new: Styles, braces: &str, out: &mut S)
     ensures { out.new
         ≡ S.taken out.old (boundary (listed_styles old) (listed_styles new) braces.now) }
@@ -178,7 +181,8 @@ fn put_boundary<S: Put>(old: Styles, new: Styles, braces: &str, out: &mut S)
     }
 }
 
-/// Puts the tags and braces between two neighbours with these styles. Few neighbours differ, so it stays out of line.
+/// Puts the tags and braces between two neighbours with these styles. Few neighbours differ, so it
+/// stays out of line.
 #[inline(never)]
 fn put_change<S: Put>(old: Styles, new: Styles, braces: &str, out: &mut S)
     ensures { out.new
@@ -215,7 +219,8 @@ fn is_as_kept(piece: Piece, kept: &str) -> bool
     }
 }
 
-/// Whether `piece` goes on where `run` ends, behind a piece with the styles `old`, with nothing but its kept bytes.
+/// Whether `piece` goes on where `run` ends, after a piece with the styles `old`, with nothing but
+/// its kept bytes.
 #[inline(always)]
 fn joins(run: Span, old: Styles, piece: Piece, braces: &str, kept: &str) -> bool
     ensures text { IsTrue result → piece_text kept.now piece ≡ span_bytes kept.now piece.span }
@@ -262,7 +267,8 @@ fn put_head<S: Put>(piece: Piece, kept: &str, out: &mut S) -> Span
     }
 }
 
-/// Pieces whose text is one part of the kept bytes: that part, and the index of the piece behind them.
+/// Pieces whose text is one part of the kept bytes: that part, and the index of the piece after
+/// them.
 #[derive(Clone, Copy)]
 struct Run {
     span: Span,
@@ -286,8 +292,9 @@ fn first_run(pieces: &[Piece]) -> Run
     }
 }
 
-/// The run with all of `pieces` that join it, where `old` are its styles. The loop goes over most pieces and puts no bytes, so its
-/// variables stay in registers. It is compiled in place, so that what is known of `centre` and `old` there is not asked in the loop.
+/// The run with all of `pieces` that join it, where `old` are its styles. The loop goes over most
+/// pieces and puts no bytes, so its variables stay in registers. It is compiled in place, so that
+/// what is known of `centre` and `old` there is not asked in the loop.
 #[inline(always)]
 fn joined_run(pieces: &[Piece], centre: Option<Span>, kept: &str, old: Styles, run: Run) -> Run
     requires ordered { run.span.from ≤ run.span.to }
@@ -326,7 +333,8 @@ fn whole_run(view: &TextView, kept: &str, old: Styles, run: Run) -> Run
     joined_run(view.pieces.as_slice(), view.centre, kept, old, run)
 }
 
-/// Puts the run with all pieces that join it, where `old` are its styles, and tells the index of the piece behind them.
+/// Puts the run with all pieces that join it, where `old` are its styles, and tells the index of
+/// the piece after them.
 fn put_run<S: Put>(view: &TextView, kept: &str, old: Styles, run: Run, out: &mut S) -> usize
     requires ordered { run.span.from ≤ run.span.to }
     requires within { run.next ≤ length view.now.pieces.items }
@@ -340,9 +348,10 @@ fn put_run<S: Put>(view: &TextView, kept: &str, old: Styles, run: Run, out: &mut
     whole.next
 }
 
-/// Puts the canonical text of `view` without its translation, whose spans count the bytes of `kept`: its pieces with the tags
-/// of their styles, one inside another (GregorioRef, "Syllable Text Syntax"). A span that does not lie in the kept text stands
-/// for nothing. A room without `text_len` bytes left gets as many of them as fit. It asks for no memory.
+/// Puts the canonical text of `view` without its translation, whose spans count the bytes of
+/// `kept`: its pieces with the tags of their styles, one inside another (GregorioRef, "Syllable
+/// Text Syntax"). A span that does not lie in the kept text stands for nothing. A room without
+/// `text_len` bytes left gets as many of them as fit. It asks for no memory.
 pub fn write_text<S: Put>(view: &TextView, kept: &str, out: &mut S)
     ensures { out.new ≡ S.taken out.old (canonical_text (content_of view.now) kept.now) }
 {
@@ -374,8 +383,9 @@ fn write_pieces<S: Put>(view: &TextView, kept: &str, out: &mut S)
     put_boundary(old, Styles::NONE, braces(view.centre, next), out);
 }
 
-/// Returns the part of `kept` that the canonical text of `view` is, if it is one: if its pieces follow one another there, and nothing is put
-/// before, between or behind them. An empty text may be any part without bytes.
+/// Returns the part of `kept` that the canonical text of `view` is, if it is one: if its pieces
+/// follow one another there, and nothing is put before, between or after them. An empty text may be
+/// any part without bytes.
 #[inline(always)]
 pub fn text_span(view: &TextView, kept: &str) -> Option<Span>
     ensures text { (span : Span) → result ≡ Some span →

@@ -1,8 +1,9 @@
-//! Laws of the definitions that contracts speak of. Each function is there for its clauses: all but two do nothing, and these drive a fresh stage.
+//! Laws of the definitions that contracts speak of. Each function is there for its clauses: all but
+//! two do nothing, and these drive a fresh stage.
 
 ghost use Rattle.std.specs.Prelude.{◌≡◌, ℕ, ◌+◌, ◌<◌, List, [], ◌∷◌, ◌++◌, length, take, drop, true, false, cond, codes, Decides, None, encode_utf8_all};
 ghost use Rattle.gabc_places.specs.StageLaw.{concat_of};
-ghost use Rattle.std.specs.List.{All, list_all};
+ghost use Rattle.std.specs.List.{All};
 ghost use Rattle.gabc_places.specs.Findings.{AreInOrder, LieBetween};
 ghost use Rattle.gabc_places.specs.Place.{place_past, saturating_next_place};
 ghost use Rattle.gabc_places.specs.Code.{rank_of, severity_of};
@@ -17,16 +18,17 @@ ghost use Rattle.gabc_text.specs.TextRead.{view_in};
 ghost use Rattle.gabc_text.specs.ViewFacts.{StandsForView, StandsFor, view_facts, has_error};
 ghost use Rattle.gabc_text.specs.Printed.{print, text_tokens, translation_tokens, text_of_tokens};
 ghost use Rattle.gabc_text.specs.PrintedView.{printed_view};
-ghost use Rattle.gabc_text.specs.RegularText.{IsRegularText};
-ghost use Rattle.gabc_text.specs.Token.{is_blank};
+ghost use Rattle.gabc_text.specs.RegularText.{IsRegularText, is_gap};
 ghost use Rattle.gabc_text.specs.Canonical.{span_bytes, canonical_text};
 ghost use Rattle.gabc_places.specs.declared.place.Span.{Span};
-ghost use Rattle.gabc_text.specs.BuiltText.{with_events, empty_text, text_built_at, kept_in, found_in};
+ghost use Rattle.gabc_text.specs.BuiltText.{with_events, empty_text, text_built_at, kept_chars_in, kept_in, found_in};
 ghost use Rattle.gabc_text.specs.Ends.{EndsOnce};
 ghost use Rattle.std.specs.Prelude.{◌*◌, ◌≤◌, ◌==◌, is_some};
 ghost use Rattle.gabc_places.specs.BoundedList.{Fits, extended_by};
 ghost use Rattle.gabc_text.specs.witness.Keeps.{Keeps, OpensThere, Takes, is_open_behind, begins_comment, ends_behind, kept_with};
-ghost use Rattle.gabc_text.specs.StageTells.{opener_of, is_in_comment, next_of, moved_to, told, cut_place};
+ghost use Rattle.gabc_text.specs.StageTells.{IsNext, opener_of, is_in_comment, cut_place};
+ghost use Rattle.gabc_text.specs.witness.PiecesOwed.{pieces_owed};
+ghost use Rattle.gabc_text.specs.witness.StageReports.{has_ended, next_of, moved_to, told};
 ghost use Rattle.gabc_text.specs.witness.SaidInFull.{IsSaidInFull};
 
 use crate::stage::TextStage;
@@ -34,24 +36,25 @@ pub use crate::tags::tag_names_are_these;
 use crate::text_event::{TextEnd, TextEvent};
 use gabc_places::{Char, Place, Room, Stage, drive};
 
-/// The opener that a stage reports, of which the text `t` was read, is the place at which the
+/// Law: the opener that a stage reports, of which the text `t` was read, is the place at which the
 /// definition says that `t` is cut: that of its last token, if that is a tag, a raw part or a
 /// translation without an end.
 pub fn an_opener_is_where_a_text_is_cut()
     ensures { (at : Place) (t : List ℕ) (s : TextStage) (emitted : List (List TextEvent)) →
-        CountsFit at t → s.done ≡ false → length emitted ≡ length t →
+        CountsFit at t → has_ended s ≡ false → length emitted ≡ length t →
         ((more : List ℕ) → events_left (fresh_stage at) (t ++ more) ≡ emitted ++ events_left s more) →
         opener_of s ≡ cut_place (concat_of (drop (length t) (events_by_point at t))) }
 {}
 
-/// A stage reports that a comment is open exactly if a `(` would emit nothing: else it ends the text, or is kept.
+/// Law: a stage reports that a comment is open exactly if a `(` would emit nothing: else it ends
+/// the text, or is kept.
 pub fn a_comment_is_where_a_bracket_is_silent()
-    ensures { (s : TextStage) → s.done ≡ false → Decides (is_in_comment s)
+    ensures { (s : TextStage) → has_ended s ≡ false → Decides (is_in_comment s)
         ((later : List (List TextEvent)) × (events_left s (40 ∷ []) ≡ [] ∷ later)) }
 {}
 
-/// A fresh machine emits what the definition says, where no count of the text reaches its last value, and what it does not
-/// read begins with the `(` that ends the text.
+/// Law: a fresh machine emits what the definition says, where no count of the text reaches its last
+/// value, and what it does not read begins with the `(` that ends the text.
 pub fn a_fresh_stage_emits_the_events_by_point()
     ensures events { (at : Place) (t : List ℕ) → CountsFit at t →
         events_left (fresh_stage at) t ≡ events_by_point at t }
@@ -59,7 +62,8 @@ pub fn a_fresh_stage_emits_the_events_by_point()
         characters_left (fresh_stage at) t ≡ after_tokens t }
 {}
 
-/// A fresh stage, driven over the characters of a text, emits what the definition says of the text.
+/// Law: a fresh stage, driven over the characters of a text, emits what the definition says of the
+/// text.
 pub fn a_fresh_stage_emits(at: Place, inputs: Vec<Char>, out: &mut Room<TextEvent>)
     requires room { Fits out.old (8 * (length inputs.items + 1)) }
     requires fits { CountsFit at (codes_of inputs.items) }
@@ -70,34 +74,38 @@ pub fn a_fresh_stage_emits(at: Place, inputs: Vec<Char>, out: &mut Room<TextEven
     drive(&mut stage, inputs, out);
 }
 
-/// A text has a list of events for each character and one for the end. Joined, they are its events in order.
+/// Law: a text has a list of events for each character and one for the end. Joined, they are its
+/// events in order.
 pub fn events_by_point_are_the_events()
     ensures each { (at : Place) (t : List ℕ) → CountsFit at t →
         length (events_by_point at t) ≡ length t + 1 }
     ensures joined { (at : Place) (t : List ℕ) → concat_of (events_by_point at t) ≡ events_of at t }
 {}
 
-/// The events of a text, gathered in order, are its kept text, its view, its findings and its end.
+/// Law: the events of a text, gathered in order, are its kept text, its view, its findings and its
+/// end.
 pub fn events_build_the_text()
     ensures events { (at : Place) (t : List ℕ) →
         with_events empty_text (concat_of (events_by_point at t)) ≡ text_built_at at t }
     ensures kept { (at : Place) (t : List ℕ) → kept_in (concat_of (events_by_point at t)) ≡ kept t }
 {}
 
-/// The findings of a text are sorted by their places, those of one place by their codes, and none stands twice.
+/// Law: the findings of a text are sorted by their places, those of one place by their codes, and
+/// none stands twice.
 pub fn findings_in_order()
     ensures { (at : Place) (t : List ℕ) → AreInOrder (findings at t) }
 {}
 
-/// A machine emits a list for each character and one for the end. What it emits for some characters does not depend on what
-/// follows them.
+/// Law: a machine emits a list for each character and one for the end. What it emits for some
+/// characters does not depend on what follows them.
 pub fn events_need_nothing_behind()
     ensures each { (s : TextStage) (t : List ℕ) → length (events_left s t) ≡ length t + 1 }
     ensures prefix { (s : TextStage) (t u v : List ℕ) →
         take (length t) (events_left s (t ++ u)) ≡ take (length t) (events_left s (t ++ v)) }
 {}
 
-/// If the `(` behind a text ends it, then it does so whatever follows, and nothing more is emitted.
+/// Law: if the `(` after a text ends it, then it does so whatever follows, and nothing more is
+/// emitted.
 pub fn nothing_after_the_notes_begin()
     ensures left { (s : TextStage) (t u v : List ℕ) → characters_left s (t ++ 40 ∷ u) ≡ 40 ∷ u →
         characters_left s (t ++ 40 ∷ v) ≡ 40 ∷ v }
@@ -106,8 +114,8 @@ pub fn nothing_after_the_notes_begin()
         ++ ([] ∷ no_events_each v) }
 {}
 
-/// The spans of a text's view stand for what the view says, and its centre lies among its pieces. A span that stands for a
-/// part of a text holds that part's bytes.
+/// Law: the spans of a text's view stand for what the view says, and its centre lies among its
+/// pieces. A span that stands for a part of a text holds that part's bytes.
 pub fn spans_stand_for_the_view()
     ensures starts { (t : List ℕ) → (view_in t).word_start ≡ (view_facts t).word_start }
     ensures centre { (t : List ℕ) → (view_in t).centre ≡ (view_facts t).centre }
@@ -116,18 +124,19 @@ pub fn spans_stand_for_the_view()
         span_bytes (encode_utf8_all text) span ≡ encode_utf8_all part }
 {}
 
-/// The canonical text of a text's view is the printed form of what the text says, but for the blank before a word and the
-/// translation.
+/// Law: the canonical text of a text's view is the printed form of what the text says, but for the
+/// blank before a word and the translation.
 pub fn canonical_is_printed()
     ensures { (whole t : List ℕ) → StandsForView whole (view_in t) t →
         canonical_text (view_in t) (encode_utf8_all whole)
         ≡ encode_utf8_all (text_of_tokens (text_tokens (view_facts t))) }
 {}
 
-/// What is printed of a view is the printed form of what its text says, whatever whole text the view's spans count the bytes
-/// of: that of the text alone, or of a syllable. In front of a `(`, and whatever follows, it is read again as the same view: it
-/// ends at that `(`, says the same, and has no error. All of it is kept, the LF before a word as a blank. What is printed of the
-/// view that is read again, is the same.
+/// Law: what is printed of a view is the printed form of what its text says, whatever whole text
+/// the view's spans count the bytes of: that of the text alone, or of a syllable. In front of a
+/// `(`, and whatever follows, it is read again as the same view: it ends at that `(`, says the
+/// same, and has no error. All of it is kept, the LF before a word as a blank. What is printed of
+/// the view that is read again, is the same.
 pub fn view_again()
     ensures printed { (whole t : List ℕ) → StandsForView whole (view_in t) t →
         printed_view (view_in t) (encode_utf8_all whole) ≡ encode_utf8_all (print (view_facts t)) }
@@ -148,9 +157,9 @@ pub fn view_again()
         ≡ printed_view (view_in t) (encode_utf8_all whole) }
 {}
 
-/// A regular text says in front of a `(` what it says alone, whatever follows: it ends at that `(`,
-/// all of it is kept, and nothing is found in it, whatever place it begins at. What is printed of
-/// its view is the text itself, whatever whole text the spans count the bytes of. So is its
+/// Law: a regular text says in front of a `(` what it says alone, whatever follows: it ends at that
+/// `(`, all of it is kept, and nothing is found in it, whatever place it begins at. What is printed
+/// of its view is the text itself, whatever whole text the spans count the bytes of. So is its
 /// canonical text, if it has no translation.
 pub fn a_regular_text_is_printed_as_it_stands()
     ensures says { (t rest : List ℕ) → IsRegularText t →
@@ -169,45 +178,46 @@ pub fn a_regular_text_is_printed_as_it_stands()
         canonical_text (view_in all) (encode_utf8_all whole) ≡ encode_utf8_all t }
 {}
 
-/// Blanks before a regular text begin a word. Nothing else that it says changes by them, nothing is
-/// found in it, and they are kept as one U+0020, and printed as one LF.
+/// Law: blanks before a regular text, and comments among them that have ended, begin a word.
+/// Nothing else that it says changes by them, nothing is found in it, and they are kept as one
+/// U+0020, and printed as one LF.
 pub fn blanks_before_a_regular_text_begin_a_word()
-    ensures says { (b : ℕ) (gap t rest : List ℕ) → list_all is_blank (b ∷ gap) ≡ true →
+    ensures says { (b : ℕ) (gap t rest : List ℕ) → is_gap (b ∷ gap) ≡ true →
         IsRegularText t → view_facts (b ∷ gap ++ (t ++ 40 ∷ rest))
         ≡ record (view_facts t) { word_start = true } }
     ensures found { (at : Place) (b : ℕ) (gap t rest : List ℕ) →
-        list_all is_blank (b ∷ gap) ≡ true → IsRegularText t →
+        is_gap (b ∷ gap) ≡ true → IsRegularText t →
         findings at (b ∷ gap ++ (t ++ 40 ∷ rest)) ≡ [] }
-    ensures ends { (b : ℕ) (gap t rest : List ℕ) → list_all is_blank (b ∷ gap) ≡ true →
+    ensures ends { (b : ℕ) (gap t rest : List ℕ) → is_gap (b ∷ gap) ≡ true →
         IsRegularText t → after_tokens (b ∷ gap ++ (t ++ 40 ∷ rest)) ≡ 40 ∷ rest }
-    ensures kept { (b : ℕ) (gap t rest : List ℕ) → list_all is_blank (b ∷ gap) ≡ true →
+    ensures kept { (b : ℕ) (gap t rest : List ℕ) → is_gap (b ∷ gap) ≡ true →
         IsRegularText t → kept (b ∷ gap ++ (t ++ 40 ∷ rest)) ≡ 32 ∷ t }
     ensures printed { (whole : List ℕ) (b : ℕ) (gap t rest : List ℕ) →
-        list_all is_blank (b ∷ gap) ≡ true → IsRegularText t →
+        is_gap (b ∷ gap) ≡ true → IsRegularText t →
         let all = b ∷ gap ++ (t ++ 40 ∷ rest) in StandsForView whole (view_in all) all →
         printed_view (view_in all) (encode_utf8_all whole) ≡ encode_utf8_all (10 ∷ t) }
     ensures canonical { (whole : List ℕ) (b : ℕ) (gap t rest : List ℕ) →
-        list_all is_blank (b ∷ gap) ≡ true → IsRegularText t →
+        is_gap (b ∷ gap) ≡ true → IsRegularText t →
         (view_facts t).translation ≡ None →
         let all = b ∷ gap ++ (t ++ 40 ∷ rest) in StandsForView whole (view_in all) all →
         canonical_text (view_in all) (encode_utf8_all whole) ≡ encode_utf8_all t }
 {}
 
-/// The kept text of a text is read again as itself, and says the same.
+/// Law: the kept text of a text is read again as itself, and says the same.
 pub fn a_kept_text_is_read_again()
     ensures begins { (t : List ℕ) → (view_facts (10 ∷ t)).word_start ≡ true }
     ensures kept { (t : List ℕ) → kept (kept t) ≡ kept t }
     ensures facts { (t : List ℕ) → view_facts (kept t) ≡ view_facts t }
 {}
 
-/// An LF before a text makes it begin a word. Nothing else that the text says changes by it.
+/// Law: an LF before a text makes it begin a word. Nothing else that the text says changes by it.
 pub fn a_line_feed_begins_a_word()
     ensures { (t : List ℕ) → view_facts (10 ∷ t) ≡ record (view_facts t) { word_start = true } }
 {}
 
-/// What is emitted of a text through the character behind a prefix of it, or through its end, is found no earlier than the text
-/// begins and no later than that character. All that is found is the text's findings, and each has a code below W9. They are
-/// warnings, if no error is among them.
+/// Law: what is emitted of a text through the character after a prefix of it, or through its end,
+/// is found no earlier than the text begins and no later than that character. All that is found is
+/// the text's findings, and each has a code below W9. They are warnings, if no error is among them.
 pub fn findings_lie_within()
     ensures within { (at : Place) (prefix rest : List ℕ) →
         LieBetween at (place_past at prefix)
@@ -220,19 +230,21 @@ pub fn findings_lie_within()
         All (λ (f : Finding). severity_of f.code ≡ Warning) (findings at t) }
 {}
 
-/// A text's end is emitted once, as the last of what is emitted: with the `(` of its notes, or with the end of the input.
+/// Law: a text's end is emitted once, as the last of what is emitted: with the `(` of its notes, or
+/// with the end of the input.
 pub fn a_text_ends_once()
     ensures { (at : Place) (t : List ℕ) → EndsOnce at t }
 {}
 
-/// Two stages emit the same of whatever follows, if they are the same but for the place of a `$` or of a comment.
+/// Law: two stages emit the same of whatever follows, if they are the same but for the place of a
+/// `$` or of a comment.
 pub fn stages_that_tell_the_same_agree(one: &TextStage, other: &TextStage)
     requires { told one.now ≡ told other.now }
     ensures { (t : List ℕ) → events_left one.now t ≡ events_left other.now t }
 {}
 
-/// Two stages that keep one text emit the same of whatever follows, if they tell the same: the place of the opener, whether a comment is
-/// open, and the place of the next character.
+/// Law: two stages that keep one text emit the same of whatever follows, if they tell the same: the
+/// place of the opener, whether a comment is open, and the place of the next character.
 pub fn stages_behind_one_text_agree()
     ensures { (one other : TextStage) (k : List ℕ) → Keeps one k → Keeps other k →
         opener_of one ≡ opener_of other → is_in_comment one ≡ is_in_comment other →
@@ -240,8 +252,8 @@ pub fn stages_behind_one_text_agree()
         (t : List ℕ) → events_left one t ≡ events_left other t }
 {}
 
-/// Whether a stage has an opener follows from the text that it keeps. A comment is open only where a `%` begins one behind this text,
-/// and there is no opener then.
+/// Law: whether a stage has an opener follows from the text that it keeps. A comment is open only
+/// where a `%` begins one after this text, and there is no opener then.
 pub fn what_is_open_follows_from_the_kept_text()
     ensures opener { (s : TextStage) (k : List ℕ) → Keeps s k →
         is_some (opener_of s) ≡ is_open_behind k }
@@ -250,8 +262,8 @@ pub fn what_is_open_follows_from_the_kept_text()
     ensures apart { (k : List ℕ) → begins_comment k ≡ true → is_open_behind k ≡ false }
 {}
 
-/// Of a text that a stage keeps, each character is kept again behind those before it. The `%` of a comment is not kept, nor is the `(` that
-/// ends a text.
+/// Law: of a text that a stage keeps, each character is kept again after those before it. The `%`
+/// of a comment is not kept, nor is the `(` that ends a text.
 pub fn a_kept_character_is_kept_again()
     ensures characters { (s : TextStage) (a b : List ℕ) (c : ℕ) → Keeps s (a ++ c ∷ b) →
         kept_with a c ≡ c ∷ [] }
@@ -262,7 +274,7 @@ pub fn a_kept_character_is_kept_again()
 /// Law: a stage that has not ended takes each character, and a fresh one keeps nothing yet.
 pub fn a_stage_takes_each_character()
     ensures fresh { (at : Place) → Keeps (fresh_stage at) [] }
-    ensures takes { (s : TextStage) (c : ℕ) → s.done ≡ false → Takes s c }
+    ensures takes { (s : TextStage) (c : ℕ) → has_ended s ≡ false → Takes s c }
 {}
 
 /// Law: where the next character is said to stand elsewhere, what is open stays open, at the same
@@ -273,20 +285,60 @@ pub fn what_is_open_stays_open_elsewhere()
         is_in_comment (moved_to at s) ≡ is_in_comment s }
 {}
 
+/// Law: the next character of a stage stands where the stage reports: of a fresh one where the text
+/// begins, and of one that was moved at the place to which it was.
+pub fn the_next_character_stands_where_it_is_reported()
+    ensures stands { (s : TextStage) → IsNext s (next_of s) }
+    ensures fresh { (at : Place) → next_of (fresh_stage at) ≡ at }
+    ensures moved { (s : TextStage) (at : Place) → next_of (moved_to at s) ≡ at }
+    ensures there { (s : TextStage) (at : Place) → IsNext (moved_to at s) at }
+{}
+
+/// Law: a fresh stage has not ended, and to move a stage does not end it. One that has ended emits
+/// nothing, whatever follows.
+pub fn a_stage_that_has_ended_emits_nothing()
+    ensures fresh { (at : Place) → has_ended (fresh_stage at) ≡ false }
+    ensures moved { (s : TextStage) (at : Place) → has_ended (moved_to at s) ≡ has_ended s }
+    ensures silent { (s : TextStage) (t : List ℕ) → has_ended s ≡ true →
+        concat_of (events_left s t) ≡ [] }
+{}
+
+/// Law: a fresh stage reports no opener, and no comment that is open.
+pub fn a_fresh_stage_reports_nothing_open()
+    ensures opener { (at : Place) → opener_of (fresh_stage at) ≡ None }
+    ensures comment { (at : Place) → is_in_comment (fresh_stage at) ≡ false }
+{}
+
+/// Law: a fresh stage owes no piece, and to move a stage changes nothing of what it owes.
+pub fn a_fresh_stage_owes_no_piece()
+    ensures fresh { (at : Place) → pieces_owed (fresh_stage at) ≡ 0 }
+    ensures moved { (s : TextStage) (at : Place) → pieces_owed (moved_to at s) ≡ pieces_owed s }
+{}
+
+/// Law: where something is kept of a character that follows at once, the next character of the
+/// stage stands at one place and at no other.
+pub fn the_next_character_stands_at_one_place()
+    ensures { (s : TextStage) (p q : Place) (c : ℕ) (x : Char) (xs : List Char) →
+        kept_chars_in (concat_of (take 1 (events_left s (c ∷ [])))) ≡ x ∷ xs →
+        IsNext s p → IsNext s q → p ≡ q }
+{}
+
 /// Law: the opener of a stage may stand at any place, and the stage keeps the same text.
 pub fn an_opener_may_stand_anywhere()
     ensures { (s : TextStage) (k : List ℕ) (at : Place) → Keeps s k →
         is_some (opener_of s) ≡ true → OpensThere s k at }
 {}
 
-/// What was said of a text that a stage keeps, and that a `(` behind it ends, is all that is said of it in front of this `(`, whatever
-/// follows: its kept text is the text, and its view is the one that was built.
+/// Law: what was said of a text that a stage keeps, and that a `(` after it ends, is all that is
+/// said of it in front of this `(`, whatever follows: its kept text is the text, and its view is
+/// the one that was built.
 pub fn a_kept_text_is_said_in_full()
     ensures { (s : TextStage) (k rest : List ℕ) → Keeps s k → ends_behind k ≡ true →
         CountsFit (record { line = 0; column = 0 }) (k ++ 40 ∷ rest) → IsSaidInFull k rest }
 {}
 
-/// A stage in a comment that has kept nothing passes over the comment. The LF behind it is the first character of a text that begins there.
+/// Law: a stage in a comment that has kept nothing passes over the comment. The LF after it is the
+/// first character of a text that begins there.
 pub fn a_comment_before_a_text_counts_for_nothing()
     ensures on { (s : TextStage) (c : ℕ) (t : List ℕ) → Keeps s [] → is_in_comment s ≡ true →
         (c == 10) ≡ false → events_left s (c ∷ t)
@@ -298,9 +350,10 @@ pub fn a_comment_before_a_text_counts_for_nothing()
         events_left s [] ≡ (TextEvent.Ended TextEnd.Finished ∷ []) ∷ [] }
 {}
 
-/// Returns a stage that is set down as `stage` stands, by the text `kept` that it keeps and what it tells: a fresh stage reads this text
-/// again, each character at the place of the opener, then a `%` where a comment is open, and goes to the place of the next
-/// character. From then on it emits what `stage` emits.
+/// Returns a stage that is set down as `stage` stands, by the text `kept` that it keeps and what it
+/// tells: a fresh stage reads this text again, each character at the place of the opener, then a
+/// `%` where a comment is open, and goes to the place of the next character. From then on it emits
+/// what `stage` emits.
 pub fn a_kept_text_gives_the_stage_back(
     stage: &TextStage,
     kept: &[char],

@@ -13,7 +13,8 @@ use crate::token::{TagEffect, TokenKind};
 use crate::view::{Piece, PieceKind};
 use gabc_places::{Place, Span};
 
-/// Where in the text and in what was kept of it the machine stands. A count that has reached its last value stays there.
+/// Where in the text and in what was kept of it the machine stands. A count that has reached its
+/// last value stays there.
 #[derive(Clone, Copy, PartialEq)]
 pub(crate) struct Progress {
     /// Where the token that is read begins: its place, and the bytes kept before it.
@@ -38,7 +39,8 @@ pub(crate) fn plus(n: usize, more: usize) -> usize
     n.saturating_add(more)
 }
 
-/// The piece of this kind that a token is: of a character without its `$`. Before its last character, `last` bytes were kept.
+/// The piece of this kind that a token is: of a character without its `$`. Before its last
+/// character, `last` bytes were kept.
 #[inline(always)]
 pub(crate) fn piece_there(
     facts: TextFacts,
@@ -62,7 +64,8 @@ pub(crate) fn piece_there(
     }
 }
 
-/// The part that a token is which is no piece, if it is one. Before its last character, `last` bytes were kept.
+/// The part that a token is which is no piece, if it is one. Before its last character, `last`
+/// bytes were kept.
 pub(crate) fn part_at(
     facts: TextFacts,
     progress: Progress,

@@ -75,17 +75,18 @@ fn byte_at(bytes: &[u8], index: usize) -> u8
 }
 
 /// Returns how many bytes the letter has that `bytes` begin with, with its `$` if it has one; 0, if
-/// none is known to be there.
+/// none is known to be there. Most letters are of ASCII.
+#[inline(always)]
 fn letter_len(bytes: &[u8]) -> usize
     ensures within { result ≤ length bytes.now }
     ensures letter { 0 < result → IsWord (take result bytes.now) }
     ensures none { result ≡ 0 → has_letter_at bytes.now 0 ≡ false }
 {
     let first = byte_at(bytes, 0);
-    let second = byte_at(bytes, 1);
     if is_letter_byte(first) {
         return 1;
     }
+    let second = byte_at(bytes, 1);
     if is_escape(first, second) {
         return 2;
     }
@@ -202,15 +203,19 @@ fn more_of_run(bytes: &[u8], end: usize) -> usize
     if after > 0 { after + 1 } else { 0 }
 }
 
-/// Returns how many of the first of `bytes` are letters by themselves.
+/// Returns how many bytes the letters have that `bytes` begin with.
 #[inline(always)]
 pub(crate) fn letters_len(bytes: &[u8]) -> usize
     ensures within { result ≤ length bytes.now }
     ensures run { IsRun (take result bytes.now) }
 {
     let mut end = 0;
-    while end < bytes.len() && is_letter_byte(bytes[end]) {
-        end += 1;
+    while end < bytes.len() {
+        let more = letter_len(&bytes[end..]);
+        if more == 0 {
+            return end;
+        }
+        end += more;
     }
     end
 }

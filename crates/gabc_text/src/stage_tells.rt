@@ -1,8 +1,10 @@
-//! What a stage tells of where it stands, and how it is set there again.
+//! What a stage reports of where it stands, and how it is set there again.
 
 ghost use Rattle.std.specs.Prelude.{◌≡◌, ℕ, List};
 ghost use Rattle.gabc_text.specs.witness.Keeps.{Keeps};
-ghost use Rattle.gabc_text.specs.StageTells.{is_open, opener_of, is_in_comment, next_of, moved_to};
+ghost use Rattle.gabc_text.specs.StageTells.{opener_of, is_in_comment, IsNext};
+ghost use Rattle.gabc_text.specs.machine.StageTells.{is_open};
+ghost use Rattle.gabc_text.specs.witness.StageReports.{next_of, moved_to};
 
 use crate::stage::TextStage;
 use crate::token_state::TokenState;
@@ -35,8 +37,8 @@ impl TextStage {
         }
     }
 
-    /// Returns whether a comment is open: whether with a `(` nothing would be emitted, and something
-    /// with the end after it.
+    /// Returns whether a comment is open: whether with a `(` nothing would be emitted, and
+    /// something with the end after it.
     pub fn in_comment(&self) -> bool
         ensures { result ≡ is_in_comment self.now }
     {
@@ -46,16 +48,21 @@ impl TextStage {
         }
     }
 
-    /// Returns the place of the next character.
+    /// Returns the place of the next character: what is kept of the characters to come stands as in
+    /// a text that begins there. It is the place at which the stage began or to which it was moved
+    /// last, past the characters since.
     pub fn next(&self) -> Place
-        ensures { result ≡ next_of self.now }
+        ensures next { IsNext self.now result }
+        ensures reports { result ≡ next_of self.now }
     {
         self.progress.next
     }
 
-    /// Sets the place of the next character to `place`. The opener keeps its own, and the stage keeps the text that it keeps.
+    /// Sets the place of the next character to `place`. The opener keeps its own, and the stage
+    /// keeps the text that it keeps.
     pub fn go_to(&mut self, place: Place)
         ensures moved { self.new ≡ moved_to place self.old }
+        ensures next { IsNext self.new place }
         ensures opener { opener_of self.new ≡ opener_of self.old }
         ensures keeps { (k : List ℕ) → Keeps self.old k → Keeps self.new k }
     {

@@ -4,7 +4,8 @@ ghost use Rattle.std.specs.Prelude.{◌≡◌};
 ghost use Rattle.gabc_text.specs.TextFacts.{has_style, is_empty};
 ghost use Rattle.gabc_text.specs.machine.TextFacts.{with_style};
 
-/// The styles of a text, in the order in which they are printed (GregorioRef, "Syllable Text Syntax").
+/// The styles of a text, in the order in which they are printed (GregorioRef, "Syllable Text
+/// Syntax").
 #[derive(Clone, Copy, Debug, PartialEq, Eq)]
 pub enum Style {
     /// `<b>`, bold.

@@ -7,7 +7,8 @@ ghost use Rattle.gabc_text.specs.Token.{tag_names};
 use crate::styles::Style;
 use crate::token::{RawKind, TagEffect};
 
-/// The tags that are known: what stands between the `<` and the `>`, in ASCII, and what the tag does.
+/// The tags that are known: what stands between the `<` and the `>`, in ASCII, and what the tag
+/// does.
 #[rattlefmt::skip]
 pub(crate) const TAGS: [(&str, TagEffect); 21] = [
     ("b", TagEffect::Opens(Style::B)),

@@ -36,7 +36,7 @@ pub enum TextEvent {
     Part(TextPart),
     /// What was found, with its place.
     Found(Finding),
-    /// The end, behind which nothing more comes.
+    /// The end, after which nothing more comes.
     Ended(TextEnd),
 }
 

@@ -1,7 +1,6 @@
 //! How a text is cut into tokens as its characters come.
 
-ghost use Rattle.std.specs.Prelude.{true, ◌≡◌, IsTrue};
-ghost use Rattle.std.specs.Char.{is_ascii_alphabetic};
+ghost use Rattle.std.specs.Prelude.{◌≡◌, IsTrue};
 ghost use Rattle.gabc_text.specs.machine.TokenState.{settled_kind, wanted_char, step_in_raw, step_at_tag_end, first_step, next_step, kind_at_end, is_plain, IsLetterBetween};
 ghost use Rattle.gabc_text.specs.machine.RawPart.{is_unmatched};
 
@@ -144,11 +143,10 @@ pub(crate) fn first_step(c: char) -> Step
     }
 }
 
-/// Whether the character is one of ASCII that is a letter of the text between tokens: a letter, a digit or most marks. There it is a token by
-/// itself, and it is kept.
+/// Whether the character is one of ASCII that is a letter of the text between tokens: a letter, a
+/// digit or most marks. There it is a token by itself, and it is kept.
 pub(crate) fn is_plain_letter(c: char) -> bool
-    ensures takes { is_ascii_alphabetic c ≡ true → IsTrue result }
-    ensures letter { IsTrue result → IsLetterBetween c }
+    ensures { IsTrue result → IsLetterBetween c }
 {
     match c {
         '*'..=';' | '?'..='Z' | 'a'..='z' => true,

@@ -26,7 +26,8 @@ pub enum PieceKind {
     Mark,
 }
 
-/// A piece of a text. Its span counts bytes of the kept text; that of a character is without the `$` before it.
+/// A piece of a text. Its span counts bytes of the kept text; that of a character is without the
+/// `$` before it.
 #[derive(Clone, Copy, Debug, PartialEq, Eq)]
 pub struct Piece {
     /// What it is.
@@ -77,7 +78,8 @@ pub struct TextView {
     pub pieces: Pieces,
     /// The centre: from and to how many pieces (GregorioRef, "Lyric Centering").
     pub centre: Option<Span>,
-    /// The first translation without its brackets, in bytes of the kept text (GregorioRef, "Translation Text").
+    /// The first translation without its brackets, in bytes of the kept text (GregorioRef,
+    /// "Translation Text").
     pub translation: Option<Span>,
 }
 
@@ -107,8 +109,8 @@ impl TextView {
         })
     }
 
-    /// Adds `part`, as the machine emitted it. Where a piece more is within the capacity, that asks for no memory. If there is no
-    /// memory, the view says what it said.
+    /// Adds `part`, as the machine emitted it. Where a piece more is within the capacity, that asks
+    /// for no memory. If there is no memory, the view says what it said.
     pub fn add(&mut self, part: TextPart) -> Result<(), AllocError>
         ensures added { OnOk result (content_of self.new ≡ with_part (content_of self.old) part) }
         ensures capacity { self.old.pieces.capacity ≤ self.new.pieces.capacity }
@@ -126,7 +128,8 @@ impl TextView {
         Ok(())
     }
 
-    /// Adds `part`, as `add` does, where a piece more is within the capacity. It asks for no memory.
+    /// Adds `part`, as `add` does, where a piece more is within the capacity. It asks for no
+    /// memory.
     pub fn add_reserved(&mut self, part: TextPart)
         requires { HasRoomFor self.old.pieces 1 }
         ensures added { content_of self.new ≡ with_part (content_of self.old) part }

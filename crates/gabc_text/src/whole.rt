@@ -21,7 +21,8 @@ use std::alloc::{AllocError, Global};
 pub struct TextRead {
     /// What it says.
     pub view: TextView,
-    /// The text without comments and what was left out, each run of blanks as one U+0020. Spans count its bytes.
+    /// The text without comments and what was left out, each run of blanks as one U+0020. Spans
+    /// count its bytes.
     pub kept: String,
     /// What was found, in the order of places.
     pub findings: Findings,
@@ -93,8 +94,8 @@ impl TextBuilder {
         Ok(())
     }
 
-    /// Passes the characters of a text in a raw part to the machine, and adds what it emits: it keeps them all, since none of
-    /// them begins the ending.
+    /// Passes the characters of a text in a raw part to the machine, and adds what it emits: it
+    /// keeps them all, since none of them begins the ending.
     fn pass(&mut self, stage: &mut TextStage, text: &str) -> Result<(), AllocError>
         requires raw { is_in_raw stage.old ≡ true }
         requires no_ending { NonePass (λ c. c == 60) (chars text.now) }
@@ -138,7 +139,7 @@ impl TextBuilder {
     }
 }
 
-/// How a text ends behind so many bytes.
+/// How a text ends after so many bytes.
 fn ending_of(end: TextEnd, index: usize) -> TextEnding
     ensures { result ≡ ending_of end index }
 {
@@ -160,8 +161,9 @@ fn before_tag(text: &str) -> &str
     }
 }
 
-/// Reads the text of a syllable, up to its `(` or the end of `body` (GregorioRef, "Syllable Text Syntax"). The first character of
-/// `body` stands at `at`. Where the text is cut, `kept` holds what was kept up to the end.
+/// Reads the text of a syllable, up to its `(` or the end of `body` (GregorioRef, "Syllable Text
+/// Syntax"). The first character of `body` stands at `at`. Where the text is cut, `kept` holds what
+/// was kept up to the end.
 pub fn text_whole(alloc: Global, body: &str, at: Place) -> Result<TextRead, AllocError>
     requires line { at.line + length body.now < 2 ^ 64 }
     requires column { at.column + length body.now < 2 ^ 64 }

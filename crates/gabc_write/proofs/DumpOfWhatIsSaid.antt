@@ -48,10 +48,10 @@ translation_is kept (Some span) = refl
 
 -- ---- a syllable's are those of what it says
 
-abbrev said_by : List ℕ → Snippet → ℕ × List ℕ
+abbrev pub said_by : List ℕ → Snippet → ℕ × List ℕ
 said_by kept s = (s.line, slice s.span kept)
 
-abbrev IsWhole : List ℕ → Snippet → Type 0
+abbrev pub IsWhole : List ℕ → Snippet → Type 0
 IsWhole kept s = text_at s.span kept ≡ slice s.span kept
 
 steps_are_one : (kept : List ℕ) (s : Snippet) → IsWhole kept s → steps_of_snippet kept s ≡ steps_of_text (said_by kept s)

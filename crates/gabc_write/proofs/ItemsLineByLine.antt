@@ -4,6 +4,7 @@ use Rattle.std.specs.List.{take_while}
 use Rattle.std.proofs.lemmas.List.{reverse-append, reverse-reverse, map-append}
 use Rattle.std.proofs.lemmas.List.Elements.{filter_map-append}
 use Rattle.std.proofs.lemmas.List.Sums.{take_while-cons}
+use Rattle.gabc_places.proofs.NumbersByTests.{same_eqb}
 use Rattle.gabc_notes.specs.Items.{bytes_of}
 use Rattle.gabc_notes.specs.Notes.{note_in}
 use Rattle.gabc_notes.specs.declared.item.Item.{Item}
@@ -128,9 +129,6 @@ note_inside done ahead n left c =
       };
     }
 
-same_there : (n : ℕ) → (n == n) ≡ true
-same_there n = search arith
-
 -- a note with which a glyph begins
 note_begins : (done ahead : List Note) (n : Note) (g : GlyphKind × ℕ) → longest_glyph (length (n ∷ ahead)) (n ∷ ahead) ≡ Some g → Cut done (n ∷ ahead) 0
     → (line_of_glyph_at (glyphs_of (done ++ n ∷ ahead)) (length done) ≡ line_of_glyph (record { kind = g.0; first = 0; count = g.1 })) × Cut (done ++ n ∷ []) ahead (g.1 - 1)
@@ -155,7 +153,7 @@ note_begins done ahead n g e c = by c.most c.enough c.all
         let rest : drop g.1 (n ∷ ahead) ≡ drop (g.1 - 1) ahead = ap (λ (k : ℕ). drop k (n ∷ ahead)) one in
         let next : List Glyph = glyphs_within most (length (done ++ n ∷ []) + (g.1 - 1)) (drop (g.1 - 1) ahead) in
         let moved : later ≡ next = ap (λ (k : ℕ). glyphs_within most k (drop g.1 (n ∷ ahead))) place ∙ ap (λ (ns : List Note). glyphs_within most (length (done ++ n ∷ []) + (g.1 - 1)) ns) rest in
-        let there : (length done + 0 == length done) ≡ true = ap (λ (k : ℕ). k == length done) start ∙ same_there (length done) in (
+        let there : (length done + 0 == length done) ≡ true = ap (λ (k : ℕ). k == length done) start ∙ same_eqb (length done) in (
           ap (λ (gs : List Glyph). line_of_glyph_at gs (length done)) whole
               ∙ (later_line (length done) c.written (first ∷ later) c.below
               ∙ (ap (λ (x : Bool). (if x then line_of_glyph first else []) ++ line_of_glyph_at later (length done)) there

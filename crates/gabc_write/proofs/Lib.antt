@@ -1,9 +1,12 @@
+pub mod DumpOfSpelledSyllables
 pub mod ClefsStay
 pub mod DumpOfHeadersIsShort
 pub mod DumpOfWhatIsSaid
-pub mod DumpRows
+mod DumpExamples
 pub mod dump_is_short
 pub mod ItemsLineByLine
 pub mod NamesBehindFirst
 pub mod plain
 pub mod reading_again
+pub mod SnippetOfPitch
+pub mod SnippetOfSignedPitch

@@ -41,8 +41,8 @@ SayAgain lines macros [] last [] = Unit {0}
 SayAgain lines macros (u ∷ units) last (s ∷ ss) = SaysAgain lines macros u (characters_from units last) s.view s.snippets × SayAgain lines macros units last ss
 SayAgain lines macros _ last _ = ⊥
 
--- A body of printed syllables from this place on is cut, without a comment, into units that say the same, and into a last text of an
--- LF, which is no unit.
+-- A body of printed syllables from this place on is cut, without a comment, into units that say the
+-- same, and into a last text of an LF, which is no unit.
 pub record IsBodyAgain (lines macros : ℕ) (at : Place) (ss : List SyllableFacts) : Type 0 where
   pub units : List BodyUnit
   pub last : List Char
@@ -77,8 +77,8 @@ AreOwnFacts lines [] [] = Unit {0}
 AreOwnFacts lines (u ∷ units) (f ∷ facts) = ((f.view ≡ view_facts u.text) × (u.snippets ≢ [] → f.snippets ≡ kept_snippets lines 0 u.snippets)) × AreOwnFacts lines units facts
 AreOwnFacts lines _ _ = ⊥
 
--- The canonical texts of these syllables of units, with the LF that ends a file, are the printed body of what they say. Its
--- characters are plain if the units' are.
+-- The canonical texts of these syllables of units, with the LF that ends a file, are the printed
+-- body of what they say. Its characters are plain if the units' are.
 pub record ArePrinted (lines : ℕ) (units : List ScoreUnit) (syllables : List PlacedSyllable) : Type 0 where
   pub facts : List SyllableFacts
   pub are_syllables : AreSyllables lines facts

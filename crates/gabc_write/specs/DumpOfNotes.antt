@@ -1,5 +1,5 @@
--- The lines of a GABC snippet in a dump. In these definitions `before` is what stands before an item, the nearest first, and `outset` is
--- what is in force before the snippet.
+-- The lines of a GABC snippet in a dump. In these definitions `before` is what stands before an
+-- item, the nearest first, and `outset` is what is in force before the snippet.
 use Rattle.std.specs.Prelude.{ℕ, ◌+◌, ◌-◌, ◌==◌, List, [], ◌∷◌, ◌++◌, Bool, true, false, ◌&&◌, ◌||◌, not, length, map, reverse, slice_range, codes, Option, Some, None, if◌then◌else◌}
 use Rattle.std.specs.List.{flat_map, take_while}
 use Rattle.std.specs.Fmt.{decimal}
@@ -122,7 +122,8 @@ notes_before kept before = notes_in kept (reverse (take_while is_in_segment befo
 abbrev pub notes_behind : List ℕ → List Item → List Note
 notes_behind kept items = notes_in kept (take_while is_in_segment items)
 
--- the line of the glyph, of the cut of its segment, that begins with the note at the head of the items
+-- the line of the glyph, of the cut of its segment, that begins with the note at the head of the
+-- items
 abbrev pub line_of_first_glyph : List ℕ → List Item → List Item → List ℕ
 line_of_first_glyph kept before items =
     line_of_glyph_at (glyphs_of (notes_before kept before ++ notes_behind kept items)) (length (notes_before kept before))
@@ -137,7 +138,7 @@ glyph_line kept before i items = if is_note i.kind then line_of_first_glyph kept
 
 -- ---- the lines of a snippet
 
--- what is in force behind the items before
+-- what is in force after the items before
 abbrev pub in_force_at : InForce → List ℕ → List Item → InForce
 in_force_at outset kept before = in_force_behind outset (map (step_of kept) before)
 

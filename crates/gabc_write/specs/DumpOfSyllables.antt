@@ -20,11 +20,14 @@ position_word Beginning = codes "beginning"
 position_word Middle = codes "middle"
 position_word End = codes "end"
 
--- `syllable NUMBER POSITION`, then ` eu` and ` nlba` where they are set
+-- `syllable NUMBER POSITION`, then ` eu` and ` nlba` where these spans are open
+abbrev pub first_line_by : ℕ → Position → Bool → Bool → List ℕ
+first_line_by number position eu nlba =
+    codes "syllable " ++ (decimal number ++ (codes " " ++ (position_word position
+    ++ ((if eu then codes " eu" else []) ++ ((if nlba then codes " nlba" else []) ++ codes "\n")))))
+
 abbrev pub first_line : ℕ → PlacedSyllable → List ℕ
-first_line number s =
-    codes "syllable " ++ (decimal number ++ (codes " " ++ (position_word s.position
-    ++ ((if s.made.eu then codes " eu" else []) ++ ((if s.made.nlba then codes " nlba" else []) ++ codes "\n")))))
+first_line number s = first_line_by number s.position s.made.eu s.made.nlba
 
 -- `text:T`, if there is a text
 abbrev pub line_of_text : List ℕ → List ℕ
@@ -36,10 +39,13 @@ abbrev pub line_of_translation : List ℕ → Option Span → List ℕ
 line_of_translation kept None = []
 line_of_translation kept (Some span) = codes "translation:" ++ last_text (slice span kept)
 
--- ---- the steps, in order, of a snippet, of a syllable's snippets, and of a syllable: they begin with the start of a word where it begins one
+-- ---- the steps of a snippet, of a syllable's snippets, and of a syllable, in order
+
+abbrev pub steps_on : ℕ → List ℕ → List ScoreStep
+steps_on line text = if line == 0 then steps_of text else []
 
 abbrev pub steps_of_snippet : List ℕ → Snippet → List ScoreStep
-steps_of_snippet kept s = if s.line == 0 then steps_of (text_at s.span kept) else []
+steps_of_snippet kept s = steps_on s.line (text_at s.span kept)
 
 abbrev pub steps_of_snippets : List ℕ → List Snippet → List ScoreStep
 steps_of_snippets kept snippets = flat_map (steps_of_snippet kept) snippets
@@ -53,9 +59,11 @@ steps_of_syllable s = first_steps s.position ++ steps_of_snippets s.made.kept s.
 -- ---- the lines; `outset` is what is in force before what they tell of
 
 -- the lines of a snippet: line 0 is that of the notes
+abbrev pub lines_on : InForce → ℕ → List ℕ → List ℕ
+lines_on outset line text = if line == 0 then lines_of_notes outset text else lines_of_nabc line text
+
 abbrev pub lines_of_snippet : InForce → List ℕ → Snippet → List ℕ
-lines_of_snippet outset kept s =
-    if s.line == 0 then lines_of_notes outset (text_at s.span kept) else lines_of_nabc s.line (text_at s.span kept)
+lines_of_snippet outset kept s = lines_on outset s.line (text_at s.span kept)
 
 abbrev pub lines_of_snippets : InForce → List ℕ → List Snippet → List ℕ
 lines_of_snippets outset kept [] = []
@@ -70,7 +78,8 @@ lines_of_syllable number outset s =
     ++ (line_of_translation s.made.kept s.made.text.translation
     ++ lines_of_snippets (passed outset (first_steps s.position)) s.made.kept s.made.snippets))
 
--- two syllables have the same lines under each number, and the same is in force behind them, if it is before them
+-- two syllables have the same lines under each number, and the same is in force after them, if it
+-- is before them
 pub record HaveOneDump (s t : PlacedSyllable) : Type 0 where
   pub lines : (number : ℕ) (outset : InForce) → lines_of_syllable number outset s ≡ lines_of_syllable number outset t
   pub steps : steps_of_syllable s ≡ steps_of_syllable t

@@ -15,8 +15,8 @@ use Rattle.gabc_write.specs.BodyAgain.{SyllableFacts, printed_body, SayAgain}
 abbrev pub printed_file : List (List ℕ × List ℕ) → List SyllableFacts → List ℕ
 printed_file book facts = canonical_heads book ++ printed_body facts
 
--- The file of this book and these syllables is read as the book, and its body is cut, without a comment, into units that say the
--- same, and into a last text of an LF, which is no unit.
+-- The file of this book and these syllables is read as the book, and its body is cut, without a
+-- comment, into units that say the same, and into a last text of an LF, which is no unit.
 pub record IsFileAgain (limits : Limits) (book : List (List ℕ × List ℕ)) (facts : List SyllableFacts) : Type 0 where
   pub heads : heads_of limits (printed_file book facts) ≡ Ok (heads_again book)
   pub units : List BodyUnit

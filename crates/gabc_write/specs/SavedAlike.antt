@@ -5,8 +5,8 @@ use Rattle.gabc_score.specs.ScoreTells.{StandsAt, before_of, held_of, is_in_comm
 use Rattle.gabc_score.specs.ToldWithin.{TellsOfText, written_behind}
 use Rattle.gabc_score.specs.witness.ScoreStage.{ScoreStageState}
 
--- In the body, under the same limits, the same is saved of both. What the one tells is that of a text, and the next character
--- stands where a text that is read has counted it.
+-- In the body, under the same limits, the same is saved of both. What the one tells is that of a
+-- text, and the next character stands where a text that is read has counted it.
 pub record AreSavedAlike (one other : ScoreStageState) : Type 0 where
   pub runs : is_some (before_of one) ≡ true
   pub limits : one.limits ≡ other.limits

@@ -16,8 +16,9 @@ use Rattle.gabc_write.specs.FileAgain.{printed_file, IsFileAgain}
 use Rattle.gabc_write.specs.PlainText.{IsText}
 use Rattle.gabc_write.specs.SyllableMeaning.{AreSame}
 
--- The canonical lines of this book and the canonical texts of these syllables are a file of what the units of the syllables say.
--- Where the input was decoded from bytes, the file reads as a text that was.
+-- The canonical lines of this book and the canonical texts of these syllables are a file of what
+-- the units of the syllables say. Where the input was decoded from bytes, the file reads as a text
+-- that was.
 pub record IsPrintedScore (input : List ℕ) (book : List (List ℕ × List ℕ)) (syllables : List PlacedSyllable) : Type 0 where
   pub units : List ScoreUnit
   pub facts : List SyllableFacts
@@ -29,7 +30,8 @@ pub record IsPrintedScore (input : List ℕ) (book : List (List ℕ × List ℕ)
   pub bytes : score_text book syllables ≡ encode_utf8_all (printed_file book facts)
   pub text : IsText input → IsText (printed_file book facts)
 
--- A score has this book and syllables of which this is said, and its canonical file is the file of these.
+-- A score has this book and syllables of which this is said, and its canonical file is the file of
+-- these.
 pub record IsSameScore (book : List (List ℕ × List ℕ)) (facts : List SyllableFacts) (again : Score) : Type 0 where
   pub book_is : again.book ≡ Some book
   pub units : List ScoreUnit
@@ -37,9 +39,11 @@ pub record IsSameScore (book : List (List ℕ × List ℕ)) (facts : List Syllab
   pub facts_are : AreFactsOf units again.syllables facts
   pub bytes : score_text book again.syllables ≡ encode_utf8_all (printed_file book facts)
 
--- The canonical file of this book and these syllables is read again, under these limits: it has no more bytes than the input may have,
--- they are decoded without a fault, and the text is read as the book and cut into units that say what the syllables' units say. Its
--- score has no fault and no error and is the same: it has this book, its syllables say the same, and its canonical file is this file.
+-- The canonical file of this book and these syllables is read again, under these limits: it has no
+-- more bytes than the input may have, they are decoded without a fault, and the text is read as the
+-- book and cut into units that say what the syllables' units say. Its score has no fault and no
+-- error and is the same: it has this book, its syllables say the same, and its canonical file is
+-- this file.
 pub record IsScoreAgain (limits : Limits) (input : List ℕ) (book : List (List ℕ × List ℕ)) (syllables : List PlacedSyllable) : Type 0 where
   pub printed : IsPrintedScore input book syllables
   pub fits : length (score_text book syllables) ≤ limits.input

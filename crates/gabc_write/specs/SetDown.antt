@@ -17,15 +17,16 @@ use Rattle.gabc_write.specs.DumpOfSyllables.{HaveOneDump}
 use Rattle.gabc_write.specs.SyllableMeaning.{meaning_of}
 use Rattle.gabc_write.specs.SyllableRead.{as_it_stands}
 
--- of two syllables that are held both say the same where they stand, wherever in their word. `first` tells whether no syllable stands before them.
+-- of two syllables that are held both say the same where they stand, wherever in their word.
+-- `first` tells whether no syllable stands before them.
 abbrev pub SayTheSame : Bool → Option UnplacedSyllable → Option UnplacedSyllable → Type 0
 SayTheSame first None None = Unit {0}
 SayTheSame first (Some m) (Some n) =
     (position : Position) → meaning_of (record { made = as_it_stands first m; position = position }) ≡ meaning_of (record { made = as_it_stands first n; position = position })
 SayTheSame first _ _ = ⊥
 
--- Behind what `before` tells, the canonical text of a syllable spells this text. Read by itself the text is a syllable that may be held there, and has the
--- same canonical text.
+-- After what `before` tells, the canonical text of a syllable spells this text. Read by itself the
+-- text is a syllable that may be held there, and has the same canonical text.
 pub record MayBeHeldByItsText (limits : Limits) (before : Before) (m : UnplacedSyllable) : Type 0 where
   pub text : List ℕ
   pub bytes : written_behind (preceding_of before) m ≡ encode_utf8_all text
@@ -33,20 +34,21 @@ pub record MayBeHeldByItsText (limits : Limits) (before : Before) (m : UnplacedS
   pub may : MayBeHeld limits before text again
   pub same_text : written_behind (preceding_of before) again ≡ written_behind (preceding_of before) m
 
--- Whatever follows, the one gives what the other gives. Only the syllable that it holds stands where the other gives its own: it says the same, and
--- has the same canonical text.
+-- Whatever follows, the one gives what the other gives. Only the syllable that it holds stands
+-- where the other gives its own: it says the same, and has the same canonical text.
 pub record GoesOnAlike (told made : ScoreStageState) : Type 0 where
   pub held : HoldTheSame (told.before.syllables == 0) (held_of told) (held_of made)
   pub says : SayTheSame (told.before.syllables == 0) (held_of told) (held_of made)
   pub gives : (xs : List HeadEvent) → GiveTheSame (held_of told) (held_of made) (left_of told xs) (left_of made xs)
 
--- So it is of characters that stand one behind the other, from the place of the next one on.
+-- So it is of characters that stand one after the other, from the place of the next one on.
 pub record GoesOnAlikeInLine (told made : ScoreStageState) : Type 0 where
   pub held : HoldTheSame (told.before.syllables == 0) (held_of told) (held_of made)
   pub says : SayTheSame (told.before.syllables == 0) (held_of told) (held_of made)
   pub gives : (xs : List HeadEvent) → StandInLine told.held.next xs → GiveTheSame (held_of told) (held_of made) (left_of told xs) (left_of made xs)
 
--- Two syllables are written alike where both stand there in their word: they have one canonical text and one dump.
+-- Two syllables are written alike where both stand there in their word: they have one canonical
+-- text and one dump.
 pub record IsWrittenAlike (m n : UnplacedSyllable) (position : Position) : Type 0 where
   pub canonical : canonical_in_place (record { made = m; position = position }) ≡ canonical_in_place (record { made = n; position = position })
   pub dump : HaveOneDump (record { made = m; position = position }) (record { made = n; position = position })

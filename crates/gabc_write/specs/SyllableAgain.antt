@@ -49,8 +49,9 @@ abbrev pub kept_snippets : ℕ → ℕ → List (List Char) → List (List ℕ)
 kept_snippets lines line [] = []
 kept_snippets lines line (xs ∷ xss) = kept_on_line line xs ∷ kept_snippets lines (next_line lines line) xss
 
--- The canonical text of a syllable of this unit is a printed syllable: it says what the unit's text says, and has the syllable's
--- snippets, which a unit with notes keeps of its own. Its characters are plain if the unit's are.
+-- The canonical text of a syllable of this unit is a printed syllable: it says what the unit's text
+-- says, and has the syllable's snippets, which a unit with notes keeps of its own. Its characters
+-- are plain if the unit's are.
 pub record IsPrinted (lines : ℕ) (u : ScoreUnit) (m : UnplacedSyllable) : Type 0 where
   pub snippets : List (List ℕ)
   pub are_snippets : AreSnippets lines snippets
@@ -61,26 +62,29 @@ pub record IsPrinted (lines : ℕ) (u : ScoreUnit) (m : UnplacedSyllable) : Type
 
 -- ---- what is read
 
--- These characters, the text of the first of them from that place on, are cut into these units and what stands behind them.
+-- These characters, the text of the first of them from that place on, are cut into these units and
+-- what stands after them.
 pub record AreUnitsFrom (lines macros : ℕ) (at : Place) (xs : List Char) (units : List BodyUnit) (last : LastUnit) : Type 0 where
   pub characters : xs ≡ characters_from units last
   pub cut : Cuts texts_by_definition lines macros (text_from texts_by_definition at xs) (units_pieces lines units last) (last_characters last)
 
--- The part has the characters of the snippet, keeps all of them, and no error is found in it, if it is read from there on.
+-- The part has the characters of the snippet, keeps all of them, and no error is found in it, if it
+-- is read from there on.
 pub record IsSnippetAgain (lines macros line : ℕ) (e : EndedPart) (behind : List Char) (s : List ℕ) : Type 0 where
   pub characters : codes_of e.characters ≡ s
   pub kept : kept_on_line line e.characters ≡ s
   pub warnings : All IsWarning (findings_of (concat_of (snippet_events lines macros line (e.characters ++ e.end ∷ behind))))
 
--- so do all parts from that line on, with the characters behind them
+-- so do all parts from that line on, with the characters after them
 abbrev pub AreSnippetsAgain : ℕ → ℕ → ℕ → List EndedPart → List Char → List (List ℕ) → Type 0
 AreSnippetsAgain lines macros line [] behind [] = Unit {0}
 AreSnippetsAgain lines macros line (e ∷ es) behind (s ∷ ss) =
     IsSnippetAgain lines macros line e (with_ends es ++ behind) s × AreSnippetsAgain lines macros (next_line lines line) es behind ss
 AreSnippetsAgain lines macros line _ behind _ = ⊥
 
--- The unit, with these characters behind it, says this: its text says the same without an error, and its snippets are the same.
--- All of its text is kept, the LF before a word as a blank, and its notes are these snippets.
+-- The unit, with these characters after it, says this: its text says the same without an error, and
+-- its snippets are the same. All of its text is kept, the LF before a word as a blank, and its
+-- notes are these snippets.
 pub record SaysAgain (lines macros : ℕ) (unit : BodyUnit) (behind : List Char) (v : ViewFacts) (ss : List (List ℕ)) : Type 0 where
   pub view_stays : view_facts (score_unit unit behind).text ≡ v
   pub errors : (place : Place) → has_error (findings place (score_unit unit behind).text) ≡ false
@@ -88,8 +92,9 @@ pub record SaysAgain (lines macros : ℕ) (unit : BodyUnit) (behind : List Char)
   pub snippets : AreSnippetsAgain lines macros 0 (snippets_in unit) behind ss
   pub notes : (score_unit unit behind).notes ≡ 40 ∷ (barred ss ++ 41 ∷ [])
 
--- A printed syllable whose characters stand from this place on, whatever follows, is one unit that says the same: if what follows
--- is cut into units, then with the syllable in front there is one more, wherever its text is said to begin.
+-- A printed syllable whose characters stand from this place on, whatever follows, is one unit that
+-- says the same: if what follows is cut into units, then with the syllable in front there is one
+-- more, wherever its text is said to begin.
 pub record IsOneUnit (lines macros : ℕ) (at : Place) (v : ViewFacts) (ss : List (List ℕ)) (rest : List ℕ) : Type 0 where
   pub unit : BodyUnit
   pub behind : List Char

@@ -16,8 +16,9 @@ pub record PieceMeaning : Type 0 where
   pub styles : List Style
   pub text : List ℕ
 
--- Its canonical text, its pieces, the centre between them, the translation and the snippets with their lines, where it stands in its
--- word, and whether a span of several syllables is open at the end of its text. Texts are bytes.
+-- Its canonical text, its pieces, the centre between them, the translation and the snippets with
+-- their lines, where it stands in its word, and whether a span of several syllables is open at the
+-- end of its text. Texts are bytes.
 pub record SyllableMeaning : Type 0 where
   pub text : List ℕ
   pub word_start : Bool

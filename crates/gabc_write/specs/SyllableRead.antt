@@ -1,4 +1,5 @@
--- A syllable that is read again from its own canonical text, apart from the score in which it stands.
+-- A syllable that is read again from its own canonical text, apart from the score in which it
+-- stands.
 use Rattle.std.specs.Prelude.{◌≡◌, ℕ, ◌<◌, ◌≤◌, ◌||◌, Bool, List, [], ◌∷◌, ◌++◌, length, encode_utf8_all}
 use Rattle.std.specs.List.{All}
 use Rattle.gabc_places.specs.declared.place.Place.{Place}
@@ -17,22 +18,25 @@ use Rattle.gabc_write.specs.SyllableMeaning.{meaning_of}
 abbrev pub as_it_stands : Bool → UnplacedSyllable → UnplacedSyllable
 as_it_stands first m = record m { text = record m.text { word_start = first || m.text.word_start } }
 
--- two syllables say the same, wherever both stand in their word, but for the spans that are open behind them
+-- two syllables say the same, wherever both stand in their word, but for the spans that are open
+-- after them
 abbrev pub SaysTheSame : UnplacedSyllable → UnplacedSyllable → Type 0
 SaysTheSame n m =
     (position : Position) → meaning_of (record { made = n; position = position }) ≡ meaning_of (record { made = record m { eu = n.eu; nlba = n.nlba }; position = position })
 
 module _ (lines macros : ℕ) (m : UnplacedSyllable) (text : List ℕ) (at : Place) (before : List BodyEvent) where
-  -- what was emitted, the nearest first, behind the first n characters of this text, which begins at this place, with this before it
+  -- what was emitted, the nearest first, after the first n characters of this text, which begins at
+  -- this place, with this before it
   abbrev pub emitted_within : ℕ → List BodyEvent
   emitted_within n = events_onto (first_events lines macros at (placed_characters_from at text) n) before
 
   abbrev pub emitted_through : List BodyEvent
   emitted_through = emitted_within (length text)
 
-  -- The text of a syllable, read by itself, is one syllable, whole with the last character. It says the same, and behind the same spans
-  -- it leaves the same open. It holds a unit, too, and has the same canonical text. What is found are warnings. No more bytes are kept on
-  -- the way, nor of the syllable, than the text has.
+  -- The text of a syllable, read by itself, is one syllable, whole with the last character. It says
+  -- the same, and after the same spans it leaves the same open. It holds a unit, too, and has the
+  -- same canonical text. What is found are warnings. No more bytes are kept on the way, nor of the
+  -- syllable, than the text has.
   pub record IsReadByItself : Type 0 where
     pub again : UnplacedSyllable
     pub none_earlier : (n : ℕ) → n < length text → all_syllables (emitted_within n) ≡ all_syllables before

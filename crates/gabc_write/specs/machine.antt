@@ -1,3 +1,5 @@
+pub mod FirstLine
+pub mod DumpOfTexts
 pub mod NamesBehindFirst
 pub mod NoteLines
 pub mod SetDown

@@ -6,12 +6,13 @@ ghost use Rattle.gabc_neumes.specs.Words.{shape_word};
 ghost use Rattle.gabc_notes.specs.Notes.{from_pitch, height_at, shape_at};
 ghost use Rattle.gabc_write.specs.DumpOfNotes.{last_text, pitch_letter, degree_word, sound_words, line_of_note, line_of_alteration, bar_word, line_of_bar, is_blank_run, line_of_spacing, line_of_custos, raw_of, is_note, line_by, line_of_item};
 
+use crate::dump_pitch::{put_pitch, put_signed};
 use crate::escape::put_escaped;
 use gabc_neumes::{Alter, Alterations, Sound, sign_of, word_of_alter, word_of_shape};
 use gabc_notes::{Item, ItemKind, Shape, height_of, note_of};
 use gabc_places::Put;
 
-/// Puts `text` as the last thing of a line, and the LF behind it.
+/// Puts `text` as the last thing of a line, and the LF after it.
 pub(crate) fn put_last<S: Put>(text: &[u8], out: &mut S)
     ensures { out.new ≡ S.taken out.old (last_text text.now) }
 {
@@ -24,7 +25,8 @@ pub(crate) fn put_last<S: Put>(text: &[u8], out: &mut S)
     }
 }
 
-/// Puts a blank, and behind it `text` as the last thing of the line. Many texts are one pitch, so these are put at once.
+/// Puts a blank, and after it `text` as the last thing of the line. Many texts are one pitch, so
+/// these are put at once.
 fn put_blank_and_last<S: Put>(text: &[u8], out: &mut S)
     ensures { out.new ≡ S.taken out.old (codes " " ++ last_text text.now) }
 {
@@ -37,7 +39,7 @@ fn put_blank_and_last<S: Put>(text: &[u8], out: &mut S)
     }
 }
 
-/// Puts `word`, and behind it `text` as the last thing of the line.
+/// Puts `word`, and after it `text` as the last thing of the line.
 fn put_word_and_last<S: Put>(word: &str, text: &[u8], out: &mut S)
     ensures { out.new ≡ S.taken out.old (word.now ++ (codes " " ++ last_text text.now)) }
 {
@@ -83,7 +85,7 @@ fn letter_of_note(text: &[u8]) -> u8
     }
 }
 
-/// Puts the name of `degree`, or `-` where there is none, with a blank before it and one behind it.
+/// Puts the name of `degree`, or `-` where there is none, with a blank before it and one after it.
 fn put_degree<S: Put>(degree: Option<u8>, out: &mut S)
     ensures { out.new ≡ S.taken out.old (codes " " ++ (degree_word degree ++ codes " ")) }
 {
@@ -107,19 +109,6 @@ fn put_sound<S: Put>(sound: Sound, out: &mut S)
     out.put(word_of_alter(sound.alter).as_bytes());
 }
 
-/// Puts the line of a note that is `pitch`, a small pitch from `a` to `n`, of that degree, and that nothing alters.
-fn put_pitch<S: Put>(pitch: u8, degree: Option<u8>, out: &mut S)
-    requires { (97 ≤ pitch) × (pitch ≤ 110) }
-    ensures { out.new ≡ S.taken out.old
-        (line_of_note (record { degree = degree; alter = Alter.None }) (pitch ∷ [])) }
-{
-    out.put(&[
-        b'n', b'o', b't', b'e', b' ', pitch, b' ', b'p', b'u', b'n', b'c', b't', b'u', b'm',
-    ]);
-    put_degree(degree, out);
-    out.put(&[b'n', b'o', b'n', b'e', b' ', pitch, b'\n']);
-}
-
 /// Puts the line of a note, as `put_note` does, word by word. It stays out of line.
 #[inline(never)]
 fn put_note_by_words<S: Put>(shape: Shape, sound: Sound, text: &[u8], out: &mut S)
@@ -132,14 +121,18 @@ fn put_note_by_words<S: Put>(shape: Shape, sound: Sound, text: &[u8], out: &mut 
     put_blank_and_last(text, out);
 }
 
-/// Puts the line of a note of that shape, sound and text: `note PITCH SHAPE DEGREE ALTER S`. Most notes are one small pitch that nothing
-/// alters, so their lines are put in few pieces.
+/// Puts the line of a note of that shape, sound and text: `note PITCH SHAPE DEGREE ALTER S`. Most
+/// notes are one small pitch that nothing alters, alone or with one of the signs `.`, `_` and `'`,
+/// so their lines are put at once.
 fn put_note<S: Put>(shape: Shape, sound: Sound, text: &[u8], out: &mut S)
     requires { shape ≡ shape_at (from_pitch text.now) }
     ensures { out.new ≡ S.taken out.old (line_of_note sound text.now) }
 {
     match (text, sound.alter) {
         ([pitch @ b'a'..=b'n'], Alter::None) => put_pitch(*pitch, sound.degree, out),
+        ([pitch @ b'a'..=b'n', sign @ (b'.' | b'_' | b'\'')], Alter::None) => {
+            put_signed(*pitch, *sign, sound.degree, out);
+        }
         _ => put_note_by_words(shape, sound, text, out),
     }
 }

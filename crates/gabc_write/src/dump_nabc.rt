@@ -82,7 +82,8 @@ fn put_parts<S: Put>(kept: &str, out: &mut S)
     }
 }
 
-/// Puts the lines of the snippet `kept` of the NABC line `line`: `nabc LINE:S` and those of its parts.
+/// Puts the lines of the snippet `kept` of the NABC line `line`: `nabc LINE:S` and those of its
+/// parts.
 pub(crate) fn put_nabc<S: Put>(line: u8, kept: &str, out: &mut S)
     ensures { out.new ≡ S.taken out.old (lines_of_nabc line kept.now) }
 {

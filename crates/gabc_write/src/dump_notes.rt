@@ -1,7 +1,8 @@
 //! The lines of a GABC snippet in the dump.
 
-ghost use Rattle.std.specs.Prelude.{◌≡◌, ◌≤◌, ◌<◌, ◌++◌, [], ◌∷◌, codes, length};
+ghost use Rattle.std.specs.Prelude.{◌≡◌, ◌≤◌, ◌<◌, ◌++◌, [], ◌∷◌, codes, length, true};
 ghost use Rattle.std.specs.Fmt.{decimal};
+ghost use Rattle.gabc_patterns.specs.Pattern.{is_in};
 ghost use Rattle.gabc_notes.specs.Items.{AreWithin};
 ghost use Rattle.gabc_neumes.specs.InForce.{step_of, steps_of, in_force_behind, passed};
 ghost use Rattle.gabc_neumes.specs.Words.{base_word, tail_word};
@@ -9,12 +10,13 @@ ghost use Rattle.gabc_write.specs.DumpOfNotes.{line_of_glyph, lines_of_notes};
 ghost use Rattle.gabc_write.specs.machine.NoteLines.{glyph_of, glyph_at, notes_from, line_of_next, left_after, lines_at, place_behind, lines_of_items};
 
 use crate::dump_item::{put_item, put_last, put_shape};
-use gabc_neumes::laws::{glyphs_are_computed, steps_are_passed_one_by_one};
+use crate::dump_pitch::{put_signed_snippet, put_snippet_of};
 use gabc_neumes::{
-    Alterations, Base, GlyphKind, Tail, glyph_from, is_in_element, word_of_base, word_of_tail,
+    Alter, Alterations, Base, GlyphKind, Tail, glyph_from, is_in_element, word_of_base,
+    word_of_tail,
 };
-use gabc_notes::{Item, ItemKind, ItemReader, Note, items_in, note_of};
-use gabc_places::Put;
+use gabc_notes::{Item, ItemKind, ItemReader, Note, Shape, items_in, note_of};
+use gabc_places::{Put, Span};
 use itoa::Buffer;
 
 /// Where a writer stands between the items of a snippet.
@@ -58,7 +60,7 @@ fn put_base<S: Put>(base: Base, out: &mut S)
     }
 }
 
-/// Puts the word of `tail` behind `base`. Most glyphs have none.
+/// Puts the word of `tail` after `base`. Most glyphs have none.
 fn put_tail<S: Put>(base: Base, tail: Tail, out: &mut S)
     ensures { out.new ≡ S.taken out.old (tail_word base tail) }
 {
@@ -68,8 +70,9 @@ fn put_tail<S: Put>(base: Base, tail: Tail, out: &mut S)
     }
 }
 
-/// Puts the line of a glyph of that kind, with `count` notes: `glyph KIND COUNT`.
-fn put_glyph<S: Put>(kind: GlyphKind, count: usize, out: &mut S)
+/// Puts the line of a glyph, as `put_glyph` does, word by word. It stays out of line.
+#[inline(never)]
+fn put_glyph_by_words<S: Put>(kind: GlyphKind, count: usize, out: &mut S)
     ensures { out.new
         ≡ S.taken out.old (line_of_glyph (record { kind = kind; first = 0; count = count })) }
 {
@@ -79,8 +82,25 @@ fn put_glyph<S: Put>(kind: GlyphKind, count: usize, out: &mut S)
     put_count(count, out);
 }
 
-/// Puts the line of the glyph that begins with the note `first`, which `behind` stands behind. Returns how many of its notes are to come
-/// behind `first`.
+/// Puts the line of a glyph of that kind, with `count` notes: `glyph KIND COUNT`. Most glyphs are
+/// one of six, whose lines are put at once.
+fn put_glyph<S: Put>(kind: GlyphKind, count: usize, out: &mut S)
+    ensures { out.new
+        ≡ S.taken out.old (line_of_glyph (record { kind = kind; first = 0; count = count })) }
+{
+    match (kind.tail, kind.base, count) {
+        (Tail::Plain, Base::One(Shape::Punctum), 1) => out.put(b"glyph punctum 1\n"),
+        (Tail::Plain, Base::Pes, 2) => out.put(b"glyph pes 2\n"),
+        (Tail::Plain, Base::Clivis, 2) => out.put(b"glyph clivis 2\n"),
+        (Tail::Plain, Base::Torculus, 3) => out.put(b"glyph torculus 3\n"),
+        (Tail::Plain, Base::Porrectus, 3) => out.put(b"glyph porrectus 3\n"),
+        (Tail::Plain, Base::Scandicus, 3) => out.put(b"glyph scandicus 3\n"),
+        _ => put_glyph_by_words(kind, count, out),
+    }
+}
+
+/// Puts the line of the glyph that begins with the note `first`, which `behind` stands after.
+/// Returns how many of its notes are to come after `first`.
 fn put_glyph_from<S: Put>(kept: &str, first: Note, behind: &ItemReader<'_>, out: &mut S) -> usize
     requires within { AreWithin kept.now behind.now }
     requires few { length behind.now < length kept.now }
@@ -97,8 +117,9 @@ fn put_glyph_from<S: Put>(kept: &str, first: Note, behind: &ItemReader<'_>, out:
     }
 }
 
-/// Puts the line of the glyph that begins with `item`, a note that `behind` stands behind, if none of the notes of the glyph before are
-/// `left`. Returns how many of the glyph's notes are left behind it.
+/// Puts the line of the glyph that begins with `item`, a note that `behind` stands after, if none
+/// of the notes of the glyph before are `left`. Returns how many of the glyph's notes are left
+/// after it.
 fn put_next_glyph<S: Put>(
     kept: &str,
     left: usize,
@@ -122,8 +143,8 @@ fn put_next_glyph<S: Put>(
     }
 }
 
-/// Puts the lines of `item` at `place`, and passes it: before its own line those of an element and of a glyph that it begins. `behind` are
-/// the items behind it. Returns the place behind the item.
+/// Puts the lines of `item` at `place`, and passes it: before its own line those of an element and
+/// of a glyph that it begins. `behind` are the items after it. Returns the place after the item.
 fn put_at<S: Put>(
     kept: &str,
     place: ItemPlace,
@@ -158,8 +179,8 @@ fn put_items<S: Put>(kept: &str, alterations: &mut Alterations, out: &mut S)
     ensures lines { out.new ≡ S.taken out.old (lines_of_items alterations.old kept.now) }
     ensures alterations { alterations.new ≡ passed alterations.old (steps_of kept.now) }
 {
-    steps_are_passed_one_by_one();
-    glyphs_are_computed();
+    gabc_neumes::laws::steps_are_passed_one_by_one();
+    gabc_neumes::laws::glyphs_are_computed();
     let mut place = ItemPlace::START;
     let mut items = items_in(kept);
     while let Some(item) = items.next() {
@@ -167,13 +188,83 @@ fn put_items<S: Put>(kept: &str, alterations: &mut Alterations, out: &mut S)
     }
 }
 
-/// Puts the lines of a snippet of notes, `notes:S` and those of its items, and passes these. `kept` may be any text, whose lines go as far
-/// as an item begins.
-pub(crate) fn put_notes<S: Put>(kept: &str, alterations: &mut Alterations, out: &mut S)
+/// Puts the lines of a snippet of notes, as `put_notes` does, item by item.
+fn put_notes_by_items<S: Put>(kept: &str, alterations: &mut Alterations, out: &mut S)
     ensures lines { out.new ≡ S.taken out.old (lines_of_notes alterations.old kept.now) }
     ensures alterations { alterations.new ≡ passed alterations.old (steps_of kept.now) }
 {
     out.put(b"notes:");
     put_last(kept.as_bytes(), out);
     put_items(kept, alterations, out);
+}
+
+/// Puts the lines of `kept`, a snippet of notes that is one `pitch` from `a` to `n`, and passes its
+/// note.
+fn put_one_pitch<S: Put>(kept: &str, pitch: u8, alterations: &mut Alterations, out: &mut S)
+    requires one { kept.now ≡ pitch ∷ [] }
+    requires small { (97 ≤ pitch) × (pitch ≤ 110) }
+    ensures lines { out.new ≡ S.taken out.old (lines_of_notes alterations.old kept.now) }
+    ensures alterations { alterations.new ≡ passed alterations.old (steps_of kept.now) }
+{
+    let sound = alterations.sound(pitch - b'a');
+    match sound.alter {
+        Alter::None => {
+            put_snippet_of(pitch, sound.degree, out);
+            alterations.pass(
+                kept,
+                Item {
+                    kind: ItemKind::Note,
+                    span: Span { from: 0, to: 1 },
+                },
+            );
+        }
+        _ => put_notes_by_items(kept, alterations, out),
+    }
+}
+
+/// Puts the lines of `kept`, a snippet of notes that is one `pitch` from `a` to `n` with `sign`
+/// after it, and passes its note.
+fn put_one_signed<S: Put>(
+    kept: &str,
+    pitch: u8,
+    sign: u8,
+    alterations: &mut Alterations,
+    out: &mut S,
+)
+    requires one { kept.now ≡ pitch ∷ sign ∷ [] }
+    requires small { (97 ≤ pitch) × (pitch ≤ 110) }
+    requires sign { is_in sign (codes "._'") ≡ true }
+    ensures lines { out.new ≡ S.taken out.old (lines_of_notes alterations.old kept.now) }
+    ensures alterations { alterations.new ≡ passed alterations.old (steps_of kept.now) }
+{
+    let sound = alterations.sound(pitch - b'a');
+    match sound.alter {
+        Alter::None => {
+            put_signed_snippet(pitch, sign, sound.degree, out);
+            alterations.pass(
+                kept,
+                Item {
+                    kind: ItemKind::Note,
+                    span: Span { from: 0, to: 2 },
+                },
+            );
+        }
+        _ => put_notes_by_items(kept, alterations, out),
+    }
+}
+
+/// Puts the lines of a snippet of notes, `notes:S` and those of its items, and passes these. `kept`
+/// may be any text, whose lines go as far as an item begins. Many snippets are one pitch, alone or
+/// with a sign, so their lines are put at once.
+pub(crate) fn put_notes<S: Put>(kept: &str, alterations: &mut Alterations, out: &mut S)
+    ensures lines { out.new ≡ S.taken out.old (lines_of_notes alterations.old kept.now) }
+    ensures alterations { alterations.new ≡ passed alterations.old (steps_of kept.now) }
+{
+    match kept.as_bytes() {
+        [pitch @ b'a'..=b'n'] => put_one_pitch(kept, *pitch, alterations, out),
+        [pitch @ b'a'..=b'n', sign @ (b'.' | b'_' | b'\'')] => {
+            put_one_signed(kept, *pitch, *sign, alterations, out);
+        }
+        _ => put_notes_by_items(kept, alterations, out),
+    }
 }

@@ -6,17 +6,17 @@ ghost use Rattle.gabc_text.specs.Canonical.{canonical_text};
 ghost use Rattle.gabc_text.specs.TextView.{content_of};
 ghost use Rattle.gabc_score.specs.Syllable.{placed_of, unplaced_of};
 ghost use Rattle.gabc_score.specs.Canonical.{canonical, starts_word};
-ghost use Rattle.gabc_write.specs.DumpOfSyllables.{position_word, first_line, line_of_text, line_of_translation, first_steps, steps_of_snippet, steps_of_snippets, steps_of_syllable, lines_of_snippet, lines_of_snippets, lines_of_syllable};
+ghost use Rattle.gabc_write.specs.DumpOfSyllables.{position_word, first_line_by, line_of_text, line_of_translation, first_steps, steps_on, steps_of_snippets, steps_of_syllable, lines_on, lines_of_snippets, lines_of_syllable};
+ghost use Rattle.gabc_write.specs.machine.FirstLine.{words_of_spans};
 
 use crate::dump_item::put_last;
 use crate::dump_nabc::put_nabc;
 use crate::dump_notes::put_notes;
 use crate::escape::TextLine;
-use crate::laws::a_dump_is_short;
+use crate::laws;
 use gabc_neumes::Alterations;
-use gabc_neumes::laws::steps_are_passed_one_by_one;
 use gabc_places::{ByteCounter, Put};
-use gabc_score::{Position, Snippet, Syllable};
+use gabc_score::{Position, Snippet, Spans, Syllable};
 use gabc_text::{TextView, write_text};
 use itoa::Buffer;
 
@@ -32,19 +32,48 @@ fn put_position<S: Put>(position: Position, out: &mut S)
     }
 }
 
-/// Puts the first line of `syllable`, with its `number`: `syllable NUMBER POSITION`, then the spans that are open.
-fn put_first_line<S: Put>(number: u64, syllable: &Syllable, out: &mut S)
-    ensures { out.new ≡ S.taken out.old (first_line number (placed_of syllable.now)) }
+/// Puts the words for the spans that are open, each with a blank before it, and an LF.
+fn put_spans<S: Put>(eu: bool, nlba: bool, out: &mut S)
+    ensures { out.new ≡ S.taken out.old (words_of_spans eu nlba) }
+{
+    match (eu, nlba) {
+        (false, false) => out.put(b"\n"),
+        (true, false) => out.put(b" eu\n"),
+        (false, true) => out.put(b" nlba\n"),
+        (true, true) => out.put(b" eu nlba\n"),
+    }
+}
+
+/// Puts what stands after the number in the first line of a syllable. Few have a span, so the rest
+/// is put at once.
+fn put_behind_number<S: Put>(position: Position, eu: bool, nlba: bool, out: &mut S)
+    ensures { out.new
+        ≡ S.taken out.old (codes " " ++ (position_word position ++ words_of_spans eu nlba)) }
+{
+    match (position, eu || nlba) {
+        (Position::One, false) => out.put(b" one\n"),
+        (Position::Beginning, false) => out.put(b" beginning\n"),
+        (Position::Middle, false) => out.put(b" middle\n"),
+        (Position::End, false) => out.put(b" end\n"),
+        _ => {
+            put_position(position, out);
+            put_spans(eu, nlba, out);
+        }
+    }
+}
+
+/// Puts the first line of the syllable with this `number` that stands there in its word:
+/// `syllable NUMBER POSITION`, then the spans that are open.
+pub(crate) fn put_first_line<S: Put>(number: u64, position: Position, spans: Spans, out: &mut S)
+    ensures { out.new ≡ S.taken out.old (first_line_by number position spans.eu spans.nlba) }
 {
     out.put(b"syllable ");
     out.put(Buffer::new().format(number).as_bytes());
-    put_position(syllable.position, out);
-    out.put(if syllable.eu { " eu" } else { "" }.as_bytes());
-    out.put(if syllable.nlba { " nlba" } else { "" }.as_bytes());
-    out.put(b"\n");
+    put_behind_number(position, spans.eu, spans.nlba, out);
 }
 
-/// Puts the line of the text of `view`, whose spans count the bytes of `kept`, if there is a text: `text:T`.
+/// Puts the line of the text of `view`, whose spans count the bytes of `kept`, if there is a text:
+/// `text:T`.
 fn put_text<S: Put>(view: &TextView, kept: &str, out: &mut S)
     ensures { out.new ≡ S.taken out.old (line_of_text
         (canonical_text (content_of view.now) kept.now)) }
@@ -66,24 +95,16 @@ fn put_translation<S: Put>(syllable: &Syllable, out: &mut S)
     }
 }
 
-/// Puts the lines of `snippet` of `syllable`, and passes its items.
-fn put_snippet<S: Put>(
-    syllable: &Syllable,
-    snippet: Snippet,
-    alterations: &mut Alterations,
-    out: &mut S,
-)
-    ensures put { out.new ≡ S.taken out.old
-        (lines_of_snippet alterations.old (string_bytes syllable.now.kept) snippet) }
-    ensures alterations { alterations.new ≡ passed alterations.old
-        (steps_of_snippet (string_bytes syllable.now.kept) snippet) }
-    ensures line { snippet.line < 256 }
+/// Puts the lines of the snippet `kept` of `line`, and passes its items.
+pub(crate) fn put_snippet<S: Put>(line: u8, kept: &str, alterations: &mut Alterations, out: &mut S)
+    ensures put { out.new ≡ S.taken out.old (lines_on alterations.old line kept.now) }
+    ensures alterations { alterations.new ≡ passed alterations.old (steps_on line kept.now) }
+    ensures line { line < 256 }
 {
-    let kept = syllable.text_at(snippet.span);
-    if snippet.line == 0 {
+    if line == 0 {
         put_notes(kept, alterations, out);
     } else {
-        put_nabc(snippet.line, kept, out);
+        put_nabc(line, kept, out);
     }
 }
 
@@ -100,14 +121,19 @@ fn put_snippets<S: Put>(
         (steps_of_snippets (string_bytes syllable.now.kept) snippets.now) }
     ensures lines { All (λ snippet. snippet.line < 256) snippets.now }
 {
-    steps_are_passed_one_by_one();
+    gabc_neumes::laws::steps_are_passed_one_by_one();
     for snippet in snippets {
-        put_snippet(syllable, *snippet, alterations, out);
+        put_snippet(
+            snippet.line,
+            syllable.text_at(snippet.span),
+            alterations,
+            out,
+        );
     }
 }
 
 /// Passes the start of a word, where a syllable at `position` begins one.
-fn pass_position(position: Position, alterations: &mut Alterations)
+pub(crate) fn pass_position(position: Position, alterations: &mut Alterations)
     ensures { alterations.new ≡ passed alterations.old (first_steps position) }
 {
     match position {
@@ -116,10 +142,11 @@ fn pass_position(position: Position, alterations: &mut Alterations)
     }
 }
 
-/// Puts the lines of `syllable` in a dump, in which it has this `number`: its first line, those of its text and its translation, and
-/// those of its snippets. They are at most 64 bytes for each byte that `canon_len` tells, and 256. `alterations` are those in force before
-/// the syllable, and then those behind it. It asks for no memory: the kept text is read again as the lines are put. A room without as many
-/// bytes left as `dump_len` tells gets as many of them as fit.
+/// Puts the lines of `syllable` in a dump, in which it has this `number`: its first line, those of
+/// its text and its translation, and those of its snippets. They are at most 64 bytes for each byte
+/// that `canon_len` tells, and 256. `alterations` are those in force before the syllable, and then
+/// those after it. It asks for no memory: the kept text is read again as the lines are put. A room
+/// without as many bytes left as `dump_len` tells gets as many of them as fit.
 pub fn dump_syllable<S: Put>(
     number: u64,
     syllable: &Syllable,
@@ -133,9 +160,13 @@ pub fn dump_syllable<S: Put>(
     ensures short { length (lines_of_syllable number alterations.old (placed_of syllable.now))
         ≤ 64 * length (canonical (starts_word syllable.now.position) (unplaced_of syllable.now)) + 256 }
 {
-    a_dump_is_short();
-    steps_are_passed_one_by_one();
-    put_first_line(number, syllable, out);
+    laws::a_dump_is_short();
+    gabc_neumes::laws::steps_are_passed_one_by_one();
+    let spans = Spans {
+        eu: syllable.eu,
+        nlba: syllable.nlba,
+    };
+    put_first_line(number, syllable.position, spans, out);
     put_text(&syllable.text, syllable.kept.as_str(), out);
     put_translation(syllable, out);
     pass_position(syllable.position, alterations);
@@ -143,8 +174,8 @@ pub fn dump_syllable<S: Put>(
     put_snippets(syllable, snippets, alterations, out);
 }
 
-/// Returns how many bytes `dump_syllable` puts for the same arguments; it saturates at the last value of a `usize`. `alterations` are those
-/// in force before the syllable.
+/// Returns how many bytes `dump_syllable` puts for the same arguments; it saturates at the last
+/// value of a `usize`. `alterations` are those in force before the syllable.
 pub fn dump_len(number: u64, syllable: &Syllable, alterations: &Alterations) -> usize
     ensures len { result ≡ min
         (length (lines_of_syllable number alterations.now (placed_of syllable.now)))

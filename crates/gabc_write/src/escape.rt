@@ -1,6 +1,6 @@
 //! Texts of the input in the lines of a dump.
 
-ghost use Rattle.std.specs.Prelude.{◌≡◌, IsTrue, false};
+ghost use Rattle.std.specs.Prelude.{◌≡◌, ◌≤◌, ◌++◌, false, length, take, drop};
 ghost use Rattle.gabc_write.specs.DumpLines.{escaped, escaped_byte};
 ghost use Rattle.gabc_write.specs.machine.TextLine.{line_part, begun_behind, line_end};
 
@@ -17,40 +17,47 @@ fn put_escaped_byte<S: Put>(byte: u8, out: &mut S)
     }
 }
 
-/// Puts `text` byte by byte, with each backslash as `\\` and each LF as `\n`. Few texts have any, so it stays out of line.
+/// Returns how many bytes of `text` stand before its first backslash or LF: all, where it has none.
+fn plain_len(text: &[u8]) -> usize
+    ensures within { result ≤ length text.now }
+    ensures plain { escaped text.now ≡ take result text.now ++ escaped (drop result text.now) }
+{
+    for (i, byte) in text.iter().enumerate() {
+        if matches!(*byte, b'\\' | b'\n') {
+            return i;
+        }
+    }
+    text.len()
+}
+
+/// Puts `text`, with each backslash as `\\` and each LF as `\n`, and what stands between them at
+/// once. Few texts have any, so it stays out of line.
 #[inline(never)]
 fn put_escaped_bytes<S: Put>(text: &[u8], out: &mut S)
     ensures { out.new ≡ S.taken out.old (escaped text.now) }
 {
-    for byte in text {
+    let mut rest = text;
+    while let [byte, more @ ..] = rest {
         put_escaped_byte(*byte, out);
+        let len = plain_len(more);
+        out.put(&more[..len]);
+        rest = &more[len..];
     }
-}
-
-/// Returns whether `text` has neither a backslash nor an LF, so that it stands in a dump as it is.
-fn is_plain(text: &[u8]) -> bool
-    ensures { IsTrue result → escaped text.now ≡ text.now }
-{
-    for byte in text {
-        if matches!(*byte, b'\\' | b'\n') {
-            return false;
-        }
-    }
-    true
 }
 
 /// Puts `text`, with each backslash as `\\` and each LF as `\n`.
 pub(crate) fn put_escaped<S: Put>(text: &[u8], out: &mut S)
     ensures { out.new ≡ S.taken out.old (escaped text.now) }
 {
-    if is_plain(text) {
+    if plain_len(text) == text.len() {
         out.put(text);
     } else {
         put_escaped_bytes(text, out);
     }
 }
 
-/// Passes on the text of a syllable, with each backslash as `\\` and each LF as `\n`, and `text:` before its first byte.
+/// Passes on the text of a syllable, with each backslash as `\\` and each LF as `\n`, and `text:`
+/// before its first byte.
 #[derive(Drop)]
 pub(crate) struct TextLine<'a, S: Put> {
     out: &'a mut S,
@@ -67,7 +74,7 @@ impl<'a, S: Put> TextLine<'a, S> {
         TextLine { out, begun: false }
     }
 
-    /// Puts the LF behind the text, if there is one.
+    /// Puts the LF after the text, if there is one.
     pub(crate) fn end(&mut self)
         ensures { self.new ≡ record self.old {
           out = record self.old.out {

@@ -1,4 +1,5 @@
-//! Laws of the definitions alone. Each function's contract is a law; its body calls the laws below that it stands on.
+//! Laws of the definitions alone. Each function's contract is a law; its body calls the laws below
+//! that it stands on.
 
 ghost use Rattle.std.specs.Prelude.{◌≡◌, ◌≤◌, ◌<◌, ◌+◌, ◌*◌, ◌^◌, ◌⊎◌, ◌++◌, ◌∷◌, ℕ, Bool, List, length, true, false, Some, Ok, encode_utf8_all, is_some, IfSome, IsUtf8};
 ghost use Rattle.std.specs.List.{All};
@@ -38,8 +39,9 @@ ghost use Rattle.gabc_write.specs.DumpOfSyllables.{HaveOneDump, lines_of_syllabl
 
 use gabc_score::ScoreStage;
 
-/// A printed syllable is read again, whatever follows its `)`, as one unit with the same text, the same snippets and the same
-/// start of a word, and without an error. The canonical text of each syllable of a unit is such a printed syllable.
+/// Law: a printed syllable is read again, whatever follows its `)`, as one unit with the same text,
+/// the same snippets and the same start of a word, and without an error. The canonical text of each
+/// syllable of a unit is such a printed syllable.
 pub fn syllable_again()
     ensures read { (lines macros : ℕ) (at : Place) (t : List ℕ) (snippets : List (List ℕ))
         (rest : List ℕ) → AreSnippets lines snippets
@@ -55,10 +57,12 @@ pub fn syllable_again()
     gabc_score::laws::a_syllable_holds_its_parts();
 }
 
-/// A syllable that holds a unit with notes is read again from its own canonical text, by itself: wherever this text stands and whatever was emitted
-/// before, it is one syllable, whole with its last character, that says the same, leaves the same spans open and has the same
-/// canonical text. No error is found in it. So it is where the syllable is the first one of a score, whose canonical text begins a word whatever its
-/// own text says: what is read begins a word then.
+/// Law: a syllable that holds a unit with notes is read again from its own canonical text, by
+/// itself: wherever this text stands and whatever was emitted before, it is one syllable, whole
+/// with its last character, that says the same, leaves the same spans open and has the same
+/// canonical text. No error is found in it. So it is where the syllable is the first one of a
+/// score, whose canonical text begins a word whatever its own text says: what is read begins a word
+/// then.
 pub fn a_syllable_is_read_from_its_own_text()
     ensures { (lines macros : ℕ) (first : Bool) (m : UnplacedSyllable) → HoldsSomeUnit lines m →
         (let n = as_it_stands first m in
@@ -73,8 +77,9 @@ pub fn a_syllable_is_read_from_its_own_text()
     syllable_again();
 }
 
-/// The whole syllable that a stage over a score holds, whatever the stage has read, is read again from its own canonical text, by itself, as one
-/// syllable that says the same, without an error. So it is if it is said to be the first one of the score.
+/// Law: the whole syllable that a stage over a score holds, whatever the stage has read, is read
+/// again from its own canonical text, by itself, as one syllable that says the same, without an
+/// error. So it is if it is said to be the first one of the score.
 pub fn what_is_held_is_read_from_its_own_text()
     ensures { (s : ScoreStageState) → MayStand s →
         IfSome (held_of s) (IsReadWhereItStands s.body.nabc_lines s.body.macros) }
@@ -84,8 +89,10 @@ pub fn what_is_held_is_read_from_its_own_text()
     a_syllable_is_read_from_its_own_text();
 }
 
-/// The whole syllable that a stage over a score holds in the body, whatever the stage has read, may be held by its canonical text: read by itself, behind
-/// what stands before the syllable, this text is one syllable with the same canonical text there. No limit is passed with it, and no error is found in it.
+/// Law: the whole syllable that a stage over a score holds in the body, whatever the stage has
+/// read, may be held by its canonical text: read by itself, after what stands before the syllable,
+/// this text is one syllable with the same canonical text there. No limit is passed with it, and no
+/// error is found in it.
 pub fn what_is_held_may_be_held_by_its_text(stage: &ScoreStage)
     requires runs { is_some (before_of stage.now) ≡ true }
     ensures { IfSome (held_of stage.now) (MayBeHeldByItsText stage.now.limits
@@ -97,9 +104,10 @@ pub fn what_is_held_may_be_held_by_its_text(stage: &ScoreStage)
     what_is_held_is_read_from_its_own_text();
 }
 
-/// The canonical texts of the syllables of a score's units, with the LF that ends a file, are a body of printed syllables, the
-/// first of which begins a word. Such a body is cut, without a comment, into one unit for each syllable, in order, and into a last
-/// text that is no unit. Each unit says the same without an error.
+/// Law: the canonical texts of the syllables of a score's units, with the LF that ends a file, are
+/// a body of printed syllables, the first of which begins a word. Such a body is cut, without a
+/// comment, into one unit for each syllable, in order, and into a last text that is no unit. Each
+/// unit says the same without an error.
 pub fn body_again()
     ensures first { (lines macros : ℕ) (xs : List Char) (cut : BodyCutting) →
         IsCut texts_by_definition lines macros xs cut →
@@ -116,8 +124,9 @@ pub fn body_again()
     syllable_again();
 }
 
-/// A file of the canonical lines of a book and of printed syllables, the first of which begins a word, is read under the same
-/// limits, or larger ones, as that book, and its body is cut into units that say what was printed.
+/// Law: a file of the canonical lines of a book and of printed syllables, the first of which begins
+/// a word, is read under the same limits, or larger ones, as that book, and its body is cut into
+/// units that say what was printed.
 pub fn file_again()
     ensures { (limits larger : Limits) (t : List ℕ) (heads : Heads) (facts : List SyllableFacts)
         → AreNoLess limits larger → heads_of limits t ≡ Ok heads
@@ -128,9 +137,10 @@ pub fn file_again()
     body_again();
 }
 
-/// The canonical file of a score whose headers are whole, also of one that is stopped, is a file of the canonical lines of its book
-/// and of the printed syllables of its units, the first of which begins a word. If the input's characters are Unicode scalar values
-/// without CR and U+FEFF, those of the file are, too.
+/// Law: the canonical file of a score whose headers are whole, also of one that is stopped, is a
+/// file of the canonical lines of its book and of the printed syllables of its units, the first of
+/// which begins a word. If the input's characters are Unicode scalar values without CR and U+FEFF,
+/// those of the file are, too.
 pub fn score_is_printed()
     ensures { (limits : Limits) (ending : InputEnding) (t : List ℕ) (book : List (List ℕ × List ℕ))
         → length (encode_utf8_all t) < 2 ^ 63
@@ -143,7 +153,8 @@ pub fn score_is_printed()
     body_again();
 }
 
-/// Each syllable of a score whose headers are whole, also of one that is stopped, holds a unit with notes. Only the last may have none.
+/// Law: each syllable of a score whose headers are whole, also of one that is stopped, holds a unit
+/// with notes. Only the last may have none.
 pub fn syllables_hold_units()
     ensures each { (limits : Limits) (ending : InputEnding) (t : List ℕ)
         (book : List (List ℕ × List ℕ)) → length (encode_utf8_all t) < 2 ^ 63
@@ -166,10 +177,11 @@ pub fn syllables_hold_units()
     body_again();
 }
 
-/// The canonical file of a score whose headers are whole, also of one that is stopped, is read again under the same limits or larger
-/// ones: it has no more bytes than the input may have, they are decoded without a fault, the headers are the book, and the body is
-/// cut into one unit for each syllable, in order, which says the same without an error. Its score has no fault, no error and the same
-/// book, its syllables say the same, and its canonical file is the same.
+/// Law: the canonical file of a score whose headers are whole, also of one that is stopped, is read
+/// again under the same limits or larger ones: it has no more bytes than the input may have, they
+/// are decoded without a fault, the headers are the book, and the body is cut into one unit for
+/// each syllable, in order, which says the same without an error. Its score has no fault, no error
+/// and the same book, its syllables say the same, and its canonical file is the same.
 pub fn score_again()
     ensures { (limits larger : Limits) (ending : InputEnding) (t : List ℕ)
         (book : List (List ℕ × List ℕ)) → AreNoLess limits larger
@@ -192,7 +204,8 @@ pub fn score_again()
     score_is_printed();
 }
 
-/// The lines of a syllable in a dump are at most 64 bytes for each byte of its canonical text, and 256, whatever is in force before it.
+/// Law: the lines of a syllable in a dump are at most 64 bytes for each byte of its canonical text,
+/// and 256, whatever is in force before it.
 pub fn a_dump_is_short()
     ensures { (number : ℕ) (outset : InForce) (s : PlacedSyllable) → number < 2 ^ 64 →
         IsUtf8 s.made.kept →
@@ -203,7 +216,8 @@ pub fn a_dump_is_short()
     gabc_nabc::laws::names_are_short();
 }
 
-/// A syllable without a note or a clef in GABC leaves the clef in force that is in force before it.
+/// Law: a syllable without a note or a clef in GABC leaves the clef in force that is in force
+/// before it.
 pub fn where_nothing_sounds_the_clef_stays()
     ensures { (outset : InForce) (s : PlacedSyllable) → sounds s.made ≡ false →
         (passed outset (steps_of_syllable s)).clef ≡ outset.clef }
@@ -211,8 +225,8 @@ pub fn where_nothing_sounds_the_clef_stays()
     gabc_neumes::laws::steps_are_passed_one_by_one();
 }
 
-/// Syllables that say the same have the same lines in a dump, if the spans of their snippets begin and end between characters and the same is
-/// in force before both.
+/// Law: syllables that say the same have the same lines in a dump, if the spans of their snippets
+/// begin and end between characters and the same is in force before both.
 pub fn syllables_that_say_the_same_have_one_dump()
     ensures { (number : ℕ) (outset : InForce) (ss ts : List PlacedSyllable) →
         All (λ (s : PlacedSyllable). HasWholeSnippets s.made) ss →
@@ -221,8 +235,9 @@ pub fn syllables_that_say_the_same_have_one_dump()
         lines_of_syllables number outset ss ≡ lines_of_syllables number outset ts }
 {}
 
-/// Two syllables that are held and say the same where they stand have one dump, wherever in their word they are written and whatever their texts say of
-/// the start of a word, if the spans of their snippets begin and end between characters.
+/// Law: two syllables that are held and say the same where they stand have one dump, wherever in
+/// their word they are written and whatever their texts say of the start of a word, if the spans of
+/// their snippets begin and end between characters.
 pub fn held_syllables_that_say_the_same_have_one_dump()
     ensures { (first : Bool) (m n : UnplacedSyllable) (position : Position) → HasWholeSnippets m →
         HasWholeSnippets n → SayTheSame first (Some m) (Some n) →

@@ -1,5 +1,5 @@
-//! What a run writes: canonical GABC, the lines of a dump, and message lines. Each call puts its text into a room that the caller made,
-//! or into a counter. No call asks for memory.
+//! What a run writes: canonical GABC, the lines of a dump, and message lines. Each call puts its
+//! text into a room that the caller made, or into a counter. No call asks for memory.
 //!
 //! The caller makes room for what the calls of lengths tell:
 //!
@@ -15,6 +15,8 @@ mod dump;
 mod dump_item;
 mod dump_nabc;
 mod dump_notes;
+mod dump_pitch;
+mod dump_slices;
 mod dump_syllables;
 mod escape;
 pub mod laws;
@@ -24,6 +26,7 @@ pub mod set_down;
 pub mod without_notes;
 
 pub use dump::{dump_end, dump_header};
+pub use dump_slices::dump_spelled;
 pub use dump_syllables::{dump_len, dump_syllable};
 pub use gabc_headers::canon_header;
 pub use gabc_score::{canon_len, canon_syllable};

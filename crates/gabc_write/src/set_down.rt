@@ -1,5 +1,5 @@
-//! The law on which saved states stand: a stage over a score is set down again from what it tells. The function's contract is the law, and its body
-//! makes the calls.
+//! The law on which saved states stand: a stage over a score is set down again from what it tells.
+//! The function's contract is the law, and its body makes the calls.
 
 ghost use Rattle.std.specs.Prelude.{◌≡◌, ◌≤◌, [], true, false, is_some, IfSome};
 ghost use Rattle.gabc_score.specs.Resumed.{StandsBehind};
@@ -8,16 +8,12 @@ ghost use Rattle.gabc_score.specs.ToldWithin.{IsToldWithin, written_behind};
 ghost use Rattle.gabc_write.specs.SetDown.{GoesOnAlike};
 ghost use Rattle.gabc_write.specs.machine.SetDown.{BeginsAlike, TellsAlike};
 
-use crate::laws::{what_is_held_is_read_from_its_own_text, what_is_held_may_be_held_by_its_text};
+use crate::laws;
 use gabc_places::Room;
-use gabc_score::stage_laws::{
-    a_stage_may_stand, spans_of_what_is_held_follow, stages_that_tell_the_same_agree,
-    what_is_held_holds_a_unit, what_is_read_can_be_read_again, what_is_told_is_within_the_limits,
-};
-use gabc_score::unit_laws::snippets_of_a_unit_stand_between_characters;
 use gabc_score::{ScoreEvent, ScoreStage};
 
-/// Holds the syllable that `told` holds, if it holds one, by its canonical text `held`. Returns whether that text is a syllable.
+/// Holds the syllable that `told` holds, if it holds one, by its canonical text `held`. Returns
+/// whether that text is a syllable.
 fn hold_told(
     stage: &mut ScoreStage,
     told: &ScoreStage,
@@ -38,16 +34,17 @@ fn hold_told(
     let Some(_) = told.held() else {
         return true;
     };
-    what_is_held_may_be_held_by_its_text(told);
-    a_stage_may_stand(told);
-    what_is_held_is_read_from_its_own_text();
-    what_is_held_holds_a_unit();
-    spans_of_what_is_held_follow();
-    snippets_of_a_unit_stand_between_characters();
+    laws::what_is_held_may_be_held_by_its_text(told);
+    gabc_score::stage_laws::a_stage_may_stand(told);
+    laws::what_is_held_is_read_from_its_own_text();
+    gabc_score::stage_laws::what_is_held_holds_a_unit();
+    gabc_score::stage_laws::spans_of_what_is_held_follow();
+    gabc_score::unit_laws::snippets_of_a_unit_stand_between_characters();
     stage.hold_again(held, room)
 }
 
-/// Reads what `told` has read of the syllable that is not whole. Returns whether that is a part of a syllable.
+/// Reads what `told` has read of the syllable that is not whole. Returns whether that is a part of
+/// a syllable.
 fn read_told(stage: &mut ScoreStage, told: &ScoreStage) -> bool
     requires runs { is_some (before_of told.now) ≡ true }
     requires front { is_in_front told.now.body.part ≡ false }
@@ -55,7 +52,7 @@ fn read_told(stage: &mut ScoreStage, told: &ScoreStage) -> bool
     ensures reads { result ≡ true }
     ensures tells { TellsAlike told.now stage.new }
 {
-    what_is_read_can_be_read_again(told);
+    gabc_score::stage_laws::what_is_read_can_be_read_again(told);
     let Some(openers) = told.openers() else {
         return false;
     };
@@ -68,10 +65,11 @@ fn read_told(stage: &mut ScoreStage, told: &ScoreStage) -> bool
     stage.read_again(told.reading(), openers, in_comment, next)
 }
 
-/// From what `told` tells in the body, not in front of the first text, a stage is set down that gives the same of whatever follows. `stage` is
-/// what `ScoreStage::resume` makes, under the same limits, of what `told` tells to stand before. It holds the syllable of which `held` is the
-/// canonical text there, if one is held, and reads the kept text of the next one. The answer is `true`. `room` is empty and has room for
-/// 16 events; nothing stands in it afterwards.
+/// From what `told` tells in the body, not in front of the first text, a stage is set down that
+/// gives the same of whatever follows. `stage` is what `ScoreStage::resume` makes, under the same
+/// limits, of what `told` tells to stand before. It holds the syllable of which `held` is the
+/// canonical text there, if one is held, and reads the kept text of the next one. The answer is
+/// `true`. `room` is empty and has room for 16 events; nothing stands in it afterwards.
 pub fn a_stage_is_set_down_again(
     told: &ScoreStage,
     stage: &mut ScoreStage,
@@ -90,15 +88,15 @@ pub fn a_stage_is_set_down_again(
     ensures is { result ≡ true }
     ensures alike { GoesOnAlike told.now stage.new }
 {
-    a_stage_may_stand(told);
-    what_is_told_is_within_the_limits();
+    gabc_score::stage_laws::a_stage_may_stand(told);
+    gabc_score::stage_laws::what_is_told_is_within_the_limits();
     if !hold_told(stage, told, held, room) {
         return false;
     }
     if !read_told(stage, told) {
         return false;
     }
-    a_stage_may_stand(stage);
-    stages_that_tell_the_same_agree();
+    gabc_score::stage_laws::a_stage_may_stand(stage);
+    gabc_score::stage_laws::stages_that_tell_the_same_agree();
     true
 }

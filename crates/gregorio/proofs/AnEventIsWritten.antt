@@ -11,9 +11,9 @@ use Rattle.gabc_score.specs.declared.score_machine.ScorePart.TheVariants as scor
 use Rattle.gabc_score.specs.ScoreEvents.{ScoreOutput, Found, Stop, Syllable, End}
 use Rattle.gabc_score.specs.ScoreStage.{GivesAt, GivesLast, GivesOutputs, events_left, events_of, is_last_event}
 use Rattle.gabc_score.specs.witness.ScoreStage.{ScoreStageState, left_of}
-use Rattle.gregorio_jobs.specs.declared.job.Status.{Status}
+use Rattle.gregorio.specs.declared.run_ending.RunEnding.{RunEnding}
 use Rattle.gregorio.specs.Streams.{Streams, behind_bytes}
-use Rattle.gregorio.specs.witness.Engine.{Written, behind_output, behind_outputs, ceased_status, ceased_text, first_list, is_before_heads, lines_of_outputs, streams_from, streams_in, text_of_heads, texts_of_outputs, writes_heads}
+use Rattle.gregorio.specs.witness.Engine.{Written, behind_output, behind_outputs, ceased_ending, ceased_text, ended_by, first_list, is_before_heads, lines_of_outputs, streams_from, streams_in, text_of_heads, texts_of_outputs, writes_heads}
 use Rattle.gregorio.specs.machine.InStep.{PassesOn}
 use Rattle.gregorio.specs.machine.RunWriter.{RunWriterState, HasRoomFor, IsInRoom, IsSteadyWriter, last_room, line_room, lines_room, past_end, past_outputs, syllable_room, texts_room, with_heads}
 use Rattle.gregorio.specs.machine.ScoreWriter.{ScoreWriterState, FitsEvents, IsSilent, WritesAt, WritesLast, event_room, needed_in, outputs_of_events, streams_of}
@@ -194,17 +194,17 @@ module _ (score mid : ScoreStageState) (writer : RunWriterState) (now : ScoreWri
       let after = (kept most_lines most_texts (in_room most_lines most_texts (omega arith) (omega arith))).texts in
       omega (arith, after, texts, limit)
 
-  pub last_is_written : (new : RunWriterState) (status : Status) → new ≡ past_end (past_outputs writer (outputs_of_events mid events)) → new.written.ended ≡ Some status
-      → WritesLast now (record { score = mid; writer = new }) status
-  last_is_written new status writes ended =
+  pub last_is_written : (new : RunWriterState) (how : RunEnding) → new ≡ past_end (past_outputs writer (outputs_of_events mid events)) → new.written.ended ≡ Some how
+      → WritesLast now (record { score = mid; writer = new }) how
+  last_is_written new how writes ended =
       let w = writer.written in
       let v = behind_outputs w step.outputs in
       let texts = texts_of_outputs w step.outputs in
       let lines = lines_of_outputs w step.outputs in
       let last = ceased_text v.ended v in
       let is = writes ∙ ap (λ (outputs : List ScoreOutput). past_end (past_outputs writer outputs)) emitted_last in
-      let status_is : Some (ceased_status v.ended) ≡ Some status = sym (ap (λ (u : RunWriterState). u.written.ended) is) ∙ ended in
-      subst (λ (s : ScoreWriterState). WritesLast s (record { score = mid; writer = new }) status) view (record {
+      let ending_is : Some (ceased_ending v.ended) ≡ Some how = sym (ap (λ (u : RunWriterState). u.written.ended) is) ∙ ended in
+      subst (λ (s : ScoreWriterState). WritesLast s (record { score = mid; writer = new }) how) view (record {
         output = texts ++ last;
         lines = lines;
         out = extended_by_both writer.out (past_outputs writer step.outputs).out new.out texts last refl (ap (λ (u : RunWriterState). u.out) is);
@@ -212,6 +212,6 @@ module _ (score mid : ScoreStageState) (writer : RunWriterState) (now : ScoreWri
         law = λ book.
             ap (λ (lists : List (List ScoreOutput)). streams_in w (concat_of lists)) step.law
             ∙ (ap (λ (outputs : List ScoreOutput). streams_in w outputs) (append-nil step.outputs)
-            ∙ (ap (λ (s : Status). record { output = texts ++ last; messages = lines ++ []; status = s }) (cc status_is)
-            ∙ ap (λ (text : List ℕ). record { output = text; messages = lines ++ []; status = status }) (sym (append-nil (texts ++ last)))));
+            ∙ (ap (λ (h : RunEnding). record (ended_by h) { output = texts ++ last; messages = lines ++ [] }) (cc ending_is)
+            ∙ ap (λ (text : List ℕ). record (ended_by how) { output = text; messages = lines ++ [] }) (sym (append-nil (texts ++ last)))));
       })

@@ -1,6 +1,7 @@
 -- What an engine writes of an input in memory is put as it comes.
-use Rattle.std.proofs.Common.{◌≡◌, ℕ, ◌+◌, List, [], ◌++◌, take, drop, take-append-drop, append_assoc, append-nil, refl, sym, ap, subst, ◌∙◌}
+use Rattle.std.proofs.Common.{◌≡◌, ℕ, ◌+◌, List, [], ◌++◌, take, drop, Option, take-append-drop, append_assoc, append-nil, refl, sym, ap, subst, ◌∙◌}
 use Rattle.std.proofs.lemmas.List.{drop-drop}
+use Rattle.gabc_places.specs.declared.code.Fault.{Fault}
 use Rattle.gabc_places.specs.declared.limits.Limits.{Limits}
 use Rattle.gregorio_jobs.specs.declared.job.Job.{Job}
 use Rattle.gregorio_jobs.specs.declared.job.Status.{Status}
@@ -29,7 +30,7 @@ runs_where_taken f g job limits forgets runs =
 
 module _ {A B : Type 0} (takes : A → List ℕ → A) (takes_too : B → List ℕ → B) where
   pub nothing_taken : (o : A) (m : B) (s : Streams) → TakeTheSame takes takes_too o m s o m s
-  nothing_taken o m s = record { output = refl; lines = refl; status = refl }
+  nothing_taken o m s = record { output = refl; lines = refl; status = refl; fault = refl }
 
   module _ (both : (s : A) (a b : List ℕ) → takes (takes s a) b ≡ takes s (a ++ b)) (both_too : (s : B) (a b : List ℕ) → takes_too (takes_too s a) b ≡ takes_too s (a ++ b)) where
     -- they took what stands before the rest
@@ -39,13 +40,14 @@ module _ {A B : Type 0} (takes : A → List ℕ → A) (takes_too : B → List �
       output = ap (λ (x : A). takes x u.output) i ∙ (both p output u.output ∙ (ap (λ (x : Streams). takes p x.output) (sym parts) ∙ h.output));
       lines = ap (λ (x : B). takes_too x u.messages) j ∙ (both_too n lines u.messages ∙ (ap (λ (x : Streams). takes_too n x.messages) (sym parts) ∙ h.lines));
       status = ap (λ (x : Streams). x.status) (sym parts) ∙ h.status;
+      fault = ap (λ (x : Streams). x.fault) (sym parts) ∙ h.fault;
     }
 
   -- they took the last
-  pub last_taken : (o p q : A) (m n r : B) (s t : Streams) (output lines : List ℕ) (status : Status) → TakeTheSame takes takes_too o m s p n t → t ≡ behind_bytes output lines (ended_with status)
-      → q ≡ takes p output → r ≡ takes_too n lines → (q ≡ takes o s.output) × (r ≡ takes_too m s.messages) × (status ≡ s.status)
-  last_taken o p q m n r s t output lines status h parts i j = (
+  pub last_taken : (o p q : A) (m n r : B) (s t : Streams) (output lines : List ℕ) (status : Status) (fault : Option Fault) → TakeTheSame takes takes_too o m s p n t → t ≡ behind_bytes output lines (ended_with status fault)
+      → q ≡ takes p output → r ≡ takes_too n lines → (q ≡ takes o s.output) × (r ≡ takes_too m s.messages) × ((status ≡ s.status) × (fault ≡ s.fault))
+  last_taken o p q m n r s t output lines status fault h parts i j = (
     i ∙ (ap (takes p) (sym (ap (λ (x : Streams). x.output) parts ∙ append-nil output)) ∙ h.output),
     j ∙ (ap (takes_too n) (sym (ap (λ (x : Streams). x.messages) parts ∙ append-nil lines)) ∙ h.lines),
-    sym (ap (λ (x : Streams). x.status) parts) ∙ h.status,
+    (sym (ap (λ (x : Streams). x.status) parts) ∙ h.status, sym (ap (λ (x : Streams). x.fault) parts) ∙ h.fault),
   )

@@ -16,7 +16,6 @@ use Rattle.gabc_places.specs.declared.place.Place.{Place}
 use Rattle.gabc_headers.specs.HeldText.{holding}
 use Rattle.gabc_headers.specs.declared.head_event.HeadEvent.{HeadEvent}
 use Rattle.gabc_headers.specs.witness.HeadEvents.{HeaderStageState, reading, behind}
-use Rattle.gabc_neumes.specs.InForce.{nothing_in_force}
 use Rattle.gabc_score.specs.Syllable.{UnplacedSyllable}
 use Rattle.gabc_score.specs.ScoreTells.{StandsAt, held_of}
 use Rattle.gabc_score.specs.declared.score_machine.ScorePart.{ScorePart}
@@ -28,10 +27,9 @@ use Rattle.gregorio_state.specs.Conditions.{AreHeaderFields, ArePhaseFields, Are
 use Rattle.gregorio_state.specs.Fields.{PhaseFields, ScoreFields, StateFields, InHeaders, InScore}
 use Rattle.gregorio.specs.Saved.{GivesHeaders, held_count, phase_fields, score_fields}
 use Rattle.gregorio.specs.SavedState.{IsOfJob}
-use Rattle.gregorio_jobs.specs.declared.job.Status.{Status}
+use Rattle.gregorio.specs.declared.run_ending.RunEnding.{RunEnding}
 use Rattle.gregorio.specs.Outcome.{input_name}
 use Rattle.gregorio.specs.witness.Engine.{EngineState, Written}
-use Rattle.gregorio.specs.machine.ClefInForce.{HasClefOfSounds, IsClefIn}
 use Rattle.gregorio.specs.machine.Engine.{IsEngine}
 use Rattle.gregorio.specs.machine.HeldHeaders.{behind_mark}
 use Rattle.gregorio.specs.machine.InStep.{AreInOnePart, HasForce}
@@ -75,20 +73,6 @@ module _ (job : Job) (s : StateFields) (limits : Limits) (is_job : IsOfJob job l
     untracked = λ gabc. fields.before.untracked (is_job.format ∙ gabc);
     outset = λ none. (fields.before.outset (omega (arith, none))).in_force;
   }
-
-clef_in_headers : (part : ScorePart) (sounded : Bool) → part ≡ score_part.Heads → IsClefIn part sounded nothing_in_force.clef
-clef_in_headers part sounded is = subst (λ (p : ScorePart). IsClefIn p sounded nothing_in_force.clef) (sym is) refl
-
-clef_by : (job : Job) (s : StateFields) (limits : Limits) (h : HeaderStageState) (score : ScoreStageState) (phase : PhaseFields) → ArePhaseFields s phase → StandIn s phase limits h score
-    → HasClefOfSounds score (written_by job s phase)
-clef_by job s limits h score (InHeaders text) fields stand running = clef_in_headers score.part score.before.sounded stand.part
-clef_by job s limits h score (InScore f) fields stand running =
-    subst (λ (p : ScorePart). IsClefIn p score.before.sounded f.in_force.clef) (sym stand.set_down.body)
-    (λ quiet. fields.before.sounded (sym (ap (λ (g : ScoreFields). g.sounded) stand.set_down.tells) ∙ quiet))
-
-pub clef_of_sounds : (job : Job) (s : StateFields) (limits : Limits) (h : HeaderStageState) (score : ScoreStageState) → AreStateFields s → StandSo s limits h score
-    → HasClefOfSounds score (written_by job s s.phase)
-clef_of_sounds job s limits h score fields so = clef_by job s limits h score s.phase fields.phase so.stand
 
 -- ---- the engine
 
@@ -248,7 +232,7 @@ module _ (job : Job) (s : StateFields) (limits : Limits) (is_job : IsOfJob job l
         errors
         phase;
     job_is = record { limits_are = limits_are; format = format; name = name; all_warnings = warnings };
-    running = ap (λ (o : Option Status). is_none o) ended;
+    running = ap (λ (o : Option RunEnding). is_none o) ended;
     waits = record { output = output; messages = messages };
   }
 

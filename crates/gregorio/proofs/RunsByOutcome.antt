@@ -1,7 +1,6 @@
 -- How a run ends.
 use Rattle.std.proofs.Common.{◌≡◌, ℕ, ◌<◌, ◌≤◌, List, [], ◌++◌, length, append-nil, Bool, true, false, Option, Some, None, ◌⊎◌, inl, inr, arith, refl, sym, ap, ◌∙◌, subst}
 use Rattle.std.specs.Io.KnownBytes.{Appends}
-use Rattle.std.proofs.KnownBytes.{Keeps-refl}
 use Rattle.std.specs.List.{list_any}
 use Rattle.gabc_places.specs.Calls.{Calls, NoneLate, GoesOn, FailsOnce}
 use Rattle.gabc_places.specs.declared.limits.Limits.{Limits}
@@ -15,10 +14,10 @@ use Rattle.gregorio.specs.declared.source_ending.SourceEnding.{SourceEnding}
 use Rattle.gregorio.specs.declared.source_ending.SourceEnding.TheVariants.{Whole as Ended, Broken}
 use Rattle.gregorio_jobs.specs.declared.job.Job.{Job}
 use Rattle.gregorio_jobs.specs.declared.job.Status.{Status}
-use Rattle.gregorio_jobs.specs.declared.job.Status.TheVariants.{NoMemory, ReadFault, WriteFault}
+use Rattle.gregorio_jobs.specs.declared.job.Status.TheVariants.{ReadFault, WriteFault}
 use Rattle.gregorio.specs.declared.outcome.Outcome.{Outcome}
 use Rattle.gregorio_jobs.specs.declared.job.Format.{Format}
-use Rattle.gregorio.specs.Engine.{IsPrompt, with_waiting}
+use Rattle.gregorio.specs.Engine.{IsPrompt, fault_of, with_waiting}
 use Rattle.gregorio.specs.witness.Engine.{EngineState, streams_left}
 use Rattle.gregorio.specs.Streams.{Streams, behind_bytes, ended_with, streams_of_outcome}
 use Rattle.gregorio.specs.Run.{Use, used, Done, IsKnown, SinkCut, Compiles}
@@ -111,27 +110,27 @@ prompt_itself : (e f : EngineState) → IsPromptAs e f → IsPrompt f.written.fo
 prompt_itself e f p = subst (λ (x : Format). IsPrompt x (streams_left f Broken [])) (sym p.format) p.prompt
 
 -- at the end nothing of what is still written is known, or all
-known_at_end : (f g : EngineState) (ending : SourceEnding) (status : Status) → IsPrompt f.written.format (streams_left f Broken []) → streams_left f ending [] ≡ with_waiting g (ended_with status)
+known_at_end : (f g : EngineState) (ending : SourceEnding) (status : Status) → IsPrompt f.written.format (streams_left f Broken []) → streams_left f ending [] ≡ with_waiting g (ended_with status (fault_of g))
     → (o l : List ℕ) → NoneOrAll g.output g.messages o l → Knows f [] ending o l
 known_at_end f g ending status prompt last o l (inl none) =
     subst (λ (x : List ℕ). Knows f [] ending x l) (sym none.0) (subst (λ (x : List ℕ). Knows f [] ending [] x) (sym none.1)
     (record { front = []; at = Broken; is_point = inl ([], (refl, refl)); left = streams_left f Broken []; known = refl; prompt = prompt }))
 known_at_end f g ending status prompt last o l (inr all) =
     subst (λ (x : List ℕ). Knows f [] ending x l) (sym all.0) (subst (λ (x : List ℕ). Knows f [] ending g.output x) (sym all.1)
-    (record { front = []; at = ending; is_point = inr (refl, refl); left = ended_with status; known = last; prompt = record { messages = refl; output = inl refl } }))
+    (record { front = []; at = ending; is_point = inr (refl, refl); left = ended_with status (fault_of g); known = last; prompt = record { messages = refl; output = inl refl } }))
 
 module _ {A B C : Type 0} (wrote : A → Option (List ℕ)) (went : A → Calls) (emitted : B → Option (List ℕ)) (went_too : B → Calls) (left : C → Option (List ℕ)) (reads_went : C → Calls) (job : Job) (limits : Limits) where
   -- what an engine wrote of an input is its outcome's
   streams_are : (s t : C) (o p : A) (m n : B) (e f g : EngineState) (ending : SourceEnding) (status : Status) → SaysOutcomes job limits e
-      → (a : IsFedAll limits.input (used left reads_went s t) (used wrote went o p) (used emitted went_too m n) e f ending) → streams_left f ending [] ≡ with_waiting g (ended_with status)
-      → streams_of_outcome job (outcome_of limits ending a.bytes) ≡ behind_bytes (a.fed.output ++ g.output) (a.fed.lines ++ g.messages) (ended_with status)
+      → (a : IsFedAll limits.input (used left reads_went s t) (used wrote went o p) (used emitted went_too m n) e f ending) → streams_left f ending [] ≡ with_waiting g (ended_with status (fault_of g))
+      → streams_of_outcome job (outcome_of limits ending a.bytes) ≡ behind_bytes (a.fed.output ++ g.output) (a.fed.lines ++ g.messages) (ended_with status (fault_of g))
   streams_are s t o p m n e f g ending status all a last =
       sym (all.all a.bytes ending) ∙ (ap (streams_left e ending) (sym (append-nil a.bytes)) ∙ (a.fed.law [] ending
-      ∙ (ap (behind_bytes a.fed.output a.fed.lines) last ∙ behind_twice a.fed.output a.fed.lines g.output g.messages (ended_with status))))
+      ∙ (ap (behind_bytes a.fed.output a.fed.lines) last ∙ behind_twice a.fed.output a.fed.lines g.output g.messages (ended_with status (fault_of g)))))
 
   -- a run that wrote all
   runs_whole : (s t : C) (o p q : A) (m n r : B) (e f g : EngineState) (ending : SourceEnding) (status : Status) → SaysOutcomes job limits e
-      → IsFedAll limits.input (used left reads_went s t) (used wrote went o p) (used emitted went_too m n) e f ending → streams_left f ending [] ≡ with_waiting g (ended_with status)
+      → IsFedAll limits.input (used left reads_went s t) (used wrote went o p) (used emitted went_too m n) e f ending → streams_left f ending [] ≡ with_waiting g (ended_with status (fault_of g))
       → AreSent (used wrote went p q) (used emitted went_too n r) g.output g.messages
       → Compiles job limits (used left reads_went s t) (used wrote went o q) (used emitted went_too m r) status
   runs_whole s t o p q m n r e f g ending status all a last sent =
@@ -149,14 +148,14 @@ module _ {A B C : Type 0} (wrote : A → Option (List ℕ)) (went : A → Calls)
 
   -- a run whose source failed
   runs_broken : (s t : C) (o p : A) (m n : B) (e f g : EngineState) (ending : SourceEnding) (status : Status) → SaysOutcomes job limits e
-      → IsFedAll limits.input (used left reads_went s t) (used wrote went o p) (used emitted went_too m n) e f ending → streams_left f ending [] ≡ with_waiting g (ended_with status)
+      → IsFedAll limits.input (used left reads_went s t) (used wrote went o p) (used emitted went_too m n) e f ending → streams_left f ending [] ≡ with_waiting g (ended_with status (fault_of g))
       → status ≡ ReadFault → (reads_went s).failures < (reads_went t).failures
   runs_broken s t o p m n e f g ending status all a last is =
       a.reads.broken (read_fault_broken limits ending a.bytes (ap (λ (y : Streams). y.status) (streams_are s t o p m n e f g ending status all a last) ∙ is))
 
   -- a run that wrote all is not one that a sink's failure cut
   runs_sunk : (s t : C) (o p : A) (m n : B) (e f g : EngineState) (ending : SourceEnding) (status : Status) → SaysOutcomes job limits e
-      → IsFedAll limits.input (used left reads_went s t) (used wrote went o p) (used emitted went_too m n) e f ending → streams_left f ending [] ≡ with_waiting g (ended_with status)
+      → IsFedAll limits.input (used left reads_went s t) (used wrote went o p) (used emitted went_too m n) e f ending → streams_left f ending [] ≡ with_waiting g (ended_with status (fault_of g))
       → status ≡ WriteFault → ⊥
   runs_sunk s t o p m n e f g ending status all a last is =
       let made : Outcome = outcome_of limits ending a.bytes in
@@ -182,7 +181,7 @@ module _ {A B C : Type 0} (wrote : A → Option (List ℕ)) (went : A → Calls)
 
   -- a run that a sink's failure cut at its end
   runs_cut : (s t : C) (o p q : A) (m n r : B) (e f g : EngineState) (ending : SourceEnding) (status : Status) → SaysOutcomes job limits e
-      → IsFedAll limits.input (used left reads_went s t) (used wrote went o p) (used emitted went_too m n) e f ending → streams_left f ending [] ≡ with_waiting g (ended_with status)
+      → IsFedAll limits.input (used left reads_went s t) (used wrote went o p) (used emitted went_too m n) e f ending → streams_left f ending [] ≡ with_waiting g (ended_with status (fault_of g))
       → AreCut (NoneOrAll g.output g.messages) (used wrote went p q) (used emitted went_too n r) g.output g.messages
       → SinkCut job limits (used left reads_went s t) (used wrote went o q) (used emitted went_too m r)
   unfolding is_known
@@ -207,7 +206,7 @@ module _ {A B C : Type 0} (wrote : A → Option (List ℕ)) (went : A → Calls)
   -- ---- and which ends failed
 
   pub is_run_whole : (s t : C) (o p q : A) (m n r : B) (e f g : EngineState) (ending : SourceEnding) (status : Status) → SaysOutcomes job limits e
-      → IsFedAll limits.input (used left reads_went s t) (used wrote went o p) (used emitted went_too m n) e f ending → streams_left f ending [] ≡ with_waiting g (ended_with status)
+      → IsFedAll limits.input (used left reads_went s t) (used wrote went o p) (used emitted went_too m n) e f ending → streams_left f ending [] ≡ with_waiting g (ended_with status (fault_of g))
       → AreSent (used wrote went p q) (used emitted went_too n r) g.output g.messages
       → IsRun job limits (used left reads_went s t) (used wrote went o q) (used emitted went_too m r) status
   is_run_whole s t o p q m n r e f g ending status all a last sent =
@@ -234,21 +233,8 @@ module _ {A B C : Type 0} (wrote : A → Option (List ℕ)) (went : A → Calls)
   is_run_cut_early s t o p m n e all a = is_run_cut (used left reads_went s t) (used wrote went o p) (used emitted went_too m n) (runs_short s t o p m n e all a) a.goes_on.none_late
 
   pub is_run_cut_late : (s t : C) (o p q : A) (m n r : B) (e f g : EngineState) (ending : SourceEnding) (status : Status) → SaysOutcomes job limits e
-      → IsFedAll limits.input (used left reads_went s t) (used wrote went o p) (used emitted went_too m n) e f ending → streams_left f ending [] ≡ with_waiting g (ended_with status)
+      → IsFedAll limits.input (used left reads_went s t) (used wrote went o p) (used emitted went_too m n) e f ending → streams_left f ending [] ≡ with_waiting g (ended_with status (fault_of g))
       → AreCut (NoneOrAll g.output g.messages) (used wrote went p q) (used emitted went_too n r) g.output g.messages
       → IsRun job limits (used left reads_went s t) (used wrote went o q) (used emitted went_too m r) WriteFault
   is_run_cut_late s t o p q m n r e f g ending status all a last cut =
       is_run_cut (used left reads_went s t) (used wrote went o q) (used emitted went_too m r) (runs_cut s t o p q m n r e f g ending status all a last cut) a.in_time
-
-  -- a run for which there was no memory
-  pub is_no_run : (s : C) (o : A) (m : B) → IsRun job limits (used left reads_went s s) (used wrote went o o) (used emitted went_too m m) NoMemory
-  is_no_run s o m = record {
-    compiles = (
-      record { keeps = Keeps-refl (left s); uncalled = refl },
-      (record { keeps = Keeps-refl (wrote o); uncalled = refl }, record { keeps = Keeps-refl (emitted m); uncalled = refl }),
-    );
-    read_fault = λ is. cc;
-    write_fault = λ is. cc;
-    steady = λ is. (refl, refl);
-    in_time = (λ runs. refl, (λ runs. refl, λ runs. refl));
-  }

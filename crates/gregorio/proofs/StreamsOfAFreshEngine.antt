@@ -125,8 +125,8 @@ stops_at limits (score_ending.At fault) t (Err stop) = by stop.at_end
 
 -- ---- the streams
 
-abbrev streams_of : List ℕ → List ℕ → Status → Streams
-streams_of output messages status = record { output = output; messages = messages; status = status }
+abbrev streams_of : List ℕ → List ℕ → Status → Option Fault → Streams
+streams_of output messages status fault = record { output = output; messages = messages; status = status; fault = fault }
 
 -- what outputs say of a score
 pub record SaysScore (ending : InputEnding) (outputs : List ScoreOutput) (score : Score) : Type 0 where
@@ -165,9 +165,9 @@ module _ (w : Written) (no_syllable : w.count ≡ 0) (no_force : w.force ≡ not
       ∙ text_is w.format (not (is_some score.fault || is_cut_short ending score.fault)) book score.syllables few)))
 
   same : (one other : List ℕ) → one ≡ other
-      → streams_of one (said w outputs).messages (said w outputs).status
-      ≡ streams_of other (lines_of w.name w.all_warnings score) (status_with score (is_cut_short ending score.fault))
-  same one other e = same_streams _ _ e messages_are status_same
+      → streams_of one (said w outputs).messages (said w outputs).status (said w outputs).fault
+      ≡ streams_of other (lines_of w.name w.all_warnings score) (status_with score (is_cut_short ending score.fault)) score.fault
+  same one other e = same_streams _ _ e messages_are status_same score_is.fault
 
   -- the headers are a book, which `read` is, or there is none
   pub streams_same : (o : Option (List (List ℕ × List ℕ))) (read : List (List ℕ × List ℕ)) → IfSome o (λ book. read ≡ book)
@@ -176,6 +176,7 @@ module _ (w : Written) (no_syllable : w.count ≡ 0) (no_force : w.force ≡ not
         output = output_by w.format (not (is_some score.fault || is_cut_short ending score.fault)) o score.syllables;
         messages = lines_of w.name w.all_warnings score;
         status = status_with score (is_cut_short ending score.fault);
+        fault = score.fault;
       }
   streams_same (Some book) read e = same _ _ (ap (λ (b : List (List ℕ × List ℕ)). heads_text w.format b ++ (texts_behind w.format w.count w.force (syllables_in outputs) ++ last_text w.format (has_end outputs) (count_behind w.count (syllables_in outputs)))) e ∙ output_with book)
   streams_same None read e = same [] [] refl

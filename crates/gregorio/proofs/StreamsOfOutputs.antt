@@ -8,10 +8,10 @@ use Rattle.gabc_headers.specs.declared.head_event.HeadEvent.{HeadEvent}
 use Rattle.gabc_score.specs.ScoreEvents.{ScoreOutput, Found, Stop, Syllable, End, findings_in, syllables_in, fault_in, has_end}
 use Rattle.gabc_score.specs.witness.ScoreStage.{ScoreStageState, left_of}
 use Rattle.gabc_write.specs.Message.{line_of}
-use Rattle.gregorio_jobs.specs.declared.job.Status.{Status}
+use Rattle.gregorio.specs.declared.run_ending.RunEnding.{RunEnding}
 use Rattle.gregorio.specs.Outcome.{shown_line, fault_line, is_error_finding, status_by}
-use Rattle.gregorio.specs.Streams.{Streams, behind_bytes, ended_with, syllable_text, force_behind, last_text, next_number, texts_behind, count_behind}
-use Rattle.gregorio.specs.witness.Engine.{Written, behind_heads, behind_output, behind_outputs, ceased, ceased_status, ceased_text, first_list, if_headed, is_before_heads, is_heads, lines_of_output, lines_of_outputs, streams_from, streams_in, text_of_heads, text_of_output, texts_of_outputs, writes_heads}
+use Rattle.gregorio.specs.Streams.{Streams, behind_bytes, syllable_text, force_behind, last_text, next_number, texts_behind, count_behind}
+use Rattle.gregorio.specs.witness.Engine.{Written, behind_heads, behind_output, behind_outputs, ceased, ceased_ending, ceased_text, ended_by, ending_of_whole, fault_of_ending, first_list, if_headed, is_before_heads, is_heads, lines_of_output, lines_of_outputs, status_of_ending, streams_from, streams_in, text_of_heads, text_of_output, texts_of_outputs, writes_heads}
 use Rattle.gregorio.specs.machine.ScoreWriter.{IsOver}
 use Rattle.gregorio.proofs.pieces.BytesAreJoined.{behind_both, same_streams}
 
@@ -58,10 +58,19 @@ said w outputs = record {
   output = if_headed w (texts_behind w.format w.count w.force (syllables_in outputs) ++ last_text w.format (has_end outputs) (count_behind w.count (syllables_in outputs)));
   messages = flat_map (shown_line w.name w.all_warnings) (findings_in outputs) ++ fault_line w.name (fault_in outputs);
   status = status_by (fault_in outputs) (not (has_end outputs)) (w.errors || list_any is_error_finding (findings_in outputs));
+  fault = fault_in outputs;
 }
 
 abbrev pub going_on : Bool → Written → Written
 going_on headed w = record w { headed = headed; ended = None }
+
+whole_status : (errors : Bool) → status_of_ending (ending_of_whole errors) ≡ status_by None false errors
+whole_status true = refl
+whole_status false = refl
+
+whole_fault : (errors : Bool) → fault_of_ending (ending_of_whole errors) ≡ None
+whole_fault true = refl
+whole_fault false = refl
 
 say : (P : Type 0) (headed : Bool) (w : Written) (outputs : List ScoreOutput) → EndsAtLast P outputs → streams_in (going_on headed w) outputs ≡ said (going_on headed w) outputs
 say P headed w [] ends = refl
@@ -71,27 +80,27 @@ say P headed w (Found f ∷ outputs) ends =
     ∙ (ap (λ (s : Streams). behind_bytes [] (shown_line w.name w.all_warnings f) s) (say P headed (record w { errors = w.errors || is_error_finding f }) outputs ends)
     ∙ same_streams _ _ refl
     (sym (append_assoc (shown_line w.name w.all_warnings f) (flat_map (shown_line w.name w.all_warnings) (findings_in outputs)) (fault_line w.name (fault_in outputs))))
-    (ap (λ (errors : Bool). status_by (fault_in outputs) (not (has_end outputs)) errors) (or_assoc w.errors (is_error_finding f) (list_any is_error_finding (findings_in outputs)))))
+    (ap (λ (errors : Bool). status_by (fault_in outputs) (not (has_end outputs)) errors) (or_assoc w.errors (is_error_finding f) (list_any is_error_finding (findings_in outputs)))) refl)
 say P true w (Syllable s ∷ outputs) ends =
     let v = going_on true w in
     let text = syllable_text w.format (next_number w.count) w.force s in
     let u : Written = record w { count = next_number w.count; force = force_behind w.format w.force s } in
     one_and_rest v (Syllable s) outputs
     ∙ (ap (λ (t : Streams). behind_bytes text [] t) (say P true u outputs ends)
-    ∙ same_streams _ _ (sym (append_assoc text (texts_behind w.format u.count u.force (syllables_in outputs)) (last_text w.format (has_end outputs) (count_behind u.count (syllables_in outputs))))) refl refl)
+    ∙ same_streams _ _ (sym (append_assoc text (texts_behind w.format u.count u.force (syllables_in outputs)) (last_text w.format (has_end outputs) (count_behind u.count (syllables_in outputs))))) refl refl refl)
 say P false w (Syllable s ∷ outputs) ends = say P false w outputs ends
 say P headed w (Stop fault ∷ []) ends =
     same_streams _ _ (append-nil (if_headed (going_on headed w) (last_text w.format false w.count) ++ []) ∙ append-nil (if_headed (going_on headed w) (last_text w.format false w.count)))
-    (append-nil (line_of w.name fault.place fault.code ++ []) ∙ append-nil (line_of w.name fault.place fault.code)) refl
+    (append-nil (line_of w.name fault.place fault.code ++ []) ∙ append-nil (line_of w.name fault.place fault.code)) refl refl
 say P headed w (End ∷ []) ends =
     same_streams _ _ (append-nil (if_headed (going_on headed w) (last_text w.format true w.count) ++ []) ∙ append-nil (if_headed (going_on headed w) (last_text w.format true w.count)))
-    refl (ap (status_by None false) (sym (or-false w.errors)))
+    refl (whole_status w.errors ∙ ap (status_by None false) (sym (or-false w.errors))) (whole_fault w.errors)
 say P headed w (Stop fault ∷ (o ∷ outputs)) ends = no_item o outputs ends.0
 say P headed w (End ∷ (o ∷ outputs)) ends = no_item o outputs ends.0
 
 pub outputs_are_said : (P : Type 0) (w : Written) (outputs : List ScoreOutput) → w.ended ≡ None → EndsAtLast P outputs → streams_in w outputs ≡ said w outputs
 outputs_are_said P w outputs goes_on ends =
-    subst (λ (ended : Option Status). let v : Written = record w { ended = ended } in streams_in v outputs ≡ said v outputs) (sym goes_on) (say P w.headed w outputs ends)
+    subst (λ (ended : Option RunEnding). let v : Written = record w { ended = ended } in streams_in v outputs ≡ said v outputs) (sym goes_on) (say P w.headed w outputs ends)
 
 -- ---- the headers
 
@@ -189,9 +198,9 @@ pub in_body : (w : Written) (book : List (List ℕ × List ℕ)) (from_heads : L
 in_body w book from_heads lists headed = without_heads w book from_heads lists (inl (ap (λ (b : Bool). not (b || is_some w.ended)) headed))
 
 -- where the run is over and the score says nothing more
-pub over_is_last : (w : Written) (score : ScoreStageState) (status : Status) → IsOver w score status → (book : List (List ℕ × List ℕ)) (from_heads : List HeadEvent)
-    → streams_from w book from_heads (left_of score from_heads) ≡ ended_with status
-over_is_last w score status over book from_heads =
-    without_heads w book from_heads (left_of score from_heads) (inl (ap (λ (o : Option Status). not (w.headed || is_some o)) over.ended ∙ not_before w.headed))
+pub over_is_last : (w : Written) (score : ScoreStageState) (how : RunEnding) → IsOver w score how → (book : List (List ℕ × List ℕ)) (from_heads : List HeadEvent)
+    → streams_from w book from_heads (left_of score from_heads) ≡ ended_by how
+over_is_last w score how over book from_heads =
+    without_heads w book from_heads (left_of score from_heads) (inl (ap (λ (o : Option RunEnding). not (w.headed || is_some o)) over.ended ∙ not_before w.headed))
     ∙ (ap (streams_in w) (over.silent from_heads)
-    ∙ ap (λ (o : Option Status). behind_bytes [] [] (record { output = ceased_text o w; messages = []; status = ceased_status o })) over.ended)
+    ∙ ap (λ (o : Option RunEnding). behind_bytes [] [] (record (ended_by (ceased_ending o)) { output = ceased_text o w })) over.ended)

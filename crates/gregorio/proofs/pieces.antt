@@ -6,7 +6,6 @@ pub mod RoomIsLeft
 pub mod ItemsAreRead
 pub mod HeadersAreRead
 pub mod BytesAreTaken
-pub mod FrontIsTaken
 pub mod RunIsWritten
 pub mod RunIsTaken
 pub mod NothingIsKeptBack

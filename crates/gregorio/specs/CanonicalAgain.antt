@@ -8,8 +8,8 @@ use Rattle.gregorio_jobs.specs.declared.job.Status.TheVariants.{Whole}
 use Rattle.gregorio.specs.declared.outcome.Outcome.{Outcome}
 use Rattle.gregorio.specs.Outcome.{output_of, is_error_finding, status_of}
 
--- It is whole, and no error is found in it. It has the same book, its syllables say the same, its canonical output is the same, and its
--- dump is that of this book and of these syllables.
+-- It is whole, and no error is found in it. It has the same book, its syllables say the same, its
+-- canonical output is the same, and its dump is that of this book and of these syllables.
 pub record IsOutcomeAgain (first again : Outcome) : Type 0 where
   pub fault : again.score.fault ≡ None
   pub errors : list_any is_error_finding again.score.findings ≡ false

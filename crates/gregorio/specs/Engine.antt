@@ -1,9 +1,10 @@
 -- A run in pieces: what an engine will still write, and how it will end.
-use Rattle.std.specs.Prelude.{◌≡◌, ◌<◌, ◌≤◌, ◌⊎◌, ℕ, List, [], ◌++◌, length, take, Bool, true, false, is_none}
+use Rattle.std.specs.Prelude.{◌≡◌, ◌<◌, ◌≤◌, ◌⊎◌, ℕ, List, [], ◌++◌, length, take, Bool, true, false, Option, is_none}
 use Rattle.gabc_neumes.specs.InForce.{InForce}
 use Rattle.std.specs.List.{All}
 use Rattle.gabc_score.specs.Syllable.{PlacedSyllable}
 use Rattle.gabc_score.specs.UnitRead.{HoldsSomeUnit}
+use Rattle.gabc_places.specs.declared.code.Fault.{Fault}
 use Rattle.gabc_places.specs.declared.limits.Limits.{Limits}
 use Rattle.gregorio_jobs.specs.declared.job.Format.{Format}
 use Rattle.gregorio_jobs.specs.declared.job.Job.{Job}
@@ -13,7 +14,7 @@ use Rattle.gregorio.specs.Outcome.{input_name}
 use Rattle.gregorio.specs.Streams.{Streams, behind_bytes, last_text, texts_behind, count_behind}
 use Rattle.gregorio.specs.declared.source_ending.SourceEnding.{SourceEnding}
 use Rattle.gregorio.specs.declared.source_ending.SourceEnding.TheVariants.{Broken}
-use Rattle.gregorio.specs.witness.Engine.{EngineState, streams_left}
+use Rattle.gregorio.specs.witness.Engine.{EngineState, ceased_ending, fault_of_ending, streams_left}
 
 -- what waits, and then these
 abbrev pub with_waiting : EngineState → Streams → Streams
@@ -25,8 +26,8 @@ pub record NothingWaits (s : EngineState) : Type 0 where
   pub output : s.output ≡ []
   pub messages : s.messages ≡ []
 
--- The text of at most one syllable, whose position in its word is not known yet, and of what stands behind the syllables of a score that is
--- not whole.
+-- The text of at most one syllable, whose position in its word is not known yet, and of what stands
+-- after the syllables of a score that is not whole.
 pub record IsHeldText (format : Format) (output : List ℕ) : Type 0 where
   pub count : ℕ
   pub force : InForce
@@ -36,8 +37,8 @@ pub record IsHeldText (format : Format) (output : List ℕ) : Type 0 where
   pub noted : All (λ (s : PlacedSyllable). HoldsSomeUnit lines s.made) held
   pub is : output ≡ texts_behind format count force held ++ last_text format false (count_behind count held)
 
--- A run that breaks off now has nothing to write that it could have written before: no message, and of the output nothing, or the held
--- syllable and the last text.
+-- A run that breaks off now has nothing to write that it could have written before: no message, and
+-- of the output nothing, or the held syllable and the last text.
 pub record IsPrompt (format : Format) (broken : Streams) : Type 0 where
   pub messages : broken.messages ≡ []
   pub output : (broken.output ≡ []) ⊎ IsHeldText format broken.output
@@ -57,6 +58,10 @@ StillRuns old new = (job : Job) (limits : Limits) → RunsJob job limits old →
 abbrev pub is_running : EngineState → Bool
 is_running s = is_none s.written.ended
 
+-- the fatal fault that stopped the run, if one did
+abbrev pub fault_of : EngineState → Option Fault
+fault_of s = fault_of_ending (ceased_ending s.written.ended)
+
 -- ---- a piece
 
 -- what was to come of these bytes waits, after what waited before, and the rest is still to come
@@ -64,8 +69,9 @@ abbrev pub Brings : EngineState → List ℕ → EngineState → Type 0
 Brings old bytes new =
     (more : List ℕ) (ending : SourceEnding) → with_waiting old (streams_left old ending (bytes ++ more)) ≡ with_waiting new (streams_left new ending more)
 
--- It took `count` bytes from the front of a piece, at least one where nothing waited. What they bring waits, and nothing that is known is kept back but the held
--- syllable. Where the run was over, all bytes are taken and nothing changes; where it is not over, no fault is known.
+-- It took `count` bytes from the front of a piece, at least one where nothing waited. What they
+-- bring waits, and nothing that is known is kept back but the held syllable. Where the run was
+-- over, all bytes are taken and nothing changes; where it is not over, no fault is known.
 pub record TakesFront (old : EngineState) (piece : List ℕ) (count : ℕ) (new : EngineState) : Type 0 where
   pub within : count ≤ length piece
   pub some : NothingWaits old → 0 < length piece → 0 < count

@@ -1,4 +1,5 @@
--- What a run makes of its input, and what it writes: functions of the job, the limits, the bytes that the source gave and how it stopped.
+-- What a run makes of its input, and what it writes: functions of the job, the limits, the bytes
+-- that the source gave and how it stopped.
 use Rattle.std.specs.Prelude.{ℕ, List, [], ◌++◌, Bool, true, false, ◌||◌, not, Option, Some, None, is_some, codes, if◌then◌else◌}
 use Rattle.std.specs.List.{flat_map, list_any}
 use Rattle.gabc_places.specs.declared.limits.Limits.{Limits}
@@ -93,7 +94,8 @@ abbrev pub input_name : Input → List ℕ
 input_name Stdin = codes "<stdin>"
 input_name (File name) = name
 
--- the lines of what a score found, and last that of its fatal fault, where messages call the input so
+-- the lines of what a score found, and last that of its fatal fault, where messages call the input
+-- so
 abbrev pub lines_of : List ℕ → Bool → Score → List ℕ
 lines_of name all_warnings score = flat_map (shown_line name all_warnings) score.findings ++ fault_line name score.fault
 

@@ -1,4 +1,5 @@
--- What is made of the prefix of an input whose run is stopped behind the headers, by a fault or by a source that failed.
+-- What is made of the prefix of an input whose run is stopped after the headers, by a fault or by a
+-- source that failed.
 use Rattle.std.specs.Prelude.{◌≡◌, ℕ, List, ◌++◌, length, take, true, None}
 use Rattle.gabc_places.specs.declared.limits.Limits.{Limits}
 use Rattle.gabc_places.specs.Text.{decoded_of, text_of_bytes}
@@ -11,7 +12,8 @@ use Rattle.gregorio.specs.declared.source_ending.SourceEnding.{SourceEnding}
 use Rattle.gregorio.specs.declared.source_ending.SourceEnding.TheVariants.{Whole}
 use Rattle.gregorio.specs.Outcome.{outcome_of, output_of}
 
--- It is read without a fault. It has the same book and the same syllables, its canonical output is the same, and its dump has one line more, the last.
+-- It is read without a fault. It has the same book and the same syllables, its canonical output is
+-- the same, and its dump has one line more, the last.
 pub record IsOutcomeOfPrefix (first prefix : Outcome) : Type 0 where
   pub fault : prefix.score.fault ≡ None
   pub book : prefix.score.book ≡ first.score.book
@@ -19,8 +21,9 @@ pub record IsOutcomeOfPrefix (first prefix : Outcome) : Type 0 where
   pub output : output_of Gabc prefix ≡ output_of Gabc first
   pub dump : output_of Dump prefix ≡ output_of Dump first ++ end_line (length first.score.syllables)
 
--- So many bytes of an input that ended so and has this book are its prefix: their text is that of the input through the `)` of the last unit
--- that ends before the stop, or through the `%%`, if none does.
+-- So many bytes of an input that ended so and has this book are its prefix: their text is that of
+-- the input through the `)` of the last unit that ends before the stop, or through the `%%`, if
+-- none does.
 pub record IsPrefixBeforeStop (limits : Limits) (ending : SourceEnding) (bytes : List ℕ) (book : List (List ℕ × List ℕ)) (count : ℕ) : Type 0 where
   pub cut : BodyCutting
   pub before : ℕ

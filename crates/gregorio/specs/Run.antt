@@ -37,7 +37,8 @@ pub record Done (job : Job) (limits : Limits) (source out messages : Use) (statu
   pub messages_written : Appends messages.old messages.new (messages_of job (outcome_of limits input.ending input.bytes))
   pub ends : status ≡ status_of (outcome_of limits input.ending input.bytes)
 
--- Of the source these bytes were taken, and it stopped so: `Broken` also where it was not read to a stop, and not one byte above the limit.
+-- Of the source these bytes were taken, and it stopped so: `Broken` also where it was not read to a
+-- stop, and not one byte above the limit.
 pub record Taken (limits : Limits) (source : Use) : Type 0 where
   pub bytes : List ℕ
   pub ending : SourceEnding
@@ -53,11 +54,13 @@ pub record Taken (limits : Limits) (source : Use) : Type 0 where
 abbrev pub OneFails : Use → Use → Type 0
 OneFails out messages = (FailsOnce out.calls_old out.calls_new × GoesOn messages.calls_old messages.calls_new) ⊎ (GoesOn out.calls_old out.calls_new × FailsOnce messages.calls_old messages.calls_new)
 
--- A point of the reading of an input: after a front of it, as if its source failed there, or at its end.
+-- A point of the reading of an input: after a front of it, as if its source failed there, or at its
+-- end.
 abbrev pub IsPointOf : List ℕ → SourceEnding → List ℕ → SourceEnding → Type 0
 IsPointOf bytes ending front at = ((rest : List ℕ) × ((bytes ≡ front ++ rest) × (at ≡ Broken))) ⊎ ((front ≡ bytes) × (at ≡ ending))
 
--- Up to some point of the input this output and these messages are known: nothing else of what is read there is, but for the text of the held syllable.
+-- Up to some point of the input this output and these messages are known: nothing else of what is
+-- read there is, but for the text of the held syllable.
 pub record IsKnown (job : Job) (limits : Limits) (bytes : List ℕ) (ending : SourceEnding) : Type 0 where
   pub front : List ℕ
   pub at : SourceEnding
@@ -68,8 +71,9 @@ pub record IsKnown (job : Job) (limits : Limits) (bytes : List ℕ) (ending : So
   pub known : streams_of_outcome job (outcome_of limits at front) ≡ behind_bytes output lines left
   pub prompt : IsPrompt job.format left
 
--- A sink failed: each stream holds a prefix of its text, for the bytes that were taken. At some point of the input all output that was known is written, and
--- of the messages no more than were known there: so output is written before messages.
+-- A sink failed: each stream holds a prefix of its text, for the bytes that were taken. At some
+-- point of the input all output that was known is written, and of the messages no more than were
+-- known there: so output is written before messages.
 pub record SinkCut (job : Job) (limits : Limits) (source out messages : Use) : Type 0 where
   pub input : Taken limits source
   pub written_count : ℕ
@@ -90,7 +94,8 @@ pub record IsUntouched (end : Use) : Type 0 where
 abbrev pub InTime : Use → Use → Use → Type 0
 InTime source out messages = NoneLate source.calls_old source.calls_new × (NoneLate out.calls_old out.calls_new × NoneLate messages.calls_old messages.calls_new)
 
--- By how the run ended: there was no memory, and nothing was read or written; a sink failed; or all was written.
+-- By how the run ended: there was no memory, and nothing was read or written; a sink failed; or all
+-- was written.
 abbrev pub Compiles : Job → Limits → Use → Use → Use → Status → Type 0
 Compiles job limits source out messages NoMemory = IsUntouched source × (IsUntouched out × IsUntouched messages)
 Compiles job limits source out messages WriteFault = SinkCut job limits source out messages

@@ -22,12 +22,13 @@ abbrev pub held_count : Option UnplacedSyllable → ℕ
 held_count None = 0
 held_count (Some m) = 1
 
--- the canonical text of the syllable that is held behind these: the first one begins a word
+-- the canonical text of the syllable that is held after these: the first one begins a word
 abbrev pub held_text : Preceding → Option UnplacedSyllable → List ℕ
 held_text p None = []
 held_text p (Some m) = canonical ((p.syllables == 0) || m.text.word_start) m
 
--- what a stage over a score tells in the body, where this is in force before the syllable that is held
+-- what a stage over a score tells in the body, where this is in force before the syllable that is
+-- held
 abbrev pub score_fields : InForce → ScoreStageState → ScoreFields
 score_fields force s =
     let text = held_text s.before (held_of s) in
@@ -69,7 +70,8 @@ state_of e = record {
   phase = phase_fields e.heads.progress e.written.force e.score;
 }
 
--- A stage holds this text of headers, behind which the next character stands, and these are the errors that are found in it: some or none.
+-- A stage holds this text of headers, after which the next character stands, and these are the
+-- errors that are found in it: some or none.
 pub record GivesHeaders (limits : Limits) (t : List ℕ) (place : Place) (error : Bool) : Type 0 where
   pub held : IsHeld limits t
   pub next : place ≡ place_after t

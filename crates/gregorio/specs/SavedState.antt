@@ -1,5 +1,5 @@
--- What a saved state is: fields that meet their conditions, and texts that are read as the fields say. It is judged by the limits that it tells
--- itself.
+-- What a saved state is: fields that meet their conditions, and texts that are read as the fields
+-- say. It is judged by the limits that it tells itself.
 use Rattle.std.specs.Prelude.{◌≡◌, ◌≢◌, ◌≤◌, ℕ, ◌-◌, List, [], length}
 use Rattle.std.specs.Str.{chars}
 use Rattle.gabc_places.specs.declared.limits.Limits.{Limits}
@@ -23,7 +23,8 @@ pub record TellsLimits (s : StateFields) (limits : Limits) : Type 0 where
 
 -- ---- the held text
 
--- What stands before the syllable that is held: the state counts that syllable, and its text is the last of the canonical file.
+-- What stands before the syllable that is held: the state counts that syllable, and its text is the
+-- last of the canonical file.
 abbrev pub before_held : ScoreFields → Before
 before_held f = record {
   nabc_lines = f.nabc_lines;
@@ -34,8 +35,9 @@ before_held f = record {
   sounded = f.sounded;
 }
 
--- Read by itself behind what stands before it, the held text is one syllable, whole with its last character: no error is found in it, no limit is
--- passed, and it is the canonical text of that syllable.
+-- Read by itself after what stands before it, the held text is one syllable, whole with its last
+-- character: no error is found in it, no limit is passed, and it is the canonical text of that
+-- syllable.
 pub record IsHeldRead (limits : Limits) (f : ScoreFields) : Type 0 where
   pub m : UnplacedSyllable
   pub may : MayBeHeld limits (before_held f) (chars f.held) m
@@ -55,7 +57,8 @@ pub record IsScoreRead (limits : Limits) (f : ScoreFields) : Type 0 where
   pub held : f.held ≢ [] → IsHeldRead limits f
   pub kept : IsKeptRead limits f
 
--- The text of the headers ends there, and gives this place and these errors; or the texts of the score are read as it says.
+-- The text of the headers ends there, and gives this place and these errors; or the texts of the
+-- score are read as it says.
 abbrev pub IsPhaseRead : Limits → StateFields → PhaseFields → Type 0
 IsPhaseRead limits s (InHeaders headers) = GivesHeaders limits (chars headers) s.place s.has_error
 IsPhaseRead limits s (InScore f) = IsScoreRead limits f

@@ -1,6 +1,8 @@
--- What a run writes: its output, its messages and its status; the texts of which an output is joined.
-use Rattle.std.specs.Prelude.{ℕ, ◌+◌, ◌-◌, ◌^◌, min, List, [], ◌∷◌, ◌++◌, Bool, encode_utf8_all, codes, map, if◌then◌else◌}
+-- What a run writes: its output, its messages and its status; the texts of which an output is
+-- joined.
+use Rattle.std.specs.Prelude.{ℕ, ◌+◌, ◌-◌, ◌^◌, min, List, [], ◌∷◌, ◌++◌, Bool, Option, encode_utf8_all, codes, map, if◌then◌else◌}
 use Rattle.std.specs.Borrow.{Bor}
+use Rattle.gabc_places.specs.declared.code.Fault.{Fault}
 use Rattle.gabc_places.specs.StageLaw.{concat_of}
 use Rattle.gabc_headers.specs.Canonical.{canonical_heads}
 use Rattle.gabc_neumes.specs.InForce.{InForce, passed}
@@ -15,19 +17,21 @@ use Rattle.gregorio_jobs.specs.declared.job.Format.TheVariants.{Gabc, Dump}
 use Rattle.gregorio_jobs.specs.declared.job.Job.{Job}
 use Rattle.gregorio_jobs.specs.declared.job.Status.{Status}
 
--- The bytes of an output and of messages, and the status of the run that writes them.
+-- The bytes of an output and of messages, the status of the run that writes them, and the fatal
+-- fault that stopped it, if one did.
 pub record Streams : Type 0 where
   pub output : List ℕ
   pub messages : List ℕ
   pub status : Status
+  pub fault : Option Fault
 
 -- nothing more is written
-abbrev pub ended_with : Status → Streams
-ended_with status = record { output = []; messages = []; status = status }
+abbrev pub ended_with : Status → Option Fault → Streams
+ended_with status fault = record { output = []; messages = []; status = status; fault = fault }
 
 -- those of a whole run of a job
 abbrev pub streams_of_outcome : Job → Outcome → Streams
-streams_of_outcome job outcome = record { output = output_of job.format outcome; messages = messages_of job outcome; status = status_of outcome }
+streams_of_outcome job outcome = record { output = output_of job.format outcome; messages = messages_of job outcome; status = status_of outcome; fault = outcome.score.fault }
 
 -- these bytes, and what follows them
 abbrev pub behind_bytes : List ℕ → List ℕ → Streams → Streams
@@ -43,21 +47,21 @@ abbrev pub syllable_text : Format → ℕ → InForce → PlacedSyllable → Lis
 syllable_text Gabc number force s = canonical_in_place s
 syllable_text Dump number force s = lines_of_syllable number force s
 
--- what is in force behind a syllable: the canonical form asks for nothing of it
+-- what is in force after a syllable: the canonical form asks for nothing of it
 abbrev pub force_behind : Format → InForce → PlacedSyllable → InForce
 force_behind Gabc force s = force
 force_behind Dump force s = passed force (steps_of_syllable s)
 
--- what stands behind so many syllables, which are the whole score or not
+-- what stands after so many syllables, which are the whole score or not
 abbrev pub last_text : Format → Bool → ℕ → List ℕ
 last_text Gabc whole count = codes "\n"
 last_text Dump whole count = if whole then end_line count else []
 
--- the number behind this one; the last value of a `u64` stays
+-- the number after this one; the last value of a `u64` stays
 abbrev pub next_number : ℕ → ℕ
 next_number count = min (count + 1) (2 ^ 64 - 1)
 
--- the texts of syllables behind so many, before which this is in force
+-- the texts of syllables after so many, before which this is in force
 abbrev pub texts_behind : Format → ℕ → InForce → List PlacedSyllable → List ℕ
 texts_behind format count force [] = []
 texts_behind format count force (s ∷ syllables) =
@@ -67,6 +71,6 @@ abbrev pub count_behind : ℕ → List PlacedSyllable → ℕ
 count_behind count [] = count
 count_behind count (s ∷ syllables) = count_behind (next_number count) syllables
 
--- the bytes of pieces, one behind the other
+-- the bytes of pieces, one after the other
 abbrev pub joined : List (Bor (List ℕ)) → List ℕ
 joined pieces = concat_of (map (λ (p : Bor (List ℕ)). p.now) pieces)

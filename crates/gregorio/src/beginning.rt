@@ -9,7 +9,8 @@ ghost use Rattle.gregorio.specs.Streams.{streams_of_outcome};
 ghost use Rattle.gregorio.specs.witness.Engine.{EngineState, streams_left};
 ghost use Rattle.gregorio.specs.machine.Begun.{HasBegun};
 
-/// Does nothing but call laws. Its contract is one: an engine that has taken nothing will write what a run writes of its whole input.
+/// Does nothing but call laws. Its contract is one: an engine that has taken nothing will write
+/// what a run writes of its whole input.
 #[inline(always)]
 pub(crate) fn what_begins_is_written_whole()
     ensures { (job : Job) (limits : Limits) (s : EngineState) → HasBegun job limits s →

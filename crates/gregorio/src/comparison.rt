@@ -6,8 +6,8 @@ ghost use Rattle.gregorio.specs.machine.Comparison.{compared_with};
 use gabc_places::Put;
 use std::marker::Model;
 
-/// Compares the bytes that it takes with a text, and asks for no memory. Contracts see the rest of the text that has still to come, as long as what
-/// came is the text's.
+/// Compares the bytes that it takes with a text, and asks for no memory. Contracts see the rest of
+/// the text that has still to come, as long as what came is the text's.
 #[derive(Drop)]
 pub(crate) struct Comparison<'a> {
     rest: Option<&'a [u8]>,

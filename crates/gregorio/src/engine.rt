@@ -1,7 +1,7 @@
 //! A run that takes its input in pieces.
 
 ghost use Rattle.std.specs.Hash.DefaultHasher.{initial};
-ghost use Rattle.std.specs.Prelude.{◌≡◌, ◌<◌, ◌≤◌, ◌-◌, List, [], ◌∷◌, ◌++◌, length, take, not, true, false, ℕ, Bool, IfOk, option_to_list};
+ghost use Rattle.std.specs.Prelude.{◌≡◌, ◌<◌, ◌≤◌, ◌-◌, List, [], ◌∷◌, ◌++◌, length, take, not, true, false, ℕ, Bool, IfOk, None, option_to_list};
 ghost use Rattle.gabc_headers.specs.declared.head_event.HeadEvent.{HeadEvent as HeadItem};
 ghost use Rattle.gregorio.specs.declared.source_ending.SourceEnding.{SourceEnding as EndOfSource};
 ghost use Rattle.gregorio.specs.declared.source_ending.SourceEnding.TheVariants.{Whole, Broken};
@@ -9,7 +9,7 @@ ghost use Rattle.gabc_places.specs.declared.limits.Limits.{Limits};
 ghost use Rattle.gregorio_jobs.specs.declared.job.Job.{Job};
 ghost use Rattle.gregorio_jobs.specs.declared.job.Status.TheVariants.{ReadFault};
 ghost use Rattle.gregorio.specs.Outcome.{outcome_of};
-ghost use Rattle.gregorio.specs.Engine.{Brings, IsPrompt, NothingWaits, RunsJob, StillRuns, TakesFront, is_running, with_waiting};
+ghost use Rattle.gregorio.specs.Engine.{Brings, IsPrompt, NothingWaits, RunsJob, StillRuns, TakesFront, fault_of, is_running, with_waiting};
 ghost use Rattle.gregorio.specs.witness.Engine.{streams_left};
 ghost use Rattle.gregorio.specs.Streams.{streams_of_outcome, ended_with};
 ghost use Rattle.gregorio.specs.machine.Engine.{GoTogether, IsNoCharacter, LeavesRoom, WritesAll, WritesItems, event_of_item, headed_past};
@@ -96,7 +96,8 @@ fn body_event(item: Result<Char, Fault>) -> HeadEvent
     }
 }
 
-/// Reads a character, or the fault that stops the text. Behind the line `%%` the stage of headers is left out.
+/// Reads a character, or the fault that stops the text. After the line `%%` the stage of headers is
+/// left out.
 #[inline(always)]
 fn read(
     item: Result<Char, Fault>,
@@ -183,12 +184,14 @@ fn read_decoded(
 }
 
 impl Engine {
-    /// Returns an engine for `job` under `limits`, before the first byte of its input, and reserves the memory that it ever takes. It fails only
-    /// for want of memory. The ends that `job` names
-    /// are not opened: its format, the name of its input and whether it wants warnings are all that counts.
+    /// Returns an engine for `job` under `limits`, before the first byte of its input, and reserves
+    /// the memory that it ever takes. It fails only for want of memory. The ends that `job` names
+    /// are not opened: its format, the name of its input and whether it wants warnings are all that
+    /// counts.
     ///
-    /// Names of headers are hashed with fixed keys. Where strangers choose the names, they can choose them so that the headers are read
-    /// slowly (see docs/BENCHMARKS.md): take `with_hasher` there.
+    /// Names of headers are hashed with fixed keys. Where strangers choose the names, they can
+    /// choose them so that the headers are read slowly (see docs/BENCHMARKS.md): take `with_hasher`
+    /// there.
     pub fn new(alloc: Global, job: &Job, limits: Limits) -> Result<Engine, AllocError>
         ensures all { IfOk result (λ engine. (bytes : List ℕ) (ending : EndOfSource) →
             streams_left engine ending bytes
@@ -201,8 +204,8 @@ impl Engine {
         Engine::with_hasher(alloc, job, limits, DefaultHasher::new())
     }
 
-    /// Returns an engine as `new` does, which hashes the names of headers from `hasher` on, as `RandomState::new(&rt)?.build_hasher()`. What
-    /// is written does not depend on it.
+    /// Returns an engine as `new` does, which hashes the names of headers from `hasher` on, as
+    /// `RandomState::new(&rt)?.build_hasher()`. What is written does not depend on it.
     pub fn with_hasher(
         alloc: Global,
         job: &Job,
@@ -262,6 +265,8 @@ impl Engine {
         ensures prompt { IsPrompt self.now.written.format (streams_left self.now Broken []) }
         ensures running { is_running self.now ≡ true →
             (streams_left self.now Broken []).status ≡ ReadFault }
+        ensures fault { is_running self.now ≡ true →
+            (streams_left self.now Broken []).fault ≡ None }
     {
         gabc_score::stage_laws::inputs_that_cease_give_no_stop();
         gabc_score::stage_laws::what_breaks_off_holds_a_unit();
@@ -326,29 +331,7 @@ impl Engine {
         );
     }
 
-    /// Takes bytes from the front of `piece` at which nothing is written, and returns how many. It takes none before the line `%%`, none past
-    /// the limit of the input, and of those that it could take it may leave some to `take`.
-    #[inline(always)]
-    fn take_front(&mut self, piece: &[u8]) -> usize
-        ensures taken { result ≤ length piece.now }
-        ensures law { (bytes : List ℕ) (ending : EndOfSource)
-            → streams_left self.old ending (take result piece.now ++ bytes)
-            ≡ streams_left self.new ending bytes }
-        ensures written { self.new.written ≡ self.old.written }
-        ensures limits { self.new.score.limits ≡ self.old.score.limits }
-        ensures job { StillRuns self.old self.new }
-        ensures output { self.new.output ≡ self.old.output }
-        ensures messages { self.new.messages ≡ self.old.messages }
-    {
-        let most = self.decoder.most_skipped().min(piece.len());
-        let front = &piece[..most];
-        let count = self.writer.take_front(self.decoder.place(), front);
-        self.decoder.skip(&front[..count]);
-        count
-    }
-
-    /// Takes bytes from the front of `piece` at which nothing is written, and behind them one byte more, if there is one. Returns how many it
-    /// took.
+    /// Takes the first byte of `piece`, if there is one, and returns how many it took.
     #[inline(always)]
     pub(crate) fn take_some(&mut self, piece: &[u8]) -> usize
         requires room { LeavesRoom self.old }
@@ -363,17 +346,19 @@ impl Engine {
         ensures fault { is_running self.old ≡ true → is_running self.new ≡ false →
             (streams_left self.old Broken (take (result - 1) piece.now)).status ≡ ReadFault }
     {
-        let count = self.take_front(piece);
-        if count == piece.len() {
-            return count;
+        match piece.first() {
+            Some(byte) => {
+                self.take(*byte);
+                1
+            }
+            None => 0,
         }
-        self.take(piece[count]);
-        count + 1
     }
 
-    /// Takes bytes of `piece` until it is used up or output or messages wait, and returns how many. Nothing may wait before. What waits then
-    /// became known with the last byte that it took, and all that is known waits, but for the syllable that is held. Behind a fatal
-    /// fault or the end it takes the whole piece and changes nothing.
+    /// Takes bytes of `piece` until it is used up or output or messages wait, and returns how many.
+    /// Nothing may wait before. What waits then became known with the last byte that it took, and
+    /// all that is known waits, but for the syllable that is held. After a fatal fault or the end
+    /// it takes the whole piece and changes nothing.
     pub fn feed(&mut self, piece: &[u8]) -> usize
         requires waits { NothingWaits self.old }
         ensures takes { TakesFront self.old piece.now result self.new }
@@ -426,19 +411,21 @@ impl Engine {
         self.writer.clear();
     }
 
-    /// Ends the input, and returns how the run ended. What waits then is the last. Nothing may wait before. Called again, or behind a fatal
-    /// fault, it changes nothing and returns the same status.
+    /// Ends the input, and returns how the run ended. What waits then is the last. Nothing may wait
+    /// before. Called again, or after a fatal fault, it changes nothing and returns the same
+    /// status.
     pub fn end(&mut self) -> Status
         requires waits { NothingWaits self.old }
-        ensures law { streams_left self.old Whole [] ≡ with_waiting self.new (ended_with result) }
+        ensures law { streams_left self.old Whole []
+            ≡ with_waiting self.new (ended_with result (fault_of self.new)) }
         ensures last { (bytes : List ℕ) (ending : EndOfSource) →
-            streams_left self.new ending bytes ≡ ended_with result }
+            streams_left self.new ending bytes ≡ ended_with result (fault_of self.new) }
         ensures over { is_running self.new ≡ false }
         ensures job { StillRuns self.old self.new }
         ensures again { is_running self.old ≡ false → self.new ≡ self.old }
     {
-        if let Some(status) = self.writer.ended() {
-            return status;
+        if let Some(ended) = self.writer.ended() {
+            return ended.status();
         }
         let item = self.decoder.end();
         read_decoded(
@@ -450,29 +437,32 @@ impl Engine {
         self.from_heads.clear();
         self.heads.finish(&mut self.from_heads);
         pass_on(self.from_heads.slice(), &self.heads, &mut self.writer);
-        self.writer.finish()
+        self.writer.finish().status()
     }
 
-    /// Ends the run of an input whose source has failed, and returns how it ended. What waits then is the last. Nothing may wait before.
-    /// Called again, or behind a fatal fault, it changes nothing and returns the same status.
+    /// Ends the run of an input whose source has failed, and returns how it ended. What waits then
+    /// is the last. Nothing may wait before. Called again, or after a fatal fault, it changes
+    /// nothing and returns the same status.
     pub fn broken(&mut self) -> Status
         requires waits { NothingWaits self.old }
-        ensures law { streams_left self.old Broken [] ≡ with_waiting self.new (ended_with result) }
+        ensures law { streams_left self.old Broken []
+            ≡ with_waiting self.new (ended_with result (fault_of self.new)) }
         ensures last { (bytes : List ℕ) (ending : EndOfSource) →
-            streams_left self.new ending bytes ≡ ended_with result }
+            streams_left self.new ending bytes ≡ ended_with result (fault_of self.new) }
         ensures over { is_running self.new ≡ false }
         ensures job { StillRuns self.old self.new }
         ensures again { is_running self.old ≡ false → self.new ≡ self.old }
     {
-        if let Some(status) = self.writer.ended() {
-            return status;
+        if let Some(ended) = self.writer.ended() {
+            return ended.status();
         }
         // The stages read no end.
-        self.writer.finish()
+        self.writer.finish().status()
     }
 
-    /// Begins again, as a new engine for the same job under the same limits does, wherever it stands. What waits is forgotten. It asks for no
-    /// memory, and hashes the names of headers as before.
+    /// Begins again, as a new engine for the same job under the same limits does, wherever it
+    /// stands. What waits is forgotten. It asks for no memory, and hashes the names of headers as
+    /// before.
     pub fn restart(&mut self)
         ensures all { (job : Job) (limits : Limits) → RunsJob job limits self.old →
             (bytes : List ℕ) (ending : EndOfSource) → streams_left self.new ending bytes
@@ -494,5 +484,19 @@ impl Engine {
         ensures { result ≡ is_running self.now }
     {
         self.writer.ended().is_none()
+    }
+
+    /// Returns the fatal fault that stopped the run, with its place: from the byte or the end that
+    /// makes it known until `restart`. It is the one of which the last message tells. There is none
+    /// while the run goes on, nor after an input that was read to its end or whose source failed.
+    pub fn fault(&self) -> Option<Fault>
+        ensures fault { result ≡ fault_of self.now }
+        ensures known { result ≡ (streams_left self.now Broken []).fault }
+        ensures running { is_running self.now ≡ true → result ≡ None }
+        ensures over { is_running self.now ≡ false → (bytes : List ℕ) (ending : EndOfSource) →
+            (streams_left self.now ending bytes).fault ≡ result }
+    {
+        self.keeps_nothing_back();
+        self.writer.ended()?.fault()
     }
 }

@@ -37,8 +37,8 @@ impl Engine {
         count
     }
 
-    /// Takes bytes of `part` until it is used up or what waits leaves no room for what one byte more
-    /// may bring, and returns how many, at least one.
+    /// Takes bytes of `part` until it is used up or what waits leaves no room for what one byte
+    /// more may bring, and returns how many, at least one.
     fn fill_part(&mut self, part: &[u8]) -> usize
         requires room { LeavesRoom self.old }
         requires running { is_running self.old ≡ true }
@@ -52,6 +52,10 @@ impl Engine {
             (streams_left self.old Broken (take (result - 1) part.now)).status ≡ ReadFault }
     {
         let text = valid_front(part);
+        if text.is_empty() {
+            // It begins within a character, or with what is none.
+            return self.take_some(part);
+        }
         let mut count = 0;
         while count < part.len() && self.has_room() {
             count += self.take_next(part, text, count);

@@ -16,7 +16,7 @@ use gabc_places::{Char, Place, Room, Stage};
 /// What a text of headers gives beside the stage that holds it.
 #[derive(Clone, Copy, PartialEq, Eq)]
 pub(crate) struct HeldHeaders {
-    /// Where the character behind it stands.
+    /// Where the character after it stands.
     pub(crate) place: Place,
     /// Whether an error is found in it.
     pub(crate) has_error: bool,
@@ -39,7 +39,8 @@ fn has_error(events: &[HeadEvent]) -> bool
     events.iter().any(|event| is_error_event(*event))
 }
 
-/// Pushes `x` into `heads`, and returns whether an error is found with it. `events` has room for what the stage emits.
+/// Pushes `x` into `heads`, and returns whether an error is found with it. `events` has room for
+/// what the stage emits.
 fn push_character(heads: &mut HeaderStage, x: Char, events: &mut Room<HeadEvent>) -> bool
     requires { 2 ≤ events.old.limit }
     ensures room { events.new.limit ≡ events.old.limit }
@@ -52,8 +53,8 @@ fn push_character(heads: &mut HeaderStage, x: Char, events: &mut Room<HeadEvent>
     has_error(events.slice())
 }
 
-/// Pushes the characters of `text` into `heads`, which stands before the first one, and returns what they give. `events` has room for what is
-/// emitted of one.
+/// Pushes the characters of `text` into `heads`, which stands before the first one, and returns
+/// what they give. `events` has room for what is emitted of one.
 fn push_text(heads: &mut HeaderStage, text: &str, events: &mut Room<HeadEvent>) -> HeldHeaders
     requires fresh { heads.old ≡ fresh_stage heads.old.limits heads.old.hasher }
     requires short { length text.now < 2 ^ 63 }
@@ -78,8 +79,9 @@ fn push_text(heads: &mut HeaderStage, text: &str, events: &mut Room<HeadEvent>) 
     given
 }
 
-/// Reads `text` with `heads`, which stands before its first character. Returns whether its end alone stops it and it gives what `told` says. `events`
-/// has room for what is emitted of a character.
+/// Reads `text` with `heads`, which stands before its first character. Returns whether its end
+/// alone stops it and it gives what `told` says. `events` has room for what is emitted of a
+/// character.
 pub(crate) fn holds_text(
     heads: &mut HeaderStage,
     text: &str,
@@ -102,7 +104,8 @@ pub(crate) fn holds_text(
     given == told
 }
 
-/// Reads the line `%%` with `heads`, which stands before the first character of a text. `events` has room for what is emitted of a character.
+/// Reads the line `%%` with `heads`, which stands before the first character of a text. `events`
+/// has room for what is emitted of a character.
 pub(crate) fn read_mark(heads: &mut HeaderStage, events: &mut Room<HeadEvent>)
     requires fresh { heads.old ≡ fresh_stage heads.old.limits heads.old.hasher }
     requires room { 2 ≤ events.old.limit }

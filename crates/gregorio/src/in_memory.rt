@@ -3,7 +3,7 @@
 ghost use Rattle.std.specs.Prelude.{◌≡◌, List, [], ◌++◌, ℕ, false};
 ghost use Rattle.gregorio.specs.declared.source_ending.SourceEnding.{SourceEnding as EndOfSource};
 ghost use Rattle.gregorio.specs.declared.source_ending.SourceEnding.TheVariants.{Whole};
-ghost use Rattle.gregorio.specs.Engine.{NothingWaits, StillRuns, is_running};
+ghost use Rattle.gregorio.specs.Engine.{NothingWaits, StillRuns, fault_of, is_running};
 ghost use Rattle.gregorio.specs.Streams.{ended_with};
 ghost use Rattle.gregorio.specs.witness.Engine.{streams_left};
 ghost use Rattle.gregorio.specs.machine.InMemory.{TakeTheSame};
@@ -23,7 +23,8 @@ pub(crate) fn put_waiting<O: Put, M: Put>(engine: &mut Engine, out: &mut O, mess
     engine.taken();
 }
 
-/// Feeds all of `input`, and puts what is written at it. What follows it, and how all of it ends, makes no difference.
+/// Feeds all of `input`, and puts what is written at it. What follows it, and how all of it ends,
+/// makes no difference.
 pub(crate) fn feed_input<O: Put, M: Put>(
     engine: &mut Engine,
     input: &[u8],
@@ -61,11 +62,12 @@ impl Engine {
         ensures messages { messages.new
             ≡ M.taken messages.old (streams_left self.old Whole input.now).messages }
         ensures status { result ≡ (streams_left self.old Whole input.now).status }
+        ensures fault { fault_of self.new ≡ (streams_left self.old Whole input.now).fault }
         ensures job { StillRuns self.old self.new }
         ensures waits { NothingWaits self.new }
         ensures over { is_running self.new ≡ false }
         ensures last { (bytes : List ℕ) (ending : EndOfSource) →
-            streams_left self.new ending bytes ≡ ended_with result }
+            streams_left self.new ending bytes ≡ ended_with result (fault_of self.new) }
     {
         feed_input(self, input, out, messages);
         let status = self.end();

@@ -1,5 +1,5 @@
-//! A run that is interrupted behind each piece of its input: saved, and restored. The contract of the one public function is a law, and its body
-//! makes the calls.
+//! A run that is interrupted after each piece of its input: saved, and restored. The contract of
+//! the one public function is a law, and its body makes the calls.
 
 ghost use Rattle.std.specs.Prelude.{◌≡◌, ◌+◌, ◌*◌, ◌≤◌, ℕ, List, [], ◌++◌, length, max, IfErr, IfOk, OnOk};
 ghost use Rattle.gregorio.specs.declared.source_ending.SourceEnding.{SourceEnding as EndOfSource};
@@ -11,7 +11,7 @@ ghost use Rattle.gregorio.specs.machine.InMemory.{TakeTheSame};
 
 use crate::engine::Engine;
 use crate::in_memory::{feed_input, put_waiting};
-use crate::restored_laws::a_restored_run_goes_on;
+use crate::restored_laws;
 use crate::source_ending::SourceEnding;
 use crate::state_fault::StateFault;
 use gabc_places::{Limits, Put};
@@ -19,7 +19,8 @@ use gregorio_jobs::{Job, Status};
 use std::alloc::Global;
 use std::mem;
 
-/// Feeds `piece`, and puts what is written at it. If the run goes on, it is saved into `buf`, and an engine that is restored takes its place.
+/// Feeds `piece`, and puts what is written at it. If the run goes on, it is saved into `buf`, and
+/// an engine that is restored takes its place.
 fn feed_and_restore<O: Put, M: Put>(
     alloc: Global,
     engine: &mut Engine,
@@ -42,14 +43,14 @@ fn feed_and_restore<O: Put, M: Put>(
 {
     feed_input(engine, piece, out, messages);
     if engine.running() {
-        let restored = a_restored_run_goes_on(alloc, engine, job, limits, buf)?;
+        let restored = restored_laws::a_restored_run_goes_on(alloc, engine, job, limits, buf)?;
         // A proof follows a call faster than all that lies inside an engine.
         drop(mem::replace(engine, restored));
     }
     Ok(())
 }
 
-/// Feeds each of `pieces`, and restores the run behind it.
+/// Feeds each of `pieces`, and restores the run after it.
 fn feed_pieces<O: Put, M: Put>(
     alloc: Global,
     engine: &mut Engine,
@@ -96,8 +97,9 @@ fn end_by<O: Put, M: Put>(
     status
 }
 
-/// A run that is saved and restored behind each of `pieces`, however its input is cut into them, writes the output and the messages and ends with the
-/// status of a run without a break: they are put into `out` and `messages`. `buf` is for its states. The error is that of too little memory.
+/// A run that is saved and restored after each of `pieces`, however its input is cut into them,
+/// writes the output and the messages and ends with the status of a run without a break: they are
+/// put into `out` and `messages`. `buf` is for its states. The error is that of too little memory.
 pub fn a_run_may_be_interrupted<O: Put, M: Put>(
     alloc: Global,
     job: &Job,

@@ -1,4 +1,5 @@
-//! Laws of the definitions that contracts speak of. Each function's contract is a law; its body calls the laws below that it stands on.
+//! Laws of the definitions that contracts speak of. Each function's contract is a law; its body
+//! calls the laws below that it stands on.
 
 ghost use Rattle.std.specs.Prelude.{◌≡◌, ℕ, ◌≤◌, List, [], length, true, false, IsSome, None, Some};
 ghost use Rattle.std.specs.Io.KnownBytes.{Appends};
@@ -17,9 +18,11 @@ ghost use Rattle.gregorio.specs.Outcome.{is_read_whole, outcome_of, output_of};
 ghost use Rattle.gregorio_jobs.specs.declared.job.Format.{Format};
 ghost use Rattle.gregorio.specs.Run.{Use, Done};
 
-/// A canonical output whose headers are whole, also that of a run that was stopped or broken off, is compiled again under the same
-/// limits, or larger ones, without a fault and without an error: it has the same book, its syllables say the same, its canonical
-/// output is the same, and its dump is that of this book and these syllables. No canonical output has more bytes than the input may have.
+/// Law: a canonical output whose headers are whole, also that of a run that was stopped or broken
+/// off, is compiled again under the same limits, or larger ones, without a fault and without an
+/// error: it has the same book, its syllables say the same, its canonical output is the same, and
+/// its dump is that of this book and these syllables. No canonical output has more bytes than the
+/// input may have.
 pub fn canonical_again()
     ensures again { (limits larger : Limits) (ending : SourceEnding) (bytes : List ℕ) →
         let first = outcome_of limits ending bytes in
@@ -35,8 +38,9 @@ pub fn canonical_again()
     gabc_write::laws::syllables_that_say_the_same_have_one_dump();
 }
 
-/// A run to canonical form over a source that holds a canonical output whose headers are whole, and that does not fail, writes this
-/// output again under the same limits or larger ones, if it writes all, and its status is `Whole`.
+/// Law: a run to canonical form over a source that holds a canonical output whose headers are
+/// whole, and that does not fail, writes this output again under the same limits or larger ones, if
+/// it writes all, and its status is `Whole`.
 pub fn a_run_over_an_output_repeats_it()
     ensures { (job : Job) (limits larger : Limits) (ending : SourceEnding) (bytes : List ℕ)
         (source out messages : Use) (status : Status) →
@@ -50,9 +54,11 @@ pub fn a_run_over_an_output_repeats_it()
     canonical_again();
 }
 
-/// A run that is stopped behind its headers, by a fault or by a source that failed, writes what a prefix of its bytes writes when it is read
-/// as a whole: the bytes of its text through the `)` of the last whole syllable, or through the `%%`, if there is none. This prefix has no
-/// fault, the same book and the same syllables. Only its dump has one line more, the last. A run that is stopped before has no output.
+/// Law: a run that is stopped after its headers, by a fault or by a source that failed, writes what
+/// a prefix of its bytes writes when it is read as a whole: the bytes of its text through the `)`
+/// of the last whole syllable, or through the `%%`, if there is none. This prefix has no fault, the
+/// same book and the same syllables. Only its dump has one line more, the last. A run that is
+/// stopped before has no output.
 pub fn a_stopped_run_writes_what_its_prefix_writes()
     ensures prefix { (limits : Limits) (ending : SourceEnding) (bytes : List ℕ)
         (book : List (List ℕ × List ℕ)) →
@@ -71,8 +77,9 @@ pub fn a_stopped_run_writes_what_its_prefix_writes()
     gabc_score::laws::a_stopped_score_is_that_of_its_prefix();
 }
 
-/// Larger limits change nothing where neither the headers nor a syllable were too long: what is read, or is stopped for another reason, is read so
-/// under limits that are no less, if the input may be as long.
+/// Law: larger limits change nothing where neither the headers nor a syllable were too long: what
+/// is read, or is stopped for another reason, is read so under limits that are no less, if the
+/// input may be as long.
 pub fn larger_limits_change_nothing()
     ensures { (limits larger : Limits) (ending : SourceEnding) (bytes : List ℕ) →
         AreNoLess limits larger → limits.input ≡ larger.input →

@@ -1,14 +1,22 @@
-//! Reads a score of Gregorian chant in GABC, and writes it in canonical form or as a dump. Re-exports what `gregorio_jobs` has: words, plans,
-//! jobs and statuses.
+//! Reads a score of Gregorian chant in GABC, and writes it in canonical form or as a dump.
+//! Re-exports what `gregorio_jobs` has: words, plans, jobs and statuses.
 //!
-//! Any `Source` and any two `Sink`s serve; `FromReader` and `ToWriter` of `gabc_places` make them of readers and writers:
+//! Any `Source` and any two `Sink`s serve; `FromReader` and `ToWriter` of `gabc_places` make them
+//! of readers and writers:
 //!
 //! ```
-//! let job = Job { format: Format::Gabc, input: Input::Stdin, output: Output::Stdout, messages: None, all_warnings: true };
+//! let job = Job {
+//!     format: Format::Gabc,
+//!     input: Input::Stdin,
+//!     output: Output::Stdout,
+//!     messages: None,
+//!     all_warnings: true,
+//! };
 //! let mut source = FromReader::new(b"%%\nKy(f)ri(g)".as_slice());
 //! let mut out = ToWriter::new(Vec::new(alloc));
 //! let mut messages = ToWriter::new(Vec::new(alloc));
-//! let status = compile(alloc, &job, Limits::DEFAULT, &mut source, &mut out, &mut messages); // Status::Whole
+//! // Status::Whole
+//! let status = compile(alloc, &job, Limits::DEFAULT, &mut source, &mut out, &mut messages);
 //! let canonical = out.inner().as_slice(); // "%%\nKy(f)ri(g)\n"
 //! ```
 #![tactic(auto)]
@@ -28,6 +36,7 @@ pub mod restored_laws;
 mod restoring;
 mod rooms;
 mod run;
+mod run_ending;
 pub mod run_ends;
 mod run_writer;
 pub mod saved_alike;

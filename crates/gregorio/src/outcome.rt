@@ -42,9 +42,10 @@ fn is_cut_short(ending: SourceEnding, fault: Option<Fault>) -> bool
 }
 
 impl Outcome {
-    /// Reads the score of `bytes` under `limits`. The bytes are a whole input, or those that came before its source failed, as `ending`
-    /// tells. It fails only for want of memory. The names of headers are hashed with a fixed key: where strangers write the bytes and `limits.header`
-    /// is large, take `of_with_hasher`.
+    /// Reads the score of `bytes` under `limits`. The bytes are a whole input, or those that came
+    /// before its source failed, as `ending` tells. It fails only for want of memory. The names of
+    /// headers are hashed with a fixed key: where strangers write the bytes and `limits.header` is
+    /// large, take `of_with_hasher`.
     pub fn of(
         alloc: Global,
         bytes: &[u8],
@@ -56,7 +57,8 @@ impl Outcome {
         Outcome::of_with_hasher(alloc, bytes, ending, limits, DefaultHasher::new())
     }
 
-    /// Reads the score of `bytes` as `of` does, and hashes the names of its headers from `hasher` on. What it returns does not depend on `hasher`.
+    /// Reads the score of `bytes` as `of` does, and hashes the names of its headers from `hasher`
+    /// on. What it returns does not depend on `hasher`.
     pub fn of_with_hasher(
         alloc: Global,
         bytes: &[u8],

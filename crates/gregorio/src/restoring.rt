@@ -68,8 +68,9 @@ pub(crate) fn fresh_heads(
     }
 }
 
-/// Returns a stage of headers that holds `text`, the text of the headers of `state`. The error is `K1` where the text does not end there, or gives
-/// another place or other errors, and `K0` where there is no memory.
+/// Returns a stage of headers that holds `text`, the text of the headers of `state`. The error is
+/// `K1` where the text does not end there, or gives another place or other errors, and `K0` where
+/// there is no memory.
 fn heads_holding(
     memory: &Memory,
     state: &StateFields<'_>,
@@ -99,7 +100,7 @@ fn heads_holding(
     }
 }
 
-/// Returns a stage of headers behind their line `%%`.
+/// Returns a stage of headers after their line `%%`.
 fn heads_behind(
     memory: &Memory,
     limits: Limits,
@@ -222,7 +223,8 @@ fn score_writer_of(
     }
 }
 
-/// Returns the engine of `job` under `limits` that goes on with `heads` and `score` where `state` tells, a state of `job`.
+/// Returns the engine of `job` under `limits` that goes on with `heads` and `score` where `state`
+/// tells, a state of `job`.
 fn engine_with(
     memory: &Memory,
     job: &Job,
@@ -259,8 +261,8 @@ fn engine_with(
     }
 }
 
-/// Returns an engine that goes on in the headers, of which `state` has read `text`, a state of `job`
-/// under `limits`. Its errors are those of `restore`.
+/// Returns an engine that goes on in the headers, of which `state` has read `text`, a state of
+/// `job` under `limits`. Its errors are those of `restore`.
 fn engine_in_headers(
     memory: &Memory,
     job: &Job,
@@ -288,8 +290,8 @@ fn engine_in_headers(
     }
 }
 
-/// Returns an engine that goes on in the score where `fields` of `state` say, a state of `job` under
-/// `limits`. Its errors are those of `restore`.
+/// Returns an engine that goes on in the score where `fields` of `state` say, a state of `job`
+/// under `limits`. Its errors are those of `restore`.
 fn engine_in_score(
     memory: &Memory,
     job: &Job,
@@ -318,13 +320,16 @@ fn engine_in_score(
 }
 
 impl Engine {
-    /// Returns an engine that goes on where the run stood whose saved state is `bytes`, as `save_into` wrote it. The format of `job`, whether it
-    /// wants warnings, and `limits` have to be those of that run. The name of the input is that of `job`: it stands in no state.
+    /// Returns an engine that goes on where the run stood whose saved state is `bytes`, as
+    /// `save_into` wrote it. The format of `job`, whether it wants warnings, and `limits` have to
+    /// be those of that run. The name of the input is that of `job`: it stands in no state.
     ///
-    /// The error is K0 for want of memory, wherever it is met; else K1 exactly where `bytes` are no saved state; else K2: the state is one of
-    /// another format, of other limits, or of a run that wants warnings where `job` does not, or the other way round. The texts of a state of another
-    /// run are read in memory of their own, which is no larger than they need: only for one of `job` under `limits` is that of an engine asked for.
-    /// Names of headers are hashed as in `new`.
+    /// The error is K0 for want of memory, wherever it is met; else K1 exactly where `bytes` are no
+    /// saved state; else K2: the state is one of another format, of other limits, or of a run that
+    /// wants warnings where `job` does not, or the other way round. The texts of a state of another
+    /// run are read in memory of their own, which is no larger than they need: only for one of
+    /// `job` under `limits` is that of an engine asked for. Names of headers are hashed as in
+    /// `new`.
     pub fn restore(
         alloc: Global,
         job: &Job,
@@ -343,7 +348,8 @@ impl Engine {
         Engine::restore_with_hasher(alloc, job, limits, bytes, DefaultHasher::new())
     }
 
-    /// Returns an engine as `restore` does, which hashes the names of headers from `hasher` on, as that of `with_hasher`.
+    /// Returns an engine as `restore` does, which hashes the names of headers from `hasher` on, as
+    /// that of `with_hasher`.
     pub fn restore_with_hasher(
         alloc: Global,
         job: &Job,

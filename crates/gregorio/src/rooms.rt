@@ -11,7 +11,8 @@ use std::alloc::{AllocError, Global};
 /// The most lines that one byte or the end adds.
 const LINES: usize = 128;
 
-/// Returns how many bytes a syllable may have in this `format`, whose canonical text has at most `limit` bytes.
+/// Returns how many bytes a syllable may have in this `format`, whose canonical text has at most
+/// `limit` bytes.
 fn syllable_room(format: Format, limit: usize) -> usize
     requires { limit < 2 ^ 32 }
     ensures { result ≡ room_of_syllable format limit }
@@ -22,7 +23,8 @@ fn syllable_room(format: Format, limit: usize) -> usize
     }
 }
 
-/// Returns how many bytes a syllable without notes may have in this `format`, whose canonical text has at most `limit` bytes.
+/// Returns how many bytes a syllable without notes may have in this `format`, whose canonical text
+/// has at most `limit` bytes.
 fn room_without_notes(format: Format, limit: usize) -> usize
     requires { limit < 2 ^ 32 }
     ensures { result ≡ room_of_no_notes format limit }
@@ -33,7 +35,8 @@ fn room_without_notes(format: Format, limit: usize) -> usize
     }
 }
 
-/// Returns how many bytes the headers may have in this `format`, whose canonical lines have at most `limit` bytes.
+/// Returns how many bytes the headers may have in this `format`, whose canonical lines have at most
+/// `limit` bytes.
 fn heads_room(format: Format, limit: usize) -> usize
     requires { limit < 2 ^ 32 }
     ensures { result ≡ room_of_heads format limit }

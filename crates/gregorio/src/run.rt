@@ -3,7 +3,7 @@
 ghost use Rattle.std.specs.Prelude.{◌≡◌, ◌≢◌, ◌<◌, ◌⊎◌, ◌++◌, ℕ, List, [], IfOk, OnOk, OnErr};
 ghost use Rattle.gregorio_jobs.specs.declared.job.Status.TheVariants.{ReadFault, WriteFault};
 ghost use Rattle.gregorio.specs.declared.source_ending.SourceEnding.{SourceEnding as EndOfSource};
-ghost use Rattle.gregorio.specs.Engine.{NothingWaits, with_waiting};
+ghost use Rattle.gregorio.specs.Engine.{NothingWaits, fault_of, with_waiting};
 ghost use Rattle.gregorio.specs.Streams.{ended_with};
 ghost use Rattle.gregorio.specs.witness.Engine.{streams_left};
 ghost use Rattle.gregorio.specs.Run.{Compiles, InTime, used};
@@ -89,7 +89,8 @@ fn feed_piece<O: Sink, M: Sink>(
     Ok(())
 }
 
-/// Reads a source up to its end, its first failure or one byte more than `limit`, feeds all to `engine`, and sends what it writes.
+/// Reads a source up to its end, its first failure or one byte more than `limit`, feeds all to
+/// `engine`, and sends what it writes.
 fn feed_all<S: Source, O: Sink, M: Sink>(
     engine: &mut Engine,
     limit: u32,
@@ -133,7 +134,7 @@ fn feed_all<S: Source, O: Sink, M: Sink>(
 fn end_by(engine: &mut Engine, ending: SourceEnding) -> Status
     requires waits { NothingWaits engine.old }
     ensures { streams_left engine.old ending []
-        ≡ with_waiting engine.new (ended_with result) }
+        ≡ with_waiting engine.new (ended_with result (fault_of engine.new)) }
 {
     match ending {
         SourceEnding::Whole => engine.end(),
@@ -165,10 +166,12 @@ fn run<S: Source, O: Sink, M: Sink>(
     }
 }
 
-/// Reads a score from `source`, at most one byte more than `limits.input`, writes it in the format of `job` to `out`, and its messages to
-/// `messages`. Returns how it went. The ends that `job` names are not opened. At `WriteFault` each sink holds a prefix of its text; at `NoMemory` nothing was read
-/// or written. Names of headers are hashed with a fixed key: where strangers write the score and `limits.header` is large, take
-/// `compile_with_hasher` (`docs/BENCHMARKS.md` has what chosen names cost).
+/// Reads a score from `source`, at most one byte more than `limits.input`, writes it in the format
+/// of `job` to `out`, and its messages to `messages`. Returns how it went. The ends that `job`
+/// names are not opened. At `WriteFault` each sink holds a prefix of its text; at `NoMemory`
+/// nothing was read or written. Names of headers are hashed with a fixed key: where strangers write
+/// the score and `limits.header` is large, take `compile_with_hasher` (`docs/BENCHMARKS.md` has
+/// what chosen names cost).
 pub fn compile<S: Source, O: Sink, M: Sink>(
     alloc: Global,
     job: &Job,
@@ -198,8 +201,8 @@ pub fn compile<S: Source, O: Sink, M: Sink>(
     compile_with_hasher(alloc, job, limits, hasher, source, out, messages)
 }
 
-/// Does what `compile` does, and hashes the names of headers from `hasher` on, such as `RandomState::new(&rt)?.build_hasher()`. What is written
-/// does not depend on it.
+/// Does what `compile` does, and hashes the names of headers from `hasher` on, such as
+/// `RandomState::new(&rt)?.build_hasher()`. What is written does not depend on it.
 pub fn compile_with_hasher<S: Source, O: Sink, M: Sink>(
     alloc: Global,
     job: &Job,

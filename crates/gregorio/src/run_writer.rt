@@ -1,30 +1,33 @@
 //! What a run writes, in rooms that are reserved.
 
-ghost use Rattle.std.specs.Prelude.{◌≡◌, ◌+◌, ◌*◌, ◌≤◌, [], IfOk, IfSome, Some, true, length, string_bytes, encode_utf8_all};
+ghost use Rattle.std.specs.Prelude.{◌≡◌, ◌+◌, ◌*◌, ◌≤◌, ℕ, [], IfOk, IfSome, Some, true, false, length, take, string_bytes, encode_utf8_all};
 ghost use Rattle.gabc_headers.specs.Canonical.{canonical_heads};
 ghost use Rattle.gabc_score.specs.Canonical.{canonical_in_place};
 ghost use Rattle.gabc_write.specs.Message.{line_of};
 ghost use Rattle.gabc_places.specs.BoundedList.{Fits};
 ghost use Rattle.gabc_score.specs.ScoreEvents.{Found, Stop, Syllable as SyllableGiven, End};
 ghost use Rattle.gabc_score.specs.NoNotes.{has_no_notes};
-ghost use Rattle.gabc_score.specs.Syllable.{placed_of, unplaced_of};
+ghost use Rattle.gabc_score.specs.SpelledSyllable.{IsSpelling, Spells, ends_in_bracket};
+ghost use Rattle.gabc_score.specs.Syllable.{PlacedSyllable, placed_of, unplaced_of};
+ghost use Rattle.gregorio_jobs.specs.declared.job.Format.TheVariants.{Gabc, Dump};
 ghost use Rattle.gregorio.specs.Streams.{last_text};
 ghost use Rattle.gregorio.specs.Outcome.{shown_line};
 ghost use Rattle.gregorio.specs.witness.Engine.{if_headed, is_before_heads, text_of_heads, text_of_output};
 ghost use Rattle.gregorio.specs.machine.ScoreWriter.{begun_again, fresh_writer};
-ghost use Rattle.gregorio.specs.machine.RunWriter.{TakesRuns, syllable_len, out_room, heads_len, line_room, last_room, most_waiting, with_heads, with_last, past_output, past_end};
+ghost use Rattle.gregorio.specs.machine.RunWriter.{TakesRuns, TakesText, syllable_len, out_room, heads_len, line_room, last_room, most_waiting, with_heads, with_last, past_output, past_end};
 
 use crate::findings::{input_name, is_error, put_finding};
 use crate::rooms::{message_room, most_waiting as most_before_a_step, output_room};
+use crate::run_ending::RunEnding;
 use gabc_headers::Headers;
 use gabc_neumes::Alterations;
 use gabc_places::{Fault, Finding, Limits, Memory, Room};
-use gabc_score::{Give, Syllable};
+use gabc_score::{Give, SpelledSyllable, Syllable};
 use gabc_write::without_notes::a_dump_without_notes_is_shorter;
 use gabc_write::{
-    canon_header, canon_syllable, dump_end, dump_header, dump_syllable, message_line,
+    canon_header, canon_syllable, dump_end, dump_header, dump_spelled, dump_syllable, message_line,
 };
-use gregorio_jobs::{Format, Job, Status};
+use gregorio_jobs::{Format, Job};
 use std::alloc::AllocError;
 use std::marker::Model;
 
@@ -38,12 +41,12 @@ pub(crate) struct RunWriter {
     headed: bool,
     /// How many syllables were written. It saturates.
     count: u64,
-    /// What is in force behind them, in a dump.
+    /// What is in force after them, in a dump.
     alterations: Alterations,
     /// Whether an error was found.
     errors: bool,
     /// How the run ended, if it is over.
-    ended: Option<Status>,
+    ended: Option<RunEnding>,
     out: Room<u8>,
     messages: Room<u8>,
 }
@@ -102,7 +105,8 @@ impl RunWriter {
         })
     }
 
-    /// Forgets what was written and what waits, as a new writer has written nothing. The memory stays reserved.
+    /// Forgets what was written and what waits, as a new writer has written nothing. The memory
+    /// stays reserved.
     pub(crate) fn restart(&mut self)
         ensures { self.new ≡ record self.old {
           written = begun_again self.old.written;
@@ -126,7 +130,8 @@ impl RunWriter {
         self.errors = errors;
     }
 
-    /// Goes on behind the headers and `count` syllables that were written, behind which `alterations` are in force. An error was found or not.
+    /// Goes on after the headers and `count` syllables that were written, after which `alterations`
+    /// are in force. An error was found or not.
     pub(crate) fn go_on_behind(&mut self, count: u64, alterations: Alterations, errors: bool)
         ensures { self.new ≡ record self.old {
           written = record self.old.written {
@@ -143,7 +148,8 @@ impl RunWriter {
         self.errors = errors;
     }
 
-    /// Does nothing. Its contract is a law: the clef in force has a line, and each height an alteration.
+    /// Does nothing. Its contract is a law: the clef in force has a line, and each height an
+    /// alteration.
     pub(crate) fn tells_what_is_in_force(&self)
         ensures line { IfSome self.now.written.force.clef
             (λ clef. (1 ≤ clef.line) × (clef.line ≤ 5)) }
@@ -167,7 +173,7 @@ impl RunWriter {
         self.all_warnings
     }
 
-    /// Returns what is in force behind the syllables that were written, in a dump.
+    /// Returns what is in force after the syllables that were written, in a dump.
     pub(crate) fn alterations(&self) -> &Alterations
         ensures { result.now ≡ self.now.written.force }
     {
@@ -189,7 +195,7 @@ impl RunWriter {
     }
 
     /// Returns how the run ended, if it is over.
-    pub(crate) fn ended(&self) -> Option<Status>
+    pub(crate) fn ended(&self) -> Option<RunEnding>
         ensures { result ≡ self.now.written.ended }
     {
         self.ended
@@ -233,7 +239,7 @@ impl RunWriter {
         self.errors = self.errors || is_error(finding);
     }
 
-    /// Ends the run at `fault`: writes its message, and what stands behind the syllables.
+    /// Ends the run at `fault`: writes its message, and what stands after the syllables.
     pub(crate) fn fault(&mut self, fault: Fault)
         requires line { Fits self.old.messages (line_room self.old.written.name) }
         requires last { Fits self.old.out last_room }
@@ -249,7 +255,7 @@ impl RunWriter {
             &mut self.messages,
         );
         self.last(false);
-        self.ended = Some(Status::Fatal);
+        self.ended = Some(RunEnding::Fatal(fault));
     }
 
     /// Writes the next syllable, if the headers were written.
@@ -280,16 +286,61 @@ impl RunWriter {
         }
     }
 
-    /// Returns whether it takes the syllables of a run: in canonical form, after the headers and
-    /// before the end.
+    /// Returns whether it takes the syllables of a run: after the headers and before the end.
     #[inline(always)]
     pub(crate) fn takes_runs(&self) -> bool
         ensures { result ≡ true → TakesRuns self.now.written }
     {
-        self.headed && self.ended.is_none() && self.format == Format::Gabc
+        self.headed && self.ended.is_none()
     }
 
-    /// Writes what stands behind the syllables, which are the `whole` score or not, if the headers were written.
+    /// Returns whether it takes a syllable of a run whose canonical text has at most `len` bytes.
+    #[inline(always)]
+    fn has_room(&self, len: usize) -> bool
+        ensures { result ≡ true → (n : ℕ) → n ≤ len → TakesText self.now n }
+    {
+        if !self.takes_runs() {
+            return false;
+        }
+        let left = self.out.left();
+        match self.format {
+            Format::Gabc => len <= left,
+            Format::Dump => left >= 256 && len <= (left - 256) / 64,
+        }
+    }
+
+    /// Writes the syllable that `syllable` spells, in canonical form.
+    #[inline(always)]
+    fn spell(&mut self, syllable: SpelledSyllable<'_>)
+        requires canonical { self.old.written.format ≡ Gabc }
+        requires room { TakesText self.old (length syllable.canonical.now + 1) }
+        ensures { (s : PlacedSyllable) → Spells syllable.entry s →
+            self.new ≡ past_output self.old (SyllableGiven s) }
+    {
+        self.count = self.count.saturating_add(1);
+        if syllable.position.starts_word() {
+            self.out.append(b"\n");
+        }
+        self.out.append(syllable.canonical.as_bytes());
+    }
+
+    /// Writes the lines of the syllable that `syllable` spells, in a dump. It has no translation.
+    fn dump(&mut self, syllable: SpelledSyllable<'_>)
+        requires dump { self.old.written.format ≡ Dump }
+        requires room { TakesText self.old (length syllable.canonical.now + 1) }
+        requires spelling { IsSpelling syllable }
+        requires untranslated { ends_in_bracket (take syllable.opening syllable.canonical.now)
+            ≡ false }
+        ensures { (s : PlacedSyllable) → Spells syllable.entry s →
+            self.new ≡ past_output self.old (SyllableGiven s) }
+    {
+        a_dump_without_notes_is_shorter();
+        self.count = self.count.saturating_add(1);
+        dump_spelled(self.count, syllable, &mut self.alterations, &mut self.out);
+    }
+
+    /// Writes what stands after the syllables, which are the `whole` score or not, if the headers
+    /// were written.
     fn last(&mut self, whole: bool)
         requires { Fits self.old.out last_room }
         ensures writes { self.new ≡ with_last self.old whole }
@@ -306,7 +357,7 @@ impl RunWriter {
         }
     }
 
-    /// Ends the run of an input that is read to its end: writes what stands behind the syllables.
+    /// Ends the run of an input that is read to its end: writes what stands after the syllables.
     pub(crate) fn end(&mut self)
         requires { Fits self.old.out last_room }
         ensures writes { self.new ≡ past_output self.old End }
@@ -314,24 +365,25 @@ impl RunWriter {
     {
         self.last(true);
         self.ended = Some(if self.errors {
-            Status::Errors
+            RunEnding::Errors
         } else {
-            Status::Whole
+            RunEnding::Whole
         });
     }
 
-    /// Ends the run, if it is not over, as one whose source has failed: writes what stands behind the syllables. Returns how the run ended.
-    pub(crate) fn cease(&mut self) -> Status
+    /// Ends the run, if it is not over, as one whose source has failed: writes what stands after
+    /// the syllables. Returns how the run ended.
+    pub(crate) fn cease(&mut self) -> RunEnding
         requires { Fits self.old.out last_room }
         ensures writes { self.new ≡ past_end self.old }
-        ensures status { self.new.written.ended ≡ Some result }
+        ensures ended { self.new.written.ended ≡ Some result }
     {
-        if let Some(status) = self.ended {
-            return status;
+        if let Some(ended) = self.ended {
+            return ended;
         }
         self.last(false);
-        self.ended = Some(Status::ReadFault);
-        Status::ReadFault
+        self.ended = Some(RunEnding::ReadFault);
+        RunEnding::ReadFault
     }
 
     /// Returns the bytes of the output that wait.
@@ -360,7 +412,7 @@ impl RunWriter {
     }
 }
 
-/// Writes the syllables of a run in canonical form.
+/// Writes the syllables of a run. A dump leaves those that may have a translation.
 impl Give for RunWriter {
     ghost use Rattle.gregorio.specs.machine.OutputsOfARun.{past_both, past_none};
     ghost use Rattle.gregorio.specs.machine.RunWriter.{TakesText, past_syllables};
@@ -374,18 +426,22 @@ impl Give for RunWriter {
     ghost given_both = { past_both };
 
     fn takes(&self, len: usize) -> bool {
-        self.takes_runs() && len <= self.out.left()
+        self.has_room(len)
     }
 
     fn give(&mut self, syllable: &Syllable) {
         self.syllable(syllable);
     }
 
-    fn give_spelled(&mut self, starts: bool, text: &[u8]) {
-        self.count = self.count.saturating_add(1);
-        if starts {
-            self.out.append(b"\n");
+    fn give_spelled(&mut self, syllable: SpelledSyllable<'_>) -> bool {
+        if !self.has_room(syllable.canonical.len() + 1) {
+            return false;
         }
-        self.out.append(text);
+        match self.format {
+            Format::Gabc => self.spell(syllable),
+            Format::Dump if syllable.may_be_translated() => return false,
+            Format::Dump => self.dump(syllable),
+        }
+        true
     }
 }

@@ -1,6 +1,7 @@
-//! The law by which a saved state stands for what is still written: two engines that save the same write the same of whatever follows. It speaks of what
-//! engines show, since the engine whose state some bytes are may be gone. Each function's contract is a law, and its body calls the laws that it
-//! stands on.
+//! The law by which a saved state stands for what is still written: two engines that save the same
+//! write the same of whatever follows. It speaks of what engines show, since the engine whose state
+//! some bytes are may be gone. Each function's contract is a law, and its body calls the laws that
+//! it stands on.
 
 ghost use Rattle.std.specs.Prelude.{◌≡◌, List, ℕ, true};
 ghost use Rattle.gregorio.specs.declared.source_ending.SourceEnding.{SourceEnding};
@@ -10,9 +11,6 @@ ghost use Rattle.gregorio.specs.witness.Engine.{EngineState, streams_left};
 ghost use Rattle.gregorio.specs.witness.MayRun.{MayRun};
 
 use crate::engine::Engine;
-use gabc_headers::stage_laws::{stages_behind_headers_agree, stages_of_one_text_agree};
-use gabc_places::laws::{decoders_that_tell_the_same_agree, what_a_decoder_tells_may_be_told};
-use gabc_score::stage_laws::{a_stage_may_stand, what_is_told_is_within_the_limits};
 use gabc_write::saved_alike::{
     what_goes_on_alike_is_written_alike, what_is_saved_alike_goes_on_alike,
 };
@@ -22,22 +20,22 @@ pub fn an_engine_may_run(engine: &Engine)
     requires { is_running engine.now ≡ true }
     ensures { MayRun engine.now }
 {
-    what_a_decoder_tells_may_be_told(&engine.decoder);
-    a_stage_may_stand(engine.writer.score());
+    gabc_places::laws::what_a_decoder_tells_may_be_told(&engine.decoder);
+    gabc_score::stage_laws::a_stage_may_stand(engine.writer.score());
 }
 
-/// Two engines that run, call their inputs the same and save the same write the same of whatever follows, and end alike: all by which a run goes on stands in
-/// its state.
+/// Two engines that run, call their inputs the same and save the same write the same of whatever
+/// follows, and end alike: all by which a run goes on stands in its state.
 pub fn engines_that_save_the_same_agree()
     ensures { (one other : EngineState) → MayRun one → MayRun other →
         one.written.name ≡ other.written.name → state_of one ≡ state_of other →
         (ending : SourceEnding) (bytes : List ℕ) →
         streams_left one ending bytes ≡ streams_left other ending bytes }
 {
-    decoders_that_tell_the_same_agree();
-    stages_of_one_text_agree();
-    stages_behind_headers_agree();
-    what_is_told_is_within_the_limits();
+    gabc_places::laws::decoders_that_tell_the_same_agree();
+    gabc_headers::stage_laws::stages_of_one_text_agree();
+    gabc_headers::stage_laws::stages_behind_headers_agree();
+    gabc_score::stage_laws::what_is_told_is_within_the_limits();
     what_is_saved_alike_goes_on_alike();
     what_goes_on_alike_is_written_alike();
 }

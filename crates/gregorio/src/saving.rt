@@ -164,7 +164,8 @@ impl Engine {
         }
     }
 
-    /// Returns how many bytes the saved state of the run has. The run may not be over, and nothing may wait.
+    /// Returns how many bytes the saved state of the run has. The run may not be over, and nothing
+    /// may wait.
     pub fn state_len(&self) -> usize
         requires runs { is_running self.now ≡ true }
         requires waits { NothingWaits self.now }
@@ -178,10 +179,11 @@ impl Engine {
         fields.len_holding(&held)
     }
 
-    /// Writes the saved state of the run to the front of `buf`, and returns how many bytes it has. The error is that of a `buf` that has fewer bytes
-    /// than the state, and then it is unchanged. With 128 bytes and the limit of the headers, or 128 and twice that of a syllable, whichever is
-    /// more, it is not too short. What is written is a state: the headers or the held and the kept text in it are read as it says, too. The run may
-    /// not be over, and nothing may wait.
+    /// Writes the saved state of the run to the front of `buf`, and returns how many bytes it has.
+    /// The error is that of a `buf` that has fewer bytes than the state, and then it is unchanged.
+    /// With 128 bytes and the limit of the headers, or 128 and twice that of a syllable, whichever
+    /// is more, it is not too short. What is written is a state: the headers or the held and the
+    /// kept text in it are read as it says, too. The run may not be over, and nothing may wait.
     pub fn save_into(&self, buf: &mut [u8]) -> Result<usize, TooShort>
         requires runs { is_running self.now ≡ true }
         requires waits { NothingWaits self.now }

@@ -6,7 +6,6 @@ ghost use Rattle.std.specs.Str.{chars};
 ghost use Rattle.std.specs.String.Boundary.{IsSplitPoint};
 ghost use Rattle.gabc_places.specs.Place.{place_past};
 ghost use Rattle.gabc_places.specs.TextOfAnInput.{IsPlain, IsText};
-ghost use Rattle.gabc_places.specs.Skip.{IsPrintable};
 ghost use Rattle.gabc_headers.specs.declared.head_event.HeadEvent.{HeadEvent as HeadItem};
 ghost use Rattle.gabc_score.specs.witness.BodyStage.{texts_by_stage};
 ghost use Rattle.gabc_places.specs.StageLaw.{concat_of};
@@ -22,17 +21,18 @@ ghost use Rattle.gregorio.specs.machine.TellsInStep.{BeginsBody};
 ghost use Rattle.gabc_score.specs.ScoreTells.{StandsInFront, before_of, held_of};
 ghost use Rattle.gabc_score.specs.ToldWithin.{IsToldWithin, TellsOfText, written_behind};
 ghost use Rattle.gregorio.specs.machine.RunWriter.{HasRoomFor, IsInRoom, IsSteadyWriter, TakesRuns, past_output, past_outputs};
-ghost use Rattle.gregorio.specs.machine.ScoreWriter.{output_of_event, outputs_of_events, IsOver, IsShortBook, IsSilent, begun_again, emptied, fresh_writer, IsReserved, IsSteady, FitsEvents, WritesAt, WritesLast, WritesNothing, WritesRun};
+ghost use Rattle.gregorio.specs.machine.ScoreWriter.{output_of_event, outputs_of_events, IsOver, IsShortBook, IsSilent, begun_again, emptied, fresh_writer, IsReserved, IsSteady, FitsEvents, WritesAt, WritesLast, WritesRun};
 
+use crate::run_ending::RunEnding;
 use crate::run_writer::RunWriter;
 use gabc_headers::{HeadEvent, HeaderStage};
 use gabc_places::{Char, Fault, Limits, Memory, Place, Room, Stage};
 use gabc_score::{Run, ScoreEvent, ScoreStage};
-use gregorio_jobs::{Job, Status};
+use gregorio_jobs::Job;
 use std::alloc::AllocError;
 use std::marker::Model;
 
-/// Reads the score behind a stage of headers, and writes what it gives.
+/// Reads the score after a stage of headers, and writes what it gives.
 #[derive(Drop)]
 pub(crate) struct ScoreWriter {
     pub(crate) score: ScoreStage,
@@ -127,8 +127,8 @@ impl ScoreWriter {
         self.writer.restart();
     }
 
-    /// Returns a writer that goes on with `score` and `writer`, whose run goes on, and reserves the room of its events in
-    /// `memory`.
+    /// Returns a writer that goes on with `score` and `writer`, whose run goes on, and reserves the
+    /// room of its events in `memory`.
     pub(crate) fn resume(
         memory: &Memory,
         score: ScoreStage,
@@ -153,7 +153,8 @@ impl ScoreWriter {
         }
     }
 
-    /// Takes `event` of `heads`, and writes what follows from it: first the headers, where it says that they are whole.
+    /// Takes `event` of `heads`, and writes what follows from it: first the headers, where it says
+    /// that they are whole.
     pub(crate) fn push(&mut self, event: HeadEvent, heads: &HeaderStage)
         requires room { FitsEvents self.old false (event ∷ []) }
         requires book { IsShortBook self.old.score.limits heads.now.book }
@@ -172,7 +173,8 @@ impl ScoreWriter {
         self.pass(event);
     }
 
-    /// Passes `event` on to the score, and writes what that gives. No headers are to be written at it.
+    /// Passes `event` on to the score, and writes what that gives. No headers are to be written at
+    /// it.
     pub(crate) fn pass(&mut self, event: HeadEvent)
         requires room { FitsEvents self.old false (event ∷ []) }
         requires heads { writes_heads self.old.writer.written event ≡ false }
@@ -189,7 +191,7 @@ impl ScoreWriter {
         write_events(&mut self.writer, &self.score, self.events.slice());
     }
 
-    /// Says, if the headers are written, that the body begins behind `item`, their last character.
+    /// Says, if the headers are written, that the body begins after `item`, their last character.
     pub(crate) fn begin_body(&mut self, item: Result<Char, Fault>)
         requires front { self.old.writer.written.headed ≡ true → StandsInFront self.old.score }
         ensures { BeginsBody item self.old self.new }
@@ -204,23 +206,7 @@ impl ScoreWriter {
         self.score.go_to(x.place.saturating_after(x.c));
     }
 
-    /// Takes characters from the front of `bytes` at which nothing is written, and returns how many: none before the headers are written. They are
-    /// printable characters of ASCII, of which the first stands at `at` and each next one in the next column. From then on it writes what it
-    /// would write had each of them been pushed.
-    #[inline(always)]
-    pub(crate) fn take_front(&mut self, at: Place, bytes: &[u8]) -> usize
-        ensures within { result ≤ length bytes.now }
-        ensures printable { All IsPrintable (take result bytes.now) }
-        ensures writes { WritesNothing self.old at (take result bytes.now) self.new }
-    {
-        if !self.headed() {
-            return 0;
-        }
-        self.score.take_front(at, bytes)
-    }
-
-    /// Returns whether it takes runs of syllables: in canonical form, after the headers and before
-    /// the end.
+    /// Returns whether it takes runs of syllables: after the headers and before the end.
     #[inline(always)]
     pub(crate) fn takes_runs(&self) -> bool
         ensures { result ≡ true → TakesRuns self.now.writer.written }
@@ -230,8 +216,8 @@ impl ScoreWriter {
 
     /// Takes whole syllables from the front of `text`, of which the first character stands at `at`,
     /// and returns how far it went. At their characters it writes syllables and nothing else. From
-    /// then on it writes what it would write had each of the characters been passed on. Of those that
-    /// it could take it may leave some to `pass`.
+    /// then on it writes what it would write had each of the characters been passed on. Of those
+    /// that it could take it may leave some to `pass`.
     #[inline(always)]
     pub(crate) fn take_run(&mut self, at: Place, text: &str) -> Run
         requires { TakesRuns self.old.writer.written }
@@ -241,13 +227,15 @@ impl ScoreWriter {
         ensures writes { WritesRun self.old at (chars (take result.bytes text.now)) self.new }
         ensures steady { IsSteady self.old self.new }
     {
+        gabc_write::laws::where_nothing_sounds_the_clef_stays();
         self.events.clear();
         self.score
             .take_run(at, text, &mut self.events, &mut self.writer)
     }
 
-    /// Ends what comes, and returns how the run ended. Where neither a stop nor the end has come, the source has failed.
-    pub(crate) fn finish(&mut self) -> Status
+    /// Ends what comes, and returns how the run ended. Where neither a stop nor the end has come,
+    /// the source has failed.
+    pub(crate) fn finish(&mut self) -> RunEnding
         requires room { FitsEvents self.old true [] }
         ensures writes { WritesLast self.old self.new result }
         ensures steady { IsSteady self.old self.new }
@@ -260,7 +248,8 @@ impl ScoreWriter {
         self.writer.cease()
     }
 
-    /// Does nothing. Its contract is a law: where nothing more comes, at most one syllable is written, and behind the end nothing is.
+    /// Does nothing. Its contract is a law: where nothing more comes, at most one syllable is
+    /// written, and after the end nothing is.
     #[inline(always)]
     pub(crate) fn at_most_one_is_held(&self)
         ensures held { length (syllables_in (concat_of (left_of self.now.score []))) ≤ 1 }
@@ -269,8 +258,8 @@ impl ScoreWriter {
         gabc_score::stage_laws::at_most_one_syllable_is_held(&self.score);
     }
 
-    /// Does nothing. Its contract is a law on what is in force: the clef has a line and each height an alteration, and in the body, where no note or
-    /// clef has come in GABC, there is no clef.
+    /// Does nothing. Its contract is a law on what is in force: the clef has a line and each height
+    /// an alteration, and in the body, where no note or clef has come in GABC, there is no clef.
     pub(crate) fn tells_what_is_in_force(&self)
         ensures line { IfSome self.now.writer.written.force.clef
             (λ clef. (1 ≤ clef.line) × (clef.line ≤ 5)) }
@@ -280,7 +269,8 @@ impl ScoreWriter {
         self.writer.tells_what_is_in_force();
     }
 
-    /// Does nothing but call a law. Its contract is one: in the body nothing stands before the first syllable.
+    /// Does nothing but call a law. Its contract is one: in the body nothing stands before the
+    /// first syllable.
     pub(crate) fn begins_with_nothing(&self)
         ensures { self.now.score.part ≡ ScorePart.Body → IsAtOutset self.now.score.before }
     {
@@ -290,8 +280,8 @@ impl ScoreWriter {
         }
     }
 
-    /// Does nothing but call laws. Its contract is one: what its stage tells in the body is within the limits, and the syllable that it holds is a
-    /// text.
+    /// Does nothing but call laws. Its contract is one: what its stage tells in the body is within
+    /// the limits, and the syllable that it holds is a text.
     pub(crate) fn tells_of_a_text(&self)
         requires body { is_some (before_of self.now.score) ≡ true }
         requires told { TellsOfText self.now.score }
@@ -326,10 +316,10 @@ impl ScoreWriter {
     }
 
     /// Returns how the run ended, if it is over.
-    pub(crate) fn ended(&self) -> Option<Status>
+    pub(crate) fn ended(&self) -> Option<RunEnding>
         ensures ended { result ≡ self.now.writer.written.ended }
-        ensures over { IfSome result (λ status.
-            IsOver self.now.writer.written self.now.score status) }
+        ensures over { IfSome result (λ how.
+            IsOver self.now.writer.written self.now.score how) }
     {
         self.writer.ended()
     }

@@ -16,11 +16,6 @@ use crate::comparison::Comparison;
 use crate::saving::HeldSyllable;
 use crate::state_fault::StateFault;
 use gabc_places::{Memory, Room};
-use gabc_score::kept_laws::{what_is_kept_again_is_told, what_is_told_is_kept_again};
-use gabc_score::stage_laws::{
-    a_comment_in_front_can_be_read_in_a_text, a_resumed_stage_tells_of_a_text,
-    a_text_is_one_syllable, what_is_read_can_be_read_again, whole_syllables_are_given_or_held,
-};
 use gabc_score::{Before, Openers, ScoreEvent, ScoreStage, Spans};
 use gregorio_state::{PutText, ScoreFields, StateFields};
 
@@ -63,7 +58,8 @@ fn event_room(memory: &Memory) -> Result<Room<ScoreEvent>, StateFault>
     }
 }
 
-/// Returns a stage in `memory` under the limits of `state` that stands behind what stands before the syllable of which `fields` have the text.
+/// Returns a stage in `memory` under the limits of `state` that stands after what stands before the
+/// syllable of which `fields` have the text.
 fn stage_behind(
     memory: &Memory,
     state: &StateFields<'_>,
@@ -75,7 +71,7 @@ fn stage_behind(
     ensures told { IfOk result (λ stage. TellsOfText stage) }
     ensures fault { IfErr result (λ fault. fault ≡ StateFault.K0) }
 {
-    a_resumed_stage_tells_of_a_text();
+    gabc_score::stage_laws::a_resumed_stage_tells_of_a_text();
     match ScoreStage::resume(memory, state.limits, before_held(fields)) {
         Ok(stage) => Ok(stage),
         Err(_) => Err(StateFault::K0),
@@ -91,7 +87,8 @@ fn is_held_text(stage: &ScoreStage, text: &str) -> bool
     comparison.is_same()
 }
 
-/// Holds the syllable of which `fields` have the text, if they have one. Returns whether the text is read so.
+/// Holds the syllable of which `fields` have the text, if they have one. Returns whether the text
+/// is read so.
 fn hold(stage: &mut ScoreStage, fields: &ScoreFields<'_>, room: &mut Room<ScoreEvent>) -> bool
     requires held { IsHeldWithin stage.old.limits.syllable (score_of fields.now) }
     requires stands { StandsBehind stage.old.limits (before_held (score_of fields.now)) stage.old }
@@ -106,7 +103,7 @@ fn hold(stage: &mut ScoreStage, fields: &ScoreFields<'_>, room: &mut Room<ScoreE
     if fields.held.is_empty() {
         return true;
     }
-    a_text_is_one_syllable();
+    gabc_score::stage_laws::a_text_is_one_syllable();
     if !stage.hold_again(fields.held, room) {
         return false;
     }
@@ -123,7 +120,8 @@ fn has_read(stage: &ScoreStage, fields: &ScoreFields<'_>) -> bool
         && stage.in_comment() == Some(fields.in_comment)
 }
 
-/// Reads the text that is kept of a syllable, at the place of `state`. Returns whether it is read as `fields` say.
+/// Reads the text that is kept of a syllable, at the place of `state`. Returns whether it is read
+/// as `fields` say.
 fn read_kept(stage: &mut ScoreStage, state: &StateFields<'_>, fields: &ScoreFields<'_>) -> bool
     requires fields { AreScoreFields (fields_of state.now) (score_of fields.now) }
     requires place { IsPlace state.now.place }
@@ -133,13 +131,14 @@ fn read_kept(stage: &mut ScoreStage, state: &StateFields<'_>, fields: &ScoreFiel
     ensures reads { result ≡ true →
         ReadsOn state.now.place (score_of fields.now) stage.new }
 {
-    a_comment_in_front_can_be_read_in_a_text();
-    what_is_told_is_kept_again();
-    what_is_kept_again_is_told();
+    gabc_score::stage_laws::a_text_begins_outside_a_comment();
+    gabc_score::stage_laws::a_comment_in_front_can_be_read_in_a_text();
+    gabc_score::kept_laws::what_is_told_is_kept_again();
+    gabc_score::kept_laws::what_is_kept_again_is_told();
     if !stage.read_again(fields.kept, openers(fields), fields.in_comment, state.place) {
         return false;
     }
-    what_is_read_can_be_read_again(stage);
+    gabc_score::stage_laws::what_is_read_can_be_read_again(stage);
     has_read(stage, fields)
 }
 
@@ -167,12 +166,13 @@ fn read_texts(
     if !read_kept(stage, state, fields) {
         return false;
     }
-    whole_syllables_are_given_or_held(stage);
+    gabc_score::stage_laws::whole_syllables_are_given_or_held(stage);
     true
 }
 
-/// Returns a stage over a score in `memory` that tells what `fields` say, the fields of the score of `state`. The error is `K1` where a text of them is not read
-/// as they say, under the limits of the state, and `K0` where there is no memory.
+/// Returns a stage over a score in `memory` that tells what `fields` say, the fields of the score
+/// of `state`. The error is `K1` where a text of them is not read as they say, under the limits of
+/// the state, and `K0` where there is no memory.
 pub(crate) fn set_down(
     memory: &Memory,
     state: &StateFields<'_>,

@@ -11,7 +11,8 @@ pub enum StateFault {
     /// The bytes are no saved state.
     #[error("K1: not a saved state")]
     K1,
-    /// The bytes are a saved state of a run with other limits, another format, or other warnings wanted.
+    /// The bytes are a saved state of a run with other limits, another format, or other warnings
+    /// wanted.
     #[error("K2: another format, other limits or other warnings")]
     K2,
 }

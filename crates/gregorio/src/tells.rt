@@ -1,4 +1,5 @@
-//! That what an engine tells is a saved state. Each function's contract is a law, and its body calls other laws or does nothing.
+//! That what an engine tells is a saved state. Each function's contract is a law, and its body
+//! calls other laws or does nothing.
 
 ghost use Rattle.std.specs.Prelude.{◌≡◌, ℕ, List, true, None, is_some, IsUtf8};
 ghost use Rattle.gabc_headers.specs.witness.HeadEvents.{IsInHeaders, reading};
@@ -12,41 +13,37 @@ ghost use Rattle.gregorio.specs.SavedState.{AreOfState, IsPhaseRead, IsScoreRead
 ghost use Rattle.gregorio.specs.machine.PartsOfStates.{AreBeforeHeldIn, AreHeaderFieldsIn, IsPhaseTold, IsStateOfInput};
 
 use crate::engine::Engine;
-use gabc_places::laws::what_a_decoder_tells_may_be_told;
 use gabc_score::ScoreStage;
-use gabc_score::kept_laws::what_is_told_is_kept_again;
-use gabc_score::stage_laws::{
-    a_comment_in_front_can_be_read_in_a_text, a_stage_may_stand, in_front_nothing_is_read,
-    what_is_read_can_be_read_again,
-};
-use gabc_write::laws::what_is_held_may_be_held_by_its_text;
 
-/// Does nothing but call laws. Its contract is one: the texts that a stage over a score tells in the body are read as it says.
+/// Does nothing but call laws. Its contract is one: the texts that a stage over a score tells in
+/// the body are read as it says.
 fn texts_of_a_score_are_read(score: &ScoreStage)
     requires body { is_some (before_of score.now) ≡ true }
     requires texts { IsUtf8 (held_text score.now.before (held_of score.now))
         × IsUtf8 (reading_of score.now) }
     ensures { (force : InForce) → IsScoreRead score.now.limits (score_fields force score.now) }
 {
-    what_is_held_may_be_held_by_its_text(score);
-    what_is_read_can_be_read_again(score);
-    a_stage_may_stand(score);
-    in_front_nothing_is_read();
-    a_comment_in_front_can_be_read_in_a_text();
-    what_is_told_is_kept_again();
+    gabc_write::laws::what_is_held_may_be_held_by_its_text(score);
+    gabc_score::stage_laws::what_is_read_can_be_read_again(score);
+    gabc_score::stage_laws::a_stage_may_stand(score);
+    gabc_score::stage_laws::in_front_nothing_is_read();
+    gabc_score::stage_laws::a_comment_in_front_can_be_read_in_a_text();
+    gabc_score::kept_laws::what_is_told_is_kept_again();
 }
 
 impl Engine {
-    /// Does nothing but call a law. Its contract is one: what an engine that runs saves of its input may stand in a state.
+    /// Does nothing but call a law. Its contract is one: what an engine that runs saves of its
+    /// input may stand in a state.
     pub(crate) fn tells_its_input(&self)
         requires runs { is_running self.now ≡ true }
         ensures { IsStateOfInput (state_of self.now) }
     {
-        what_a_decoder_tells_may_be_told(&self.decoder);
+        gabc_places::laws::what_a_decoder_tells_may_be_told(&self.decoder);
     }
 
-    /// Does nothing but call a law. Its contract is one: what an engine that runs saves in the headers is their text so far, a text of an input within
-    /// the limit, and its place and its errors are those that this text gives.
+    /// Does nothing but call a law. Its contract is one: what an engine that runs saves in the
+    /// headers is their text so far, a text of an input within the limit, and its place and its
+    /// errors are those that this text gives.
     pub(crate) fn tells_of_its_headers(&self)
         requires runs { is_running self.now ≡ true }
         ensures fields { AreHeaderFieldsIn (state_of self.now) (state_of self.now).phase }
@@ -58,8 +55,9 @@ impl Engine {
         gabc_headers::stage_laws::a_held_text_is_within_its_limit();
     }
 
-    /// Does nothing but call laws. Its contract is one: what an engine that runs saves in the score of what stands before the syllable that is held
-    /// may stand in a state, if none is held only where none is whole.
+    /// Does nothing but call laws. Its contract is one: what an engine that runs saves in the score
+    /// of what stands before the syllable that is held may stand in a state, if none is held only
+    /// where none is whole.
     pub(crate) fn tells_what_stands_before(&self)
         requires runs { is_running self.now ≡ true }
         ensures { (held_of self.now.score ≡ None → self.now.score.before.syllables ≡ 0) →
@@ -69,18 +67,20 @@ impl Engine {
         self.writer.begins_with_nothing();
     }
 
-    /// Does nothing but call laws. Its contract is one: what an engine that runs saves of its score may stand in a state.
+    /// Does nothing but call laws. Its contract is one: what an engine that runs saves of its score
+    /// may stand in a state.
     pub(crate) fn tells_of_its_score(&self)
         requires runs { is_running self.now ≡ true }
         ensures { IsPhaseTold (state_of self.now) (state_of self.now).phase }
     {
-        what_a_decoder_tells_may_be_told(&self.decoder);
+        gabc_places::laws::what_a_decoder_tells_may_be_told(&self.decoder);
         if self.writer.headed() {
             self.writer.tells_of_a_text();
         }
     }
 
-    /// Does nothing but call laws. Its contract is one: what an engine that runs saves are fields that may be those of a state.
+    /// Does nothing but call laws. Its contract is one: what an engine that runs saves are fields
+    /// that may be those of a state.
     pub(crate) fn tells_fields(&self)
         requires runs { is_running self.now ≡ true }
         ensures { AreStateFields (state_of self.now) }
@@ -91,7 +91,8 @@ impl Engine {
         self.tells_what_stands_before();
     }
 
-    /// Does nothing but call laws. Its contract is one: the texts that an engine saves are read as it says.
+    /// Does nothing but call laws. Its contract is one: the texts that an engine saves are read as
+    /// it says.
     fn tells_what_is_read(&self)
         requires runs { is_running self.now ≡ true }
         requires fields { AreStateFields (state_of self.now) }
@@ -112,7 +113,8 @@ impl Engine {
         self.tells_what_is_read();
     }
 
-    /// Does nothing. Its contract is a law: behind its headers an engine that runs stands in the body.
+    /// Does nothing. Its contract is a law: after its headers an engine that runs stands in the
+    /// body.
     pub(crate) fn stands_in_the_body(&self)
         requires runs { is_running self.now ≡ true }
         requires behind { IsInHeaders self.now.heads.progress → ⊥ }

@@ -59,9 +59,6 @@ handed_out made state output messages result writes (inl (room, filled)) refused
 handed_out made state output messages result writes (inr (none, kept)) refused = short (subst IsRefusal kept.number refused)
 
 module _ (job : Job) (limits : Limits) (made : Made) (state output messages : Buffer) (result : ℕ) (h : IsHandedOut made state output messages result) where
-  pub begun : Begins job limits made → IsRefusal result → ⊥
-  begun is = handed_out made state output messages result (begun_writes job limits made is) h
-
   pub fed : (before piece : List ℕ) → Feeds job limits before piece made → IsRefusal result → ⊥
   fed before piece is = handed_out made state output messages result (fed_writes job limits made before piece is) h
 

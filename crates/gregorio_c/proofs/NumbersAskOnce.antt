@@ -21,7 +21,3 @@ pub for_any : (format flags : ℕ) (options : List Options) (one : Request) (lim
 for_any format flags options one limits a Holds holds request other b =
     let same = ap (value_or one) (sym a.request_is ∙ b.request_is) in
     subst (λ (r : Request). Holds r other) same (subst (λ (l : Limits). Holds one l) (limits_once options limits other a.limits_are b.limits_are) holds)
-
--- where one thing is asked for, it is not nothing
-pub asks : (format flags : ℕ) (options : List Options) (one : Request) (limits : Limits) → AsksFor format flags options one limits → ((request : Request) (other : Limits) → AsksFor format flags options request other → ⊥) → ⊥
-asks format flags options one limits a nothing = nothing one limits a

@@ -4,8 +4,7 @@ use Rattle.std.proofs.lemmas.List.{drop-drop}
 use Rattle.gabc_places.specs.declared.limits.Limits.{Limits}
 use Rattle.gregorio_jobs.specs.declared.job.Job.{Job}
 use Rattle.gregorio.specs.declared.source_ending.SourceEnding.{SourceEnding}
-use Rattle.gregorio.specs.declared.source_ending.SourceEnding.TheVariants.{Broken}
-use Rattle.gregorio.specs.Engine.{Brings, IsPrompt, NothingWaits, RunsJob, with_waiting}
+use Rattle.gregorio.specs.Engine.{Brings, NothingWaits, RunsJob, with_waiting}
 use Rattle.gregorio.specs.Streams.{Streams, behind_bytes}
 use Rattle.gregorio.specs.witness.Engine.{EngineState, streams_left}
 
@@ -14,7 +13,7 @@ pub joined_streams : (output lines more more_lines : List ℕ) (rest : Streams) 
 joined_streams output lines more more_lines rest =
     let texts = sym (append_assoc output more rest.output) in
     let told = sym (append_assoc lines more_lines rest.messages) in
-    λ i. record { output = texts i; messages = told i; status = rest.status }
+    λ i. record rest { output = texts i; messages = told i }
 
 -- all behind so many bytes
 pub all_behind : (count : ℕ) (piece : List ℕ) → take (length piece - count) (drop count piece) ≡ drop count piece
@@ -30,9 +29,6 @@ module _ (e f g : EngineState) (forgets : g ≡ record f { output = []; messages
 
   pub still_runs : (job : Job) (limits : Limits) → RunsJob job limits f → RunsJob job limits g
   still_runs job limits runs = subst (RunsJob job limits) (sym forgets) (record { limits_are = runs.limits_are; format = runs.format; name = runs.name; all_warnings = runs.all_warnings })
-
-  pub still_prompt : IsPrompt f.written.format (streams_left f Broken []) → IsPrompt g.written.format (streams_left g Broken [])
-  still_prompt prompt = subst (λ (s : EngineState). IsPrompt s.written.format (streams_left s Broken [])) (sym forgets) prompt
 
   -- so many bytes of a piece more are taken, and what was written at them is gathered
   module _ (piece : List ℕ) (count k : ℕ) (waits : NothingWaits e) (brings : Brings e (take k (drop count piece)) f) where

@@ -18,7 +18,7 @@ module _ (request : Request) (usual : Limits) (is_usual : AreUsual usual.header 
   made_as_usual limits_of (Err e) is = tt
 
   abbrev streams_by : Outcome → Streams
-  streams_by outcome = record { output = output_of request.format outcome; messages = lines_of stdin_name request.all_warnings outcome.score; status = status_of outcome }
+  streams_by outcome = record { output = output_of request.format outcome; messages = lines_of stdin_name request.all_warnings outcome.score; status = status_of outcome; fault = outcome.score.fault }
 
   -- what is made under small limits that change nothing
   pub small_as_usual : (limits small : Limits) → limits ≡ small → outcome_of usual Whole score ≡ outcome_of small Whole score → IsAsUsual request limits score

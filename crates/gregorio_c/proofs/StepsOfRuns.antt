@@ -1,5 +1,6 @@
 -- What a step makes of an engine that stands behind a state.
-use Rattle.std.proofs.Common.{◌≡◌, ℕ, List, [], ◌++◌, append-nil, refl, sym, ap, subst, ◌∙◌}
+use Rattle.std.proofs.Common.{◌≡◌, ℕ, List, [], ◌++◌, Option, append-nil, refl, sym, ap, subst, ◌∙◌}
+use Rattle.gabc_places.specs.declared.code.Fault.{Fault}
 use Rattle.gabc_places.specs.declared.limits.Limits.{Limits}
 use Rattle.gregorio_jobs.specs.declared.job.Job.{Job}
 use Rattle.gregorio_jobs.specs.declared.job.Status.{Status}
@@ -23,37 +24,39 @@ no_end WriteFault e = absurd (cc e)
 no_end NoMemory e = absurd (cc e)
 
 -- the last bytes of a run that is over
-last_is : (output lines : List ℕ) (status : Status) → behind_bytes output lines (ended_with status) ≡ record { output = output; messages = lines; status = status }
-last_is output lines status =
+last_is : (output lines : List ℕ) (status : Status) (fault : Option Fault) → behind_bytes output lines (ended_with status fault) ≡ record { output = output; messages = lines; status = status; fault = fault }
+last_is output lines status fault =
     let texts = append-nil output in
     let told = append-nil lines in
-    λ i. record { output = texts i; messages = told i; status = status }
+    λ i. record { output = texts i; messages = told i; status = status; fault = fault }
 
 -- ---- what is made of an engine
 
-pub ended : (ending : SourceEnding) (left : Writes) (made : Made) (status : Status) (output lines : List ℕ) → made ≡ record { output = output; lines = lines; state = []; number = code_of status }
-    → left ending [] ≡ behind_bytes output lines (ended_with status) → EndsByInput (left ending []).status → EndedAs ending left made
-ended ending left made status output lines is law by_input =
+pub ended : (ending : SourceEnding) (left : Writes) (made : Made) (status : Status) (fault : Option Fault) (output lines : List ℕ) → made ≡ record { output = output; lines = lines; state = []; number = code_of status }
+    → left ending [] ≡ behind_bytes output lines (ended_with status fault) → EndsByInput (left ending []).status → EndedAs ending left made
+ended ending left made status fault output lines is law by_input =
     subst (EndedAs ending left) (sym is) (record {
       status = status;
+      fault = fault;
       over = record { number = refl; by_input = subst EndsByInput (ap (λ (s : Streams). s.status) law) by_input; no_state = refl };
-      law = law ∙ last_is output lines status;
+      law = law ∙ last_is output lines status fault;
     })
 
-pub stopped : (job : Job) (limits : Limits) (left rest : Writes) (piece : List ℕ) (made : Made) (status : Status) (output lines : List ℕ) → made ≡ record { output = output; lines = lines; state = []; number = code_of status }
-    → ((ending : SourceEnding) (more : List ℕ) → left ending (piece ++ more) ≡ behind_bytes output lines (rest ending more)) → ((more : List ℕ) (ending : SourceEnding) → rest ending more ≡ ended_with status)
+pub stopped : (job : Job) (limits : Limits) (left rest : Writes) (piece : List ℕ) (made : Made) (status : Status) (fault : Option Fault) (output lines : List ℕ) → made ≡ record { output = output; lines = lines; state = []; number = code_of status }
+    → ((ending : SourceEnding) (more : List ℕ) → left ending (piece ++ more) ≡ behind_bytes output lines (rest ending more)) → ((more : List ℕ) (ending : SourceEnding) → rest ending more ≡ ended_with status fault)
     → EndsByInput (left Broken (piece ++ [])).status → FedAs job limits left piece made
-stopped job limits left rest piece made status output lines is law over by_input =
+stopped job limits left rest piece made status fault output lines is law over by_input =
     subst (FedAs job limits left piece) (sym is) (record {
       on = λ number. absurd (no_end status number);
       over = λ number. record {
         status = status;
+        fault = fault;
         over = record {
           number = refl;
           by_input = subst EndsByInput (ap (λ (s : Streams). s.status) (law Broken [] ∙ ap (behind_bytes output lines) (over [] Broken))) by_input;
           no_state = refl;
         };
-        law = λ ending more. law ending more ∙ (ap (behind_bytes output lines) (over more ending) ∙ last_is output lines status);
+        law = λ ending more. law ending more ∙ (ap (behind_bytes output lines) (over more ending) ∙ last_is output lines status fault);
       };
     })
 
@@ -84,6 +87,7 @@ module _ (job : Job) (limits : Limits) (left : Writes) (other : Writes) (same : 
   is_stopped_too : (piece : List ℕ) (made : Made) → IsStopped left piece made → IsStopped other piece made
   is_stopped_too piece made s = record {
     status = s.status;
+    fault = s.fault;
     over = s.over;
     law = λ ending more. sym (same ending (piece ++ more)) ∙ s.law ending more;
   }
@@ -112,6 +116,7 @@ ends job limits ending before left made a ended = record {
   left = left;
   stood = a.stands;
   status = ended.status;
+  fault = ended.fault;
   over = ended.over;
   law = λ other stands. sym (a.alone other stands ending []) ∙ ended.law;
 }

@@ -19,7 +19,8 @@ stdin_name = codes "<stdin>"
 abbrev pub status_number : Outcome → ℕ
 status_number outcome = code_of (status_of outcome)
 
--- A text stands at the head of a buffer, if there is room for all of it; else the buffer is as it was.
+-- A text stands at the head of a buffer, if there is room for all of it; else the buffer is as it
+-- was.
 pub record IsPut {X : Type 0} (text old new : List X) : Type 0 where
   pub fits : length text ≤ length old → new ≡ text ++ drop (length text) old
   pub full : length old < length text → new ≡ old
@@ -30,7 +31,8 @@ pub record IsOutcomeOf (score : List ℕ) (outcome : Outcome) : Type 0 where
   pub usual : AreUsual limits.header limits.syllable limits.input
   pub is : outcome ≡ outcome_of limits Whole score
 
--- The output and the lines of the messages stand in their buffers, and their lengths and the status are told.
+-- The output and the lines of the messages stand in their buffers, and their lengths and the status
+-- are told.
 pub record Answer (request : Request) (score output_old output_new messages_old messages_new : List ℕ) (lengths : Lengths) (status : ℕ) : Type 0 where
   pub outcome : Outcome
   pub of : IsOutcomeOf score outcome

@@ -18,7 +18,8 @@ severity_number Warning = 0
 severity_number Error = 1
 severity_number Fatal = 2
 
--- a code's number: 101 for E1, 201 for W1, 301 for F1, and from there on with the code's own number; it stays so
+-- a code's number: 101 for E1, 201 for W1, 301 for F1, and from there on with the code's own
+-- number; it stays so
 abbrev pub number_of : Code → ℕ
 number_of E1 = 101
 number_of E2 = 102
@@ -57,6 +58,7 @@ abbrev pub fault_message : Option Fault → List Message
 fault_message None = []
 fault_message (Some fault) = message_at fault.place fault.code ∷ []
 
--- the messages of what a score found, warnings only where all are wanted, and last that of its fault
+-- the messages of what a score found, warnings only where all are wanted, and last that of its
+-- fault
 abbrev pub messages_by : Bool → Score → List Message
 messages_by all_warnings score = flat_map (shown_message all_warnings) score.findings ++ fault_message score.fault

@@ -45,7 +45,8 @@ pub record AllAreKept (state output messages : Buffer) (result : ℕ) : Type 0 w
   pub lines_are : IsKept messages
   pub number : result ≡ 7
 
--- There is room for all that is made, and it stands in the buffers; or there is not, and these are kept.
+-- There is room for all that is made, and it stands in the buffers; or there is not, and these are
+-- kept.
 abbrev pub IsHandedOut : Made → Buffer → Buffer → Buffer → ℕ → Type 0
 IsHandedOut made state output messages result =
     (AllHaveRoom made state output messages × AllAreFilled made state output messages result)
@@ -64,7 +65,8 @@ lengths_of made = record { output = length made.output; messages = length made.l
 abbrev pub IsRefusal : ℕ → Type 0
 IsRefusal result = (result ≡ 3) ⊎ ((result ≡ 5) ⊎ (8 ≤ result))
 
--- Why no step is made of these bytes: there is no memory, they are no state, or they are one of another run.
+-- Why no step is made of these bytes: there is no memory, they are no state, or they are one of
+-- another run.
 abbrev pub IsReason : Job → Limits → List ℕ → ℕ → Type 0
 IsReason job limits before result =
     (result ≡ 5) ⊎ (((result ≡ 8) × (IsState before → ⊥)) ⊎ ((result ≡ 9) × IsOfAnother job limits before))

@@ -1,5 +1,7 @@
--- What the steps of a run in pieces do: of the state before it each makes bytes of the output, of the messages and of the state behind it.
-use Rattle.std.specs.Prelude.{◌≡◌, ◌≢◌, ℕ, List, [], ◌++◌, None}
+-- What the steps of a run in pieces do: of the state before it each makes bytes of the output, of
+-- the messages and of the state after it.
+use Rattle.std.specs.Prelude.{◌≡◌, ◌≢◌, ℕ, List, [], ◌++◌, Option, None}
+use Rattle.gabc_places.specs.declared.code.Fault.{Fault}
 use Rattle.gabc_places.specs.declared.limits.Limits.{Limits}
 use Rattle.gregorio_jobs.specs.declared.job.Input.TheVariants.{Stdin}
 use Rattle.gregorio_jobs.specs.declared.job.Job.{Job}
@@ -26,7 +28,8 @@ Writes = SourceEnding → List ℕ → Streams
 abbrev pub run_of : Job → Limits → Writes
 run_of job limits ending bytes = streams_of_outcome job (outcome_of limits ending bytes)
 
--- What a step makes: bytes of the output and of the messages, the state behind it, which is empty where the run is over, and the number that it answers.
+-- What a step makes: bytes of the output and of the messages, the state after it, which is empty
+-- where the run is over, and the number that it answers.
 pub record Made : Type 0 where
   pub output : List ℕ
   pub lines : List ℕ
@@ -43,9 +46,9 @@ pub record IsOver (made : Made) (status : Status) : Type 0 where
   pub by_input : EndsByInput status
   pub no_state : made.state ≡ []
 
--- what was made is the last that is written
-abbrev pub last_of : Made → Status → Streams
-last_of made status = record { output = made.output; messages = made.lines; status = status }
+-- what was made is the last that is written, of a run that this fault stopped, if one did
+abbrev pub last_of : Made → Status → Option Fault → Streams
+last_of made status fault = record { output = made.output; messages = made.lines; status = status; fault = fault }
 
 -- ---- the steps
 
@@ -56,7 +59,8 @@ pub record Begins (job : Job) (limits : Limits) (made : Made) : Type 0 where
   pub lines : made.lines ≡ []
   pub stands : StandsFor job limits made.state (run_of job limits)
 
--- Of what was left, these bytes were written at a piece. What was known is written, but for the syllable that is held, and the state stands for the rest.
+-- Of what was left, these bytes were written at a piece. What was known is written, but for the
+-- syllable that is held, and the state stands for the rest.
 pub record GoesOn (job : Job) (limits : Limits) (left : Writes) (piece : List ℕ) (made : Made) : Type 0 where
   pub rest : Writes
   pub stands : StandsFor job limits made.state rest
@@ -66,8 +70,9 @@ pub record GoesOn (job : Job) (limits : Limits) (left : Writes) (piece : List �
 -- A fault in a piece stopped the run, whatever follows.
 pub record IsStopped (left : Writes) (piece : List ℕ) (made : Made) : Type 0 where
   pub status : Status
+  pub fault : Option Fault
   pub over : IsOver made status
-  pub law : (ending : SourceEnding) (more : List ℕ) → left ending (piece ++ more) ≡ last_of made status
+  pub law : (ending : SourceEnding) (more : List ℕ) → left ending (piece ++ more) ≡ last_of made status fault
 
 -- The state before stands for something, and of that a piece was written.
 pub record Feeds (job : Job) (limits : Limits) (before piece : List ℕ) (made : Made) : Type 0 where
@@ -76,10 +81,12 @@ pub record Feeds (job : Job) (limits : Limits) (before piece : List ℕ) (made :
   pub on : made.number ≡ goes_on → (left : Writes) → StandsFor job limits before left → GoesOn job limits left piece made
   pub over : made.number ≢ goes_on → (left : Writes) → StandsFor job limits before left → IsStopped left piece made
 
--- The state before stands for something, and what was left of that at such an end of the input was written.
+-- The state before stands for something, and what was left of that at such an end of the input was
+-- written.
 pub record Ends (job : Job) (limits : Limits) (ending : SourceEnding) (before : List ℕ) (made : Made) : Type 0 where
   pub left : Writes
   pub stood : StandsFor job limits before left
   pub status : Status
+  pub fault : Option Fault
   pub over : IsOver made status
-  pub law : (left : Writes) → StandsFor job limits before left → left ending [] ≡ last_of made status
+  pub law : (left : Writes) → StandsFor job limits before left → left ending [] ≡ last_of made status fault

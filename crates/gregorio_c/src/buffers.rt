@@ -13,7 +13,8 @@ pub(crate) fn put<T: Copy>(from: &[T], to: &mut [T])
     }
 }
 
-/// Returns whether something of `len` items is written into `buf`: there are some, and there is room for all of them.
+/// Returns whether something of `len` items is written into `buf`: there are some, and there is
+/// room for all of them.
 pub(crate) fn is_written<T: Copy>(buf: &[T], len: usize) -> bool
     ensures fits { result ≡ true → len ≤ length buf.now }
     ensures none { result ≡ false → (items : List T) → length items ≡ len →
@@ -22,7 +23,8 @@ pub(crate) fn is_written<T: Copy>(buf: &[T], len: usize) -> bool
     0 < len && len <= buf.len()
 }
 
-/// Returns from where on `len` items are to fill `buf`: from its head, or where nothing of them is written, from its end.
+/// Returns from where on `len` items are to fill `buf`: from its head, or where nothing of them is
+/// written, from its end.
 pub(crate) fn start_of<T: Copy>(buf: &[T], len: usize) -> usize
     ensures { (items : List T) → length items ≡ len →
         IsPut items buf.now (filled buf.now result items) }

@@ -1,13 +1,10 @@
-//! A score that is compiled by runs of an engine over it: one that counts what it writes and keeps the first bytes, and where they are not all, another one
-//! that writes what fits.
+//! A score that is compiled by runs of an engine over it: one that counts what it writes and keeps
+//! the first bytes, and where they are not all, another one that writes what fits.
 
 ghost use Rattle.std.specs.Prelude.{◌≡◌, ◌++◌, ◌<◌, ◌-◌, ◌^◌, ℕ, List, true, false, IfOk, OnOk, OnErr, codes};
-ghost use Rattle.gabc_places.specs.Code.{text_of};
 ghost use Rattle.gabc_places.specs.declared.limits.Limits.{Limits};
-ghost use Rattle.gabc_headers.specs.TooLong.{is_stopped_too_long};
 ghost use Rattle.gregorio.specs.declared.source_ending.SourceEnding.TheVariants.{Whole};
 ghost use Rattle.gregorio.specs.Engine.{NothingWaits};
-ghost use Rattle.gregorio.specs.Outcome.{outcome_of};
 ghost use Rattle.gregorio.specs.witness.Engine.{streams_left};
 ghost use Rattle.gregorio_c.specs.Answers.{Answer, IsPut};
 ghost use Rattle.gregorio_c.specs.machine.Runs.{HasWritten, IsAsUsual};
@@ -15,22 +12,23 @@ ghost use Rattle.gregorio_c.specs.machine.Streams.{AreLengthsOf, streams_of_scor
 ghost use Rattle.gregorio_c.specs.declared.request.Request.{Request};
 
 use crate::buffers::{put, start_of};
-use crate::engines::{engine_of, is_fatal, small_limits};
+use crate::engines::{engine_of, is_too_long, small_limits};
 use crate::first_bytes::FirstBytes;
 use crate::lengths::Lengths;
 use crate::request::Request;
-use gabc_places::{BufferFiller, Code, Limits};
+use gabc_places::{BufferFiller, Fault, Limits};
 use gregorio::{Engine, Status};
 use std::alloc::{AllocError, Global};
 
-/// The most bytes of the output that the first run keeps. Where there are more, a second run writes them.
+/// The most bytes of the output that the first run keeps. Where there are more, a second run writes
+/// them.
 const KEPT_OUTPUT: usize = 1_048_576;
 
 /// How many bytes of the messages the first run keeps.
 const KEPT_MESSAGES: usize = 8192;
 
-/// Returns how many bytes of the output the first run over `score` keeps: 32 for each byte, which is more than most dumps have, and no more than a
-/// megabyte.
+/// Returns how many bytes of the output the first run over `score` keeps: 32 for each byte, which
+/// is more than most dumps have, and no more than a megabyte.
 fn kept_output(score: &[u8]) -> usize {
     score.len().saturating_mul(32).min(KEPT_OUTPUT)
 }
@@ -42,17 +40,7 @@ struct Run {
     output: FirstBytes,
     messages: FirstBytes,
     status: Status,
-}
-
-/// Returns whether these `lines` of messages may end with one that tells `code`.
-fn may_end_with(lines: &[u8], code: Code) -> bool
-    ensures { (before : List ℕ) → lines.now ≡ before ++ (text_of code ++ codes "\n")
-        → result ≡ true }
-{
-    match lines.split_last() {
-        Some((_, line)) => line.ends_with(code.text().as_bytes()),
-        None => false,
-    }
+    fault: Option<Fault>,
 }
 
 impl Run {
@@ -67,24 +55,10 @@ impl Run {
             messages: self.messages.count(),
         }
     }
-
-    /// Returns whether it may have stopped since the headers or a syllable were too long.
-    fn may_be_too_long(&self) -> bool
-        ensures { (request : Request) (limits : Limits) (score : List ℕ) →
-            HasWritten self.now (streams_of_score request limits score) → result ≡ false →
-            is_stopped_too_long (outcome_of limits Whole score).score.fault ≡ false }
-    {
-        if !is_fatal(self.status) {
-            return false;
-        }
-        match self.messages.whole() {
-            Some(lines) => may_end_with(lines, Code::F4) || may_end_with(lines, Code::F5),
-            None => true,
-        }
-    }
 }
 
-/// Runs over `score` under `limits`, and returns what it writes. It fails only for want of memory, and where it writes more than can be counted.
+/// Runs over `score` under `limits`, and returns what it writes. It fails only for want of memory,
+/// and where it writes more than can be counted.
 fn run_under(
     alloc: Global,
     request: Request,
@@ -100,6 +74,7 @@ fn run_under(
     let mut messages = FirstBytes::with_limit(alloc, KEPT_MESSAGES)?;
     let mut engine = engine_of(alloc, request, limits, key)?;
     let status = engine.run_over(score, &mut output, &mut messages);
+    let fault = engine.fault();
     // A proof follows a call faster than all that lies inside an engine.
     drop(engine);
     if output.count() == usize::MAX || messages.count() == usize::MAX {
@@ -110,11 +85,12 @@ fn run_under(
         output,
         messages,
         status,
+        fault,
     })
 }
 
-/// Runs over `score`, and returns what it writes: under small limits, or where it may have stopped at these, under the default ones. It fails as
-/// `run_under` does.
+/// Runs over `score`, and returns what it writes: under small limits, or where these have stopped
+/// it, under the default ones. It fails as `run_under` does.
 fn run_over(alloc: Global, request: Request, key: &[u64], score: &[u8]) -> Result<Run, AllocError>
     ensures written { IfOk result (λ run.
         HasWritten run (streams_of_score request run.limits score.now)) }
@@ -123,14 +99,15 @@ fn run_over(alloc: Global, request: Request, key: &[u64], score: &[u8]) -> Resul
     gregorio::laws::larger_limits_change_nothing();
     let usual = Limits::default();
     let run = run_under(alloc, request, small_limits(usual, score), key, score)?;
-    if run.may_be_too_long() {
+    if is_too_long(run.fault) {
         drop(run);
         return run_under(alloc, request, usual, key, score);
     }
     Ok(run)
 }
 
-/// Runs `engine` over `score`, and writes each of its texts that fits into its buffer. `lengths` are those of the texts.
+/// Runs `engine` over `score`, and writes each of its texts that fits into its buffer. `lengths`
+/// are those of the texts.
 fn write_by(
     engine: &mut Engine,
     score: &[u8],
@@ -160,8 +137,8 @@ fn write_by(
     );
 }
 
-/// Writes each of the texts of `run`, a run over `score`, that fits into its buffer. `lengths` are those of the texts. It fails only for want of memory,
-/// and nothing is written then.
+/// Writes each of the texts of `run`, a run over `score`, that fits into its buffer. `lengths` are
+/// those of the texts. It fails only for want of memory, and nothing is written then.
 fn write_texts(
     alloc: Global,
     request: Request,
@@ -194,8 +171,9 @@ fn write_texts(
     Ok(())
 }
 
-/// Compiles `score`: puts each of its two texts that fits into its buffer, and their lengths into `lengths`. Returns the exit status. It fails
-/// only for want of memory, and nothing is written then.
+/// Compiles `score`: puts each of its two texts that fits into its buffer, and their lengths into
+/// `lengths`. Returns the exit status. It fails only for want of memory, and nothing is written
+/// then.
 pub(crate) fn compile(
     alloc: Global,
     request: Request,

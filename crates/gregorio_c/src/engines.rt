@@ -1,20 +1,21 @@
 //! Engines for the scores of calls.
 
-ghost use Rattle.std.specs.Prelude.{◌≡◌, ℕ, List, true, IfOk};
+ghost use Rattle.std.specs.Prelude.{◌≡◌, ℕ, List, IfOk};
+ghost use Rattle.gabc_headers.specs.TooLong.{is_stopped_too_long};
 ghost use Rattle.gabc_places.specs.LargerLimits.{AreNoLess};
 ghost use Rattle.gregorio.specs.declared.source_ending.SourceEnding.TheVariants.{Whole};
 ghost use Rattle.gregorio.specs.Engine.{NothingWaits};
 ghost use Rattle.gregorio.specs.witness.Engine.{streams_left};
-ghost use Rattle.gregorio_jobs.specs.declared.job.Status.TheVariants.{Fatal};
 ghost use Rattle.gregorio_c.specs.machine.Streams.{streams_of_score};
 
 use crate::request::Request;
-use gabc_places::Limits;
-use gregorio::{Engine, Status};
+use gabc_places::{Code, Fault, Limits};
+use gregorio::Engine;
 use std::alloc::{AllocError, Global};
 use std::hash::{DefaultHasher, Hasher};
 
-/// Returns a hasher that has taken the words of `key`. Without one it begins as each such hasher does.
+/// Returns a hasher that has taken the words of `key`. Without one it begins as each such hasher
+/// does.
 pub(crate) fn hasher_of(key: &[u64]) -> DefaultHasher {
     let mut hasher = DefaultHasher::new();
     for word in key {
@@ -23,8 +24,9 @@ pub(crate) fn hasher_of(key: &[u64]) -> DefaultHasher {
     hasher
 }
 
-/// Returns limits for a run over `score` that few scores of its length pass: its headers and a syllable may have twice its bytes and 64, and no more
-/// than under the `usual` limits. The fewer bytes the headers may have, the less time it takes to make an engine.
+/// Returns limits for a run over `score` that few scores of its length pass: its headers and a
+/// syllable may have twice its bytes and 64, and no more than under the `usual` limits. The fewer
+/// bytes the headers may have, the less time it takes to make an engine.
 pub(crate) fn small_limits(usual: Limits, score: &[u8]) -> Limits
     ensures no_less { AreNoLess result usual }
     ensures input { result.input ≡ usual.input }
@@ -39,17 +41,19 @@ pub(crate) fn small_limits(usual: Limits, score: &[u8]) -> Limits
     .unwrap_or(usual)
 }
 
-/// Returns whether a run that ended so was stopped by a fatal fault.
-pub(crate) fn is_fatal(status: Status) -> bool
-    ensures { status ≡ Fatal → result ≡ true }
+/// Returns whether what stopped a run, if anything did, is that the headers or a syllable were too
+/// long.
+pub(crate) fn is_too_long(fault: Option<Fault>) -> bool
+    ensures { result ≡ is_stopped_too_long fault }
 {
-    match status {
-        Status::Fatal => true,
-        _ => false,
+    match fault {
+        Some(fault) => fault.code == Code::F4 || fault.code == Code::F5,
+        None => false,
     }
 }
 
-/// Returns an engine for what is asked for, under `limits`. It hashes the names of headers with `key`, and fails only for want of memory.
+/// Returns an engine for what is asked for, under `limits`. It hashes the names of headers with
+/// `key`, and fails only for want of memory.
 pub(crate) fn engine_of(
     alloc: Global,
     request: Request,

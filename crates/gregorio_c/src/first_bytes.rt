@@ -17,7 +17,8 @@ pub(crate) struct FirstBytes {
 }
 
 impl FirstBytes {
-    /// Returns one that keeps at most `limit` bytes, and has taken none. It fails only for want of memory.
+    /// Returns one that keeps at most `limit` bytes, and has taken none. It fails only for want of
+    /// memory.
     pub(crate) fn with_limit(alloc: Global, limit: usize) -> Result<FirstBytes, AllocError>
         ensures taken { IfOk result (λ f. Keeps f []) }
         ensures limit { IfOk result (λ f. f.first.limit ≡ limit) }
@@ -28,7 +29,8 @@ impl FirstBytes {
         })
     }
 
-    /// Returns the number of bytes of the text, or the last value of a `usize` where there are as many or more.
+    /// Returns the number of bytes of the text, or the last value of a `usize` where there are as
+    /// many or more.
     pub(crate) fn count(&self) -> usize
         ensures { result ≡ self.now.counter }
     {
@@ -49,7 +51,8 @@ impl FirstBytes {
         }
     }
 
-    /// Returns what to put into `buf` for the text: nothing, where `buf` takes nothing of it, or else the text, if all of it is kept.
+    /// Returns what to put into `buf` for the text: nothing, where `buf` takes nothing of it, or
+    /// else the text, if all of it is kept.
     pub(crate) fn to_put(&self, buf: &[u8]) -> Option<&[u8]>
         ensures text { IfSome result (λ bytes. (text new : List ℕ) → Keeps self.now text →
             self.now.counter < 2 ^ 64 - 1 → IsPut bytes.now buf.now new → IsPut text buf.now new) }

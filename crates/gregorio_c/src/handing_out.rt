@@ -20,8 +20,8 @@ fn has_room(made: &Made, state: &[u8], output: &[u8], messages: &[u8]) -> bool
         && made.messages().len() <= messages.len()
 }
 
-/// Copies what is made to the heads of the buffers, if there is room for all of it, and returns the number that is answered. Else the buffers stay as they
-/// were.
+/// Copies what is made to the heads of the buffers, if there is room for all of it, and returns the
+/// number that is answered. Else the buffers stay as they were.
 pub(crate) fn hand_out(made: &Made, state: &mut [u8], output: &mut [u8], messages: &mut [u8]) -> u32
     ensures { IsHandedOut made.now (used state.old state.new) (used output.old output.new)
         (used messages.old messages.new) result }

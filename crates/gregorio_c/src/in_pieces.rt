@@ -1,4 +1,5 @@
-//! A run in pieces as a whole. The contract of the one public function is a law, and its body makes the calls.
+//! A run in pieces as a whole. The contract of the one public function is a law, and its body makes
+//! the calls.
 
 ghost use Rattle.std.specs.Prelude.{◌≡◌, ◌↔◌, ◌⊎◌, [], take, Err, IfErr, IfOk, IsTrue};
 ghost use Rattle.gabc_places.specs.declared.limits.Limits.{Limits as RunLimits};
@@ -19,7 +20,6 @@ use crate::step::Step;
 use crate::steps::GOES_ON;
 use gabc_places::Put;
 use gregorio::SourceEnding;
-use gregorio::restored_laws::bytes_are_of_one_state;
 use std::alloc::Global;
 
 /// The numbers and the options that each call of a run takes.
@@ -33,7 +33,7 @@ pub struct Numbers<'a> {
     pub options: &'a [Options],
 }
 
-/// Where a run stands behind a piece.
+/// Where a run stands after a piece.
 enum Fed {
     /// It goes on, and its state has so many bytes.
     On(usize),
@@ -41,7 +41,8 @@ enum Fed {
     Over(u32),
 }
 
-/// Returns whether this is the number of an answer with which no output and no messages are written.
+/// Returns whether this is the number of an answer with which no output and no messages are
+/// written.
 fn writes_nothing(number: u32) -> bool
     ensures { IsTrue result ↔ WritesNothing number }
 {
@@ -59,7 +60,8 @@ fn fed_by(number: u32, len: usize) -> Fed
     }
 }
 
-/// Begins a run, and returns how many bytes its first state has. The error is the number that is answered else.
+/// Begins a run, and returns how many bytes its first state has. The error is the number that is
+/// answered else.
 fn begin_one(alloc: Global, numbers: &Numbers<'_>, state: &mut [u8]) -> Result<usize, u32>
     ensures begun { (request : Wanted) (limits : RunLimits) →
         AsksFor numbers.now.format numbers.now.flags numbers.now.options.now request limits →
@@ -84,8 +86,8 @@ fn begin_one(alloc: Global, numbers: &Numbers<'_>, state: &mut [u8]) -> Result<u
     Ok(step.state)
 }
 
-/// Feeds `piece` to the run whose state are the first `len` bytes of `state`, and puts what is written then. The error is the number of an answer with which
-/// nothing is written.
+/// Feeds `piece` to the run whose state are the first `len` bytes of `state`, and puts what is
+/// written then. The error is the number of an answer with which nothing is written.
 fn feed_one<O: Put, M: Put>(
     alloc: Global,
     numbers: &Numbers<'_>,
@@ -112,7 +114,7 @@ fn feed_one<O: Put, M: Put>(
         output: 0,
         messages: 0,
     };
-    bytes_are_of_one_state(front(state, len));
+    gregorio::restored_laws::bytes_are_of_one_state(front(state, len));
     let number = gregorio_feed(
         alloc,
         numbers.format,
@@ -133,7 +135,8 @@ fn feed_one<O: Put, M: Put>(
     Ok(fed_by(number, step.state))
 }
 
-/// Ends the run whose state is `state` by the call for such an end of its input, and returns the number that is answered.
+/// Ends the run whose state is `state` by the call for such an end of its input, and returns the
+/// number that is answered.
 fn end_by(
     alloc: Global,
     numbers: &Numbers<'_>,
@@ -164,8 +167,8 @@ fn end_by(
     }
 }
 
-/// Ends the run whose state is `state`, and puts what is written then. Returns the number that is answered. The error is that of an answer with which
-/// nothing is written.
+/// Ends the run whose state is `state`, and puts what is written then. Returns the number that is
+/// answered. The error is that of an answer with which nothing is written.
 fn end_one<O: Put, M: Put>(
     alloc: Global,
     numbers: &Numbers<'_>,
@@ -190,7 +193,7 @@ fn end_one<O: Put, M: Put>(
         output: 0,
         messages: 0,
     };
-    bytes_are_of_one_state(state);
+    gregorio::restored_laws::bytes_are_of_one_state(state);
     let number = end_by(
         alloc,
         numbers,
@@ -208,9 +211,11 @@ fn end_one<O: Put, M: Put>(
     Ok(number)
 }
 
-/// A run that is fed in `pieces`, each by a call of its own that is given nothing but the bytes of the state before, writes the output and the messages and
-/// answers the status of a run over the pieces joined, however its input is cut: they are put into `out` and `lines`. `state`, `output` and `messages` are the
-/// buffers of the calls. The error is 3 where the numbers ask for nothing, else 5, where there is too little memory, or 7, where a buffer is too small.
+/// A run that is fed in `pieces`, each by a call of its own that is given nothing but the bytes of
+/// the state before, writes the output and the messages and answers the status of a run over the
+/// pieces joined, however its input is cut: they are put into `out` and `lines`. `state`, `output`
+/// and `messages` are the buffers of the calls. The error is 3 where the numbers ask for nothing,
+/// else 5, where there is too little memory, or 7, where a buffer is too small.
 pub fn a_run_may_be_fed_in_pieces<O: Put, M: Put>(
     alloc: Global,
     numbers: &Numbers<'_>,

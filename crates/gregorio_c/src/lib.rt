@@ -1,7 +1,9 @@
-//! The compiler as a static library for programs in C. `c/gregorio.h` says what a caller in C has to keep to.
+//! The compiler as a static library for programs in C. `c/gregorio.h` says what a caller in C has
+//! to keep to.
 //!
-//! A slice crosses as a pointer and a count. A call reads a whole score under the default limits, or makes a step of a run in pieces. It asks for memory
-//! while it works, gives back all of it, keeps nothing between calls, and may be made in any number of threads at once.
+//! A slice crosses as a pointer and a count. A call reads a whole score under the default limits,
+//! or makes a step of a run in pieces. It asks for memory while it works, gives back all of it,
+//! keeps nothing between calls, and may be made in any number of threads at once.
 #![tactic(auto)]
 
 mod buffers;
@@ -43,13 +45,14 @@ const REFUSED: u32 = 3;
 /// What is answered where there is no memory.
 const NO_MEMORY: u32 = 5;
 
-/// Compiles `score`: puts its output into `output`, the lines of its messages into `messages`, and their exact lengths in bytes into
-/// `lengths`. A text that is longer than its buffer is left out whole, and the buffer stays as it was. `format` is 0 for canonical
-/// GABC and 1 for the dump, and `flags` is 1 for all warnings, else 0. `key` has the words of a key for the names of headers: two random
-/// ones where strangers write the score, else none. No answer depends on it.
+/// Compiles `score`: puts its output into `output`, the lines of its messages into `messages`, and
+/// their exact lengths in bytes into `lengths`. A text that is longer than its buffer is left out
+/// whole, and the buffer stays as it was. `format` is 0 for canonical GABC and 1 for the dump, and
+/// `flags` is 1 for all warnings, else 0. `key` has the words of a key for the names of headers:
+/// two random ones where strangers write the score, else none. No answer depends on it.
 ///
-/// Returns the exit status that the program would have: 0, 1 or 2. It returns 3 for another format or flag, and 5 where there is no
-/// memory; buffers and lengths stay as they were then.
+/// Returns the exit status that the program would have: 0, 1 or 2. It returns 3 for another format
+/// or flag, and 5 where there is no memory; buffers and lengths stay as they were then.
 #[unsafe(no_mangle)]
 pub extern "C" fn gregorio_compile(
     alloc: Global,
@@ -73,9 +76,9 @@ pub extern "C" fn gregorio_compile(
     compile(alloc, request, key, score, output, messages, lengths).unwrap_or(NO_MEMORY)
 }
 
-/// Reads `score`, puts its messages into `messages`, those of the findings and last that of a fatal fault, and their number into
-/// `count`. Where there are more of them than `messages` takes, that stays as it was. `flags` is 1 for all warnings, else 0, and `key` as for
-/// `gregorio_compile`.
+/// Reads `score`, puts its messages into `messages`, those of the findings and last that of a fatal
+/// fault, and their number into `count`. Where there are more of them than `messages` takes, that
+/// stays as it was. `flags` is 1 for all warnings, else 0, and `key` as for `gregorio_compile`.
 ///
 /// Returns what `gregorio_compile` does.
 #[unsafe(no_mangle)]

@@ -5,7 +5,8 @@ ghost use Rattle.gregorio_c.specs.machine.LineReader.{next_field, with_digit, se
 
 use crate::message::Message;
 
-/// Where a reader stands in a line `NAME:LINE:COLUMN: KIND: CODE: TEXT`. A `:` ends each field but the last.
+/// Where a reader stands in a line `NAME:LINE:COLUMN: KIND: CODE: TEXT`. A `:` ends each field but
+/// the last.
 #[derive(Clone, Copy)]
 enum Field {
     Name,
@@ -17,7 +18,7 @@ enum Field {
 }
 
 impl Field {
-    /// Returns the field behind the `:` that ends this one. No `:` ends a text.
+    /// Returns the field after the `:` that ends this one. No `:` ends a text.
     fn next(self) -> Field
         ensures { result ≡ next_field self }
     {
@@ -31,8 +32,8 @@ impl Field {
     }
 }
 
-/// Returns the number whose digits are those of `number` and then `byte`; the last value of a `u64` stands for one that is larger, or
-/// begins with a 0. No digit was read of 0.
+/// Returns the number whose digits are those of `number` and then `byte`; the last value of a `u64`
+/// stands for one that is larger, or begins with a 0. No digit was read of 0.
 fn number_with(number: u64, byte: u8) -> u64
     ensures { result ≡ with_digit number byte }
 {
@@ -43,7 +44,8 @@ fn number_with(number: u64, byte: u8) -> u64
     number.saturating_mul(10).saturating_add(digit)
 }
 
-/// Returns the number of a severity once `byte` of its word is read: one letter of each word tells it.
+/// Returns the number of a severity once `byte` of its word is read: one letter of each word tells
+/// it.
 fn severity_behind(severity: u32, byte: u8) -> u32
     ensures { result ≡ severity_with severity byte }
 {
@@ -55,7 +57,8 @@ fn severity_behind(severity: u32, byte: u8) -> u32
     }
 }
 
-/// Returns the number of a code once `byte` of its name is read: its letter tells the hundreds, and its digits what is behind them.
+/// Returns the number of a code once `byte` of its name is read: its letter tells the hundreds, and
+/// its digits what is after them.
 fn code_behind(code: u32, byte: u8) -> u32
     ensures { result ≡ code_with code byte }
 {
@@ -114,8 +117,8 @@ impl LineReader {
         }
     }
 
-    /// Reads `byte`. Returns the message whose line it ends, if it is an LF. A place of which a number is larger than a `u64` has the last
-    /// value of one for it.
+    /// Reads `byte`. Returns the message whose line it ends, if it is an LF. A place of which a
+    /// number is larger than a `u64` has the last value of one for it.
     pub(crate) fn read(&mut self, byte: u8) -> Option<Message>
         ensures reader { self.new ≡ behind_byte self.old byte }
         ensures message { result ≡ ended_by self.old byte }

@@ -1,7 +1,8 @@
 //! A message as a record.
 
-/// A message: the line and the column in characters, both from 1, how grave it is (0 a warning, 1 an error, 2 a fatal fault), and its
-/// code: E1 to E6 are 101 to 106, W1 to W12 are 201 to 212, F1 to F7 are 301 to 307.
+/// A message: the line and the column in characters, both from 1, how grave it is (0 a warning, 1
+/// an error, 2 a fatal fault), and its code: E1 to E6 are 101 to 106, W1 to W12 are 201 to 212, F1
+/// to F7 are 301 to 307.
 #[repr(C)]
 #[derive(Clone, Copy, Debug, PartialEq, Eq)]
 pub struct Message {

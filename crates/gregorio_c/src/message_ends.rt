@@ -15,7 +15,8 @@ fn has_place(message: Message) -> bool
     message.line < u64::MAX && message.column < u64::MAX
 }
 
-/// Returns `count`, and with it `message`. It saturates at the last value of a `usize`, and is this where the message has no place.
+/// Returns `count`, and with it `message`. It saturates at the last value of a `usize`, and is this
+/// where the message has no place.
 fn count_with(count: usize, message: Message) -> usize
     ensures { result ≡ counted_by count message }
 {
@@ -26,7 +27,8 @@ fn count_with(count: usize, message: Message) -> usize
     }
 }
 
-/// Writes `message` into `buf` at `at`, if there is room for it, and returns how many are written then.
+/// Writes `message` into `buf` at `at`, if there is room for it, and returns how many are written
+/// then.
 fn put_at(buf: &mut [Message], at: usize, message: Message) -> usize
     ensures buf { buf.new ≡ filled buf.old at (message ∷ []) }
     ensures len { result ≡ filled_len buf.old at (message ∷ []) }
@@ -39,8 +41,8 @@ fn put_at(buf: &mut [Message], at: usize, message: Message) -> usize
     }
 }
 
-/// Reads `bytes`, counts the messages whose lines end in them, and writes them into `buf` from `at` on, as many as there is room for. Returns
-/// how many are written then.
+/// Reads `bytes`, counts the messages whose lines end in them, and writes them into `buf` from `at`
+/// on, as many as there is room for. Returns how many are written then.
 fn take_lines(
     reader: &mut LineReader,
     bytes: &[u8],
@@ -63,21 +65,24 @@ fn take_lines(
     len
 }
 
-/// Counts messages of which it takes the lines, and fills a buffer with them, as many as there is room for.
+/// Counts messages of which it takes the lines, and fills a buffer with them, as many as there is
+/// room for.
 #[derive(Drop)]
 pub(crate) struct MessageFiller<'a> {
     /// The buffer.
     pub buf: &'a mut [Message],
     /// How many places of it are filled.
     pub len: usize,
-    /// How many messages it has counted, or the last value of a `usize` where one of them has no place.
+    /// How many messages it has counted, or the last value of a `usize` where one of them has no
+    /// place.
     pub count: usize,
     /// What reads the lines.
     pub reader: LineReader,
 }
 
 impl MessageFiller<'_> {
-    /// Returns how many messages it has counted, or the last value of a `usize` where one of them has no place.
+    /// Returns how many messages it has counted, or the last value of a `usize` where one of them
+    /// has no place.
     pub(crate) fn count(&self) -> usize
         ensures { result ≡ self.now.count }
     {

@@ -1,12 +1,11 @@
-//! The messages of a score as records: a run of an engine that counts them and keeps the first, and one that writes them where they are many.
+//! The messages of a score as records: a run of an engine that counts them and keeps the first, and
+//! one that writes them where they are many.
 
 ghost use Rattle.std.specs.Prelude.{◌≡◌, ◌≤◌, ℕ, List, take, IfOk, OnErr, length, false};
 ghost use Rattle.gabc_places.specs.declared.limits.Limits.{Limits};
-ghost use Rattle.gabc_headers.specs.TooLong.{is_stopped_too_long};
 ghost use Rattle.gregorio.specs.declared.source_ending.SourceEnding.TheVariants.{Whole};
 ghost use Rattle.gregorio.specs.Engine.{NothingWaits};
 ghost use Rattle.gregorio.specs.witness.Engine.{streams_left};
-ghost use Rattle.gregorio.specs.Outcome.{outcome_of};
 ghost use Rattle.gregorio_c.specs.declared.request.Request.{Request};
 ghost use Rattle.gregorio_c.specs.Answers.{IsPut, MessagesAnswer};
 ghost use Rattle.gregorio_c.specs.machine.LineReader.{AreCounted, AreFirst, before_line, messages_in};
@@ -14,12 +13,12 @@ ghost use Rattle.gregorio_c.specs.machine.Runs.{AreToldBy, IsAsUsual};
 ghost use Rattle.gregorio_c.specs.machine.Streams.{streams_of_score};
 
 use crate::buffers::{is_written, put, start_of};
-use crate::engines::{engine_of, is_fatal, small_limits};
+use crate::engines::{engine_of, is_too_long, small_limits};
 use crate::line_reader::LineReader;
 use crate::message::Message;
 use crate::message_ends::MessageFiller;
 use crate::request::Request;
-use gabc_places::{ByteCounter, Limits};
+use gabc_places::{ByteCounter, Fault, Limits};
 use gregorio::{Engine, Format, Status};
 use std::alloc::{AllocError, Global};
 
@@ -32,35 +31,12 @@ struct Counted {
     limits: Limits,
     count: usize,
     status: Status,
+    fault: Option<Fault>,
 }
 
-/// The number of the code F4: the headers are too long.
-const F4: u32 = 304;
-
-/// The number of the code F5: a syllable is too long.
-const F5: u32 = 305;
-
-impl Counted {
-    /// Returns whether the run, whose first messages are `first`, may have stopped since the headers or a syllable were too long.
-    fn may_be_too_long(&self, first: &[Message]) -> bool
-        ensures { (request : Request) (limits : Limits) (score : List ℕ) →
-            AreToldBy self.now first.now (streams_of_score request limits score) →
-            result ≡ false →
-            is_stopped_too_long (outcome_of limits Whole score).score.fault ≡ false }
-    {
-        if !is_fatal(self.status) {
-            return false;
-        }
-        if self.count == 0 || first.len() < self.count {
-            return true;
-        }
-        let code = first[self.count - 1].code;
-        code == F4 || code == F5
-    }
-}
-
-/// Runs `engine`, which has these `limits`, over `score`, writes the first of its messages into `first`, and returns how many it has and how it ended.
-/// Where they are more than can be counted, or a place is larger than a record can tell, it fails as for want of memory.
+/// Runs `engine`, which has these `limits`, over `score`, writes the first of its messages into
+/// `first`, and returns how many it has and how it ended. Where they are more than can be counted,
+/// or a place is larger than a record can tell, it fails as for want of memory.
 fn count_by(
     engine: &mut Engine,
     limits: Limits,
@@ -74,6 +50,8 @@ fn count_by(
         AreCounted counted.count (streams_left engine.old Whole score.now).messages) }
     ensures status { IfOk result (λ counted.
         counted.status ≡ (streams_left engine.old Whole score.now).status) }
+    ensures fault { IfOk result (λ counted.
+        counted.fault ≡ (streams_left engine.old Whole score.now).fault) }
     ensures limits { IfOk result (λ counted. counted.limits ≡ limits) }
 {
     let mut messages = MessageFiller {
@@ -83,6 +61,7 @@ fn count_by(
         reader: LineReader::new(),
     };
     let status = engine.run_over(score, &mut ByteCounter::new(), &mut messages);
+    let fault = engine.fault();
     let count = messages.count();
     if count == usize::MAX {
         return Err(AllocError);
@@ -91,11 +70,12 @@ fn count_by(
         limits,
         count,
         status,
+        fault,
     })
 }
 
-/// Runs over `score` under `limits`, writes the first of its messages into `first`, and returns how many it has and how it ended. It fails only for want
-/// of memory, and as `count_by` does.
+/// Runs over `score` under `limits`, writes the first of its messages into `first`, and returns how
+/// many it has and how it ended. It fails only for want of memory, and as `count_by` does.
 fn count_under(
     alloc: Global,
     request: Request,
@@ -115,8 +95,9 @@ fn count_under(
     counted
 }
 
-/// Runs over `score`, writes the first of its messages into `first`, and returns how many it has and how it ended: under small limits, or where it
-/// may have stopped at these, under the default ones. It fails as `count_under` does.
+/// Runs over `score`, writes the first of its messages into `first`, and returns how many it has
+/// and how it ended: under small limits, or where it was stopped by these, under the default ones.
+/// It fails as `count_under` does.
 fn count_messages(
     alloc: Global,
     request: Request,
@@ -132,13 +113,14 @@ fn count_messages(
     let usual = Limits::default();
     let small = small_limits(usual, score);
     let counted = count_under(alloc, request, small, key, score, first)?;
-    if counted.may_be_too_long(first) {
+    if is_too_long(counted.fault) {
         return count_under(alloc, request, usual, key, score, first);
     }
     Ok(counted)
 }
 
-/// Runs `engine` over `score`, and writes its messages into `messages`, if there is room for all `count` of them.
+/// Runs `engine` over `score`, and writes its messages into `messages`, if there is room for all
+/// `count` of them.
 fn write_by(engine: &mut Engine, score: &[u8], count: usize, messages: &mut [Message])
     requires waits { NothingWaits engine.old }
     requires count { count ≡ length (messages_in before_line
@@ -159,8 +141,9 @@ fn write_by(engine: &mut Engine, score: &[u8], count: usize, messages: &mut [Mes
     );
 }
 
-/// Writes the messages of `score` into `messages`, if there is room for all `count` of them; where `first` has as many, these are they. It fails
-/// only for want of memory, and `messages` stays as it was then.
+/// Writes the messages of `score` into `messages`, if there is room for all `count` of them; where
+/// `first` has as many, these are they. It fails only for want of memory, and `messages` stays as
+/// it was then.
 fn write_messages(
     alloc: Global,
     request: Request,
@@ -192,8 +175,9 @@ fn write_messages(
     Ok(())
 }
 
-/// Puts the messages of `score` into `messages`, if there is room for all, and their number into `count`: warnings only if `all_warnings` are
-/// wanted. Returns the exit status. It fails only for want of memory, and nothing is written then.
+/// Puts the messages of `score` into `messages`, if there is room for all, and their number into
+/// `count`: warnings only if `all_warnings` are wanted. Returns the exit status. It fails only for
+/// want of memory, and nothing is written then.
 pub(crate) fn tell_messages(
     alloc: Global,
     all_warnings: bool,

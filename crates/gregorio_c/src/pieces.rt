@@ -1,5 +1,6 @@
-//! The calls for a run in pieces. A step is a function from bytes to bytes: of the state of a run and a piece of its input it makes what is written and the
-//! state behind it. Nothing is kept between two calls.
+//! The calls for a run in pieces. A step is a function from bytes to bytes: of the state of a run
+//! and a piece of its input it makes what is written and the state after it. Nothing is kept
+//! between two calls.
 
 ghost use Rattle.std.specs.Prelude.{◌≡◌, ◌⊎◌, ◌+◌, ◌*◌, max, take};
 ghost use Rattle.gabc_places.specs.declared.limits.Limits.{Limits as RunLimits};
@@ -25,8 +26,9 @@ pub(crate) fn front(bytes: &[u8], len: usize) -> &[u8]
     &bytes[..len.min(bytes.len())]
 }
 
-/// Returns how many bytes the state of a run under the limits of `options` has at most: 128, and the limit of the headers or twice that of a syllable,
-/// whichever is more. It returns 0 where `options` are out of range.
+/// Returns how many bytes the state of a run under the limits of `options` has at most: 128, and
+/// the limit of the headers or twice that of a syllable, whichever is more. It returns 0 where
+/// `options` are out of range.
 #[unsafe(no_mangle)]
 pub extern "C" fn gregorio_state_bound(options: &[Options]) -> usize
     ensures bound { (limits : RunLimits) → AreLimitsOf options.now limits →
@@ -39,11 +41,12 @@ pub extern "C" fn gregorio_state_bound(options: &[Options]) -> usize
     }
 }
 
-/// Begins a run: writes its first state to the front of `state`. `format` and `flags` are those of `gregorio_compile`. `options` are limits and a key,
-/// one or none. `step` tells the lengths.
+/// Begins a run: writes its first state to the front of `state`. `format` and `flags` are those of
+/// `gregorio_compile`. `options` are limits and a key, one or none. `step` tells the lengths.
 ///
-/// Returns 6: the run goes on. It returns 7 where `state` is too small, and stays as it was then; 3 where a number is not known or out of range, and 5 where there
-/// is no memory: nothing is written then.
+/// Returns 6: the run goes on. It returns 7 where `state` is too small, and stays as it was then; 3
+/// where a number is not known or out of range, and 5 where there is no memory: nothing is written
+/// then.
 #[unsafe(no_mangle)]
 pub extern "C" fn gregorio_begin(
     alloc: Global,
@@ -72,12 +75,15 @@ pub extern "C" fn gregorio_begin(
     }
 }
 
-/// Feeds `piece` to the run whose state are the first `state_length` bytes of `state`: puts what became known into `output` and `messages`, and the state behind
-/// it in the place of that before. The other parameters are those of `gregorio_begin`, and have to be those of that run.
+/// Feeds `piece` to the run whose state are the first `state_length` bytes of `state`: puts what
+/// became known into `output` and `messages`, and the state after it in the place of that before.
+/// The other parameters are those of `gregorio_begin`, and have to be those of that run.
 ///
-/// Returns 6: the run goes on. Where a fatal fault stopped it, it returns 2: what is written is the last, and there is no state. It returns 7 where a buffer is
-/// too small: all stay as they were, and `step` tells the lengths that are wanted. With 3 and 5, as `gregorio_begin` returns them, with 8, where the bytes
-/// are no state, and 9, where they are one of another format, of other flags or limits, nothing is written.
+/// Returns 6: the run goes on. Where a fatal fault stopped it, it returns 2: what is written is the
+/// last, and there is no state. It returns 7 where a buffer is too small: all stay as they were,
+/// and `step` tells the lengths that are wanted. With 3 and 5, as `gregorio_begin` returns them,
+/// with 8, where the bytes are no state, and 9, where they are one of another format, of other
+/// flags or limits, nothing is written.
 #[unsafe(no_mangle)]
 pub extern "C" fn gregorio_feed(
     alloc: Global,
@@ -149,11 +155,13 @@ fn end_so(
     }
 }
 
-/// Ends the run whose state is `state`, at the end of its input: puts the last of the output and of the messages into the buffers, and tells their
-/// `lengths`. The other parameters are those of `gregorio_begin`, and have to be those of that run.
+/// Ends the run whose state is `state`, at the end of its input: puts the last of the output and of
+/// the messages into the buffers, and tells their `lengths`. The other parameters are those of
+/// `gregorio_begin`, and have to be those of that run.
 ///
-/// Returns the exit status that the program would have: 0, 1 or 2. With 7 the buffers stay as they were, and `lengths` are those that are wanted; with 3, 5, 8 and
-/// 9, as `gregorio_feed` returns them, nothing is written.
+/// Returns the exit status that the program would have: 0, 1 or 2. With 7 the buffers stay as they
+/// were, and `lengths` are those that are wanted; with 3, 5, 8 and 9, as `gregorio_feed` returns
+/// them, nothing is written.
 #[unsafe(no_mangle)]
 pub extern "C" fn gregorio_end(
     alloc: Global,
@@ -181,7 +189,8 @@ pub extern "C" fn gregorio_end(
     )
 }
 
-/// Ends a run as `gregorio_end` does, of an input whose source has failed. Returns 4 where that is how the run ended.
+/// Ends a run as `gregorio_end` does, of an input whose source has failed. Returns 4 where that is
+/// how the run ended.
 #[unsafe(no_mangle)]
 pub extern "C" fn gregorio_broken(
     alloc: Global,

@@ -1,6 +1,6 @@
 //! The lengths of what a step has made.
 
-/// How many bytes the state behind a step, its output and its messages have.
+/// How many bytes the state after a step, its output and its messages have.
 #[repr(C)]
 #[derive(Clone, Copy, Debug, PartialEq, Eq)]
 pub struct Step {

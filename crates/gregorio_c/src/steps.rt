@@ -1,7 +1,7 @@
 //! The steps of a run in pieces: what each makes of the bytes of a state.
 
 ghost use Rattle.std.specs.Prelude.{◌≡◌, ◌++◌, [], false, true, IfErr, IfOk, OnOk};
-ghost use Rattle.gregorio.specs.Engine.{IsPrompt, NothingWaits, RunsJob, StillRuns, is_running, with_waiting};
+ghost use Rattle.gregorio.specs.Engine.{IsPrompt, NothingWaits, RunsJob, StillRuns, fault_of, is_running, with_waiting};
 ghost use Rattle.gregorio.specs.Streams.{ended_with};
 ghost use Rattle.gregorio_jobs.specs.Status.{code_of};
 ghost use Rattle.gregorio.specs.declared.source_ending.SourceEnding.TheVariants.{Broken};
@@ -15,7 +15,6 @@ use crate::lengths::Lengths;
 use crate::options::Asked;
 use crate::step::Step;
 use gabc_places::Limits;
-use gregorio::restored_laws::what_is_saved_stands;
 use gregorio::run_ends::a_run_ends_by_its_input;
 use gregorio::{Engine, Job, SourceEnding, StateFault, Status};
 use std::alloc::{AllocError, Global};
@@ -179,7 +178,7 @@ fn state_by(
     let Ok(_) = engine.save_into(state.as_mut_slice()) else {
         unreachable!()
     };
-    what_is_saved_stands(engine, job, limits, state.as_slice());
+    gregorio::restored_laws::what_is_saved_stands(engine, job, limits, state.as_slice());
     Ok(state)
 }
 
@@ -194,7 +193,8 @@ fn first_of(alloc: Global, state: Vec<u8>) -> Made
     }
 }
 
-/// Returns what a step makes that begins a run: its state, behind which all is still to be written. The table of the headers' names hashes from `hasher` on.
+/// Returns what a step makes that begins a run: its state, after which all is still to be written.
+/// The table of the headers' names hashes from `hasher` on.
 pub(crate) fn begin(alloc: Global, asked: Asked, hasher: DefaultHasher) -> Result<Made, Refusal>
     ensures begins { IfOk result (Begins (job_of asked.request) asked.limits) }
     ensures memory { IfErr result (λ refusal. refusal ≡ Refusal.NoMemory) }
@@ -232,7 +232,7 @@ fn restored(
 {
     match Engine::restore_with_hasher(alloc, job, limits, before, hasher) {
         Ok(engine) => {
-            what_is_saved_stands(&engine, job, limits, before);
+            gregorio::restored_laws::what_is_saved_stands(&engine, job, limits, before);
             Ok(engine)
         }
         Err(StateFault::K0) => Err(Refusal::NoMemory),
@@ -268,7 +268,7 @@ fn fed_by(
     Ok(last_by(alloc, texts, status))
 }
 
-/// Returns what a step makes that is the last, behind which the run is over with `status`.
+/// Returns what a step makes that is the last, after which the run is over with `status`.
 fn last_by(alloc: Global, texts: Texts, status: Status) -> Made
     ensures { result ≡ record {
       output = texts.output.items;
@@ -288,7 +288,7 @@ fn last_by(alloc: Global, texts: Texts, status: Status) -> Made
 fn end_engine(engine: &mut Engine, ending: SourceEnding) -> Status
     requires { NothingWaits engine.old }
     ensures { streams_left engine.old ending []
-        ≡ with_waiting engine.new (ended_with result) }
+        ≡ with_waiting engine.new (ended_with result (fault_of engine.new)) }
 {
     match ending {
         SourceEnding::Whole => engine.end(),
@@ -309,7 +309,8 @@ fn ended_by(alloc: Global, engine: &mut Engine, ending: SourceEnding) -> Result<
     Ok(last_by(alloc, texts, status))
 }
 
-/// Returns what a step makes of `piece` behind the run whose state is `before`. The table of the headers' names hashes from `hasher` on.
+/// Returns what a step makes of `piece` after the run whose state is `before`. The table of the
+/// headers' names hashes from `hasher` on.
 pub(crate) fn feed(
     alloc: Global,
     asked: Asked,
@@ -332,7 +333,8 @@ pub(crate) fn feed(
     }
 }
 
-/// Returns what a step makes of the end of an input, which ends so behind the run whose state is `before`.
+/// Returns what a step makes of the end of an input, which ends so after the run whose state is
+/// `before`.
 pub(crate) fn end(
     alloc: Global,
     asked: Asked,

@@ -95,8 +95,8 @@ fn closed_stream(rt: &HostRuntime) -> Option<File> {
     }
 }
 
-/// Takes the places of the standard streams that are closed. While the result lives, no file that is
-/// opened comes to stand there: else messages could be written into the output.
+/// Takes the places of the standard streams that are closed. While the result lives, no file that
+/// is opened comes to stand there: else messages could be written into the output.
 pub(crate) fn closed_streams(rt: &HostRuntime) -> [Option<File>; 3] {
     [closed_stream(rt), closed_stream(rt), closed_stream(rt)]
 }

@@ -1,5 +1,5 @@
-//! The program `gregorio`: reads a score of Gregorian chant, and writes it in canonical form or as a dump, as its
-//! words want.
+//! The program `gregorio`: reads a score of Gregorian chant, and writes it in canonical form or as
+//! a dump, as its words want.
 #![tactic(auto)]
 
 mod ends;
@@ -14,7 +14,7 @@ use std::{env, fs, io};
 /// What `-h` writes.
 const HELP: &str = "usage: gregorio -F gabc|dump [-W] [-l FILE] [-o FILE | -S] (-s | FILE)";
 
-/// The words behind the program's name. A word that is not UTF-8 is none that the command takes.
+/// The words after the program's name. A word that is not UTF-8 is none that the command takes.
 fn words_of(rt: &HostRuntime) -> Result<Words, Refusal> {
     let all = match env::args(rt) {
         Ok(all) => all,
@@ -28,7 +28,7 @@ fn words_of(rt: &HostRuntime) -> Result<Words, Refusal> {
     Ok(words)
 }
 
-/// What the words behind the program's name want.
+/// What the words after the program's name want.
 fn plan_of(rt: &HostRuntime) -> Result<Plan, Refusal> {
     plan(rt.alloc(), &words_of(rt)?)
 }

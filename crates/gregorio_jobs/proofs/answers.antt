@@ -2,4 +2,4 @@ pub mod AnswersByStep
 pub mod ArgumentsByRows
 pub mod PlanByMatches
 pub mod AnswersOfResult
-mod WordsByRow
+mod WordsExamples

@@ -14,8 +14,8 @@ flag_rule id letter = record (new_rule id) { short = Some letter; action = Some 
 abbrev pub file_rule : Rule
 file_rule = record (new_rule FILE.now) { action = Some Set }
 
--- Each with the code point of its letter: `-F` (70), `-o` (111) and `-l` (108) take a value; `-s` (115), `-S` (83), `-W` (87) and `-h` (104) are
--- flags. There is no other help, and no version.
+-- Each with the code point of its letter: `-F` (70), `-o` (111) and `-l` (108) take a value; `-s`
+-- (115), `-S` (83), `-W` (87) and `-h` (104) are flags. There is no other help, and no version.
 abbrev pub gregorio_command : App
 gregorio_command = record {
   top = record (new_shape (codes "gregorio")) {

@@ -25,7 +25,8 @@ is_from_words source = false
 abbrev pub is_used : Text → List Row → Bool
 is_used id rows = is_from_words (option_and_then (λ (r : Row). r.source) (find (λ r. bytes_eq r.id id) rows))
 
--- What words say that the command takes: which flags are there, and the first value of each option and of the word that is none.
+-- What words say that the command takes: which flags are there, and the first value of each option
+-- and of the word that is none.
 pub record ArgumentValues : Type 0 where
   pub help : Bool
   pub format : Option Text

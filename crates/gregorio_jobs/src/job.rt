@@ -9,7 +9,8 @@ use crate::name::Name;
 pub enum Format {
     /// Canonical GABC.
     Gabc,
-    /// A listing of what was read: a line for each header, syllable, neume, note, sign and NABC part.
+    /// A listing of what was read: a line for each header, syllable, neume, note, sign and NABC
+    /// part.
     Dump,
 }
 
@@ -31,8 +32,8 @@ pub enum Output {
     File(Name),
 }
 
-/// What a run is to do: the format, the ends, the file for messages (standard error if there is none), and whether
-/// warnings are written too.
+/// What a run is to do: the format, the ends, the file for messages (standard error if there is
+/// none), and whether warnings are written too.
 #[derive(Debug, Drop)]
 pub struct Job {
     /// The format of the output.

@@ -5,7 +5,7 @@ ghost use Rattle.std.specs.Prelude.{◌≡◌, [], ◌∷◌, ◌++◌, OnOk, On
 use std::alloc::{AllocError, Global};
 use std::marker::Model;
 
-/// The words behind the program's name, in order. Contracts see a list of texts.
+/// The words after the program's name, in order. Contracts see a list of texts.
 #[derive(Debug, Drop)]
 pub struct Words {
     alloc: Global,

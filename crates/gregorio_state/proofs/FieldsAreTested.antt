@@ -1,31 +1,23 @@
 -- What tests of single characters and alterations say of all of them.
-use Rattle.std.proofs.Common.{◌≡◌, ℕ, zero, suc, ◌==◌, Bool, true, false, not, ◌&&◌, List, [], ◌∷◌, length, replicate, IsUtf8, All, refl, ap, arith}
+use Rattle.std.proofs.Common.{◌≡◌, ℕ, zero, suc, ◌==◌, Bool, true, false, not, List, [], ◌∷◌, length, replicate, IsUtf8, All, refl, ap, arith}
 use Rattle.std.specs.List.{list_all, AllByRecursion}
 use Rattle.std.specs.Str.{chars}
-use Rattle.std.proofs.lemmas.Bool.{eqb-false, ne_eqb}
+use Rattle.std.proofs.lemmas.Bool.{eqb-false, ne_eqb, and_parts, not-true}
 use Rattle.std.proofs.lemmas.List.Elements.{All-from_recursion}
 use Rattle.gabc_neumes.specs.declared.sound.Alter.{Alter}
 use Rattle.gabc_neumes.specs.declared.sound.Alter.TheVariants as alter
 use Rattle.gabc_places.specs.TextOfAnInput.{IsPlain, IsText}
 use Rattle.gregorio_state.specs.machine.Tests.{is_plain, is_none}
 
-both : (a b : Bool) → (a && b) ≡ true → (a ≡ true) × (b ≡ true)
-both true b e = (refl, e)
-both false b e = absurd cc
-
-not_true : (a : Bool) → not a ≡ true → a ≡ false
-not_true true e = absurd cc
-not_true false e = refl
-
 plain_is : (c : ℕ) → is_plain c ≡ true → IsPlain c
-plain_is c e = let p = both (not (c == 13)) (not (c == 0xFEFF)) e in (eqb-false c 13 (not_true (c == 13) p.0), eqb-false c 0xFEFF (not_true (c == 0xFEFF) p.1))
+plain_is c e = let p = and_parts (not (c == 13)) (not (c == 0xFEFF)) e in (eqb-false c 13 (not-true (c == 13) p.0), eqb-false c 0xFEFF (not-true (c == 0xFEFF) p.1))
 
 plain_test : (c : ℕ) → IsPlain c → is_plain c ≡ true
 plain_test c p = rw (ne_eqb c 13 p.0, ne_eqb c 0xFEFF p.1) refl
 
 each_plain : (cs : List ℕ) → list_all is_plain cs ≡ true → AllByRecursion IsPlain cs
 each_plain [] e = tt
-each_plain (c ∷ cs) e = let p = both (is_plain c) (list_all is_plain cs) e in (plain_is c p.0, each_plain cs p.1)
+each_plain (c ∷ cs) e = let p = and_parts (is_plain c) (list_all is_plain cs) e in (plain_is c p.0, each_plain cs p.1)
 
 all_tested : (cs : List ℕ) → All IsPlain cs → list_all is_plain cs ≡ true
 all_tested [] h = refl
@@ -46,7 +38,7 @@ none_is alter.Sharp e = absurd cc
 
 each_none : (alters : List Alter) → list_all is_none alters ≡ true → alters ≡ replicate (length alters) alter.None
 each_none [] e = refl
-each_none (a ∷ alters) e = let p = both (is_none a) (list_all is_none alters) e in rw (none_is a p.0) (ap (λ (all : List Alter). alter.None ∷ all) (each_none alters p.1))
+each_none (a ∷ alters) e = let p = and_parts (is_none a) (list_all is_none alters) e in rw (none_is a p.0) (ap (λ (all : List Alter). alter.None ∷ all) (each_none alters p.1))
 
 none_tested : (n : ℕ) → list_all is_none (replicate n alter.None) ≡ true
 none_tested zero = refl

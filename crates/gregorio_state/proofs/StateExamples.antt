@@ -3,11 +3,30 @@ use Rattle.std.proofs.Common.{◌≡◌, [], ◌∷◌, true, false, Some, None,
 use Rattle.gabc_neumes.specs.InForce.{nothing_in_force}
 use Rattle.gabc_neumes.specs.declared.sound.Alter.TheVariants as alter
 use Rattle.gregorio_jobs.specs.declared.job.Format.TheVariants as format
-use Rattle.gregorio_state.specs.Fields.{InHeaders, InScore}
+use Rattle.gregorio_state.specs.Fields.{StateFields, ScoreFields, InHeaders, InScore}
 use Rattle.gregorio_state.specs.StateBytes.{number_bytes, state_bytes}
 
--- behind `name: Kyrie;`, LF, `%%`, LF
-behind_name : state_bytes (record {
+-- before the first syllable
+abbrev nothing_held : ScoreFields
+nothing_held = record {
+  nabc_lines = 0;
+  macros = 0;
+  syllables = 0;
+  canonical = 15;
+  in_eu = false;
+  in_nlba = false;
+  sounded = false;
+  in_force = nothing_in_force;
+  held = [];
+  in_comment = false;
+  notes_opener = None;
+  inner_opener = None;
+  kept = codes " ";
+}
+
+-- after `name: Kyrie;`, LF, `%%`, LF
+abbrev after_name : StateFields
+after_name = record {
   format = format.Gabc;
   all_warnings = false;
   header_limit = 65536;
@@ -18,22 +37,10 @@ behind_name : state_bytes (record {
   pending = [];
   after_cr = false;
   has_error = false;
-  phase = InScore (record {
-    nabc_lines = 0;
-    macros = 0;
-    syllables = 0;
-    canonical = 15;
-    in_eu = false;
-    in_nlba = false;
-    sounded = false;
-    in_force = nothing_in_force;
-    held = [];
-    in_comment = false;
-    notes_opener = None;
-    inner_opener = None;
-    kept = codes " ";
-  });
-})
+  phase = InScore nothing_held;
+}
+
+name_is_read : state_bytes after_name
     ≡ 0x47 ∷ 0x53 ∷ 0x41 ∷ 0x56 ∷ 0x03 ∷ 0x00 ∷ 0x00 ∷ 0x00 ∷ 0x01 ∷ 0x00 ∷ 0x00 ∷ 0x00 ∷ 0x00 ∷ 0x40 ∷ 0x00 ∷ 0xFF
     ∷ 0xFF ∷ 0xFF ∷ 0xFF ∷ 0x00 ∷ 0x00 ∷ 0x00 ∷ 0x10 ∷ 0x00 ∷ 0x00 ∷ 0x00 ∷ 0x00 ∷ 0x00 ∷ 0x00 ∷ 0x00 ∷ 0x03 ∷ 0x00
     ∷ 0x00 ∷ 0x00 ∷ 0x00 ∷ 0x00 ∷ 0x00 ∷ 0x00 ∷ 0x01 ∷ 0x00 ∷ 0x00 ∷ 0x00 ∷ 0x01 ∷ 0x00 ∷ 0x00 ∷ 0x00 ∷ 0x00 ∷ 0x00
@@ -43,22 +50,10 @@ behind_name : state_bytes (record {
     ∷ 0x00 ∷ 0x00 ∷ 0x00 ∷ 0x00 ∷ 0x00 ∷ 0x00 ∷ 0x00 ∷ 0x00 ∷ 0x00 ∷ 0x00 ∷ 0x00 ∷ 0x00 ∷ 0x00 ∷ 0x00 ∷ 0x00 ∷ 0x00
     ∷ 0x00 ∷ 0x00 ∷ 0x01 ∷ 0x20 ∷ []
 unfolding number_bytes
-behind_name = refl
+name_is_read = refl
 
--- behind the first two bytes of U+FEFF, in the headers
-inside_a_character : state_bytes (record {
-  format = format.Gabc;
-  all_warnings = true;
-  header_limit = 65536;
-  syllable_limit = 16384;
-  input_limit = 4294967295;
-  taken = 2;
-  place = record { line = 1; column = 1 };
-  pending = 239 ∷ 187 ∷ [];
-  after_cr = false;
-  has_error = false;
-  phase = InHeaders ([]);
-})
+-- after the first two bytes of U+FEFF, in the headers
+inside_a_character : state_bytes (record after_name { all_warnings = true; taken = 2; place = record { line = 1; column = 1 }; pending = 239 ∷ 187 ∷ []; phase = InHeaders [] })
     ≡ 0x47 ∷ 0x53 ∷ 0x41 ∷ 0x56 ∷ 0x03 ∷ 0x00 ∷ 0x01 ∷ 0x00 ∷ 0x01 ∷ 0x00 ∷ 0x00 ∷ 0x00 ∷ 0x00 ∷ 0x40 ∷ 0x00 ∷ 0xFF
     ∷ 0xFF ∷ 0xFF ∷ 0xFF ∷ 0x00 ∷ 0x00 ∷ 0x00 ∷ 0x02 ∷ 0x00 ∷ 0x00 ∷ 0x00 ∷ 0x00 ∷ 0x00 ∷ 0x00 ∷ 0x00 ∷ 0x01 ∷ 0x00
     ∷ 0x00 ∷ 0x00 ∷ 0x00 ∷ 0x00 ∷ 0x00 ∷ 0x00 ∷ 0x01 ∷ 0x02 ∷ 0xEF ∷ 0xBB ∷ 0x00 ∷ 0x00 ∷ 0x00 ∷ 0x00 ∷ 0x00 ∷ 0x00
@@ -67,29 +62,16 @@ unfolding number_bytes
 inside_a_character = refl
 
 -- in the text of a syllable, where a syllable is held before which a clef and an alteration stand, inside a tag
-behind_an_alteration : state_bytes (record {
+after_an_alteration : state_bytes (record after_name {
   format = format.Dump;
-  all_warnings = false;
-  header_limit = 65536;
-  syllable_limit = 16384;
-  input_limit = 4294967295;
   taken = 34;
   place = record { line = 4; column = 4 };
-  pending = [];
-  after_cr = false;
-  has_error = false;
-  phase = InScore (record {
-    nabc_lines = 0;
-    macros = 0;
+  phase = InScore (record nothing_held {
     syllables = 3;
     canonical = 27;
-    in_eu = false;
-    in_nlba = false;
     sounded = true;
     in_force = record { clef = Some (record { f = false; flat = false; line = 4 }); alters = alter.Flat ∷ alter.None ∷ alter.None ∷ alter.None ∷ alter.None ∷ alter.None ∷ alter.None ∷ alter.None ∷ alter.None ∷ alter.None ∷ alter.None ∷ alter.None ∷ alter.None ∷ alter.Sharp ∷ alter.None ∷ [] };
     held = codes "\nb()";
-    in_comment = false;
-    notes_opener = None;
     inner_opener = Some (record { line = 4; column = 1 });
     kept = codes " </e";
   });
@@ -103,33 +85,23 @@ behind_an_alteration : state_bytes (record {
     ∷ 0x00 ∷ 0x00 ∷ 0x00 ∷ 0x00 ∷ 0x00 ∷ 0x00 ∷ 0x00 ∷ 0x00 ∷ 0x00 ∷ 0x00 ∷ 0x04 ∷ 0x00 ∷ 0x00 ∷ 0x00 ∷ 0x00 ∷ 0x00
     ∷ 0x00 ∷ 0x00 ∷ 0x01 ∷ 0x00 ∷ 0x00 ∷ 0x00 ∷ 0x04 ∷ 0x20 ∷ 0x3C ∷ 0x2F ∷ 0x65 ∷ []
 unfolding number_bytes
-behind_an_alteration = refl
+after_an_alteration = refl
 
 -- in notes, where a syllable is held before which `<eu>` is open
-inside_a_span : state_bytes (record {
+inside_a_span : state_bytes (record after_name {
   format = format.Dump;
-  all_warnings = false;
-  header_limit = 65536;
   syllable_limit = 64;
   input_limit = 100;
   taken = 52;
   place = record { line = 4; column = 18 };
-  pending = [];
-  after_cr = false;
-  has_error = false;
-  phase = InScore (record {
-    nabc_lines = 0;
-    macros = 0;
+  phase = InScore (record nothing_held {
     syllables = 3;
     canonical = 43;
     in_eu = true;
-    in_nlba = false;
     sounded = true;
     in_force = record { clef = Some (record { f = true; flat = true; line = 2 }); alters = alter.None ∷ alter.None ∷ alter.None ∷ alter.None ∷ alter.None ∷ alter.None ∷ alter.None ∷ alter.None ∷ alter.None ∷ alter.None ∷ alter.None ∷ alter.None ∷ alter.None ∷ alter.None ∷ alter.Flat ∷ [] };
     held = codes "Ky(fb2)";
-    in_comment = false;
     notes_opener = Some (record { line = 4; column = 15 });
-    inner_opener = None;
     kept = codes " ri(cb";
   });
 })

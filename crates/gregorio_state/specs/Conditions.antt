@@ -1,6 +1,8 @@
--- What holds of the fields of a saved state by themselves. That a text is read as it says stands with the engine that reads it: that the text of
--- the headers ends there and gives this place and these errors; that the held text is a whole syllable, given back when it is read; that the
--- kept text is given back, holds no whole syllable, and is inside what the openers say; that no comment is open behind an unpaired `$`.
+-- What holds of the fields of a saved state by themselves. That a text is read as it says stands
+-- with the engine that reads it: that the text of the headers ends there and gives this place and
+-- these errors; that the held text is a whole syllable, given back when it is read; that the kept
+-- text is given back, holds no whole syllable, and is inside what the openers say; that no comment
+-- is open after an unpaired `$`.
 use Rattle.std.specs.Prelude.{◌≡◌, ◌↔◌, ℕ, ◌+◌, ◌<◌, ◌≤◌, List, [], ◌∷◌, length, Bool, true, false, None, IfSome}
 use Rattle.gabc_places.specs.DecoderTells.{MayBeTold}
 use Rattle.gabc_places.specs.Limits.{AreLimits}
@@ -47,13 +49,13 @@ pub record IsHeldWithin (limit : ℕ) (f : ScoreFields) : Type 0 where
   pub none : f.held ≡ [] ↔ f.syllables ≡ 0
   pub first : f.syllables ≡ 1 → BeginsWithLf f.held
 
--- each opener is a place before the next one, and the inner one stands behind the `(`
+-- each opener is a place before the next one, and the inner one stands after the `(`
 pub record AreOpeners (next : Place) (f : ScoreFields) : Type 0 where
   pub notes : IfSome f.notes_opener (LiesBefore next)
   pub inner : IfSome f.inner_opener (LiesBefore next)
   pub in_order : AreInOrder f.notes_opener f.inner_opener
 
--- no comment is open directly behind a CR, or inside what an inner opener opens
+-- no comment is open directly after a CR, or inside what an inner opener opens
 pub record MayBeInComment (after_cr : Bool) (f : ScoreFields) : Type 0 where
   pub cr : after_cr ≡ true → f.in_comment ≡ false
   pub inner : f.in_comment ≡ true → f.inner_opener ≡ None

@@ -53,7 +53,7 @@ fn lies_before(next: Place, opener: Place) -> bool
     1 <= opener.line && 1 <= opener.column && is_earlier(opener, next)
 }
 
-/// Returns whether `inner` stands behind `notes`, where both are there.
+/// Returns whether `inner` stands after `notes`, where both are there.
 fn are_in_order(notes: Option<Place>, inner: Option<Place>) -> bool
     ensures { IsTrue result ↔ AreInOrder notes inner }
 {
@@ -123,7 +123,8 @@ impl ScoreFields<'_> {
         !self.in_eu && !self.in_nlba && !self.sounded && self.has_nothing_in_force()
     }
 
-    /// Returns whether what stands before the held syllable is possible in a run that writes `format`.
+    /// Returns whether what stands before the held syllable is possible in a run that writes
+    /// `format`.
     fn is_before_held(&self, format: Format) -> bool
         ensures { IsTrue result ↔ AreBeforeHeld format (score_of self.now) }
     {
@@ -207,7 +208,8 @@ impl StateFields<'_> {
         }
     }
 
-    /// Returns whether the fields meet the conditions of a saved state that they decide by themselves.
+    /// Returns whether the fields meet the conditions of a saved state that they decide by
+    /// themselves.
     pub fn is_possible(&self) -> bool
         ensures { IsTrue result ↔ AreStateFields (fields_of self.now) }
     {

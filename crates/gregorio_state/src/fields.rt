@@ -23,7 +23,8 @@ pub struct ScoreFields<'a> {
     pub sounded: bool,
     /// The clef in force before the last whole syllable, if there is one.
     pub clef: Option<Clef>,
-    /// The alterations in force before the last whole syllable, of each height from 0 to 14, without the `b` of the clef.
+    /// The alterations in force before the last whole syllable, of each height from 0 to 14,
+    /// without the `b` of the clef.
     pub alters: [Alter; 15],
     /// The canonical text of the last whole syllable; it is empty where there is none.
     pub held: &'a str,
@@ -31,7 +32,8 @@ pub struct ScoreFields<'a> {
     pub in_comment: bool,
     /// The place of the `(` of the notes that are read.
     pub notes_opener: Option<Place>,
-    /// The place of the `<` or `[` of a tag, a raw part, a translation or a raw bracket of GABC that is read.
+    /// The place of the `<` or `[` of a tag, a raw part, a translation or a raw bracket of GABC
+    /// that is read.
     pub inner_opener: Option<Place>,
     /// The kept text of the syllable that is read.
     pub kept: &'a str,

@@ -160,7 +160,8 @@ fn opener_at(bytes: &[u8]) -> Option<(Option<Place>, &[u8])>
     }
 }
 
-/// Returns the clef of the letter `letter`, 1 for a c and 2 for an f, with its `b` and its line; none where all of these are 0.
+/// Returns the clef of the letter `letter`, 1 for a c and 2 for an f, with its `b` and its line;
+/// none where all of these are 0.
 fn clef_of(letter: u8, flat: bool, line: u8) -> Option<Option<Clef>>
     ensures read { result ≡ clef_of letter flat line }
     ensures written { IfSome result
@@ -401,8 +402,9 @@ fn state_of_bytes(bytes: &[u8]) -> Option<StateFields<'_>>
     })
 }
 
-/// Reads the fields of a saved state from all of `bytes`. Returns `None` where the bytes are those of no fields that meet the conditions of a
-/// saved state; what a text of them says when it is read is not looked at.
+/// Reads the fields of a saved state from all of `bytes`. Returns `None` where the bytes are those
+/// of no fields that meet the conditions of a saved state; what a text of them says when it is read
+/// is not looked at.
 pub fn read(bytes: &[u8]) -> Option<StateFields<'_>>
     ensures some { IfSome result
         (λ s. (bytes.now ≡ state_bytes (fields_of s)) × AreStateFields (fields_of s)) }

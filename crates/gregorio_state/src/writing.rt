@@ -136,7 +136,8 @@ fn number_of_spans(eu: bool, nlba: bool) -> u8
 }
 
 impl ScoreFields<'_> {
-    /// Puts the fields in their order, with `held` for the held text. Each text has to have less than 2 ^ 32 bytes.
+    /// Puts the fields in their order, with `held` for the held text. Each text has to have less
+    /// than 2 ^ 32 bytes.
     fn write<H: PutText, S: Put>(&self, held: &H, out: &mut S)
         requires held { length (H.text held.now) < 2 ^ 32 }
         requires kept { length self.now.kept.now < 2 ^ 32 }
@@ -170,8 +171,8 @@ impl Phase<'_> {
         }
     }
 
-    /// Puts 0 and the text of the headers, or 1 and the fields of the score with `held` for the held text. Each text has to have less than
-    /// 2 ^ 32 bytes.
+    /// Puts 0 and the text of the headers, or 1 and the fields of the score with `held` for the
+    /// held text. Each text has to have less than 2 ^ 32 bytes.
     fn write<H: PutText, S: Put>(&self, held: &H, out: &mut S)
         requires { AreShort (phase_holding (H.text held.now) (phase_of self.now)) }
         ensures { out.new
@@ -191,7 +192,8 @@ impl Phase<'_> {
 }
 
 impl StateFields<'_> {
-    /// Puts the bytes of the state, as many as `len` tells. The fields have to meet the conditions of a saved state.
+    /// Puts the bytes of the state, as many as `len` tells. The fields have to meet the conditions
+    /// of a saved state.
     pub fn write<S: Put>(&self, out: &mut S)
         requires { AreStateFields (fields_of self.now) }
         ensures { out.new ≡ S.taken out.old (state_bytes (fields_of self.now)) }
@@ -222,7 +224,8 @@ impl StateFields<'_> {
         self.phase.write(held, out);
     }
 
-    /// Writes the bytes of the state with `held` for the held text to the front of `buf`, as many as there is room for.
+    /// Writes the bytes of the state with `held` for the held text to the front of `buf`, as many
+    /// as there is room for.
     fn fill<H: PutText>(&self, held: &H, buf: &mut [u8])
         requires { AreStateFields (holding (H.text held.now) (fields_of self.now)) }
         ensures { buf.new
@@ -231,8 +234,9 @@ impl StateFields<'_> {
         self.write_holding(held, &mut BufferFiller { buf, len: 0 });
     }
 
-    /// Writes the bytes of the state to the front of `buf`, and returns how many they are. The error is that of a `buf` that has fewer bytes than
-    /// the state, and then it is unchanged. The fields have to meet the conditions of a saved state.
+    /// Writes the bytes of the state to the front of `buf`, and returns how many they are. The
+    /// error is that of a `buf` that has fewer bytes than the state, and then it is unchanged. The
+    /// fields have to meet the conditions of a saved state.
     pub fn save_into(&self, buf: &mut [u8]) -> Result<usize, TooShort>
         requires { AreStateFields (fields_of self.now) }
         ensures written { OnOk result (buf.new ≡ state_bytes (fields_of self.now)
@@ -246,8 +250,9 @@ impl StateFields<'_> {
         self.save_holding(&held, buf)
     }
 
-    /// Writes the bytes of the state as `save_into` does, with the text `held` for the held text of the fields, which is not read. The fields with
-    /// that text have to meet the conditions of a saved state. A `buf` that is as long as `len` can tell is not too short.
+    /// Writes the bytes of the state as `save_into` does, with the text `held` for the held text of
+    /// the fields, which is not read. The fields with that text have to meet the conditions of a
+    /// saved state. A `buf` that is as long as `len` can tell is not too short.
     pub fn save_holding<H: PutText>(&self, held: &H, buf: &mut [u8]) -> Result<usize, TooShort>
         requires { AreStateFields (holding (H.text held.now) (fields_of self.now)) }
         ensures written { OnOk result (
@@ -269,8 +274,9 @@ impl StateFields<'_> {
         Ok(len)
     }
 
-    /// Returns the number of bytes of the state: at most 128, and with them the limit of the headers or twice that of a syllable, whichever
-    /// is more. The fields have to meet the conditions of a saved state.
+    /// Returns the number of bytes of the state: at most 128, and with them the limit of the
+    /// headers or twice that of a syllable, whichever is more. The fields have to meet the
+    /// conditions of a saved state.
     pub fn len(&self) -> usize
         requires { AreStateFields (fields_of self.now) }
         ensures len { result ≡ length (state_bytes (fields_of self.now)) }
@@ -281,8 +287,9 @@ impl StateFields<'_> {
         self.len_holding(&held)
     }
 
-    /// Returns the number of bytes of the state as `len` does, with the text `held` for the held text of the fields, which is not read. The fields
-    /// with that text have to meet the conditions of a saved state.
+    /// Returns the number of bytes of the state as `len` does, with the text `held` for the held
+    /// text of the fields, which is not read. The fields with that text have to meet the conditions
+    /// of a saved state.
     pub fn len_holding<H: PutText>(&self, held: &H) -> usize
         requires { AreStateFields (holding (H.text held.now) (fields_of self.now)) }
         ensures len { result

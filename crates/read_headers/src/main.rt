@@ -1,5 +1,6 @@
-//! Reads the headers of a file with the largest limits, and prints how many stand in their book: `read_headers whole KEY FILE` reads them
-//! as a whole, `read_headers stage KEY FILE` by a stage, one character at a time. Their names are hashed with a key that is `fixed` or `random`.
+//! Reads the headers of a file with the largest limits, and prints how many stand in their book:
+//! `read_headers whole KEY FILE` reads them as a whole, `read_headers stage KEY FILE` by a stage,
+//! one character at a time. Their names are hashed with a key that is `fixed` or `random`.
 //! `tools/bench headers` times all four.
 #![tactic(auto)]
 
@@ -54,7 +55,8 @@ fn count_by_stage(
     Ok(count)
 }
 
-/// The headers of a file, by this way to read them. `None` tells that there is no such way, or that they are stopped.
+/// The headers of a file, by this way to read them. `None` tells that there is no such way, or that
+/// they are stopped.
 fn count(
     alloc: Global,
     way: &str,

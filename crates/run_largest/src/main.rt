@@ -1,6 +1,6 @@
-//! Compiles a file with the largest limits: `run_largest gabc FILE` writes its canonical form, `run_largest dump FILE` its dump. The
-//! messages go to standard error. `tools/bench largest` times it on one header, one text, one
-//! snippet of notes and one of NABC of almost 16 MB.
+//! Compiles a file with the largest limits: `run_largest gabc FILE` writes its canonical form,
+//! `run_largest dump FILE` its dump. The messages go to standard error. `tools/bench largest` times
+//! it on one header, one text, one snippet of notes and one of NABC of almost 16 MB.
 #![tactic(auto)]
 
 use gabc_places::{FromReader, Limits, ToWriter};

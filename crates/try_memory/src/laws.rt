@@ -3,7 +3,6 @@
 use crate::digest::digest_of;
 use crate::trial::{Trial, try_call};
 use gabc_headers::HeadEvent;
-use gabc_headers::stage_laws::{a_fresh_stage_emits, a_fresh_stage_reads_bytes};
 use gabc_places::{Limits, Room};
 use gabc_score::ScoreEvent;
 use std::alloc::{AllocError, Global};
@@ -23,7 +22,12 @@ impl Trial for Headers {
         if self.out.left() < 2 {
             return Ok(0);
         }
-        a_fresh_stage_emits(alloc, Limits::DEFAULT, Vec::new(alloc), &mut self.out)?;
+        gabc_headers::stage_laws::a_fresh_stage_emits(
+            alloc,
+            Limits::DEFAULT,
+            Vec::new(alloc),
+            &mut self.out,
+        )?;
         Ok(digest_of(&self.out))
     }
 
@@ -32,7 +36,7 @@ impl Trial for Headers {
     }
 }
 
-/// A stage of headers behind a decoder.
+/// A stage of headers after a decoder.
 #[derive(Drop)]
 struct DecodedHeaders {
     out: Room<HeadEvent>,
@@ -43,7 +47,12 @@ impl Trial for DecodedHeaders {
         if self.out.left() < 4 {
             return Ok(0);
         }
-        a_fresh_stage_reads_bytes(alloc, Limits::DEFAULT, Vec::new(alloc), &mut self.out)?;
+        gabc_headers::stage_laws::a_fresh_stage_reads_bytes(
+            alloc,
+            Limits::DEFAULT,
+            Vec::new(alloc),
+            &mut self.out,
+        )?;
         Ok(digest_of(&self.out))
     }
 

@@ -4,7 +4,6 @@ use crate::digest::digest_of;
 use crate::trial::{Trial, try_call};
 use gabc_headers::HeaderStage;
 use gabc_places::{Limits, Memory, Room, Shared, Stage, TrialSink};
-use gabc_score::stage_laws::a_fresh_stage_reads_texts;
 use gabc_score::{Before, BodyStage, ScoreStage, Spans};
 use gabc_text::TextView;
 use std::alloc::{AllocError, Allocator, Global};
@@ -73,7 +72,8 @@ fn list_in<A: Allocator>(memory: A) -> Result<u64, AllocError> {
     Ok(digest_of(&list))
 }
 
-/// Makes the allocator `alloc` one with several owners, and returns a digest of a list in its memory.
+/// Makes the allocator `alloc` one with several owners, and returns a digest of a list in its
+/// memory.
 fn memory(alloc: Global) -> Result<u64, AllocError> {
     list_in(Shared::new(alloc, alloc)?)
 }
@@ -83,7 +83,8 @@ fn arena(alloc: Global) -> Result<u64, AllocError> {
     list_in(Memory::with_capacity(alloc, 64)?)
 }
 
-/// Makes an arena with two owners, and returns a digest of a list in it. The other owner is let go first.
+/// Makes an arena with two owners, and returns a digest of a list in it. The other owner is let go
+/// first.
 fn owners(alloc: Global) -> Result<u64, AllocError> {
     let memory = Memory::with_capacity(alloc, 64)?;
     let owner = memory.share()?;
@@ -117,19 +118,22 @@ fn header_stage(alloc: Global) -> Result<u64, AllocError> {
     Ok(most_of(HeaderStage::with_limits(alloc, Limits::DEFAULT)?))
 }
 
-/// Makes a stage of headers with a hasher, and returns a digest of how many events it gives at most.
+/// Makes a stage of headers with a hasher, and returns a digest of how many events it gives at
+/// most.
 fn hashed_header_stage(alloc: Global) -> Result<u64, AllocError> {
     Ok(most_of(HeaderStage::with_hasher(alloc, Limits::DEFAULT, DefaultHasher::new())?))
 }
 
-/// Makes a stage of headers in memory of its own, and returns a digest of how many events it gives at most.
+/// Makes a stage of headers in memory of its own, and returns a digest of how many events it gives
+/// at most.
 fn header_stage_in_memory(alloc: Global) -> Result<u64, AllocError> {
     let memory = Memory::with_capacity(alloc, 0)?;
     let hasher = DefaultHasher::new();
     Ok(most_of(HeaderStage::in_memory(&memory, Limits::DEFAULT, hasher)?))
 }
 
-/// Makes a stage over a score in memory of its own, and returns a digest of how many events it gives at most.
+/// Makes a stage over a score in memory of its own, and returns a digest of how many events it
+/// gives at most.
 fn score_stage_in_memory(alloc: Global) -> Result<u64, AllocError> {
     let memory = Memory::with_capacity(alloc, 0)?;
     Ok(most_of(ScoreStage::in_memory(&memory, Limits::DEFAULT)?))
@@ -140,7 +144,8 @@ fn score_stage(alloc: Global) -> Result<u64, AllocError> {
     Ok(most_of(ScoreStage::with_limits(alloc, Limits::DEFAULT)?))
 }
 
-/// Makes a stage over a score behind syllables, and returns a digest of how many events it gives at most.
+/// Makes a stage over a score after syllables, and returns a digest of how many events it gives at
+/// most.
 fn resumed_score_stage(alloc: Global) -> Result<u64, AllocError> {
     let before = Before {
         nabc_lines: 1,
@@ -157,9 +162,10 @@ fn resumed_score_stage(alloc: Global) -> Result<u64, AllocError> {
     Ok(most_of(ScoreStage::resume(&memory, Limits::DEFAULT, before)?))
 }
 
-/// Makes a stage over a score by the law that returns one, and returns a digest of how many events it gives at most.
+/// Makes a stage over a score by the law that returns one, and returns a digest of how many events
+/// it gives at most.
 fn lawful_score_stage(alloc: Global) -> Result<u64, AllocError> {
-    Ok(most_of(a_fresh_stage_reads_texts(alloc, Limits::DEFAULT)?))
+    Ok(most_of(gabc_score::stage_laws::a_fresh_stage_reads_texts(alloc, Limits::DEFAULT)?))
 }
 
 impl Trial for Made {

@@ -8,7 +8,6 @@ use crate::runs::{digest_of_engine, job_in};
 use crate::trial::{Trial, try_call};
 use gabc_places::{ByteCounter, Limits};
 use gregorio::interrupted::a_run_may_be_interrupted;
-use gregorio::restored_laws::a_restored_run_goes_on;
 use gregorio::{Engine, Format, Job, SourceEnding, StateFault};
 use std::alloc::{AllocError, Global};
 use std::hash::DefaultHasher;
@@ -67,7 +66,9 @@ fn goes_on(alloc: Global, job: &Job, buffer: &mut [u8]) -> Result<u64, AllocErro
 {
     let limits = Limits::DEFAULT;
     let engine = Engine::new(alloc, job, limits)?;
-    let restored = a_restored_run_goes_on(alloc, &engine, job, limits, buffer);
+    let restored = gregorio::restored_laws::a_restored_run_goes_on(
+        alloc, &engine, job, limits, buffer,
+    );
     // A proof follows a call faster than all that lies inside an engine.
     drop(engine);
     match restored {
@@ -76,7 +77,8 @@ fn goes_on(alloc: Global, job: &Job, buffer: &mut [u8]) -> Result<u64, AllocErro
     }
 }
 
-/// Returns a digest of how a run ends, and of how many bytes it writes, that is interrupted behind the one piece of its input.
+/// Returns a digest of how a run ends, and of how many bytes it writes, that is interrupted after
+/// the one piece of its input.
 fn is_interrupted(alloc: Global, job: &Job, buffer: &mut [u8]) -> Result<u64, AllocError>
     requires { 65664 ≤ length buffer.old }
 {

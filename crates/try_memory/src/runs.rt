@@ -52,7 +52,8 @@ pub(crate) fn job_in(format: Format) -> Job {
     }
 }
 
-/// Feeds an engine the end of its headers, and returns a digest of what it writes then. The engine is let go.
+/// Feeds an engine the end of its headers, and returns a digest of what it writes then. The engine
+/// is let go.
 pub(crate) fn digest_of_engine(mut engine: Engine) -> u64
     requires waits { NothingWaits engine }
 {

@@ -8,14 +8,16 @@ const ATTEMPTS: u32 = 400;
 
 /// A call that asks for memory, with its arguments.
 pub(crate) trait Trial {
-    /// Makes the call, lets its answer go, and returns a digest of it. Beside the call it asks for no memory.
+    /// Makes the call, lets its answer go, and returns a digest of it. Beside the call it asks for
+    /// no memory.
     fn call(&mut self, alloc: Global) -> Result<u64, AllocError>;
 
     /// Returns a digest of the arguments.
     fn arguments(&self) -> u64;
 }
 
-/// Makes an attempt, and tells how it went, without asking for memory itself. Returns whether the call succeeded.
+/// Makes an attempt, and tells how it went, without asking for memory itself. Returns whether the
+/// call succeeded.
 fn attempt<T: Trial>(rt: &HostRuntime, trial: &mut T) -> io::Result<bool> {
     println!(rt; "try")?;
     let succeeded = match trial.call(rt.alloc()) {

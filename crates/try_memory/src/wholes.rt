@@ -61,7 +61,8 @@ fn score(alloc: Global, text: &Text) -> Result<u64, AllocError> {
     Ok(digest)
 }
 
-/// Returns a digest of the score of a text, the names of whose headers are hashed by a hasher from outside.
+/// Returns a digest of the score of a text, the names of whose headers are hashed by a hasher from
+/// outside.
 fn hashed_score(alloc: Global, text: &Text) -> Result<u64, AllocError> {
     let hasher = DefaultHasher::new();
     let score = score_whole_with_hasher(alloc, text, InputEnding::Whole, Limits::DEFAULT, hasher)?;
@@ -83,7 +84,8 @@ fn outcome(alloc: Global, bytes: &[u8]) -> Result<u64, AllocError> {
     Ok(digest_of_outcome(outcome))
 }
 
-/// Returns a digest of the outcome of `bytes`, whose names of headers are hashed by a hasher from outside.
+/// Returns a digest of the outcome of `bytes`, whose names of headers are hashed by a hasher from
+/// outside.
 fn hashed_outcome(alloc: Global, bytes: &[u8]) -> Result<u64, AllocError> {
     let hasher = DefaultHasher::new();
     let outcome = Outcome::of_with_hasher(
@@ -122,7 +124,8 @@ impl Trial for OfScore {
     }
 }
 
-/// Tries a call on the score in the file with the name `input`. Returns whether there is such a call.
+/// Tries a call on the score in the file with the name `input`. Returns whether there is such a
+/// call.
 pub(crate) fn is_tried(rt: &HostRuntime, name: &str, input: &str) -> io::Result<bool> {
     let Some(call) = named(name) else {
         return Ok(false);

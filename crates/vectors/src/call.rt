@@ -49,7 +49,8 @@ fn parsed_limits(column: &str) -> Option<Limits> {
     Limits::new(header, syllable, input)
 }
 
-/// Prints the answer of a call with its limits or its place, and returns whether there is such a call.
+/// Prints the answer of a call with its limits or its place, and returns whether there is such a
+/// call.
 fn answer_with(
     alloc: Global,
     call: &str,
@@ -90,8 +91,8 @@ fn answer(
     )
 }
 
-/// Returns whether a line has a call, its input and the answer of this call, split by tabs. Words behind the call tell how it is
-/// made, and the answer may have several columns.
+/// Returns whether a line has a call, its input and the answer of this call, split by tabs. Words
+/// after the call tell how it is made, and the answer may have several columns.
 pub(crate) fn is_answered(alloc: Global, line: &str) -> Result<bool, AllocError> {
     let Some((call, rest)) = line.split_once('\t') else {
         return Ok(false);

@@ -1,4 +1,5 @@
-//! Runs into sinks that fail, or take few bytes a call, of `compile` and of engines whose output is sent.
+//! Runs into sinks that fail, or take few bytes a call, of `compile` and of engines whose output is
+//! sent.
 
 ghost use Rattle.std.specs.Prelude.{◌<◌};
 ghost use Rattle.gregorio.specs.Engine.{NothingWaits};
@@ -27,7 +28,7 @@ struct Sinks {
 }
 
 impl Sinks {
-    /// Returns sinks that take `most` bytes a call, and fail behind what they hold.
+    /// Returns sinks that take `most` bytes a call, and fail after what they hold.
     fn new(alloc: Global, most: usize, holding: Holding) -> Result<Sinks, AllocError>
         requires { 0 < most }
     {
@@ -37,7 +38,8 @@ impl Sinks {
         })
     }
 
-    /// Returns whether each sink holds the first bytes of what is wanted, and as many of them as it can.
+    /// Returns whether each sink holds the first bytes of what is wanted, and as many of them as it
+    /// can.
     fn are_filled(&self, wanted: Wanted, holding: Holding) -> bool {
         let (output, messages) = (self.output.held(), self.messages.held());
         let output_failed = holding.output < wanted.output.len();
@@ -170,7 +172,8 @@ fn fills(alloc: Global, known: Known, holding: Holding) -> Result<bool, AllocErr
     Ok(true)
 }
 
-/// Returns whether a run stops where its sink for the output fails, behind each number of bytes, and goes to its end where it holds all.
+/// Returns whether a run stops where its sink for the output fails, after each number of bytes, and
+/// goes to its end where it holds all.
 fn fills_output(alloc: Global, known: Known) -> Result<bool, AllocError> {
     for output in 0..=known.wanted.output.len() {
         let messages = known.wanted.messages.len();
@@ -181,7 +184,7 @@ fn fills_output(alloc: Global, known: Known) -> Result<bool, AllocError> {
     Ok(true)
 }
 
-/// Returns whether a run stops where a sink fails, behind each number of bytes.
+/// Returns whether a run stops where a sink fails, after each number of bytes.
 pub(crate) fn fills_sinks(alloc: Global, known: Known) -> Result<bool, AllocError> {
     for messages in 0..known.wanted.messages.len() {
         let output = known.wanted.output.len();

@@ -52,8 +52,8 @@ impl Fed {
         Ok(())
     }
 
-    /// Returns whether this many bytes can be all that are taken when a run goes on no more: it went
-    /// on before the last of them.
+    /// Returns whether this many bytes can be all that are taken when a run goes on no more: it
+    /// went on before the last of them.
     fn stops_behind(&self, count: usize) -> bool {
         match self.points.as_slice().get(count.saturating_sub(2)) {
             Some(point) => count < 2 || point.goes_on,

@@ -1,4 +1,5 @@
-//! States of which a bit is turned: each is refused, or is a state, which is saved at once as it is and goes on to an end.
+//! States of which a bit is turned: each is refused, or is a state, which is saved at once as it is
+//! and goes on to an end.
 
 ghost use Rattle.std.specs.Prelude.{◌≡◌, true};
 ghost use Rattle.gregorio.specs.Engine.{NothingWaits, is_running};
@@ -12,13 +13,14 @@ use std::alloc::{AllocError, Global};
 /// What a restored run takes.
 const REST: &[u8] = b"x]>](h.)\n<i>y</i>(g[z]) {e}(::) last";
 
-/// Returns whether the byte with this `index` is one of the limits. A bit that is turned there asks for another amount of memory: `bent.tsv` has such
-/// states.
+/// Returns whether the byte with this `index` is one of the limits. A bit that is turned there asks
+/// for another amount of memory: `bent.tsv` has such states.
 fn is_of_limits(index: usize) -> bool {
     7 <= index && index < 19
 }
 
-/// Returns the run of which `state` says that it is one: its format and whether warnings are told stand in its sixth and its seventh byte.
+/// Returns the run of which `state` says that it is one: its format and whether warnings are told
+/// stand in its sixth and its seventh byte.
 fn asked_by<'a>(state: &[u8], asked: Request<'a>) -> Request<'a> {
     Request {
         format: if state.get(5) == Some(&1) {
@@ -43,7 +45,8 @@ fn run_to_an_end(engine: &mut Engine, bytes: &[u8])
     engine.end();
 }
 
-/// Returns whether `engine`, which was restored from `state`, saves it at once, and goes on to an end.
+/// Returns whether `engine`, which was restored from `state`, saves it at once, and goes on to an
+/// end.
 fn is_well(engine: &mut Engine, state: &[u8], buffer: &mut [u8]) -> bool
     requires runs { is_running engine.old ≡ true }
     requires waits { NothingWaits engine.old }
@@ -71,7 +74,8 @@ fn is_safe(alloc: Global, state: &[u8], asked: Request) -> Result<bool, AllocErr
     }
 }
 
-/// Returns whether `state` is safe with one bit of the byte at `index` turned, another one for each of eight bytes.
+/// Returns whether `state` is safe with one bit of the byte at `index` turned, another one for each
+/// of eight bytes.
 fn is_safe_with_a_bit_turned(
     alloc: Global,
     state: &mut [u8],

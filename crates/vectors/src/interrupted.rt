@@ -1,4 +1,4 @@
-//! Runs that are saved and restored behind each piece of their input, against what a run must give.
+//! Runs that are saved and restored after each piece of their input, against what a run must give.
 
 ghost use Rattle.std.specs.Prelude.{◌≡◌, ◌<◌, true};
 ghost use Rattle.gregorio.specs.Engine.{NothingWaits, is_running};
@@ -30,7 +30,8 @@ fn interrupt(
     Ok(())
 }
 
-/// Feeds the bytes of a run in pieces of `length` bytes, and interrupts it behind each. Returns whether what was written of them was wanted.
+/// Feeds the bytes of a run in pieces of `length` bytes, and interrupts it after each. Returns
+/// whether what was written of them was wanted.
 fn feed_interrupted(
     alloc: Global,
     engine: &mut Engine,
@@ -54,7 +55,8 @@ fn feed_interrupted(
     Ok(true)
 }
 
-/// Returns whether `engine`, which is fresh, gives what is wanted where it is interrupted behind each piece of `length` bytes.
+/// Returns whether `engine`, which is fresh, gives what is wanted where it is interrupted after
+/// each piece of `length` bytes.
 fn has_output(
     alloc: Global,
     engine: &mut Engine,
@@ -75,7 +77,8 @@ fn has_output(
     )
 }
 
-/// Returns whether a run that is interrupted behind each piece of `length` bytes gives what is wanted. `buffer` has room for its states.
+/// Returns whether a run that is interrupted after each piece of `length` bytes gives what is
+/// wanted. `buffer` has room for its states.
 pub(crate) fn agrees_interrupted(
     alloc: Global,
     asked: Request,

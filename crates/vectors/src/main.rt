@@ -1,7 +1,10 @@
-//! Runs the chant reader on rows of inputs and on scores, each with the output and the messages that it must give; the rows
-//! also have the status. Makes each run from a source, again in pieces of several lengths, again by one engine that begins again in mid-input and behind its end, and again saved and restored behind each piece. What is wanted was computed or written apart
-//! from this project, but for the dumps of the scores: the program wrote these, and they were read by hand. Makes the calls of the crates
-//! below by rows of a call, its input and its answer, which were worked by hand. Prints the rows and scores that differ, and how many agree.
+//! Runs the chant reader on rows of inputs and on scores, each with the output and the messages
+//! that it must give; the rows also have the status. Makes each run from a source, again in pieces
+//! of several lengths, again by one engine that begins again in mid-input and after its end, and
+//! again saved and restored after each piece. What is wanted was computed or written apart from
+//! this project, but for the dumps of the scores: the program wrote these, and they were read by
+//! hand. Makes the calls of the crates below by rows of a call, its input and its answer, which
+//! were worked by hand. Prints the rows and scores that differ, and how many agree.
 #![tactic(auto)]
 
 mod call;
@@ -44,7 +47,8 @@ use states::{buffer_of, is_answered_so, is_saved};
 use std::alloc::{AllocError, Global};
 use std::{fs, io};
 
-/// The example scores: each is a file `NAME.gabc`, with its canonical form, its dump and the messages under `-W` beside it.
+/// The example scores: each is a file `NAME.gabc`, with its canonical form, its dump and the
+/// messages under `-W` beside it.
 const SCORES: [&str; 10] = [
     "antiphon",
     "ave-maria",
@@ -85,10 +89,10 @@ fn row_agrees_restarted(alloc: Global, row: &Row) -> bool {
     }
 }
 
-/// How many bytes the pieces have behind which a run is saved and restored.
+/// How many bytes the pieces have after which a run is saved and restored.
 const INTERRUPTED: [usize; 4] = [1, 2, 3, 7];
 
-/// Whether runs that are saved and restored behind each piece give what is wanted.
+/// Whether runs that are saved and restored after each piece give what is wanted.
 fn agrees_wherever_interrupted(
     alloc: Global,
     asked: Request,
@@ -116,7 +120,8 @@ fn row_agrees_interrupted(alloc: Global, row: &Row) -> Result<bool, AllocError> 
     }
 }
 
-/// Whether a run on this canonical form writes it again, with no error, under these limits, and so does a run on what that wrote.
+/// Whether a run on this canonical form writes it again, with no error, under these limits, and so
+/// does a run on what that wrote.
 fn gives_itself(alloc: Global, canonical: &[u8], limits: Limits) -> bool {
     let second = run(alloc, Request::on(Format::Gabc, canonical, limits));
     let again = second.output.inner().as_slice();
@@ -127,7 +132,8 @@ fn gives_itself(alloc: Global, canonical: &[u8], limits: Limits) -> bool {
         && third.status == 0
 }
 
-/// Whether the dump of this canonical form is that of the run's input. Where that run was stopped, its dump lacks the last line.
+/// Whether the dump of this canonical form is that of the run's input. Where that run was stopped,
+/// its dump lacks the last line.
 fn gives_its_dump(alloc: Global, asked: Request, canonical: &[u8]) -> bool {
     let stopped = run(
         alloc,
@@ -148,7 +154,8 @@ fn gives_its_dump(alloc: Global, asked: Request, canonical: &[u8]) -> bool {
     }
 }
 
-/// Whether the canonical form of the row, where its headers are whole, is read again as itself, twice, and has its dump.
+/// Whether the canonical form of the row, where its headers are whole, is read again as itself,
+/// twice, and has its dump.
 fn is_kept(alloc: Global, row: &Row) -> bool {
     let Some(asked) = request_of(row) else {
         return false;
@@ -189,7 +196,8 @@ fn row_agrees(rt: &HostRuntime, path: &str, number: usize, line: &str) -> io::Re
     Ok(false)
 }
 
-/// Returns whether runs on the row on this line of a file stop where a sink fails, with the bytes that it holds.
+/// Returns whether runs on the row on this line of a file stop where a sink fails, with the bytes
+/// that it holds.
 fn row_fills_sinks(alloc: Global, line: &str) -> Result<bool, AllocError> {
     let Some(row) = row_of(alloc, line)? else {
         return Ok(false);
@@ -213,7 +221,8 @@ fn read_file(rt: &HostRuntime, name: &str, ending: &str) -> io::Result<String> {
     fs::read_to_string(rt, path.as_str())
 }
 
-/// Whether a score gives this output in this format, and these messages, whole, in pieces, begun again and interrupted.
+/// Whether a score gives this output in this format, and these messages, whole, in pieces, begun
+/// again and interrupted.
 fn has_output(
     alloc: Global,
     format: Format,
@@ -235,7 +244,8 @@ fn has_output(
     )
 }
 
-/// Whether a score gives its canonical form, its dump and its messages, and the canonical form itself.
+/// Whether a score gives its canonical form, its dump and its messages, and the canonical form
+/// itself.
 fn is_written(rt: &HostRuntime, name: &str) -> io::Result<bool> {
     let score = read_file(rt, name, "gabc")?;
     let canonical = read_file(rt, name, "canonical")?;
@@ -315,7 +325,8 @@ impl Lines {
         }
     }
 
-    /// Returns whether what stands on this line of a file is as the line says. Tells where it is not.
+    /// Returns whether what stands on this line of a file is as the line says. Tells where it is
+    /// not.
     fn agree(self, rt: &HostRuntime, path: &str, number: usize, line: &str) -> io::Result<bool> {
         let alloc = rt.alloc();
         let agrees = match self {
@@ -357,7 +368,7 @@ const FILES: [(&str, Lines); 19] = [
     ("writes.tsv", Lines::Calls),
 ];
 
-/// Looks at the lines of a file behind the first one, which is its head, and tells how many agree.
+/// Looks at the lines of a file after the first one, which is its head, and tells how many agree.
 fn check_file(rt: &HostRuntime, path: &str, lines: Lines) -> io::Result<()> {
     let text = fs::read_to_string(rt, path)?;
     let mut count = 0u32;

@@ -31,7 +31,8 @@ fn show_parts(kept: &str, parts: &[Descriptor], out: &mut Printed) {
     }
 }
 
-/// Prints the number of the parts and the parts, which both calls have to give; or that the text is no NABC.
+/// Prints the number of the parts and the parts, which both calls have to give; or that the text is
+/// no NABC.
 fn answer_descriptors(alloc: Global, input: &str, out: &mut Printed) -> Result<(), AllocError> {
     if !is_nabc(input) {
         out.put("no NABC");
@@ -60,7 +61,8 @@ fn show_codes(codes: &[GlyphCode], out: &mut Printed) {
     }
 }
 
-/// Prints the number of the codes of the descriptor that has this span, and each code with its name.
+/// Prints the number of the codes of the descriptor that has this span, and each code with its
+/// name.
 fn answer_codes(
     alloc: Global,
     span: Span,
@@ -78,7 +80,8 @@ fn answer_codes(
     Ok(())
 }
 
-/// Prints how many events a stage gives for a character at most, and those that it gives of the snippet.
+/// Prints how many events a stage gives for a character at most, and those that it gives of the
+/// snippet.
 fn answer_events(alloc: Global, input: &str, out: &mut Printed) -> Result<(), AllocError> {
     let mut stage = NabcStage::new();
     let events = outputs_of(alloc, &mut stage, input, Place::START)?;

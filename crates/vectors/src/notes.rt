@@ -21,7 +21,8 @@ fn show_items(kept: &str, items: &[Item], out: &mut Printed) {
     }
 }
 
-/// Prints the number of the items and the items, which both calls have to give; or that the text is no snippet.
+/// Prints the number of the items and the items, which both calls have to give; or that the text is
+/// no snippet.
 fn answer_items(alloc: Global, input: &str, out: &mut Printed) -> Result<(), AllocError> {
     if !is_snippet(input) {
         out.put("no snippet");
@@ -38,7 +39,8 @@ fn answer_items(alloc: Global, input: &str, out: &mut Printed) -> Result<(), All
     Ok(())
 }
 
-/// Prints the note of an item of this kind that is the whole text: its height, shape, whether it is initio debilis, and its span.
+/// Prints the note of an item of this kind that is the whole text: its height, shape, whether it is
+/// initio debilis, and its span.
 fn answer_note(kind: ItemKind, input: &str, out: &mut Printed) {
     let span = Span {
         from: 0,
@@ -92,7 +94,8 @@ pub(crate) fn show_events(most: usize, events: &[NoteEvent], out: &mut Printed) 
     }
 }
 
-/// Prints how many events a stage gives for a character at most, and those that it gives of the snippet.
+/// Prints how many events a stage gives for a character at most, and those that it gives of the
+/// snippet.
 fn answer_events(
     alloc: Global,
     split: bool,

@@ -109,8 +109,8 @@ pub(crate) fn has_output(
         && wanted.is_empty()
 }
 
-/// Whether an engine that takes the bytes of a run in pieces of this length gives what is wanted. Where there is no room for one, it
-/// does not.
+/// Whether an engine that takes the bytes of a run in pieces of this length gives what is wanted.
+/// Where there is no room for one, it does not.
 fn agrees_in(alloc: Global, asked: Request, length: usize, wanted: Wanted, status: u8) -> bool
     requires { 0 < length }
 {
@@ -125,7 +125,8 @@ fn agrees_in(alloc: Global, asked: Request, length: usize, wanted: Wanted, statu
     }
 }
 
-/// Whether each engine that takes the bytes of a run in pieces gives what is wanted, however long the pieces are.
+/// Whether each engine that takes the bytes of a run in pieces gives what is wanted, however long
+/// the pieces are.
 pub(crate) fn agrees_in_pieces(alloc: Global, asked: Request, wanted: Wanted, status: u8) -> bool {
     for length in LENGTHS {
         if !agrees_in(alloc, asked, length, wanted, status) {

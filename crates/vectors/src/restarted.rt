@@ -20,8 +20,8 @@ fn feed_in_vain(engine: &mut Engine, bytes: &[u8]) {
     }
 }
 
-/// Returns whether `engine` gives what is wanted where it begins again behind a part of the input, of which something may wait, and behind its
-/// end, for each of some parts up to the whole input.
+/// Returns whether `engine` gives what is wanted where it begins again after a part of the input,
+/// of which something may wait, and after its end, for each of some parts up to the whole input.
 fn gives_again(engine: &mut Engine, asked: Request, wanted: Wanted, status: u8) -> bool
     requires { NothingWaits engine.old }
 {

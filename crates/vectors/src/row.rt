@@ -77,7 +77,8 @@ pub(crate) fn limits_of(column: &str) -> Option<(u32, u32, u32)> {
     Some((header, syllable, input))
 }
 
-/// The format of a run, whether it has the option `-W`, its three limits in bytes, and whether its source fails.
+/// The format of a run, whether it has the option `-W`, its three limits in bytes, and whether its
+/// source fails.
 #[derive(Clone, Copy)]
 pub(crate) struct Settings {
     pub format: Format,

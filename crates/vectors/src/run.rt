@@ -5,7 +5,7 @@ use gabc_places::{Limits, ToWriter, TrialSource};
 use gregorio::{Format, Input, Job, Output, compile};
 use std::alloc::Global;
 
-/// What a run is asked for: its source has these bytes, and fails behind them if it is `broken`.
+/// What a run is asked for: its source has these bytes, and fails after them if it is `broken`.
 #[derive(Clone, Copy)]
 pub(crate) struct Request<'a> {
     pub format: Format,

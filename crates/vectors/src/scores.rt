@@ -6,7 +6,8 @@ use gabc_places::{Limits, Memory, Place, Stage, Text, outputs_of};
 use gabc_score::{BodyEvent, BodyStage, InputEnding, Position, Score, Syllable, score_whole};
 use std::alloc::{AllocError, Global};
 
-/// Prints the fault, the findings, the number of syllables, and of each the bytes of its canonical text, position and kept text.
+/// Prints the fault, the findings, the number of syllables, and of each the bytes of its canonical
+/// text, position and kept text.
 fn show_score(score: &Score, out: &mut Printed) {
     show_fault(score.fault, out);
     out.put("\t");
@@ -117,7 +118,8 @@ fn show_events(most: usize, events: &[BodyEvent], out: &mut Printed) {
     }
 }
 
-/// Prints how many events a stage gives for a character at most, and those that it gives of the body.
+/// Prints how many events a stage gives for a character at most, and those that it gives of the
+/// body.
 fn answer_body(alloc: Global, input: &str, out: &mut Printed) -> Result<(), AllocError> {
     let memory = Memory::with_capacity(alloc, 0)?;
     let mut stage = BodyStage::new(&memory, 0, 0)?;
@@ -141,7 +143,8 @@ pub(crate) fn answer(
     Ok(true)
 }
 
-/// Prints the answer of a call on a score with these limits, and returns whether there is such a call.
+/// Prints the answer of a call on a score with these limits, and returns whether there is such a
+/// call.
 pub(crate) fn answer_within(
     alloc: Global,
     call: &str,

@@ -11,7 +11,8 @@ pub(crate) enum Answer {
     Accepted,
 }
 
-/// Bytes that are handed in as a state, the answer, and what a run goes on with that is restored from them.
+/// Bytes that are handed in as a state, the answer, and what a run goes on with that is restored
+/// from them.
 #[derive(Drop)]
 pub(crate) struct StateRow {
     pub state: Vec<u8>,
@@ -19,7 +20,7 @@ pub(crate) struct StateRow {
     pub rest: Row,
 }
 
-/// A run that is saved behind its first `fed` bytes, and the state that it has there.
+/// A run that is saved after its first `fed` bytes, and the state that it has there.
 #[derive(Drop)]
 pub(crate) struct SavedRow {
     pub run: Row,
@@ -47,8 +48,8 @@ fn bytes_of(alloc: Global, column: &str) -> Result<Vec<u8>, AllocError> {
     Ok(bytes)
 }
 
-/// The run of a line. Its options and its limits stand in the first two columns, the others where these numbers say. A status that is no number
-/// is 255, with which no run ends.
+/// The run of a line. Its options and its limits stand in the first two columns, the others where
+/// these numbers say. A status that is no number is 255, with which no run ends.
 fn run_of(
     alloc: Global,
     line: &str,
@@ -73,8 +74,9 @@ fn run_of(
     Ok(Some(row_with(alloc, settings, input, output, messages)?))
 }
 
-/// The row of a line: options, limits, a state in hexadecimal digits, the answer to it; and for an accepted one how the source ends, the bytes that
-/// are fed, and the output, the messages and the status that come of them.
+/// The row of a line: options, limits, a state in hexadecimal digits, the answer to it; and for an
+/// accepted one how the source ends, the bytes that are fed, and the output, the messages and the
+/// status that come of them.
 pub(crate) fn state_row_of(alloc: Global, line: &str) -> Result<Option<StateRow>, AllocError> {
     let answer = match column(line, 3) {
         "K1" => Answer::K1,
@@ -92,8 +94,9 @@ pub(crate) fn state_row_of(alloc: Global, line: &str) -> Result<Option<StateRow>
     }))
 }
 
-/// The row of a line: options, limits, ending, input, lengths of pieces, how many bytes are fed, the state behind them in hexadecimal digits, how many
-/// bytes of output and of messages were written before it, and the output, the messages and the status of the whole run.
+/// The row of a line: options, limits, ending, input, lengths of pieces, how many bytes are fed,
+/// the state after them in hexadecimal digits, how many bytes of output and of messages were
+/// written before it, and the output, the messages and the status of the whole run.
 pub(crate) fn saved_row_of(alloc: Global, line: &str) -> Result<Option<SavedRow>, AllocError> {
     let (Ok(fed), Ok(output), Ok(messages)) = (
         column(line, 5).parse::<usize>(),

@@ -1,4 +1,5 @@
-//! Runs that are saved behind some of their bytes, and engines that are restored from states, against what they have to save, to answer and to write.
+//! Runs that are saved after some of their bytes, and engines that are restored from states,
+//! against what they have to save, to answer and to write.
 
 ghost use Rattle.std.specs.Prelude.{◌≡◌, true};
 ghost use Rattle.gregorio.specs.Engine.{NothingWaits, is_running};
@@ -25,8 +26,8 @@ pub(crate) fn buffer_of(alloc: Global, len: usize) -> Result<Vec<u8>, AllocError
     Ok(buffer)
 }
 
-/// Returns whether `engine` saves `state` into a `buffer` of bytes that are 0, of which there are more, and leaves the others; and nothing into one that
-/// has a byte less.
+/// Returns whether `engine` saves `state` into a `buffer` of bytes that are 0, of which there are
+/// more, and leaves the others; and nothing into one that has a byte less.
 pub(crate) fn saves(engine: &Engine, state: &[u8], buffer: &mut [u8]) -> bool
     requires runs { is_running engine.now ≡ true }
     requires waits { NothingWaits engine.now }
@@ -55,7 +56,8 @@ struct Rest<'a> {
     status: u8,
 }
 
-/// Returns whether an engine that is restored from `state` saves it at once, and goes on with `rest`. The error is for want of memory.
+/// Returns whether an engine that is restored from `state` saves it at once, and goes on with
+/// `rest`. The error is for want of memory.
 fn goes_on(alloc: Global, state: &[u8], rest: Rest) -> Result<bool, AllocError> {
     let mut buffer = buffer_of(alloc, state.len().saturating_add(MORE))?;
     let Rest {
@@ -77,7 +79,8 @@ fn goes_on(alloc: Global, state: &[u8], rest: Rest) -> Result<bool, AllocError> 
     }
 }
 
-/// Returns how an attempt to restore a run from `state` is answered. The error is for want of memory.
+/// Returns how an attempt to restore a run from `state` is answered. The error is for want of
+/// memory.
 fn answer_to(alloc: Global, state: &[u8], asked: Request) -> Result<Answer, AllocError> {
     let job = job(asked.format, asked.all_warnings);
     match Engine::restore(alloc, &job, asked.limits, state) {
@@ -111,7 +114,8 @@ impl StateRow {
 }
 
 impl SavedRow {
-    /// Returns whether `engine`, which is fresh, has written the first of what is wanted behind the first bytes, and saves the state there.
+    /// Returns whether `engine`, which is fresh, has written the first of what is wanted after the
+    /// first bytes, and saves the state there.
     fn is_saved_by(
         &self,
         engine: &mut Engine,
@@ -127,7 +131,8 @@ impl SavedRow {
             && saves(engine, self.state.as_slice(), buffer)
     }
 
-    /// Returns whether a run is saved so behind the first bytes, which are `asked` for, and of which this is wanted.
+    /// Returns whether a run is saved so after the first bytes, which are `asked` for, and of which
+    /// this is wanted.
     fn is_saved(&self, alloc: Global, asked: Request, wanted: Wanted) -> Result<bool, AllocError> {
         let mut buffer = buffer_of(alloc, self.state.len().saturating_add(MORE))?;
         match Engine::new(alloc, &job(asked.format, asked.all_warnings), asked.limits) {

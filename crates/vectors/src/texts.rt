@@ -97,7 +97,8 @@ fn show_events(most: usize, events: &[TextEvent], out: &mut Printed) {
     }
 }
 
-/// Prints how many events a stage gives for a character at most, and those that it gives of the text.
+/// Prints how many events a stage gives for a character at most, and those that it gives of the
+/// text.
 fn answer_events(alloc: Global, input: &str, out: &mut Printed) -> Result<(), AllocError> {
     let mut stage = TextStage::new(Place::START);
     let events = outputs_of(alloc, &mut stage, input, Place::START)?;

@@ -104,7 +104,8 @@ fn answer_syllables(
     show_syllables(alloc, score.syllables.as_slice(), out)
 }
 
-/// Prints the bytes of the lines of a syllable with this number in a dump, before which this is in force, and these lines.
+/// Prints the bytes of the lines of a syllable with this number in a dump, before which this is in
+/// force, and these lines.
 fn show_lines(
     alloc: Global,
     number: u64,
@@ -123,7 +124,8 @@ fn show_lines(
     Ok(())
 }
 
-/// Prints the number of syllables, and the lines of each in a dump. The first one has the number 4294967295.
+/// Prints the number of syllables, and the lines of each in a dump. The first one has the number
+/// 4294967295.
 fn show_dumps(alloc: Global, syllables: &[Syllable], out: &mut Printed) -> Result<(), AllocError> {
     out.show(&syllables.len());
     let mut alterations = Alterations::new();

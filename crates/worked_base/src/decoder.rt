@@ -14,7 +14,7 @@ fn made_again(decoder: &Decoder, limits: Limits) -> Option<Decoder> {
     )
 }
 
-/// Returns whether a decoder that is made again behind each byte emits the same as one that is not.
+/// Returns whether a decoder that is made again after each byte emits the same as one that is not.
 fn goes_on_alike(bytes: &[u8], limits: Limits) -> bool {
     let mut decoder = Decoder::new(limits);
     let mut other = Decoder::new(limits);

@@ -1,10 +1,7 @@
-//! A stage of headers behind a decoder, driven over bytes; its text and its book.
+//! A stage of headers after a decoder, driven over bytes; its text and its book.
 
 ghost use Rattle.std.specs.Prelude.{◌<◌, ◌≤◌, length};
 
-use gabc_headers::stage_laws::{
-    a_fresh_stage_emits, a_fresh_stage_reads_bytes, an_input_is_taken, the_end_is_taken,
-};
 use gabc_headers::{HeadEvent, HeaderStage};
 use gabc_places::{Char, Code, Fault, Limits, Place, Room, Stage};
 use std::alloc::AllocError;
@@ -12,7 +9,8 @@ use std::collections::hash_map::RandomState;
 use std::hash::BuildHasher;
 use std::test::Fail;
 
-/// Adds an event to a text: findings and faults as their messages, a character of the body as it is.
+/// Adds an event to a text: findings and faults as their messages, a character of the body as it
+/// is.
 fn show(event: HeadEvent, shown: &mut String) -> Result<(), AllocError> {
     match event {
         HeadEvent::Found(finding) => write!(shown, "{finding}|"),
@@ -34,7 +32,12 @@ fn events_of(rt: &HostRuntime, bytes: &[u8]) -> Result<String, Fail>
     let mut inputs = Vec::new(rt.alloc());
     inputs.extend_from_slice(bytes)?;
     let mut out = Room::with_limit(rt.alloc(), 4 * (bytes.len() + 1))?;
-    a_fresh_stage_reads_bytes(rt.alloc(), Limits::DEFAULT, inputs, &mut out)?;
+    gabc_headers::stage_laws::a_fresh_stage_reads_bytes(
+        rt.alloc(),
+        Limits::DEFAULT,
+        inputs,
+        &mut out,
+    )?;
     let mut shown = String::new(rt.alloc());
     for event in out.slice() {
         show(*event, &mut shown)?;
@@ -121,7 +124,8 @@ fn show_lent(stage: &HeaderStage, shown: &mut String) -> Result<(), AllocError> 
     write!(shown, "|")
 }
 
-/// What a stage lends before the second `%` of its line, behind it, begun again, and behind another text.
+/// What a stage lends before the second `%` of its line, after it, begun again, and after another
+/// text.
 fn lent_around_the_line(
     rt: &HostRuntime,
     stage: &mut HeaderStage,
@@ -156,7 +160,8 @@ fn the_text_and_then_the_book_are_lent(rt: HostRuntime) -> Result<(), Fail> {
     Ok(())
 }
 
-/// Returns whether each method of the book of `stage` answers what the text of `a_book_is_borrowed_by_name` says.
+/// Returns whether each method of the book of `stage` answers what the text of
+/// `a_book_is_borrowed_by_name` says.
 fn is_book_of(stage: &HeaderStage) -> bool {
     let book = stage.book();
     book.get("mode") == Some("2")
@@ -189,8 +194,8 @@ fn laws_of_inputs_are_called(rt: HostRuntime) -> Result<(), Fail> {
         place: Place::START,
         code: Code::F1,
     };
-    an_input_is_taken(&mut stage, Err(fault), &mut out);
-    the_end_is_taken(&mut stage, &mut out);
+    gabc_headers::stage_laws::an_input_is_taken(&mut stage, Err(fault), &mut out);
+    gabc_headers::stage_laws::the_end_is_taken(&mut stage, &mut out);
     assert_eq!(rt; out.slice(), [HeadEvent::Stop(fault)].as_slice());
     Ok(())
 }
@@ -198,7 +203,12 @@ fn laws_of_inputs_are_called(rt: HostRuntime) -> Result<(), Fail> {
 #[test]
 fn a_fresh_stage_is_driven(rt: HostRuntime) -> Result<(), Fail> {
     let mut out = Room::with_limit(rt.alloc(), 2)?;
-    a_fresh_stage_emits(rt.alloc(), Limits::DEFAULT, Vec::new(rt.alloc()), &mut out)?;
+    gabc_headers::stage_laws::a_fresh_stage_emits(
+        rt.alloc(),
+        Limits::DEFAULT,
+        Vec::new(rt.alloc()),
+        &mut out,
+    )?;
     let place = Place::START;
     let fault = Fault {
         place,

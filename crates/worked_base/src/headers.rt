@@ -5,7 +5,8 @@ use gabc_places::{Fault, Finding, Limits, Text};
 use std::alloc::AllocError;
 use std::test::Fail;
 
-/// Texts with their input limits in bytes, and what they give: the headers and the byte of the score, or the fault, and the findings.
+/// Texts with their input limits in bytes, and what they give: the headers and the byte of the
+/// score, or the fault, and the findings.
 const ROWS: [(u32, &str, &str); 27] = [
     (1000, "name: Kyrie;\n%%\n", "name=Kyrie|@15"),
     (

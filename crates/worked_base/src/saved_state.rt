@@ -5,7 +5,8 @@ use gregorio_state::{Phase, StateFields, TooShort, read};
 use std::alloc::{AllocError, Global};
 use std::test::Fail;
 
-/// The state behind `name: Kyrie;`, LF, `%%` and LF, with the default limits, to canonical form, without warnings.
+/// The state after `name: Kyrie;`, LF, `%%` and LF, with the default limits, to canonical form,
+/// without warnings.
 const STATE: [u8; 116] = *b"GSAV\x03\0\0\0\x01\0\0\0\0\x40\0\xFF\xFF\xFF\xFF\0\0\0\x10\
 \0\0\0\0\0\0\0\x03\0\0\0\0\0\0\0\x01\0\0\0\x01\0\0\0\0\0\0\0\0\0\0\x0F\0\
 \0\0\0\0\0\0\0\0\0\0\0\0\0\0\0\0\0\0\0\0\0\0\0\0\
@@ -43,7 +44,8 @@ fn a_state_says_its_fields_and_is_written_again(rt: HostRuntime) -> Result<(), F
     Ok(())
 }
 
-/// Returns whether the state with `bytes` in place of those from `at` on is one that is written again as it was.
+/// Returns whether the state with `bytes` in place of those from `at` on is one that is written
+/// again as it was.
 fn is_state(alloc: Global, at: usize, bytes: &[u8]) -> Result<bool, AllocError> {
     let mut state = STATE;
     for (offset, byte) in bytes.iter().enumerate() {

@@ -86,8 +86,8 @@ fn takes_a_write_of_none_for_a_failure(rt: HostRuntime) {
     assert_eq!(rt; send_all(&mut sink, b"x"), Err(Unsent { sent: 0 }));
 }
 
-/// A writer that counts its calls. The second one and each flush fails, each call after the fourth is interrupted; the others take at most
-/// one byte.
+/// A writer that counts its calls. The second one and each flush fails, each call after the fourth
+/// is interrupted; the others take at most one byte.
 #[derive(Drop)]
 struct Counting {
     calls: u8,

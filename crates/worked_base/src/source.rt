@@ -17,7 +17,8 @@ fn reads_a_slice(rt: HostRuntime) {
     assert_eq!(rt; buf, *b"ier");
 }
 
-/// A reader that counts its calls. The first one gives a byte, the third one ends, each other fails: interrupted where it is asked for nothing.
+/// A reader that counts its calls. The first one gives a byte, the third one ends, each other
+/// fails: interrupted where it is asked for nothing.
 #[derive(Drop)]
 struct Stumbling {
     calls: u8,

@@ -5,8 +5,8 @@ use gabc_text::{TextEvent, TextStage};
 use std::alloc::{AllocError, Global};
 use std::test::Fail;
 
-/// Texts of which each character is the first behind a cut: tags, raw parts, translations, an unpaired `$`, comments, runs of blanks, braces
-/// and brackets; and each text of the rows of calls.
+/// Texts of which each character is the first after a cut: tags, raw parts, translations, an
+/// unpaired `$`, comments, runs of blanks, braces and brackets; and each text of the rows of calls.
 const TEXTS: [&str; 53] = [
     "<i>a<b>b</i>c</b>(f)",
     "$(a$)$$ b%c\n(f)",
@@ -94,7 +94,7 @@ fn read_again(
     Ok(())
 }
 
-/// Sets `again`, a fresh stage, down behind `kept` as `stage` stands.
+/// Sets `again`, a fresh stage, down after `kept` as `stage` stands.
 fn set_down(
     alloc: Global,
     stage: &TextStage,
@@ -121,7 +121,8 @@ fn agree_on(
     Ok(first.slice() == second.slice())
 }
 
-/// Returns whether `stage`, set down again behind `kept`, emits the same with `rest` and then at the end.
+/// Returns whether `stage`, set down again after `kept`, emits the same with `rest` and then at the
+/// end.
 fn is_given_back(
     alloc: Global,
     stage: &TextStage,
@@ -159,7 +160,8 @@ fn read(
     Ok(goes_on)
 }
 
-/// Returns whether `stage`, set down again before each character of `text` up to its end, goes on as it does uncut.
+/// Returns whether `stage`, set down again before each character of `text` up to its end, goes on
+/// as it does uncut.
 fn is_given_back_at_each_cut(
     alloc: Global,
     stage: &mut TextStage,
@@ -177,7 +179,8 @@ fn is_given_back_at_each_cut(
     is_given_back(alloc, stage, kept.as_slice(), &[])
 }
 
-/// Returns whether a fresh stage over `text` is given back by what it keeps and tells, wherever `text` is cut.
+/// Returns whether a fresh stage over `text` is given back by what it keeps and tells, wherever
+/// `text` is cut.
 fn cuts_change_nothing(alloc: Global, text: &str) -> Result<bool, AllocError> {
     let mut chars = Vec::new(alloc);
     for c in text.chars() {

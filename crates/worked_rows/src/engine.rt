@@ -1,16 +1,18 @@
-//! An engine that takes its input byte by byte: with which byte it writes what, and what it does behind its end.
+//! An engine that takes its input byte by byte: with which byte it writes what, and what it does
+//! after its end.
 
 ghost use Rattle.std.specs.Prelude.{◌≡◌, false};
 ghost use Rattle.gregorio.specs.Engine.{NothingWaits};
 
-use gabc_places::Limits;
+use gabc_places::{Code, Fault, Limits, Place};
 use gregorio::{Engine, Format, Input, Job, Output, SourceEnding, Status};
 use std::alloc::{AllocError, Global};
 
 /// How many bytes were taken, and the bytes of output and messages that wait then.
 type Step = (usize, &'static str, &'static str);
 
-/// What an engine gives of an input: what waits with some of its bytes, what with its end, and how it ends.
+/// What an engine gives of an input: what waits with some of its bytes, what with its end, and how
+/// it ends.
 #[derive(Clone, Copy)]
 struct Trial {
     format: Format,
@@ -19,6 +21,7 @@ struct Trial {
     ending: SourceEnding,
     last: Step,
     status: Status,
+    fault: Option<Fault>,
 }
 
 /// A syllable is written once the next one is whole: its position is known then.
@@ -35,6 +38,7 @@ const KYRIE: Trial = Trial {
     ending: SourceEnding::Whole,
     last: (43, "\n(::)\n", ""),
     status: Status::Whole,
+    fault: None,
 };
 
 /// An error is written with its character, within notes that are never closed.
@@ -56,9 +60,14 @@ const OPEN_NOTES: Trial = Trial {
         "<stdin>:2:1: fatal: F6: input ends inside notes, a tag, a raw part or a translation\n",
     ),
     status: Status::Fatal,
+    fault: Some(Fault {
+        place: Place { line: 2, column: 1 },
+        code: Code::F6,
+    }),
 };
 
-/// The syllable that is held is written with a byte that begins no character. The bytes behind it are taken and not read.
+/// The syllable that is held is written with a byte that begins no character. The bytes after it
+/// are taken and not read.
 const NO_CHARACTER: Trial = Trial {
     format: Format::Gabc,
     input: b"%%\nKy(f)\xFFri(g)e(.)",
@@ -69,6 +78,10 @@ const NO_CHARACTER: Trial = Trial {
     ending: SourceEnding::Whole,
     last: (18, "", ""),
     status: Status::Fatal,
+    fault: Some(Fault {
+        place: Place { line: 2, column: 6 },
+        code: Code::F1,
+    }),
 };
 
 /// The syllable that is held is written where the source fails, and no end of the dump.
@@ -83,6 +96,7 @@ const FAILED_DUMP: Trial = Trial {
         "",
     ),
     status: Status::ReadFault,
+    fault: None,
 };
 
 /// Whether something waits.
@@ -92,7 +106,8 @@ fn waits(engine: &Engine) -> bool
     !engine.out().is_empty() || !engine.messages().is_empty()
 }
 
-/// Feeds the bytes from this index on, one at a time, until something waits. Returns how many were taken.
+/// Feeds the bytes from this index on, one at a time, until something waits. Returns how many were
+/// taken.
 fn feed_from(engine: &mut Engine, input: &[u8], from: usize) -> usize {
     for index in from..input.len() {
         if waits(engine) {
@@ -137,17 +152,19 @@ fn end(engine: &mut Engine, ending: SourceEnding) -> Status
     }
 }
 
-/// Whether an engine is over with this status: it takes all, and nothing waits.
-fn is_over(engine: &mut Engine, status: Status) -> bool
+/// Whether an engine is over with this status and this fault: it takes all, and nothing waits.
+fn is_over(engine: &mut Engine, status: Status, fault: Option<Fault>) -> bool
     requires { NothingWaits engine.old }
 {
     !engine.running()
+        && engine.fault() == fault
         && engine.feed(b"%%\na(f)b(Q)") == 11
         && !waits(engine)
         && engine.end() == status
         && !waits(engine)
         && engine.broken() == status
         && !waits(engine)
+        && engine.fault() == fault
 }
 
 /// Whether an engine gives what a trial says.
@@ -156,7 +173,7 @@ fn has_output(engine: &mut Engine, trial: Trial) -> bool {
         && !waits(engine)
         && end(engine, trial.ending) == trial.status
         && takes(engine, trial.input.len(), trial.last)
-        && is_over(engine, trial.status)
+        && is_over(engine, trial.status, trial.fault)
 }
 
 /// Returns an engine for a job in this format.
@@ -190,7 +207,8 @@ fn writes_what_is_known(rt: HostRuntime) {
     }
 }
 
-/// Whether an engine takes so many bytes of a piece, and what waits then is taken, and so on with the rest of the piece, to its end.
+/// Whether an engine takes so many bytes of a piece, and what waits then is taken, and so on with
+/// the rest of the piece, to its end.
 fn takes_counts(engine: &mut Engine, piece: &[u8], counts: &[usize]) -> bool {
     let mut rest = piece;
     for count in counts {
@@ -219,7 +237,8 @@ fn is_fed(alloc: Global, piece: &[u8], counts: &[usize]) -> bool {
     }
 }
 
-/// It stops with the `%%`, with the `)` of the second syllable and with the byte that begins no character; the rest is taken and not read.
+/// It stops with the `%%`, with the `)` of the second syllable and with the byte that begins no
+/// character; the rest is taken and not read.
 #[test]
 fn stops_with_what_is_known(rt: HostRuntime) {
     assert!(rt; is_fed(rt.alloc(), b"%%\nKy(f)ri(g)\xFFe(.)", &[2, 11, 1, 4]));
@@ -247,4 +266,31 @@ fn is_filled(alloc: Global) -> bool {
 #[test]
 fn goes_on_while_there_is_room(rt: HostRuntime) {
     assert!(rt; is_filled(rt.alloc()));
+}
+
+/// Whether a new engine answers its fault once a byte has made it known, also after more bytes and
+/// where what waits was taken, and none before and once it begins again.
+fn answers_its_fault(alloc: Global) -> bool {
+    let fault = Fault {
+        place: Place { line: 2, column: 6 },
+        code: Code::F1,
+    };
+    match engine_of(alloc, Format::Dump) {
+        Ok(mut engine) => {
+            let before = engine.fill(b"%%\nKy(f)") == 8 && engine.fault().is_none();
+            let known = engine.fill(b"\xFF") == 1 && engine.fault() == Some(fault);
+            engine.taken();
+            let later = engine.fill(b"%%\n") == 3 && engine.fault() == Some(fault);
+            engine.restart();
+            let well = before && known && later && engine.fault().is_none();
+            drop(engine);
+            well
+        }
+        Err(_) => false,
+    }
+}
+
+#[test]
+fn answers_a_fault_until_it_begins_again(rt: HostRuntime) {
+    assert!(rt; answers_its_fault(rt.alloc()));
 }

@@ -1,5 +1,5 @@
-//! The examples that the documents of the crates show. What holds much is let go by a call of `drop`: a proof follows a call faster than all
-//! that lies inside.
+//! The examples that the documents of the crates show. What holds much is let go by a call of
+//! `drop`: a proof follows a call faster than all that lies inside.
 
 ghost use Rattle.std.specs.Prelude.{◌<◌, length};
 
@@ -115,7 +115,8 @@ fn score_of(alloc: Global, text: &str) -> Result<Score, AllocError> {
     score_whole(alloc, &text, InputEnding::Whole, Limits::DEFAULT)
 }
 
-/// Puts the lines of the first syllable of a score, with this number, in a dump. Returns how many bytes `dump_len` tells.
+/// Puts the lines of the first syllable of a score, with this number, in a dump. Returns how many
+/// bytes `dump_len` tells.
 fn put_lines(number: u64, syllable: &Syllable, out: &mut Room<u8>) -> usize {
     let mut alterations = Alterations::new();
     let len = dump_len(number, syllable, &alterations);
@@ -123,7 +124,8 @@ fn put_lines(number: u64, syllable: &Syllable, out: &mut Room<u8>) -> usize {
     len
 }
 
-/// Whether these are the lines of a syllable with this number in a dump, and as many bytes as `dump_len` tells.
+/// Whether these are the lines of a syllable with this number in a dump, and as many bytes as
+/// `dump_len` tells.
 fn is_dumped(
     alloc: Global,
     number: u64,
@@ -199,7 +201,7 @@ fn places_the_pieces_of_a_text(rt: HostRuntime) -> Result<(), AllocError> {
     Ok(())
 }
 
-/// Appends the notes of the syllables of a score, with a `,` behind each.
+/// Appends the notes of the syllables of a score, with a `,` after each.
 fn add_notes(score: &Score, notes: &mut Vec<u8>) -> Result<(), AllocError> {
     for syllable in &score.syllables {
         for snippet in &syllable.snippets {

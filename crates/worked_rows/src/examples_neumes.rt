@@ -41,7 +41,8 @@ fn has_glyphs(
     Ok(glyphs.slice() == wanted)
 }
 
-/// Whether a kept text has these elements, and its items from the third up to the sixth have these glyphs, counted from 0.
+/// Whether a kept text has these elements, and its items from the third up to the sixth have these
+/// glyphs, counted from 0.
 fn is_cut(alloc: Global, kept: &str, spans: &[Span], glyphs: &[Glyph]) -> Result<bool, AllocError> {
     let items = items_whole(alloc, kept)?;
     match items.as_slice().get(3..6) {
@@ -70,7 +71,8 @@ fn example_of_neumes(rt: HostRuntime) -> Result<(), AllocError> {
     Ok(())
 }
 
-/// Returns the first glyph of a kept text that begins with a note: its kind, and how many notes it has.
+/// Returns the first glyph of a kept text that begins with a note: its kind, and how many notes it
+/// has.
 fn first_glyph(kept: &str) -> Option<(GlyphKind, usize)> {
     let mut items = items_in(kept);
     let item = items.next()?;

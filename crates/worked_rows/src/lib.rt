@@ -1,6 +1,7 @@
-//! Tests of what rows of data cannot tell: the examples that the documents of the crates show; what words want; a source that fails in mid-stream,
-//! and sinks that take little and then fail; with which byte an engine writes what; stages that are set down again. Rows of calls and of runs are the
-//! data of the program `vectors`.
+//! Tests of what rows of data cannot tell: the examples that the documents of the crates show; what
+//! words want; a source that fails in mid-stream, and sinks that take little and then fail; with
+//! which byte an engine writes what; stages that are set down again. Rows of calls and of runs are
+//! the data of the program `vectors`.
 #![tactic(auto)]
 
 #[cfg(test)]

@@ -61,8 +61,9 @@ fn job() -> Job {
     }
 }
 
-/// The output that is known with a piece of the input is written before the messages that are known with it. In pieces of three bytes
-/// that is `%%` with the first, and `(c4)` behind an LF before the one with the error; in one piece it is all but the last syllable.
+/// The output that is known with a piece of the input is written before the messages that are known
+/// with it. In pieces of three bytes that is `%%` with the first, and `(c4)` after an LF before the
+/// one with the error; in one piece it is all but the last syllable.
 #[test]
 fn messages_come_behind_their_output(rt: HostRuntime) -> Result<(), AllocError> {
     for (most, before) in [(3, [2, 7].as_slice()), (64, [19].as_slice())] {

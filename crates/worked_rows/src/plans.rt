@@ -102,7 +102,8 @@ fn plans_a_job_of_streams(rt: HostRuntime) -> Result<(), AllocError> {
     Ok(())
 }
 
-/// Returns whether a job writes the canonical form of the file `-x` to `y.gabc`, and all messages to `list`.
+/// Returns whether a job writes the canonical form of the file `-x` to `y.gabc`, and all messages
+/// to `list`.
 fn is_of_files(job: &Job) -> bool {
     job.format == Format::Gabc
         && job.all_warnings

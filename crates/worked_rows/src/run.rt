@@ -1,4 +1,5 @@
-//! Runs from failing sources and into failing sinks. Rows of whole runs are the data of the program `vectors`.
+//! Runs from failing sources and into failing sinks. Rows of whole runs are the data of the program
+//! `vectors`.
 
 use gabc_places::{Limits, TrialSink, TrialSource};
 use gregorio::{Format, Input, Job, Name, Output, Status, compile};
@@ -31,7 +32,8 @@ fn job_of(input: Input, all_warnings: bool) -> Job {
     }
 }
 
-/// Whether a job writes and answers this, on bytes of which one read gives three, and on sinks that take one byte a write.
+/// Whether a job writes and answers this, on bytes of which one read gives three, and on sinks that
+/// take one byte a write.
 fn is_run(
     alloc: Global,
     job: &Job,
@@ -91,7 +93,8 @@ fn takes_one_byte_a_write(rt: HostRuntime) -> Result<(), AllocError> {
     Ok(())
 }
 
-/// Whether a job on the file `x.gabc` without warnings writes and answers this, as `is_run` tells it.
+/// Whether a job on the file `x.gabc` without warnings writes and answers this, as `is_run` tells
+/// it.
 fn runs_on_file(
     alloc: Global,
     bytes: &[u8],
@@ -142,8 +145,8 @@ fn stops_where_reads_fail(rt: HostRuntime) -> Result<(), AllocError> {
     Ok(())
 }
 
-/// Whether a run on two syllables with all warnings ends where a write fails: with these bytes of the output held, and these
-/// bytes of the only message.
+/// Whether a run on two syllables with all warnings ends where a write fails: with these bytes of
+/// the output held, and these bytes of the only message.
 fn stops_at(alloc: Global, ends: Ends, out: &[u8], messages: &str) -> Result<bool, AllocError> {
     let wanted = Wanted {
         out,
@@ -165,7 +168,7 @@ fn stops_where_writes_of_output_fail(rt: HostRuntime) -> Result<(), AllocError> 
             out: holds,
             messages: 64,
         };
-        // the message is sent behind the two bytes of the headers
+        // the message is sent after the two bytes of the headers
         let messages = if holds < 2 { "" } else { NO_NAME };
         assert!(rt;
             stops_at(rt.alloc(), ends, &output[..holds], messages)?,

@@ -80,8 +80,9 @@ fn push_all(
     finish(alloc, stage, lines)
 }
 
-/// Prints what a stage tells of where it stands: what stands before the syllable that is held, the kept texts of this one and of the one that is
-/// read, the places of what is open, and whether a comment is.
+/// Prints what a stage tells of where it stands: what stands before the syllable that is held, the
+/// kept texts of this one and of the one that is read, the places of what is open, and whether a
+/// comment is.
 fn told(alloc: Global, stage: &ScoreStage) -> Result<String, AllocError> {
     let Some(before) = stage.before() else {
         return String::from_str(alloc, "nothing");
@@ -182,7 +183,7 @@ fn tells_nothing_before_the_body_and_behind_the_end(rt: HostRuntime) -> Result<(
     Ok(())
 }
 
-/// Bodies, and what a stage tells behind them.
+/// Bodies, and what a stage tells after them.
 const TOLD: [(&str, &str); 14] = [
     ("", "0 3 false false false \"\" None None %"),
     (" %x", "0 3 false false false \"\" None None %"),
@@ -255,7 +256,8 @@ fn given_on(alloc: Global, stage: &mut ScoreStage, rest: &str) -> Result<String,
     Ok(given)
 }
 
-/// Whether a stage behind `before` that reads again what a stage tells behind `body` tells the same, and gives the same from then on.
+/// Whether a stage after `before` that reads again what a stage tells after `body` tells the same,
+/// and gives the same from then on.
 fn reads_again(alloc: Global, before: &str, body: &str) -> Result<bool, AllocError> {
     let mut one = ScoreStage::with_limits(alloc, Limits::DEFAULT)?;
     let wanted = told_behind(alloc, &mut one, body)?;

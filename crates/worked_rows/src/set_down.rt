@@ -1,12 +1,13 @@
-//! Stages of snippets that are cut at each character and set down again, from the text that they kept and what they tell.
+//! Stages of snippets that are cut at each character and set down again, from the text that they
+//! kept and what they tell.
 
 use gabc_nabc::NabcStage;
 use gabc_notes::{NoteEvent, NoteStage};
 use gabc_places::{Char, Place, Room, Stage};
 use std::alloc::{AllocError, Global};
 
-/// Snippets of notes of which each character is the first behind a cut: in the middle of items, raw brackets, attributes and comments, and each
-/// snippet of the rows of calls.
+/// Snippets of notes of which each character is the first after a cut: in the middle of items, raw
+/// brackets, attributes and comments, and each snippet of the rows of calls.
 const NOTES: [&str; 30] = [
     "c4@cb3 gx#?/[2]hv'1)",
     "g[nm1]h[nm2]|",
@@ -111,7 +112,8 @@ fn push<S: Stage<Input = Char, Output = NoteEvent>>(
     show(alloc, out.slice(), lines)
 }
 
-/// Pushes the first `cut` characters of `text`, and appends those that are kept. Returns whether the snippet goes on behind them.
+/// Pushes the first `cut` characters of `text`, and appends those that are kept. Returns whether
+/// the snippet goes on after them.
 fn keep_front<S: Stage<Input = Char, Output = NoteEvent>>(
     alloc: Global,
     stage: &mut S,
@@ -126,7 +128,8 @@ fn keep_front<S: Stage<Input = Char, Output = NoteEvent>>(
     Ok(goes_on)
 }
 
-/// Pushes the characters of `text` from the one at `cut` on, and ends them. Returns what is emitted.
+/// Pushes the characters of `text` from the one at `cut` on, and ends them. Returns what is
+/// emitted.
 fn emit_rest<S: Stage<Input = Char, Output = NoteEvent>>(
     alloc: Global,
     stage: &mut S,
@@ -161,7 +164,8 @@ fn set_down<S: Stage<Input = Char, Output = NoteEvent>>(
     Ok(())
 }
 
-/// Returns whether a stage of notes, cut there and set down again, emits the same of the rest, or the snippet has ended there.
+/// Returns whether a stage of notes, cut there and set down again, emits the same of the rest, or
+/// the snippet has ended there.
 fn notes_go_on(alloc: Global, text: &str, cut: usize) -> Result<bool, AllocError> {
     let mut kept = String::new(alloc);
     let mut stage = NoteStage::new(true, 2);
@@ -175,7 +179,8 @@ fn notes_go_on(alloc: Global, text: &str, cut: usize) -> Result<bool, AllocError
     Ok(lines == emit_rest(alloc, &mut again, text, cut)?)
 }
 
-/// Returns whether a stage of NABC, cut there and set down again, emits the same of the rest, or the snippet has ended there.
+/// Returns whether a stage of NABC, cut there and set down again, emits the same of the rest, or
+/// the snippet has ended there.
 fn nabc_goes_on(alloc: Global, text: &str, cut: usize) -> Result<bool, AllocError> {
     let mut kept = String::new(alloc);
     let mut stage = NabcStage::new();

@@ -1,5 +1,6 @@
 -- Whether a value wants lines of its own, from left to right.
 use Rattle.std.proofs.Common.{rules, ◌≢◌, ◌≡◌, ◌⊎◌, inl, inr, ℕ, List, [], ◌∷◌, ◌++◌, Bool, true, false, cond, ◌||◌, ◌&&◌, ◌==◌, refl, sym, ap, ◌∙◌, append_assoc, append-nil}
+use Rattle.std.proofs.Math.Bool.{or-true}
 use Rattle.gabc_headers.specs.Lines.{lines, on_first, is_bare, is_mark, has_mark}
 use Rattle.gabc_headers.specs.Canonical.{wants_lines}
 
@@ -10,10 +11,6 @@ has_lf (c ∷ v) = (c == 10) || has_lf v
 
 abbrev pub wants_from : Bool → List ℕ → Bool
 wants_from marked v = has_lf v || ((marked && is_bare v) || has_mark 1 v)
-
-or_true : (a : Bool) → (a || true) ≡ true
-or_true true = refl
-or_true false = refl
 
 -- there are several lines
 abbrev several : List (List ℕ) → Bool
@@ -77,7 +74,7 @@ wants_start v = by (has_lf v) refl
     by false h = rw (one_line v h) refl
 
 pub step_lf : (w m : Bool) (v : List ℕ) → (w || wants_from m (10 ∷ v)) ≡ true
-step_lf w m v = or_true w
+step_lf w m v = or-true w
 
 twice : (v : List ℕ) → (is_mark 0 v || has_mark 1 v) ≡ has_mark 1 v
 twice [] = refl
@@ -99,7 +96,7 @@ step_semicolon m v = by m (has_lf v) (is_bare v) (is_mark 0 v) (has_mark 1 v) (t
 
 pub step_percent : (w m : Bool) (v : List ℕ) → (w || wants_from m (37 ∷ v)) ≡ ((w || m) || wants_from m v)
 step_percent true m v = refl
-step_percent false true v = or_true (has_lf v)
+step_percent false true v = or-true (has_lf v)
 step_percent false false v = refl
 
 pub step_space : (m : Bool) (v : List ℕ) → wants_from m (32 ∷ v) ≡ wants_from m v

@@ -4,7 +4,6 @@ use lib.Utf8.{encodes, scalars}
 use Rattle.gabc_places.specs.declared.code.Finding.{Finding}
 use Rattle.gabc_places.specs.Findings.{Known}
 use Rattle.gabc_places.specs.declared.code.Code.TheVariants.{E4, E5, W2}
-use Rattle.gabc_places.specs.declared.place.Span.{Span}
 use Rattle.gabc_headers.specs.machine.Collected.{Collected}
 use Rattle.gabc_headers.specs.declared.events.HeaderEvent.{HeaderEvent}
 use Rattle.gabc_headers.specs.declared.events.HeaderEvent.TheVariants.{LeftOut, Header}
@@ -38,10 +37,6 @@ names-put {X} es name v n = by (is_annotation name) (is_one_of name (names es)) 
     by true b h = pushed
     by false true h = ap (is_one_of n) (names-with_value es name v h) ∙ sym (seen_again name (names es) h n)
     by false false h = ap (λ (x : List (List ℕ × X)). is_one_of n (names x)) (with_value-new es name v h) ∙ pushed
-
-names-spelled : (text : List ℕ) (es : List (List ℕ × Span)) → names (spelled_entries text es) ≡ names es
-names-spelled text [] = refl
-names-spelled text (e ∷ es) = ap (λ (x : List (List ℕ)). e.0 ∷ x) (names-spelled text es)
 
 -- what a list of events makes of what is there
 pub record Follows (text : List ℕ) (seen : List (List ℕ)) (ps : List HeaderPart) (c d : Collected) : Type 0 where

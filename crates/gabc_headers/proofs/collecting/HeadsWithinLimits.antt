@@ -1,7 +1,6 @@
 -- The headers that are not too long.
-use Rattle.std.proofs.Common.{◌≡◌, ℕ, ◌+◌, ◌≤◌, List, [], ◌∷◌, ◌++◌, Bool, true, false, cond, codes, refl, sym, ap, arith, nat_lt, Result, Ok, Err, Option, None, Some, MatchOption, is_some, Bor}
+use Rattle.std.proofs.Common.{◌≡◌, ℕ, ◌+◌, List, [], ◌∷◌, ◌++◌, Bool, true, false, cond, codes, refl, sym, ap, nat_lt, Result, Ok, Err, Option, None, Some, MatchOption, is_some, Bor}
 use Rattle.std.specs.Str.{chars}
-use Rattle.std.proofs.lemmas.Bool.Decides.{nat_tests}
 use Rattle.gabc_places.specs.declared.place.Place.{Place}
 use Rattle.gabc_places.specs.declared.limits.Limits.{Limits}
 use Rattle.gabc_places.specs.declared.code.Code.TheVariants.{W1, F4, F7}
@@ -31,23 +30,6 @@ by_len limits place body None book found = by (nat_lt limits.header (bytes_len (
     by true y = refl
     by false true = refl
     by false false = refl
-
--- the length that is within the limits
-pub len_is : (limits : Limits) (place : Place) (line : Option ℕ) (book : List (List ℕ × List ℕ)) (size : ℕ) → len_at_score limits place line book ≡ Ok size
-    → (size ≡ bytes_len (header_lines book)) × (size ≤ limits.header)
-len_is limits place (Some k) book size e = absurd (cc)
-len_is limits place None book size e = by (nat_lt limits.header (bytes_len (header_lines book))) (nat_lt limits.input (bytes_len (header_lines book) + 3)) refl e
-  where
-    size_of : Result ℕ Fault → ℕ
-    size_of (Ok n) = n
-    size_of (Err f) = 0
-
-    by : (x y : Bool) → nat_lt limits.header (bytes_len (header_lines book)) ≡ x
-        → cond {A = Result ℕ Fault} x (Err (record { place = place; code = F4 })) (cond y (Err (record { place = place; code = F7 })) (Ok (bytes_len (header_lines book)))) ≡ Ok size
-        → (size ≡ bytes_len (header_lines book)) × (size ≤ limits.header)
-    by true y q f = absurd (cc)
-    by false true q f = absurd (cc)
-    by false false q f = let s : size ≡ bytes_len (header_lines book) = sym (ap size_of f) in let l : bytes_len (header_lines book) ≤ limits.header = grind (arith, nat_tests) in (s, omega (arith, s, l))
 
 -- at the end of the text
 pub at_text_end : (place : Place) (line : Option ℕ) (found : List Finding) → fault_at_end place line found ≡ record { fault = end_fault place line; findings = found; at_end = true }

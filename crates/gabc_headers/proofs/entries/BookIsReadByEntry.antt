@@ -1,5 +1,5 @@
 -- Reading a book entry by entry.
-use Rattle.std.proofs.Common.{◌≡◌, ℕ, ◌≤◌, suc, zero, List, [], ◌∷◌, true, false, length, drop, arith, refl, bytes_eq, Some, None, slice_get, IsSomeAnd, IsUtf8}
+use Rattle.std.proofs.Common.{◌≡◌, ℕ, suc, zero, List, [], ◌∷◌, true, false, drop, refl, bytes_eq, Some, slice_get, IsSomeAnd, IsUtf8}
 use Rattle.std.specs.Str.{chars}
 use Rattle.gabc_headers.specs.Book.{value_named}
 use Rattle.gabc_headers.proofs.entries.TextsAsBytes.{bytes_eq-chars}
@@ -19,10 +19,3 @@ pub named_later : (name b : List ℕ) (es : List (List ℕ × List ℕ)) (i : �
 named_later name b [] i u w h e = absurd h
 named_later name b (d ∷ es) zero u w h e = rw (← h, bytes_eq-chars name b u w, e) refl
 named_later name b (d ∷ es) (suc i) u w h e = named_later name b es i u w h e
-
--- behind the last entry there is none
-pub named_none : (name : List ℕ) (es : List (List ℕ × List ℕ)) (i : ℕ) → length es ≤ i → value_named name (drop i es) ≡ None
-named_none name [] zero l = refl
-named_none name [] (suc i) l = refl
-named_none name (d ∷ es) zero l = absurd (omega arith)
-named_none name (d ∷ es) (suc i) l = named_none name es i (omega arith)

@@ -1,12 +1,12 @@
 -- Reading what is gathered entry by entry.
-use Rattle.std.proofs.Common.{◌≡◌, ℕ, ◌<◌, ◌≤◌, ◌+◌, ◌^◌, ◌-◌, suc, zero, min, List, [], ◌∷◌, ◌++◌, length, drop, arith, refl, sym, ap, ◌∙◌, codes, Option, Some, None, slice_get, IsSomeAnd, append_assoc, subst}
+use Rattle.std.proofs.Common.{◌≡◌, ℕ, ◌<◌, ◌≤◌, ◌+◌, ◌^◌, ◌-◌, suc, zero, min, List, [], ◌∷◌, length, drop, arith, refl, sym, ap, Option, Some, None, slice_get, IsSomeAnd, subst}
 use Rattle.std.specs.Map.{values_of}
 use Rattle.std.specs.Str.{chars}
 use Rattle.gabc_places.specs.declared.place.Span.{Span}
 use Rattle.std.specs.declared.hash.DefaultHasher.{DefaultHasher}
 use Rattle.gabc_headers.specs.declared.entry_map.Key.{Key}
 use Rattle.gabc_headers.specs.Lines.{bytes_len}
-use Rattle.gabc_headers.specs.Canonical.{header_line, header_lines, canonical_heads}
+use Rattle.gabc_headers.specs.Canonical.{header_line, header_lines}
 use Rattle.gabc_headers.specs.Entries.{EntryMapState, key_name, named_entries, spelled_entries}
 use Rattle.gabc_headers.specs.machine.EntryMap.{AreWithin, HasPlace}
 use Rattle.gabc_headers.specs.machine.Spans.{IsWithin}
@@ -54,19 +54,6 @@ lines_cons e es = bytes_len-append (header_line e) (header_lines es)
 -- a sum that stops at the largest number
 pub sum_next : (n l r t b m : ℕ) → min (n + (l + r)) (2 ^ 64 - 1) ≡ t → b ≡ l → m ≡ n + min b (2 ^ 64 - 1 - n) → min (m + r) (2 ^ 64 - 1) ≡ t
 sum_next n l r t b m e f g = omega arith
-
-lines_append : (es fs : List (List ℕ × List ℕ)) → header_lines (es ++ fs) ≡ header_lines es ++ header_lines fs
-lines_append [] fs = refl
-lines_append (e ∷ es) fs = ap (λ (x : List ℕ). header_line e ++ x) (lines_append es fs) ∙ sym (append_assoc (header_line e) (header_lines es) (header_lines fs))
-
--- the first entries have no more bytes than all
-pub first_entries : (es fs : List (List ℕ × List ℕ)) → bytes_len (canonical_heads es) ≤ bytes_len (canonical_heads (es ++ fs))
-first_entries es fs =
-    let a = bytes_len-append (header_lines es) (codes "%%") in
-    let b = bytes_len-append (header_lines (es ++ fs)) (codes "%%") in
-    let c = bytes_len-append (header_lines es) (header_lines fs) in
-    let d = ap (λ (x : List ℕ). bytes_len x) (lines_append es fs) in
-    omega (arith, a, b, c, d)
 
 -- below the length there is an entry
 pub get_none : {X : Type 0} (es : List X) (i : ℕ) → None ≡ slice_get es i → i < length es → ⊥

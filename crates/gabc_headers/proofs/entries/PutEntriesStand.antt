@@ -1,5 +1,6 @@
 -- Putting the entries in turn gives those that stand.
 use Rattle.std.proofs.Common.{◌≡◌, ℕ, List, [], ◌∷◌, ◌++◌, Bool, true, false, cond, not, ◌&&◌, ◌||◌, refl, sym, ap, ◌∙◌, subst, append_assoc, append-nil, bytes_eq}
+use Rattle.std.proofs.lemmas.Bool.{or_parts}
 use Rattle.std.specs.Cmp.Lexicographic.{same_text}
 use Rattle.gabc_headers.specs.Book.{is_one_of, repeats, unless, last_value, value_of, standing_entries}
 use Rattle.gabc_headers.specs.EntryMap.{is_annotation, with_value, put_all}
@@ -32,14 +33,6 @@ seen_again m s h n = by (bytes_eq n m) refl
     by : (b : Bool) → bytes_eq n m ≡ b → (b || is_one_of n s) ≡ is_one_of n s
     by true e = sym (subst (λ (x : List ℕ). is_one_of x s ≡ true) (sym (same_text n m (sym e))) h)
     by false e = refl
-
-or_left : (a b : Bool) → (a || b) ≡ false → a ≡ false
-or_left true b h = h
-or_left false b h = refl
-
-or_right : (a b : Bool) → (a || b) ≡ false → b ≡ false
-or_right true b h = absurd (cc)
-or_right false b h = h
 
 apart : (a b : List ℕ) → is_annotation a ≡ false → is_annotation b ≡ true → bytes_eq a b ≡ false
 apart a b h k = by (bytes_eq a b) refl
@@ -94,8 +87,8 @@ module _ {X : Type 0} where
   merged-absent : (ds : List (List ℕ × X)) (e : List ℕ × X) (es : List (List ℕ × X)) → is_one_of e.0 (names ds) ≡ false → merged ds (e ∷ es) ≡ merged ds es
   merged-absent [] e es h = refl
   merged-absent (d ∷ ds) e es h =
-      ap (λ (v : X). (d.0, v) ∷ merged ds (e ∷ es)) (value-other d.0 d.1 e es (λ a. bytes_eq_sym d.0 e.0 ∙ or_left (bytes_eq e.0 d.0) (is_one_of e.0 (names ds)) h))
-      ∙ ap (λ (x : List (List ℕ × X)). (d.0, value_of d.0 d.1 es) ∷ x) (merged-absent ds e es (or_right (bytes_eq e.0 d.0) (is_one_of e.0 (names ds)) h))
+      ap (λ (v : X). (d.0, v) ∷ merged ds (e ∷ es)) (value-other d.0 d.1 e es (λ a. bytes_eq_sym d.0 e.0 ∙ (or_parts (bytes_eq e.0 d.0) (is_one_of e.0 (names ds)) h).0))
+      ∙ ap (λ (x : List (List ℕ × X)). (d.0, value_of d.0 d.1 es) ∷ x) (merged-absent ds e es (or_parts (bytes_eq e.0 d.0) (is_one_of e.0 (names ds)) h).1)
 
   merged-annotation : (ds : List (List ℕ × X)) (e : List ℕ × X) (es : List (List ℕ × X)) → is_annotation e.0 ≡ true → merged ds (e ∷ es) ≡ merged ds es
   merged-annotation [] e es h = refl
@@ -129,13 +122,13 @@ module _ {X : Type 0} where
   Distinct-push [] e u h = ((λ a. refl), tt)
   Distinct-push (d ∷ ds) e u h = (
     (λ a. ap (is_one_of d.0) (names-push ds e) ∙ (is_one_of-push d.0 e.0 (names ds) ∙ by (bytes_eq d.0 e.0) refl a)),
-    Distinct-push ds e u.1 (λ a. or_right (bytes_eq e.0 d.0) (is_one_of e.0 (names ds)) (h a)),
+    Distinct-push ds e u.1 (λ a. (or_parts (bytes_eq e.0 d.0) (is_one_of e.0 (names ds)) (h a)).1),
   )
     where
       by : (b : Bool) → bytes_eq d.0 e.0 ≡ b → is_annotation d.0 ≡ false → (b || is_one_of d.0 (names ds)) ≡ false
       by true q a =
           let s : d.0 ≡ e.0 = same_text d.0 e.0 (sym q) in
-          let k = or_left (bytes_eq e.0 d.0) (is_one_of e.0 (names ds)) (h (sym (ap is_annotation s) ∙ a)) in
+          let k = (or_parts (bytes_eq e.0 d.0) (is_one_of e.0 (names ds)) (h (sym (ap is_annotation s) ∙ a))).0 in
           let m = bytes_eq_sym d.0 e.0 in absurd (cc)
       by false q a = u.0 a
 

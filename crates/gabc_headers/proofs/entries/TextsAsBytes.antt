@@ -3,10 +3,8 @@ use Rattle.std.proofs.Common.{◌≡◌, ℕ, List, [], ◌∷◌, ◌++◌, ◌
 use Rattle.std.specs.Cmp.Lexicographic.{same_text}
 use Rattle.std.specs.Str.{chars, is_utf8, IsAscii}
 use Rattle.std.proofs.lemmas.Str.{encodes-chars, length-encode, chars-IsAscii, IsUtf8-from_is_utf8}
-use Rattle.std.proofs.lemmas.List.Elements.{All-head, All-tail}
-use Rattle.std.specs.List.{All}
-use lib.Utf8.{encode, encodes, scalars}
-use Rattle.std.specs.Char.{IsScalar, len_utf8}
+use lib.Utf8.{encode, encodes}
+use Rattle.std.specs.Char.{len_utf8}
 use Rattle.std.proofs.lemmas.List.Sums.{sum_by-append}
 use Rattle.gabc_headers.specs.Lines.{bytes_len}
 use Rattle.gabc_headers.specs.Book.{macro_name}
@@ -60,10 +58,6 @@ pub chars-name : chars (codes "name") ≡ codes "name"
 unfolding chars
 chars-name = refl
 
-utf8-name : is_utf8 (codes "name") ≡ true
-unfolding is_utf8 chars encode
-utf8-name = refl
-
 -- a text whose characters are known
 pub bytes_eq-text : (a b : List ℕ) → IsUtf8 a → IsUtf8 b → chars b ≡ b → bytes_eq (chars a) b ≡ bytes_eq a b
 bytes_eq-text a b u v e = ap (λ (x : List ℕ). bytes_eq (chars a) x) (sym e) ∙ bytes_eq-chars a b u v
@@ -73,9 +67,6 @@ annotation-chars a u = bytes_eq-text a (codes "annotation") u (IsUtf8-from_is_ut
 
 pub nabc_lines-chars : (a : List ℕ) → IsUtf8 a → bytes_eq (chars a) (codes "nabc-lines") ≡ bytes_eq a (codes "nabc-lines")
 nabc_lines-chars a u = bytes_eq-text a (codes "nabc-lines") u (IsUtf8-from_is_utf8 (codes "nabc-lines") utf8-nabc_lines) chars-nabc_lines
-
-pub name-chars : (a : List ℕ) → IsUtf8 a → bytes_eq (chars a) (codes "name") ≡ bytes_eq a (codes "name")
-name-chars a u = bytes_eq-text a (codes "name") u (IsUtf8-from_is_utf8 (codes "name") utf8-name) chars-name
 
 -- the bytes of texts one behind the other
 pub bytes_len-append : (a b : List ℕ) → bytes_len (a ++ b) ≡ bytes_len a + bytes_len b
@@ -105,8 +96,3 @@ macro_ascii d h (suc (suc (suc (suc (suc (suc i)))))) = lit< tt
 
 pub chars-macro : (d : ℕ) → d < 10 → chars (macro_name d) ≡ macro_name d
 chars-macro d h = chars-IsAscii (macro_name d) (macro_ascii d h)
-
--- characters that are scalar values
-pub all_scalars : (cs : List ℕ) → All IsScalar cs → scalars cs ≡ true
-all_scalars [] h = refl
-all_scalars (c ∷ cs) h = rw (All-head IsScalar c cs h, all_scalars cs (All-tail IsScalar c cs h)) refl

@@ -1,5 +1,5 @@
 -- A value of `nabc-lines` is found among those in range by its bytes and by its characters alike.
-use Rattle.std.proofs.Common.{◌≡◌, ℕ, List, [], ◌∷◌, Bool, true, false, ◌&&◌, cond, length, Some, None, refl, sym, ap, ◌∙◌, bytes_eq, IsUtf8}
+use Rattle.std.proofs.Common.{◌≡◌, ℕ, List, [], ◌∷◌, Bool, true, ◌&&◌, cond, length, Some, None, refl, sym, ap, ◌∙◌, bytes_eq, IsUtf8}
 use lib.Dec.{ltb}
 use lib.Utf8.{encode}
 use Rattle.std.specs.List.{list_all, list_any, position, position_or_len}
@@ -7,6 +7,7 @@ use Rattle.std.specs.Option.{unwrap_or}
 use Rattle.std.specs.Cmp.Lexicographic.{same_text}
 use Rattle.std.specs.Str.{chars, is_utf8}
 use Rattle.std.proofs.lemmas.Str.{IsUtf8-from_is_utf8}
+use Rattle.std.proofs.lemmas.Bool.{and_parts}
 use Rattle.gabc_headers.specs.Book.{is_one_of, nabc_values, lines_by}
 use Rattle.gabc_headers.proofs.entries.TextsAsBytes.{bytes_eq-text, bytes_eq_sym}
 
@@ -18,31 +19,23 @@ values_plain : list_all is_plain nabc_values ≡ true
 unfolding is_utf8 chars encode
 values_plain = refl
 
-first_true : (a b : Bool) → (a && b) ≡ true → a ≡ true
-first_true true b e = refl
-first_true false b e = cc
-
-second_true : (a b : Bool) → (a && b) ≡ true → b ≡ true
-second_true true b e = e
-second_true false b e = cc
-
 -- a row is the same text as a value by bytes or by characters
 same_row : (v row : List ℕ) → IsUtf8 v → is_plain row ≡ true → bytes_eq row (chars v) ≡ bytes_eq row v
 same_row v row u p =
-    let plain : chars row ≡ row = same_text (chars row) row (sym (second_true (is_utf8 row) _ p)) in
-    bytes_eq_sym row (chars v) ∙ bytes_eq-text v row u (IsUtf8-from_is_utf8 row (first_true (is_utf8 row) _ p)) plain ∙ bytes_eq_sym v row
+    let plain : chars row ≡ row = same_text (chars row) row (sym (and_parts (is_utf8 row) _ p).1) in
+    bytes_eq_sym row (chars v) ∙ bytes_eq-text v row u (IsUtf8-from_is_utf8 row (and_parts (is_utf8 row) _ p).0) plain ∙ bytes_eq_sym v row
 
 place_same : (v : List ℕ) (rows : List (List ℕ)) → IsUtf8 v → list_all is_plain rows ≡ true
     → position_or_len (λ row. bytes_eq row (chars v)) rows ≡ position_or_len (λ row. bytes_eq row v) rows
 place_same v [] u p = refl
 place_same v (row ∷ rows) u p =
-    rw (same_row v row u (first_true (is_plain row) _ p), place_same v rows u (second_true (is_plain row) _ p)) refl
+    rw (same_row v row u (and_parts (is_plain row) _ p).0, place_same v rows u (and_parts (is_plain row) _ p).1) refl
 
 among_same : (v : List ℕ) (rows : List (List ℕ)) → IsUtf8 v → list_all is_plain rows ≡ true
     → is_one_of (chars v) rows ≡ list_any (λ row. bytes_eq row v) rows
 among_same v [] u p = refl
 among_same v (row ∷ rows) u p =
-    rw (bytes_eq_sym (chars v) row, same_row v row u (first_true (is_plain row) _ p), among_same v rows u (second_true (is_plain row) _ p)) refl
+    rw (bytes_eq_sym (chars v) row, same_row v row u (and_parts (is_plain row) _ p).0, among_same v rows u (and_parts (is_plain row) _ p).1) refl
 
 -- the number of lines that a value says
 pub lines-chars : (v : List ℕ) → IsUtf8 v → lines_by (Some (chars v)) ≡ unwrap_or (position (λ row. bytes_eq row v) nabc_values) 0

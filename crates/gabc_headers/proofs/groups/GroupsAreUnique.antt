@@ -20,7 +20,7 @@ end_at-push [] m h e = e
 end_at-push (l ∷ []) m h e = (h.0, e)
 end_at-push (l ∷ k ∷ b) m h e = (h.0, end_at-push (k ∷ b) m h.1 e)
 
-ends_value : (l : List ℕ) (b : List (List ℕ)) → has_mark 1 (after_colon l) ≡ false → EndAtMark b → EndsValue l b
+pub ends_value : (l : List ℕ) (b : List (List ℕ)) → has_mark 1 (after_colon l) ≡ false → EndAtMark b → EndsValue l b
 ends_value l [] e h = absurd h
 ends_value l (m ∷ ms) e h = (e, h)
 

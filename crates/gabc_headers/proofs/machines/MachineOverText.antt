@@ -3,6 +3,7 @@ use Rattle.std.proofs.Common.{◌≡◌, ℕ, ◌+◌, ◌≤◌, List, [], ◌�
 use Rattle.std.proofs.Math.Seq.{take-append_seam, drop-append_seam}
 use Rattle.std.proofs.lemmas.Bool.Decides.{nat_tests}
 use Rattle.std.specs.Char.{len_utf8}
+use Rattle.gabc_places.proofs.PlacesOfAText.{next_after}
 use Rattle.gabc_places.specs.declared.place.Place.{Place}
 use Rattle.gabc_places.specs.Place.{place_after, next_place}
 use Rattle.gabc_headers.specs.declared.characters.HeaderChar.{HeaderChar}
@@ -22,10 +23,11 @@ use Rattle.gabc_headers.proofs.machines.PartsBehindState.{StandsIn, begin_line}
 use Rattle.gabc_headers.proofs.machines.OneStepByCharacter.{one_step}
 use Rattle.gabc_headers.proofs.machines.EventsAreParts.{seen, span_slice}
 use Rattle.gabc_headers.proofs.machines.PartMachineOfBytes.{moved, moved_both, step_moved, span_moved}
-use Rattle.gabc_headers.proofs.machines.SpansOfBytes.{bytes_at, bytes-append, bytes_mono, good_span, span_order}
+use Rattle.gabc_headers.proofs.machines.SpansOfBytes.{bytes_at, bytes_mono, good_span, span_order}
 use Rattle.gabc_headers.proofs.machines.EventSpansLieInText.{Near, near_fresh, near_step, drop_next, is_quiet, quiet_line}
-use Rattle.gabc_headers.proofs.stops.TextTooLong.{Begins, begins_push, place_push}
+use Rattle.gabc_headers.proofs.stops.TextTooLong.{Begins, begins_push}
 use Rattle.gabc_headers.proofs.machines.EventsAreEarlyParts.{emit_step, early_step}
+use Rattle.gabc_headers.proofs.entries.TextsAsBytes.{bytes_len-append}
 
 -- The machine has read what is done, and stands before the rest. `rd` is its part machine, with spans in characters.
 pub record MachineReads (t : List ℕ) (limit : ℕ) (done rest : List ℕ) (r : HeaderMachine) (es : List HeaderEvent) : Type 0 where
@@ -80,7 +82,7 @@ module _ (t : List ℕ) (limit : ℕ) (done rest : List ℕ) (r : HeaderMachine)
 
   -- its bytes
   pub bytes_push : bytes_len (done ++ c ∷ []) ≡ r.bytes + len_utf8 c
-  bytes_push = let a = bytes-append done (c ∷ []) in let b = h.bytes in omega arith
+  bytes_push = let a = bytes_len-append done (c ∷ []) in let b = h.bytes in omega arith
 
   -- the byte behind it
   bytes_next : r.bytes + len_utf8 c ≡ bytes_at (head_text true t) (length done + 1)
@@ -137,6 +139,6 @@ module _ (t : List ℕ) (limit : ℕ) (done rest : List ℕ) (r : HeaderMachine)
         most = h.most;
         point = (let x = h.point in omega arith);
         bytes = sym bytes_push;
-        fits = (let x = bytes-append done (c ∷ []) in omega arith);
-        place = ap (λ (p : Place). next_place p c) h.place ∙ place_push done c;
+        fits = (let x = bytes_len-append done (c ∷ []) in omega arith);
+        place = ap (λ (p : Place). next_place p c) h.place ∙ next_after done c;
       }

@@ -4,6 +4,7 @@ use Rattle.std.proofs.lemmas.Bool.Decides.{nat_tests}
 use Rattle.std.specs.Char.{len_utf8}
 use Rattle.std.specs.Str.{chars, IsUtf8}
 use Rattle.std.proofs.lemmas.Str.{chars_from_encodes, chars_past_char, chars-nil}
+use Rattle.std.proofs.lemmas.List.{nil_from_length}
 use lib.Utf8.{encodes, encode}
 use Rattle.gabc_places.specs.Place.{next_place}
 use Rattle.gabc_headers.specs.declared.part_machine.PartMachine.{PartMachine}
@@ -183,11 +184,6 @@ pub pushed : (t : List ℕ) (limit : ℕ) (bs rest : List ℕ) (r new : HeaderMa
 pushed t limit bs rest r new es c p u e f h = subst (λ (x : HeaderMachine × HeaderStep). AfterPush t limit (chars rest) es x.0 x.1) (sym f)
     (pushes t limit (chars rest) r es c (subst (λ (x : List ℕ). Following t limit x r es) (chars_past_char bs rest c u e) h))
 
--- a list of no length
-empty : (bs : List ℕ) → length bs ≡ 0 → bs ≡ []
-empty [] e = refl
-empty (b ∷ bs) e = absurd (omega arith)
-
 -- at the last byte
 pub ended : (t : List ℕ) (limit : ℕ) (bs : List ℕ) (r : HeaderMachine) (es : List HeaderEvent) (end : HeaderEnding) → length bs ≡ 0 → end ≡ end_here r → Following t limit (chars bs) r es → AreHeaderEvents limit t es end
-ended t limit bs r es end e f h = subst (λ (x : HeaderEnding). AreHeaderEvents limit t es x) (sym f) (ends t limit r es (subst (λ (x : List ℕ). Following t limit x r es) (ap chars (empty bs e) ∙ chars-nil) h))
+ended t limit bs r es end e f h = subst (λ (x : HeaderEnding). AreHeaderEvents limit t es x) (sym f) (ends t limit r es (subst (λ (x : List ℕ). Following t limit x r es) (ap chars (nil_from_length bs e) ∙ chars-nil) h))

@@ -2,7 +2,7 @@
 use Rattle.std.proofs.Common.{◌≡◌, ℕ, ◌+◌, ◌-◌, ◌<◌, ◌≤◌, suc, zero, zero-le, take_all, List, [], ◌∷◌, ◌++◌, take, drop, Bool, true, false, cond, ◌&&◌, nat_lt, nat_le, refl, sym, ap, ◌∙◌, arith, append_assoc, slice_range}
 use Rattle.std.proofs.lemmas.Bool.Decides.{nat_tests}
 use Rattle.std.proofs.lemmas.List.{take-append-drop}
-use Rattle.std.proofs.lemmas.List.Sums.{sum_by-append, sum_by-cons}
+use Rattle.std.proofs.lemmas.List.Sums.{sum_by-cons}
 use Rattle.std.proofs.lemmas.Str.{len_utf8_bounds}
 use Rattle.std.specs.Char.{len_utf8}
 use Rattle.gabc_places.specs.declared.place.Span.{Span}
@@ -13,14 +13,11 @@ use Rattle.gabc_headers.specs.machine.PartMachine.{span_of, is_good_span}
 use Rattle.gabc_headers.specs.machine.Events.{SpanHolds}
 use Rattle.gabc_headers.proofs.machines.PartMachineOfBytes.{moved_span}
 use Rattle.gabc_headers.proofs.machines.EventsAreParts.{text_at}
+use Rattle.gabc_headers.proofs.entries.TextsAsBytes.{bytes_len-append}
 
 -- the bytes before the character n
 abbrev pub bytes_at : List ℕ → ℕ → ℕ
 bytes_at text n = bytes_len (take n text)
-
--- the bytes of two texts
-pub bytes-append : (a b : List ℕ) → bytes_len (a ++ b) ≡ bytes_len a + bytes_len b
-bytes-append a b = sum_by-append len_utf8 a b
 
 -- the text up to b is the text up to a, and the part between
 pub take_split : (text : List ℕ) (a b : ℕ) → a ≤ b → take b text ≡ take a text ++ slice_range text a b
@@ -33,7 +30,7 @@ take_split (c ∷ text) (suc a) (suc b) l =
 
 -- the bytes up to b are those up to a and those between
 pub bytes_between : (text : List ℕ) (a b : ℕ) → a ≤ b → bytes_at text b ≡ bytes_at text a + bytes_len (slice_range text a b)
-bytes_between text a b l = ap bytes_len (take_split text a b l) ∙ bytes-append (take a text) (slice_range text a b)
+bytes_between text a b l = ap bytes_len (take_split text a b l) ∙ bytes_len-append (take a text) (slice_range text a b)
 
 -- a later character stands at no earlier byte
 pub bytes_mono : (text : List ℕ) (a b : ℕ) → a ≤ b → bytes_at text a ≤ bytes_at text b

@@ -1,6 +1,7 @@
 -- What a line's start says of its first mark, whatever follows.
 use Rattle.std.proofs.Common.{◌≡◌, ℕ, ◌+◌, ◌-◌, ◌≤◌, suc, zero, List, [], ◌∷◌, ◌++◌, length, Bool, true, false, ◌||◌, ◌&&◌, ◌==◌, ◌≢◌, nat_le, refl, sym, ap, ◌∙◌, arith, append_assoc, append-nil, length-append}
 use Rattle.std.proofs.lemmas.Bool.Decides.{nat_tests}
+use Rattle.std.proofs.lemmas.Bool.{and_parts}
 use Rattle.gabc_headers.specs.Lines.{mark_end, run_len, is_blank, is_bare, is_mark, has_mark, before_mark}
 use Rattle.gabc_headers.proofs.machines.TrimAsLoop.{all_out}
 
@@ -57,12 +58,6 @@ pub semis_more : (n : ℕ) (l : List ℕ) → semis n ++ 59 ∷ l ≡ semis (suc
 semis_more zero l = refl
 semis_more (suc n) l = ap (λ (x : List ℕ). 59 ∷ x) (semis_more n l)
 
--- both hold
-pub and_both : (a b : Bool) → (a && b) ≡ true → (a ≡ true) × (b ≡ true)
-and_both true true h = (refl, refl)
-and_both true false h = absurd (cc)
-and_both false b h = absurd (cc)
-
 -- a blank is no `%` and no `;`
 by_blank : (x y : Bool) (c d : ℕ) → (c == 32) ≡ x → (c == 9) ≡ y → (x || y) ≡ true → d ≢ 32 → d ≢ 9 → (c == d) ≡ false
 by_blank true y c d e f h n m = grind (arith, nat_tests)
@@ -76,13 +71,13 @@ blank_not c d h n m = by_blank (c == 32) (c == 9) c d refl refl h n m
 -- one more blank
 pub blanks_push : (b : List ℕ) (c : ℕ) → all_blank b ≡ true → is_blank c ≡ true → all_blank (b ++ c ∷ []) ≡ true
 blanks_push [] c h e = rw (e) refl
-blanks_push (d ∷ b) c h e = let g = and_both (is_blank d) (all_blank b) h in rw (g.0) (blanks_push b c g.1 e)
+blanks_push (d ∷ b) c h e = let g = and_parts (is_blank d) (all_blank b) h in rw (g.0) (blanks_push b c g.1 e)
 
 -- blanks in front change nothing of what is bare
 pub bare_blanks : (b l : List ℕ) → all_blank b ≡ true → is_bare (b ++ l) ≡ is_bare l
 bare_blanks [] l h = refl
 bare_blanks (c ∷ b) l h =
-    let g = and_both (is_blank c) (all_blank b) h in
+    let g = and_parts (is_blank c) (all_blank b) h in
     rw (blank_not c 37 g.0 (omega arith) (omega arith), g.0) (bare_blanks b l g.1)
 
 -- behind a run of `;` neither the line's end nor a `;`
@@ -108,7 +103,7 @@ pass_semis m (suc n) c l b s = pass_more m (59 ∷ []) (semis n) (c ∷ l) (pass
 pub pass_blanks : (m : ℕ) (b l : List ℕ) → all_blank b ≡ true → Passed m b l
 pass_blanks m [] l h = pass_none m l
 pass_blanks m (c ∷ b) l h =
-    let g = and_both (is_blank c) (all_blank b) h in
+    let g = and_parts (is_blank c) (all_blank b) h in
     pass_more m (c ∷ []) b l (pass_one m c (b ++ l) (rw (blank_not c 59 g.0 (omega arith) (omega arith)) refl)) (pass_blanks m b l g.1)
 
 -- enough `;`, and then what is bare
@@ -130,5 +125,5 @@ run_semis (suc n) l = let h = run_semis n l in omega arith
 pub run_blanks : (b l : List ℕ) → all_blank b ≡ true → run_len (b ++ l) ≡ length b + run_len l
 run_blanks [] l h = omega arith
 run_blanks (c ∷ b) l h =
-    let g = and_both (is_blank c) (all_blank b) h in
+    let g = and_parts (is_blank c) (all_blank b) h in
     rw (blank_not c 59 g.0 (omega arith) (omega arith), g.0) (let k = run_blanks b l g.1 in omega arith)

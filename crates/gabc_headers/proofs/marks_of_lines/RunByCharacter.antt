@@ -1,12 +1,13 @@
 -- What a line's start says of a mark, one character after the other.
 use Rattle.std.proofs.Common.{◌≡◌, ℕ, ◌+◌, ◌≤◌, suc, zero, List, [], ◌∷◌, ◌++◌, length, Bool, true, false, ◌==◌, refl, sym, ap, ◌∙◌, subst, arith, append_assoc, append-nil, length-append}
+use Rattle.std.proofs.lemmas.Bool.{and_parts}
 use Rattle.gabc_headers.specs.Lines.{mark_end, run_len, is_blank, is_bare, is_mark, has_mark, before_mark, ends_no_value, is_blank_or_lf, trim_end, trim_start, trim_value}
 use Rattle.gabc_headers.specs.declared.characters.Run.{Run}
 use Rattle.gabc_headers.specs.declared.characters.Run.TheVariants.{Text, Short, Enough, Spaced}
 use Rattle.gabc_headers.specs.declared.characters.HeaderChar.TheVariants.{Semicolon, Blank}
 use Rattle.gabc_headers.specs.machine.Characters.{is_mark_run, next_run}
 use Rattle.gabc_headers.proofs.machines.TrimAsLoop.{all_out, trim_end-all_out}
-use Rattle.gabc_headers.proofs.marks_of_lines.PrefixOfMark.{semis, all_blank, Passed, pass_none, pass_one, pass_more, mark_here, and_both, blank_not, bare_blanks, blanks_push, semis_more, pass_semis, pass_blanks, semis_mark, run_semis, run_blanks}
+use Rattle.gabc_headers.proofs.marks_of_lines.PrefixOfMark.{semis, all_blank, Passed, pass_none, pass_one, pass_more, mark_here, blank_not, bare_blanks, blanks_push, semis_more, pass_semis, pass_blanks, semis_mark, run_semis, run_blanks}
 
 -- the number of `;` that a mark wants
 abbrev pub wanted : Bool → ℕ
@@ -119,7 +120,7 @@ module _ (long : Bool) (p : List ℕ) where
       let e : h.blanks ++ c ∷ l ≡ s.3 ∷ (s.4 ++ c ∷ l) = ap (λ (x : List ℕ). x ++ c ∷ l) s.5 in
       let a : all_blank (s.3 ∷ s.4) ≡ true = ap all_blank (sym s.5) ∙ s.2 in
       let f : is_bare (s.3 ∷ (s.4 ++ c ∷ l)) ≡ false = ap is_bare (sym e) ∙ (bare_blanks h.blanks (c ∷ l) s.2 ∙ b) in
-      let g : (s.3 == 59) ≡ false = blank_not s.3 59 (and_both (is_blank s.3) (all_blank s.4) a).0 (omega arith) (omega arith) in
+      let g : (s.3 == 59) ≡ false = blank_not s.3 59 (and_parts (is_blank s.3) (all_blank s.4) a).0 (omega arith) (omega arith) in
       all_passed Spaced h (c ∷ l) (pass_more (wanted long) (semis h.count) h.blanks (c ∷ l)
       (subst (λ (x : List ℕ). Passed (wanted long) (semis h.count) x) (sym e) (pass_semis (wanted long) h.count s.3 (s.4 ++ c ∷ l) f g))
       (pass_blanks (wanted long) h.blanks (c ∷ l) s.2))
@@ -198,7 +199,7 @@ pub record Closed (long : Bool) (p l : List ℕ) : Type 0 where
 -- a run and its blanks belong to no value
 out_semis : (n : ℕ) (b : List ℕ) → all_blank b ≡ true → all_out ends_no_value (semis n ++ b) ≡ true
 out_semis zero [] h = refl
-out_semis zero (c ∷ b) h = let g = and_both (is_blank c) (all_blank b) h in rw (g.0) (out_semis zero b g.1)
+out_semis zero (c ∷ b) h = let g = and_parts (is_blank c) (all_blank b) h in rw (g.0) (out_semis zero b g.1)
 out_semis (suc n) b h = out_semis n b h
 
 -- a run that is enough is a mark where what follows is bare

@@ -1,6 +1,6 @@
 -- The places between which the findings of a text's headers lie.
 use Rattle.std.proofs.Common.{◌≡◌, ℕ, zero, suc, ◌+◌, ◌<◌, ◌≤◌, ◌&&◌, not, List, [], ◌∷◌, ◌++◌, Bool, true, false, cond, refl, sym, ap, ◌∙◌, subst, inl, inr, arith, length, take, nat_lt, filter, map, Option, Some, None, Ok, codes, lit<}
-use Rattle.gabc_places.specs.declared.code.Finding.{Finding}
+use Rattle.gabc_places.proofs.PlacesInOrder.{lie_append}
 use Rattle.gabc_places.specs.declared.code.Code.TheVariants.{W1}
 use Rattle.gabc_places.specs.declared.limits.Limits.{Limits}
 use Rattle.gabc_places.specs.declared.place.Place.{Place}
@@ -56,10 +56,6 @@ rise_between k m p q (f ∷ fs) h a l = by (nat_lt f.point p) (rise_between f.fi
         → LieBetween (line_place 1) q (map (λ (x : Known). x.finding) (cond b (f ∷ filter (λ (x : Known). nat_lt x.point p) fs) (filter (λ (x : Known). nat_lt x.point p) fs)))
     by true r = ((low, high), r)
     by false r = r
-
-lie_append : (p q : Place) (fs gs : List Finding) → LieBetween p q fs → LieBetween p q gs → LieBetween p q (fs ++ gs)
-lie_append p q [] gs h k = k
-lie_append p q (f ∷ fs) gs h k = (h.0, lie_append p q fs gs h.1 k)
 
 -- the finding of the line `%%` stands at its place
 nameless_between : (t : List ℕ) (p : ℕ) → LieBetween (line_place 1) (place_after (take (head_len t) t)) (findings_before p (name_findings t))

@@ -10,7 +10,7 @@ use Rattle.gabc_headers.specs.Lines.{lines, on_first, lines_len, head_of, has_sc
 use Rattle.gabc_headers.specs.Parts.{HeaderPart, left_out, header, name_of, ended_parts, bad_name_parts}
 use Rattle.gabc_headers.specs.witness.Parts.{LineContext, outside, within, parts, head_parts}
 use Rattle.gabc_headers.specs.Book.{is_kept, repeats, has_header, book_of}
-use Rattle.gabc_headers.specs.Heads.{head_len, findings_behind, findings_at, names_after, heads_of, findings_of, known_at, line_place}
+use Rattle.gabc_headers.specs.Heads.{head_len, findings_behind, names_after, heads_of, findings_of, known_at, line_place}
 use Rattle.gabc_headers.specs.witness.Heads.{head_findings, name_findings, heads_by, head_stops}
 
 -- findings on rising lines, all behind line k and before line m
@@ -58,24 +58,6 @@ lines_order k (f ∷ fs) h = behind f fs h.1
     behind f (g ∷ gs) h = (inl h.0, behind g gs h.1)
 
 -- ---- the parts
-
--- a finding at one line, or none
-one_line : (k : ℕ) (a b : Bool) (f g : Known) → f.finding.place.line ≡ k → g.finding.place.line ≡ k → (j : ℕ) → j < k → Rise j (k + 1) (cond a (cond b (f ∷ []) []) (g ∷ []))
-one_line k true true f g e d j l = (omega arith, omega arith)
-one_line k true false f g e d j l = omega arith
-one_line k false b f g e d j l = (omega arith, omega arith)
-
-found_line : (s : List (List ℕ)) (k : ℕ) (name v : List ℕ) (p j : ℕ) → j < k → Rise j (k + 1) (findings_at s (header k name v p))
-found_line s k name v p j l = one_line k (is_kept name v) (repeats s name) _ _ refl refl j l
-
--- the parts of lines rise: the line where the part stands, or lines from k on
-abbrev from_line : LineContext → ℕ → ℕ
-from_line outside k = k
-from_line (within j name v) k = j
-
-abbrev IsAbove : LineContext → ℕ → Type 0
-IsAbove outside k = Unit {0}
-IsAbove (within j name v) k = j < k
 
 -- a header's finding stands behind line j; a header without a name has none
 abbrev Fits : Option (List ℕ) → ℕ → ℕ → Type 0

@@ -1,6 +1,7 @@
 -- What is found before a point.
 use Rattle.std.proofs.Common.{◌≡◌, ℕ, ◌<◌, ◌≤◌, List, [], ◌∷◌, ◌++◌, Bool, true, false, cond, refl, sym, ap, ◌∙◌, arith, map, filter, nat_lt}
 use Rattle.std.proofs.lemmas.Bool.Decides.{nat_tests}
+use Rattle.std.proofs.lemmas.Bool.{le-ltb}
 use Rattle.gabc_places.specs.declared.code.Finding.{Finding}
 use Rattle.gabc_places.specs.Findings.{Known, findings_before}
 use Rattle.gabc_headers.specs.Parts.{HeaderPart, left_out, header, unended}
@@ -16,9 +17,6 @@ all_known (k ∷ ks) = k.finding ∷ all_known ks
 lt_true : (a b : ℕ) → a < b → nat_lt a b ≡ true
 lt_true a b h = grind (arith, nat_tests)
 
-le_false : (a b : ℕ) → b ≤ a → nat_lt a b ≡ false
-le_false a b h = grind (arith, nat_tests)
-
 pub known-append : (p : ℕ) (ks bs : List Known) → findings_before p (ks ++ bs) ≡ findings_before p ks ++ findings_before p bs
 known-append p [] bs = refl
 known-append p (a ∷ ks) bs = by (nat_lt a.point p) (known-append p ks bs)
@@ -32,7 +30,7 @@ pub known_one : (p q : ℕ) (f : Finding) → q < p → findings_before p ((reco
 known_one p q f h = rw (lt_true q p h) refl
 
 pub known_none : (p q : ℕ) (f : Finding) → p ≤ q → findings_before p ((record { point = q; finding = f }) ∷ []) ≡ []
-known_none p q f h = rw (le_false q p h) refl
+known_none p q f h = rw (le-ltb q p h) refl
 
 early_cases : (a b : Bool) (p m : ℕ) (f g : Finding) → m < p
     → findings_before p (cond a (cond b (record { point = m; finding = f } ∷ []) []) (record { point = m; finding = g } ∷ []))

@@ -1,12 +1,12 @@
 -- The entries of a book are trimmed and count, no name comes twice in it, and it is the book of its own entries.
 use Rattle.std.proofs.Common.{◌≡◌, ℕ, List, [], ◌∷◌, ◌++◌, Bool, true, false, cond, not, ◌||◌, ◌&&◌, bytes_eq, codes, refl, sym, ap, subst, ◌∙◌, None}
+use Rattle.std.proofs.lemmas.Bool.{or_parts}
 use Rattle.std.specs.Cmp.Lexicographic.{same_text}
 use Rattle.gabc_places.specs.Findings.{Known}
 use Rattle.gabc_headers.specs.Parts.{HeaderPart, left_out, header, unended}
 use Rattle.gabc_headers.specs.Book.{is_kept, is_one_of, repeats, unless, entries, last_value, value_of, standing_entries}
 use Rattle.gabc_headers.specs.Heads.{findings_at, names_after, findings_behind, open_line}
 use Rattle.gabc_headers.proofs.entries.TextsAsBytes.{bytes_eq_self}
-use Rattle.gabc_headers.proofs.printing.MarksInTexts.{or_false}
 use Rattle.gabc_headers.proofs.printing.EntriesAreTrimmed.{IsName, IsValue, HaveGoodHeaders}
 
 -- an entry that counts
@@ -75,11 +75,11 @@ repeats_less few many name h e = by (bytes_eq name (codes "annotation")) (is_one
 
 among_more : (few many : List (List ℕ)) (n : List ℕ) → Among few many → Among (n ∷ few) (n ∷ many)
 among_more few many n h name e =
-    let o = or_false (bytes_eq name n) (is_one_of name many) e in
+    let o = or_parts (bytes_eq name n) (is_one_of name many) e in
     ap (λ (b : Bool). b || is_one_of name few) o.0 ∙ h name o.1
 
 among_later : (few many : List (List ℕ)) (n : List ℕ) → Among few many → Among few (n ∷ many)
-among_later few many n h name e = h name (or_false (bytes_eq name n) (is_one_of name many) e).1
+among_later few many n h name e = h name (or_parts (bytes_eq name n) (is_one_of name many) e).1
 
 pub standing_once : (few many : List (List ℕ)) (es : List (List ℕ × List ℕ)) → Among few many → NoneAgain few (standing_entries many es)
 standing_once few many [] h = tt

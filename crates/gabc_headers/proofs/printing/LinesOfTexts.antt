@@ -17,10 +17,6 @@ has-append x (c ∷ a) b h g = by (c == x) h (has-append x a b)
     by true h r = absurd (cc)
     by false h r = r h g
 
--- in front of lines the first of which is there, all go on alike
-on_first-append : (c : ℕ) (l : List ℕ) (ls ms : List (List ℕ)) → on_first c ((l ∷ ls) ++ ms) ≡ on_first c (l ∷ ls) ++ ms
-on_first-append c l ls ms = refl
-
 -- behind an LF the lines of what follows begin
 pub lines_behind : (u t : List ℕ) → lines (u ++ 10 ∷ t) ≡ lines u ++ lines t
 lines_behind [] t = refl

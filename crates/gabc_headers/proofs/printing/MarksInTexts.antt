@@ -1,5 +1,6 @@
 -- Texts of several lines in which no mark of two or more `;` begins, and none of whose later lines begins with `%%`.
 use Rattle.std.proofs.Common.{◌≡◌, ℕ, ◌-◌, ◌==◌, List, [], ◌∷◌, ◌++◌, Bool, true, false, cond, ◌||◌, ◌&&◌, ◌⊎◌, inl, inr, nat_le, refl, sym, ap, subst, ◌∙◌, append_assoc, append-nil}
+use Rattle.std.proofs.lemmas.Bool.{or_parts}
 use Rattle.gabc_headers.specs.Lines.{lines, on_first, is_blank, is_bare, is_mark, has_mark, before_mark, is_blank_or_lf, ends_no_value, is_score_line}
 use Rattle.gabc_headers.specs.Groups.{HaveNoMark}
 use Rattle.gabc_headers.proofs.machines.PartsBehindState.{first_line, later_lines, lines_split}
@@ -7,10 +8,6 @@ use Rattle.gabc_headers.proofs.marks_of_lines.PrefixOfMark.{Passed, pass_none, p
 use Rattle.gabc_headers.proofs.printing.LinesOfTexts.{has}
 use Rattle.gabc_headers.proofs.printing.TrimmedTexts.{EndsWell}
 use Rattle.gabc_headers.proofs.groups.TextBeforeScore.{score_first}
-
-pub or_false : (a b : Bool) → (a || b) ≡ false → (a ≡ false) × (b ≡ false)
-or_false true b h = absurd (cc)
-or_false false b h = (refl, h)
 
 -- a character that no value ends with is no blank, no LF and no `;`
 pub record IsEnd (c : ℕ) : Type 0 where
@@ -20,8 +17,8 @@ pub record IsEnd (c : ℕ) : Type 0 where
 
 pub end_is : (c : ℕ) → ends_no_value c ≡ false → IsEnd c
 end_is c h =
-    let a = or_false (is_blank_or_lf c) (c == 59) h in
-    let b = or_false (is_blank c) (c == 10) a.0 in
+    let a = or_parts (is_blank_or_lf c) (c == 59) h in
+    let b = or_parts (is_blank c) (c == 10) a.0 in
     record { blank = b.0; feed = b.1; semi = a.1 }
 
 -- ---- a mark behind what ends well
@@ -41,7 +38,7 @@ module _ (s : List ℕ) where
   pub marks_passed : (n : ℕ) (w : List ℕ) → EndsWell ends_no_value w → has_mark n w ≡ false → Passed n w s
   marks_passed n [] h m = pass_none n s
   marks_passed n (c ∷ w) h m =
-      let o = or_false (is_mark n (c ∷ w)) (has_mark n w) m in
+      let o = or_parts (is_mark n (c ∷ w)) (has_mark n w) m in
       pass_more n (c ∷ []) w s (pass_one n c (w ++ s) (mark_more n c w h ∙ o.0)) (marks_passed n w (onward w h) o.1)
     where
       onward : (w : List ℕ) → EndsWell ends_no_value (c ∷ w) → EndsWell ends_no_value w
@@ -63,11 +60,11 @@ first_with (c ∷ w) y = by (c == 10) (first_with w y)
 
 pub first_all : (u : List ℕ) → has 10 u ≡ false → first_line u ≡ u
 first_all [] h = refl
-first_all (c ∷ u) h = let o = or_false (c == 10) (has 10 u) h in ap (λ (b : Bool). cond b [] (c ∷ first_line u)) o.0 ∙ ap (λ (x : List ℕ). c ∷ x) (first_all u o.1)
+first_all (c ∷ u) h = let o = or_parts (c == 10) (has 10 u) h in ap (λ (b : Bool). cond b [] (c ∷ first_line u)) o.0 ∙ ap (λ (x : List ℕ). c ∷ x) (first_all u o.1)
 
 first_through : (u y : List ℕ) → has 10 u ≡ false → first_line (u ++ 10 ∷ y) ≡ u
 first_through [] y h = refl
-first_through (c ∷ u) y h = let o = or_false (c == 10) (has 10 u) h in ap (λ (b : Bool). cond b [] (c ∷ first_line (u ++ 10 ∷ y))) o.0 ∙ ap (λ (x : List ℕ). c ∷ x) (first_through u y o.1)
+first_through (c ∷ u) y h = let o = or_parts (c == 10) (has 10 u) h in ap (λ (b : Bool). cond b [] (c ∷ first_line (u ++ 10 ∷ y))) o.0 ∙ ap (λ (x : List ℕ). c ∷ x) (first_through u y o.1)
 
 -- ---- no mark begins in a text
 
@@ -121,8 +118,8 @@ free_lines (c ∷ v) h = by (c == 10) (free_lines v h.1) (lines_split v) (ap (λ
 pub free_line : (a y : List ℕ) → has 10 a ≡ false → has_mark 2 a ≡ false → Free a (10 ∷ y)
 free_line [] y h m = tt
 free_line (c ∷ a) y h m =
-    let o = or_false (c == 10) (has 10 a) h in
-    let g = or_false (is_mark 2 (c ∷ a)) (has_mark 2 a) m in
+    let o = or_parts (c == 10) (has 10 a) h in
+    let g = or_parts (is_mark 2 (c ∷ a)) (has_mark 2 a) m in
     (ap (is_mark 2) (first_through (c ∷ a) y h) ∙ g.0, free_line a y o.1 g.1)
 
 -- what stands before the first mark of a line
@@ -133,7 +130,7 @@ pub record FreeBefore (n : ℕ) (l : List ℕ) : Type 0 where
 
 pub free_before : (n : ℕ) → ((x : List ℕ) → is_mark n x ≡ false → is_mark 2 x ≡ false) → (l : List ℕ) → has 10 l ≡ false → FreeBefore n l
 free_before n sub [] h = record { behind = []; parts = refl; free = tt }
-free_before n sub (c ∷ l) h = by (is_mark n (c ∷ l)) refl (free_before n sub l (or_false (c == 10) (has 10 l) h).1)
+free_before n sub (c ∷ l) h = by (is_mark n (c ∷ l)) refl (free_before n sub l (or_parts (c == 10) (has 10 l) h).1)
   where
     by : (b : Bool) → is_mark n (c ∷ l) ≡ b → FreeBefore n l → FreeBefore n (c ∷ l)
     by true e f =
@@ -160,13 +157,13 @@ mark_of_one (c ∷ x) h = by (c == 59) x h
     by : (b : Bool) (x : List ℕ) → (b && (is_bare x || is_mark 0 x)) ≡ false → (b && is_mark 1 x) ≡ false
     by false x h = refl
     by true [] h = refl
-    by true (d ∷ x) h = (or_false (is_bare (d ∷ x)) (is_mark 0 (d ∷ x)) h).1
+    by true (d ∷ x) h = (or_parts (is_bare (d ∷ x)) (is_mark 0 (d ∷ x)) h).1
 
 -- a line without marks of one has none of two
 pub no_mark_of_one : (l : List ℕ) → has_mark 1 l ≡ false → has_mark 2 l ≡ false
 no_mark_of_one [] h = refl
 no_mark_of_one (c ∷ l) h =
-    let o = or_false (is_mark 1 (c ∷ l)) (has_mark 1 l) h in
+    let o = or_parts (is_mark 1 (c ∷ l)) (has_mark 1 l) h in
     ap (λ (b : Bool). b || has_mark 2 l) (mark_of_one (c ∷ l) o.0) ∙ no_mark_of_one l o.1
 
 -- ---- no later line begins with `%%`
@@ -196,7 +193,7 @@ no_score_back (c ∷ a) b h = no_score_back a b h.1
 pub no_score_line : (a b : List ℕ) → has 10 a ≡ false → NoScore b → NoScore (a ++ b)
 no_score_line [] b h g = g
 no_score_line (c ∷ a) b h g =
-    let o = or_false (c == 10) (has 10 a) h in
+    let o = or_parts (c == 10) (has 10 a) h in
     (λ e. absurd (let f = sym o.0 ∙ e in cc), no_score_line a b o.1 g)
 
 -- lines none of which begins with `%%`

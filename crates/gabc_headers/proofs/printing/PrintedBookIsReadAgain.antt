@@ -2,6 +2,7 @@
 use Rattle.std.proofs.Common.{◌≡◌, ℕ, ◌+◌, ◌<◌, ◌≤◌, List, [], ◌∷◌, ◌++◌, Bool, true, false, cond, not, ◌||◌, ◌&&◌, codes, length, length-append, take, nat_lt, map, refl, sym, ap, subst, ◌∙◌, append_assoc, append-nil, arith, Option, None, Ok}
 use Rattle.std.proofs.lemmas.Bool.Decides.{nat_tests}
 use Rattle.std.proofs.Math.Seq.{take-append_seam, take-append-add}
+use Rattle.gabc_places.proofs.NothingBehindAnEnd.{both_empty}
 use Rattle.gabc_places.specs.declared.limits.Limits.{Limits}
 use Rattle.gabc_places.specs.LargerLimits.{AreNoLess}
 use Rattle.gabc_places.specs.declared.place.Place.{Place}
@@ -90,10 +91,6 @@ within limit n s h = by (nat_lt limit n) h
     by : (b : Bool) → cond b (s ∷ []) [] ≡ [] → b ≡ false
     by true e = absurd (cc)
     by false e = refl
-
-nothing_both : {X : Type 0} (xs ys : List X) → xs ++ ys ≡ [] → (xs ≡ []) × (ys ≡ [])
-nothing_both [] ys h = (refl, h)
-nothing_both (x ∷ xs) ys h = absurd (cc)
 
 -- one finding at most, and its point is early
 one_found : (b : Bool) (f : Finding) (p stop : ℕ) → p < stop → findings_before stop (cond b (record { point = p; finding = f } ∷ []) []) ≡ cond b (f ∷ []) []
@@ -214,7 +211,7 @@ within_limits : (limits : Limits) (t : List ℕ) (heads : Heads) → heads_of li
 within_limits limits t heads ok =
     let (groups, cut) = some_groups (head_of (lines t)) in
     let none = none_apart limits t [] heads ok in
-    let above = nothing_both _ _ (nothing_both (open_stops (head_len t + 1) (open_line (head_parts t))) (score_stops limits t) none.1).1 in
+    let above = both_empty _ _ (both_empty (open_stops (head_len t + 1) (open_line (head_parts t))) (score_stops limits t) none.1).1 in
     let all : AreEntries (entries (head_parts t)) = subst (λ (x : List HeaderPart). AreEntries (entries x)) (sym (groups_tell groups 1 0 (head_of (lines t)) cut))
     (entries_good (parts_of_groups 1 0 groups) (good_parts groups (head_of (lines t)) 1 0 cut (head_lines t))) in
     subst (IsWithinLimits limits) (sym (whole (head_stops limits t) ok)) (record {

@@ -1,5 +1,6 @@
 -- The printed lines of an entry are one group, which tells the entry.
 use Rattle.std.proofs.Common.{◌≡◌, ℕ, ◌==◌, List, [], ◌∷◌, ◌++◌, Bool, true, false, cond, ◌||◌, codes, refl, sym, ap, subst, ◌∙◌, append_assoc, append-nil, Some, None}
+use Rattle.std.proofs.lemmas.Bool.{or_parts}
 use Rattle.gabc_headers.specs.Lines.{lines, on_first, is_bare, has_mark, before_mark, has_colon, before_colon, after_colon, is_blank_or_lf, ends_no_value, trim_start, unless_last, trim_name, trim_value, is_score_line}
 use Rattle.gabc_headers.specs.Parts.{good_name, name_of}
 use Rattle.gabc_headers.specs.Groups.{EndAtMark, HaveNoMark, BeginsHeader, EndsValue, value_below, value_text}
@@ -8,8 +9,9 @@ use Rattle.gabc_headers.proofs.machines.PartsBehindState.{first_line, later_line
 use Rattle.gabc_headers.proofs.marks_of_lines.PrefixOfMark.{mark_here}
 use Rattle.gabc_headers.proofs.printing.LinesOfTexts.{has, has-append, lines_behind, one_line, with_last, lines_with, below_text, lines_joined}
 use Rattle.gabc_headers.proofs.printing.TrimmedTexts.{EndsWell, start_kept, end_kept}
-use Rattle.gabc_headers.proofs.printing.MarksInTexts.{or_false, end_is, marks_passed, free_lines, AreNoScore, later_no_score}
+use Rattle.gabc_headers.proofs.printing.MarksInTexts.{end_is, marks_passed, free_lines, AreNoScore, later_no_score}
 use Rattle.gabc_headers.proofs.printing.EntriesAreTrimmed.{IsName, IsValue}
+use Rattle.gabc_headers.proofs.groups.GroupsAreUnique.{ends_value}
 
 -- the lines that are printed of an entry: those of a group that tells it, of which none begins with `%%`
 pub record PrintedEntry (e : List ℕ × List ℕ) : Type 0 where
@@ -38,7 +40,7 @@ colon_behind (c ∷ name) x h = by (c == 58) h (colon_behind name x)
 -- what is not bare does not begin with `%`
 bare_score : (l : List ℕ) → is_bare l ≡ false → is_score_line l ≡ false
 bare_score [] h = refl
-bare_score (c ∷ l) h = rw (or_false (c == 37) _ h).0 refl
+bare_score (c ∷ l) h = rw (or_parts (c == 37) _ h).0 refl
 
 record FirstLine (name x : List ℕ) : Type 0 where
   begins : BeginsHeader (name ++ 58 ∷ x)
@@ -157,10 +159,6 @@ last_no_score [] h = tt
 last_no_score (l ∷ []) h = (score_semis l h.0, tt)
 last_no_score (l ∷ m ∷ ls) h = (h.0, last_no_score (m ∷ ls) h.1)
 
-below_ends : (l : List ℕ) (ls : List (List ℕ)) → has_mark 1 (after_colon l) ≡ false → EndAtMark ls → EndsValue l ls
-below_ends l [] h e = absurd e
-below_ends l (m ∷ ms) h e = (h, e)
-
 below_value : (l : List ℕ) (ls : List (List ℕ)) → EndAtMark ls → value_text l ls ≡ after_colon l ++ value_below ls
 below_value l [] e = absurd e
 below_value l (m ∷ ms) e = refl
@@ -189,7 +187,7 @@ printed_lined name v c g w wants =
           ∙ ap (λ (x : List (List ℕ)). first ∷ x) (lines_behind ((32 ∷ c ∷ v) ++ 59 ∷ 59 ∷ []) t
           ∙ ap (λ (x : List (List ℕ)). x ++ lines t) (lines_with (32 ∷ c ∷ v) (59 ∷ 59 ∷ []) refl ∙ ap (with_last (59 ∷ 59 ∷ [])) blank));
       begins = f.begins;
-      ends = below_ends first below (ap (has_mark 1) f.after) closed.ends;
+      ends = ends_value first below (ap (has_mark 1) f.after) closed.ends;
       name_is = f.name_is;
       value_is = ap trim_value (below_value first below closed.ends ∙ ap (λ (x : List ℕ). x ++ value_below below) f.after ∙ closed.text ∙ value) ∙ feed_first c v w;
       no_score = (f.no_score, last_no_score ((32 ∷ l) ∷ later) (refl, later_no_score (c ∷ v) w.no_score));

@@ -11,12 +11,12 @@ use Rattle.gabc_places.specs.BoundedList.{BoundedList, extended_by}
 use Rattle.gabc_places.specs.Text.{decoded_of, text_of_bytes}
 use Rattle.gabc_places.proofs.ChainKeepsEvents.{joined-regrouped}
 use Rattle.gabc_places.proofs.texts.TextsAreScalars.{text_scalars}
+use Rattle.gabc_places.proofs.decoding.PlainTextsAreReadAgain.{all_scalars}
 use Rattle.gabc_headers.specs.declared.head_event.HeadEvent.{HeadEvent}
 use Rattle.gabc_headers.specs.declared.head_event.HeadEvent.TheVariants.{Body}
 use Rattle.gabc_headers.specs.Heads.{heads_of}
 use Rattle.gabc_headers.specs.HeadEvents.{events_of_heads}
 use Rattle.gabc_headers.specs.witness.HeadEvents.{HeadProgress, reading, behind, over, IsBehind, events_left, events_of_input}
-use Rattle.gabc_headers.proofs.entries.TextsAsBytes.{all_scalars}
 use Rattle.gabc_headers.proofs.prefixes.EventsMakeHeads.{events_make_heads}
 
 -- ---- both stages

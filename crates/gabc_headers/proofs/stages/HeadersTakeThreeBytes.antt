@@ -142,17 +142,6 @@ named k bytes next r l h true q = by (nat_lt r.trim.to r.trim.from) refl
         let g : r.trim.from < r.trim.to = grind (arith, nat_tests) in
         let a = h.0 in let b = h.2 in omega (arith, a, b, g, l)
 
-left_out : (b : Bool) (k p : ℕ) → header_count (cond b None (Some (LeftOut k p))) ≡ 0
-left_out true k p = refl
-left_out false k p = refl
-
-left_out_not : (b : Bool) (k p : ℕ) → header_count (cond b (Some (LeftOut k p)) None) ≡ 0
-left_out_not true k p = refl
-left_out_not false k p = refl
-
-at_start : (k bytes next : ℕ) → 3 * k ≤ bytes → bytes ≤ next → (3 * k ≤ next) × (next ≤ next) × (next ≤ next)
-at_start k bytes next h l = (omega arith, omega arith, omega arith)
-
 abbrev IsSpentBy : ℕ → ℕ → PartMachine × Option HeaderEvent → Type 0
 IsSpentBy k bytes x = IsSpent (k + header_count x.1) bytes x.0
 

@@ -10,6 +10,7 @@ use Rattle.gabc_places.specs.declared.code.Finding.{Finding}
 use Rattle.gabc_places.specs.declared.limits.Limits.{Limits}
 use Rattle.gabc_places.specs.Place.{place_after}
 use Rattle.gabc_places.proofs.texts.PlacesOfCharacters.{placed-append}
+use Rattle.gabc_places.proofs.decoding.PlainTextsAreReadAgain.{all_scalars}
 use Rattle.gabc_headers.specs.declared.head_event.HeadEvent.{HeadEvent}
 use Rattle.gabc_headers.specs.declared.head_event.HeadEvent.TheVariants.{Found, Stop, Body, Heads, End}
 use Rattle.gabc_headers.specs.declared.heads.Heads.{Heads as ReadHeads}
@@ -18,7 +19,6 @@ use Rattle.gabc_headers.specs.Heads.{findings_of}
 use Rattle.gabc_headers.specs.HeadEvents.{emitted_by, events_of_broken, inputs_behind}
 use Rattle.gabc_headers.specs.HeldText.{IsHeld, findings_held}
 use Rattle.gabc_headers.specs.witness.HeadEvents.{HeadProgress, reading, events_by, events_left, events_of_input, new_findings, progress_by}
-use Rattle.gabc_headers.proofs.entries.TextsAsBytes.{all_scalars}
 use Rattle.gabc_headers.proofs.prefixes.EventsMakeHeads.{open_progress}
 use Rattle.gabc_headers.proofs.prefixes.EventsNeedNoEnd.{broken_gives, progress_past, standing, with_input}
 

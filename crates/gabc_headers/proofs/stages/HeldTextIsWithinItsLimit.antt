@@ -4,7 +4,7 @@ use Rattle.std.specs.Option.{option_map}
 use Rattle.std.specs.Char.{len_utf8}
 use Rattle.std.specs.List.{All, Contains}
 use Rattle.std.proofs.Math.Seq.{take-suc, take-length, drop-append_seam}
-use Rattle.std.proofs.lemmas.Bool.{and_parts}
+use Rattle.std.proofs.lemmas.Bool.{and_parts, ltb-true, ltb-false, eqb-true}
 use Rattle.std.proofs.lemmas.Bool.Decides.{nat_tests}
 use Rattle.std.proofs.lemmas.List.{get_or_append_left}
 use Rattle.std.proofs.lemmas.List.Elements.{All-append, All-contains, All-cons, All-nil, All-head}
@@ -31,12 +31,6 @@ use Rattle.gabc_headers.proofs.stops.PointsOfStops.{above_within, score_within}
 
 -- ---- the character above the limit
 
-lt_is : (a b : ℕ) → nat_lt a b ≡ true → a < b
-lt_is a b e = grind (arith, nat_tests)
-
-not_lt : (a b : ℕ) → nat_lt a b ≡ false → b ≤ a
-not_lt a b e = grind (arith, nat_tests)
-
 -- what stands before it is within the limit, and with it the text is above
 pub record IsAbove (limit : ℕ) (t : List ℕ) (i : ℕ) : Type 0 where
   pub before : bytes_len (take i t) ≤ limit
@@ -51,7 +45,7 @@ above_at limit (c ∷ t) i e = by (λ n. above_at (limit - len_utf8 c) t n) (nat
     more again f (Some n) g h =
         let there = again n g in
         let same : suc n ≡ i = let k : n + 1 ≡ i = cc in omega arith in
-        let fits = not_lt limit (len_utf8 c) f in
+        let fits = ltb-false limit (len_utf8 c) f in
         subst (IsAbove limit (c ∷ t)) same
         (record {
           before = let s = sum_by-cons len_utf8 c (take n t) in omega (arith, there.before);
@@ -62,7 +56,7 @@ above_at limit (c ∷ t) i e = by (λ n. above_at (limit - len_utf8 c) t n) (nat
         → cond b (Some 0) (option_map (λ (n : ℕ). n + 1) (first_above (limit - len_utf8 c) t)) ≡ Some i → IsAbove limit (c ∷ t) i
     by again true f g =
         let same : 0 ≡ i = cc in
-        let above = lt_is limit (len_utf8 c) f in
+        let above = ltb-true limit (len_utf8 c) f in
         subst (IsAbove limit (c ∷ t)) same (record { before = omega arith; above = omega (arith, above) })
     by again false f g = more again f (first_above (limit - len_utf8 c) t) refl g
 
@@ -74,7 +68,7 @@ none_above limit (c ∷ t) e = by (none_above (limit - len_utf8 c) t) (nat_lt li
     more : (first_above (limit - len_utf8 c) t ≡ None → bytes_len t ≤ limit - len_utf8 c) → nat_lt limit (len_utf8 c) ≡ false → (o : Option ℕ) → first_above (limit - len_utf8 c) t ≡ o → option_map (λ (n : ℕ). n + 1) o ≡ None → bytes_len (c ∷ t) ≤ limit
     more again f None g h =
         let rest = again g in
-        let fits = not_lt limit (len_utf8 c) f in
+        let fits = ltb-false limit (len_utf8 c) f in
         let s = sum_by-cons len_utf8 c t in omega (arith, rest, fits, s)
     more again f (Some n) g h = absurd (cc)
 
@@ -91,9 +85,6 @@ last_at t i e =
     let n : suc i ≡ length t = omega (arith, e) in
     sym (take-length t) ∙ ap (λ (k : ℕ). take k t) (sym n) ∙ take-suc t i 0 (omega (arith, e))
 
-same_is : (a b : ℕ) → (a == b) ≡ true → a ≡ b
-same_is a b e = grind (arith, nat_tests)
-
 -- a text with an LF and a `%` at its end, of which the `%` alone is above the limit
 ends_above : (limit : ℕ) (u : List ℕ) → bytes_len u + 1 ≡ limit → drop (limit - 1) (encode_utf8_all (u ++ 10 ∷ 37 ∷ [])) ≡ codes "\n%"
 unfolding encode
@@ -104,12 +95,12 @@ ends_above limit u e =
 -- where the last character is a `%` that begins a line and is above the limit
 percent_above : (limit : ℕ) (t : List ℕ) (i : ℕ) → 1 ≤ limit → i + 1 ≡ length t → is_line_percent t i ≡ true → IsAbove limit t i → drop (limit - 1) (encode_utf8_all t) ≡ codes "\n%"
 percent_above limit t zero some e line above =
-    let percent = same_is (get_or t 0 0) 37 (and_parts (get_or t 0 0 == 37) _ line).0 in
+    let percent = eqb-true (get_or t 0 0) 37 (and_parts (get_or t 0 0 == 37) _ line).0 in
     let most = above.above in
     absurd (let one : len_utf8 (get_or t 0 0) ≡ 1 = ap len_utf8 percent in omega (arith, some, most, one))
 percent_above limit t (suc j) some e line above =
     let parts = and_parts (get_or t (suc j) 0 == 37) ((suc j == 0) || (get_or t (suc j - 1) 0 == 10)) line in
-    let percent = same_is (get_or t (suc j) 0) 37 parts.0 in
+    let percent = eqb-true (get_or t (suc j) 0) 37 parts.0 in
     let before : suc j - 1 ≡ j = omega arith in
     let feed : get_or t j 0 ≡ 10 = grind (arith, nat_tests, parts.1, before) in
     let front : take (suc j) t ≡ take j t ++ 10 ∷ [] = take-suc t j 0 (omega (arith, e)) ∙ ap (λ (c : ℕ). take j t ++ c ∷ []) feed in
@@ -203,9 +194,9 @@ module _ (limits : Limits) (t : List ℕ) (some : 1 ≤ limits.header) (r : Stop
 
   by_percent : (i : ℕ) → first_above limits.header t ≡ Some i → (b d : Bool) → is_line_percent t i ≡ b → nat_lt (i + 1) (length t) ≡ d
       → All (IsNoLater r) (cond b (cond d (stop_at (i + 1) (place_after (take i t)) F4 ∷ []) []) (stop_at i (place_after (take i t)) F4 ∷ [])) → IsWithinHeaders limits.header (encode_utf8_all t)
-  by_percent i e true true line more all = absurd (let less = lt_is (i + 1) (length t) more in past (i + 1) (place_after (take i t)) (All-head (IsNoLater r) _ [] all) less)
+  by_percent i e true true line more all = absurd (let less = ltb-true (i + 1) (length t) more in past (i + 1) (place_after (take i t)) (All-head (IsNoLater r) _ [] all) less)
   by_percent i e true false line more all =
-      let last : i + 1 ≡ length t = omega (arith, above_within limits.header t i e, not_lt (i + 1) (length t) more) in
+      let last : i + 1 ≡ length t = omega (arith, above_within limits.header t i e, ltb-false (i + 1) (length t) more) in
       inr (percent_above limits.header t i some last line (above_at limits.header t i e))
   by_percent i e false d line more all = absurd (past i (place_after (take i t)) (All-head (IsNoLater r) _ [] all) (above_within limits.header t i e))
 
@@ -228,4 +219,4 @@ held_within found least limits t some held = by (earliest (head_stops limits t))
     by None e h = absurd (cc)
     by (Some r) e h =
         let is : (r.point == length t) ≡ true = ap at_end_of h ∙ held.at_end in
-        within limits t some r (found (head_stops limits t) r e) (least (head_stops limits t) r e) (same_is r.point (length t) is)
+        within limits t some r (found (head_stops limits t) r e) (least (head_stops limits t) r e) (eqb-true r.point (length t) is)

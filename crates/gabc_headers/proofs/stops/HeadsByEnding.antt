@@ -1,6 +1,6 @@
 -- The headers of a text by how the reading of it ends.
 use Rattle.std.proofs.Common.{◌≡◌, ℕ, ◌+◌, ◌<◌, ◌≤◌, ◌==◌, ◌&&◌, not, List, [], ◌∷◌, ◌++◌, Bool, true, false, cond, refl, sym, ap, ◌∙◌, arith, codes, nat_lt, length, take, Option, Some, None, Ok, Err, append-nil}
-use Rattle.std.proofs.lemmas.Bool.Decides.{nat_tests}
+use Rattle.gabc_places.proofs.NumbersByTests.{below_eqb, same_eqb}
 use Rattle.gabc_places.specs.declared.place.Place.{Place}
 use Rattle.gabc_places.specs.declared.limits.Limits.{Limits}
 use Rattle.gabc_places.specs.declared.code.Finding.{Finding}
@@ -19,12 +19,6 @@ use Rattle.gabc_headers.specs.machine.Collected.{heads_at_body}
 use Rattle.gabc_headers.specs.machine.Events.{AreEarly, AreLate}
 use Rattle.gabc_headers.proofs.order.FoundBeforeAPoint.{all_known, known-append, known_one, known_none, early_all, still_early}
 use Rattle.gabc_headers.proofs.stops.PointsOfStops.{AllBehind, behind-append, limit_within, first_earliest, open_first, size_first, score_within}
-
-pub not_eq : (a b : ℕ) → a < b → (a == b) ≡ false
-not_eq a b h = grind (arith, nat_tests)
-
-same_eq : (p : ℕ) → (p == p) ≡ true
-same_eq p = grind (arith, nat_tests)
 
 -- ---- what is found before a point
 
@@ -78,7 +72,7 @@ score_open limits t events rest k e a b s n o =
     let w = score_within t s in
     faulted limits t (stop_at (head_len t + 1) (line_place k) F3) (all_known (findings_behind [] events)) false
     (ap (λ (x : List Stop). earliest x) (stops_score limits t (Some k) s n o) ∙ (open_first (head_len t + 1) (line_place k) (place_after (take (head_len t) t)) (nat_lt limits.header (bytes_len (header_lines (book_of (head_parts t))))) (nat_lt limits.input (bytes_len (header_lines (book_of (head_parts t))) + 3))))
-    (before t (head_len t + 1) events rest e a b (omega arith)) (not_eq (head_len t + 1) (length t) (omega arith))
+    (before t (head_len t + 1) events rest e a b (omega arith)) (below_eqb (head_len t + 1) (length t) (omega arith))
 
 -- an open value at the end
 pub text_open : (limits : Limits) (t : List ℕ) (events rest : List HeaderPart) (k : ℕ) → head_parts t ≡ events ++ rest → AreEarly (length t) events → AreLate (length t) rest
@@ -87,7 +81,7 @@ pub text_open : (limits : Limits) (t : List ℕ) (events rest : List HeaderPart)
 text_open limits t events rest k e a b s n o =
     let l = head_text t s in
     faulted limits t (stop_at (length t) (line_place k) F3) (all_known (findings_behind [] events)) true
-    (ap (λ (x : List Stop). earliest x) (stops_text limits t (Some k) s n o)) (before t (length t) events rest e a b (omega arith)) (same_eq (length t))
+    (ap (λ (x : List Stop). earliest x) (stops_text limits t (Some k) s n o)) (before t (length t) events rest e a b (omega arith)) (same_eqb (length t))
 
 -- no line `%%`
 pub text_ended : (limits : Limits) (t : List ℕ) (events rest : List HeaderPart) → head_parts t ≡ events ++ rest → AreEarly (length t) events → AreLate (length t) rest
@@ -96,7 +90,7 @@ pub text_ended : (limits : Limits) (t : List ℕ) (events rest : List HeaderPart
 text_ended limits t events rest e a b s n o =
     let l = head_text t s in
     faulted limits t (stop_at (length t) (place_after t) F2) (all_known (findings_behind [] events)) true
-    (ap (λ (x : List Stop). earliest x) (stops_text limits t None s n o)) (before t (length t) events rest e a b (omega arith)) (same_eq (length t))
+    (ap (λ (x : List Stop). earliest x) (stops_text limits t None s n o)) (before t (length t) events rest e a b (omega arith)) (same_eqb (length t))
 
 open_behind : (p q : ℕ) (o : Option ℕ) → p < q → AllBehind p (open_stops q o)
 open_behind p q None h = tt
@@ -133,7 +127,7 @@ text_limit limits t events rest p place e a b n =
     let m : p ≤ head_len t = w.1 in
     faulted limits t (stop_at p place F4) (all_known (findings_behind [] events)) false
     (rw n (first_earliest (stop_at p place F4) _ (others_behind limits t p l m)))
-    (before t p events rest e a b (omega arith)) (not_eq p (length t) l)
+    (before t p events rest e a b (omega arith)) (below_eqb p (length t) l)
 
 pub sizes_first : (p : ℕ) (b : Place) (x y : Bool) → earliest (cond x (stop_at p b F4 ∷ []) [] ++ cond y (stop_at p b F7 ∷ []) []) ≡ cond x (Some (stop_at p b F4)) (cond y (Some (stop_at p b F7)) None)
 sizes_first p b true y = size_first p b y
@@ -169,7 +163,7 @@ score_ended limits t events e a s n o =
         ≡ heads_by t (Some (stop_at (head_len t + 1) (place_after (take (head_len t) t)) c))
     fault c = sym (ap (λ (x : List Finding). Err (record { fault = record { place = place_after (take (head_len t) t); code = c }; findings = x; at_end = (head_len t + 1) == length t }))
         (before t (head_len t + 1) events [] (e ∙ sym (append-nil events)) a tt (omega arith))
-        ∙ ap (λ (b : Bool). Err (record { fault = record { place = place_after (take (head_len t) t); code = c }; findings = all_known (findings_behind [] events); at_end = b })) (not_eq (head_len t + 1) (length t) (let w = score_within t s in omega arith)))
+        ∙ ap (λ (b : Bool). Err (record { fault = record { place = place_after (take (head_len t) t); code = c }; findings = all_known (findings_behind [] events); at_end = b })) (below_eqb (head_len t + 1) (length t) (let w = score_within t s in omega arith)))
 
     by : (x y : Bool) → cond x (Err (record { fault = record { place = place_after (take (head_len t) t); code = F4 }; findings = all_known (findings_behind [] events); at_end = false }))
         (cond y (Err (record { fault = record { place = place_after (take (head_len t) t); code = F7 }; findings = all_known (findings_behind [] events); at_end = false }))

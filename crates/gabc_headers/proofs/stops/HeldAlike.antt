@@ -1,9 +1,9 @@
 -- A text of headers that is held, under other limits that are no less than its bytes.
-use Rattle.std.proofs.Common.{◌≡◌, ◌≢◌, ℕ, ◌+◌, ◌-◌, ◌<◌, ◌≤◌, suc, zero, List, [], ◌∷◌, Bool, true, false, cond, refl, sym, ap, ◌∙◌, arith, nat_lt, length, take, Option, Some, None, Err}
+use Rattle.std.proofs.Common.{◌≡◌, ℕ, ◌+◌, ◌-◌, ◌<◌, ◌≤◌, suc, zero, List, [], ◌∷◌, Bool, true, false, cond, refl, sym, ap, ◌∙◌, arith, nat_lt, length, take, Option, Some, None, Err}
 use Rattle.std.specs.Option.{option_map}
 use Rattle.std.specs.Char.{len_utf8}
-use Rattle.std.proofs.lemmas.List.Sums.{sum_by-cons}
 use Rattle.std.proofs.lemmas.Bool.Decides.{nat_tests}
+use Rattle.gabc_places.proofs.NumbersByTests.{below_eqb}
 use Rattle.gabc_places.specs.declared.limits.Limits.{Limits}
 use Rattle.gabc_places.specs.Findings.{Stop}
 use Rattle.gabc_headers.specs.HeldText.{IsHeld}
@@ -14,30 +14,27 @@ use Rattle.gabc_headers.specs.declared.heads.HeadFault.{HeadFault}
 use Rattle.gabc_headers.specs.Heads.{head_len, open_line, first_above, too_long, text_stops, heads_of}
 use Rattle.gabc_headers.specs.witness.Heads.{heads_by}
 use Rattle.gabc_headers.specs.witness.Parts.{head_parts}
-use Rattle.gabc_headers.proofs.stops.HeadsByEnding.{not_eq}
-use Rattle.gabc_headers.proofs.stops.LargerLimits.{earliest_of, heads_are, same_fault, stop_of}
+use Rattle.gabc_headers.proofs.stops.LargerLimits.{earliest_of, heads_are, same_fault}
 use Rattle.gabc_headers.proofs.stops.PointsOfStops.{score_within}
-
-one_more : (c : ℕ) (t : List ℕ) → bytes_len (c ∷ t) ≡ len_utf8 c + bytes_len t
-one_more c t = sum_by-cons len_utf8 c t
+use Rattle.gabc_headers.proofs.entries.TextsAsBytes.{bytes_len-cons}
 
 take_bytes : (n : ℕ) (t : List ℕ) → bytes_len (take n t) ≤ bytes_len t
 take_bytes zero t = omega arith
 take_bytes (suc n) [] = omega arith
-take_bytes (suc n) (c ∷ t) = let h : bytes_len (take n t) ≤ bytes_len t = take_bytes n t in omega (arith, one_more c (take n t), one_more c t)
+take_bytes (suc n) (c ∷ t) = let h : bytes_len (take n t) ≤ bytes_len t = take_bytes n t in omega (arith, bytes_len-cons c (take n t), bytes_len-cons c t)
 
-none_above : (limit : ℕ) (t : List ℕ) → bytes_len t ≤ limit → first_above limit t ≡ None
+pub none_above : (limit : ℕ) (t : List ℕ) → bytes_len t ≤ limit → first_above limit t ≡ None
 none_above limit [] h = refl
 none_above limit (c ∷ t) h =
-    let within : nat_lt limit (len_utf8 c) ≡ false = let all = one_more c t in grind (arith, nat_tests) in
-    let rest : first_above (limit - len_utf8 c) t ≡ None = none_above (limit - len_utf8 c) t (omega (arith, one_more c t)) in
+    let within : nat_lt limit (len_utf8 c) ≡ false = let all = bytes_len-cons c t in grind (arith, nat_tests) in
+    let rest : first_above (limit - len_utf8 c) t ≡ None = none_above (limit - len_utf8 c) t (omega (arith, bytes_len-cons c t)) in
     ap (λ (b : Bool). cond b (Some 0) (option_map (λ (n : ℕ). n + 1) (first_above (limit - len_utf8 c) t))) within ∙ ap (option_map (λ (n : ℕ). n + 1)) rest
 
 not_long : (limit : ℕ) (t : List ℕ) → bytes_len t ≤ limit → text_stops limit t ≡ []
 not_long limit t h = let few = take_bytes (head_len t) t in ap (too_long t) (none_above limit (take (head_len t) t) (omega arith))
 
 ends_inside : (t : List ℕ) (s : Stop) (f : HeadFault) → s.point < length t → heads_by t (Some s) ≡ Err f → f.at_end ≡ true → true ≡ false
-ends_inside t s f l e end = sym end ∙ (sym (ap (λ (f : HeadFault). f.at_end) (same_fault _ f e)) ∙ not_eq s.point (length t) l)
+ends_inside t s f l e end = sym end ∙ (sym (ap (λ (f : HeadFault). f.at_end) (same_fault _ f e)) ∙ below_eqb s.point (length t) l)
 
 -- with a line `%%` the headers are not stopped by the end
 never_at_end : (t : List ℕ) (f : HeadFault) (o : Option ℕ) (x y : Bool) → head_len t + 2 ≤ length t → heads_by t (earliest_of t true o x y) ≡ Err f → f.at_end ≡ true → true ≡ false

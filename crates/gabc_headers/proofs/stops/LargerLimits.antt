@@ -3,6 +3,7 @@ use Rattle.std.proofs.Common.{◌≡◌, ℕ, ◌+◌, ◌-◌, ◌<◌, ◌≤�
 use Rattle.std.specs.Option.{option_map}
 use Rattle.std.specs.Char.{len_utf8}
 use Rattle.std.proofs.lemmas.Bool.Decides.{nat_tests}
+use Rattle.gabc_places.proofs.NumbersByTests.{below_eqb}
 use Rattle.gabc_places.specs.declared.place.Place.{Place}
 use Rattle.gabc_places.specs.declared.limits.Limits.{Limits}
 use Rattle.gabc_places.specs.declared.code.Code.TheVariants.{F2, F3, F4, F7}
@@ -19,7 +20,7 @@ use Rattle.gabc_headers.specs.Heads.{head_len, open_line, line_place, stop_at, f
 use Rattle.gabc_headers.specs.witness.Heads.{score_stops, head_stops, heads_by}
 use Rattle.gabc_headers.specs.witness.Parts.{head_parts}
 use Rattle.gabc_headers.proofs.stops.PointsOfStops.{above_within, limit_within, first_earliest, open_first, score_within}
-use Rattle.gabc_headers.proofs.stops.HeadsByEnding.{not_eq, others_behind, sizes_first}
+use Rattle.gabc_headers.proofs.stops.HeadsByEnding.{others_behind, sizes_first}
 
 -- ---- the text before the line `%%`
 
@@ -172,7 +173,7 @@ same_fault a b e = cc
 
 -- a stop in front of the end
 inside_before : (t : List ℕ) (s : Stop) → s.point < length t → IsInside t (Some s)
-inside_before t s l stop e long = sym (ap (λ (f : HeadFault). f.at_end) (same_fault _ stop e)) ∙ not_eq s.point (length t) l
+inside_before t s l stop e long = sym (ap (λ (f : HeadFault). f.at_end) (same_fault _ stop e)) ∙ below_eqb s.point (length t) l
 
 -- a stop that is not too long
 inside_other : (t : List ℕ) (s : Stop) → is_too_long s.fault.code ≡ false → IsInside t (Some s)

@@ -3,6 +3,7 @@ use Rattle.std.proofs.Common.{◌≡◌, ℕ, ◌+◌, ◌<◌, ◌≤◌, List,
 use Rattle.std.proofs.Math.Seq.{take-append-add}
 use Rattle.std.proofs.lemmas.Bool.Decides.{nat_tests}
 use Rattle.std.specs.Char.{len_utf8}
+use Rattle.gabc_places.proofs.PlacesOfAText.{next_after}
 use Rattle.gabc_places.specs.declared.place.Place.{Place}
 use Rattle.gabc_places.specs.declared.code.Code.TheVariants.{F4}
 use Rattle.gabc_places.specs.Place.{place_after, next_place}
@@ -22,10 +23,10 @@ use Rattle.gabc_headers.proofs.machines.PartsBehindState.{StandsIn}
 use Rattle.gabc_headers.proofs.machines.OneStepByCharacter.{the_end}
 use Rattle.gabc_headers.proofs.machines.EventsAreParts.{seen, last_in}
 use Rattle.gabc_headers.proofs.machines.EventSpansLieInText.{Near, drop_next, near_step, near_last, later, late_seen, open_late, quiet_event, quiet_open, quiet_last}
-use Rattle.gabc_headers.proofs.stops.TextTooLong.{take_head, stops_none, stops_here, stops_held, place_push}
-use Rattle.gabc_headers.proofs.machines.SpansOfBytes.{bytes-append}
+use Rattle.gabc_headers.proofs.stops.TextTooLong.{take_head, stops_none, stops_here, stops_held}
 use Rattle.gabc_headers.proofs.machines.EventsAreEarlyParts.{earlies_weak, open_emitted, open_rest}
 use Rattle.gabc_headers.proofs.machines.MachineOverText.{MachineReads, head_drop, char_step, stands_next}
+use Rattle.gabc_headers.proofs.entries.TextsAsBytes.{bytes_len-append}
 
 module _ (t : List ℕ) (limit : ℕ) (done : List ℕ) (r : HeaderMachine) (es : List HeaderEvent) where
   -- the machine's open line is that of its part machine over characters
@@ -135,7 +136,7 @@ module _ (t : List ℕ) (limit : ℕ) (done : List ℕ) (r : HeaderMachine) (es 
       body : (rest : List ℕ) (h : MachineReads t limit done (37 ∷ 37 ∷ rest) r es) → head_len t ≡ length done → r.bytes + 2 ≡ body_byte t
       body rest h n =
           let x : take (head_len t + 2) t ≡ done ++ 37 ∷ 37 ∷ [] = ap (λ (k : ℕ). take (k + 2) t) n ∙ (ap (take (length done + 2)) h.scan.text ∙ take-append-add done (37 ∷ 37 ∷ rest) 2) in
-          let y = bytes-append done (37 ∷ 37 ∷ []) in
+          let y = bytes_len-append done (37 ∷ 37 ∷ []) in
           let z = h.bytes in
           let w = ap bytes_len x in
           omega arith
@@ -192,7 +193,7 @@ module _ (t : List ℕ) (limit : ℕ) (done : List ℕ) (r : HeaderMachine) (es 
           h.scan.score ∙ ap (λ (b : Bool). is_scored b (37 ∷ [])) a,
           fits h a own (nat_lt limit (bytes_len (done ++ 37 ∷ []))) refl,
           (let u = ap length h.scan.text in let v = length-append done (37 ∷ []) in omega arith),
-          ap (λ (x : Place). next_place x 37) h.place ∙ (place_push done 37 ∙ ap place_after (sym h.scan.text)),
+          ap (λ (x : Place). next_place x 37) h.place ∙ (next_after done 37 ∙ ap place_after (sym h.scan.text)),
           sym (ap open_line whole ∙ (open_emitted (length done) h.emitted (seen (head_text true t) event ++ open_part line) h.early ∙ open_rest (head_text true t) event line)),
         );
       }
@@ -201,7 +202,7 @@ module _ (t : List ℕ) (limit : ℕ) (done : List ℕ) (r : HeaderMachine) (es 
       fits : (h : MachineReads t limit done (37 ∷ []) r es) → r.at_line ≡ true → head_text true t ≡ done ++ 37 ∷ [] → (b : Bool) → nat_lt limit (bytes_len (done ++ 37 ∷ [])) ≡ b → text_stops limit t ≡ []
       fits h a own true q =
           let l : limit < bytes_len (done ++ 37 ∷ []) = grind (arith, nat_tests) in
-          let m = bytes-append done (37 ∷ []) in
+          let m = bytes_len-append done (37 ∷ []) in
           let u = ap length h.scan.text in
           let v = length-append done (37 ∷ []) in
           let w : nat_lt (length done + 1) (length t) ≡ false = grind (arith, nat_tests) in

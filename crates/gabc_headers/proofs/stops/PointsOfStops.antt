@@ -3,6 +3,8 @@ use Rattle.std.proofs.Common.{◌≡◌, ℕ, ◌+◌, ◌-◌, ◌<◌, ◌≤�
 use Rattle.std.specs.Option.{option_map}
 use Rattle.std.specs.Char.{len_utf8}
 use Rattle.std.proofs.lemmas.Bool.Decides.{nat_tests}
+use Rattle.std.proofs.lemmas.Bool.{le-ltb}
+use Rattle.gabc_places.proofs.NumbersByTests.{above_eqb, same_eqb, same_ltb}
 use Rattle.gabc_places.specs.declared.place.Place.{Place}
 use Rattle.gabc_places.specs.declared.code.Code.TheVariants.{F3, F4, F7}
 use Rattle.gabc_places.specs.Code.{rank_of}
@@ -54,23 +56,17 @@ score_within t h =
 
 -- ---- which stop is the earliest
 
-same_lt : (p : ℕ) → nat_lt p p ≡ false
-same_lt p = grind (arith, nat_tests)
-
-same_eq : (p : ℕ) → (p == p) ≡ true
-same_eq p = grind (arith, nat_tests)
-
 -- an open value goes before the sizes
 pub open_first : (p : ℕ) (a b : Place) (x y : Bool)
     → earliest (stop_at p a F3 ∷ (cond x (stop_at p b F4 ∷ []) [] ++ cond y (stop_at p b F7 ∷ []) [])) ≡ Some (stop_at p a F3)
-open_first p a b true true = rw (same_lt p, same_eq p, same_lt p, same_eq p) refl
-open_first p a b true false = rw (same_lt p, same_eq p) refl
-open_first p a b false true = rw (same_lt p, same_eq p) refl
+open_first p a b true true = rw (same_ltb p, same_eqb p, same_ltb p, same_eqb p) refl
+open_first p a b true false = rw (same_ltb p, same_eqb p) refl
+open_first p a b false true = rw (same_ltb p, same_eqb p) refl
 open_first p a b false false = refl
 
 -- the headers' limit goes before the input's
 pub size_first : (p : ℕ) (b : Place) (y : Bool) → earliest (stop_at p b F4 ∷ cond y (stop_at p b F7 ∷ []) []) ≡ Some (stop_at p b F4)
-size_first p b true = rw (same_lt p, same_eq p) refl
+size_first p b true = rw (same_ltb p, same_eqb p) refl
 size_first p b false = refl
 
 -- stops behind a point
@@ -81,12 +77,6 @@ AllBehind p (s ∷ ss) = (p < s.point) × AllBehind p ss
 abbrev IsBehind : ℕ → Option Stop → Type 0
 IsBehind p None = Unit {0}
 IsBehind p (Some s) = p < s.point
-
-le_false : (a b : ℕ) → b ≤ a → nat_lt a b ≡ false
-le_false a b h = grind (arith, nat_tests)
-
-not_eq : (a b : ℕ) → b < a → (a == b) ≡ false
-not_eq a b h = grind (arith, nat_tests)
 
 one_of : (p : ℕ) (b : Bool) (s r : Stop) → p < s.point → p < r.point → p < (cond b r s).point
 one_of p true s r h k = k
@@ -106,7 +96,7 @@ first_earliest s ss h = by (earliest ss) (behind_earliest s.point ss h)
   where
     by : (o : Option Stop) → IsBehind s.point o → Some (or_earlier s o) ≡ Some s
     by None k = refl
-    by (Some r) k = rw (le_false r.point s.point (let l : s.point < r.point = k in omega arith), not_eq r.point s.point k) refl
+    by (Some r) k = rw (le-ltb r.point s.point (let l : s.point < r.point = k in omega arith), above_eqb r.point s.point k) refl
 
 pub behind-append : (p : ℕ) (ss rs : List Stop) → AllBehind p ss → AllBehind p rs → AllBehind p (ss ++ rs)
 behind-append p [] rs h k = k

@@ -1,30 +1,19 @@
 -- Where the text is too long, and the place behind a text.
-use Rattle.std.proofs.Common.{◌≡◌, ℕ, ◌+◌, ◌-◌, ◌<◌, ◌≤◌, suc, List, [], ◌∷◌, ◌++◌, length, take, get_or, Bool, true, false, cond, ◌&&◌, ◌||◌, ◌==◌, not, nat_lt, Some, None, refl, ap, ◌∙◌, arith, length-append, length-drop, append_assoc}
+use Rattle.std.proofs.Common.{◌≡◌, ℕ, ◌+◌, ◌-◌, ◌<◌, ◌≤◌, suc, List, [], ◌∷◌, ◌++◌, length, take, get_or, Bool, true, false, cond, ◌&&◌, ◌||◌, ◌==◌, nat_lt, Some, ap, ◌∙◌, arith, length-append, append_assoc}
 use Rattle.std.specs.Option.{option_map}
 use Rattle.std.specs.Char.{len_utf8}
-use Rattle.std.specs.List.{suffix_len, prefix_len, after_last, count_by}
 use Rattle.std.proofs.Math.Seq.{take-append_seam, get_or-append_seam}
-use Rattle.std.proofs.lemmas.List.{reverse-append}
 use Rattle.std.proofs.lemmas.Bool.Decides.{nat_tests}
-use Rattle.std.proofs.lemmas.List.Sums.{sum_by-cons, sum_by-append, suffix_len-le-length}
-use Rattle.gabc_places.specs.declared.place.Place.{Place}
+use Rattle.std.proofs.lemmas.List.Sums.{sum_by-cons}
 use Rattle.gabc_places.specs.declared.code.Code.TheVariants.{F4}
 use Rattle.gabc_places.specs.Findings.{Stop}
-use Rattle.gabc_places.specs.Place.{is_line_feed, place_after, next_place}
+use Rattle.gabc_places.specs.Place.{place_after}
 use Rattle.gabc_headers.specs.Lines.{bytes_len}
 use Rattle.gabc_headers.specs.Heads.{head_len, first_above, too_long, text_stops, stop_at, is_line_percent}
 use Rattle.gabc_headers.proofs.groups.TextBeforeScore.{head_text, head_length, head_prefix}
+use Rattle.gabc_headers.proofs.stops.HeldAlike.{none_above}
 
 -- ---- the first character above the limit
-
--- no character is above the limit in a text within it
-above_none : (limit : ℕ) (t : List ℕ) → bytes_len t ≤ limit → first_above limit t ≡ None
-above_none limit [] h = refl
-above_none limit (c ∷ t) h =
-    let q : bytes_len (c ∷ t) ≡ len_utf8 c + bytes_len t = sum_by-cons len_utf8 c t in
-    let e : nat_lt limit (len_utf8 c) ≡ false = grind (arith, nat_tests) in
-    ap (λ (b : Bool). cond b (Some 0) (option_map (λ (n : ℕ). n + 1) (first_above (limit - len_utf8 c) t))) e
-    ∙ ap (option_map (λ (n : ℕ). n + 1)) (above_none (limit - len_utf8 c) t (omega arith))
 
 -- the first character above the limit
 above_at : (limit : ℕ) (done r : List ℕ) (c : ℕ) → bytes_len done ≤ limit → limit < bytes_len done + len_utf8 c → first_above limit (done ++ c ∷ r) ≡ Some (length done)
@@ -48,54 +37,12 @@ take_head t =
 
 -- a text within the limit does not stop
 pub stops_none : (limit : ℕ) (t : List ℕ) → bytes_len (head_text true t) ≤ limit → text_stops limit t ≡ []
-stops_none limit t h = ap (λ (x : List ℕ). too_long t (first_above limit x)) (take_head t) ∙ ap (too_long t) (above_none limit (head_text true t) h)
+stops_none limit t h = ap (λ (x : List ℕ). too_long t (first_above limit x)) (take_head t) ∙ ap (too_long t) (none_above limit (head_text true t) h)
 
 -- a text above the limit stops by that character
 stops_by : (limit : ℕ) (t done r : List ℕ) (c : ℕ) → head_text true t ≡ done ++ c ∷ r → bytes_len done ≤ limit → limit < bytes_len done + len_utf8 c
     → text_stops limit t ≡ too_long t (Some (length done))
 stops_by limit t done r c e h l = ap (λ (x : List ℕ). too_long t (first_above limit x)) (take_head t ∙ e) ∙ ap (too_long t) (above_at limit done r c h l)
-
--- ---- the place behind a character
-
--- the characters behind the last LF
-after_len : (t : List ℕ) → length (after_last is_line_feed t) ≡ suffix_len (λ (x : ℕ). not (is_line_feed x)) t
-after_len t =
-    let a = length-drop (length t - suffix_len (λ (x : ℕ). not (is_line_feed x)) t) t in
-    let b = suffix_len-le-length (λ (x : ℕ). not (is_line_feed x)) t in
-    omega arith
-
--- one more at the end
-suffix_more : (p : ℕ → Bool) (t : List ℕ) (c : ℕ) → suffix_len p (t ++ c ∷ []) ≡ cond (p c) (1 + suffix_len p t) 0
-suffix_more p t c = ap (prefix_len p) (reverse-append t (c ∷ []))
-
--- the place behind one character more
-pub place_push : (t : List ℕ) (c : ℕ) → next_place (place_after t) c ≡ place_after (t ++ c ∷ [])
-place_push t c = by (is_line_feed c) refl
-  where
-    n : count_by is_line_feed (t ++ c ∷ []) ≡ count_by is_line_feed t + cond (is_line_feed c) 1 0
-    n = let a = sum_by-append (λ (x : ℕ). cond (is_line_feed x) 1 0) t (c ∷ []) in omega arith
-
-    m : length (after_last is_line_feed (t ++ c ∷ [])) ≡ cond (not (is_line_feed c)) (1 + suffix_len (λ (x : ℕ). not (is_line_feed x)) t) 0
-    m = after_len (t ++ c ∷ []) ∙ suffix_more (λ (x : ℕ). not (is_line_feed x)) t c
-
-    both : (a b k l : ℕ) → a ≡ b → k ≡ l → ◌≡◌ {A = Place} (record { line = a; column = k }) (record { line = b; column = l })
-    both a b k l e f = ap (λ (x : ℕ). record { line = x; column = k }) e ∙ ap (λ (x : ℕ). record { line = b; column = x }) f
-
-    by : (b : Bool) → is_line_feed c ≡ b → cond {A = Place} b (record { line = (1 + count_by is_line_feed t) + 1; column = 1 }) (record { line = 1 + count_by is_line_feed t; column = (1 + length (after_last is_line_feed t)) + 1 })
-        ≡ place_after (t ++ c ∷ [])
-    by true e =
-        let w = n in
-        let v = m in
-        let x = ap (λ (b : Bool). cond {A = ℕ} b 1 0) e in
-        let y = ap (λ (b : Bool). cond {A = ℕ} (not b) (1 + suffix_len (λ (x : ℕ). not (is_line_feed x)) t) 0) e in
-        both ((1 + count_by is_line_feed t) + 1) (1 + count_by is_line_feed (t ++ c ∷ [])) 1 (1 + length (after_last is_line_feed (t ++ c ∷ []))) (omega arith) (omega arith)
-    by false e =
-        let w = n in
-        let v = m in
-        let x = ap (λ (b : Bool). cond {A = ℕ} b 1 0) e in
-        let y = ap (λ (b : Bool). cond {A = ℕ} (not b) (1 + suffix_len (λ (x : ℕ). not (is_line_feed x)) t) 0) e in
-        let z = after_len t in
-        both (1 + count_by is_line_feed t) (1 + count_by is_line_feed (t ++ c ∷ [])) ((1 + length (after_last is_line_feed t)) + 1) (1 + length (after_last is_line_feed (t ++ c ∷ []))) (omega arith) (omega arith)
 
 -- ---- a line's start
 

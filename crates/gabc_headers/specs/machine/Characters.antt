@@ -1,4 +1,5 @@
--- The code's tables for marks. The contract of `events_of_headers` does not rest on them: they are proved to do what it says.
+-- The code's tables for marks. The contract of `events_of_headers` does not rest on them: they are
+-- proved to do what it says.
 use Rattle.std.specs.Prelude.{ℕ, ◌==◌, Bool, true, false, cond}
 use Rattle.gabc_headers.specs.declared.characters.HeaderChar.{HeaderChar}
 use Rattle.gabc_headers.specs.declared.characters.HeaderChar.TheVariants.{Semicolon, Percent, Blank, LineEnd, Colon, Other}

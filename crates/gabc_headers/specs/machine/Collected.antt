@@ -74,7 +74,8 @@ abbrev pub collected_with_all : List ℕ → List HeaderEvent → Collected → 
 collected_with_all text [] c = c
 collected_with_all text (e ∷ es) c = collected_with_all text es (collected_with text e c)
 
--- The headers at the line `%%` at this place, whose end is this byte: too long in their canonical form, or the book, with a warning if it has no `name`.
+-- The headers at the line `%%` at this place, whose end is this byte: too long in their canonical
+-- form, or the book, with a warning if it has no `name`.
 abbrev pub heads_at_body : Limits → Place → ℕ → List (List ℕ × List ℕ) → List Finding → Result Heads HeadFault
 heads_at_body limits place body book findings =
     let size = bytes_len (header_lines book) in

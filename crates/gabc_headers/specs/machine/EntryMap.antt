@@ -1,4 +1,5 @@
--- What is gathered: names with values, each name at the place of its first and with the value of its last.
+-- What is gathered: names with values, each name at the place of its first and with the value of
+-- its last.
 use Rattle.std.specs.Prelude.{ℕ, ◌+◌, ◌<◌, ◌≤◌, ◌≡◌, length, max, List, [], ◌∷◌, Bool, true, false, not, ◌&&◌, IsUtf8}
 use Rattle.std.specs.Str.{chars}
 use Rattle.gabc_places.specs.declared.place.Span.{Span}
@@ -27,7 +28,8 @@ abbrev pub IsKeyOf : List ℕ → ℕ → Key → Type 0
 IsKeyOf name n (Name s) = (s.bytes ≡ name) × (is_annotation (chars name) ≡ false)
 IsKeyOf name n (Annotation i) = (i ≡ n) × (is_annotation (chars name) ≡ true)
 
--- a key that is a name is a text and no annotation, and one that is a number is below the number of the entries
+-- a key that is a name is a text and no annotation, and one that is a number is below the number of
+-- the entries
 abbrev pub IsKeyBelow : ℕ → Key → Type 0
 IsKeyBelow n (Name s) = (is_annotation (chars s.bytes) ≡ false) × IsUtf8 s.bytes
 IsKeyBelow n (Annotation i) = i < n

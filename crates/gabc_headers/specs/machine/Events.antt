@@ -69,7 +69,8 @@ EndsAs limit t rest stop (Limit place) = text_stops limit t ≡ stop_at stop pla
 EndsAs limit t rest stop (Text place line) =
     (has_score (lines t) ≡ false) × (text_stops limit t ≡ []) × (stop ≡ length t) × (place ≡ place_after t) × (line ≡ open_line (head_parts t))
 
--- The events are the parts of the text that become known before its headers end, and the end is theirs.
+-- The events are the parts of the text that become known before its headers end, and the end is
+-- theirs.
 pub record AreHeaderEvents (limit : ℕ) (t : List ℕ) (events : List HeaderEvent) (end : HeaderEnding) : Type 0 where
   pub emitted : List HeaderPart
   pub rest : List HeaderPart

@@ -1,4 +1,5 @@
--- The machine's pushes, as the code has them. The contract of `events_of_headers` does not rest on them: they are proved to do what it says.
+-- The machine's pushes, as the code has them. The contract of `events_of_headers` does not rest on
+-- them: they are proved to do what it says.
 use Rattle.std.specs.Prelude.{ℕ, ◌+◌, ◌<◌, ◌≤◌, ◌^◌, ◌==◌, true, false, ◌&&◌, cond, nat_lt, Option, None}
 use Rattle.std.specs.Char.{len_utf8}
 use Rattle.gabc_places.specs.Place.{next_place}
@@ -37,7 +38,7 @@ abbrev pub then_take : HeaderMachine → HeaderStep → ℕ → HeaderMachine ×
 then_take r (Ended end) c = (r, Ended end)
 then_take r (Read event) c = take_one r c
 
--- behind a `%` that is held back
+-- after a `%` that is held back
 abbrev pub held_push : HeaderMachine → ℕ → HeaderMachine × HeaderStep
 held_push r c = cond (c == 37) (r, Ended (Score r.place (r.bytes + 2) (open_in r.parts.state r.parts.header)))
     (then_take (take_one (record r { held = false }) 37).0 (take_one (record r { held = false }) 37).1 c)

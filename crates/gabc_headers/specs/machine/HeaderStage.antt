@@ -13,7 +13,8 @@ use Rattle.gabc_headers.specs.machine.EntryMap.{AreWithin}
 use Rattle.gabc_headers.specs.machine.Events.{with_event}
 use Rattle.gabc_headers.specs.machine.HeaderMachine.{IsBounded, fresh_machine, push_one}
 
--- From the machine r, with these events before, the text is read without an end: then the machine is `last`, and the events are `all`.
+-- From the machine r, with these events before, the text is read without an end: then the machine
+-- is `last`, and the events are `all`.
 abbrev pub Takes : HeaderMachine → List HeaderEvent → List ℕ → HeaderMachine → List HeaderEvent → Type 0
 Takes r es [] last all = (r ≡ last) × (es ≡ all)
 Takes r es (c ∷ t) last all =
@@ -32,7 +33,8 @@ pub record IsReading (limits : Limits) (text : List ℕ) (room : ℕ) (machine :
   pub put : headers.items ≡ (collected_with_all text events none).headers
   pub limit : headers.limit ≡ headers_within limits
 
--- The memory stays reserved: for the text, and for the headers that count. And their values lie in the text.
+-- The memory stays reserved: for the text, and for the headers that count. And their values lie in
+-- the text.
 pub record KeepsHeaders (limits : Limits) (text : List ℕ) (space : ℕ) (headers : EntryMapState) : Type 0 where
   pub text_fits : limits.header + 1 ≤ space
   pub headers_fit : headers.limit ≡ headers_within limits
@@ -44,7 +46,7 @@ IsStageIn Behind limits text space machine headers = KeepsHeaders limits text sp
 IsStageIn Stopped limits text space machine headers = KeepsHeaders limits text space headers
 IsStageIn Over limits text space machine headers = KeepsHeaders limits text space headers
 
--- behind the last event
+-- after the last event
 abbrev pub part_over : HeadPart → HeadPart
 part_over InHeaders = Stopped
 part_over Behind = Over

@@ -1,4 +1,5 @@
--- What a stage of headers will still emit, in any state. Nobody has to believe it: the laws state what a fresh stage emits.
+-- What a stage of headers will still emit, in any state. Nobody has to believe it: the laws state
+-- what a fresh stage emits.
 use Rattle.std.specs.Prelude.{ℕ, List, [], ◌∷◌, ◌++◌, if◌then◌else◌, length, drop, map, Result, Ok, Err}
 use Rattle.std.specs.declared.hash.DefaultHasher.{DefaultHasher}
 use Rattle.gabc_places.specs.declared.place.Char.{Char}
@@ -16,16 +17,17 @@ use Rattle.gabc_headers.specs.HeadEvents.{event_of_book}
 pub data HeadProgress : Type 0 where
   -- in the headers, of which this text is read
   reading : List ℕ → HeadProgress
-  -- behind them, with this book
+  -- after them, with this book
   behind : List (List ℕ × List ℕ) → HeadProgress
-  -- behind its last event
+  -- after its last event
   over : HeadProgress
 
 -- the findings of the longer text that the shorter one has not
 abbrev pub new_findings : Limits → List ℕ → List ℕ → List Finding
 new_findings limits before after = drop (length (findings_of (heads_of limits before))) (findings_of (heads_of limits after))
 
--- Of a character: the text with it is stopped, by something else than its end; or what is found more, and the headers if they are whole.
+-- Of a character: the text with it is stopped, by something else than its end; or what is found
+-- more, and the headers if they are whole.
 abbrev pub events_by : List Finding → Result Heads HeadFault → List HeadEvent
 events_by found (Ok heads) = map (λ f. Found f) found ++ event_of_book heads.book ∷ []
 events_by found (Err stopped) = if stopped.at_end then map (λ f. Found f) found else Stop stopped.fault ∷ []
@@ -42,7 +44,7 @@ abbrev pub events_at_end : Result Heads HeadFault → List HeadEvent
 events_at_end (Ok heads) = []
 events_at_end (Err stopped) = Stop stopped.fault ∷ []
 
--- what is given of an input: in the headers, behind them, and behind the last event
+-- what is given of an input: in the headers, after them, and after the last event
 abbrev pub events_of_input : Limits → HeadProgress → Result Char Fault → List HeadEvent
 events_of_input limits (reading t) (Ok c) = events_at limits t c.c
 events_of_input limits (reading t) (Err fault) = Stop fault ∷ []
@@ -72,7 +74,8 @@ abbrev pub events_left : Limits → HeadProgress → List (Result Char Fault) �
 events_left limits progress [] = events_of_end limits progress ∷ []
 events_left limits progress (x ∷ xs) = events_of_input limits progress x ∷ events_left limits (progress_after limits progress x) xs
 
--- what a stage of headers shows: its limits, where it stands, once the line `%%` is read the headers, and from where it hashes names
+-- what a stage of headers shows: its limits, where it stands, once the line `%%` is read the
+-- headers, and from where it hashes names
 pub record HeaderStageState : Type 0 where
   pub limits : Limits
   pub progress : HeadProgress
@@ -95,7 +98,7 @@ stage_at s progress = record s { progress = progress; book = book_at progress s.
 abbrev pub stage_after : HeaderStageState → Result Char Fault → HeaderStageState
 stage_after s x = stage_at s (progress_after s.limits s.progress x)
 
--- behind all of these
+-- after all of these
 abbrev pub stage_past : HeaderStageState → List (Result Char Fault) → HeaderStageState
 stage_past s [] = s
 stage_past s (x ∷ xs) = stage_past (stage_after s x) xs

@@ -1,10 +1,11 @@
--- The parts of lines, read line by line. Nobody has to believe it: by a law they are the parts of the one cutting of the lines into groups.
+-- The parts of lines, read line by line. Nobody has to believe it: by a law they are the parts of
+-- the one cutting of the lines into groups.
 use Rattle.std.specs.Prelude.{ℕ, ◌+◌, List, [], ◌∷◌, ◌++◌, ◌||◌, not, cond, length, Option}
 use Rattle.gabc_headers.specs.Lines.{is_bare, has_mark, before_mark, mark_end, has_colon, before_colon, after_colon, lines, head_of}
 use Rattle.gabc_headers.specs.Parts.{HeaderPart, left_out, unended, name_of, bad_name_parts, ended_parts}
 
--- a line stands outside of the headers' values, or within the value of a header: the header's line, its name (unless
--- the header is left out), and the value so far
+-- a line stands outside of the headers' values, or within the value of a header: the header's line,
+-- its name (unless the header is left out), and the value so far
 pub data LineContext : Type 0 where
   outside : LineContext
   within : ℕ → Option (List ℕ) → List ℕ → LineContext

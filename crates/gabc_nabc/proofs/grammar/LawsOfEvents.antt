@@ -10,6 +10,7 @@ use Rattle.gabc_patterns.proofs.AutomatonsByTests.{reading, rows_of}
 use Rattle.gabc_patterns.proofs.FunctionsMeetRelations.{trim_trims}
 use Rattle.std.proofs.lemmas.Str.{encodes-append}
 use lib.Utf8.{encodes}
+use Rattle.gabc_notes.proofs.grammar.LawsOfEventsByPoint.{kept_append, ends_append}
 use Rattle.gabc_patterns.proofs.RowsAfterACharacter.{rows_end_to}
 use Rattle.gabc_patterns.proofs.RowsRun.{ends_once}
 use Rattle.gabc_patterns.proofs.ItemSoFar.{one_kind}
@@ -17,7 +18,7 @@ use Rattle.gabc_patterns.proofs.StatesAfterTexts.{completes}
 use Rattle.gabc_notes.specs.declared.stage.NoteEnd.{NoteEnd}
 use Rattle.gabc_notes.specs.declared.stage.NoteEnd.TheVariants as ending
 use Rattle.gabc_notes.specs.declared.stage.NoteEvent.{NoteEvent}
-use Rattle.gabc_notes.specs.declared.stage.NoteEvent.TheVariants.{Kept, Found, Ended}
+use Rattle.gabc_notes.specs.declared.stage.NoteEvent.TheVariants.{Kept, Ended}
 use Rattle.gabc_nabc.specs.Table.{nabc}
 use Rattle.gabc_nabc.specs.Events.{is_character, is_end, has_end, kept_of, first_of, is_missing, events_at, nabc_events_behind, nabc_events, bytes_in}
 use Rattle.gabc_notes.specs.Events.{finding_event, end_by_mark}
@@ -145,12 +146,6 @@ prefix_emitted t (x ∷ xs) ys = ap (λ (l : List (List NoteEvent)). events_at t
 pub prefix_stays : (xs ys zs : List Char) → take (length xs) (nabc_events (xs ++ ys)) ≡ take (length xs) (nabc_events (xs ++ zs))
 prefix_stays xs ys zs = prefix_emitted [] xs ys ∙ sym (prefix_emitted [] xs zs)
 
-kept_append : (xs ys : List NoteEvent) → kept_in (xs ++ ys) ≡ kept_in xs ++ kept_in ys
-kept_append [] ys = refl
-kept_append (Kept x ∷ xs) ys = ap (λ (l : List ℕ). x.c ∷ l) (kept_append xs ys)
-kept_append (Found f ∷ xs) ys = kept_append xs ys
-kept_append (Ended e n ∷ xs) ys = kept_append xs ys
-
 -- behind the end nothing is emitted
 pub silent : (t : List ℕ) (xs : List Char) → has_end t ≡ true → concat_of (nabc_events_behind t xs) ≡ []
 silent t [] e = rw e refl
@@ -213,12 +208,6 @@ pub emitted_kept : (xs : List Char) → kept_in (concat_of (nabc_events xs)) ≡
 emitted_kept xs = all_kept xs [] refl
 
 -- ---- the end
-
-pub ends_append : (xs ys : List NoteEvent) → ends_of (xs ++ ys) ≡ ends_of xs ++ ends_of ys
-ends_append [] ys = refl
-ends_append (Kept x ∷ xs) ys = ends_append xs ys
-ends_append (Found f ∷ xs) ys = ends_append xs ys
-ends_append (Ended e n ∷ xs) ys = ap (λ (l : List (NoteEnd × ℕ)). (e, n) ∷ l) (ends_append xs ys)
 
 -- at the end
 pub one_end : (t : List ℕ) (x : Char) → has_end t ≡ false → is_end t x.c ≡ true → ends_of (events_at t x) ≡ (end_by_mark x.c, bytes_in (trim nabc (kept_of t))) ∷ []

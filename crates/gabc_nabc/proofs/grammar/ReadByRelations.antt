@@ -1,6 +1,8 @@
 -- What is read of a text by relations over the whole of it is what is computed character by character.
 use Rattle.std.proofs.Common.{◌≡◌, ℕ, List, [], ◌∷◌, ◌++◌, Bool, true, false, cond, ◌&&◌, ◌||◌, ◌==◌, not, Option, Some, None, refl, sym, ap, ◌∙◌, subst, append_assoc, append-nil, length, drop, ◌⊎◌, inl, inr, eqb-true}
 use Rattle.std.proofs.Math.Seq.{drop-append_seam}
+use Rattle.std.proofs.Math.Bool.{or-true}
+use Rattle.std.proofs.lemmas.Bool.{and_parts, or_parts, not-true}
 use Rattle.std.specs.Prelude.{string_bytes}
 use lib.Utf8.{encodes}
 use Rattle.gabc_places.specs.declared.code.Code.{Code}
@@ -18,6 +20,8 @@ use Rattle.gabc_patterns.proofs.FunctionsMeetRelations.{keep_keeps, keeps_is, no
 use Rattle.gabc_patterns.proofs.LongestMunchByCharacter.{viable_from, snippet_to, snippet_from}
 use Rattle.gabc_notes.specs.FoundAt.{AreThoseFound}
 use Rattle.gabc_notes.proofs.FoundOnce.{same_finding, found_once}
+use Rattle.gabc_notes.proofs.machine.LoopOverBody.{findings_append}
+use Rattle.gabc_notes.proofs.items_of_text.ItemAtCharacter.{pushed}
 use Rattle.gabc_notes.specs.Events.{finding_event, end_by_mark}
 use Rattle.gabc_notes.specs.SnippetRead.{findings_of}
 use Rattle.gabc_notes.specs.declared.stage.NoteEvent.{NoteEvent}
@@ -31,22 +35,9 @@ use Rattle.gabc_notes.specs.declared.snippet_read.SnippetRead.{SnippetRead}
 use Rattle.gabc_nabc.proofs.grammar.LawsOfEvents.{silent}
 use Rattle.gabc_nabc.proofs.order.FindingsAreInOrder.{cut_quiet}
 use Rattle.gabc_nabc.proofs.glyphs.CodesAreTwoLetters.{letters_spell}
-use Rattle.gabc_nabc.proofs.machine.EventsBuildSnippet.{findings_append}
 use Rattle.gabc_nabc.proofs.machine.TextWithACharacterMore.{last_is, before_last_is, end_more}
 
 -- ---- codes without a name
-
-both : (a b : Bool) → (a && b) ≡ true → (a ≡ true) × (b ≡ true)
-both true b e = (refl, e)
-both false b e = absurd (cc)
-
--- a text is empty, or has a last character
-snoc : (t : List ℕ) → (t ≡ []) ⊎ ((before : List ℕ) × (last : ℕ) × (t ≡ before ++ last ∷ []))
-snoc [] = inl refl
-snoc (c ∷ t) = elim (snoc t) [
-  | inl e ↦ inr ([], c, ap (λ (u : List ℕ). c ∷ u) e)
-  | inr h ↦ inr (c ∷ h.0, h.1, ap (λ (u : List ℕ). c ∷ u) h.2)
-]
 
 first_is : (before : List ℕ) (a : ℕ) → first_of (before ++ a ∷ []) ≡ cond (takes_code before && begins_code a) (Some a) None
 first_is before a = ap (λ (t : List ℕ). first_behind (before_last (before ++ a ∷ [])) t) (last_is before a) ∙ ap (λ (t : List ℕ). cond (takes_code t && begins_code a) (Some a) None) (before_last_is before a)
@@ -62,7 +53,7 @@ begins_to : (before : List ℕ) → takes_code before ≡ true → IsSnippet nab
 begins_to before e = go (is_snippet nabc before) refl e
   where
     ends : (joins before) ≡ true → (joined : List ℕ) × (before ≡ joined ++ 33 ∷ [])
-    ends f = elim (snoc before) [
+    ends f = elim (pushed before) [
       | inl g ↦ absurd (let h = sym f ∙ ap joins g in cc)
       | inr h ↦ (
         h.0,
@@ -74,20 +65,12 @@ begins_to before e = go (is_snippet nabc before) refl e
     go true f g = inl (snippet_from nabc refl before f)
     go false f g = inr (ends g)
 
-or_true : (b : Bool) → (b || true) ≡ true
-or_true true = refl
-or_true false = refl
-
 begins_from : (before : List ℕ) → IsSnippet nabc before ⊎ ((joined : List ℕ) × (before ≡ joined ++ 33 ∷ [])) → takes_code before ≡ true
 begins_from before (inl s) = ap (λ (b : Bool). b || joins before) (snippet_to nabc refl before s)
-begins_from before (inr j) = ap (λ (b : Bool). is_snippet nabc before || b) (ap joins j.1 ∙ ap (is_in 33) (last_is j.0 33)) ∙ or_true (is_snippet nabc before)
-
-not_true : (b : Bool) → not b ≡ true → b ≡ false
-not_true true e = absurd (cc)
-not_true false e = refl
+begins_from before (inr j) = ap (λ (b : Bool). is_snippet nabc before || b) (ap joins j.1 ∙ ap (is_in 33) (last_is j.0 33)) ∙ or-true (is_snippet nabc before)
 
 missing_to : (kept : List ℕ) (c : ℕ) → is_missing (first_of kept) c ≡ true → EndsUnknownCode kept c
-missing_to kept c e = elim (snoc kept) [
+missing_to kept c e = elim (pushed kept) [
   | inl f ↦ absurd (let g = sym e ∙ ap (λ (t : List ℕ). is_missing (first_of t) c) f in cc)
   | inr h ↦ at_last h.0 h.1 h.2 (takes_code h.0 && begins_code h.1) refl (sym (ap (λ (o : Option ℕ). is_missing o c) (ap first_of h.2 ∙ first_is h.0 h.1)) ∙ e)
 ]
@@ -95,20 +78,20 @@ missing_to kept c e = elim (snoc kept) [
     at_last : (before : List ℕ) (a : ℕ) → kept ≡ before ++ a ∷ [] → (b : Bool) → (takes_code before && begins_code a) ≡ b → is_missing (cond b (Some a) None) c ≡ true → EndsUnknownCode kept c
     at_last before a f false g h = absurd (cc)
     at_last before a f true g h =
-        let is = both (is_code a c) (not (is_known a c)) h in
+        let is = and_parts (is_code a c) (not (is_known a c)) h in
         record {
           before = before;
           first = a;
           cut = f;
-          begins = begins_to before (both (takes_code before) (begins_code a) g).0;
+          begins = begins_to before (and_parts (takes_code before) (begins_code a) g).0;
           is_code = (letters_spell a c).0 is.0;
-          unknown = not_true (is_known a c) is.1;
+          unknown = not-true (is_known a c) is.1;
         }
 
 missing_from : (kept : List ℕ) (c : ℕ) → EndsUnknownCode kept c → is_missing (first_of kept) c ≡ true
 missing_from kept c h =
     let is : is_code h.first c ≡ true = (letters_spell h.first c).1 h.is_code in
-    let begins : begins_code h.first ≡ true = (both (begins_code h.first) _ is).0 in
+    let begins : begins_code h.first ≡ true = (and_parts (begins_code h.first) _ is).0 in
     let takes : takes_code h.before ≡ true = begins_from h.before h.begins in
     ap (λ (o : Option ℕ). is_missing o c)
     (ap first_of h.cut ∙ (first_is h.before h.first ∙ (ap (λ (b : Bool). cond (b && begins_code h.first) (Some h.first) None) takes ∙ ap (λ (b : Bool). cond b (Some h.first) None) begins)))
@@ -269,22 +252,18 @@ split t (c ∷ cs) at running = go (is_end t c) refl (λ r. split (t ++ c ∷ []
           mark = subst (λ (u : List ℕ). StopsAt u s.rest) joined s.mark;
         }
 
-neither : (a b : Bool) → (a || b) ≡ false → (a ≡ false) × (b ≡ false)
-neither true b e = absurd (cc)
-neither false b e = (refl, e)
-
 -- a text without an end, by its characters
 none_ends : (t front before behind : List ℕ) (c : ℕ) → has_end_behind t front ≡ false → front ≡ before ++ c ∷ behind → is_end (t ++ before) c ≡ false
 none_ends t [] [] behind c e f = absurd (cc)
 none_ends t [] (d ∷ before) behind c e f = absurd (cc)
 none_ends t (d ∷ front) [] behind c e f =
     let g : c ≡ d = cc in
-    ap (λ (u : List ℕ). is_end u c) (append-nil t) ∙ (ap (is_end t) g ∙ (neither (is_end t d) (has_end_behind (t ++ d ∷ []) front) e).0)
+    ap (λ (u : List ℕ). is_end u c) (append-nil t) ∙ (ap (is_end t) g ∙ (or_parts (is_end t d) (has_end_behind (t ++ d ∷ []) front) e).0)
 none_ends t (d ∷ front) (b ∷ before) behind c e f =
     let g : b ≡ d = cc in
     let h : front ≡ before ++ c ∷ behind = cc in
     ap (λ (u : List ℕ). is_end u c) (sym (append_assoc t (b ∷ []) before)) ∙ (ap (λ (a : ℕ). is_end ((t ++ a ∷ []) ++ before) c) g
-    ∙ none_ends (t ++ d ∷ []) front before behind c (neither (is_end t d) (has_end_behind (t ++ d ∷ []) front) e).1 h)
+    ∙ none_ends (t ++ d ∷ []) front before behind c (or_parts (is_end t d) (has_end_behind (t ++ d ∷ []) front) e).1 h)
 
 none_end : (t front : List ℕ) → ((before behind : List ℕ) (c : ℕ) → front ≡ before ++ c ∷ behind → is_end (t ++ before) c ≡ false) → has_end_behind t front ≡ false
 none_end t [] h = refl
@@ -298,7 +277,7 @@ unfolding StopsAt
 before_is t [] [] e m = refl
 before_is t [] (c ∷ rest) e m = ap (λ (b : Bool). cond b [] (c ∷ before_end_behind (t ++ c ∷ []) rest)) (ap (λ (u : List ℕ). is_end u c) (sym (append-nil t)) ∙ m)
 before_is t (c ∷ front) rest e m =
-    let f = neither (is_end t c) (has_end_behind (t ++ c ∷ []) front) e in
+    let f = or_parts (is_end t c) (has_end_behind (t ++ c ∷ []) front) e in
     ap (λ (b : Bool). cond b [] (c ∷ before_end_behind (t ++ c ∷ []) (front ++ rest))) f.0
     ∙ ap (λ (u : List ℕ). c ∷ u) (before_is (t ++ c ∷ []) front rest f.1 (subst (λ (u : List ℕ). StopsAt u rest) (sym (append_assoc t (c ∷ []) front)) m))
 

@@ -1,8 +1,12 @@
 -- An NABC snippet in front of its mark is read again as that snippet.
-use Rattle.std.proofs.Common.{◌≡◌, ℕ, suc, ◌+◌, List, [], ◌∷◌, ◌++◌, Bool, true, false, cond, ◌||◌, ◌==◌, refl, sym, ap, ◌∙◌, subst, length, take, drop, append-nil, append_assoc, ne_eqb, arith}
+use Rattle.std.proofs.Common.{◌≡◌, ℕ, suc, List, [], ◌∷◌, ◌++◌, Bool, true, false, cond, ◌||◌, ◌==◌, refl, sym, ap, ◌∙◌, subst, length, take, drop, append-nil, append_assoc, ne_eqb, add-one}
 use Rattle.std.specs.List.{All}
 use Rattle.std.proofs.Math.Seq.{take-length, drop-append_seam}
 use Rattle.std.proofs.lemmas.List.Elements.{All-nil, All-cons, All-append}
+use Rattle.gabc_notes.proofs.grammar.LawsOfEventsByPoint.{ends_append}
+use Rattle.gabc_notes.proofs.machine.LoopOverBody.{findings_append}
+use Rattle.gabc_notes.proofs.KeptChars.{kept_chars-append}
+use Rattle.gabc_notes.proofs.grammar.SnippetIsReadAgain.{AllWarnings}
 use Rattle.gabc_places.specs.declared.code.Code.TheVariants.{E6, W7}
 use Rattle.gabc_places.specs.declared.place.Char.{Char}
 use Rattle.gabc_places.specs.declared.place.Place.{Place}
@@ -21,7 +25,7 @@ use Rattle.gabc_notes.specs.SnippetRead.{kept_chars_of, findings_of, ends_of}
 use Rattle.gabc_notes.specs.declared.stage.NoteEnd.{NoteEnd}
 use Rattle.gabc_notes.specs.declared.stage.NoteEnd.TheVariants.{Next, Close, Cut}
 use Rattle.gabc_notes.specs.declared.stage.NoteEvent.{NoteEvent}
-use Rattle.gabc_notes.specs.declared.stage.NoteEvent.TheVariants.{Kept, Found, Ended}
+use Rattle.gabc_notes.specs.declared.stage.NoteEvent.TheVariants.{Kept, Ended}
 use Rattle.gabc_nabc.specs.Table.{nabc}
 use Rattle.gabc_nabc.specs.CharClass.{class_of_character}
 use Rattle.gabc_nabc.specs.witness.DescriptorMachine.{next_state}
@@ -30,11 +34,10 @@ use Rattle.gabc_notes.specs.Events.{finding_event, end_by_mark}
 use Rattle.gabc_nabc.specs.SnippetRead.{before_end_behind, before_end, from_end, kept_before}
 use Rattle.gabc_nabc.specs.ReadAgain.{IsNabcReadAgain}
 use Rattle.gabc_nabc.specs.declared.class.NabcClass.TheVariants.{Other}
-use Rattle.gabc_nabc.proofs.grammar.LawsOfEvents.{ends_append, no_end, one_end, silent}
-use Rattle.gabc_nabc.proofs.machine.EventsBuildSnippet.{findings_append}
+use Rattle.gabc_nabc.proofs.grammar.LawsOfEvents.{no_end, one_end, silent}
 use Rattle.gabc_nabc.proofs.machine.MachineReadsTable.{machine, snippets_read}
 use Rattle.gabc_nabc.proofs.machine.TextWithACharacterMore.{comment_more, end_more, kept_more}
-use Rattle.gabc_nabc.proofs.machine.ViableCharacterIsNoMark.{none_on}
+use Rattle.gabc_nabc.proofs.machine.RegularShortWays.{stops}
 
 -- ---- no part has a mark, a `%` or a blank
 
@@ -42,7 +45,7 @@ use Rattle.gabc_nabc.proofs.machine.ViableCharacterIsNoMark.{none_on}
 differs : (k : List ℕ) (c : ℕ) → IsViable nabc (k ++ c ∷ []) → (d : ℕ) → class_of_character d ≡ Other → c ≡ d → ⊥
 differs k c v d o e =
     let y = state_of nabc machine snippets_read k (viable_prefix nabc k (c ∷ []) v) in
-    left_out nabc machine snippets_read y.0 k c y.1 (ap (λ (n : ℕ). next_state y.0 (class_of_character n)) e ∙ (ap (next_state y.0) o ∙ none_on y.0)) v
+    left_out nabc machine snippets_read y.0 k c y.1 (ap (λ (n : ℕ). next_state y.0 (class_of_character n)) e ∙ (ap (next_state y.0) o ∙ stops y.0)) v
 
 -- behind a text without a comment such a character is one of the snippet's, ends it not, and is kept
 pub record GoesOn (u : List ℕ) (c : ℕ) : Type 0 where
@@ -70,9 +73,6 @@ goes_on u c n k v = record {
 
 -- ---- what is emitted of such a character, and of the mark
 
-abbrev AllWarnings : List NoteEvent → Type 0
-AllWarnings events = All IsWarning (findings_of events)
-
 kept_warns : (b : Bool) (x : Char)
     → (kept_chars_of (Kept x ∷ cond b (finding_event x.place W7 ∷ []) []) ≡ x ∷ []) × AllWarnings (Kept x ∷ cond b (finding_event x.place W7 ∷ []) [])
 kept_warns true x = (refl, All-cons IsWarning (record { place = x.place; code = W7 }) [] refl (All-nil IsWarning))
@@ -87,12 +87,6 @@ end_warns k x s = go (is_snippet nabc k) s
     go : (a : Bool) → a ≡ true → (kept_chars_of (events a) ≡ []) × AllWarnings (events a)
     go true e = (refl, All-nil IsWarning)
     go false e = absurd (cc)
-
-chars_append : (a b : List NoteEvent) → kept_chars_of (a ++ b) ≡ kept_chars_of a ++ kept_chars_of b
-chars_append [] b = refl
-chars_append (Kept x ∷ a) b = ap (λ (l : List Char). x ∷ l) (chars_append a b)
-chars_append (Found f ∷ a) b = chars_append a b
-chars_append (Ended h n ∷ a) b = chars_append a b
 
 -- ---- the characters of a snippet, and its mark
 
@@ -152,7 +146,7 @@ reads_on at u (c ∷ t) mark rest m n o k s =
     record {
       before = ap (λ (b : Bool). cond b [] (c ∷ before_end_behind (u ++ c ∷ []) (t ++ mark ∷ rest))) g.no_end ∙ ap (λ (l : List ℕ). c ∷ l) y.before;
       kept_is = subst (λ (l : List ℕ). kept_of l ≡ l) (append_assoc u (c ∷ []) t) y.kept_is;
-      chars = chars_append (events_at u x) later ∙ (ap (λ (l : List NoteEvent). kept_chars_of l ++ kept_chars_of later) e
+      chars = kept_chars-append (events_at u x) later ∙ (ap (λ (l : List NoteEvent). kept_chars_of l ++ kept_chars_of later) e
           ∙ (ap (λ (l : List Char). l ++ kept_chars_of later) w.0 ∙ ap (λ (l : List Char). x ∷ l) y.chars));
       unended = ends_append (events_at u x) (concat_of (take (length t) lists)) ∙ (ap (λ (l : List (NoteEnd × ℕ)). l ++ ends_of (concat_of (take (length t) lists))) none ∙ y.unended);
       ended = ends_append (events_at u x) (concat_of (take (suc (length t)) lists))
@@ -161,9 +155,6 @@ reads_on at u (c ∷ t) mark rest m n o k s =
       all_warn = subst (All IsWarning) (sym (findings_append (events_at u x) later))
           (All-append IsWarning (findings_of (events_at u x)) (findings_of later) (subst AllWarnings (sym e) w.1) y.all_warn);
     }
-
-one_more : (n : ℕ) → n + 1 ≡ suc n
-one_more n = omega arith
 
 -- a snippet in front of its mark
 pub read_again : (at : Place) (how : NoteEnd) (t rest : List ℕ) (mark : ℕ) → IsSnippet nabc t → IsMarkOf true how mark → IsNabcReadAgain at t mark rest
@@ -182,7 +173,7 @@ read_again at how t rest mark s m =
       kept = kept;
       chars = ap (λ (n : ℕ). take n all) long ∙ (ap (λ (l : List Char). take (length xs) l) y.chars ∙ take-length xs);
       unended = y.unended;
-      ended = ap (λ (n : ℕ). ends_of (concat_of (take n (nabc_events (placed_characters_from at (t ++ mark ∷ rest)))))) (one_more (length t))
+      ended = ap (λ (n : ℕ). ends_of (concat_of (take n (nabc_events (placed_characters_from at (t ++ mark ∷ rest)))))) (add-one (length t))
           ∙ (y.ended ∙ ap (λ (l : List ℕ). (end_by_mark mark, bytes_in l) ∷ []) (trim_snippet nabc refl t s));
       warnings = y.all_warn;
     }

@@ -7,7 +7,7 @@ use Rattle.gabc_places.specs.declared.code.Code.TheVariants.{E3, E6, W7}
 use Rattle.gabc_places.specs.declared.code.Finding.{Finding}
 use Rattle.gabc_places.specs.declared.place.Char.{Char}
 use Rattle.gabc_notes.specs.declared.stage.NoteEvent.{NoteEvent}
-use Rattle.gabc_notes.specs.declared.stage.NoteEvent.TheVariants.{Kept, Found, Ended}
+use Rattle.gabc_notes.specs.declared.stage.NoteEvent.TheVariants.{Kept, Ended}
 use Rattle.gabc_patterns.specs.Derivative.{is_snippet, is_viable}
 use Rattle.gabc_patterns.specs.Function.{trim}
 use Rattle.gabc_nabc.specs.Table.{nabc}
@@ -29,12 +29,6 @@ pub with_more : (first now new : BuiltNabc) (xs : List NoteEvent) (i : ℕ) (d :
 with_more first now new xs i d h f g =
     g ∙ ap (λ (t : BuiltNabc). with_event t (get_or xs i d)) f ∙ sym (with_append first (take i xs) (get_or xs i d ∷ []))
     ∙ ap (with_events first) (sym (take_more xs i d h))
-
-pub findings_append : (xs ys : List NoteEvent) → findings_of (xs ++ ys) ≡ findings_of xs ++ findings_of ys
-findings_append [] ys = refl
-findings_append (Found f ∷ xs) ys = ap (λ (l : List Finding). f ∷ l) (findings_append xs ys)
-findings_append (Kept x ∷ xs) ys = findings_append xs ys
-findings_append (Ended e n ∷ xs) ys = findings_append xs ys
 
 -- ---- one character
 

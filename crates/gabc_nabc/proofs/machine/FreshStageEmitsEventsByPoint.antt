@@ -2,6 +2,7 @@
 use Rattle.std.proofs.Common.{◌≡◌, ℕ, ◌<◌, ◌≤◌, List, [], ◌∷◌, ◌++◌, Bool, true, false, cond, ◌&&◌, ◌||◌, ◌==◌, refl, sym, ap, ◌∙◌, subst, arith, Option, Some, None, is_some, option_to_list}
 use native.Mathlib.Decide.{dec_lt}
 use Rattle.std.proofs.lemmas.Bool.Decides.{nat_tests}
+use Rattle.std.proofs.Math.Bool.{or-false}
 use Rattle.gabc_places.specs.declared.code.Code.TheVariants.{E3, E6, W7}
 use Rattle.gabc_places.specs.declared.place.Char.{Char}
 use Rattle.gabc_patterns.specs.Pattern.{is_in}
@@ -120,10 +121,6 @@ viable_at_next t st c o r n = viable_next nabc machine snippets_read st.state (k
     go None = refl
     go (Some z) = snippets_read.alive z
 
-or_false : (a : Bool) → (a || false) ≡ a
-or_false true = refl
-or_false false = refl
-
 -- a character more that is kept
 pub goes_on : (t : List ℕ) (st : NabcStage) (c : ℕ) (z : DescriptorState) → Reached t st → is_end t c ≡ false → is_character t c ≡ true
     → next_state st.state (class_of_character c) ≡ Some z
@@ -149,7 +146,7 @@ goes_on t st c z r e f n =
       kept = bytes ∙ ap bytes_in (sym more);
       whole = go v (trim nabc u) (count_plus st.kept c) st.whole (whole_at z) bytes r.whole ∙ (sym prefix ∙ ap (λ (w : List ℕ). bytes_in (trim nabc w)) (sym more));
       first = ap first_of more ∙ (first ∙ ap (λ (b : Bool). cond b (Some c) None) (ap (λ (b : Bool). b && begins_code c) starts ∙ sym letters.0));
-      joined = ap joins more ∙ (ap (is_in 33) (last_is u c) ∙ (or_false (c == 33) ∙ sym letters.1));
+      joined = ap joins more ∙ (ap (is_in 33) (last_is u c) ∙ (or-false (c == 33) ∙ sym letters.1));
     }
   where
     go : (v w : List ℕ) (k l : ℕ) (b : Bool) → k ≡ bytes_in v → l ≡ bytes_in w → cond b k l ≡ bytes_in (cond b v w)

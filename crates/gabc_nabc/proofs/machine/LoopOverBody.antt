@@ -6,6 +6,7 @@ use Rattle.std.proofs.lemmas.List.{drop_all}
 use Rattle.std.proofs.Math.Seq.{take-append_seam, drop-append_seam}
 use Rattle.std.proofs.lemmas.Str.{encodes-append, length-encode, chars_from_encodes, scalars-chars, IsCharBoundary-at_seam}
 use lib.Utf8.{encode, encodes, scalars}
+use Rattle.gabc_notes.proofs.machine.LoopOverBody.{findings_append}
 use Rattle.gabc_places.proofs.texts.CharactersOfStrings.{scalars_split}
 use Rattle.gabc_places.specs.declared.code.Finding.{Finding}
 use Rattle.gabc_places.specs.declared.place.Char.{Char}
@@ -30,7 +31,7 @@ use Rattle.gabc_nabc.specs.witness.DescriptorMachine.{stage_events_at, stage_aft
 use Rattle.gabc_nabc.specs.machine.BuiltNabc.{BuiltNabc, with_events}
 use Rattle.gabc_nabc.specs.declared.stage.NabcStage.{NabcStage}
 use Rattle.gabc_nabc.proofs.machine.TextWithACharacterMore.{end_more}
-use Rattle.gabc_nabc.proofs.machine.EventsBuildSnippet.{findings_append, gathers_end, gathers_on}
+use Rattle.gabc_nabc.proofs.machine.EventsBuildSnippet.{gathers_end, gathers_on}
 
 -- ---- the kept text is no longer than the text
 
@@ -81,10 +82,6 @@ pub record Reaches (at : Place) (t done rest : List ℕ) (place : Place) (st : N
   pub findings : g.findings ++ findings_of (concat_of (nabc_events_behind done (placed_characters_from place rest))) ≡ findings_of (concat_of (nabc_events (placed_characters_from at t)))
   pub prefix : before_end t ≡ done ++ before_end_behind done rest
   pub counted : index ≡ length (encodes done)
-
-pub begins : (at : Place) (t : List ℕ) (st : NabcStage) (g : BuiltNabc) → ((xs : List Char) → events_left st xs ≡ nabc_events xs) → g ≡ record { kept = []; findings = []; end = None }
-    → Reaches at t [] t at st g 0
-begins at t st g h e = rw e (record { cut = refl; follows = h; unended = refl; kept = refl; opened = refl; findings = refl; prefix = refl; counted = refl })
 
 abbrev first_list : List (List NoteEvent) → List NoteEvent
 first_list [] = []

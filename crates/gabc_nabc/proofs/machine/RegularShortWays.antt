@@ -8,7 +8,7 @@ use Rattle.gabc_nabc.specs.declared.regular.RegularState.{RegularState}
 use Rattle.gabc_nabc.specs.declared.state.DescriptorState.{DescriptorState}
 use Rattle.gabc_nabc.specs.declared.state.DescriptorState.TheVariants.{Start}
 
-stops : (s : DescriptorState) → next_state s Other ≡ None
+pub stops : (s : DescriptorState) → next_state s Other ≡ None
 stops Start = refl
 stops _ = refl
 

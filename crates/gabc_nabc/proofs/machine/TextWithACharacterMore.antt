@@ -3,6 +3,7 @@ use Rattle.std.proofs.Common.{◌≡◌, ℕ, ◌-◌, List, [], ◌∷◌, ◌+
 use Rattle.std.proofs.lemmas.List.Folds.{list_any-append}
 use Rattle.std.proofs.Math.Seq.{take-append_seam, drop-append_seam}
 use Rattle.std.proofs.lemmas.Str.{encodes-append, length-encode}
+use Rattle.std.proofs.Math.Bool.{or-false}
 use lib.Utf8.{encode, encodes}
 use Rattle.gabc_patterns.specs.LongestItems.{Table}
 use Rattle.gabc_patterns.specs.Pattern.{is_in}
@@ -45,17 +46,13 @@ comment_more (d ∷ t) c =
     ∙ (ap (λ (b : Bool). ((d == 37) && not (is_in 10 t || is_in 10 (c ∷ []))) || b) (comment_more t c)
     ∙ comment_step (d == 37) (c == 10) (c == 37) (is_in 10 t) (in_comment t))
 
-or_false : (a : Bool) → (a || false) ≡ a
-or_false true = refl
-or_false false = refl
-
 or_assoc : (a b c : Bool) → (a || (b || c)) ≡ ((a || b) || c)
 or_assoc true b c = refl
 or_assoc false b c = refl
 
 -- whether it has an end
 end_from : (s cs : List ℕ) (c : ℕ) → has_end_behind s (cs ++ c ∷ []) ≡ has_end_behind s cs || is_end (s ++ cs) c
-end_from s [] c = or_false (is_end s c) ∙ ap (λ (t : List ℕ). is_end t c) (sym (append-nil s))
+end_from s [] c = or-false (is_end s c) ∙ ap (λ (t : List ℕ). is_end t c) (sym (append-nil s))
 end_from s (d ∷ cs) c =
     ap (λ (b : Bool). is_end s d || b) (end_from (s ++ d ∷ []) cs c ∙ ap (λ (t : List ℕ). has_end_behind (s ++ d ∷ []) cs || is_end t c) (append_assoc s (d ∷ []) cs))
     ∙ or_assoc (is_end s d) (has_end_behind (s ++ d ∷ []) cs) (is_end (s ++ d ∷ cs) c)

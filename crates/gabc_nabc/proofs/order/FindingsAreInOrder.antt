@@ -1,5 +1,6 @@
 -- The findings are in the order of their places.
 use Rattle.std.proofs.Common.{◌≡◌, ℕ, ◌+◌, ◌<◌, ◌≤◌, List, [], ◌∷◌, ◌++◌, Bool, true, false, cond, refl, sym, subst, arith, ◌⊎◌, inl, inr}
+use Rattle.gabc_notes.proofs.machine.LoopOverBody.{findings_append}
 use Rattle.gabc_places.specs.declared.code.Code.{Code}
 use Rattle.gabc_places.specs.declared.code.Code.TheVariants.{E3, E6, W7}
 use Rattle.gabc_places.specs.declared.code.Finding.{Finding}
@@ -18,7 +19,6 @@ use Rattle.gabc_nabc.specs.Events.{is_character, is_end, has_end, kept_of, first
 use Rattle.gabc_notes.specs.Events.{finding_event, end_by_mark}
 use Rattle.gabc_notes.specs.SnippetRead.{findings_of}
 use Rattle.gabc_nabc.specs.SnippetRead.{AreAtMostOne}
-use Rattle.gabc_nabc.proofs.machine.EventsBuildSnippet.{findings_append}
 
 -- what is emitted of a character has at most one finding, at its place
 pub one_at_most : (t : List ℕ) (x : Char) → AreAtMostOne x.place (findings_of (events_at t x))

@@ -1,5 +1,7 @@
 -- The places between which findings lie, and the marks at which ends are emitted.
 use Rattle.std.proofs.Common.{◌≡◌, ℕ, ◌+◌, suc, List, [], ◌∷◌, ◌++◌, Bool, true, false, cond, not, ◌||◌, ◌==◌, inl, inr, refl, sym, ◌∙◌, subst, length, take, eqb-true, arith}
+use Rattle.gabc_notes.proofs.machine.LoopOverBody.{findings_append}
+use Rattle.gabc_places.proofs.PlacesInOrder.{up_to_self, up_to_then, up_to_next, up_to_past, lie_append}
 use Rattle.gabc_places.specs.declared.code.Code.TheVariants.{E6}
 use Rattle.gabc_places.specs.declared.code.Finding.{Finding}
 use Rattle.gabc_places.specs.declared.place.Char.{Char}
@@ -19,35 +21,9 @@ use Rattle.gabc_nabc.specs.Events.{in_comment, is_end, has_end, kept_of, bytes_i
 use Rattle.gabc_notes.specs.Events.{finding_event, end_by_mark}
 use Rattle.gabc_nabc.specs.SnippetRead.{AreAtMostOne}
 use Rattle.gabc_nabc.proofs.grammar.LawsOfEvents.{no_end}
-use Rattle.gabc_nabc.proofs.machine.EventsBuildSnippet.{findings_append}
 use Rattle.gabc_nabc.proofs.order.FindingsAreInOrder.{one_at_most, cut_quiet}
 
 -- ---- bounds
-
-up_self : (p : Place) → IsUpTo p p
-up_self p = inr (refl, omega arith)
-
-up_then : (p q r : Place) → IsUpTo p q → IsUpTo q r → IsUpTo p r
-up_then p q r (inl a) (inl b) = inl (omega arith)
-up_then p q r (inl a) (inr b) = (let e = b.0 in inl (omega arith))
-up_then p q r (inr a) (inl b) = (let e = a.0 in inl (omega arith))
-up_then p q r (inr a) (inr b) = (let d = a.0 in let e = b.0 in let l = a.1 in let m = b.1 in inr (omega arith, omega arith))
-
-up_next : (p : Place) (c : ℕ) → IsUpTo p (next_place p c)
-up_next p c = go (c == 10)
-  where
-    go : (b : Bool) → IsUpTo p (cond b (record { line = p.line + 1; column = 1 }) (record { line = p.line; column = p.column + 1 }))
-    go true = inl (omega arith)
-    go false = inr (refl, omega arith)
-
--- a text ends no earlier than it begins
-past : (p : Place) (t : List ℕ) → IsUpTo p (place_past p t)
-past p [] = up_self p
-past p (c ∷ t) = up_then p (next_place p c) (place_past (next_place p c) t) (up_next p c) (past (next_place p c) t)
-
-lie_append : (p q : Place) (fs gs : List Finding) → LieBetween p q fs → LieBetween p q gs → LieBetween p q (fs ++ gs)
-lie_append p q [] gs h k = k
-lie_append p q (f ∷ fs) gs h k = (h.0, lie_append p q fs gs h.1 k)
 
 -- the finding of a character that stands between the two
 one_between : (p q r : Place) (fs : List Finding) → AreAtMostOne q fs → IsUpTo p q → IsUpTo q r → LieBetween p r fs
@@ -62,7 +38,7 @@ through at [] [] t p l = subst (LieBetween at p) (sym (cut_quiet t)) tt
 through at [] (c ∷ rest) t p l =
     let x : Char = record { c = c; place = p } in
     subst (LieBetween at p) (sym (findings_append (events_at t x) []))
-    (lie_append at p (findings_of (events_at t x)) [] (one_between at p p (findings_of (events_at t x)) (one_at_most t x) l (up_self p)) tt)
+    (lie_append at p (findings_of (events_at t x)) [] (one_between at p p (findings_of (events_at t x)) (one_at_most t x) l (up_to_self p)) tt)
 through at (c ∷ prefix) rest t p l =
     let x : Char = record { c = c; place = p } in
     let last = place_past (next_place p c) prefix in
@@ -71,11 +47,11 @@ through at (c ∷ prefix) rest t p l =
     subst (λ (k : ℕ). LieBetween at last (findings_of (concat_of (take k (events_at t x ∷ later))))) (sym n)
     (subst (LieBetween at last) (sym (findings_append (events_at t x) (concat_of (take (length prefix + 1) later))))
     (lie_append at last (findings_of (events_at t x)) (findings_of (concat_of (take (length prefix + 1) later)))
-    (one_between at p last (findings_of (events_at t x)) (one_at_most t x) l (past p (c ∷ prefix)))
-    (through at prefix rest (t ++ c ∷ []) (next_place p c) (up_then at p (next_place p c) l (up_next p c)))))
+    (one_between at p last (findings_of (events_at t x)) (one_at_most t x) l (up_to_past p (c ∷ prefix)))
+    (through at prefix rest (t ++ c ∷ []) (next_place p c) (up_to_then at p (next_place p c) l (up_to_next p c)))))
 
 pub all_within : (at : Place) (prefix rest : List ℕ) → LieBetween at (place_past at prefix) (findings_of (concat_of (take (length prefix + 1) (nabc_events (placed_characters_from at (prefix ++ rest))))))
-all_within at prefix rest = through at prefix rest [] at (up_self at)
+all_within at prefix rest = through at prefix rest [] at (up_to_self at)
 
 -- ---- marks
 

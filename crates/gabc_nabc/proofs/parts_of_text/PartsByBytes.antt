@@ -10,9 +10,9 @@ use Rattle.gabc_places.proofs.texts.CharactersOfStrings.{scalars_split}
 use Rattle.gabc_patterns.specs.Function.{longest_item, items, items_within}
 use Rattle.gabc_patterns.proofs.ItemSoFar.{IsBest}
 use Rattle.gabc_patterns.proofs.ItemsFunctionReads.{longest_item_best}
-use Rattle.gabc_patterns.proofs.ItemsOneByOne.{items_none, items_more}
+use Rattle.gabc_patterns.proofs.ItemsOneByOne.{items_more}
 use Rattle.gabc_nabc.specs.Table.{nabc}
-use Rattle.gabc_nabc.specs.Parts.{placed_parts, parts_from, parts_of}
+use Rattle.gabc_nabc.specs.Parts.{placed_parts, parts_of}
 use Rattle.gabc_nabc.specs.machine.Parts.{in_bytes, first_part_of}
 use Rattle.gabc_nabc.specs.declared.descriptor.Descriptor.{Descriptor}
 
@@ -52,14 +52,6 @@ behind_first text at i u e = go (longest_item nabc (chars text)) (longest_item_b
           parts = ap (placed_parts at) (items_more nabc t k n f)
               ∙ ap (λ (r : List ℕ). part_at at (k, length (encodes a)) ∷ placed_parts (at + length (encodes a)) (items nabc r)) (sym later);
         })
-
--- where none begins, there are none
-pub none_from : (text : List ℕ) (at : ℕ) → first_part_of text ≡ None → parts_from at text ≡ []
-none_from text at e = go (longest_item nabc (chars text)) refl
-  where
-    go : (o : Option (Bool × ℕ)) → longest_item nabc (chars text) ≡ o → parts_from at text ≡ []
-    go None f = ap (placed_parts at) (items_none nabc (chars text) f)
-    go (Some i) f = absurd (let g : in_bytes (chars text) (Some i) ≡ None = ap (in_bytes (chars text)) (sym f) ∙ e in cc)
 
 -- ---- they are few
 

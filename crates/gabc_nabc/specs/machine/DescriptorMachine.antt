@@ -1,4 +1,5 @@
--- The machine that reads parts a character at a time. It is no promise: that it reads the table is proved.
+-- The machine that reads parts a character at a time. It is no promise: that it reads the table is
+-- proved.
 use Rattle.std.specs.Prelude.{ℕ, List, [], Bool, true, false, codes, Option, Some, None}
 use Rattle.gabc_nabc.specs.declared.state.DescriptorState.{DescriptorState}
 use Rattle.gabc_nabc.specs.declared.state.DescriptorState.TheVariants.{Start, CodeL, CodeP, CodeS, Code, Glyph, Modified, GlyphH, Pitched, Joined, TailL, TailP, TailS, Points, PointsLetter, Letters, LettersMore, Counted, CountedH, Tail, Slash, Tick, Space}

@@ -1,4 +1,5 @@
--- The machine that reads parts a character at a time. It is no promise: that it reads the table is proved.
+-- The machine that reads parts a character at a time. It is no promise: that it reads the table is
+-- proved.
 use Rattle.std.specs.Prelude.{ℕ, List, [], ◌∷◌, ◌++◌, Bool, true, false, not, ◌&&◌, ◌||◌, ◌==◌, Option, Some, None, is_some, option_to_list, if◌then◌else◌}
 use Rattle.std.specs.Option.{option_or}
 use Rattle.gabc_notes.specs.witness.StageEvents.{count_plus}
@@ -188,7 +189,8 @@ event_list g = option_to_list g.first ++ option_to_list g.second
 abbrev pub comment_in : Bool → ℕ → Bool
 comment_in b c = (c == 37) || (b && not (c == 10))
 
--- the stage behind a character that is kept outside a comment, where `whole` tells that the kept text with it is a snippet
+-- the stage after a character that is kept outside a comment, where `whole` tells that the kept
+-- text with it is a snippet
 abbrev pub stage_kept : NabcStage → DescriptorState → Bool → ℕ → NabcStage
 stage_kept st z whole c = record st {
   state = z;
@@ -197,7 +199,7 @@ stage_kept st z whole c = record st {
   whole = if whole then count_plus st.kept c else st.whole;
 }
 
--- the stage behind a character
+-- the stage after a character
 abbrev pub stage_moved_on : NabcStage → NabcRole → NabcFacts → Option DescriptorState → ℕ → NabcStage
 stage_moved_on st Ends e o c = record st { ended = true }
 stage_moved_on st Keep e (Some z) c = record st {
@@ -218,7 +220,7 @@ facts_at st c = facts_by_states st.state (next_at st c) st.letter c
 abbrev pub role_at : NabcStage → ℕ → NabcRole
 role_at st c = role_in st.comment (is_some (next_at st c)) c
 
--- what a character emits, and the stage behind it
+-- what a character emits, and the stage after it
 abbrev pub stage_events_at : NabcStage → Char → List NoteEvent
 stage_events_at st x = if st.ended then [] else event_list (events_in (role_at st x.c) (facts_at st x.c) st.whole x)
 

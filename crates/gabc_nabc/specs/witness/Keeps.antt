@@ -1,4 +1,5 @@
--- A stage stands behind the text that it kept. Of what it has read nothing else matters but whether a comment is open.
+-- A stage stands after the text that it kept. Of what it has read nothing else matters but whether
+-- a comment is open.
 use Rattle.std.specs.Prelude.{◌≡◌, ℕ, List, [], ◌∷◌, ◌++◌, Bool, true, false, not, ◌&&◌, ◌||◌, ◌==◌, if◌then◌else◌}
 use Rattle.gabc_places.specs.declared.place.Char.{Char}
 use Rattle.gabc_patterns.specs.Pattern.{is_in}
@@ -16,7 +17,7 @@ use Rattle.gabc_nabc.specs.declared.stage.NabcStage.{NabcStage}
 abbrev pub comment_of : NabcStage → Bool
 comment_of s = s.comment
 
--- ---- a character c behind the kept text k, by whether a comment is open
+-- ---- a character c after the kept text k, by whether a comment is open
 
 -- it ends the snippet
 abbrev pub is_end_behind : Bool → ℕ → Bool
@@ -27,40 +28,43 @@ abbrev pub kept_behind : List ℕ → Bool → ℕ → List ℕ
 kept_behind k comment c =
     if not comment && not (is_in c (37 ∷ 32 ∷ 9 ∷ 10 ∷ [])) then (if is_viable nabc (k ++ c ∷ []) then k ++ c ∷ [] else k) else k
 
--- it is kept, where no comment is open, and none is open behind it
+-- it is kept, where no comment is open, and none is open after it
 pub record IsKeptAgain (k : List ℕ) (c : ℕ) : Type 0 where
   pub no_comment : comment_in false c ≡ false
   pub goes_on : is_end_behind false c ≡ false
   pub kept : kept_behind k false c ≡ k ++ c ∷ []
 
--- ---- a stage behind a kept text
+-- ---- a stage after a kept text
 
 -- of k all is kept
 abbrev pub IsKeptWhole : List ℕ → Type 0
 IsKeptWhole k = (before more : List ℕ) (c : ℕ) → k ≡ before ++ c ∷ more → IsKeptAgain before c
 
--- k, and a `%` behind it where a comment is open
+-- k, and a `%` after it where a comment is open
 abbrev pub with_comment : List ℕ → Bool → List ℕ
 with_comment k comment = if comment then k ++ 37 ∷ [] else k
 
--- It emits of whatever follows what is emitted behind k, and behind a `%` where a comment is open; of k all is kept.
+-- It emits of whatever follows what is emitted after k, and after a `%` where a comment is open; of
+-- k all is kept.
 pub record Keeps (s : NabcStage) (k : List ℕ) : Type 0 where
   pub whole : IsKeptWhole k
   pub emits : (xs : List Char) → events_left s xs ≡ nabc_events_behind (with_comment k (comment_of s)) xs
 
--- The stage goes on behind a character.
+-- The stage goes on after a character.
 pub record GoesOn (k : List ℕ) (before : NabcStage) (x : Char) (events : List NoteEvent) (after : NabcStage) : Type 0 where
   pub no_end : ends_of events ≡ []
   pub kept : k ++ kept_of events ≡ kept_behind k (comment_of before) x.c
   pub keeps : Keeps after (k ++ kept_of events)
   pub comment : comment_of after ≡ comment_in (comment_of before) x.c
 
--- It ends with the bytes of the kept text k without an unfinished end, and nothing is kept with the mark c.
+-- It ends with the bytes of the kept text k without an unfinished end, and nothing is kept with the
+-- mark c.
 pub record EndsBehind (k : List ℕ) (c : ℕ) (events : List NoteEvent) : Type 0 where
   pub end : ends_of events ≡ (end_by_mark c, bytes_in (trim nabc k)) ∷ []
   pub none_kept : kept_of events ≡ []
 
--- What a character does to a stage, by the text that it kept and whether a comment is open: it goes on or ends.
+-- What a character does to a stage, by the text that it kept and whether a comment is open: it goes
+-- on or ends.
 pub record KeepsOn (before : NabcStage) (x : Char) (events : List NoteEvent) (after : NabcStage) : Type 0 where
   pub goes : (k : List ℕ) → Keeps before k → is_end_behind (comment_of before) x.c ≡ false → GoesOn k before x events after
   pub ends : (k : List ℕ) → Keeps before k → is_end_behind (comment_of before) x.c ≡ true → EndsBehind k x.c events

@@ -11,7 +11,7 @@ use Rattle.gabc_neumes.specs.declared.state.NoteClass.TheVariants.{First, Up, Do
 
 -- ---- as many as notes, and a prefix of them for a prefix of the notes
 
-many : (b : Option ℕ) (ns : List Note) → length (letters_from b ns) ≡ length ns
+pub many : (b : Option ℕ) (ns : List Note) → length (letters_from b ns) ≡ length ns
 many b [] = refl
 many b (n ∷ ns) = ap suc (many (Some n.height) ns)
 

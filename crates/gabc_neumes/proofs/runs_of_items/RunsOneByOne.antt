@@ -3,9 +3,8 @@ use Rattle.std.proofs.Common.{◌≡◌, ℕ, zero, suc, List, [], ◌∷◌, �
 use Rattle.std.specs.List.{Contains, AllPairs}
 use Rattle.std.proofs.lemmas.List.Elements.{Contains-append_left, Contains-push, Contains-push_cases, Contains-get_or}
 use Rattle.std.proofs.lemmas.List.Quantifiers.{all_pairs_push}
-use Rattle.std.proofs.lemmas.Bool.Decides.{nat_tests}
+use Rattle.std.proofs.lemmas.Bool.{ltb-true, ltb-false}
 use native.Mathlib.Decide.{dec_lt}
-use Rattle.gabc_places.specs.BoundedList.{BoundedList, Fits, extended_by}
 use Rattle.gabc_places.specs.declared.place.Span.{Span}
 use Rattle.gabc_neumes.specs.Runs.{passes_at, IsRun, AreRuns}
 use Rattle.gabc_neumes.specs.machine.Runs.{run_between}
@@ -20,25 +19,7 @@ pub record RunsSoFar {X : Type 0} (p : X → Bool) (xs : List X) (i from : ℕ) 
   pub order : AllPairs (λ s t. s.to < t.from) spans
   pub few : length spans ≤ from
 
-below : (a b : ℕ) → nat_lt a b ≡ true → a < b
-below a b e = grind (arith, nat_tests)
-
-not_below : (a b : ℕ) → nat_lt a b ≡ false → b ≤ a
-not_below a b e = grind (arith, nat_tests)
-
 module _ {X : Type 0} (p : X → Bool) (xs : List X) where
-  -- before the first
-  pub runs_start : RunsSoFar p xs 0 0 []
-  runs_start = record {
-    within = omega arith;
-    open_run = λ k h l. absurd (omega arith);
-    closed = λ k h. absurd (omega arith);
-    are = λ s c. absurd (let l = c.1 in omega arith);
-    all = λ s r l. absurd (omega arith);
-    order = λ i j d l m. absurd (omega arith);
-    few = omega arith;
-  }
-
   -- one more that passes
   pub runs_on : (i from : ℕ) (spans : List Span) → passes_at p xs i ≡ true → RunsSoFar p xs i from spans → RunsSoFar p xs (i + 1) from spans
   runs_on i from spans e h = record {
@@ -111,8 +92,8 @@ module _ {X : Type 0} (p : X → Bool) (xs : List X) where
   runs_close i from spans e h = go (nat_lt from i) refl
     where
       go : (b : Bool) → nat_lt from i ≡ b → RunsSoFar p xs (i + 1) (i + 1) (spans ++ run_between from i)
-      go true f = rw f (one_more i from spans e (below from i f) h)
-      go false f = rw f (subst (RunsSoFar p xs (i + 1) (i + 1)) (sym (append-nil spans)) (none_more i from spans e (let l = not_below from i f in λ y. omega arith) h))
+      go true f = rw f (one_more i from spans e (ltb-true from i f) h)
+      go false f = rw f (subst (RunsSoFar p xs (i + 1) (i + 1)) (sym (append-nil spans)) (none_more i from spans e (let l = ltb-false from i f in λ y. omega arith) h))
 
   pub past : (ys : List X) (k : ℕ) → length ys ≤ k → passes_at p ys k ≡ false
   past [] k l = refl
@@ -137,7 +118,3 @@ module _ {X : Type 0} (p : X → Bool) (xs : List X) where
       at [] k m = absurd (omega arith)
       at (y ∷ ys) zero m = refl
       at (y ∷ ys) (suc k) m = at ys k (omega arith)
-
-  -- where a run ends there is room for it
-  pub runs_fit : (i from : ℕ) (spans : List Span) (r : BoundedList Span) → RunsSoFar p xs i from spans → i ≤ length xs → Fits r (length xs) → from < i → Fits (extended_by r spans) 1
-  runs_fit i from spans r h l room y = let few = h.few in omega (arith, few, room, length-append r.items spans)

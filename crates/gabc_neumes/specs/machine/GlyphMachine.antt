@@ -16,7 +16,7 @@ use Rattle.gabc_neumes.specs.declared.state.JoinedBase.TheVariants as joined
 use Rattle.gabc_neumes.specs.declared.state.GlyphState.{GlyphState}
 use Rattle.gabc_neumes.specs.declared.state.GlyphState.TheVariants.{Start, One, Plain, Falling, Half, Climacus, Resumed, ResumedClimacus}
 
--- the class of a note of that shape at the height here, behind one at the height before
+-- the class of a note of that shape at the height here, after one at the height before
 abbrev pub step_class : Shape → ℕ → ℕ → NoteClass
 step_class shape.Inclinatum before here = if nat_lt here before then PointDown else if nat_lt before here then PointUp else PointLevel
 step_class s before here = if is_joinable s then (if nat_lt here before then Down else if nat_lt before here then Up else Level) else Other

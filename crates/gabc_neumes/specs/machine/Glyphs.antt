@@ -18,7 +18,7 @@ pub record IsFirstGlyph (notes : List Note) (kind : GlyphKind) (count : ℕ) : T
   pub item : IsItemOf neumes kind (take count (letters notes))
   pub none : (m : ℕ) → count < m → m ≤ length (letters notes) → ¬ IsItem neumes (take m (letters notes))
 
--- a search behind a note more, if a glyph may go on with it
+-- a search after a note more, if a glyph may go on with it
 abbrev pub search_with : GlyphSearch → Note → Option GlyphSearch
 search_with s note =
     option_map

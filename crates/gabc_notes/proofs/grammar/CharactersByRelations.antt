@@ -1,5 +1,6 @@
 -- What is said of a snippet's characters by relations is what is computed of them.
 use Rattle.std.proofs.Common.{◌≡◌, ℕ, List, [], ◌∷◌, ◌++◌, Bool, true, false, cond, not, ◌&&◌, ◌||◌, ◌==◌, inl, inr, refl, sym, ap, ◌∙◌, subst, codes, map, Option, Some, None}
+use Rattle.std.proofs.lemmas.Bool.{not-true, false_from_ne_true}
 use Rattle.std.specs.Prelude.{◌↔◌, IsTrue}
 use Rattle.std.specs.List.{list_any}
 use Rattle.gabc_places.specs.declared.place.Char.{Char}
@@ -18,7 +19,7 @@ use Rattle.gabc_notes.specs.Raw.{IsOpen}
 use Rattle.gabc_notes.specs.Events.{ItemText, in_raw, outside_comments, with_comments, kept, is_comment, is_in_raw, kept_with, is_kept, last_of, last_item, item_at, opens_fusion, closes_fusion, is_fused, opener}
 use Rattle.gabc_notes.specs.NotesRead.{Marked, outside, IsKeptOf, IsInRaw, IsInComment, AreMarked, IsKeptWith, EndsItem, IsFused, IsKeptOutside, IsOpener}
 use Rattle.gabc_notes.specs.declared.item.ItemKind.TheVariants.{Note, Alteration, Clef, Bar, Spacing, Custos, Break, Attribute, Fusion}
-use Rattle.gabc_notes.proofs.grammar.LawsOfEventsByPoint.{comment_decides, not_true}
+use Rattle.gabc_notes.proofs.grammar.LawsOfEventsByPoint.{comment_decides}
 use Rattle.gabc_notes.proofs.grammar.OpenBracketByLastItem.{open_decides}
 use Rattle.gabc_notes.proofs.items_of_text.ItemAtCharacter.{last_item_is}
 use Rattle.gabc_notes.proofs.machine.OneCharacterMore.{point, fused_more, opener_more}
@@ -30,11 +31,6 @@ marks (x ∷ back) = (x, is_comment (point back x)) ∷ marks back
 
 abbrev pub chars_of : List Marked → List Char
 chars_of ms = map (λ (m : Marked). m.0) ms
-
--- a test that is not true
-pub false_else : (b : Bool) → (b ≡ true → ⊥) → b ≡ false
-false_else true h = absurd (h refl)
-false_else false h = refl
 
 pub chars_marks : (back : List Char) → chars_of (marks back) ≡ back
 unfolding marks
@@ -64,7 +60,7 @@ pub no_raw_to : (back : List Char) → in_raw (kept back) ≡ false → ¬ IsInR
 no_raw_to back e h = let f = raw_from back h in absurd (cc)
 
 pub no_raw_from : (back : List Char) → (¬ IsInRaw (marks back)) → in_raw (kept back) ≡ false
-no_raw_from back h = false_else (in_raw (kept back)) (λ e. h (raw_to back e))
+no_raw_from back h = false_from_ne_true (in_raw (kept back)) (λ e. h (raw_to back e))
 
 -- ---- comments
 
@@ -206,7 +202,7 @@ pub kept_with_to : (back : List Char) (x : Char) → is_kept (point back x) ≡ 
 unfolding marks
 kept_with_to back x e =
     let f = and_true (not (is_comment (point back x))) (is_viable gabc (kept_with (point back x))) e in
-    (not_true (is_comment (point back x)) f.0, (kept back, kept_keeps back, refl, viable_from gabc refl (kept_with (point back x)) f.1))
+    (not-true (is_comment (point back x)) f.0, (kept back, kept_keeps back, refl, viable_from gabc refl (kept_with (point back x)) f.1))
 
 pub kept_with_from : (back : List Char) (x : Char) (t : List ℕ) → IsKeptWith (marks (x ∷ back)) t → (is_kept (point back x) ≡ true) × (t ≡ kept_with (point back x))
 unfolding marks
@@ -309,7 +305,7 @@ outside_to : (back : List Char) (x : Char) → (is_kept (point back x) && not (i
 unfolding marks
 outside_to back x e =
     let f = and_true (is_kept (point back x)) (not (is_in_raw (point back x))) e in
-    ((kept_with (point back x), kept_with_to back x f.0), no_raw_to back (not_true (is_in_raw (point back x)) f.1))
+    ((kept_with (point back x), kept_with_to back x f.0), no_raw_to back (not-true (is_in_raw (point back x)) f.1))
 
 outside_from : (back : List Char) (x : Char) → IsKeptOutside (marks (x ∷ back)) → (is_kept (point back x) && not (is_in_raw (point back x))) ≡ true
 unfolding marks
@@ -333,4 +329,4 @@ opener_only [] p h = h
 opener_only (x ∷ back) p (inl h) = h.1 ∙ sym (opener_more back x ∙ ap (λ (b : Bool). cond b x.place (opener back)) (outside_from back x h.0))
 opener_only (x ∷ back) p (inr h) =
     opener_only back p h.1
-    ∙ sym (opener_more back x ∙ ap (λ (b : Bool). cond b x.place (opener back)) (false_else (is_kept (point back x) && not (is_in_raw (point back x))) (λ e. h.0 (outside_to back x e))))
+    ∙ sym (opener_more back x ∙ ap (λ (b : Bool). cond b x.place (opener back)) (false_from_ne_true (is_kept (point back x) && not (is_in_raw (point back x))) (λ e. h.0 (outside_to back x e))))

@@ -1,5 +1,6 @@
 -- What is emitted of a snippet by relations is what is computed character by character.
 use Rattle.std.proofs.Common.{◌≡◌, ℕ, List, [], ◌∷◌, ◌++◌, Bool, true, false, cond, not, ◌&&◌, ◌⊎◌, inl, inr, refl, sym, ap, ◌∙◌, subst}
+use Rattle.std.proofs.lemmas.Bool.{false_from_ne_true}
 use Rattle.std.specs.Prelude.{map}
 use Rattle.gabc_places.specs.declared.code.Code.TheVariants.{E1, E6, W8, W10}
 use Rattle.gabc_places.specs.declared.code.Finding.{Finding}
@@ -18,7 +19,7 @@ use Rattle.gabc_notes.specs.declared.stage.NoteEnd.TheVariants.{Cut}
 use Rattle.gabc_notes.specs.declared.stage.NoteEvent.{NoteEvent}
 use Rattle.gabc_notes.specs.declared.stage.NoteEvent.TheVariants.{Kept, Found, Ended}
 use Rattle.gabc_notes.proofs.FoundOnce.{kept_once, found_once}
-use Rattle.gabc_notes.proofs.grammar.CharactersByRelations.{marks, mark_only, are_marked, false_else, kept_keeps, kept_only, kept_with_to, kept_with_from}
+use Rattle.gabc_notes.proofs.grammar.CharactersByRelations.{marks, mark_only, are_marked, kept_keeps, kept_only, kept_with_to, kept_with_from}
 use Rattle.gabc_notes.proofs.grammar.FindingsByRelations.{Found as IsFoundHere, found_here, one_finding}
 use Rattle.gabc_notes.proofs.grammar.LawsOfEventsByPoint.{cut_outs, more_over}
 use Rattle.gabc_notes.proofs.grammar.ReadByRelations.{end_to, end_from, end_found, end_found_only, cut_at, cut_only}
@@ -158,7 +159,7 @@ relations_give_events split macros back (x ∷ xs) lists o (inl (events, m, e)) 
     emits n (inl f) = absurd (cc)
     emits n (inr f) = f.1
 relations_give_events split macros back (x ∷ xs) lists o (inr (comment, events, later, m, l, e)) =
-    let n : is_end split (point back x) ≡ false = false_else (is_end split (point back x)) (λ f. m.no_end (end_to split back x f)) in
+    let n : is_end split (point back x) ≡ false = false_from_ne_true (is_end split (point back x)) (λ f. m.no_end (end_to split back x f)) in
     let same = mark_only back x comment m.marked in
     e ∙ (ap (λ (es : List NoteEvent). es ∷ later) (of_character_only split macros back x events o n (subst (λ (b : Bool). AreOfCharacter split macros (marks back) (x, b) events) same m))
     ∙ ap (λ (r : List (List NoteEvent)). events_at split macros (point back x) ∷ r)

@@ -1,5 +1,6 @@
 -- What is found at a snippet's characters by relations is what is computed of them.
 use Rattle.std.proofs.Common.{◌≡◌, ℕ, List, [], ◌∷◌, ◌++◌, Bool, true, false, cond, not, ◌&&◌, ◌||◌, ◌⊎◌, inl, inr, refl, sym, ap, ◌∙◌, subst, codes, Option, Some, None}
+use Rattle.std.proofs.lemmas.Bool.{not-true, false_from_ne_true}
 use Rattle.gabc_places.specs.declared.code.Code.{Code}
 use Rattle.gabc_places.specs.declared.code.Code.TheVariants.{E1, W8, W10}
 use Rattle.gabc_places.specs.declared.code.Finding.{Finding}
@@ -15,8 +16,7 @@ use Rattle.gabc_notes.specs.declared.item.ItemKind.TheVariants.{Note, Alteration
 use Rattle.gabc_notes.specs.declared.stage.NoteEvent.{NoteEvent}
 use Rattle.gabc_notes.specs.declared.stage.NoteEvent.TheVariants.{Kept}
 use Rattle.gabc_notes.proofs.FoundOnce.{same_finding, found_once}
-use Rattle.gabc_notes.proofs.grammar.CharactersByRelations.{marks, false_else, kept_with_to, kept_with_from, item_to, item_from, opens_some, closes_some, opens_to, opens_from, closes_to, closes_from, fused_to, fused_from, opener_is, opener_only}
-use Rattle.gabc_notes.proofs.grammar.LawsOfEventsByPoint.{not_true}
+use Rattle.gabc_notes.proofs.grammar.CharactersByRelations.{marks, kept_with_to, kept_with_from, item_to, item_from, opens_some, closes_some, opens_to, opens_from, closes_to, closes_from, fused_to, fused_from, opener_is, opener_only}
 use Rattle.gabc_notes.proofs.machine.OneCharacterMore.{point}
 
 -- ---- what is found at a character
@@ -39,7 +39,7 @@ missing_some macros (Some (Attribute, t)) e = go (macro_in t) refl e
     go : (d : Option ℕ) → macro_in t ≡ d → is_missing macros d ≡ true
         → (u : List ℕ) × (digit : ℕ) × (◌≡◌ {A = Option ItemText} (Some (Attribute, t)) (Some (Attribute, u))) × (macro_in u ≡ Some digit) × (is_defined macros digit ≡ false)
     go None f g = absurd (cc)
-    go (Some d) f g = (t, d, refl, f, not_true (is_defined macros d) g)
+    go (Some d) f g = (t, d, refl, f, not-true (is_defined macros d) g)
 missing_some macros None e = absurd (cc)
 missing_some macros (Some (Note, t)) e = absurd (cc)
 missing_some macros (Some (Alteration, t)) e = absurd (cc)
@@ -62,7 +62,7 @@ unpaired_to : (back : List Char) (x : Char) → is_unpaired (point back x) ≡ t
 unpaired_to back x e = elim (or_true (opens_fusion (item_at (point back x)) && is_fused back) (closes_fusion (item_at (point back x)) && not (is_fused back)) e) [
   | inl h ↦ (let g = and_true (opens_fusion (item_at (point back x))) (is_fused back) h in inl (opens_to back x g.0, fused_to back g.1))
   | inr h ↦ (let g = and_true (closes_fusion (item_at (point back x))) (not (is_fused back)) h in
-      inr (closes_to back x g.0, λ f. (let a = not_true (is_fused back) g.1 in let b = fused_from back f in absurd (cc))))
+      inr (closes_to back x g.0, λ f. (let a = not-true (is_fused back) g.1 in let b = fused_from back f in absurd (cc))))
 ]
 
 unpaired_from : (back : List Char) (x : Char)
@@ -75,7 +75,7 @@ unpaired_from back x (inl h) =
     ∙ ap (λ (b : Bool). b || (closes_fusion (item_at (point back x)) && not (is_fused back))) f
 unpaired_from back x (inr h) =
     let o = closes_from back x h.0 in
-    let f : is_fused back ≡ false = false_else (is_fused back) (λ e. h.1 (fused_to back e)) in
+    let f : is_fused back ≡ false = false_from_ne_true (is_fused back) (λ e. h.1 (fused_to back e)) in
     ap (λ (b : Bool). (opens_fusion (item_at (point back x)) && is_fused back) || (b && not (is_fused back))) o
     ∙ (ap (λ (b : Bool). (opens_fusion (item_at (point back x)) && is_fused back) || not b) f ∙ last (opens_fusion (item_at (point back x)) && is_fused back))
   where

@@ -1,5 +1,6 @@
 -- A text lies inside raw exactly where a bracket is open.
 use Rattle.std.proofs.Common.{◌≡◌, ℕ, ◌≤◌, List, [], ◌∷◌, ◌++◌, Bool, true, false, cond, not, ◌&&◌, ◌||◌, ◌==◌, ◌⊎◌, inl, inr, refl, sym, ap, ◌∙◌, subst, Option, Some, None, arith, eqb-true, ne_eqb}
+use Rattle.std.proofs.lemmas.Bool.{or_parts, not-true}
 use native.Mathlib.Decide.{dec_lt}
 use Rattle.gabc_patterns.specs.Pattern.{is_in}
 use Rattle.gabc_patterns.specs.LongestItems.{IsSnippet}
@@ -170,25 +171,13 @@ raw_then : (a b d : Bool) → a ≡ true → cond a b d ≡ true → b ≡ true
 raw_then true b d e f = f
 raw_then false b d e f = absurd (cc)
 
-raw_else : (a b d : Bool) → b ≡ false → d ≡ false → cond a b d ≡ true → ⊥
-raw_else true b d e f g = absurd (cc)
-raw_else false b d e f g = absurd (cc)
-
-or_false : (a b : Bool) → (a || b) ≡ false → (a ≡ false) × (b ≡ false)
-or_false true b e = absurd (cc)
-or_false false b e = (refl, e)
-
-not_true : (b : Bool) → not b ≡ true → b ≡ false
-not_true true e = absurd (cc)
-not_true false e = refl
-
 -- a character behind which the text lies inside raw
 pub step_in : (s z : ItemState) (c : ℕ) → on s c ≡ Some z → raw_state z ≡ true → ((raw_state s ≡ true) × (c == 93 ≡ false)) ⊎ ((c ≡ 91) × (whole_at s ≡ true))
 step_in s z c e h =
     let r : is_raw (on s c) ≡ true = ap is_raw e ∙ h in
     let f = raw_then (is_raw (on s c)) ((raw_state s && not (c == 93)) || ((c == 91) && (whole_at s && not (raw_state s)))) (not (raw_state s) || (c == 93)) r (test_at s c) in
     elim (or_true (raw_state s && not (c == 93)) ((c == 91) && (whole_at s && not (raw_state s))) f) [
-      | inl x ↦ (let g = and_true (raw_state s) (not (c == 93)) x in inl (g.0, not_true (c == 93) g.1))
+      | inl x ↦ (let g = and_true (raw_state s) (not (c == 93)) x in inl (g.0, not-true (c == 93) g.1))
       | inr x ↦ (let g = and_true (c == 91) (whole_at s && not (raw_state s)) x in inr (eqb-true c 91 g.0, (and_true (whole_at s) (not (raw_state s)) g.1).0))
     ]
 
@@ -250,7 +239,7 @@ open_to t h = elim (find Start t (sym (raw_emitted t) ∙ h)) [
 stays : (s : ItemState) (r : List ℕ) → raw_state s ≡ true → is_in 93 r ≡ false → is_raw (walk_from (Some s) r) ≡ true
 stays s [] h e = h
 stays s (c ∷ r) h e =
-    let f = or_false (c == 93) (is_in 93 r) e in
+    let f = or_parts (c == 93) (is_in 93 r) e in
     go (on s c) (step_on s c h f.0) (λ z k. stays z r k f.1)
   where
     go : (o : Option ItemState) → is_raw o ≡ true → ((z : ItemState) → raw_state z ≡ true → is_raw (walk_from (Some z) r) ≡ true) → is_raw (walk_from o r) ≡ true

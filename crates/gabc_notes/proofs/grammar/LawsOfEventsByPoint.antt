@@ -4,6 +4,7 @@ use Rattle.std.specs.Prelude.{sum_by}
 use Rattle.std.specs.Char.{len_utf8}
 use Rattle.std.specs.List.{list_any}
 use Rattle.std.proofs.lemmas.List.Sums.{sum_by-append}
+use Rattle.std.proofs.lemmas.Bool.{not-true}
 use Rattle.gabc_places.specs.declared.place.Char.{Char}
 use Rattle.gabc_places.specs.StageLaw.{concat_of}
 use Rattle.gabc_patterns.specs.Pattern.{is_in}
@@ -28,10 +29,6 @@ use Rattle.gabc_notes.proofs.machine.OneCharacterMore.{point, kept_more, kept_sa
 
 -- ---- comments
 
-pub not_true : (b : Bool) → not b ≡ true → b ≡ false
-not_true true e = absurd (cc)
-not_true false e = refl
-
 -- a `%` outside raw
 begins_comment : (back : List Char) (x : Char) → (not (in_raw (kept back)) && (x.c == 37)) ≡ true → InComment (x ∷ back)
 begins_comment back x h = (let g = and_true (not (in_raw (kept back))) (x.c == 37) h in record {
@@ -40,7 +37,7 @@ begins_comment back x h = (let g = and_true (not (in_raw (kept back))) (x.c == 3
   before = back;
   cut = refl;
   percent = eqb-true x.c 37 g.1;
-  outside = not_true (in_raw (kept back)) g.0;
+  outside = not-true (in_raw (kept back)) g.0;
   no_feed = refl;
 })
 
@@ -56,7 +53,7 @@ comment_to (y ∷ back) x e =
         cut = ap (λ (l : List Char). x ∷ l) i.cut;
         percent = i.percent;
         outside = i.outside;
-        no_feed = ap (λ (b : Bool). b || list_any (λ (y : Char). y.c == 10) i.line) (not_true (x.c == 10) f.0) ∙ i.no_feed;
+        no_feed = ap (λ (b : Bool). b || list_any (λ (y : Char). y.c == 10) i.line) (not-true (x.c == 10) f.0) ∙ i.no_feed;
       })
       | inr h ↦ begins_comment (y ∷ back) x h
     ]
@@ -92,7 +89,7 @@ comment_decides back x = (comment_to back x, λ h. comment_by back h.line h.befo
 
 -- ---- what is emitted
 
-kept_append : (a b : List NoteEvent) → kept_of (a ++ b) ≡ kept_of a ++ kept_of b
+pub kept_append : (a b : List NoteEvent) → kept_of (a ++ b) ≡ kept_of a ++ kept_of b
 kept_append [] b = refl
 kept_append (Kept x ∷ a) b = ap (λ (l : List ℕ). x.c ∷ l) (kept_append a b)
 kept_append (Found f ∷ a) b = kept_append a b

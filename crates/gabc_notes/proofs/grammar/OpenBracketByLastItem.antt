@@ -1,5 +1,6 @@
 -- An open bracket, by the last item before it.
 use Rattle.std.proofs.Common.{◌≡◌, ℕ, List, [], ◌∷◌, ◌++◌, Bool, true, false, cond, inl, inr, refl, sym, ap, ◌∙◌, subst, codes, Option, Some, None, append-nil, append_assoc, Decides}
+use Rattle.std.proofs.lemmas.List.{same_from_push}
 use Rattle.gabc_patterns.specs.LongestItems.{IsItemOf, IsItem, IsReading, IsSnippet, IsViable}
 use Rattle.gabc_patterns.specs.Derivative.{is_alive, is_whole}
 use Rattle.gabc_patterns.proofs.AutomatonsByTests.{reading}
@@ -18,7 +19,7 @@ use Rattle.gabc_notes.specs.declared.state.ItemState.{ItemState}
 use Rattle.gabc_notes.proofs.machine.MachineReadsTable.{machine, snippets_read}
 use Rattle.gabc_notes.proofs.grammar.InsideRawIsAnOpenBracket.{on, open_to, open_from}
 use Rattle.gabc_notes.proofs.items_of_text.LastItemByState.{ReadsOn, shrink, join_reading}
-use Rattle.gabc_notes.proofs.items_of_text.ItemAtCharacter.{ends_of, push_same, prefix_snippet, fusion_open}
+use Rattle.gabc_notes.proofs.items_of_text.ItemAtCharacter.{ends_of, prefix_snippet, fusion_open}
 use Rattle.gabc_notes.proofs.items_of_text.ItemByStates.{Steps, opened_at, closed_at, joined_at, marks_tested, opened_by, raw_alone, kind_ends, stands}
 
 viable : (t : List ℕ) → IsSnippet gabc t → IsViable gabc t
@@ -73,7 +74,7 @@ joins_at before h i =
       | inr x ↦ (let y = kind_ends before 91 n.from n.to Fusion n.steps (ap (λ (q : ItemState). kind_at (reading gabc machine q)) x.0) in
           let e = y.1 in
           let mark : y.0 ≡ codes "@[" = fusion_open before y.0 e in
-          let cut : before ≡ e.prefix ++ codes "@" = (push_same before (e.prefix ++ codes "@") 91 91 (e.cut ∙ (ap (λ (v : List ℕ). e.prefix ++ v) mark ∙ sym (append_assoc e.prefix (codes "@") (91 ∷ []))))).0 in
+          let cut : before ≡ e.prefix ++ codes "@" = (same_from_push before (e.prefix ++ codes "@") 91 91 (e.cut ∙ (ap (λ (v : List ℕ). e.prefix ++ v) mark ∙ sym (append_assoc e.prefix (codes "@") (91 ∷ []))))).0 in
           let on_prefix : ReadsOn gabc e.before e.prefix (codes "@") = shrink gabc e.before e.prefix (codes "@") (91 ∷ []) (subst (ReadsOn gabc e.before e.prefix) mark e.reads) in
           let has : IsItemOf gabc Fusion (codes "@") = item_at_end gabc (codes "@") Fusion refl in (
             e.before,

@@ -8,6 +8,7 @@ use Rattle.std.specs.List.{fold}
 use Rattle.std.proofs.Math.Seq.{drop-append_seam}
 use Rattle.std.proofs.lemmas.List.{reverse-reverse}
 use Rattle.std.proofs.lemmas.Grind.{reverse_onto}
+use Rattle.std.proofs.lemmas.Bool.{not-true, false_from_ne_true}
 use Rattle.gabc_places.specs.declared.code.Code.TheVariants.{E6, W10}
 use Rattle.gabc_places.specs.declared.code.Finding.{Finding}
 use Rattle.gabc_places.specs.declared.place.Char.{Char}
@@ -31,8 +32,8 @@ use Rattle.gabc_notes.specs.declared.stage.NoteEnd.TheVariants as ending
 use Rattle.gabc_notes.specs.declared.stage.NoteEvent.{NoteEvent}
 use Rattle.gabc_notes.specs.declared.stage.NoteEvent.TheVariants.{Ended}
 use Rattle.gabc_notes.proofs.FoundOnce.{found_once}
-use Rattle.gabc_notes.proofs.grammar.CharactersByRelations.{marks, chars_of, chars_marks, marks_cut, marked_only, are_marked, remark, false_else, kept_keeps, kept_only, raw_to, raw_from, no_raw_to, no_raw_from, comment_to, comment_from, fused_to, fused_from, opener_is, opener_only}
-use Rattle.gabc_notes.proofs.grammar.LawsOfEventsByPoint.{not_true, over_joined, cut_outs, more_over}
+use Rattle.gabc_notes.proofs.grammar.CharactersByRelations.{marks, chars_of, chars_marks, marks_cut, marked_only, are_marked, remark, kept_keeps, kept_only, raw_to, raw_from, no_raw_to, no_raw_from, comment_to, comment_from, fused_to, fused_from, opener_is, opener_only}
+use Rattle.gabc_notes.proofs.grammar.LawsOfEventsByPoint.{over_joined, cut_outs, more_over}
 use Rattle.gabc_notes.proofs.machine.LoopOverBody.{findings_append, is_emitted}
 use Rattle.gabc_notes.proofs.machine.OneCharacterMore.{point}
 use Rattle.gabc_notes.proofs.grammar.FindingsByRelations.{Found, found_here, one_found}
@@ -48,14 +49,14 @@ end_to split back x e =
         | inl h ↦ inl (eqb-true x.c 41 h)
         | inr h ↦ (let i = and_true split (x.c == 124) h in inr (i.0, eqb-true x.c 124 i.1))
       ];
-      no_comment = λ i. (let a = comment_from back x false i in let b = not_true (is_comment (point back x)) f.0 in absurd (cc));
-      no_raw = no_raw_to back (not_true (in_raw (kept back)) g.0);
+      no_comment = λ i. (let a = comment_from back x false i in let b = not-true (is_comment (point back x)) f.0 in absurd (cc));
+      no_raw = no_raw_to back (not-true (in_raw (kept back)) g.0);
     }
 
 pub end_from : (split : Bool) (back : List Char) (x : Char) → IsEnd split (marks back) x → is_end split (point back x) ≡ true
 unfolding marks
 end_from split back x h =
-    let quiet : is_comment (point back x) ≡ false = false_else (is_comment (point back x)) (λ e. h.no_comment (remark x (is_comment (point back x)) false (marks back) (comment_to back x e))) in
+    let quiet : is_comment (point back x) ≡ false = false_from_ne_true (is_comment (point back x)) (λ e. h.no_comment (remark x (is_comment (point back x)) false (marks back) (comment_to back x e))) in
     ap (λ (b : Bool). not b && (not (in_raw (kept back)) && ((x.c == 41) || (split && (x.c == 124))))) quiet
     ∙ (ap (λ (b : Bool). not b && ((x.c == 41) || (split && (x.c == 124)))) (no_raw_from back h.no_raw) ∙ go h.mark)
   where
@@ -92,7 +93,7 @@ pub none_over : (split : Bool) (back : List Char) → ((behind before : List Mar
 unfolding marks
 none_over split [] h = refl
 none_over split (x ∷ back) h =
-    ap (λ (b : Bool). b || is_over split back) (false_else (is_end split (point back x)) (λ e. h [] (marks back) (x, is_comment (point back x)) refl (end_to split back x e)))
+    ap (λ (b : Bool). b || is_over split back) (false_from_ne_true (is_end split (point back x)) (λ e. h [] (marks back) (x, is_comment (point back x)) refl (end_to split back x e)))
     ∙ none_over split back (λ behind before m e. h ((x, is_comment (point back x)) ∷ behind) before m (ap (λ (u : List Marked). (x, is_comment (point back x)) ∷ u) e))
 
 -- ---- the snippet and what follows it
@@ -188,7 +189,7 @@ stop_is : (split : Bool) (back xs rest : List Char) → is_over split (reverse_a
 stop_is split back [] [] o m = refl
 stop_is split back [] (x ∷ rest) o m = ap (λ (b : Bool). cond b (record { back = back; mark = Some x.c }) (stop_after split (x ∷ back) rest)) m
 stop_is split back (x ∷ xs) rest o m =
-    let e : is_end split (point back x) ≡ false = false_else (is_end split (point back x)) (λ e. (let f = over_on split (x ∷ back) xs (ap (λ (b : Bool). b || is_over split back) e) in absurd (cc))) in
+    let e : is_end split (point back x) ≡ false = false_from_ne_true (is_end split (point back x)) (λ e. (let f = over_on split (x ∷ back) xs (ap (λ (b : Bool). b || is_over split back) e) in absurd (cc))) in
     ap (λ (b : Bool). cond b (record { back = back; mark = Some x.c }) (stop_after split (x ∷ back) (xs ++ rest))) e ∙ stop_is split (x ∷ back) xs rest o m
 
 aux_append : (xs ys : List Char) → reverse_aux xs ys ≡ reverse xs ++ ys

@@ -1,5 +1,5 @@
 -- A snippet in front of its mark is read again as that snippet.
-use Rattle.std.proofs.Common.{◌≡◌, ℕ, suc, ◌+◌, List, [], ◌∷◌, ◌++◌, Bool, true, false, cond, not, ◌&&◌, ◌||◌, ◌==◌, refl, sym, ap, ◌∙◌, subst, length, take, Option, Some, None, append-nil, append_assoc, ne_eqb, arith}
+use Rattle.std.proofs.Common.{◌≡◌, ℕ, suc, List, [], ◌∷◌, ◌++◌, Bool, true, false, cond, not, ◌&&◌, ◌||◌, ◌==◌, refl, sym, ap, ◌∙◌, subst, length, take, Option, Some, None, append-nil, append_assoc, ne_eqb, add-one}
 use mathlib.Core.List.{reverse_aux}
 use Rattle.std.specs.List.{All}
 use Rattle.std.proofs.Math.Seq.{take-length}
@@ -138,7 +138,7 @@ goes_on split back x n v = record {
 
 -- ---- what is emitted of such a character, and of the mark
 
-abbrev AllWarnings : List NoteEvent → Type 0
+abbrev pub AllWarnings : List NoteEvent → Type 0
 AllWarnings events = All IsWarning (findings_of events)
 
 one_warns : (place : Place) → AllWarnings (finding_event place W10 ∷ [])
@@ -262,9 +262,6 @@ reads_on split macros at (c ∷ t) rest mark back m n o s =
           (All-append IsWarning (findings_of (events_at split macros (point back x))) (findings_of later) (subst AllWarnings (sym e) w.1) y.all_warn);
     }
 
-one_more : (n : ℕ) → n + 1 ≡ suc n
-one_more n = omega arith
-
 -- a snippet in front of its mark
 pub read_again : (split : Bool) (macros : ℕ) (at : Place) (how : NoteEnd) (t rest : List ℕ) (mark : ℕ) → IsSnippet gabc t → IsMarkOf split how mark
     → IsReadAgain split macros at t mark rest
@@ -281,7 +278,7 @@ read_again split macros at how t rest mark s m =
           ∙ (ap (λ (n : ℕ). take n (kept_chars_of (concat_of (note_events split macros (placed_characters_from at (t ++ mark ∷ rest)))))) long
           ∙ (ap (λ (l : List Char). take (length xs) l) y.chars ∙ take-length xs));
       unended = y.unended;
-      ended = ap (λ (n : ℕ). ends_of (concat_of (take n (note_events split macros (placed_characters_from at (t ++ mark ∷ rest)))))) (one_more (length t))
+      ended = ap (λ (n : ℕ). ends_of (concat_of (take n (note_events split macros (placed_characters_from at (t ++ mark ∷ rest)))))) (add-one (length t))
           ∙ (y.ended ∙ ap (λ (k : List ℕ). (end_by_mark mark, bytes_of k) ∷ []) (trim_snippet gabc refl t s));
       warnings = y.all_warn;
     }

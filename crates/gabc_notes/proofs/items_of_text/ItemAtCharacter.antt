@@ -1,5 +1,6 @@
 -- The item that ends with a character, by the states before and behind it.
 use Rattle.std.proofs.Common.{◌≡◌, ℕ, ◌⊎◌, inl, inr, List, [], ◌∷◌, ◌++◌, Bool, true, false, cond, ◌||◌, ◌==◌, IsTrue, refl, sym, ap, ◌∙◌, subst, codes, Some, None, append-nil, append_assoc, eqb-true, ne_eqb, arith}
+use Rattle.std.proofs.lemmas.List.{same_from_push}
 use Rattle.std.specs.List.{concat}
 use Rattle.gabc_patterns.specs.Pattern.{Spells, Each, is_in, any_but, one_of, text}
 use Rattle.gabc_patterns.specs.LongestItems.{IsItemOf, IsReading, IsSnippet}
@@ -16,26 +17,6 @@ use Rattle.gabc_notes.proofs.grammar.LawsOfKeptTexts.{kinds_are_one}
 use Rattle.gabc_notes.proofs.items_of_text.LastItemByState.{last_is, ReadsOn, shrink, cut_reading, join_reading}
 
 -- ---- the last of a list
-
--- lists with an element more at the end
-pub push_same : {X : Type 0} (a b : List X) (x y : X) → a ++ x ∷ [] ≡ b ++ y ∷ [] → (a ≡ b) × (x ≡ y)
-push_same [] [] x y e = (refl, (cc))
-push_same [] (d ∷ b) x y e = absurd (let f : [] ≡ b ++ y ∷ [] = cc in none_pushed b y f)
-  where
-    none_pushed : {X : Type 0} (b : List X) (y : X) → [] ≡ b ++ y ∷ [] → ⊥
-    none_pushed [] y f = cc
-    none_pushed (d ∷ b) y f = cc
-push_same (c ∷ a) [] x y e = absurd (let f : a ++ x ∷ [] ≡ [] = cc in none_pushed a x f)
-  where
-    none_pushed : {X : Type 0} (b : List X) (y : X) → b ++ y ∷ [] ≡ [] → ⊥
-    none_pushed [] y f = cc
-    none_pushed (d ∷ b) y f = cc
-push_same (c ∷ a) (d ∷ b) x y e =
-    let f : a ++ x ∷ [] ≡ b ++ y ∷ [] = cc in
-    let g : c ≡ d = cc in
-    let h = push_same a b x y f in
-    let i : a ≡ b = h.0 in
-    ((cc), h.1)
 
 pub last_pushed : (is : List ItemText) (i : ItemText) → last_of (is ++ i ∷ []) ≡ Some i
 last_pushed [] i = refl
@@ -165,18 +146,18 @@ attribute_text t h = spelt (at_row h)
 -- a fusion mark by its last character
 pub fusion_open : (k u : List ℕ) → Ends (Fusion, u) (k ++ 91 ∷ []) → u ≡ codes "@["
 fusion_open k u h = elim (fusion_texts u h.has) [
-  | inl e ↦ absurd (let f = push_same k h.prefix 91 64 (h.cut ∙ ap (λ (v : List ℕ). h.prefix ++ v) e) in omega (arith, f.1))
+  | inl e ↦ absurd (let f = same_from_push k h.prefix 91 64 (h.cut ∙ ap (λ (v : List ℕ). h.prefix ++ v) e) in omega (arith, f.1))
   | inr y ↦ elim y [
     | inl e ↦ e
-    | inr e ↦ absurd (let f = push_same k h.prefix 91 93 (h.cut ∙ ap (λ (v : List ℕ). h.prefix ++ v) e) in omega (arith, f.1))
+    | inr e ↦ absurd (let f = same_from_push k h.prefix 91 93 (h.cut ∙ ap (λ (v : List ℕ). h.prefix ++ v) e) in omega (arith, f.1))
   ]
 ]
 
 pub fusion_close : (k u : List ℕ) → Ends (Fusion, u) (k ++ 93 ∷ []) → u ≡ codes "]"
 fusion_close k u h = elim (fusion_texts u h.has) [
-  | inl e ↦ absurd (let f = push_same k h.prefix 93 64 (h.cut ∙ ap (λ (v : List ℕ). h.prefix ++ v) e) in omega (arith, f.1))
+  | inl e ↦ absurd (let f = same_from_push k h.prefix 93 64 (h.cut ∙ ap (λ (v : List ℕ). h.prefix ++ v) e) in omega (arith, f.1))
   | inr y ↦ elim y [
-    | inl e ↦ absurd (let f = push_same k (h.prefix ++ 64 ∷ []) 93 91 (h.cut ∙ (ap (λ (v : List ℕ). h.prefix ++ v) e ∙ sym (append_assoc h.prefix (64 ∷ []) (91 ∷ [])))) in omega (arith, f.1))
+    | inl e ↦ absurd (let f = same_from_push k (h.prefix ++ 64 ∷ []) 93 91 (h.cut ∙ (ap (λ (v : List ℕ). h.prefix ++ v) e ∙ sym (append_assoc h.prefix (64 ∷ []) (91 ∷ [])))) in omega (arith, f.1))
     | inr e ↦ e
   ]
 ]

@@ -1,5 +1,7 @@
 -- The item that ends with a character, by the states of the machine before and behind it.
 use Rattle.std.proofs.Common.{◌≡◌, ℕ, ◌⊎◌, inl, inr, List, [], ◌∷◌, ◌++◌, Bool, true, false, cond, not, ◌&&◌, ◌||◌, ◌==◌, refl, sym, ap, ◌∙◌, subst, codes, Option, Some, None, append_assoc, eqb-true}
+use Rattle.std.proofs.Math.Bool.{and-false, and-true}
+use Rattle.std.proofs.lemmas.List.{same_from_push}
 use Rattle.gabc_patterns.specs.Pattern.{is_in}
 use Rattle.gabc_patterns.specs.LongestItems.{IsItemOf, IsReading, IsSnippet}
 use Rattle.gabc_patterns.specs.Derivative.{start, run, is_snippet, is_whole, same_texts}
@@ -22,7 +24,7 @@ use Rattle.gabc_notes.proofs.machine.MachineReadsTable.{machine, snippets_read}
 use Rattle.gabc_notes.proofs.grammar.LawsOfKeptTexts.{none_empty}
 use Rattle.gabc_notes.proofs.grammar.InsideRawIsAnOpenBracket.{OpenBy, on, is_raw, step_on, open_from}
 use Rattle.gabc_notes.proofs.items_of_text.LastItemByState.{ReadsOn, shrink, prefix_read}
-use Rattle.gabc_notes.proofs.items_of_text.ItemAtCharacter.{push_same, pushed, last_item_is, last_item_none, Ends, ends_of, ends_with, prefix_snippet, fusion_open, fusion_close, attribute_text}
+use Rattle.gabc_notes.proofs.items_of_text.ItemAtCharacter.{pushed, last_item_is, last_item_none, Ends, ends_of, ends_with, prefix_snippet, fusion_open, fusion_close, attribute_text}
 
 abbrev pub is_fusion : ItemState → Bool
 is_fusion (Done FullFusion) = true
@@ -172,17 +174,9 @@ pub record RawFrom (k raw : List ℕ) : Type 0 where
   pub outside : in_raw before ≡ false
   pub inside : (a b : List ℕ) → behind ≡ a ++ b → in_raw (before ++ 91 ∷ a) ≡ true
 
-pub and_false : (b : Bool) → (b && false) ≡ false
-and_false true = refl
-and_false false = refl
-
-and_one : (b : Bool) → (b && true) ≡ b
-and_one true = refl
-and_one false = refl
-
 -- a snippet lies outside raw
 pub snippet_outside : (t : List ℕ) → IsSnippet gabc t → in_raw t ≡ false
-snippet_outside t h = ap (λ (b : Bool). is_snippet gabc (t ++ codes "]") && not b) (snippet_to gabc refl t h) ∙ and_false (is_snippet gabc (t ++ codes "]"))
+snippet_outside t h = ap (λ (b : Bool). is_snippet gabc (t ++ codes "]") && not b) (snippet_to gabc refl t h) ∙ and-false (is_snippet gabc (t ++ codes "]"))
 
 -- the text before an attribute, with a `[`, is no snippet
 not_joined : (before : List ItemText) (prefix r : List ℕ) → ReadsOn gabc before prefix (91 ∷ r) → ¬ IsSnippet gabc (prefix ++ 91 ∷ [])
@@ -194,7 +188,7 @@ not_joined before prefix r h i =
 attribute_raw : (k raw u : List ℕ) → RawFrom k raw → Ends (Attribute, u) (k ++ 93 ∷ []) → u ≡ raw ++ 93 ∷ []
 attribute_raw k raw u h e =
     let t = attribute_text u e.has in
-    let same : k ≡ e.prefix ++ 91 ∷ t.0 = (push_same k (e.prefix ++ 91 ∷ t.0) 93 93 (e.cut ∙ (ap (λ (v : List ℕ). e.prefix ++ v) t.1 ∙ sym (append_assoc e.prefix (91 ∷ t.0) (93 ∷ []))))).0 in
+    let same : k ≡ e.prefix ++ 91 ∷ t.0 = (same_from_push k (e.prefix ++ 91 ∷ t.0) 93 93 (e.cut ∙ (ap (λ (v : List ℕ). e.prefix ++ v) t.1 ∙ sym (append_assoc e.prefix (91 ∷ t.0) (93 ∷ []))))).0 in
     let on : ReadsOn gabc e.before e.prefix (91 ∷ (t.0 ++ 93 ∷ [])) = subst (λ (v : List ℕ). ReadsOn gabc e.before e.prefix v) t.1 e.reads in
     let equal : t.0 ≡ h.behind → u ≡ raw ++ 93 ∷ [] = λ f. t.1 ∙ (ap (λ (v : List ℕ). 91 ∷ v ++ 93 ∷ []) f ∙ ap (λ (v : List ℕ). v ++ 93 ∷ []) (sym h.raw_is)) in
     elim (compare e.prefix h.before (91 ∷ t.0) (91 ∷ h.behind) (sym same ∙ h.cut)) [
@@ -241,7 +235,7 @@ macro_closed [] = refl
 macro_closed (a ∷ []) = refl
 macro_closed (a ∷ l ∷ []) = refl
 macro_closed (a ∷ l ∷ m ∷ []) = refl
-macro_closed (a ∷ l ∷ m ∷ d ∷ []) = ap (λ (b : Bool). digit_if ((a == 91) && (is_in l (codes "nge") && ((m == 109) && b))) d) (and_one (is_digit d))
+macro_closed (a ∷ l ∷ m ∷ d ∷ []) = ap (λ (b : Bool). digit_if ((a == 91) && (is_in l (codes "nge") && ((m == 109) && b))) d) (and-true (is_digit d))
 macro_closed (a ∷ l ∷ m ∷ d ∷ b ∷ []) = refl
 macro_closed (a ∷ l ∷ m ∷ d ∷ b ∷ c ∷ r) = refl
 
@@ -274,15 +268,15 @@ item_closed_raw k raw s z h r f = elim (closed_by s z h.next) [
 -- ---- behind another character
 
 same_open : (v : List ℕ) (c : ℕ) → c == 91 ≡ false → same_texts (v ++ c ∷ []) (codes "@[") ≡ false
-same_open [] c e = and_false (c == 64)
-same_open (a ∷ []) c e = rw e (and_false (a == 64))
-same_open (a ∷ b ∷ []) c e = rw (and_false (b == 91)) (and_false (a == 64))
-same_open (a ∷ b ∷ d ∷ v) c e = rw (and_false (b == 91)) (and_false (a == 64))
+same_open [] c e = and-false (c == 64)
+same_open (a ∷ []) c e = rw e (and-false (a == 64))
+same_open (a ∷ b ∷ []) c e = rw (and-false (b == 91)) (and-false (a == 64))
+same_open (a ∷ b ∷ d ∷ v) c e = rw (and-false (b == 91)) (and-false (a == 64))
 
 same_close : (v : List ℕ) (c : ℕ) → c == 93 ≡ false → same_texts (v ++ c ∷ []) (codes "]") ≡ false
 same_close [] c e = rw e refl
-same_close (a ∷ []) c e = and_false (a == 93)
-same_close (a ∷ b ∷ v) c e = and_false (a == 93)
+same_close (a ∷ []) c e = and-false (a == 93)
+same_close (a ∷ b ∷ v) c e = and-false (a == 93)
 
 no_macro : (v : List ℕ) (c : ℕ) → c == 93 ≡ false → macro_in (v ++ c ∷ []) ≡ None
 no_macro [] c e = refl
@@ -290,7 +284,7 @@ no_macro (a ∷ []) c e = refl
 no_macro (a ∷ l ∷ []) c e = refl
 no_macro (a ∷ l ∷ m ∷ []) c e = refl
 no_macro (a ∷ l ∷ m ∷ d ∷ []) c e =
-    rw (e, and_false (is_digit d), and_false (m == 109), and_false (is_in l (codes "nge")), and_false (a == 91)) refl
+    rw (e, and-false (is_digit d), and-false (m == 109), and-false (is_in l (codes "nge")), and-false (a == 91)) refl
 no_macro (a ∷ l ∷ m ∷ d ∷ b ∷ []) c e = refl
 no_macro (a ∷ l ∷ m ∷ d ∷ b ∷ f ∷ r) c e = refl
 
@@ -307,9 +301,6 @@ IsNone item = (opens_fusion item ≡ false) × (closes_fusion item ≡ false) ×
 other_last : (k : List ℕ) (c : ℕ) → c == 91 ≡ false → c == 93 ≡ false → IsNone (last_item (k ++ c ∷ []))
 other_last k c e f = go (is_snippet gabc (k ++ c ∷ [])) refl
   where
-    t : List ℕ
-    t = k ++ c ∷ []
-
     item : (js : List ItemText) → IsReading gabc js (k ++ c ∷ []) → IsNone (last_item (k ++ c ∷ []))
     item js r = elim (pushed js) [
       | inl h ↦ absurd (let g : k ++ c ∷ [] ≡ [] = subst (λ (is : List ItemText). IsReading gabc is (k ++ c ∷ [])) h r in full k c g)
@@ -317,7 +308,7 @@ other_last k c e f = go (is_snippet gabc (k ++ c ∷ [])) refl
           let y = ends_of h.0 h.1 (k ++ c ∷ []) r' in
           elim (pushed h.1.1) [
             | inl n ↦ absurd (none_empty h.1.0 (subst (IsItemOf gabc h.1.0) n y.has))
-            | inr p ↦ (let g : c ≡ p.1 = (push_same k (y.prefix ++ p.0) c p.1 (y.cut ∙ (ap (λ (v : List ℕ). y.prefix ++ v) p.2 ∙ sym (append_assoc y.prefix p.0 (p.1 ∷ []))))).1 in
+            | inr p ↦ (let g : c ≡ p.1 = (same_from_push k (y.prefix ++ p.0) c p.1 (y.cut ∙ (ap (λ (v : List ℕ). y.prefix ++ v) p.2 ∙ sym (append_assoc y.prefix p.0 (p.1 ∷ []))))).1 in
                 subst IsNone (sym (last_item_is h.0 h.1 (k ++ c ∷ []) r' ∙ ap (λ (v : List ℕ). Some (h.1.0, v)) (p.2 ∙ ap (λ (d : ℕ). p.0 ++ d ∷ []) (sym g))))
                 (other_item h.1.0 p.0 c e f))
           ])
@@ -339,9 +330,9 @@ item_is k raw c s z h f = go (c == 91) refl (c == 93) refl
     opened : c ≡ 91 → ItemIs raw c s z (last_item (k ++ c ∷ []))
     opened e = subst (λ (d : ℕ). ItemIs raw d s z (last_item (k ++ d ∷ []))) (sym e) (elim (item_opened k s z (subst (λ (d : ℕ). Steps k d s z) e h)) [
       | inl x ↦ record {
-        opens = ap opens_fusion x.1 ∙ sym (rw x.0 (and_false (not (raw_state s))));
+        opens = ap opens_fusion x.1 ∙ sym (rw x.0 (and-false (not (raw_state s))));
         closes = ap closes_fusion x.1;
-        macro = ap macro_of x.1 ∙ sym (rw ((raw_alone z x.0).1, and_false (raw_state s)) refl);
+        macro = ap macro_of x.1 ∙ sym (rw ((raw_alone z x.0).1, and-false (raw_state s)) refl);
       }
       | inr x ↦ record {
         opens = ap opens_fusion x.2 ∙ sym (rw (x.0, x.1) refl);

@@ -19,7 +19,7 @@ use Rattle.gabc_notes.proofs.grammar.LawsOfKeptTexts.{kinds_are_one}
 use Rattle.gabc_places.proofs.texts.CharactersOfStrings.{scalars_split}
 use Rattle.gabc_patterns.proofs.ItemsAsFarAsOneBegins.{items_read_on, one_read_on}
 use Rattle.gabc_patterns.proofs.ItemsFunctionReads.{items_are}
-use Rattle.gabc_patterns.proofs.ItemsOneByOne.{items_first, items_none, items_lie}
+use Rattle.gabc_patterns.proofs.ItemsOneByOne.{items_first, items_lie}
 
 -- an item of that kind, and of so many bytes
 abbrev pub item_at : ItemKind → ℕ → ℕ → Item
@@ -38,10 +38,6 @@ first_from here at len k u h =
     ap (λ (t : List ℕ). placed_items at (items gabc t)) split
     ∙ (ap (placed_items at) (items_first gabc refl kinds_are_one k x y h.item h.longest)
     ∙ ap (λ (n : ℕ). item_at k at n ∷ placed_items (at + n) (items gabc y)) many)
-
--- where none begins, there are none
-pub none_from : (here : List ℕ) (at : ℕ) → longest_item gabc (chars here) ≡ None → items_from at here ≡ []
-none_from here at e = ap (placed_items at) (items_none gabc (chars here) e)
 
 -- ---- the items of a text lie in it, and are few
 

@@ -3,8 +3,8 @@ use Rattle.std.proofs.Common.{◌≡◌, ℕ, ◌⊎◌, inl, inr, List, [], ◌
 use Rattle.gabc_patterns.specs.LongestItems.{Table, Longest, IsItemOf, IsItem, IsReading, IsSnippet}
 use Rattle.gabc_patterns.specs.Derivative.{rows_after, rows_run, rows_end, Munch, start, nowhere, within, enter, step, run, end_kind}
 use Rattle.gabc_patterns.proofs.BothOfTwoTests.{append_none}
-use Rattle.gabc_patterns.proofs.LongestMunchByCharacter.{Ended}
-use Rattle.gabc_patterns.proofs.RowsAfterACharacter.{rows_to, rows_from, rows_end_to, rows_end_from}
+use Rattle.gabc_patterns.proofs.LongestMunchByCharacter.{Ended, longest_from}
+use Rattle.gabc_patterns.proofs.RowsAfterACharacter.{rows_to, rows_end_to, rows_end_from}
 use Rattle.gabc_patterns.proofs.RowsRun.{item_at_end}
 use Rattle.gabc_patterns.proofs.LongestPrefixIsOne.{longest_all, one_longest}
 
@@ -29,12 +29,6 @@ module _ {K : Type 0} (table : Table K) where
   abbrev pub ReadsOn : List (K × List ℕ) → List ℕ → List ℕ → Type 0
   ReadsOn [] t more = t ≡ []
   ReadsOn (i ∷ is) t more = (rest : List ℕ) × (t ≡ i.1 ++ rest) × IsItemOf table i.0 i.1 × Longest (IsItem table) i.1 (rest ++ more) × ReadsOn is rest more
-
-  longer : (R : Table K) (c : ℕ) (a b : List ℕ) → Longest (IsItem (rows_after c R)) a b → Longest (IsItem R) (c ∷ a) b
-  longer R c a b l = record {
-    has = (l.has.0, rows_from R l.has.0 c a l.has.1);
-    longest = λ more after e h. l.longest more after e (h.0, rows_to R h.0 c (a ++ more) h.1);
-  }
 
   -- an item, and then a text with such a last item
   first_then : (k : K) (rows : Table K) (a b t : List ℕ) → t ≡ a ++ b → Longest (IsItem table) a b → LastOf k rows b → LastOf k rows t
@@ -71,7 +65,7 @@ module _ {K : Type 0} (table : Table K) where
     where
       last : (b : Bool) → rows_end (rows_after c R) ≡ b → Ended (rows_after c R) t → Leaves k (cond b start back) t rows
           → (rows ≡ rows_run R (c ∷ t)) ⊎ (((a b : List ℕ) × (c ∷ t ≡ a ++ b) × Longest (IsItem R) a b × LastOf k rows b) ⊎ (Ended R (c ∷ t) × Leaves k back t rows))
-      last true e n h = inr (inl (c ∷ [], t, refl, longer R c [] t (ended_longest (rows_after c R) t e n), h))
+      last true e n h = inr (inl (c ∷ [], t, refl, longest_from table R c [] t (ended_longest (rows_after c R) t e n), h))
       last false e n h = inr (inr (not_more R c t e n, h))
 
       go : (S : Table K) → rows_after c R ≡ S → Leaves k (enter S back) t rows
@@ -79,7 +73,7 @@ module _ {K : Type 0} (table : Table K) where
       go [] e h = inr (inr (none_left R c t e, h))
       go (row ∷ S) e (inl h) = inl (h ∙ ap (λ (r : Table K). rows_run r t) (sym e))
       go (row ∷ S) e (inr (inl (a, b, f, l, h))) =
-          inr (inl (c ∷ a, b, ap (λ (u : List ℕ). c ∷ u) f, longer R c a b (subst (λ (r : Table K). Longest (IsItem r) a b) (sym e) l), h))
+          inr (inl (c ∷ a, b, ap (λ (u : List ℕ). c ∷ u) f, longest_from table R c a b (subst (λ (r : Table K). Longest (IsItem r) a b) (sym e) l), h))
       go (row ∷ S) e (inr (inr (n, h))) =
           last (rows_end (row ∷ S)) (ap (λ (r : Table K). rows_end r) e) (subst (λ (r : Table K). Ended r t) (sym e) n) h
 

@@ -15,7 +15,7 @@ use Rattle.gabc_notes.specs.Table.{gabc}
 use Rattle.gabc_notes.specs.machine.ItemMachine.{whole_at, raw_state, attribute_state}
 use Rattle.gabc_notes.specs.witness.StageEvents.{ends_with_attribute, kind_at, is_attribute_kind, macro_digit, char_facts, role_in, before_in, fused_in, events_in, warning_in, event_list, raw_with, count_plus, cut_event, events_following, events_behind}
 use Rattle.gabc_notes.specs.machine.StageEvents.{nothing_before}
-use Rattle.gabc_notes.specs.Events.{in_raw, finding_event, end_by_mark, is_missing, Point, ends_in_comment, with_comments, kept, is_comment, is_in_raw, kept_with, is_kept, last_item, item_at, opens_fusion, closes_fusion, macro_of, is_fused, opener, bytes_of, is_end, is_over, is_unpaired, warnings, at_end, events_at, cut_events, note_events_behind, note_events}
+use Rattle.gabc_notes.specs.Events.{in_raw, finding_event, end_by_mark, is_missing, ends_in_comment, with_comments, kept, is_comment, is_in_raw, kept_with, is_kept, last_item, item_at, opens_fusion, closes_fusion, macro_of, is_fused, opener, bytes_of, is_end, is_over, is_unpaired, warnings, at_end, events_at, cut_events, note_events_behind, note_events}
 use Rattle.gabc_notes.specs.declared.item.ItemKind.{ItemKind}
 use Rattle.gabc_notes.specs.declared.stage.Before.{Before}
 use Rattle.gabc_notes.specs.declared.stage.NoteEnd.TheVariants.{Cut}
@@ -319,12 +319,6 @@ events_emits split macros [] back raw b h = ap (λ (o : List NoteEvent). o ∷ [
 events_emits split macros (x ∷ xs) back raw b h =
     go (role_in split b.comment (char_facts (kept back) raw x.c) x.c) refl (λ r d. events_emits split macros xs (x ∷ back) r d)
   where
-    B : Bool
-    B = not (in_raw (kept back)) && ((x.c == 41) || (split && (x.c == 124)))
-
-    p : Point
-    p = point back x
-
     roles : (r : CharRole) → role_in split b.comment (char_facts (kept back) raw x.c) x.c ≡ r
         → RoleIs r b.comment (is_comment (point back x)) (not (in_raw (kept back)) && ((x.c == 41) || (split && (x.c == 124)))) (is_viable gabc (kept back ++ x.c ∷ []))
     roles r e =

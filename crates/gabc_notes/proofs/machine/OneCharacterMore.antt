@@ -1,5 +1,5 @@
 -- What one character more changes of what is said of characters, and what a stage does by its role.
-use Rattle.std.proofs.Common.{◌≡◌, ℕ, ◌+◌, min, List, [], ◌∷◌, ◌++◌, Bool, true, false, cond, not, ◌&&◌, ◌||◌, ◌==◌, refl, sym, ap, ◌∙◌, subst, Option, Some, append-nil, append_assoc, eqb-true, ne_eqb, arith}
+use Rattle.std.proofs.Common.{◌≡◌, ℕ, ◌+◌, min, List, [], ◌∷◌, ◌++◌, Bool, true, false, cond, not, ◌&&◌, ◌||◌, ◌==◌, refl, sym, ap, ◌∙◌, subst, Some, append-nil, append_assoc, eqb-true, ne_eqb, arith}
 use Rattle.std.specs.Prelude.{sum_by, find}
 use Rattle.std.specs.Char.{len_utf8}
 use Rattle.std.specs.Option.{option_map_or}
@@ -32,9 +32,6 @@ pub fused_more : (back : List Char) (x : Char) → is_fused (x ∷ back)
     ≡ cond (opens_fusion (item_at (point back x))) true (cond (closes_fusion (item_at (point back x))) false (is_fused back))
 fused_more back x = go (opens_fusion (item_at (point back x))) refl (closes_fusion (item_at (point back x)))
   where
-    rest : Option Point
-    rest = find (λ (p : Point). opens_fusion (item_at p) || closes_fusion (item_at p)) (points back)
-
     go : (a : Bool) → opens_fusion (item_at (point back x)) ≡ a → (l : Bool)
         → option_map_or (λ (p : Point). opens_fusion (item_at p)) (cond (a || l) (Some (point back x)) (find (λ (p : Point). opens_fusion (item_at p) || closes_fusion (item_at p)) (points back))) false
         ≡ cond a true (cond l false (is_fused back))

@@ -2,6 +2,7 @@
 use Rattle.std.proofs.Common.{◌≡◌, ℕ, ◌^◌, List, [], ◌∷◌, ◌++◌, Bool, true, false, cond, not, ◌&&◌, ◌||◌, ◌==◌, nat_lt, ◌%◌, refl, sym, ap, ◌∙◌, Option, Some, None, is_some, append_assoc, if◌then◌else◌}
 use Rattle.std.proofs.Math.Nat.{zero-div}
 use Rattle.std.proofs.lemmas.List.{append_cancel_left, map-append}
+use Rattle.std.proofs.lemmas.Bool.{not-true}
 use Rattle.gabc_places.specs.declared.code.Code.TheVariants.{W8, W10}
 use Rattle.gabc_places.specs.declared.place.Char.{Char}
 use Rattle.gabc_places.specs.declared.place.Place.{Place}
@@ -227,10 +228,6 @@ module _ (split : Bool) (macros : ℕ) (at : Place) (t : List ℕ) (r : RegularS
       all : h.st.before.fused ≡ true → at_mark ≡ finding_event (place_past at t) W10 ∷ Ended (end_by_mark mark) h.st.before.whole ∷ []
       all g = rw (whole_of h.st.state o_mark h.st ∙ whole, g) refl
 
-open_not : (b : Bool) → not b ≡ true → b ≡ false
-open_not true e = absurd (cc)
-open_not false e = refl
-
 pub reads_regular : (t : List ℕ) (r : RegularState) → Reads t r → ends_regularly r ≡ true → IsRegular t
 reads_regular t r h e = record {
   snippet = is;
@@ -245,7 +242,7 @@ reads_regular t r h e = record {
 }
   where
     whole : {split : Bool} {macros : ℕ} {at : Place} → (g : ReadsSo split macros at t r) → (whole_at g.st.state ≡ true) × (g.st.before.fused ≡ false)
-    whole g = (let b = and_true (whole_at g.st.state) (not g.st.before.fused) (ap ends_regularly (sym g.is) ∙ e) in (b.0, open_not g.st.before.fused b.1))
+    whole g = (let b = and_true (whole_at g.st.state) (not g.st.before.fused) (ap ends_regularly (sym g.is) ∙ e) in (b.0, not-true g.st.before.fused b.1))
 
     is : IsSnippet gabc t
     is = (let g = h false 0 (record { line = 1; column = 1 }) in snippet_at gabc machine snippets_read g.st.state t g.behind.stands (whole g).0)

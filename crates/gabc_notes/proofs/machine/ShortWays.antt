@@ -6,7 +6,6 @@ use Rattle.gabc_places.specs.StageLaw.{Pushes}
 use Rattle.gabc_notes.specs.machine.CharClass.{class_of_character}
 use Rattle.gabc_notes.specs.machine.ItemMachine.{IsShortStep, next_state, raw_state, facts_by_states, stage_after, stage_kept, whole_at}
 use Rattle.gabc_notes.specs.witness.ItemMachine.{events_left}
-use Rattle.gabc_notes.specs.TakenAtOnce.{TakesNext, StandsBeforeKept}
 use Rattle.gabc_places.specs.declared.code.Code.TheVariants.{E6, W10}
 use Rattle.gabc_notes.specs.Events.{finding_event, end_by_mark}
 use Rattle.gabc_notes.specs.witness.StageEvents.{role_in, warning_in, events_in, event_list}
@@ -15,7 +14,6 @@ use Rattle.gabc_notes.specs.declared.stage.CharFacts.{CharFacts}
 use Rattle.gabc_notes.specs.declared.macro_prefix.MacroPrefix.{MacroPrefix}
 use Rattle.gabc_notes.specs.declared.macro_prefix.MacroPrefix.TheVariants.{Closed}
 use Rattle.gabc_notes.specs.declared.stage.NoteEvent.{NoteEvent}
-use Rattle.gabc_notes.specs.declared.stage.NoteEnd.TheVariants.{Next}
 use Rattle.gabc_notes.specs.declared.stage.NoteEvent.TheVariants.{Kept, Ended}
 use Rattle.gabc_notes.specs.declared.stage.NoteStage.{NoteStage}
 use Rattle.gabc_notes.specs.declared.stage.CharRole.{CharRole}
@@ -23,7 +21,6 @@ use Rattle.gabc_notes.specs.declared.stage.CharRole.TheVariants.{Silent, Comment
 use Rattle.gabc_notes.specs.declared.state.ItemState.{ItemState}
 use Rattle.gabc_notes.specs.declared.state.ItemState.TheVariants.{Raw, SlashRaw}
 use Rattle.gabc_notes.proofs.machine.StageEmitsItsEvents.{push_law, push_emits}
-use Rattle.gabc_notes.proofs.Stopping.{ended-emits_nothing}
 
 -- ---- a character on the short way
 
@@ -59,11 +56,6 @@ module _ (st : NoteStage) (x : Char) (z : ItemState) (comment : st.before.commen
       push_emits st next x (Some z) (short_facts st z) Keep _ old new f
       (sym step.step) refl (sym note_role) refl n (p ∙ ap (extended_by old) (sym note_events))
 
-  pub note_taken : (next : NoteStage) (xs : List Char) → st.ended ≡ false → next ≡ stage_kept st z x → events_left st (x ∷ xs) ≡ (Kept x ∷ []) ∷ events_left next xs
-  note_taken next xs f n =
-      push_law st x xs (Some z) (short_facts st z) Keep f (sym step.step) refl (sym note_role)
-      ∙ (ap (λ (es : List NoteEvent). es ∷ events_left (stage_kept st z x) xs) note_events ∙ ap (λ (s : NoteStage). (Kept x ∷ []) ∷ events_left s xs) (sym n))
-
 -- ---- a character that is kept with no warning
 
 pub kept_taken : (st next : NoteStage) (x : Char) (o : Option ItemState) (e : CharFacts) (r : CharRole) (w : Option NoteEvent) (xs : List Char) → st.ended ≡ false
@@ -95,15 +87,6 @@ emits_otherwise Ends macros b e x w m h k = ends_otherwise e.whole b.fused x b.w
 emits_otherwise Silent macros b e x w m h k = cc
 emits_otherwise Comment macros b e x w m h k = cc
 
--- so the stage does not stand before a character that is kept with nothing else to emit
-pub none_kept_alone : (st : NoteStage) (x : Char) (o : Option ItemState) (e : CharFacts) (r : CharRole) (w : Option NoteEvent) → st.ended ≡ false
-    → o ≡ next_state st.state (class_of_character x.c) → e ≡ facts_by_states st.state o st.name → r ≡ role_in st.split st.before.comment e x.c
-    → w ≡ warning_in st.macros st.before e x → (r ≡ Keep → w ≡ None → ⊥) → StandsBeforeKept st x → ⊥
-none_kept_alone st x o e r w f g h k m other s =
-    let both : event_list (events_in r st.macros st.before e x) ∷ events_left (stage_after st r e o x) [] ≡ (Kept x ∷ []) ∷ s.later =
-    sym (push_law st x [] o e r f g h k) ∙ s.alone in
-    emits_otherwise r st.macros st.before e x w m other (cc both)
-
 -- ---- the end at a `)`
 
 pub whole_is : (s : ItemState) (o : Option ItemState) (n : MacroPrefix) → (facts_by_states s o n).whole ≡ whole_at s
@@ -126,31 +109,9 @@ close_emits st x old new f comment outside close p =
     ap (λ b. role_in st.split b (facts_of st x) x.c) comment ∙ (ap (λ c. role_in st.split false (facts_of st x) c) close ∙ close_role st.split st.state o st.name outside) in
     push_emits st (record st { ended = true }) x o (facts_of st x) Ends _ old new f refl refl (sym role) refl refl p
 
--- ---- the end at a `|`
+-- ---- a text that is a snippet ends outside raw
 
 pub not_raw : (s : ItemState) → whole_at s ≡ true → raw_state s ≡ false
 not_raw Raw e = absurd (cc)
 not_raw SlashRaw e = absurd (cc)
 not_raw _ e = refl
-
-pub next_role : (s : ItemState) (o : Option ItemState) (n : MacroPrefix) → whole_at s ≡ true → role_in true false (facts_by_states s o n) 124 ≡ Ends
-next_role s None n whole = rw (not_raw s whole) refl
-next_role s (Some z) n whole = rw (not_raw s whole) refl
-
-next_events : (macros : ℕ) (b : Before) (e : CharFacts) (x : Char) → e.whole ≡ true → b.fused ≡ false → x.c ≡ 124
-    → event_list (events_in Ends macros b e x) ≡ Ended Next b.whole ∷ []
-next_events macros b e x whole none_open mark = rw (whole, none_open, mark) refl
-
-pub next_taken : (st next : NoteStage) → st.ended ≡ false → st.split ≡ true → st.before.comment ≡ false → st.before.fused ≡ false → whole_at st.state ≡ true
-    → next ≡ record st { ended = true } → TakesNext (events_left st) (events_left next) st.before.whole
-next_taken st next f splits comment none_open whole n = record {
-  law = λ x xs mark.
-      let o = next_state st.state (class_of_character x.c) in
-      let role : role_in st.split st.before.comment (facts_of st x) x.c ≡ Ends =
-      ap (λ b. role_in b st.before.comment (facts_of st x) x.c) splits
-      ∙ (ap (λ b. role_in true b (facts_of st x) x.c) comment ∙ (ap (λ c. role_in true false (facts_of st x) c) mark ∙ next_role st.state o st.name whole)) in
-      push_law st x xs o (facts_of st x) Ends f refl refl (sym role)
-      ∙ (ap (λ (es : List NoteEvent). es ∷ events_left (record st { ended = true }) xs) (next_events st.macros st.before (facts_of st x) x (whole_is st.state o st.name ∙ whole) none_open mark)
-      ∙ ap (λ (s : NoteStage). (Ended Next st.before.whole ∷ []) ∷ events_left s xs) (sym n));
-  over = ended-emits_nothing next (ap (λ (s : NoteStage). s.ended) n);
-}

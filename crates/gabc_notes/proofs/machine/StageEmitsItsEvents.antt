@@ -1,5 +1,5 @@
 -- The stage emits what the definition says.
-use Rattle.std.proofs.Common.{◌≡◌, ℕ, List, [], ◌∷◌, ◌++◌, Bool, true, false, cond, not, ◌&&◌, ◌||◌, ◌==◌, refl, sym, ap, ◌∙◌, codes, Option, Some, None, append-nil, length, ◌≤◌, arith, option_to_list}
+use Rattle.std.proofs.Common.{◌≡◌, ℕ, List, [], ◌∷◌, ◌++◌, Bool, true, false, cond, not, ◌&&◌, ◌||◌, ◌==◌, refl, sym, ap, ◌∙◌, codes, Option, Some, None, length, ◌≤◌, arith, option_to_list}
 use Rattle.gabc_places.specs.declared.place.Char.{Char}
 use Rattle.gabc_patterns.specs.Pattern.{is_in}
 use Rattle.gabc_patterns.specs.Derivative.{Munch, start}
@@ -232,13 +232,4 @@ push_emits st next x o e r g old new f h k l m n p = record {
   out = p;
   few = few_emitted g;
   law = λ xs. push_law st x xs o e r f h k l ∙ (ap (λ (y : CharEvents). event_list y ∷ events_left (stage_after st r e o x) xs) (sym m) ∙ ap (λ (y : NoteStage). event_list g ∷ events_left y xs) (sym n));
-}
-
--- after the end nothing is given
-pub ended_emits : (st : NoteStage) (x : Char) (old : BoundedList NoteEvent) → st.ended ≡ true → Pushes (events_left st) (events_left st) x 3 old old
-ended_emits st x old e = record {
-  events = [];
-  out = ap (λ (l : List NoteEvent). record old { items = l }) (sym (append-nil old.items));
-  few = omega arith;
-  law = λ xs. rw e refl;
 }

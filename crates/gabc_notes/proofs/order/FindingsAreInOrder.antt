@@ -1,12 +1,16 @@
 -- The findings of a text are emitted in the order of their places.
-use Rattle.std.proofs.Common.{◌≡◌, ℕ, ◌+◌, ◌<◌, ◌≤◌, List, [], ◌∷◌, ◌++◌, Bool, true, false, cond, not, ◌&&◌, ◌||◌, ◌==◌, ◌⊎◌, inl, inr, refl, sym, ap, ◌∙◌, subst, codes, eqb-true, Option, Some, None, arith}
+use Rattle.std.proofs.Common.{◌≡◌, ℕ, List, [], ◌∷◌, ◌++◌, Bool, true, false, cond, not, ◌&&◌, ◌||◌, ◌==◌, ◌⊎◌, inl, inr, refl, sym, ap, ◌∙◌, subst, codes, eqb-true, Option, Some, None, arith}
+use Rattle.std.proofs.lemmas.Bool.{or_parts, not-true}
+use Rattle.std.proofs.Math.Bool.{and-false}
+use Rattle.gabc_places.proofs.PlacesInOrder.{before_up_to, up_to_self, up_to_then, before_then, before_next, stands_before}
 use Rattle.gabc_places.specs.declared.code.Code.TheVariants.{E1, E6, W8, W10}
 use Rattle.gabc_places.specs.declared.code.Finding.{Finding}
 use Rattle.gabc_places.specs.declared.place.Char.{Char}
 use Rattle.gabc_places.specs.declared.place.Place.{Place}
-use Rattle.gabc_places.specs.Findings.{StandsBefore, AreInOrder}
+use Rattle.gabc_places.specs.Findings.{AreInOrder, IsUpTo}
 use Rattle.gabc_places.specs.StageLaw.{concat_of}
 use Rattle.gabc_places.specs.Place.{next_place, placed_characters_from}
+use Rattle.gabc_places.specs.PlacesInOrder.{IsEarlier}
 use Rattle.gabc_patterns.specs.Derivative.{is_alive, is_snippet, is_viable}
 use Rattle.gabc_patterns.specs.Function.{items, trim}
 use Rattle.gabc_patterns.proofs.AutomatonsByTests.{reading_of}
@@ -26,55 +30,20 @@ use Rattle.gabc_notes.specs.declared.stage.CharRole.TheVariants.{Keep}
 use Rattle.gabc_notes.specs.machine.ItemMachine.{raw_state}
 use Rattle.gabc_notes.specs.declared.state.ItemState.{ItemState}
 use Rattle.gabc_notes.specs.declared.state.ItemState.TheVariants.{Raw, SlashRaw}
-use Rattle.gabc_notes.proofs.items_of_text.ItemByStates.{and_false}
 use Rattle.gabc_notes.proofs.machine.StageEmitsItsEvents.{raw_is}
 use Rattle.gabc_notes.proofs.machine.MachineReadsTable.{machine, snippets_read}
 use Rattle.gabc_notes.proofs.grammar.InsideRawIsAnOpenBracket.{on, is_raw, step_on}
-use Rattle.gabc_notes.proofs.grammar.LawsOfEventsByPoint.{not_true, cut_outs, over_joined, more_over}
+use Rattle.gabc_notes.proofs.grammar.LawsOfEventsByPoint.{cut_outs, over_joined, more_over}
 use Rattle.gabc_notes.proofs.machine.EventsDependOnState.{raw_at, raw_by}
 use Rattle.gabc_notes.proofs.machine.LoopOverBody.{findings_append, is_emitted}
 use Rattle.gabc_notes.proofs.machine.FreshStageEmitsEventsByPoint.{Holds, begun, unkept, kept_holds, macro_is}
 use Rattle.gabc_notes.proofs.machine.OneCharacterMore.{point, kept_more, kept_same, opener_more, pick_none, pick_kept, pick_left}
 
--- ---- places
-
-abbrev pub Lt : Place → Place → Type 0
-Lt p q = (p.line < q.line) ⊎ ((p.line ≡ q.line) × (p.column < q.column))
-
-abbrev pub Le : Place → Place → Type 0
-Le p q = (p.line < q.line) ⊎ ((p.line ≡ q.line) × (p.column ≤ q.column))
-
-pub lt_le : (p q : Place) → Lt p q → Le p q
-lt_le p q (inl l) = inl l
-lt_le p q (inr h) = (let l = h.1 in inr (h.0, omega arith))
-
-pub le_self : (p : Place) → Le p p
-le_self p = inr (refl, omega arith)
-
-pub le_then : (p q r : Place) → Le p q → Le q r → Le p r
-le_then p q r (inl a) (inl b) = inl (omega arith)
-le_then p q r (inl a) (inr b) = (let e = b.0 in inl (omega arith))
-le_then p q r (inr a) (inl b) = (let e = a.0 in inl (omega arith))
-le_then p q r (inr a) (inr b) = (let d = a.0 in let e = b.0 in let l = a.1 in let m = b.1 in inr (omega arith, omega arith))
-
-lt_then : (p q r : Place) → Lt p q → Le q r → Lt p r
-lt_then p q r (inl a) (inl b) = inl (omega arith)
-lt_then p q r (inl a) (inr b) = (let e = b.0 in inl (omega arith))
-lt_then p q r (inr a) (inl b) = (let e = a.0 in inl (omega arith))
-lt_then p q r (inr a) (inr b) = (let d = a.0 in let e = b.0 in let l = a.1 in let m = b.1 in inr (omega arith, omega arith))
-
-pub next_after : (p : Place) (c : ℕ) → Lt p (next_place p c)
-next_after p c = go (c == 10)
-  where
-    go : (b : Bool) → Lt p (cond b (record { line = p.line + 1; column = 1 }) (record { line = p.line; column = p.column + 1 }))
-    go true = inl (omega arith)
-    go false = inr (refl, omega arith)
-
 -- ---- sorted findings
 
 abbrev pub HeadFrom : Place → List Finding → Type 0
 HeadFrom p [] = Unit {0}
-HeadFrom p (f ∷ fs) = Le p f.place
+HeadFrom p (f ∷ fs) = IsUpTo p f.place
 
 -- in order, and none before p
 pub record Sorted (p : Place) (fs : List Finding) : Type 0 where
@@ -84,23 +53,15 @@ pub record Sorted (p : Place) (fs : List Finding) : Type 0 where
 no_findings : (p : Place) → Sorted p []
 no_findings p = record { order = tt; head = tt }
 
-weaken : (p q : Place) (fs : List Finding) → Le p q → Sorted q fs → Sorted p fs
+weaken : (p q : Place) (fs : List Finding) → IsUpTo p q → Sorted q fs → Sorted p fs
 weaken p q [] l s = no_findings p
-weaken p q (f ∷ fs) l s = record { order = s.order; head = le_then p q f.place l s.head }
+weaken p q (f ∷ fs) l s = record { order = s.order; head = up_to_then p q f.place l s.head }
 
-before : (f g : Finding) → Lt f.place g.place → StandsBefore f g
-before f g (inl l) = inl l
-before f g (inr h) = inr (h.0, inl h.1)
-
-prepend : (p q : Place) (f : Finding) (fs : List Finding) → Le p f.place → Lt f.place q → Sorted q fs → Sorted p (f ∷ fs)
+prepend : (p q : Place) (f : Finding) (fs : List Finding) → IsUpTo p f.place → IsEarlier f.place q → Sorted q fs → Sorted p (f ∷ fs)
 prepend p q f [] l m s = record { order = tt; head = l }
-prepend p q f (g ∷ gs) l m s = record { order = (before f g (lt_then f.place q g.place m s.head), s.order); head = l }
+prepend p q f (g ∷ gs) l m s = record { order = (stands_before f g (before_then f.place q g.place m s.head), s.order); head = l }
 
 -- ---- what holds before a character
-
-or_false : (a b : Bool) → (a || b) ≡ false → (a ≡ false) × (b ≡ false)
-or_false true b e = absurd (cc)
-or_false false b e = (refl, e)
 
 plain_mark : (split : Bool) (back : List Char) (x : Char) → is_comment (point back x) ≡ false → is_end split (point back x) ≡ false
     → (not (in_raw (kept back)) && ((x.c == 41) || (split && (x.c == 124)))) ≡ false
@@ -114,7 +75,7 @@ pub record Stood (split : Bool) (back : List Char) : Type 0 where
 pub stand : (split : Bool) (back : List Char) → is_over split back ≡ false → Stood split back
 stand split [] o = record { raw = []; stood = nothing_before; holds = begun split }
 stand split (x ∷ back) o =
-    let f = or_false (is_end split (point back x)) (is_over split back) o in
+    let f = or_parts (is_end split (point back x)) (is_over split back) o in
     go f.0 (stand split back f.1) (is_comment (point back x)) refl (is_viable gabc (kept_with (point back x))) refl
   where
     go : is_end split (point back x) ≡ false → Stood split back → (c : Bool) → is_comment (point back x) ≡ c → (v : Bool) → is_viable gabc (kept_with (point back x)) ≡ v → Stood split (x ∷ back)
@@ -193,14 +154,14 @@ abbrev pub low : List Char → Place → Place
 low back p = cond (in_raw (kept back)) (opener back) p
 
 abbrev pub OpenerBefore : List Char → Place → Type 0
-OpenerBefore back p = in_raw (kept back) ≡ true → Lt (opener back) p
+OpenerBefore back p = in_raw (kept back) ≡ true → IsEarlier (opener back) p
 
-low_before : (back : List Char) (p : Place) → OpenerBefore back p → Le (low back p) p
+low_before : (back : List Char) (p : Place) → OpenerBefore back p → IsUpTo (low back p) p
 low_before back p b = go (in_raw (kept back)) refl
   where
-    go : (r : Bool) → in_raw (kept back) ≡ r → Le (cond r (opener back) p) p
-    go true e = lt_le (opener back) p (b e)
-    go false e = le_self p
+    go : (r : Bool) → in_raw (kept back) ≡ r → IsUpTo (cond r (opener back) p) p
+    go true e = before_up_to (opener back) p (b e)
+    go false e = up_to_self p
 
 -- the same place where nothing is kept
 opener_same : (back : List Char) (x : Char) → is_kept (point back x) ≡ false → opener (x ∷ back) ≡ opener back
@@ -209,16 +170,16 @@ opener_same back x k = opener_more back x ∙ ap (λ (a : Bool). cond (a && not 
 low_same : (back : List Char) (x : Char) (q : Place) → is_kept (point back x) ≡ false → kept (x ∷ back) ≡ kept back → low (x ∷ back) q ≡ low back q
 low_same back x q k same = ap (λ (t : List ℕ). cond (in_raw t) (opener (x ∷ back)) q) same ∙ ap (λ (o : Place). cond (in_raw (kept back)) o q) (opener_same back x k)
 
-low_grows : (back : List Char) (p q : Place) → Lt p q → Le (low back p) (low back q)
+low_grows : (back : List Char) (p q : Place) → IsEarlier p q → IsUpTo (low back p) (low back q)
 low_grows back p q l = go (in_raw (kept back))
   where
-    go : (r : Bool) → Le (cond r (opener back) p) (cond r (opener back) q)
-    go true = le_self (opener back)
-    go false = lt_le p q l
+    go : (r : Bool) → IsUpTo (cond r (opener back) p) (cond r (opener back) q)
+    go true = up_to_self (opener back)
+    go false = before_up_to p q l
 
-unkept_before : (back : List Char) (x : Char) (q : Place) → is_kept (point back x) ≡ false → kept (x ∷ back) ≡ kept back → Lt x.place q → OpenerBefore back x.place → OpenerBefore (x ∷ back) q
+unkept_before : (back : List Char) (x : Char) (q : Place) → is_kept (point back x) ≡ false → kept (x ∷ back) ≡ kept back → IsEarlier x.place q → OpenerBefore back x.place → OpenerBefore (x ∷ back) q
 unkept_before back x q k same l b r =
-    subst (λ (o : Place). Lt o q) (sym (opener_same back x k)) (lt_then (opener back) x.place q (b (ap in_raw (sym same) ∙ r)) (lt_le x.place q l))
+    subst (λ (o : Place). IsEarlier o q) (sym (opener_same back x k)) (before_then (opener back) x.place q (b (ap in_raw (sym same) ∙ r)) (before_up_to x.place q l))
 
 -- where a character is kept
 opener_kept : (back : List Char) (x : Char) → is_kept (point back x) ≡ true → opener (x ∷ back) ≡ cond (in_raw (kept back)) (opener back) x.place
@@ -228,21 +189,21 @@ opener_kept back x k = opener_more back x ∙ (ap (λ (a : Bool). cond (a && not
     flip true = refl
     flip false = refl
 
-kept_before : (back : List Char) (x : Char) (q : Place) → is_kept (point back x) ≡ true → Lt x.place q → OpenerBefore back x.place → OpenerBefore (x ∷ back) q
+kept_before : (back : List Char) (x : Char) (q : Place) → is_kept (point back x) ≡ true → IsEarlier x.place q → OpenerBefore back x.place → OpenerBefore (x ∷ back) q
 kept_before back x q k l b r =
-    subst (λ (o : Place). Lt o q) (sym (opener_kept back x k)) (go (in_raw (kept back)) refl)
+    subst (λ (o : Place). IsEarlier o q) (sym (opener_kept back x k)) (go (in_raw (kept back)) refl)
   where
-    go : (s : Bool) → in_raw (kept back) ≡ s → Lt (cond s (opener back) x.place) q
-    go true e = lt_then (opener back) x.place q (b e) (lt_le x.place q l)
+    go : (s : Bool) → in_raw (kept back) ≡ s → IsEarlier (cond s (opener back) x.place) q
+    go true e = before_then (opener back) x.place q (b e) (before_up_to x.place q l)
     go false e = l
 
-low_kept : (back : List Char) (x : Char) (q : Place) → is_kept (point back x) ≡ true → Lt x.place q → OpenerBefore back x.place → Le (low back x.place) (low (x ∷ back) q)
-low_kept back x q k l b = subst (λ (o : Place). Le (low back x.place) (cond (in_raw (kept (x ∷ back))) o q)) (sym (opener_kept back x k)) (go (in_raw (kept back)) refl (in_raw (kept (x ∷ back))))
+low_kept : (back : List Char) (x : Char) (q : Place) → is_kept (point back x) ≡ true → IsEarlier x.place q → OpenerBefore back x.place → IsUpTo (low back x.place) (low (x ∷ back) q)
+low_kept back x q k l b = subst (λ (o : Place). IsUpTo (low back x.place) (cond (in_raw (kept (x ∷ back))) o q)) (sym (opener_kept back x k)) (go (in_raw (kept back)) refl (in_raw (kept (x ∷ back))))
   where
-    go : (s : Bool) → in_raw (kept back) ≡ s → (a : Bool) → Le (cond s (opener back) x.place) (cond a (cond s (opener back) x.place) q)
-    go s e true = le_self (cond s (opener back) x.place)
-    go true e false = lt_le (opener back) q (lt_then (opener back) x.place q (b e) (lt_le x.place q l))
-    go false e false = lt_le x.place q l
+    go : (s : Bool) → in_raw (kept back) ≡ s → (a : Bool) → IsUpTo (cond s (opener back) x.place) (cond a (cond s (opener back) x.place) q)
+    go s e true = up_to_self (cond s (opener back) x.place)
+    go true e false = before_up_to (opener back) q (before_then (opener back) x.place q (b e) (before_up_to x.place q l))
+    go false e false = before_up_to x.place q l
 
 -- an item that uses a macro closes a bracket
 pub missing_inside : (split : Bool) (macros : ℕ) (back : List Char) (x : Char) → Stood split back → is_comment (point back x) ≡ false → is_end split (point back x) ≡ false
@@ -258,7 +219,7 @@ missing_inside split macros back x t c n w e = by (in_raw (kept back)) _ _ (macr
 
 -- the findings of a character that is kept
 kept_sorted : (split : Bool) (macros : ℕ) (back : List Char) (x : Char) (q : Place) (fs : List Finding) → Stood split back → is_comment (point back x) ≡ false → is_end split (point back x) ≡ false
-    → is_viable gabc (kept_with (point back x)) ≡ true → Lt x.place q → OpenerBefore back x.place → Sorted (low (x ∷ back) q) fs
+    → is_viable gabc (kept_with (point back x)) ≡ true → IsEarlier x.place q → OpenerBefore back x.place → Sorted (low (x ∷ back) q) fs
     → Sorted (low back x.place) (findings_of (warnings macros (point back x)) ++ fs)
 kept_sorted split macros back x q fs t c n w l b s = go (is_unpaired (point back x)) refl (is_missing macros (macro_of (item_at (point back x)))) refl
   where
@@ -271,7 +232,7 @@ kept_sorted split macros back x q fs t c n w l b s = go (is_unpaired (point back
     -- behind an item nothing is emitted before the next character
     later : is_snippet gabc (kept_with (point back x)) ≡ true → Sorted q fs
     later e = subst (λ (a : Bool). Sorted (cond a (opener (x ∷ back)) q) fs)
-        (ap in_raw same ∙ (ap (λ (d : Bool). is_snippet gabc (kept_with (point back x) ++ codes "]") && not d) e ∙ and_false (is_snippet gabc (kept_with (point back x) ++ codes "]")))) s
+        (ap in_raw same ∙ (ap (λ (d : Bool). is_snippet gabc (kept_with (point back x) ++ codes "]") && not d) e ∙ and-false (is_snippet gabc (kept_with (point back x) ++ codes "]")))) s
 
     mark : is_unpaired (point back x) ≡ true → (is_snippet gabc (kept_with (point back x)) ≡ true) × (macro_of (item_at (point back x)) ≡ None)
     mark e = elim (or_true (opens_fusion (item_at (point back x)) && is_fused back) (closes_fusion (item_at (point back x)) && not (is_fused back)) e) [
@@ -291,8 +252,8 @@ kept_sorted split macros back x q fs t c n w l b s = go (is_unpaired (point back
     go false e true f =
         let r = missing_inside split macros back x t c n w f in
         prepend (low back x.place) q (record { place = opener back; code = W8 }) fs
-        (subst (λ (a : Bool). Le (cond a (opener back) x.place) (opener back)) (sym r) (le_self (opener back)))
-        (lt_then (opener back) x.place q (b r) (lt_le x.place q l))
+        (subst (λ (a : Bool). IsUpTo (cond a (opener back) x.place) (opener back)) (sym r) (up_to_self (opener back)))
+        (before_then (opener back) x.place q (b r) (before_up_to x.place q l))
         (later (item_snippet (λ i. is_missing macros (macro_of i)) (point back x) refl f))
     go false e false f = weaken (low back x.place) (low (x ∷ back) q) fs (low_kept back x q is l b) s
 
@@ -301,10 +262,10 @@ end_sorted : (macros : ℕ) (back : List Char) (x : Char) → in_raw (kept back)
 end_sorted macros back x r = subst (λ (a : Bool). Sorted (cond a (opener back) x.place) (findings_of (at_end (point back x)) ++ [])) (sym r) (go (is_snippet gabc (kept back)) (is_fused back))
   where
     go : (a b : Bool) → Sorted x.place (findings_of (cond a [] (finding_event x.place E6 ∷ []) ++ (cond b (finding_event x.place W10 ∷ []) [] ++ Ended (end_by_mark x.c) (bytes_of (trim gabc (kept back))) ∷ [])) ++ [])
-    go true true = record { order = tt; head = le_self x.place }
+    go true true = record { order = tt; head = up_to_self x.place }
     go true false = no_findings x.place
-    go false true = record { order = (inr (refl, inr (refl, omega arith)), tt); head = le_self x.place }
-    go false false = record { order = tt; head = le_self x.place }
+    go false true = record { order = (inr (refl, inr (refl, omega arith)), tt); head = up_to_self x.place }
+    go false false = record { order = tt; head = up_to_self x.place }
 
 -- ---- all characters
 
@@ -323,7 +284,7 @@ facts_how split macros back x o n = go (is_comment (point back x)) refl (is_viab
     go false c false w = inr (inr (c, w, pick_left _ _ _ _ _ _ _ o c (plain_mark split back x c n) w))
 
 -- the findings of a character and of those that follow it
-one_sorted : (split : Bool) (macros : ℕ) (back xs : List Char) (x : Char) (q : Place) → is_over split back ≡ false → Lt x.place q → OpenerBefore back x.place
+one_sorted : (split : Bool) (macros : ℕ) (back xs : List Char) (x : Char) (q : Place) → is_over split back ≡ false → IsEarlier x.place q → OpenerBefore back x.place
     → (OpenerBefore (x ∷ back) q → Sorted (low (x ∷ back) q) (findings_of (concat_of (note_events_behind split macros (x ∷ back) xs))))
     → Sorted (low back x.place) (findings_of (events_at split macros (point back x)) ++ findings_of (concat_of (note_events_behind split macros (x ∷ back) xs)))
 one_sorted split macros back xs x q o l b F = elim (is_emitted split macros back x o) [
@@ -335,7 +296,7 @@ one_sorted split macros back xs x q o l b F = elim (is_emitted split macros back
         → Sorted (low back x.place) (findings_of (events_at split macros (point back x)) ++ findings_of (concat_of (note_events_behind split macros (x ∷ back) xs)))
     ended e f =
         let none : concat_of (note_events_behind split macros (x ∷ back) xs) ≡ [] = over_joined split macros (x ∷ back) xs (more_over split back x true o e) in
-        let out = not_true (in_raw (kept back)) (and_true (not (in_raw (kept back))) ((x.c == 41) || (split && (x.c == 124))) (and_true (not (is_comment (point back x))) _ e).1).0 in
+        let out = not-true (in_raw (kept back)) (and_true (not (in_raw (kept back))) ((x.c == 41) || (split && (x.c == 124))) (and_true (not (is_comment (point back x))) _ e).1).0 in
         subst (λ (a : List NoteEvent). Sorted (low back x.place) (findings_of a ++ findings_of (concat_of (note_events_behind split macros (x ∷ back) xs)))) (sym f)
         (subst (λ (a : List NoteEvent). Sorted (low back x.place) (findings_of (at_end (point back x)) ++ findings_of a)) (sym none) (end_sorted macros back x out))
 
@@ -345,7 +306,7 @@ one_sorted split macros back xs x q o l b F = elim (is_emitted split macros back
         let k : is_kept (point back x) ≡ false = ap (λ (a : Bool). not a && is_viable gabc (kept_with (point back x))) h.0 in
         let same = kept_same back x h.0 in
         subst (λ (a : List NoteEvent). Sorted (low back x.place) (findings_of a ++ findings_of (concat_of (note_events_behind split macros (x ∷ back) xs)))) (sym h.1)
-        (weaken (low back x.place) (low (x ∷ back) q) _ (subst (λ (r : Place). Le (low back x.place) r) (sym (low_same back x q k same)) (low_grows back x.place q l))
+        (weaken (low back x.place) (low (x ∷ back) q) _ (subst (λ (r : Place). IsUpTo (low back x.place) r) (sym (low_same back x q k same)) (low_grows back x.place q l))
         (F (unkept_before back x q k same l b)))
     going n (inr (inl h)) =
         let k : is_kept (point back x) ≡ true = ap (λ (a : Bool). not a && is_viable gabc (kept_with (point back x))) h.0 ∙ h.1 in
@@ -382,7 +343,7 @@ events_sorted split macros (c ∷ t) back p b = go (is_over split back) refl (ev
     go true o F = subst (λ (l : List NoteEvent). Sorted (low back p) (findings_of l)) (sym (over_joined split macros back (placed_characters_from p (c ∷ t)) o)) (no_findings (low back p))
     go false o F =
         subst (Sorted (low back p)) (sym (findings_append (events_at split macros (point back (record { c = c; place = p }))) (concat_of (note_events_behind split macros (record { c = c; place = p } ∷ back) (placed_characters_from (next_place p c) t)))))
-        (one_sorted split macros back (placed_characters_from (next_place p c) t) (record { c = c; place = p }) (next_place p c) o (next_after p c) b F)
+        (one_sorted split macros back (placed_characters_from (next_place p c) t) (record { c = c; place = p }) (next_place p c) o (before_next p c) b F)
 
 -- of a whole text
 pub all_in_order : (at : Place) (split : Bool) (macros : ℕ) (t : List ℕ) → AreInOrder (findings_of (concat_of (note_events split macros (placed_characters_from at t))))

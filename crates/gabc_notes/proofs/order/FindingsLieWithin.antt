@@ -1,7 +1,7 @@
 -- The places between which findings lie, and the marks at which ends are emitted.
 use Rattle.std.proofs.Common.{◌≡◌, ℕ, ◌+◌, suc, List, [], ◌∷◌, ◌++◌, Bool, true, false, cond, not, ◌&&◌, ◌||◌, ◌==◌, inl, inr, refl, sym, ap, ◌∙◌, subst, length, take, eqb-true, None, arith}
+use Rattle.gabc_places.proofs.PlacesInOrder.{lie_wider, up_to_past, lie_append, before_up_to, up_to_self, up_to_then, before_next}
 use Rattle.gabc_places.specs.declared.code.Code.TheVariants.{E1, E6, W8, W10}
-use Rattle.gabc_places.specs.declared.code.Finding.{Finding}
 use Rattle.gabc_places.specs.declared.place.Char.{Char}
 use Rattle.gabc_places.specs.declared.place.Place.{Place}
 use Rattle.gabc_places.specs.Findings.{IsUpTo, LieBetween}
@@ -17,25 +17,12 @@ use Rattle.gabc_notes.specs.Ends.{IsMarkOf, EndWithMark, EndAtMost, AreCutAtMost
 use Rattle.gabc_notes.specs.declared.stage.NoteEnd.TheVariants.{Next, Close, Cut}
 use Rattle.gabc_notes.specs.declared.stage.NoteEvent.{NoteEvent}
 use Rattle.gabc_notes.specs.declared.stage.NoteEvent.TheVariants.{Kept, Ended}
-use Rattle.gabc_notes.proofs.order.FindingsAreInOrder.{lt_le, le_self, le_then, next_after, stand, FactsHow, facts_how, missing_inside}
+use Rattle.gabc_notes.proofs.order.FindingsAreInOrder.{stand, FactsHow, facts_how, missing_inside}
 use Rattle.gabc_notes.proofs.grammar.LawsOfEventsByPoint.{opened, nothing_over}
 use Rattle.gabc_notes.proofs.machine.LoopOverBody.{findings_append, is_emitted, goes}
 use Rattle.gabc_notes.proofs.machine.OneCharacterMore.{point}
 
 -- ---- bounds
-
-widen : (p q r : Place) (fs : List Finding) → IsUpTo q r → LieBetween p q fs → LieBetween p r fs
-widen p q r [] l h = tt
-widen p q r (f ∷ fs) l h = ((h.0.0, le_then f.place q r h.0.1 l), widen p q r fs l h.1)
-
-lie_append : (p q : Place) (fs gs : List Finding) → LieBetween p q fs → LieBetween p q gs → LieBetween p q (fs ++ gs)
-lie_append p q [] gs h k = k
-lie_append p q (f ∷ fs) gs h k = (h.0, lie_append p q fs gs h.1 k)
-
--- a text ends no earlier than it begins
-past : (p : Place) (t : List ℕ) → IsUpTo p (place_past p t)
-past p [] = le_self p
-past p (c ∷ t) = le_then p (next_place p c) (place_past (next_place p c) t) (lt_le p (next_place p c) (next_after p c)) (past (next_place p c) t)
 
 -- each of the characters stands at p or later, and no later than q
 abbrev StandBetween : Place → Place → List Char → Type 0
@@ -44,7 +31,7 @@ StandBetween p q (x ∷ xs) = (IsUpTo p x.place × IsUpTo x.place q) × StandBet
 
 stand_widen : (p q r : Place) (xs : List Char) → IsUpTo q r → StandBetween p q xs → StandBetween p r xs
 stand_widen p q r [] l h = tt
-stand_widen p q r (x ∷ xs) l h = ((h.0.0, le_then x.place q r h.0.1 l), stand_widen p q r xs l h.1)
+stand_widen p q r (x ∷ xs) l h = ((h.0.0, up_to_then x.place q r h.0.1 l), stand_widen p q r xs l h.1)
 
 mark_stands : (p q : Place) (line before : List Char) (mark : Char) → StandBetween p q (line ++ mark ∷ before) → IsUpTo p mark.place × IsUpTo mark.place q
 mark_stands p q [] before mark h = h.0
@@ -62,7 +49,7 @@ end_within : (at : Place) (back : List Char) (x : Char) → IsUpTo at x.place �
 end_within at back x l = go (is_snippet gabc (kept back)) (is_fused back)
   where
     here : IsUpTo at x.place × IsUpTo x.place x.place
-    here = (l, le_self x.place)
+    here = (l, up_to_self x.place)
 
     go : (a b : Bool) → LieBetween at x.place (findings_of (cond a [] (finding_event x.place E6 ∷ []) ++ (cond b (finding_event x.place W10 ∷ []) [] ++ Ended (end_by_mark x.c) (bytes_of (trim gabc (kept back))) ∷ [])))
     go true true = (here, tt)
@@ -76,7 +63,7 @@ warned_within : (at : Place) (macros : ℕ) (back : List Char) (x : Char) → Is
 warned_within at macros back x l o = go (is_unpaired (point back x)) (is_missing macros (macro_of (item_at (point back x)))) refl
   where
     here : IsUpTo at x.place × IsUpTo x.place x.place
-    here = (l, le_self x.place)
+    here = (l, up_to_self x.place)
 
     go : (u m : Bool) → is_missing macros (macro_of (item_at (point back x))) ≡ m
         → LieBetween at x.place (findings_of (cond u (finding_event x.place W10 ∷ []) [] ++ cond m (finding_event (opener back) W8 ∷ []) []))
@@ -96,7 +83,7 @@ facts_within at split macros back x l h = start (is_over split back) refl
     going o n (inl k) = events [] k.1 tt
     going o n (inr (inl k)) = events (Kept x ∷ warnings macros (point back x)) k.2
         (warned_within at macros back x l (λ m. opener_stands at x.place back h (missing_inside split macros back x (stand split back o) k.0 n k.1 m)))
-    going o n (inr (inr k)) = events (finding_event x.place E1 ∷ []) k.2 ((l, le_self x.place), tt)
+    going o n (inr (inr k)) = events (finding_event x.place E1 ∷ []) k.2 ((l, up_to_self x.place), tt)
 
     start : (o : Bool) → is_over split back ≡ o → LieBetween at x.place (findings_of (events_at split macros (point back x)))
     start true o = events [] (nothing_over split macros (point back x) o) tt
@@ -123,19 +110,19 @@ through at split macros [] (c ∷ rest) back p l h =
     (lie_append at p (findings_of (events_at split macros (point back x))) [] (facts_within at split macros back x l h) tt)
 through at split macros (c ∷ prefix) rest back p l h =
     let x : Char = record { c = c; place = p } in
-    let next = lt_le p (next_place p c) (next_after p c) in
+    let next = before_up_to p (next_place p c) (before_next p c) in
     let later = note_events_behind split macros (x ∷ back) (placed_characters_from (next_place p c) (prefix ++ rest)) in
     let n : length (c ∷ prefix) + 1 ≡ suc (length prefix + 1) = omega arith in
     subst (λ (k : ℕ). LieBetween at (place_past (next_place p c) prefix) (findings_of (concat_of (take k (events_at split macros (point back x) ∷ later))))) (sym n)
     (subst (LieBetween at (place_past (next_place p c) prefix)) (sym (findings_append (events_at split macros (point back x)) (concat_of (take (length prefix + 1) later))))
     (lie_append at (place_past (next_place p c) prefix) (findings_of (events_at split macros (point back x))) (findings_of (concat_of (take (length prefix + 1) later)))
-    (widen at p (place_past (next_place p c) prefix) (findings_of (events_at split macros (point back x))) (past p (c ∷ prefix)) (facts_within at split macros back x l h))
-    (through at split macros prefix rest (x ∷ back) (next_place p c) (le_then at p (next_place p c) l next) ((l, next), stand_widen at p (next_place p c) back next h))))
+    (lie_wider at p (place_past (next_place p c) prefix) (findings_of (events_at split macros (point back x))) (up_to_past p (c ∷ prefix)) (facts_within at split macros back x l h))
+    (through at split macros prefix rest (x ∷ back) (next_place p c) (up_to_then at p (next_place p c) l next) ((l, next), stand_widen at p (next_place p c) back next h))))
 
 pub all_within : (at : Place) (split : Bool) (macros : ℕ) (prefix rest : List ℕ)
     → LieBetween at (place_past at prefix) (findings_of (concat_of (take (length prefix + 1) (note_events split macros (placed_characters_from at (prefix ++ rest))))))
 unfolding note_events
-all_within at split macros prefix rest = through at split macros prefix rest [] at (le_self at) tt
+all_within at split macros prefix rest = through at split macros prefix rest [] at (up_to_self at) tt
 
 -- ---- marks
 

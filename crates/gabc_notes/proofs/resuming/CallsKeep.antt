@@ -1,5 +1,5 @@
 -- What the calls of a stage do to the text that it keeps.
-use Rattle.std.proofs.Common.{◌≡◌, ◌≢◌, ◌==◌, ◌&&◌, ℕ, List, [], ◌∷◌, Bool, true, false, Option, Some, None, length, drop, refl, sym, ap, ◌∙◌, subst}
+use Rattle.std.proofs.Common.{◌≡◌, ◌&&◌, List, [], ◌∷◌, Bool, true, false, Option, Some, None, length, drop, refl, sym, ap, ◌∙◌, subst}
 use Rattle.std.proofs.Math.Seq.{drop-append_seam}
 use Rattle.gabc_places.specs.BoundedList.{BoundedList}
 use Rattle.gabc_places.specs.StageLaw.{Pushes}
@@ -7,14 +7,13 @@ use Rattle.gabc_places.specs.declared.place.Char.{Char}
 use Rattle.gabc_notes.specs.witness.ItemMachine.{events_left}
 use Rattle.gabc_notes.specs.witness.Keeps.{KeepsOn}
 use Rattle.gabc_notes.specs.witness.StageEvents.{role_in}
-use Rattle.gabc_notes.specs.machine.ItemMachine.{IsShortStep, raw_state, whole_at, facts_by_states, stage_after, stage_kept}
+use Rattle.gabc_notes.specs.machine.ItemMachine.{IsShortStep, raw_state, facts_by_states, stage_after, stage_kept}
 use Rattle.gabc_notes.specs.machine.StageBehind.{next_of, facts_of, role_of, stage_behind, events_of_push}
 use Rattle.gabc_notes.specs.declared.stage.CharFacts.{CharFacts}
 use Rattle.gabc_notes.specs.declared.stage.CharRole.{CharRole}
 use Rattle.gabc_notes.specs.declared.stage.NoteEvent.{NoteEvent}
 use Rattle.gabc_notes.specs.declared.stage.NoteStage.{NoteStage}
 use Rattle.gabc_notes.specs.declared.state.ItemState.{ItemState}
-use Rattle.gabc_notes.proofs.machine.ShortWays.{next_role}
 use Rattle.gabc_notes.proofs.resuming.KeptTextGivesStage.{emits_on}
 use Rattle.gabc_notes.proofs.resuming.StagesKeep.{behind, push_keeps}
 
@@ -49,14 +48,6 @@ close_state s x on no_comment outside close = sym (behind s x on ∙ by (next_of
     by None = rw (no_comment, outside, close) refl
     by (Some z) = rw (no_comment, outside, close) refl
 
--- the one of a `|`
-pub next_state_is : (s : NoteStage) (x : Char) → s.ended ≡ false → s.split ≡ true → s.before.comment ≡ false → whole_at s.state ≡ true → x.c ≡ 124 → record s { ended = true } ≡ stage_behind s x
-next_state_is s x on splits no_comment whole mark =
-    sym (behind s x on
-    ∙ ap (λ (r : CharRole). stage_after s r (facts_of s x.c) (next_of s x.c) x)
-    (ap (λ b. role_in b s.before.comment (facts_of s x.c) x.c) splits
-    ∙ (ap (λ b. role_in true b (facts_of s x.c) x.c) no_comment ∙ (ap (λ c. role_in true false (facts_of s x.c) c) mark ∙ next_role s.state (next_of s x.c) s.name whole))))
-
 -- ---- what is kept
 
 -- by what the stage emits with the character
@@ -71,10 +62,3 @@ pub push_keeps_in : (s next : NoteStage) (x : Char) (old new : BoundedList NoteE
 push_keeps_in s next x old new on e p =
     subst (λ (events : List NoteEvent). KeepsOn s x events next) (sym (ap (λ (room : BoundedList NoteEvent). drop (length old.items) room.items) p.out ∙ drop-append_seam old.items p.events))
     (keeps_by s next x p.events on e (p.law []))
-
--- a character of the short way is no mark
-pub short_is_no_mark : (s z : ItemState) (c : ℕ) → IsShortStep s c z → (c ≢ 41) × (c ≢ 124)
-short_is_no_mark s z c step = (
-  λ e. (let f : (41 == 41) ≡ false = subst (λ (d : ℕ). (d == 41) ≡ false) e step.closes_no_notes in cc),
-  λ e. (let f : (124 == 124) ≡ false = subst (λ (d : ℕ). (d == 124) ≡ false) e step.ends_no_snippet in cc),
-)

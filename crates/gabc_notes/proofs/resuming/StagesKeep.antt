@@ -1,5 +1,6 @@
 -- A stage keeps the text that it has kept.
 use Rattle.std.proofs.Common.{◌≡◌, ◌==◌, ◌&&◌, ◌||◌, not, ℕ, List, [], ◌∷◌, ◌++◌, Bool, true, false, cond, Option, Some, None, is_some, option_to_list, refl, sym, ap, ◌∙◌, subst, append-nil, append_assoc, if◌then◌else◌}
+use Rattle.std.proofs.lemmas.Bool.{true≢false}
 use Rattle.gabc_places.specs.declared.code.Code.TheVariants.{E6, W8, W10}
 use Rattle.gabc_places.specs.declared.place.Char.{Char}
 use Rattle.gabc_places.specs.declared.place.Place.{Place}
@@ -28,9 +29,6 @@ use Rattle.gabc_notes.proofs.machine.EventsDependOnState.{raw_at, raw_by}
 use Rattle.gabc_notes.proofs.machine.MachineReadsTable.{machine, snippets_read}
 use Rattle.gabc_notes.proofs.machine.OneCharacterMore.{bytes_more, trim_more, RoleIs, role_is, no_percent, no_feed}
 use Rattle.gabc_notes.proofs.machine.StageEmitsItsEvents.{raw_is, not_kept}
-
-no : {A : Type 0} → true ≡ false → A
-no e = absurd (cc)
 
 -- ---- a stage by the text that it kept
 
@@ -261,8 +259,8 @@ module _ (split : Bool) (macros : ℕ) (s : NoteStage) (x : Char) (k : List ℕ)
           go : (n m r p : Bool) → (m ≡ true → r ≡ false) → (n && (m || (not r && p))) ≡ true → r ≡ false
           go true true r p f g = f refl
           go true false false p f g = refl
-          go true false true p f g = no (sym g)
-          go false m r p f g = no (sym g)
+          go true false true p f g = absurd (true≢false (sym g))
+          go false m r p f g = absurd (true≢false (sym g))
 
       by : (a : Bool) → (if a then Some s.before.place else None) ≡ opener_behind a (if a then Some s.before.place else None) x.place
       by true = refl
@@ -276,7 +274,7 @@ module _ (split : Bool) (macros : ℕ) (s : NoteStage) (x : Char) (k : List ℕ)
     kept = text ∙ sym (ap (λ (a : Bool). if not a && is_viable gabc (k ++ x.c ∷ []) then k ++ x.c ∷ [] else k) says.0 ∙ ap (λ (v : Bool). if v then k ++ x.c ∷ [] else k) says.2);
     keeps = subst (Keeps split macros after) (sym text) (record {
       goes_on = h.goes_on;
-      outside = λ f. no (sym f);
+      outside = λ f. absurd (true≢false (sym f));
       alike = aside_kept s x z ∙ sym (kept_step (aside s) (at_nowhere x.c) z h.goes_on plain n) ∙ ap (λ (r : NoteStage). stage_behind r (at_nowhere x.c)) h.alike ∙ sym (past_more fresh k x.c);
       whole = are_more fresh k x.c h.whole (ap (λ (r : NoteStage). role_of r x.c) (sym h.alike) ∙ plain);
     });
@@ -334,16 +332,16 @@ module _ (split : Bool) (macros : ℕ) (s : NoteStage) (x : Char) (k : List ℕ)
           at Keep (emitted s x Keep) (stage_after s Keep (facts_by_states s.state (Some y.0) s.name) (Some y.0) x) e refl
           (ap (λ (o : Option ItemState). stage_after s Keep (facts_by_states s.state o s.name) o x) y.1) (keeps_one y.0 e y.1))
       by Ends e = (let R = role_says split macros s k b x.c Ends e in
-          no (sym (ap (λ (a : Bool). not a && marks) R.0 ∙ R.1) ∙ ongoing))
+          absurd (true≢false (sym (ap (λ (a : Bool). not a && marks) R.0 ∙ R.1) ∙ ongoing)))
 
   ends : is_end_behind split k (comment_of s) x.c ≡ true → EndsBehind k x.c (events_of_push s x)
   ends over = by (role_of s x.c) refl
     where
       never : is_comment_behind k (comment_of s) x.c ≡ true → EndsBehind k x.c (events_of_push s x)
-      never c = no (sym over ∙ ap (λ (a : Bool). not a && marks) c)
+      never c = absurd (true≢false (sym over ∙ ap (λ (a : Bool). not a && marks) c))
 
       no_mark : marks ≡ false → is_comment_behind k (comment_of s) x.c ≡ false → EndsBehind k x.c (events_of_push s x)
-      no_mark m c = no (sym over ∙ ap (λ (a : Bool). not a && marks) c ∙ m)
+      no_mark m c = absurd (true≢false (sym over ∙ ap (λ (a : Bool). not a && marks) c ∙ m))
 
       by : (r : CharRole) → role_of s x.c ≡ r → EndsBehind k x.c (events_of_push s x)
       by Silent e = never (role_says split macros s k b x.c Silent e).0
@@ -360,4 +358,4 @@ pub push_keeps : (s : NoteStage) (x : Char) → KeepsOn s x (events_of_push s x)
 push_keeps s x = record { goes = λ split macros k h. goes split macros s x k h; ends = λ split macros k h. ends split macros s x k h }
 
 pub fresh_keeps : (split : Bool) (macros : ℕ) → Keeps split macros (fresh_stage split macros) []
-fresh_keeps split macros = record { goes_on = refl; outside = λ e. no (sym e); alike = refl; whole = tt }
+fresh_keeps split macros = record { goes_on = refl; outside = λ e. absurd (true≢false (sym e)); alike = refl; whole = tt }

@@ -1,4 +1,5 @@
--- The machine that reads items a character at a time. It is no promise: that it reads the table is proved.
+-- The machine that reads items a character at a time. It is no promise: that it reads the table is
+-- proved.
 use Rattle.std.specs.Prelude.{◌≡◌, ℕ, Bool, true, false, codes, Option, Some, None, ◌==◌, if◌then◌else◌}
 use Rattle.std.specs.Char.{len_utf8}
 use Rattle.std.specs.Option.{option_or}
@@ -42,7 +43,7 @@ begun_item AtC = Some At
 begun_item Close = Some (Done Fusion)
 begun_item _ = None
 
--- behind a small pitch
+-- after a small pitch
 abbrev pub in_pitch : CharClass → Option ItemState
 in_pitch Sign = Some Body
 in_pitch Suffix = Some Body
@@ -203,7 +204,8 @@ abbrev pub attribute_state : ItemState → Bool
 attribute_state (Done Attribute) = true
 attribute_state _ = false
 
--- The character, of one byte and no mark, brings the reading from a state outside raw to another, at which what was read is a snippet.
+-- The character, of one byte and no mark, brings the reading from a state outside raw to another,
+-- at which what was read is a snippet.
 pub record IsShortStep (s : ItemState) (c : ℕ) (next : ItemState) : Type 0 where
   pub step : next_state s (class_of_character c) ≡ Some next
   pub outside : raw_state s ≡ false
@@ -236,12 +238,12 @@ prefix_with _ c = Other
 abbrev pub prefix_after : CharFacts → MacroPrefix → ℕ → MacroPrefix
 prefix_after e n c = if e.raw_after then prefix_with n c else Closed
 
--- the stage behind a character
+-- the stage after a character
 abbrev pub stage_after : NoteStage → CharRole → CharFacts → Option ItemState → Char → NoteStage
 stage_after st Ends e o x = record st { ended = true }
 stage_after st Keep e (Some z) x = record st { state = z; name = prefix_after e st.name x.c; before = before_in Keep st.before e x }
 stage_after st r e o x = record st { before = before_in r st.before e x }
 
--- the stage behind a character that is kept and brings the reading to this state
+-- the stage after a character that is kept and brings the reading to this state
 abbrev pub stage_kept : NoteStage → ItemState → Char → NoteStage
 stage_kept st z x = stage_after st Keep (facts_by_states st.state (Some z) st.name) (Some z) x

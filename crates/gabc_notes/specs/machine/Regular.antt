@@ -1,10 +1,13 @@
 -- The reading of a snippet in which nothing was found yet.
-use Rattle.std.specs.Prelude.{ℕ, Bool, not, ◌&&◌, ◌||◌, ◌==◌, if◌then◌else◌, Option, Some, None, is_some}
+use Rattle.std.specs.Prelude.{ℕ, List, [], ◌∷◌, Bool, true, false, codes, not, ◌&&◌, ◌||◌, ◌==◌, if◌then◌else◌, Option, Some, None, is_some}
+use Rattle.std.specs.List.{list_all}
+use Rattle.gabc_patterns.specs.Pattern.{is_in}
 use Rattle.gabc_notes.specs.machine.CharClass.{class_of_character}
 use Rattle.gabc_notes.specs.machine.ItemMachine.{attribute_state, digit_of_prefix, next_state, prefix_with, raw_state, whole_at}
 use Rattle.gabc_notes.specs.declared.macro_prefix.MacroPrefix.TheVariants.{Closed}
 use Rattle.gabc_notes.specs.declared.regular.RegularState.{RegularState}
 use Rattle.gabc_notes.specs.declared.state.ItemState.{ItemState}
+use Rattle.gabc_notes.specs.declared.state.ItemState.TheVariants.{Start, Body, Pitch, ClefPitch}
 
 -- where no macro is defined a warning comes with the character c, which brings the item to z
 abbrev pub warns_at : RegularState → ItemState → ℕ → Bool
@@ -12,7 +15,8 @@ warns_at r z c =
     if raw_state r.item then attribute_state z && is_some (digit_of_prefix r.name)
     else ((c == 91) && (not (raw_state z) && r.fused)) || ((c == 93) && not r.fused)
 
--- where the reading stands after a character that brings the item there and is found fault with nowhere
+-- where the reading stands after a character that brings the item there and is found fault with
+-- nowhere
 abbrev pub regular_at : RegularState → ItemState → ℕ → RegularState
 regular_at r z c = record {
   item = z;
@@ -30,3 +34,30 @@ regular_after r c = regular_by r c (next_state r.item (class_of_character c))
 
 abbrev pub ends_regularly : RegularState → Bool
 ends_regularly r = whole_at r.item && not r.fused
+
+-- ---- the front that is read on a short way
+
+-- a pitch but `b`
+abbrev pub begins_front : ℕ → Bool
+begins_front c = is_in c (codes "acdefghijklmnp")
+
+-- such a pitch, or a frequent suffix or sign
+abbrev pub goes_on_front : ℕ → Bool
+goes_on_front c = is_in c (codes "acdefghijklmnp._'vswo")
+
+-- the first is a pitch but `b`, and each after it such a pitch or a frequent suffix or sign
+abbrev pub is_front : List ℕ → Bool
+is_front [] = true
+is_front (c ∷ t) = begins_front c && list_all goes_on_front t
+
+-- where the item stands after this character of a front
+abbrev pub item_at : ℕ → ItemState
+item_at c = if is_in c (codes "cf") then ClefPitch else if begins_front c then Pitch else Body
+
+abbrev pub item_from : ItemState → List ℕ → ItemState
+item_from s [] = s
+item_from s (c ∷ t) = item_from (item_at c) t
+
+-- where the reading stands after a front
+abbrev pub front_state : List ℕ → RegularState
+front_state t = record { item = item_from Start t; name = Closed; fused = false }

@@ -1,4 +1,4 @@
--- Where a stage stands behind a character, and behind a text.
+-- Where a stage stands after a character, and after a text.
 use Rattle.std.specs.Prelude.{◌≡◌, ℕ, List, [], ◌∷◌, Bool, false, Option, if◌then◌else◌}
 use Rattle.gabc_places.specs.declared.place.Char.{Char}
 use Rattle.gabc_notes.specs.witness.StageEvents.{role_in, events_in, event_list}
@@ -23,7 +23,7 @@ facts_of s c = facts_by_states s.state (next_of s c) s.name
 abbrev pub role_of : NoteStage → ℕ → CharRole
 role_of s c = role_in s.split s.before.comment (facts_of s c) c
 
--- the stage behind a character, and what it emits
+-- the stage after a character, and what it emits
 abbrev pub stage_behind : NoteStage → Char → NoteStage
 stage_behind s x = if s.ended then s else stage_after s (role_of s x.c) (facts_of s x.c) (next_of s x.c) x
 
@@ -42,7 +42,7 @@ aside s = record s { before = record s.before { place = record { line = 0; colum
 abbrev pub fresh_stage : Bool → ℕ → NoteStage
 fresh_stage split macros = record { split = split; macros = macros; state = Start; name = Closed; before = nothing_before; ended = false }
 
--- the stage behind a text
+-- the stage after a text
 abbrev pub stage_past : NoteStage → List ℕ → NoteStage
 stage_past s [] = s
 stage_past s (c ∷ t) = stage_past (stage_behind s (at_nowhere c)) t

@@ -1,5 +1,5 @@
--- What a stage emits, character by character, by the kept text and what stands before a character. It is no promise: that it
--- is `note_events` of specs/Events.antt is proved.
+-- What a stage emits, character by character, by the kept text and what stands before a character.
+-- It is no promise: that it is `note_events` of specs/Events.antt is proved.
 use Rattle.std.specs.Prelude.{false}
 use Rattle.gabc_notes.specs.declared.stage.Before.{Before}
 

@@ -1,4 +1,5 @@
--- The machine that reads items a character at a time. It is no promise: that it reads the table is proved.
+-- The machine that reads items a character at a time. It is no promise: that it reads the table is
+-- proved.
 use Rattle.std.specs.Prelude.{ℕ, List, [], ◌∷◌, codes, if◌then◌else◌}
 use Rattle.gabc_places.specs.declared.place.Char.{Char}
 use Rattle.gabc_places.specs.StageLaw.{silence}
@@ -56,6 +57,7 @@ example_prefix Named = codes "[nm"
 example_prefix (Last c) = 91 ∷ 110 ∷ 109 ∷ c ∷ []
 example_prefix Other = codes "[other"
 
--- What a stage will still emit for these characters, and then the end: it depends on a text that ends in its state.
+-- What a stage will still emit for these characters, and then the end: it depends on a text that
+-- ends in its state.
 abbrev pub events_left : NoteStage → List Char → List (List NoteEvent)
 events_left st xs = if st.ended then silence xs else events_behind st.split st.macros (example st.state) (example_prefix st.name) st.before xs

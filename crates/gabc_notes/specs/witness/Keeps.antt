@@ -1,4 +1,5 @@
--- A stage stands behind the text that it kept. Of what it has read nothing else matters but what it tells.
+-- A stage stands after the text that it kept. Of what it has read nothing else matters but what it
+-- tells.
 use Rattle.std.specs.Prelude.{◌≡◌, ℕ, List, [], ◌∷◌, ◌++◌, Bool, true, false, not, ◌&&◌, ◌||◌, ◌==◌, if◌then◌else◌, Option, Some, None, unwrap_or, map}
 use Rattle.gabc_places.specs.declared.place.Char.{Char}
 use Rattle.gabc_places.specs.declared.place.Place.{Place}
@@ -15,14 +16,15 @@ use Rattle.gabc_notes.specs.declared.stage.NoteEvent.{NoteEvent}
 use Rattle.gabc_notes.specs.declared.stage.NoteEvent.TheVariants.{Ended}
 use Rattle.gabc_notes.specs.declared.stage.NoteStage.{NoteStage}
 
--- It goes on, and stands where a fresh stage does that has read k, but for a place and a comment; of k all is kept.
+-- It goes on, and stands where a fresh stage does that has read k, but for a place and a comment;
+-- of k all is kept.
 pub record Keeps (split : Bool) (macros : ℕ) (s : NoteStage) (k : List ℕ) : Type 0 where
   pub goes_on : s.ended ≡ false
   pub outside : comment_of s ≡ true → in_raw k ≡ false
   pub alike : aside s ≡ stage_past (fresh_stage split macros) k
   pub whole : AreKept (fresh_stage split macros) k
 
--- ---- a character c behind the kept text k, by whether a comment is open
+-- ---- a character c after the kept text k, by whether a comment is open
 
 -- it lies in a comment
 abbrev pub is_comment_behind : List ℕ → Bool → ℕ → Bool
@@ -36,13 +38,14 @@ is_end_behind split k comment c = not (is_comment_behind k comment c) && (not (i
 abbrev pub kept_behind : List ℕ → Bool → ℕ → List ℕ
 kept_behind k comment c = if not (is_comment_behind k comment c) && is_viable gabc (k ++ c ∷ []) then k ++ c ∷ [] else k
 
--- the place of the bracket that is open behind it, where it stands at p: inside raw that of the one open before it, else its own
+-- the place of the bracket that is open after it, where it stands at p: inside raw that of the one
+-- open before it, else its own
 abbrev pub opener_behind : Bool → Option Place → Place → Option Place
 opener_behind false before p = None
 opener_behind true (Some q) p = Some q
 opener_behind true None p = Some p
 
--- The stage goes on behind a character.
+-- The stage goes on after a character.
 pub record GoesOn (split : Bool) (macros : ℕ) (k : List ℕ) (before : NoteStage) (x : Char) (events : List NoteEvent) (after : NoteStage) : Type 0 where
   pub no_end : ends_of events ≡ []
   pub kept : k ++ kept_of events ≡ kept_behind k (comment_of before) x.c
@@ -50,7 +53,8 @@ pub record GoesOn (split : Bool) (macros : ℕ) (k : List ℕ) (before : NoteSta
   pub comment : comment_of after ≡ is_comment_behind k (comment_of before) x.c
   pub opener : opener_of after ≡ opener_behind (in_raw (k ++ kept_of events)) (opener_of before) x.place
 
--- It ends with the bytes of the kept text k without an unfinished end, and nothing is kept with the mark c.
+-- It ends with the bytes of the kept text k without an unfinished end, and nothing is kept with the
+-- mark c.
 pub record EndsBehind (k : List ℕ) (c : ℕ) (events : List NoteEvent) : Type 0 where
   pub end : ends_of events ≡ (end_by_mark c, bytes_of (trim gabc k)) ∷ []
   pub none_kept : kept_of events ≡ []
@@ -63,7 +67,7 @@ pub record KeepsOn (before : NoteStage) (x : Char) (events : List NoteEvent) (af
 
 -- ---- a stage set down again
 
--- the characters of a kept text, each at this place, and a `%` behind them where a comment is open
+-- the characters of a kept text, each at this place, and a `%` after them where a comment is open
 abbrev pub set_down : Place → List ℕ → Bool → List Char
 set_down at k comment = map (λ (c : ℕ). record { c = c; place = at }) k ++ (if comment then record { c = 37; place = at } ∷ [] else [])
 
@@ -71,7 +75,7 @@ set_down at k comment = map (λ (c : ℕ). record { c = c; place = at }) k ++ (i
 abbrev pub OpensAt : Place → NoteStage → Type 0
 OpensAt at s = (place : Place) → opener_of s ≡ Some place → place ≡ at
 
--- The character c behind k is kept again, where no comment is open, and none is open behind it.
+-- The character c after k is kept again, where no comment is open, and none is open after it.
 pub record IsKeptAgain (split : Bool) (k : List ℕ) (c : ℕ) : Type 0 where
   pub no_comment : is_comment_behind k false c ≡ false
   pub goes_on : is_end_behind split k false c ≡ false

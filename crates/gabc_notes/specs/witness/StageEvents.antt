@@ -1,5 +1,5 @@
--- What a stage emits, character by character, by the kept text and what stands before a character. It is no promise: that it
--- is `note_events` is proved.
+-- What a stage emits, character by character, by the kept text and what stands before a character.
+-- It is no promise: that it is `note_events` is proved.
 use Rattle.std.specs.Prelude.{ℕ, ◌+◌, ◌-◌, ◌^◌, min, List, [], ◌∷◌, ◌++◌, Bool, true, false, not, ◌&&◌, ◌||◌, ◌==◌, codes, if◌then◌else◌, Option, Some, None, option_to_list}
 use Rattle.std.specs.Char.{len_utf8}
 use Rattle.gabc_places.specs.declared.code.Code.TheVariants.{E1, E6, W8, W10}
@@ -33,12 +33,13 @@ kind_at _ = None
 abbrev pub ends_with_attribute : List ℕ → Bool
 ends_with_attribute kept = is_attribute_kind (kind_at (run gabc start kept))
 
--- the digit of a macro's name behind its bracket: `[nm`, `[gm` or `[em`, and a digit
+-- the digit of a macro's name after its bracket: `[nm`, `[gm` or `[em`, and a digit
 abbrev pub macro_digit : List ℕ → Option ℕ
 macro_digit (a ∷ l ∷ m ∷ d ∷ []) = digit_if ((a == 91) && (is_in l (codes "nge") && ((m == 109) && is_digit d))) d
 macro_digit _ = None
 
--- what is known of the character c behind this kept text, in which raw is what stands from the open bracket on
+-- what is known of the character c after this kept text, in which raw is what stands from the open
+-- bracket on
 abbrev pub char_facts : List ℕ → List ℕ → ℕ → CharFacts
 char_facts kept raw c = record {
   raw = in_raw kept;
@@ -50,8 +51,8 @@ char_facts kept raw c = record {
   digit = macro_digit raw;
 }
 
--- A comment reaches up to an LF. Outside raw a mark ends the snippet and `%` begins a comment. Else a character is kept
--- exactly if the kept text with it is viable.
+-- A comment reaches up to an LF. Outside raw a mark ends the snippet and `%` begins a comment. Else
+-- a character is kept exactly if the kept text with it is viable.
 abbrev pub role_in : Bool → Bool → CharFacts → ℕ → CharRole
 role_in split comment e c =
     if comment && not (c == 10) then Silent else
@@ -59,7 +60,8 @@ role_in split comment e c =
     if not e.raw && (c == 37) then Comment else
     if e.viable then Keep else LeaveOut
 
--- W8 of an attribute that names a macro that is not defined; W10 of an `@[` while one is open, and of a `]` while none is
+-- W8 of an attribute that names a macro that is not defined; W10 of an `@[` while one is open, and
+-- of a `]` while none is
 abbrev pub warning_in : ℕ → Before → CharFacts → Char → Option NoteEvent
 warning_in macros b e x =
     if e.raw then (if e.attribute && is_missing macros e.digit then Some (finding_event b.place W8) else None) else
@@ -72,8 +74,9 @@ fused_in b e x = if e.raw || e.raw_after then b.fused else ((x.c == 91) || (b.fu
 abbrev pub count_plus : ℕ → ℕ → ℕ
 count_plus kept c = min (kept + len_utf8 c) (2 ^ 64 - 1)
 
--- What stands before the next character. The place is that of the last character kept outside raw: inside raw, of the
--- bracket that opened it. The bytes are those of the kept text, and of its longest prefix that is a snippet.
+-- What stands before the next character. The place is that of the last character kept outside raw:
+-- inside raw, of the bracket that opened it. The bytes are those of the kept text, and of its
+-- longest prefix that is a snippet.
 abbrev pub before_in : CharRole → Before → CharFacts → Char → Before
 before_in Comment b e x = record b { comment = true }
 before_in LeaveOut b e x = record b { comment = false }
@@ -92,7 +95,8 @@ pub record CharEvents : Type 0 where
   pub second : Option NoteEvent
   pub third : Option NoteEvent
 
--- What a character emits. At the end of the snippet an unfinished end is E6, and an open `@[` is W10.
+-- What a character emits. At the end of the snippet an unfinished end is E6, and an open `@[` is
+-- W10.
 abbrev pub events_in : CharRole → ℕ → Before → CharFacts → Char → CharEvents
 events_in Keep macros b e x = record { first = Some (Kept x); second = warning_in macros b e x; third = None }
 events_in LeaveOut macros b e x = record { first = Some (finding_event x.place E1); second = None; third = None }
@@ -114,13 +118,14 @@ cut_event raw b = Ended (Cut (if raw then b.place else record { line = 0; column
 abbrev pub raw_with : CharFacts → List ℕ → ℕ → List ℕ
 raw_with e raw c = if e.raw_after then raw ++ c ∷ [] else []
 
--- what follows a character: nothing behind the end; kept if it was kept, else left
+-- what follows a character: nothing after the end; kept if it was kept, else left
 abbrev pub events_following : CharRole → List (List NoteEvent) → List (List NoteEvent) → List (List NoteEvent) → List (List NoteEvent)
 events_following Ends over kept left = over
 events_following Keep over kept left = kept
 events_following _ over kept left = left
 
--- What is emitted of the characters behind this kept text, a list for each, and of their end, a list more.
+-- What is emitted of the characters after this kept text, a list for each, and of their end, a list
+-- more.
 abbrev pub events_behind : Bool → ℕ → List ℕ → List ℕ → Before → List Char → List (List NoteEvent)
 events_behind split macros kept raw b [] = (cut_event (in_raw kept) b ∷ []) ∷ []
 events_behind split macros kept raw b (x ∷ xs) =

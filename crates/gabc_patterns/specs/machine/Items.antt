@@ -1,6 +1,6 @@
 -- The items of a list by the places where they begin and end.
-use Rattle.std.specs.Prelude.{ℕ, List, map, slice_range, length}
-use Rattle.gabc_patterns.specs.LongestItems.{Table, IsItemOf, IsReadingBy}
+use Rattle.std.specs.Prelude.{List, map, slice_range, length}
+use Rattle.gabc_patterns.specs.LongestItems.{IsReadingBy}
 use Rattle.gabc_patterns.specs.Items.{ItemSpan, FollowOn}
 
 -- the kind of a piece, and what it takes
@@ -11,7 +11,3 @@ item_in t i = (i.0, slice_range t i.1 i.2)
 pub record AreItemSpans {K X : Type 0} (Has : K → List X → Type 0) (t : List X) (items : List (ItemSpan K)) : Type 0 where
   pub reads : IsReadingBy Has (map (item_in t) items) t
   pub joined : FollowOn 0 items (length t)
-
--- the items of the text
-abbrev pub AreItems : {K : Type 0} → Table K → List ℕ → List (ItemSpan K) → Type 0
-AreItems rows = AreItemSpans (IsItemOf rows)

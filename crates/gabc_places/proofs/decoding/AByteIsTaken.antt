@@ -1,7 +1,7 @@
 -- What a byte does to a decoder that runs.
-use Rattle.std.proofs.Common.{◌≡◌, ℕ, not, ◌+◌, ◌<◌, Bool, true, false, cond, List, [], ◌∷◌, ◌++◌, length, refl, ap, sym, ◌∙◌, arith, append-nil}
+use Rattle.std.proofs.Common.{◌≡◌, ℕ, not, ◌+◌, ◌<◌, Bool, true, false, cond, List, [], ◌∷◌, ◌++◌, refl, ap, sym, ◌∙◌, arith, append-nil}
 use Rattle.std.proofs.lemmas.Bool.Decides.{nat_tests}
-use Rattle.std.proofs.lemmas.Bool.{lt-ltb}
+use Rattle.std.proofs.lemmas.Bool.{lt-ltb, ne_eqb, cond-true}
 use Rattle.std.specs.Bool.{◌==◌}
 use Rattle.std.specs.Char.{IsScalar}
 use lib.Utf8.{encode}
@@ -9,7 +9,7 @@ use Rattle.gabc_places.specs.declared.code.Code.TheVariants.{F7}
 use Rattle.gabc_places.specs.Text.{utf8_prefix_of, tail_of}
 use Rattle.gabc_places.specs.DecoderMachine.{DecoderState}
 use Rattle.gabc_places.specs.witness.DecoderEvents.{DecoderStep, stop_with, take_character, take_pending, take_byte}
-use Rattle.gabc_places.proofs.utf8.CharacterByCharacter.{utf8_prefix_of-past, utf8_prefix_of-none, by_true}
+use Rattle.gabc_places.proofs.utf8.CharacterByCharacter.{utf8_prefix_of-past, utf8_prefix_of-none}
 use Rattle.gabc_places.proofs.utf8.PartOfACharacter.{nothing_is_partial}
 
 -- the decoder that has taken one byte more, with nothing pending
@@ -19,11 +19,8 @@ with_byte s = record s { taken = s.taken + 1; pending = [] }
 abbrev after_byte : List ℕ → DecoderState → DecoderStep
 after_byte bytes s = take_pending bytes (utf8_prefix_of bytes) (tail_of bytes) (with_byte s)
 
-not_same : (a b : ℕ) → (a ≡ b → ⊥) → (a == b) ≡ false
-not_same a b h = grind (arith, nat_tests)
-
 pub byte_taken : (x : ℕ) (s : DecoderState) → s.running ≡ true → (s.taken ≡ s.limit → ⊥) → take_byte x s ≡ after_byte (s.pending ++ x ∷ []) s
-byte_taken x s e h = by s.running (s.taken == s.limit) e (not_same s.taken s.limit h)
+byte_taken x s e h = by s.running (s.taken == s.limit) e (ne_eqb s.taken s.limit h)
   where
     by : (b t : Bool) → b ≡ true → t ≡ false
         → cond (not b) (record { events = []; state = s }) (cond t (stop_with F7 s) (after_byte (s.pending ++ x ∷ []) s)) ≡ after_byte (s.pending ++ x ∷ []) s
@@ -33,7 +30,7 @@ byte_taken x s e h = by s.running (s.taken == s.limit) e (not_same s.taken s.lim
 
 spelled : (x : ℕ) → x < 128 → x ∷ [] ≡ encode x ++ []
 unfolding encode
-spelled x less = sym (append-nil (encode x) ∙ by_true _ _ _ (lt-ltb x 128 less))
+spelled x less = sym (append-nil (encode x) ∙ cond-true _ _ _ (lt-ltb x 128 less))
 
 -- a byte below 128 is a character
 pub plain_is_scalar : (x : ℕ) → x < 128 → IsScalar x
@@ -48,7 +45,3 @@ pub plain_byte_taken : (x : ℕ) (s : DecoderState) → s.running ≡ true → (
 plain_byte_taken x s e h none less =
     byte_taken x s e h ∙ ap (λ l. after_byte (l ++ x ∷ []) s) none ∙ ap (λ cs. take_pending (x ∷ []) cs (tail_of (x ∷ [])) (with_byte s)) (ascii x less)
     ∙ ap (λ l. take_character x (record s { taken = s.taken + 1; pending = l })) (sym none)
-
-pub nothing_pending : (l : List ℕ) → length l ≡ 0 → l ≡ []
-nothing_pending [] e = refl
-nothing_pending (x ∷ xs) e = absurd (omega arith)

@@ -112,6 +112,3 @@ part_moves_on x s mid new item counted e h =
 -- a fault at a byte that is not taken
 pub fault_moves_on : (code : Code) (s new : DecoderState) (item : Option (Result Char Fault)) → new ≡ (stop_with code s).state → option_to_list item ≡ (stop_with code s).events → MovesOn s (option_to_list item) new
 fault_moves_on code s new item e h = moves_with s new (stop_with code s) item (record { limit = refl; taken = (omega arith, omega arith); here = tt; place = refl; runs = refl; plain = tt; cr = λ runs. absurd (cc) }) e h
-
-pub nothing_moves_on : (s : DecoderState) → s.running ≡ false → MovesOn s [] s
-nothing_moves_on s over = record { limit = refl; taken = (omega arith, omega arith); here = tt; place = refl; runs = refl; plain = tt; cr = λ runs. absurd (cc) }

@@ -1,6 +1,6 @@
 -- What a decoder emits for some bytes is what is known of them.
-use Rattle.std.proofs.Common.{◌≡◌, ℕ, zero, suc, not, if◌then◌else◌, ◌+◌, ◌-◌, ◌≤◌, ◌<◌, Bool, true, false, cond, ◌&&◌, List, [], ◌∷◌, ◌++◌, length, take, map, filter, Option, Some, None, Result, Ok, Err, refl, ap, ap₂, sym, ◌∙◌, subst, arith, append_assoc, append-nil, length-append, ◌⊎◌, inl, inr}
-use Rattle.std.proofs.lemmas.Bool.{cases_lt, cases_eq, and_parts}
+use Rattle.std.proofs.Common.{◌≡◌, ℕ, zero, suc, not, if◌then◌else◌, ◌+◌, ◌-◌, ◌≤◌, ◌<◌, Bool, true, false, cond, List, [], ◌∷◌, ◌++◌, length, take, map, filter, Option, Some, None, Result, Ok, Err, refl, ap, ap₂, sym, ◌∙◌, subst, arith, append_assoc, append-nil, length-append, ◌⊎◌, inl, inr}
+use Rattle.std.proofs.lemmas.Bool.{cases_lt, cases_eq, and_parts, and_from}
 use Rattle.std.proofs.lemmas.Bool.Decides.{nat_tests}
 use Rattle.std.proofs.lemmas.Bool.{lt-ltb, le-ltb}
 use Rattle.std.proofs.lemmas.List.{take_all, map-append}
@@ -83,16 +83,13 @@ tail-past (c ∷ cs) r ok =
     let s = and_parts _ _ ok in
     ap tail_of (append_assoc (encode c) (encodes cs) r) ∙ tail_of-past c (encodes cs ++ r) s.0 ∙ tail-past cs r s.1
 
-both : (a b : Bool) → a ≡ true → b ≡ true → (a && b) ≡ true
-both a b e f = rw (e, f) refl
-
 encodes-more : (cs : List ℕ) (c : ℕ) → encodes (cs ++ c ∷ []) ≡ encodes cs ++ encode c
 encodes-more [] c = append-nil (encode c)
 encodes-more (d ∷ cs) c = ap (λ l. encode d ++ l) (encodes-more cs c) ∙ sym (append_assoc (encode d) (encodes cs) (encode c))
 
 scalars-more : (cs : List ℕ) (c : ℕ) → scalars cs ≡ true → IsScalar c → scalars (cs ++ c ∷ []) ≡ true
-scalars-more [] c ok s = both _ _ s refl
-scalars-more (d ∷ cs) c ok s = let k = and_parts _ _ ok in both _ _ k.0 (scalars-more cs c k.1 s)
+scalars-more [] c ok s = and_from _ _ s refl
+scalars-more (d ∷ cs) c ok s = let k = and_parts _ _ ok in and_from _ _ k.0 (scalars-more cs c k.1 s)
 
 part-tail : (ps : List ℕ) → IsPartial ps → tail_of ps ≡ (if is_unfinished ps then Part else Nothing)
 part-tail [] p = tail_of-none [] p.none

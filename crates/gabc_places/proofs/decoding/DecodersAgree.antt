@@ -4,6 +4,7 @@ use Rattle.std.proofs.lemmas.Bool.{eqb-true}
 use Rattle.std.proofs.Math.Seq.{take-append_seam}
 use Rattle.std.specs.Char.{len_utf8}
 use Rattle.std.proofs.lemmas.Str.{length-encode}
+use Rattle.std.proofs.Math.Bool.{and-false}
 use Rattle.std.specs.Str.Lossy.{utf8_valid_len}
 use lib.Utf8.{encode}
 use Rattle.gabc_places.specs.declared.code.Code.TheVariants.{F1, F7}
@@ -47,10 +48,6 @@ no_feed b bs x c cs partial e = by (c == 10) refl
     by true f = absurd (omega (arith, ap length spelled, length-append bs (x ∷ []), length-encode c, ap len_utf8 (eqb-true c 10 f)))
     by false f = refl
 
-never : (b : Bool) → (b && false) ≡ false
-never true = refl
-never false = refl
-
 left_same : (s : DecoderState) (q x c : ℕ) (cs : List ℕ) → IsPartial s.pending → s.running ≡ true → AreBothCr s q → utf8_prefix_of (s.pending ++ x ∷ []) ≡ c ∷ cs → is_left_out (s.previous, c) ≡ is_left_out (q, c)
 left_same s q x c cs partial on same e = by s.pending partial (same on) e
   where
@@ -58,7 +55,7 @@ left_same s q x c cs partial on same e = by s.pending partial (same on) e
     by [] p h f = ap (λ (t : Bool). (t && (c == 10)) || not (is_shown c)) (h refl)
     by (b ∷ bs) p h f =
         ap (λ (t : Bool). ((s.previous == 13) && t) || not (is_shown c)) (no_feed b bs x c cs p f)
-        ∙ ap (λ (t : Bool). t || not (is_shown c)) (never (s.previous == 13) ∙ sym (never (q == 13)))
+        ∙ ap (λ (t : Bool). t || not (is_shown c)) (and-false (s.previous == 13) ∙ sym (and-false (q == 13)))
         ∙ sym (ap (λ (t : Bool). ((q == 13) && t) || not (is_shown c)) (no_feed b bs x c cs p f))
 
 -- ---- what is emitted

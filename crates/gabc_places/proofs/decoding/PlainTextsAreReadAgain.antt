@@ -8,15 +8,12 @@ use lib.Utf8.{encodes, scalars}
 use Rattle.gabc_places.specs.declared.limits.Limits.{Limits}
 use Rattle.gabc_places.specs.declared.decoded.Tail.TheVariants.{Nothing}
 use Rattle.gabc_places.specs.Text.{is_left_out, read_as, utf8_prefix_of, tail_of, decoded_of, stop_code_of, text_of_characters}
+use Rattle.gabc_places.specs.TextOfAnInput.{IsPlain}
 use Rattle.gabc_places.proofs.decoding.BytesAreDecoded.{reads-past, tail-past, decoded_by, decoded_within}
 use Rattle.gabc_places.proofs.utf8.CharacterByCharacter.{utf8_prefix_of-none, tail_of-none}
 use Rattle.gabc_places.proofs.utf8.PartOfACharacter.{nothing_is_partial}
 
--- characters that a text of an input can have
-abbrev pub IsPlain : ℕ → Type 0
-IsPlain c = (c ≢ 13) × (c ≢ 0xFEFF)
-
-all_scalars : (cs : List ℕ) → All IsScalar cs → scalars cs ≡ true
+pub all_scalars : (cs : List ℕ) → All IsScalar cs → scalars cs ≡ true
 all_scalars [] h = refl
 all_scalars (c ∷ cs) h = both (All-head IsScalar c cs h) (all_scalars cs (All-tail IsScalar c cs h))
   where

@@ -1,9 +1,9 @@
 -- A text that is skipped at once gives what it gives byte by byte.
-use Rattle.std.proofs.Common.{◌≡◌, ◌≢◌, ℕ, ◌+◌, ◌<◌, ◌≤◌, Bool, true, false, not, ◌==◌, ◌&&◌, List, [], ◌∷◌, ◌++◌, length, replicate, if◌then◌else◌, Result, Ok, refl, ap, ap₂, sym, subst, ◌∙◌, arith, append_assoc, append-nil, length-append, IsUtf8}
+use Rattle.std.proofs.Common.{◌≡◌, ◌≢◌, ℕ, ◌+◌, ◌-◌, ◌<◌, ◌≤◌, Bool, true, false, cond, not, ◌==◌, ◌&&◌, List, [], ◌∷◌, ◌++◌, length, replicate, if◌then◌else◌, Result, Ok, refl, ap, ap₂, sym, subst, ◌∙◌, arith, append_assoc, append-nil, length-append, IsUtf8}
 use Rattle.std.proofs.lemmas.Bool.{and_parts}
 use Rattle.std.proofs.lemmas.Bool.Decides.{nat_tests}
 use Rattle.std.proofs.lemmas.List.Elements.{All-head, All-tail}
-use Rattle.std.proofs.lemmas.Str.{length-encode, len_utf8_bounds, encodes-chars, length-le-encodes, scalars-chars, chars-nil}
+use Rattle.std.proofs.lemmas.Str.{length-encode, len_utf8_bounds, encodes-chars, length-le-encodes, scalars-chars}
 use Rattle.std.specs.Char.{IsScalar}
 use Rattle.std.specs.List.{All}
 use Rattle.std.specs.Str.{chars}
@@ -21,9 +21,30 @@ use Rattle.gabc_places.specs.witness.DecoderEvents.{DecoderStep, take_character,
 use Rattle.gabc_places.proofs.decoding.AByteIsTaken.{with_byte, byte_taken}
 use Rattle.gabc_places.proofs.decoding.DecodersAgree.{agree}
 use Rattle.gabc_places.proofs.decoding.PlainTextsAreReadAgain.{kept}
-use Rattle.gabc_places.proofs.decoding.PrintableBytesAreSkipped.{runs, most_is_left}
 use Rattle.gabc_places.proofs.utf8.CharacterByCharacter.{utf8_prefix_of-past, utf8_prefix_of-none, tail_of-partial}
 use Rattle.gabc_places.proofs.utf8.PartOfACharacter.{nothing_is_partial, front_is_partial}
+
+-- ---- when bytes may be skipped
+
+pub record Runs (s : DecoderState) : Type 0 where
+  pub running : s.running ≡ true
+  pub whole : s.pending ≡ []
+
+pub most_is_left : (s : DecoderState) → most_skipped s ≤ s.limit - s.taken
+most_is_left s = by (s.running && not (is_unfinished s.pending))
+  where
+    by : (b : Bool) → cond b (s.limit - s.taken) 0 ≤ s.limit - s.taken
+    by true = omega arith
+    by false = omega arith
+
+-- a decoder that may skip a byte runs, and no character is pending
+pub runs : (s : DecoderState) → 1 ≤ most_skipped s → Runs s
+runs s some = let k = by s.running s.pending some in record { running = k.0; whole = k.1 }
+  where
+    by : (b : Bool) (bytes : List ℕ) → 1 ≤ cond (b && not (is_unfinished bytes)) (s.limit - s.taken) 0 → (b ≡ true) × (bytes ≡ [])
+    by true [] h = (refl, refl)
+    by true (x ∷ xs) h = absurd (omega (arith, h))
+    by false bytes h = absurd (omega (arith, h))
 
 -- ---- a part of a character
 
@@ -146,9 +167,3 @@ reached_past_text text p k taken u r =
     let past = reached_past (chars text) p k taken r in
     let few : length (chars text) ≤ length text = subst (λ (bytes : List ℕ). length (chars text) ≤ length bytes) (encodes-chars text u) (length-le-encodes (chars text)) in
     record { line = past.line; column = past.column; bytes = let near = past.bytes in omega (arith, near, few) }
-
--- ---- no text
-
-pub no_characters : (text : List ℕ) → length text ≡ 0 → chars text ≡ []
-no_characters [] e = chars-nil
-no_characters (x ∷ xs) e = absurd (omega (arith, e))

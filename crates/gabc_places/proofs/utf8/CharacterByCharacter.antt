@@ -6,7 +6,7 @@ use Rattle.std.specs.Char.{IsScalar}
 use Rattle.std.specs.Str.Lossy.{utf8_valid_len, valid_len_up_to, utf8_error_len}
 use Rattle.std.specs.Int.{is_in_range}
 use Rattle.std.specs.Str.Lossy.{second_byte_min, second_byte_max, error_len_after_one, error_len_after_two}
-use Rattle.std.proofs.lemmas.Bool.{le-ltb, lt-ltb}
+use Rattle.std.proofs.lemmas.Bool.{le-ltb, lt-ltb, cond-true, cond-false}
 use Rattle.std.specs.Bool.{nat_lt, ◌==◌}
 use lib.Utf8.{encode, encodes, scalars, scalar_cases}
 use Rattle.std.proofs.lemmas.Bool.{cases_eq, cases_lt, and_parts}
@@ -91,14 +91,6 @@ tail_of-wrong (x ∷ xs) b = tail_of-none (x ∷ xs) b.none ∙ ap tail_by b.fau
 pub tail_of-partial : (x : ℕ) (xs : List ℕ) → IsPartial (x ∷ xs) → tail_of (x ∷ xs) ≡ Part
 tail_of-partial x xs p = tail_of-none (x ∷ xs) p.none ∙ ap tail_by p.more
 
-pub by_true : {X : Type 0} (t : Bool) (x y : X) → t ≡ true → cond t x y ≡ x
-by_true true x y e = refl
-by_true false x y e = absurd (cc)
-
-pub by_false : {X : Type 0} (t : Bool) (x y : X) → t ≡ false → cond t x y ≡ y
-by_false false x y e = refl
-by_false true x y e = absurd (cc)
-
 stays_1 : (t : Bool) (x : Option ℕ) (n : ℕ) → cond t None (Some 1) ≡ Some n → cond t x (Some 1) ≡ Some n
 stays_1 true x n e = absurd (cc)
 stays_1 false x n e = e
@@ -116,16 +108,16 @@ stays_3 false u v x n e = e
 
 after_1 : (a : ℕ) (xs : List ℕ) → utf8_error_len (a ∷ xs) ≡ cond (is_in_range 0xC2 0xF4 a) (error_len_after_one (a ∷ xs)) (Some 1)
 unfolding utf8_error_len
-after_1 a xs = by_false _ _ _ (let e : (length (a ∷ xs) == 0) ≡ false = grind (arith, nat_tests) in e)
+after_1 a xs = cond-false _ _ _ (let e : (length (a ∷ xs) == 0) ≡ false = grind (arith, nat_tests) in e)
 
 after_2 : (a b : ℕ) (xs : List ℕ) → error_len_after_one (a ∷ b ∷ xs) ≡ cond (is_in_range (second_byte_min a) (second_byte_max a) b) (error_len_after_two (a ∷ b ∷ xs)) (Some 1)
-after_2 a b xs = by_false _ _ _ (le-ltb (length (a ∷ b ∷ xs)) 2 (omega arith))
+after_2 a b xs = cond-false _ _ _ (le-ltb (length (a ∷ b ∷ xs)) 2 (omega arith))
 
 after_3 : (a b c : ℕ) (xs : List ℕ) → error_len_after_two (a ∷ b ∷ c ∷ xs) ≡ cond (is_in_range 0x80 0xBF c) (cond (nat_lt (length (a ∷ b ∷ c ∷ xs)) 4) None (Some 3)) (Some 2)
-after_3 a b c xs = by_false _ _ _ (le-ltb (length (a ∷ b ∷ c ∷ xs)) 3 (omega arith))
+after_3 a b c xs = cond-false _ _ _ (le-ltb (length (a ∷ b ∷ c ∷ xs)) 3 (omega arith))
 
 after_4 : (a b c d : ℕ) (xs : List ℕ) → cond {A = Option ℕ} (nat_lt (length (a ∷ b ∷ c ∷ d ∷ xs)) 4) None (Some 3) ≡ Some 3
-after_4 a b c d xs = by_false _ _ _ (le-ltb (length (a ∷ b ∷ c ∷ d ∷ xs)) 4 (omega arith))
+after_4 a b c d xs = cond-false _ _ _ (le-ltb (length (a ∷ b ∷ c ∷ d ∷ xs)) 4 (omega arith))
 
 -- a fault stays, whatever comes
 fault_stays : (bs xs : List ℕ) (n : ℕ) → utf8_error_len bs ≡ Some n → utf8_error_len (bs ++ xs) ≡ Some n
@@ -159,19 +151,19 @@ wrong_some (x ∷ xs) b = omega arith
 
 one : (c : ℕ) → c < 128 → encode c ≡ c ∷ []
 unfolding encode
-one c h = by_true _ _ _ (lt-ltb c 128 h)
+one c h = cond-true _ _ _ (lt-ltb c 128 h)
 
 two : (c : ℕ) → 128 ≤ c → c < 2048 → encode c ≡ (192 + c / 64) ∷ (128 + c % 64) ∷ []
 unfolding encode
-two c l h = by_false _ _ _ (le-ltb c 128 l) ∙ by_true _ _ _ (lt-ltb c 2048 h)
+two c l h = cond-false _ _ _ (le-ltb c 128 l) ∙ cond-true _ _ _ (lt-ltb c 2048 h)
 
 three : (c : ℕ) → 2048 ≤ c → c < 65536 → encode c ≡ (224 + c / 4096) ∷ (128 + c / 64 % 64) ∷ (128 + c % 64) ∷ []
 unfolding encode
-three c l h = by_false _ _ _ (le-ltb c 128 (omega arith)) ∙ by_false _ _ _ (le-ltb c 2048 l) ∙ by_true _ _ _ (lt-ltb c 65536 h)
+three c l h = cond-false _ _ _ (le-ltb c 128 (omega arith)) ∙ cond-false _ _ _ (le-ltb c 2048 l) ∙ cond-true _ _ _ (lt-ltb c 65536 h)
 
 four : (c : ℕ) → 65536 ≤ c → encode c ≡ (240 + c / 262144) ∷ (128 + c / 4096 % 64) ∷ (128 + c / 64 % 64) ∷ (128 + c % 64) ∷ []
 unfolding encode
-four c l = by_false _ _ _ (le-ltb c 128 (omega arith)) ∙ by_false _ _ _ (le-ltb c 2048 (omega arith)) ∙ by_false _ _ _ (le-ltb c 65536 l)
+four c l = cond-false _ _ _ (le-ltb c 128 (omega arith)) ∙ cond-false _ _ _ (le-ltb c 2048 (omega arith)) ∙ cond-false _ _ _ (le-ltb c 65536 l)
 
 -- a first byte, a second that may follow it, and a third
 lead_fits : (a : ℕ) → 194 ≤ a → a ≤ 244 → is_in_range 0xC2 0xF4 a ≡ true
@@ -185,15 +177,15 @@ third_fits b l h = grind (arith, nat_tests)
 
 part_1 : (a : ℕ) → is_in_range 0xC2 0xF4 a ≡ true → utf8_error_len (a ∷ []) ≡ None
 unfolding utf8_error_len
-part_1 a t = by_true _ _ _ t
+part_1 a t = cond-true _ _ _ t
 
 part_2 : (a b : ℕ) → is_in_range 0xC2 0xF4 a ≡ true → is_in_range (second_byte_min a) (second_byte_max a) b ≡ true → utf8_error_len (a ∷ b ∷ []) ≡ None
 unfolding utf8_error_len
-part_2 a b t u = by_true _ _ _ t ∙ by_true _ _ _ u
+part_2 a b t u = cond-true _ _ _ t ∙ cond-true _ _ _ u
 
 part_3 : (a b d : ℕ) → is_in_range 0xC2 0xF4 a ≡ true → is_in_range (second_byte_min a) (second_byte_max a) b ≡ true → is_in_range 0x80 0xBF d ≡ true → utf8_error_len (a ∷ b ∷ d ∷ []) ≡ None
 unfolding utf8_error_len
-part_3 a b d t u v = by_true _ _ _ t ∙ by_true _ _ _ u ∙ by_true _ _ _ v
+part_3 a b d t u v = cond-true _ _ _ t ∙ cond-true _ _ _ u ∙ cond-true _ _ _ v
 
 part_of_2 : (a b k : ℕ) → is_in_range 0xC2 0xF4 a ≡ true → 0 < k → k < 2 → utf8_error_len (take k (a ∷ b ∷ [])) ≡ None
 part_of_2 a b zero t more less = absurd (omega arith)

@@ -4,7 +4,7 @@ use Rattle.gabc_places.specs.DecoderMachine.{DecoderState}
 use Rattle.gabc_places.specs.witness.DecoderEvents.{DecoderStep, take_pending}
 use Rattle.gabc_places.specs.Text.{utf8_prefix_of, tail_of}
 
--- a byte behind those that are pending, which is counted already
+-- a byte after those that are pending, which is counted already
 abbrev pub take_part : ℕ → DecoderState → DecoderStep
 take_part x s =
     let bytes = s.pending ++ x ∷ [] in

@@ -1,5 +1,5 @@
--- What the calls of a stage do, where `before` and `after` are what it will still emit: a list for each input to come, and
--- one for the end.
+-- What the calls of a stage do, where `before` and `after` are what it will still emit: a list for
+-- each input to come, and one for the end.
 use Rattle.std.specs.Prelude.{ℕ, List, ◌++◌, length, ◌*◌, ◌≤◌, ◌≡◌}
 use Rattle.gabc_places.specs.BoundedList.{BoundedList, extended_by}
 use Rattle.gabc_places.specs.StageLaw.{concat_of}

@@ -1,4 +1,5 @@
--- What a decoder will still emit. Nobody has to believe it: a decoder's contract states it of a fresh one.
+-- What a decoder will still emit. Nobody has to believe it: a decoder's contract states it of a
+-- fresh one.
 use Rattle.std.specs.Prelude.{ℕ, ◌+◌, List, [], ◌∷◌, ◌++◌, false, not, Result, Ok, Err, ◌==◌, ◌&&◌, if◌then◌else◌}
 use Rattle.gabc_places.specs.declared.place.Char.{Char}
 use Rattle.gabc_places.specs.declared.code.Code.{Code}
@@ -10,7 +11,7 @@ use Rattle.gabc_places.specs.Place.{next_place}
 use Rattle.gabc_places.specs.Text.{is_left_out, read_as, utf8_prefix_of, tail_of}
 use Rattle.gabc_places.specs.DecoderMachine.{DecoderState, is_unfinished}
 
--- what a call emits, and the decoder behind it
+-- what a call emits, and the decoder after it
 pub record DecoderStep : Type 0 where
   pub events : List (Result Char Fault)
   pub state : DecoderState
@@ -27,7 +28,8 @@ take_character c s = if is_left_out (s.previous, c)
       state = record s { place = next_place s.place (read_as c); previous = c };
     }
 
--- these bytes are pending, and begin with these characters: with none, they are a part of one or begin none
+-- these bytes are pending, and begin with these characters: with none, they are a part of one or
+-- begin none
 abbrev pub take_pending : List ℕ → List ℕ → Tail → DecoderState → DecoderStep
 take_pending bytes (c ∷ cs) tail s = take_character c s
 take_pending bytes [] Wrong s = stop_with F1 s

@@ -14,8 +14,8 @@ use Rattle.gabc_score.specs.Canonical.{canonical_bytes}
 use Rattle.gabc_score.specs.Body.{is_longer, is_none, events_onto, code_at, findings_with, findings_of}
 use Rattle.gabc_score.specs.machine.Gatherer.{Gathered, with_event}
 use Rattle.gabc_score.specs.machine.BodyBuilder.{with_all, with_found, code_in}
-use Rattle.gabc_score.proofs.order.FindingsOfScore.{onto_append}
 use Rattle.gabc_score.proofs.building.BuilderHoldsDefinition.{gathered, gathered_step, over_by}
+use Rattle.gabc_score.proofs.building.EventsOfSyllableParts.{onto_append}
 
 -- ---- lists
 

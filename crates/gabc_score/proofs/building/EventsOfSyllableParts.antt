@@ -16,6 +16,7 @@ use Rattle.gabc_score.specs.declared.snippets.Snippet.{Snippet}
 use Rattle.gabc_score.specs.Syllable.{since_close, all_syllables, view_of, ended_parts_of, part_of, snippets_of}
 use Rattle.gabc_score.specs.Body.{events_onto}
 use Rattle.gabc_score.specs.Events.{note_event}
+use Rattle.gabc_score.specs.machine.PartKeeps.{text_events}
 
 pub onto_append : (xs ys before : List BodyEvent) → events_onto (xs ++ ys) before ≡ events_onto ys (events_onto xs before)
 onto_append [] ys before = refl
@@ -62,19 +63,16 @@ notes_within line opened (note.Ended how n ∷ lists) before h = cc
 
 -- ---- texts
 
-abbrev pub text_emitted : List TextEvent → List BodyEvent
-text_emitted lists = map (λ (o : TextEvent). Text o) lists
-
 -- the events of a text before its end are gathered as the text's own definition gathers them
 pub text_gathers : (lists : List TextEvent) (events : List BodyEvent) (g : Gathered) → ends_in lists ≡ [] → g.kept ≡ part_of events → g.view ≡ view_of events
-    → sum_of (events_onto (text_emitted lists) events) ≡ record (sum_of events) { part = (with_events g lists).kept; view = (with_events g lists).view }
+    → sum_of (events_onto (text_events lists) events) ≡ record (sum_of events) { part = (with_events g lists).kept; view = (with_events g lists).view }
 text_gathers [] events g h k v = ap (λ p. record (sum_of events) { part = p }) (sym k) ∙ ap (λ w. record (sum_of events) { part = g.kept; view = w }) (sym v)
 text_gathers (text.Kept x ∷ lists) events g h k v = text_gathers lists (Text (text.Kept x) ∷ events) (with_event g (text.Kept x)) h (ap (λ p. p ++ encode x.c) k) v
 text_gathers (text.Part p ∷ lists) events g h k v = text_gathers lists (Text (text.Part p) ∷ events) (with_event g (text.Part p)) h k (ap (λ w. with_part w p) v)
 text_gathers (text.Found f ∷ lists) events g h k v = text_gathers lists (Text (text.Found f) ∷ events) (with_event g (text.Found f)) h k v
 text_gathers (text.Ended how ∷ lists) events g h k v = cc
 
-pub text_within : (lists : List TextEvent) (before : List BodyEvent) → AreInPart before (events_onto (text_emitted lists) before) (text_emitted lists)
+pub text_within : (lists : List TextEvent) (before : List BodyEvent) → AreInPart before (events_onto (text_events lists) before) (text_events lists)
 text_within [] before = record { since = refl; made = refl }
 text_within (o ∷ lists) before =
     let on = text_within lists (Text o ∷ before) in record { since = on.since; made = on.made }

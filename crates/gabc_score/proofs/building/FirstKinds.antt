@@ -145,12 +145,3 @@ none_in false t e = no_items
 -- it has neither a note nor a clef
 pub none_in_empty : (span : Span) (kept : List ℕ) → span.to ≤ span.from → first_note_or_clef (items_of (text_at span kept)) ≡ None
 none_in_empty span kept l = none_in _ (slice span kept) (empty_slice span kept l)
-
--- so it brings none
-pub empty_first : (first : Option ItemKind) (line : ℕ) (span : Span) (kept : List ℕ) → span.to ≤ span.from → first_past first line span kept ≡ first
-empty_first first line span kept l = by (line == 0) first (none_in_empty span kept l)
-  where
-    by : (b : Bool) (f : Option ItemKind) → first_note_or_clef (items_of (text_at span kept)) ≡ None → cond (b && not (is_some f)) (first_note_or_clef (items_of (text_at span kept))) f ≡ f
-    by true None e = e
-    by true (Some kind) e = refl
-    by false f e = refl

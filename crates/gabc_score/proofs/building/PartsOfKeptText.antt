@@ -1,11 +1,11 @@
 -- What was gathered stays what the parts of the kept text say, with the events of each part.
-use Rattle.std.proofs.Common.{◌≡◌, ℕ, ◌+◌, nat_lt, Bool, true, false, cond, not, ◌&&◌, ◌==◌, List, [], ◌∷◌, ◌++◌, map, length, encode_utf8, encode_utf8_all, refl, sym, ap, subst, ◌∙◌, arith, append-nil, append_assoc, length-append}
+use Rattle.std.proofs.Common.{◌≡◌, ℕ, ◌+◌, nat_lt, Bool, true, false, cond, not, ◌&&◌, ◌==◌, List, [], ◌∷◌, ◌++◌, map, length, encode_utf8, encode_utf8_all, refl, sym, ap, subst, ◌∙◌, append-nil, append_assoc, length-append}
 use Rattle.std.proofs.lemmas.Bool.{true≢false}
-use Rattle.std.proofs.lemmas.Bool.Decides.{nat_tests}
 use Rattle.std.proofs.lemmas.List.{map-append}
 use Rattle.std.proofs.lemmas.List.Folds.{list_any-append}
 use Rattle.std.proofs.lemmas.Str.{encodes-append}
 use Rattle.std.specs.List.{list_any}
+use Rattle.gabc_places.proofs.NumbersByTests.{same_ltb}
 use Rattle.gabc_places.specs.declared.place.Place.{Place}
 use Rattle.gabc_text.specs.BuiltText.{kept_in}
 use Rattle.gabc_text.specs.StageTells.{is_in_comment}
@@ -35,12 +35,6 @@ use Rattle.gabc_score.proofs.building.EventsOfOnePoint.{with_all_append}
 use Rattle.gabc_score.proofs.texts_of_body.SeamsOfCharacters.{size, cut_between}
 
 -- ---- the same was gathered of the syllable that is read
-
-same_alike : (g : Gathered) → ReadAlike g g
-same_alike g = record { builder = refl; eu = refl; nlba = refl }
-
-alike_through : (g h i : Gathered) → ReadAlike g h → ReadAlike h i → ReadAlike g i
-alike_through g h i a b = record { builder = a.builder ∙ b.builder; eu = a.eu ∙ b.eu; nlba = a.nlba ∙ b.nlba }
 
 piece_alike : (g h : Gathered) (p : TextPart) → ReadAlike g h → ReadAlike (with_event g (event.Text (text_out.Part p))) (with_event h (event.Text (text_out.Part p)))
 piece_alike g h text_part.WordStart r = record { builder = rw r.builder refl; eu = r.eu; nlba = r.nlba }
@@ -112,7 +106,7 @@ text_grows (text_out.Found f ∷ es) g e = text_grows es g e
 text_grows (text_out.Ended how ∷ es) g e = absurd (true≢false e)
 
 -- parts keep nothing
-abbrev out_parts : List TextPart → List TextEvent
+abbrev pub out_parts : List TextPart → List TextEvent
 out_parts ps = map (λ (p : TextPart). text_out.Part p) ps
 
 parts_keep : (ps : List TextPart) → kept_in (out_parts ps) ≡ []
@@ -243,11 +237,8 @@ cut_is from n kept before s rest k f c =
 
 -- ---- the text goes on, or ends
 
-no_more : (n : ℕ) → nat_lt n n ≡ false
-no_more n = grind (arith, nat_tests)
-
 pub stays : (spans : Spans) (g h : Gathered) → h.made ≡ g.made → spans_past spans g h ≡ spans
-stays spans g h e = ap (λ (made : List UnplacedSyllable). cond (nat_lt (length g.made) (length made)) (record { eu = h.eu; nlba = h.nlba }) spans) e ∙ ap (λ (b : Bool). cond b (record { eu = h.eu; nlba = h.nlba }) spans) (no_more (length g.made))
+stays spans g h e = ap (λ (made : List UnplacedSyllable). cond (nat_lt (length g.made) (length made)) (record { eu = h.eu; nlba = h.nlba }) spans) e ∙ ap (λ (b : Bool). cond b (record { eu = h.eu; nlba = h.nlba }) spans) (same_ltb (length g.made))
 
 module _ (lines macros : ℕ) where
   -- where nothing was made, the spans before the syllable stay

@@ -5,6 +5,7 @@ use Rattle.gabc_text.specs.witness.EventsLeft as fresh_events
 use Rattle.gabc_places.specs.declared.place.Char.{Char}
 use Rattle.gabc_places.specs.declared.place.Place.{Place}
 use Rattle.gabc_text.specs.StageTells as text_tells
+use Rattle.gabc_text.specs.witness.StageReports as text_reports
 use Rattle.gabc_text.specs.TextStage.{fresh_stage}
 use Rattle.gabc_text.specs.declared.stage.TextStage.{TextStage}
 use Rattle.gabc_text.specs.declared.text_event.TextEvent.{TextEvent}
@@ -59,7 +60,7 @@ module _ (lines macros : ℕ) (x : Char) where
       by None e = inl e
       by (Some p) e = from (g.opener p e)
         where
-          from : (text_tells.opener_of s ≡ Some p) ⊎ (text_tells.next_of s ≡ p) → (text_tells.opener_of t ≡ None) ⊎ ((text_tells.opener_of t ≡ text_tells.opener_of s) ⊎ (text_tells.opener_of t ≡ Some x.place))
+          from : (text_tells.opener_of s ≡ Some p) ⊎ (text_reports.next_of s ≡ p) → (text_tells.opener_of t ≡ None) ⊎ ((text_tells.opener_of t ≡ text_tells.opener_of s) ⊎ (text_tells.opener_of t ≡ Some x.place))
           from (inl was) = inr (inl (e ∙ sym was))
           from (inr here) = inr (inr (e ∙ ap (λ (q : Place). Some q) (sym here ∙ at)))
 
@@ -86,4 +87,4 @@ pub first_text_opens : (lines macros : ℕ) (x : Char) (s : TextStage) (before m
 unfolding fresh_events.events_left
 first_text_opens lines macros x s before mid after was is keeps fresh on =
     subst (λ (o : Openers). OpensOn x.place o (openers_of after)) (ap openers_of is ∙ ap (λ (t : TextStage). openers_of (part.Text t)) fresh ∙ sym (ap openers_of was))
-    (on (in_text []) (subst (λ (b : BodyPart). PartKeeps lines macros b (in_text [])) (sym is) keeps) (subst (λ (b : BodyPart). StandsAt x.place b) (sym is) (ap (λ (t : TextStage). text_tells.next_of t) fresh)))
+    (on (in_text []) (subst (λ (b : BodyPart). PartKeeps lines macros b (in_text [])) (sym is) keeps) (subst (λ (b : BodyPart). StandsAt x.place b) (sym is) (ap (λ (t : TextStage). text_reports.next_of t) fresh)))

@@ -4,7 +4,7 @@ use Rattle.std.specs.List.{list_any}
 use Rattle.gabc_places.specs.Place.{saturating_next_place}
 use Rattle.gabc_places.specs.declared.place.Char.{Char}
 use Rattle.gabc_places.specs.declared.place.Place.{Place}
-use Rattle.gabc_text.specs.StageTells as text_tells
+use Rattle.gabc_text.specs.witness.StageReports as text_reports
 use Rattle.gabc_text.specs.TextStage.{fresh_stage}
 use Rattle.gabc_text.specs.declared.stage.TextStage.{TextStage}
 use Rattle.gabc_text.specs.declared.text_event.TextEvent.{TextEvent}
@@ -53,4 +53,4 @@ module _ (lines macros : ℕ) (x : Char) where
 pub first_text_stands : (lines macros : ℕ) (x : Char) (s : TextStage) (mid after : BodyPart) → mid ≡ part.Text s → text.Keeps s [] → s ≡ fresh_stage x.place → PartStandsOn lines macros x mid after
     → StandsAt (saturating_next_place x.place x.c) after
 first_text_stands lines macros x s mid after is keeps fresh on =
-    on (in_text []) (subst (λ (b : BodyPart). PartKeeps lines macros b (in_text [])) (sym is) keeps) (subst (λ (b : BodyPart). StandsAt x.place b) (sym is) (ap (λ (t : TextStage). text_tells.next_of t) fresh))
+    on (in_text []) (subst (λ (b : BodyPart). PartKeeps lines macros b (in_text [])) (sym is) keeps) (subst (λ (b : BodyPart). StandsAt x.place b) (sym is) (ap (λ (t : TextStage). text_reports.next_of t) fresh))

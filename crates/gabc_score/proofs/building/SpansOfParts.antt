@@ -19,7 +19,7 @@ use Rattle.gabc_score.specs.SyllablesOfUnits.{span_tags}
 use Rattle.gabc_score.specs.machine.BodyBuilder.{with_all}
 use Rattle.gabc_score.specs.machine.PartKeeps.{in_notes, line_behind, kept_char, text_events, snippet_events, ended_events, earlier_events, events_before, said_by, begun}
 use Rattle.gabc_score.proofs.building.BuilderHoldsDefinition.{gathered}
-use Rattle.gabc_score.proofs.building.EventsOfSyllableParts.{onto_append, text_emitted}
+use Rattle.gabc_score.proofs.building.EventsOfSyllableParts.{onto_append}
 use Rattle.gabc_score.proofs.resuming.MadeOfEvents.{MadeAlike, made_behind}
 use Rattle.gabc_score.proofs.resuming.OpenSpans.{opened, leaves_open}
 use Rattle.gabc_score.proofs.syllables_of_units.LastTagOpensTheSpan.{behind_tags, text_opens_span}
@@ -30,7 +30,7 @@ module _ (opening closing : List ℕ) where
 
   -- findings and places open and close no span
   said_opens : (es : List TextEvent) (a b : List BodyEvent) → ended_parts_of (since_close a) ≡ ended_parts_of (since_close b) → part_of (since_close a) ≡ part_of (since_close b) → open_at a ≡ open_at b
-      → open_at (events_onto (text_emitted (said es)) a) ≡ open_at (events_onto (text_emitted es) b)
+      → open_at (events_onto (text_events (said es)) a) ≡ open_at (events_onto (text_events es) b)
   said_opens [] a b ended kept span = span
   said_opens (text.Kept c ∷ es) a b ended kept span = said_opens es (Text (text.Kept (kept_char c.c)) ∷ a) (Text (text.Kept c) ∷ b) ended (ap (λ (p : List ℕ). p ++ encode c.c) kept) span
   said_opens (text.Part part.WordStart ∷ es) a b ended kept span = said_opens es (Text (text.Part part.WordStart) ∷ a) (Text (text.Part part.WordStart) ∷ b) ended kept span

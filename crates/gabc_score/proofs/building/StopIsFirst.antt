@@ -1,5 +1,6 @@
 -- The stop is the first point at which a limit is passed.
 use Rattle.std.proofs.Common.{◌≡◌, ℕ, zero, suc, ◌+◌, ◌<◌, List, [], ◌∷◌, length, take, Option, Some, None, refl, sym, ap, ◌∙◌, append-nil, arith, ◌⊎◌, inl, inr}
+use Rattle.gabc_score.proofs.building.EventsOfSyllableParts.{onto_append}
 use Rattle.gabc_places.specs.declared.code.Code.{Code}
 use Rattle.gabc_places.specs.declared.limits.Limits.{Limits}
 use Rattle.gabc_places.specs.declared.place.Char.{Char}
@@ -7,7 +8,6 @@ use Rattle.gabc_places.specs.StageLaw.{concat_of}
 use Rattle.gabc_score.specs.declared.events.BodyEvent.{BodyEvent}
 use Rattle.gabc_score.specs.Body.{events_onto, code_at, events_to_stop, stopped_events}
 use Rattle.gabc_score.specs.Stops.{events_in_points, StopsAt, NeverStops}
-use Rattle.gabc_score.proofs.order.FindingsOfScore.{onto_append}
 
 module _ (limits : Limits) (head : ℕ) where
   abbrev Stop : List BodyEvent → List Char → List (List BodyEvent) → Type 0

@@ -1,5 +1,7 @@
 -- At a point at most one syllable ends, and nothing follows its `)`.
-use Rattle.std.proofs.Common.{◌≡◌, ℕ, ◌-◌, ◌||◌, Bool, true, false, List, [], ◌∷◌, ◌++◌, map, length, refl, sym, ap, ◌∙◌, Some}
+use Rattle.std.proofs.Common.{◌≡◌, ℕ, ◌-◌, Bool, true, false, List, [], ◌∷◌, ◌++◌, map, length, refl, sym, ap, ◌∙◌, Some}
+use Rattle.std.proofs.Math.Bool.{or-false}
+use Rattle.std.proofs.lemmas.Option.{same_Some}
 use native.Mathlib.Numerals.{unary_clauses}
 use Rattle.std.specs.List.{list_any, slice_get}
 use Rattle.gabc_places.specs.BoundedList.{BoundedList, extended_by}
@@ -27,17 +29,10 @@ pushed_last ends stops imp old new none limit stop =
     ends_last ends new.items (λ before behind x e h. (stop before behind x
     (ap (λ es. record new { items = es }) e ∙ (ap (λ n. record { items = before ++ x ∷ behind; limit = n }) limit ∙ ap (λ es. record { items = es ++ (before ++ x ∷ behind); limit = old.limit }) (sym none))) (imp x h)).0)
 
-or_false : (b : Bool) → (b || false) ≡ b
-or_false true = refl
-or_false false = refl
-
-only_is : {O : Type 0} (e x : O) → Some e ≡ Some x → e ≡ x
-only_is e x k = cc
-
 -- so the last event tells whether one ends a part so
 pub last_emits_so : {O : Type 0} (ends : O → Bool) (es : List O) (x : O) → EndsLast ends es → slice_get es (length es - 1) ≡ Some x → list_any ends es ≡ ends x
 last_emits_so ends [] x h k = absurd (cc)
-last_emits_so ends (e ∷ []) x h k = or_false (ends e) ∙ ap ends (only_is e x k)
+last_emits_so ends (e ∷ []) x h k = or-false (ends e) ∙ ap ends (same_Some e x k)
 last_emits_so ends (e ∷ f ∷ es) x h k = go (ends e) refl (last_emits_so ends (f ∷ es) x h.1 (simp unary_clauses (simp unary_clauses at k)))
   where
     go : (b : Bool) → ends e ≡ b → list_any ends (f ∷ es) ≡ ends x → list_any ends (e ∷ f ∷ es) ≡ ends x

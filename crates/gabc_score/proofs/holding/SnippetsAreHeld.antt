@@ -22,7 +22,7 @@ bytes_are_size (c ∷ t) = ap (λ n. len_utf8 c + n) (bytes_are_size t) ∙ ap (
 
 -- ---- whose turn it is
 
-turn_by : (lines r : ℕ) (b : Bool) → nat_lt r lines ≡ b → r < lines + 1 → (if b then r + 1 else 0) ≡ suc r % (lines + 1)
+pub turn_by : (lines r : ℕ) (b : Bool) → nat_lt r lines ≡ b → r < lines + 1 → (if b then r + 1 else 0) ≡ suc r % (lines + 1)
 turn_by lines r true h low =
     let less : r < lines = ltb-true r lines h in
     let fits : suc r < lines + 1 = omega arith in

@@ -6,8 +6,9 @@ use Rattle.std.proofs.lemmas.Str.{encodes-append}
 use lib.Utf8.{encodes}
 use Rattle.gabc_places.specs.declared.place.Span.{Span}
 use Rattle.gabc_text.specs.ViewFacts.{StandsFor}
-use Rattle.gabc_score.proofs.holding.SeamsOfText.{first_byte, text_is}
+use Rattle.gabc_score.proofs.holding.SeamsOfText.{text_is}
 use Rattle.gabc_score.proofs.holding.SnippetsAreHeld.{bytes_are_size}
+use Rattle.gabc_score.proofs.texts_of_body.SeamsOfCharacters.{texts_begin}
 use Rattle.gabc_score.specs.Body.{empty_snippet}
 use Rattle.gabc_places.specs.declared.place.Char.{Char}
 use Rattle.gabc_score.specs.Holding.{ReadSnippet, HoldsParts, HasWholeSnippets}
@@ -16,14 +17,10 @@ use Rattle.gabc_score.specs.UnitRead.{HoldsSomeUnit}
 use Rattle.gabc_score.specs.Syllable.{UnplacedSyllable, PlacedSyllable, is_seam, slice, text_at}
 use Rattle.gabc_score.specs.declared.snippets.Snippet.{Snippet}
 
-seam_of : (t : List ℕ) → is_seam (encodes t) ≡ true
-seam_of [] = refl
-seam_of (c ∷ t) = first_byte c (encodes t)
-
 -- behind a part of a text a character begins, or the text ends
 seam_behind : (a b : List ℕ) → is_seam (drop (length (encodes a)) (encodes (a ++ b))) ≡ true
 seam_behind a b =
-    subst (λ t. is_seam t ≡ true) (sym (ap (drop (length (encodes a))) (encodes-append a b) ∙ drop_at (encodes a) (encodes b) (length (encodes a)) refl)) (seam_of b)
+    subst (λ t. is_seam t ≡ true) (sym (ap (drop (length (encodes a))) (encodes-append a b) ∙ drop_at (encodes a) (encodes b) (length (encodes a)) refl)) (texts_begin b)
 
 -- so a span that stands for a part of a text
 pub part_text : (whole : List ℕ) (span : Span) (part : List ℕ) → StandsFor whole span part → text_at span (encodes whole) ≡ slice span (encodes whole)

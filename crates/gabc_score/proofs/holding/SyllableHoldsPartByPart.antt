@@ -23,10 +23,11 @@ use Rattle.gabc_score.specs.Events.{note_event, next_line}
 use Rattle.gabc_score.specs.Holding.{ReadSnippet, bracket_with, in_brackets, IsHeld, HoldsNotes, HoldsNoNotes, Holds, HoldsWithNotes}
 use Rattle.gabc_score.specs.SyllablesOfUnits.{ScoreUnit, NotesAre, HoldsUnit}
 use Rattle.gabc_score.specs.Units.{Mark}
+use Rattle.gabc_score.specs.machine.PartKeeps.{text_events}
 use Rattle.std.proofs.Math.Nat.{mod-eq_of_lt}
 use Rattle.std.proofs.Math.Numerals.{add-one}
 use Rattle.gabc_score.proofs.texts_of_body.SeamsOfCharacters.{size, size_append, cut_between}
-use Rattle.gabc_score.proofs.building.EventsOfSyllableParts.{Sum, sum_of, keeping, onto_append, notes_keep, notes_within, text_emitted, text_gathers, text_within}
+use Rattle.gabc_score.proofs.building.EventsOfSyllableParts.{Sum, sum_of, keeping, onto_append, notes_keep, notes_within, text_gathers, text_within}
 use Rattle.gabc_score.proofs.snippets_of_body.SnippetsEndAlike.{CutEmitted}
 use Rattle.gabc_places.specs.declared.place.Char.{Char}
 use Rattle.gabc_text.specs.Events.{codes_of}
@@ -49,16 +50,16 @@ abbrev pub text_sum : List ℕ → Sum
 text_sum t = record { view = view_in t; ended = []; part = encodes (kept t); snippets = [] }
 
 -- what the events of a text come to before its end, behind a `)` or at the beginning
-text_gathered : (t : List ℕ) (how : TextEnd) (emitted : List BodyEvent) (g : TextEmitted t how emitted) (before : List BodyEvent) → since_close before ≡ [] → sum_of (since_close (events_onto (text_emitted g.mids) before)) ≡ text_sum t
+text_gathered : (t : List ℕ) (how : TextEnd) (emitted : List BodyEvent) (g : TextEmitted t how emitted) (before : List BodyEvent) → since_close before ≡ [] → sum_of (since_close (events_onto (text_events g.mids) before)) ≡ text_sum t
 text_gathered t how emitted g before h =
     ap sum_of (text_within g.mids before).since
-    ∙ ap (λ b. sum_of (events_onto (text_emitted g.mids) b)) h
+    ∙ ap (λ b. sum_of (events_onto (text_events g.mids) b)) h
     ∙ text_gathers g.mids [] empty_text g.silent refl refl
     ∙ ap (λ p. record (sum_of []) { part = p; view = (with_events empty_text g.mids).view }) g.kept_is
     ∙ ap (λ v. record (sum_of []) { part = encodes (kept t); view = v }) g.view_is
 
-text_onto : (t : List ℕ) (how : TextEnd) (emitted : List BodyEvent) (g : TextEmitted t how emitted) (before : List BodyEvent) → events_onto emitted before ≡ Text (text.Ended how) ∷ events_onto (text_emitted g.mids) before
-text_onto t how emitted g before = ap (λ ts. events_onto ts before) g.emitted_are ∙ onto_append (text_emitted g.mids) (Text (text.Ended how) ∷ []) before
+text_onto : (t : List ℕ) (how : TextEnd) (emitted : List BodyEvent) (g : TextEmitted t how emitted) (before : List BodyEvent) → events_onto emitted before ≡ Text (text.Ended how) ∷ events_onto (text_events g.mids) before
+text_onto t how emitted g before = ap (λ ts. events_onto ts before) g.emitted_are ∙ onto_append (text_events g.mids) (Text (text.Ended how) ∷ []) before
 
 -- these characters stand in the input from some place on
 abbrev pub IsBack : List ℕ → List ℕ → Type 0

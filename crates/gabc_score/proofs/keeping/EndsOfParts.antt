@@ -1,8 +1,9 @@
 -- What is open in a part of a body follows from the kept text, and from the place at which the end
 -- cuts it.
-use Rattle.std.proofs.Common.{◌≡◌, ◌≢◌, inl, inr, ◌==◌, ◌&&◌, ◌<◌, ◌+◌, not, ℕ, zero, suc, Bool, true, false, if◌then◌else◌, List, [], ◌∷◌, ◌++◌, length, map, Option, Some, None, is_some, unwrap_or, refl, sym, ap, ◌∙◌, arith, append-nil}
+use Rattle.std.proofs.Common.{◌≡◌, ◌≢◌, inl, inr, ◌==◌, ◌&&◌, ◌+◌, not, ℕ, zero, suc, Bool, true, false, if◌then◌else◌, List, [], ◌∷◌, ◌++◌, length, map, Option, Some, None, is_some, unwrap_or, refl, sym, ap, ◌∙◌, arith, append-nil}
 use Rattle.std.specs.Prelude.{IfSome}
 use Rattle.std.proofs.lemmas.Bool.{false≢true}
+use Rattle.gabc_places.proofs.NumbersByTests.{above_eqb, same_eqb}
 use Rattle.gabc_places.specs.PlacesInOrder.{IsEarlier, LiesBefore, AreInOrder}
 use Rattle.gabc_places.specs.StageLaw.{concat_of}
 use Rattle.gabc_places.specs.declared.place.Place.{Place}
@@ -88,18 +89,12 @@ other_none : (o : Option Place) → is_other o None ≡ is_some o
 other_none None = refl
 other_none (Some p) = refl
 
-same_number : (n : ℕ) → (n == n) ≡ true
-same_number n = grind arith
-
 no_other : (p : Place) → is_other (Some p) (Some p) ≡ false
-no_other p = ap (λ (b : Bool). not (b && p.column == p.column)) (same_number p.line) ∙ ap not (same_number p.column)
-
-later_number : (n m : ℕ) → m < n → (n == m) ≡ false
-later_number n m h = grind (arith, h)
+no_other p = ap (λ (b : Bool). not (b && p.column == p.column)) (same_eqb p.line) ∙ ap not (same_eqb p.column)
 
 later_other : (p q : Place) → IsEarlier q p → is_other (Some p) (Some q) ≡ true
-later_other p q (inl h) = ap (λ (b : Bool). not (b && p.column == q.column)) (later_number p.line q.line h)
-later_other p q (inr h) = ap (λ (b : Bool). not (p.line == q.line && b)) (later_number p.column q.column h.1) ∙ by (p.line == q.line)
+later_other p q (inl h) = ap (λ (b : Bool). not (b && p.column == q.column)) (above_eqb p.line q.line h)
+later_other p q (inr h) = ap (λ (b : Bool). not (p.line == q.line && b)) (above_eqb p.column q.column h.1) ∙ by (p.line == q.line)
   where
     by : (b : Bool) → not (b && false) ≡ true
     by true = refl
@@ -113,7 +108,7 @@ cut_by : (next opened : Place) (o : Option Place) → IfSome o (LiesBefore next)
     → is_other (Some (if (unwrap_or o no_place).line == 0 then opened else unwrap_or o no_place)) (Some opened) ≡ is_some o
 cut_by next opened None before order = no_other opened
 cut_by next opened (Some p) before order =
-    ap (λ (b : Bool). is_other (Some (if b then opened else p)) (Some opened)) (later_number p.line 0 (let l = before.line in omega (arith, l))) ∙ later_other p opened order
+    ap (λ (b : Bool). is_other (Some (if b then opened else p)) (Some opened)) (above_eqb p.line 0 (let l = before.line in omega (arith, l))) ∙ later_other p opened order
 
 module _ (laws : Ends) (lines macros : ℕ) where
   -- The end cuts a part elsewhere than at its `(` exactly if something is open inside.

@@ -1,7 +1,8 @@
 -- A part of a body that keeps parts of a kept text takes a character.
-use Rattle.std.proofs.Common.{◌≡◌, ◌≤◌, ◌==◌, ℕ, zero, suc, nat_lt, Bool, true, false, if◌then◌else◌, List, [], ◌∷◌, Option, Some, None, is_some, refl, sym, ap, ◌∙◌, arith}
+use Rattle.std.proofs.Common.{◌≡◌, ◌≤◌, ℕ, zero, suc, nat_lt, Bool, true, false, if◌then◌else◌, List, [], ◌∷◌, Option, Some, None, is_some, refl, sym, ap, ◌∙◌, arith}
 use Rattle.std.proofs.lemmas.Bool.{false≢true}
 use Rattle.std.specs.List.{list_any}
+use Rattle.gabc_places.proofs.NumbersByTests.{suc_eqb}
 use Rattle.gabc_places.specs.declared.place.Char.{Char}
 use Rattle.gabc_places.specs.declared.place.Place.{Place}
 use Rattle.gabc_text.specs.Events.{codes_of}
@@ -98,9 +99,6 @@ record Snippet (lines macros line : ℕ) (opened : Place) : Type 0 where
   front : is_in_front snippet ≡ false
   stands : (x : Char) (before : BodyPart) → PartStandsOn lines macros x before snippet
 
-not_zero : (n : ℕ) → (suc n == 0) ≡ false
-not_zero n = grind arith
-
 some_line : (n : ℕ) → suc n ≡ 0 → ⊥
 some_line n e = omega (arith, e)
 
@@ -121,7 +119,7 @@ module _ (laws : Steps) (lines macros : ℕ) where
       let b = laws.nabc_fresh in
       record {
         snippet = part.Nabc (suc line) opened b.stage;
-        is = λ xs. ap (InNotes (suc line) opened) (b.emits xs ∙ ap (λ (z : Bool). if z then note_events.note_events (nat_lt 0 lines) macros xs else nabc_events.nabc_events xs) (sym (not_zero line)));
+        is = λ xs. ap (InNotes (suc line) opened) (b.emits xs ∙ ap (λ (z : Bool). if z then note_events.note_events (nat_lt 0 lines) macros xs else nabc_events.nabc_events xs) (sym (suc_eqb line)));
         keeps = λ t earlier h. (h, (some_line line, b.keeps));
         opens_there = refl;
         outside = b.outside;

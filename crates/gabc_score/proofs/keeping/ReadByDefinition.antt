@@ -8,7 +8,8 @@ use Rattle.gabc_places.specs.Place.{place_past, placed_characters_from}
 use Rattle.gabc_places.specs.StageLaw.{concat_of}
 use Rattle.gabc_places.specs.declared.place.Char.{Char}
 use Rattle.gabc_places.specs.declared.place.Place.{Place}
-use Rattle.gabc_places.proofs.PlacesOfAText.{length_placed}
+use Rattle.gabc_places.proofs.PlacesOfAText.{length_placed, placed_append}
+use Rattle.gabc_places.proofs.PushesAreOne.{joined-append}
 use Rattle.gabc_text.specs.Events.{CountsFit}
 use Rattle.gabc_text.specs.TextStage.{fresh_stage}
 use Rattle.gabc_score.specs.declared.body_stage.BodyPart.{BodyPart}
@@ -24,8 +25,6 @@ use Rattle.gabc_score.proofs.building.EventsOfSyllableParts.{onto_append}
 use Rattle.gabc_score.proofs.keeping.PartsTakeCharacters.{TakesOne}
 use Rattle.gabc_score.proofs.keeping.ReadByItself.{Emits}
 use Rattle.gabc_score.specs.machine.StageLaws.{Steps}
-use Rattle.gabc_score.proofs.order.FindingsOfParts.{joined_append}
-use Rattle.gabc_score.proofs.stopped_scores.ScoreOfThePrefix.{placed_apart}
 use Rattle.gabc_score.proofs.texts_of_body.StageAndDefinitionAgree.{bytes_encodes}
 
 -- ---- where no syllable is whole, all events are those of the one that is read
@@ -106,7 +105,7 @@ module _ (reads : FromBeginning) (steps : Steps) (lines macros : ℕ) where
       lists_with =
           lists_by (t ++ 37 ∷ [])
           (counts_fit (t ++ 37 ∷ []) (let all = ap length (encodes-append t (37 ∷ [])) in let both = length-append (encode_utf8_all t) (encode_utf8_all (37 ∷ [])) in let l : length (encode_utf8_all (37 ∷ [])) ≡ 1 = refl in omega (arith, few, all, both, l)))
-          ∙ ap (λ (ys : List Char). events_from texts_by_stage lines macros (part_with begun_text ys) ys) (placed_apart first_place t (37 ∷ []))
+          ∙ ap (λ (ys : List Char). events_from texts_by_stage lines macros (part_with begun_text ys) ys) (placed_append first_place t (37 ∷ []))
           ∙ r.emits (percent ∷ [])
           ∙ ap (λ (ls : List (List BodyEvent)). r.lists ++ ls) (one.emits [])
 
@@ -116,5 +115,5 @@ module _ (reads : FromBeginning) (steps : Steps) (lines macros : ℕ) where
           ap (λ (ls : List (List BodyEvent)). events_onto (concat_of (take (length (t ++ 37 ∷ [])) ls)) []) lists_with
           ∙ ap (λ (n : ℕ). events_onto (concat_of (take n (r.lists ++ one.now ∷ more))) []) (length-append t (37 ∷ []) ∙ ap (λ (n : ℕ). n + 1) (sym r.each))
           ∙ ap (λ (ls : List (List BodyEvent)). events_onto (concat_of ls) []) (take-append-add r.lists (one.now ∷ more) 1)
-          ∙ ap (λ (es : List BodyEvent). events_onto es []) (joined_append r.lists (one.now ∷ []) ∙ ap (λ (es : List BodyEvent). concat_of r.lists ++ es) (append-nil one.now))
+          ∙ ap (λ (es : List BodyEvent). events_onto es []) (joined-append r.lists (one.now ∷ []) ∙ ap (λ (es : List BodyEvent). concat_of r.lists ++ es) (append-nil one.now))
           ∙ onto_append (concat_of r.lists) one.now []

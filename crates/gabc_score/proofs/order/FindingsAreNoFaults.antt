@@ -3,6 +3,7 @@ use Rattle.std.proofs.Common.{◌≡◌, ℕ, ◌+◌, ◌<◌, ◌==◌, ◌&&�
 use Rattle.std.specs.Prelude.{◌≢◌, filter}
 use Rattle.std.specs.List.{All, list_any}
 use Rattle.std.proofs.lemmas.List.Elements.{All-nil, All-cons, All-head, All-tail}
+use Rattle.gabc_text.proofs.order.FindingsLieWithin.{found_more}
 use Rattle.gabc_places.specs.declared.place.Place.{Place}
 use Rattle.gabc_places.specs.declared.place.Char.{Char}
 use Rattle.gabc_places.specs.declared.code.Code.{Code}
@@ -38,7 +39,7 @@ use Rattle.gabc_score.specs.NoteBeforeClef.{score_events}
 use Rattle.gabc_score.specs.Score.{heads_text, behind_heads, score_of, score_by}
 use Rattle.gabc_score.proofs.order.CodesOfSnippets.{AreLow, AreLowEach, notes_low, nabc_low}
 use Rattle.gabc_score.proofs.order.FirstNotesOfParts.{all_with_first}
-use Rattle.gabc_score.proofs.order.FindingsOfParts.{found, found_append, text_found_append}
+use Rattle.gabc_score.proofs.order.FindingsOfParts.{found, found_append}
 use Rattle.gabc_score.proofs.order.FindingsOfReading.{read_finds}
 use Rattle.gabc_score.proofs.order.FindingsOfScore.{reached_prefix}
 
@@ -61,10 +62,6 @@ both (f ∷ fs) gs h k = (h.0, both fs gs h.1 k)
 first : (fs gs : List Finding) → NoFaults (fs ++ gs) → NoFaults fs
 first [] gs h = tt
 first (f ∷ fs) gs h = (h.0, first fs gs h.1)
-
-by_cond : (b : Bool) (fs gs : List Finding) → NoFaults fs → NoFaults gs → NoFaults (cond b fs gs)
-by_cond true fs gs h k = h
-by_cond false fs gs h k = k
 
 -- codes below W12 are no faults
 low_code : (code : Code) → rank_of code < rank_of W12 → severity_of code ≢ Fatal
@@ -153,7 +150,7 @@ last_of (f ∷ fs) gs h = last_of fs gs h.1
 each_text : (lists : List (List TextEvent)) → NoFaults (found_in (concat_of lists)) → NoneTextEach lists
 each_text [] h = tt
 each_text (emitted ∷ lists) h =
-    let k = subst NoFaults (text_found_append emitted (concat_of lists)) h in
+    let k = subst NoFaults (found_more emitted (concat_of lists)) h in
     (first (found_in emitted) (found_in (concat_of lists)) k, each_text lists (last_of (found_in emitted) (found_in (concat_of lists)) k))
 
 abbrev PartFinds : PartAhead → Type 0

@@ -1,5 +1,7 @@
 -- What is found in a body that is cut into parts stands in order.
 use Rattle.std.proofs.Common.{◌≡◌, ℕ, suc, ◌+◌, ◌-◌, ◌≤◌, ◌^◌, ◌==◌, nat_lt, min, List, [], ◌∷◌, ◌++◌, Bool, true, false, cond, refl, sym, ap, subst, ◌∙◌, length, append-nil, Option, arith, inl, inr, ◌⊎◌}
+use Rattle.gabc_places.proofs.PlacesInOrder.{up_to_self, before_up_to, up_to_then, before_then, before_next, up_to_past}
+use Rattle.gabc_places.proofs.PlacesOfAText.{place_append}
 use Rattle.gabc_places.specs.declared.place.Place.{Place}
 use Rattle.gabc_places.specs.declared.place.Char.{Char}
 use Rattle.gabc_places.specs.declared.code.Code.TheVariants.{W12}
@@ -7,6 +9,7 @@ use Rattle.gabc_places.specs.declared.code.Finding.{Finding}
 use Rattle.gabc_places.specs.Findings.{IsUpTo}
 use Rattle.gabc_places.specs.StageLaw.{concat_of}
 use Rattle.gabc_places.specs.Place.{next_place, place_past, placed_characters_from}
+use Rattle.gabc_places.specs.PlacesInOrder.{IsEarlier}
 use Rattle.gabc_notes.specs.declared.item.ItemKind.{ItemKind}
 use Rattle.gabc_notes.specs.Events as notes
 use Rattle.gabc_nabc.specs.Events as nabc
@@ -15,7 +18,7 @@ use Rattle.gabc_score.specs.NoteBeforeClef.{is_first_note, found_first, with_fir
 use Rattle.gabc_score.specs.declared.events.BodyEvent.{BodyEvent}
 use Rattle.gabc_score.specs.Units.{Mark, Opens, Next, Closes, CutPart, whole, events_through, EndsBehind, part_following, Cuts, events_of_cutting}
 use Rattle.gabc_score.proofs.units.BodyHasOneCutting.{text_mark}
-use Rattle.gabc_score.proofs.order.FindingsOneAfterAnother.{IsBefore, up_to_then, before_up_to, next_behind, past_up_to, past_append, AllBelow, from_earlier, from_append, up_to_append, up_to_self, below_before, before_append, order_append, order_then, all_before, before_then, no_notes}
+use Rattle.gabc_score.proofs.order.FindingsOneAfterAnother.{AllBelow, from_earlier, from_append, up_to_append, below_before, before_append, order_append, order_then, all_before, no_notes}
 use Rattle.gabc_score.proofs.order.FindingsOfParts.{found, TextsLie, SnippetsLie, Lie, LieLast, text_lies, text_codes, text_lies_last, snippet_lies, snippet_codes, snippet_lies_last}
 use Rattle.gabc_score.proofs.order.FirstNotesOfParts.{through_end, to_the_end}
 
@@ -119,7 +122,7 @@ module _ (lines macros : ℕ) (texts : TextsLie) (gabc : SnippetsLie (λ xs. not
       inl (ap (λ q. text_from texts_by_definition q ys)
       (ap behind_mark at ∙ behind_is (place_past p s.prefix) s.c s.rest c (short_past p s.prefix (s.c ∷ s.rest) (subst (Short p) s.all short))))
 
-  both_lie : (p q r e : Place) (fs gs : List Finding) → IsUpTo p r → IsBefore q r → IsUpTo r e → Lie p q fs → LieLast r e gs → LieLast p e (fs ++ gs)
+  both_lie : (p q r e : Place) (fs gs : List Finding) → IsUpTo p r → IsEarlier q r → IsUpTo r e → Lie p q fs → LieLast r e gs → LieLast p e (fs ++ gs)
   both_lie p q r e fs gs u l m f g = record {
     order = order_append fs gs q r f.order f.up_to l g.order g.from;
     from = from_append p fs gs f.from (from_earlier p r gs u g.from);
@@ -139,16 +142,16 @@ module _ (lines macros : ℕ) (texts : TextsLie) (gabc : SnippetsLie (λ xs. not
       let lists = events_of_cutting texts_by_definition lines macros (part_following texts_by_definition lines macros q.mark q.end (whole pieces last)) pieces last in
       let w = through_end lines part q.characters q.end (whole pieces last) q.mark before lists h.0 in
       let at : q.end.place ≡ place_past p s.prefix = ap (λ (y : Char). y.place) s.here in
-      let f = lies_with_first p (place_past p s.prefix) (found (concat_of (events_through part q.characters))) w.0 w.1 (past_up_to p s.prefix)
+      let f = lies_with_first p (place_past p s.prefix) (found (concat_of (events_through part q.characters))) w.0 w.1 (up_to_past p s.prefix)
       (through_lies part p cs q.characters q.end (whole pieces last) s e b) (begun_codes part p q.characters (q.characters ++ q.end ∷ whole pieces last) b) in
       let g = pieces_lie pieces last (part_following texts_by_definition lines macros q.mark q.end (whole pieces last)) (next_place (place_past p s.prefix) s.c) s.rest s.behind
       (short_next (place_past p s.prefix) s.c s.rest (short_past p s.prefix (s.c ∷ s.rest) (subst (Short p) s.all short)))
       (next_begins part p cs q.characters q.end (whole pieces last) q.mark s short b h.0) h.1 w.2 in
-      let end : place_past (next_place (place_past p s.prefix) s.c) s.rest ≡ place_past p cs = sym (past_append p s.prefix (s.c ∷ s.rest)) ∙ ap (place_past p) (sym s.all) in
-      let l = next_behind (place_past p s.prefix) s.c in
+      let end : place_past (next_place (place_past p s.prefix) s.c) s.rest ≡ place_past p cs = sym (place_append p s.prefix (s.c ∷ s.rest)) ∙ ap (place_past p) (sym s.all) in
+      let l = before_next (place_past p s.prefix) s.c in
       subst (LieLast p (place_past p cs))
       (sym (w.3 ∙ ap (λ place. (found (concat_of (events_through part q.characters)) ++ found_first w.0 w.1 place) ++ found (concat_of (with_first_each w.2 (whole pieces last) lists))) at))
       (subst (λ o. LieLast p o ((found (concat_of (events_through part q.characters)) ++ found_first w.0 w.1 (place_past p s.prefix)) ++ found (concat_of (with_first_each w.2 (whole pieces last) lists)))) end
       (both_lie p (place_past p s.prefix) (next_place (place_past p s.prefix) s.c) (place_past (next_place (place_past p s.prefix) s.c) s.rest) _ _
-      (up_to_then p (place_past p s.prefix) (next_place (place_past p s.prefix) s.c) (past_up_to p s.prefix) (before_up_to (place_past p s.prefix) (next_place (place_past p s.prefix) s.c) l)) l
-      (past_up_to (next_place (place_past p s.prefix) s.c) s.rest) f g))
+      (up_to_then p (place_past p s.prefix) (next_place (place_past p s.prefix) s.c) (up_to_past p s.prefix) (before_up_to (place_past p s.prefix) (next_place (place_past p s.prefix) s.c) l)) l
+      (up_to_past (next_place (place_past p s.prefix) s.c) s.rest) f g))

@@ -2,6 +2,7 @@
 use Rattle.std.proofs.Common.{◌≡◌, ℕ, suc, ◌+◌, ◌<◌, List, [], ◌∷◌, ◌++◌, Bool, refl, sym, ap, subst, ◌∙◌, length, take, arith, inl, inr}
 use Rattle.std.proofs.lemmas.List.Elements.{All-head, All-tail}
 use Rattle.std.specs.List.{All}
+use Rattle.gabc_notes.proofs.machine.LoopOverBody.{findings_append}
 use Rattle.gabc_places.specs.declared.place.Place.{Place}
 use Rattle.gabc_places.specs.declared.place.Char.{Char}
 use Rattle.gabc_places.specs.declared.code.Code.TheVariants.{W9}
@@ -20,7 +21,7 @@ use Rattle.gabc_notes.specs.Events.{note_events, note_events_behind, events_at, 
 use Rattle.gabc_nabc.specs.Events as nabc
 use Rattle.gabc_score.proofs.order.CodesOfSnippets.{found_below, notes_low, nabc_low}
 use Rattle.gabc_score.proofs.order.FindingsOneAfterAnother.{AllBelow}
-use Rattle.gabc_score.proofs.order.FindingsOfParts.{TextsLie, SnippetsLie, notes_append}
+use Rattle.gabc_score.proofs.order.FindingsOfParts.{TextsLie, SnippetsLie}
 
 -- ---- texts
 
@@ -53,9 +54,9 @@ module _ (split : Bool) (macros : ℕ) (cuts : (back : List Char) → AreCutAtMo
   notes_last back [] = cut_quiet (cut_events split back) (cuts back)
   notes_last back (x ∷ xs) =
       let now = events_at split macros (record { back = back; here = x }) in
-      notes_append (events_at split macros (record { back = back; here = x })) (concat_of (note_events_behind split macros (x ∷ back) xs))
+      findings_append (events_at split macros (record { back = back; here = x })) (concat_of (note_events_behind split macros (x ∷ back) xs))
       ∙ ap (λ (fs : List Finding). findings_of (events_at split macros (record { back = back; here = x })) ++ fs) (notes_last (x ∷ back) xs)
-      ∙ sym (notes_append (events_at split macros (record { back = back; here = x })) (concat_of (take (length xs) (note_events_behind split macros (x ∷ back) xs))))
+      ∙ sym (findings_append (events_at split macros (record { back = back; here = x })) (concat_of (take (length xs) (note_events_behind split macros (x ∷ back) xs))))
 
   facts_each : (xs : List Char) → length (note_events split macros xs) ≡ length xs + 1
   unfolding note_events
@@ -77,9 +78,9 @@ module _ (cuts : (t : List ℕ) → AreCutAtMost (nabc.cut_events t)) where
   nabc_last : (t : List ℕ) (xs : List Char) → findings_of (concat_of (nabc.nabc_events_behind t xs)) ≡ findings_of (concat_of (take (length xs) (nabc.nabc_events_behind t xs)))
   nabc_last t [] = cut_quiet (nabc.cut_events t) (cuts t)
   nabc_last t (x ∷ xs) =
-      notes_append (nabc.events_at t x) (concat_of (nabc.nabc_events_behind (t ++ x.c ∷ []) xs))
+      findings_append (nabc.events_at t x) (concat_of (nabc.nabc_events_behind (t ++ x.c ∷ []) xs))
       ∙ ap (λ (fs : List Finding). findings_of (nabc.events_at t x) ++ fs) (nabc_last (t ++ x.c ∷ []) xs)
-      ∙ sym (notes_append (nabc.events_at t x) (concat_of (take (length xs) (nabc.nabc_events_behind (t ++ x.c ∷ []) xs))))
+      ∙ sym (findings_append (nabc.events_at t x) (concat_of (take (length xs) (nabc.nabc_events_behind (t ++ x.c ∷ []) xs))))
 
   pub nabc_lies : ((at : Place) (prefix rest : List ℕ) → LieBetween at (place_past at prefix) (findings_of (concat_of (take (length prefix + 1) (nabc.nabc_events (placed_characters_from at (prefix ++ rest)))))))
       → ((at : Place) (t : List ℕ) → AreInOrder (findings_of (concat_of (nabc.nabc_events (placed_characters_from at t))))) → SnippetsLie (λ xs. nabc.nabc_events xs)

@@ -1,14 +1,21 @@
 -- What is found in the parts of a body, each through the character that ends it.
-use Rattle.std.proofs.Common.{◌≡◌, ℕ, suc, ◌+◌, ◌==◌, nat_lt, List, [], ◌∷◌, ◌++◌, Bool, true, false, if◌then◌else◌, refl, sym, ap, subst, ◌∙◌, append_assoc, append-nil, length, length-append, take, drop, map, arith, inl, inr, ◌⊎◌, take-append-drop}
+use Rattle.std.proofs.Common.{◌≡◌, ℕ, suc, ◌+◌, ◌==◌, nat_lt, List, [], ◌∷◌, ◌++◌, Bool, true, false, if◌then◌else◌, refl, sym, ap, subst, ◌∙◌, append_assoc, append-nil, length, length-append, take, drop, map, arith, inl, inr, take-append-drop}
 use Rattle.std.proofs.Math.Seq.{take-length}
+use Rattle.gabc_text.proofs.order.FindingsLieWithin.{found_more}
+use Rattle.gabc_text.proofs.KeptCharacters.{codes_placed}
+use Rattle.gabc_notes.proofs.machine.LoopOverBody.{findings_append}
+use Rattle.gabc_notes.proofs.items_of_text.ItemAtCharacter.{pushed}
 use Rattle.gabc_places.specs.declared.place.Place.{Place}
 use Rattle.gabc_places.specs.declared.place.Char.{Char}
 use Rattle.gabc_places.specs.declared.code.Code.TheVariants.{W9, W12}
 use Rattle.gabc_places.specs.declared.code.Finding.{Finding}
 use Rattle.gabc_places.specs.Findings.{AreInOrder, LieBetween}
 use Rattle.gabc_places.specs.StageLaw.{concat_of}
-use Rattle.gabc_places.specs.Place.{next_place, place_past, placed_characters_from}
-use Rattle.gabc_places.proofs.PlacesOfAText.{length_placed}
+use Rattle.gabc_places.specs.Place.{place_past, placed_characters_from}
+use Rattle.gabc_places.specs.PlacesInOrder.{IsEarlier}
+use Rattle.gabc_places.proofs.PlacesOfAText.{length_placed, place_append}
+use Rattle.gabc_places.proofs.PlacesInOrder.{before_next}
+use Rattle.gabc_places.proofs.PushesAreOne.{joined-append}
 use Rattle.gabc_text.specs.declared.text_event.TextEvent.{TextEvent}
 use Rattle.gabc_text.specs.declared.text_event.TextEvent.TheVariants as text
 use Rattle.gabc_text.specs.Events.{codes_of, events_by_point}
@@ -23,7 +30,7 @@ use Rattle.gabc_score.specs.declared.events.BodyEvent.TheVariants as event
 use Rattle.gabc_score.specs.Events.{InText, InNotes, note_event, texts_by_definition, text_from, snippet_from}
 use Rattle.gabc_score.specs.Units.{events_through}
 use Rattle.gabc_score.specs.Body.{events_onto, findings_with, findings_of}
-use Rattle.gabc_score.proofs.order.FindingsOneAfterAnother.{AllFrom, AllUpTo, AllBefore, AllBelow, lie_from, lie_up_to, order_prefix, below_prefix, below_higher, below_before, all_before, no_notes, next_behind, IsBefore, past_append}
+use Rattle.gabc_score.proofs.order.FindingsOneAfterAnother.{AllFrom, AllUpTo, AllBefore, AllBelow, lie_from, lie_up_to, order_prefix, below_prefix, below_higher, below_before, all_before, no_notes}
 
 -- ---- what was found, in the order in which it was emitted
 
@@ -64,13 +71,6 @@ text_emitted (text.Kept c ∷ emitted) = text_emitted emitted
 text_emitted (text.Part p ∷ emitted) = text_emitted emitted
 text_emitted (text.Ended e ∷ emitted) = text_emitted emitted
 
-pub text_found_append : (xs ys : List TextEvent) → found_in (xs ++ ys) ≡ found_in xs ++ found_in ys
-text_found_append [] ys = refl
-text_found_append (text.Found f ∷ xs) ys = ap (λ (fs : List Finding). f ∷ fs) (text_found_append xs ys)
-text_found_append (text.Kept c ∷ xs) ys = text_found_append xs ys
-text_found_append (text.Part p ∷ xs) ys = text_found_append xs ys
-text_found_append (text.Ended e ∷ xs) ys = text_found_append xs ys
-
 -- the lists of the characters, and that of the point behind them
 pub text_through : (lists : List (List TextEvent)) (xs : List Char) → found (concat_of (events_through (InText lists) xs)) ≡ found_in (concat_of (take (suc (length xs)) lists))
 text_through [] [] = refl
@@ -81,15 +81,9 @@ text_through (l ∷ lists) (x ∷ xs) =
     found_append (map (λ (o : TextEvent). event.Text o) l) (concat_of (events_through (InText lists) xs))
     ∙ ap (λ (fs : List Finding). fs ++ found (concat_of (events_through (InText lists) xs))) (text_emitted l)
     ∙ ap (λ (fs : List Finding). found_in l ++ fs) (text_through lists xs)
-    ∙ sym (text_found_append l (concat_of (take (suc (length xs)) lists)))
+    ∙ sym (found_more l (concat_of (take (suc (length xs)) lists)))
 
 -- ---- of a snippet
-
-pub notes_append : (xs ys : List NoteEvent) → notes_found (xs ++ ys) ≡ notes_found xs ++ notes_found ys
-notes_append [] ys = refl
-notes_append (note.Found f ∷ xs) ys = ap (λ (fs : List Finding). f ∷ fs) (notes_append xs ys)
-notes_append (note.Kept c ∷ xs) ys = notes_append xs ys
-notes_append (note.Ended e n ∷ xs) ys = notes_append xs ys
 
 snippet_emitted : (line : ℕ) (opened : Place) (emitted : List NoteEvent) → found (map (note_event line opened) emitted) ≡ notes_found emitted
 snippet_emitted line opened [] = refl
@@ -107,44 +101,32 @@ snippet_through line opened (l ∷ lists) (x ∷ xs) =
     found_append (map (note_event line opened) l) (concat_of (events_through (InNotes line opened lists) xs))
     ∙ ap (λ (fs : List Finding). fs ++ found (concat_of (events_through (InNotes line opened lists) xs))) (snippet_emitted line opened l)
     ∙ ap (λ (fs : List Finding). notes_found l ++ fs) (snippet_through line opened lists xs)
-    ∙ sym (notes_append l (concat_of (take (suc (length xs)) lists)))
+    ∙ sym (findings_append l (concat_of (take (suc (length xs)) lists)))
 
 -- ---- prefixes
 
--- a text is empty, or has a last character
-pub last_or_none : (cs : List ℕ) → (cs ≡ []) ⊎ ((prefix : List ℕ) × (c : ℕ) × (cs ≡ prefix ++ c ∷ []))
-last_or_none [] = inl refl
-last_or_none (c ∷ cs) = elim (last_or_none cs) [
-  | inl e ↦ inr ([], c, ap (λ ds. c ∷ ds) e)
-  | inr h ↦ inr (c ∷ h.0, h.1, ap (λ ds. c ∷ ds) h.2)
-]
-
-pub joined_append : {X : Type 0} (xs ys : List (List X)) → concat_of (xs ++ ys) ≡ concat_of xs ++ concat_of ys
-joined_append [] ys = refl
-joined_append (x ∷ xs) ys = ap (λ zs. x ++ zs) (joined_append xs ys) ∙ sym (append_assoc x (concat_of xs) (concat_of ys))
-
 joined_split : {X : Type 0} (n : ℕ) (lists : List (List X)) → concat_of lists ≡ concat_of (take n lists) ++ concat_of (drop n lists)
-joined_split n lists = ap concat_of (sym (take-append-drop n lists)) ∙ joined_append (take n lists) (drop n lists)
+joined_split n lists = ap concat_of (sym (take-append-drop n lists)) ∙ joined-append (take n lists) (drop n lists)
 
 text_order : (n : ℕ) (lists : List (List TextEvent)) → AreInOrder (found_in (concat_of lists)) → AreInOrder (found_in (concat_of (take n lists)))
 text_order n lists h =
     order_prefix (found_in (concat_of (take n lists))) (found_in (concat_of (drop n lists)))
-    (subst AreInOrder (ap found_in (joined_split n lists) ∙ text_found_append (concat_of (take n lists)) (concat_of (drop n lists))) h)
+    (subst AreInOrder (ap found_in (joined_split n lists) ∙ found_more (concat_of (take n lists)) (concat_of (drop n lists))) h)
 
 text_below : (n : ℕ) (lists : List (List TextEvent)) → AllBelow W9 (found_in (concat_of lists)) → AllBelow W9 (found_in (concat_of (take n lists)))
 text_below n lists h =
     below_prefix W9 (found_in (concat_of (take n lists))) (found_in (concat_of (drop n lists)))
-    (subst (AllBelow W9) (ap found_in (joined_split n lists) ∙ text_found_append (concat_of (take n lists)) (concat_of (drop n lists))) h)
+    (subst (AllBelow W9) (ap found_in (joined_split n lists) ∙ found_more (concat_of (take n lists)) (concat_of (drop n lists))) h)
 
 notes_below : (n : ℕ) (lists : List (List NoteEvent)) → AllBelow W12 (notes_found (concat_of lists)) → AllBelow W12 (notes_found (concat_of (take n lists)))
 notes_below n lists h =
     below_prefix W12 (notes_found (concat_of (take n lists))) (notes_found (concat_of (drop n lists)))
-    (subst (AllBelow W12) (ap notes_found (joined_split n lists) ∙ notes_append (concat_of (take n lists)) (concat_of (drop n lists))) h)
+    (subst (AllBelow W12) (ap notes_found (joined_split n lists) ∙ findings_append (concat_of (take n lists)) (concat_of (drop n lists))) h)
 
 notes_order : (n : ℕ) (lists : List (List NoteEvent)) → AreInOrder (notes_found (concat_of lists)) → AreInOrder (notes_found (concat_of (take n lists)))
 notes_order n lists h =
     order_prefix (notes_found (concat_of (take n lists))) (notes_found (concat_of (drop n lists)))
-    (subst AreInOrder (ap notes_found (joined_split n lists) ∙ notes_append (concat_of (take n lists)) (concat_of (drop n lists))) h)
+    (subst AreInOrder (ap notes_found (joined_split n lists) ∙ findings_append (concat_of (take n lists)) (concat_of (drop n lists))) h)
 
 -- ---- what the layers below say of their findings
 
@@ -173,10 +155,6 @@ pub record LieLast (p q : Place) (fs : List Finding) : Type 0 where
   pub order : AreInOrder fs
   pub from : AllFrom p fs
   pub before : AllBefore (no_notes q) fs
-
-pub codes_placed : (p : Place) (cs : List ℕ) → codes_of (placed_characters_from p cs) ≡ cs
-codes_placed p [] = refl
-codes_placed p (c ∷ cs) = ap (λ ds. c ∷ ds) (codes_placed (next_place p c) cs)
 
 through_is : (n m : ℕ) → n ≡ m → suc n ≡ m + 1
 through_is n m e = omega (arith, e)
@@ -276,11 +254,11 @@ module _ (lines macros : ℕ) (gabc : SnippetsLie (λ xs. notes.note_events (nat
             order = notes_order (length prefix + 1) (snippet_emits lines macros line (placed_characters_from p (prefix ++ c ∷ []))) (s.order p (prefix ++ c ∷ []));
             from = lie_from p (place_past p prefix) _ k;
             before = all_before (place_past p prefix) (no_notes (place_past p (prefix ++ c ∷ []))) _ (lie_up_to p (place_past p prefix) _ k)
-                (subst (IsBefore (place_past p prefix)) (sym (past_append p prefix (c ∷ []))) (next_behind (place_past p prefix) c));
+                (subst (IsEarlier (place_past p prefix)) (sym (place_append p prefix (c ∷ []))) (before_next (place_past p prefix) c));
           })
 
       by : (ds : List ℕ) → LieLast p (place_past p ds) (notes_found (concat_of (take (length ds) (snippet_emits lines macros line (placed_characters_from p ds)))))
-      by ds = elim (last_or_none ds) [
+      by ds = elim (pushed ds) [
         | inl e ↦ rw e (record { order = tt; from = tt; before = tt })
         | inr h ↦ ends_with ds h.0 h.1 h.2
       ]

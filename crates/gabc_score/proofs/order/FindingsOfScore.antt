@@ -12,6 +12,7 @@ use Rattle.gabc_places.specs.declared.limits.Limits.{Limits}
 use Rattle.gabc_places.specs.Findings.{StandsBefore, AreInOrder, IsUpTo, LieBetween}
 use Rattle.gabc_places.specs.StageLaw.{concat_of}
 use Rattle.gabc_places.specs.Place.{place_after, placed_characters_behind, next_place, place_past, placed_characters_from}
+use Rattle.gabc_places.specs.PlacesInOrder.{IsEarlier}
 use Rattle.gabc_headers.specs.declared.heads.Heads.{Heads}
 use Rattle.gabc_headers.specs.declared.heads.HeadFault.{HeadFault}
 use Rattle.gabc_headers.specs.Book.{nabc_lines_of, macros_of}
@@ -27,11 +28,13 @@ use Rattle.gabc_score.specs.Units.{Closes, Cutting, IsCutFrom, EndsBehind, whole
 use Rattle.gabc_score.specs.Body.{events_onto, findings_of, EventsToStop, events_to_stop, stopped_events, code_at, result_by, result_at_end, result_by_fault, result_whole, result_stopped, found_at_end, has_last, fault_of_end, cut_of}
 use Rattle.gabc_score.specs.Score.{heads_text, behind_heads, score_of, score_by}
 use Rattle.gabc_score.proofs.units.BodyHasOneCutting.{one, body_emits_all}
-use Rattle.gabc_places.proofs.PlacesOfAText.{placed_behind, behind_after}
-use Rattle.gabc_score.proofs.order.FindingsOneAfterAnother.{IsBefore, AllFrom, AllUpTo, AllBefore, past_up_to, past_append, next_behind, before_then, from_earlier, from_prefix, before_append, order_append, order_then, order_prefix, all_before, lie_up_to, no_notes}
+use Rattle.gabc_places.proofs.PlacesOfAText.{placed_behind, behind_after, place_append}
+use Rattle.gabc_places.proofs.PlacesInOrder.{before_then, before_next, up_to_past}
+use Rattle.gabc_score.proofs.order.FindingsOneAfterAnother.{AllFrom, AllUpTo, AllBefore, from_earlier, from_prefix, before_append, order_append, order_then, order_prefix, all_before, lie_up_to, no_notes}
 use Rattle.gabc_score.proofs.order.FindingsOfParts.{found, found_append, found_onto, TextsLie, SnippetsLie, LieLast}
 use Rattle.gabc_score.proofs.order.FirstNotesOfParts.{behind_comment}
 use Rattle.gabc_score.proofs.order.FindingsOfCutParts.{Short, short_past, pieces_lie}
+use Rattle.gabc_score.proofs.building.EventsOfSyllableParts.{onto_append}
 
 -- ---- the body
 
@@ -74,8 +77,8 @@ module _ (texts : TextsLie)
       (inl (first_begins (whole d.pieces d.last) (place_past p b.before) b.rest b.placed h.1.1.0)) h.1.1.1 [] in
       rw (h.0, behind_comment comment (whole d.pieces d.last) [] (events_of_parts texts_by_definition lines macros (Some d)))
       (subst (λ e. LieLast p e (found (concat_of (with_first_each [] (whole d.pieces d.last) (events_of_cutting texts_by_definition lines macros (first_text texts_by_definition (whole d.pieces d.last)) d.pieces d.last)))))
-      (sym (past_append p b.before b.rest) ∙ ap (place_past p) (sym b.all))
-      (record { order = k.order; from = from_earlier p (place_past p b.before) _ (past_up_to p b.before) k.from; before = k.before }))
+      (sym (place_append p b.before b.rest) ∙ ap (place_past p) (sym b.all))
+      (record { order = k.order; from = from_earlier p (place_past p b.before) _ (up_to_past p b.before) k.from; before = k.before }))
 
   body_lies : (lines macros : ℕ) (p : Place) (cs : List ℕ) → Short p cs → LieLast p (place_past p cs) (found (concat_of (score_events lines macros (placed_characters_from p cs))))
   body_lies lines macros p cs short =
@@ -84,10 +87,6 @@ module _ (texts : TextsLie)
       (parts_lie lines macros p cs o.0.comment (option_map (cutting_of lines) o.0.units) short o.1)
 
 -- ---- the stop
-
-pub onto_append : (xs ys before : List BodyEvent) → events_onto (xs ++ ys) before ≡ events_onto ys (events_onto xs before)
-onto_append [] ys before = refl
-onto_append (x ∷ xs) ys before = onto_append xs ys (x ∷ before)
 
 -- what was emitted before the stop is a prefix of all that is emitted; without a fault, it is all
 pub record IsFront (before : List BodyEvent) (ts : List BodyEvent) (r : EventsToStop) : Type 0 where
@@ -131,7 +130,7 @@ with_end at fs false true h k = order_then fs (record { place = at; code = W11 }
 with_end at fs false false h k = subst AreInOrder (sym (append-nil fs)) h
 
 module _ (limits : Limits) (head : ℕ) (fs : List Finding) (at q p : Place) (ts : List BodyEvent)
-    (order : AreInOrder fs) (up : AllUpTo q fs) (next : IsBefore q p) (end : IsUpTo p at) (all : LieLast p at (found ts)) where
+    (order : AreInOrder fs) (up : AllUpTo q fs) (next : IsEarlier q p) (end : IsUpTo p at) (all : LieLast p at (found ts)) where
   stopped_sorted : (prefix more before : List BodyEvent) (fault : Option Fault) → ts ≡ prefix ++ more → before ≡ events_onto prefix [] → AreInOrder (result_stopped fs before fault).findings
   stopped_sorted prefix more before fault e f =
       let same : found ts ≡ found prefix ++ found more = ap found e ∙ found_append prefix more in
@@ -171,7 +170,7 @@ pub record HeadsLie : Type 0 where
   pub behind : (limits : Limits) (t : List ℕ) (heads : Heads) → heads_of limits t ≡ Ok heads → head_len t + 2 ≤ length t
 
 -- the body begins behind the line `%%`
-body_behind : (t : List ℕ) → head_len t + 2 ≤ length t → IsBefore (place_after (take (head_len t) t)) (place_after (heads_text t))
+body_behind : (t : List ℕ) → head_len t + 2 ≤ length t → IsEarlier (place_after (take (head_len t) t)) (place_after (heads_text t))
 body_behind t h =
     let n = head_len t in
     let f = take (head_len t) t in
@@ -182,9 +181,9 @@ body_behind t h =
     let same : take (head_len t + 1 + 1) t ≡ (take (head_len t) t ++ c ∷ []) ++ d ∷ [] = take_more t (head_len t + 1) 0 two ∙ ap (λ g. g ++ d ∷ []) (take_more t (head_len t) 0 one) in
     let count : head_len t + 1 + 1 ≡ head_len t + 2 = omega arith in
     let all : heads_text t ≡ take (head_len t) t ++ (c ∷ d ∷ []) = ap (λ m. take m t) (sym count) ∙ same ∙ append_assoc (take (head_len t) t) (c ∷ []) (d ∷ []) in
-    subst (IsBefore (place_after (take (head_len t) t))) (behind_after (take (head_len t) t) (c ∷ d ∷ []) ∙ ap place_after (sym all))
-    (before_then (place_after (take (head_len t) t)) (next_place (place_after (take (head_len t) t)) c) _ (next_behind (place_after (take (head_len t) t)) c)
-    (past_up_to (next_place (place_after (take (head_len t) t)) c) (d ∷ [])))
+    subst (IsEarlier (place_after (take (head_len t) t))) (behind_after (take (head_len t) t) (c ∷ d ∷ []) ∙ ap place_after (sym all))
+    (before_then (place_after (take (head_len t) t)) (next_place (place_after (take (head_len t) t)) c) _ (before_next (place_after (take (head_len t) t)) c)
+    (up_to_past (next_place (place_after (take (head_len t) t)) c) (d ∷ [])))
 
 short_body : (t : List ℕ) → length t < 2 ^ 63 → Short (place_after (heads_text t)) (behind_heads t)
 short_body t h =
@@ -207,7 +206,7 @@ module _ (texts : TextsLie) (heads : HeadsLie)
       (subst (λ r. AreInOrder (heads_found r)) e (heads.order limits t))
       (lie_up_to (place_after []) (place_after (take (head_len t) t)) h.findings (heads.within limits t h e))
       (body_behind t (heads.behind limits t h e))
-      (subst (IsUpTo (place_after (heads_text t))) end (past_up_to (place_after (heads_text t)) (behind_heads t)))
+      (subst (IsUpTo (place_after (heads_text t))) end (up_to_past (place_after (heads_text t)) (behind_heads t)))
       (subst (λ p. LieLast (place_after (heads_text t)) p (found (concat_of lists))) end
       (subst (λ ys. LieLast (place_after (heads_text t)) (place_past (place_after (heads_text t)) (behind_heads t)) (found (concat_of (score_events (nabc_lines_of h.book) (macros_of h.book) ys)))) xs all))
       ending _ (reached_prefix limits _ [] (placed_characters_behind (heads_text t) (behind_heads t)) lists)

@@ -1,59 +1,14 @@
 -- Findings of several parts, one after the other, in order.
-use Rattle.std.proofs.Common.{◌≡◌, ℕ, ◌+◌, ◌<◌, ◌≤◌, ◌==◌, List, [], ◌∷◌, ◌++◌, Bool, true, false, cond, refl, arith, inl, inr, ◌⊎◌, eqb-true}
+use Rattle.std.proofs.Common.{◌≡◌, ◌<◌, ◌≤◌, ◌==◌, List, [], ◌∷◌, ◌++◌, Bool, true, false, refl, arith, inl, inr, eqb-true}
 use Rattle.std.proofs.lemmas.Bool.{eqb-false}
+use Rattle.gabc_places.proofs.PlacesInOrder.{up_to_then, before_then, then_before, stands_before}
 use Rattle.gabc_places.specs.declared.place.Place.{Place}
 use Rattle.gabc_places.specs.declared.code.Finding.{Finding}
 use Rattle.gabc_places.specs.declared.code.Code.{Code}
 use Rattle.gabc_places.specs.declared.code.Code.TheVariants.{W9}
 use Rattle.gabc_places.specs.Code.{rank_of}
 use Rattle.gabc_places.specs.Findings.{StandsBefore, StandBehind, AreInOrder, IsUpTo, LieBetween}
-use Rattle.gabc_places.specs.Place.{next_place, place_past}
-
--- ---- places
-
--- p stands before q
-abbrev pub IsBefore : Place → Place → Type 0
-IsBefore p q = (p.line < q.line) ⊎ ((p.line ≡ q.line) × (p.column < q.column))
-
-pub up_to_self : (p : Place) → IsUpTo p p
-up_to_self p = inr (refl, omega arith)
-
-pub before_up_to : (p q : Place) → IsBefore p q → IsUpTo p q
-before_up_to p q (inl l) = inl l
-before_up_to p q (inr h) = (let l = h.1 in inr (h.0, omega arith))
-
-pub up_to_then : (p q r : Place) → IsUpTo p q → IsUpTo q r → IsUpTo p r
-up_to_then p q r (inl a) (inl b) = inl (omega arith)
-up_to_then p q r (inl a) (inr b) = (let e = b.0 in inl (omega arith))
-up_to_then p q r (inr a) (inl b) = (let e = a.0 in inl (omega arith))
-up_to_then p q r (inr a) (inr b) = (let d = a.0 in let e = b.0 in let l = a.1 in let m = b.1 in inr (omega arith, omega arith))
-
-pub before_then : (p q r : Place) → IsBefore p q → IsUpTo q r → IsBefore p r
-before_then p q r (inl a) (inl b) = inl (omega arith)
-before_then p q r (inl a) (inr b) = (let e = b.0 in inl (omega arith))
-before_then p q r (inr a) (inl b) = (let e = a.0 in inl (omega arith))
-before_then p q r (inr a) (inr b) = (let d = a.0 in let e = b.0 in let l = a.1 in let m = b.1 in inr (omega arith, omega arith))
-
-pub then_before : (p q r : Place) → IsUpTo p q → IsBefore q r → IsBefore p r
-then_before p q r (inl a) (inl b) = inl (omega arith)
-then_before p q r (inl a) (inr b) = (let e = b.0 in inl (omega arith))
-then_before p q r (inr a) (inl b) = (let e = a.0 in inl (omega arith))
-then_before p q r (inr a) (inr b) = (let d = a.0 in let e = b.0 in let l = a.1 in let m = b.1 in inr (omega arith, omega arith))
-
-pub next_behind : (p : Place) (c : ℕ) → IsBefore p (next_place p c)
-next_behind p c = by (c == 10)
-  where
-    by : (b : Bool) → IsBefore p (cond b (record { line = p.line + 1; column = 1 }) (record { line = p.line; column = p.column + 1 }))
-    by true = inl (omega arith)
-    by false = inr (refl, omega arith)
-
-pub past_up_to : (p : Place) (cs : List ℕ) → IsUpTo p (place_past p cs)
-past_up_to p [] = up_to_self p
-past_up_to p (c ∷ cs) = up_to_then p (next_place p c) (place_past (next_place p c) cs) (before_up_to p (next_place p c) (next_behind p c)) (past_up_to (next_place p c) cs)
-
-pub past_append : (p : Place) (cs ds : List ℕ) → place_past p (cs ++ ds) ≡ place_past (place_past p cs) ds
-past_append p [] ds = refl
-past_append p (c ∷ cs) ds = past_append (next_place p c) cs ds
+use Rattle.gabc_places.specs.PlacesInOrder.{IsEarlier}
 
 -- ---- lists of findings
 
@@ -94,22 +49,18 @@ pub before_append : (g : Finding) (fs gs : List Finding) → AllBefore g fs → 
 before_append g [] gs h k = k
 before_append g (f ∷ fs) gs h k = (h.0, before_append g fs gs h.1 k)
 
-stands : (f g : Finding) → IsBefore f.place g.place → StandsBefore f g
-stands f g (inl h) = inl h
-stands f g (inr h) = inr (h.0, inl h.1)
-
 -- findings up to q stand before one behind q
-pub all_before : (q : Place) (g : Finding) (fs : List Finding) → AllUpTo q fs → IsBefore q g.place → AllBefore g fs
+pub all_before : (q : Place) (g : Finding) (fs : List Finding) → AllUpTo q fs → IsEarlier q g.place → AllBefore g fs
 all_before q g [] h l = tt
-all_before q g (f ∷ fs) h l = (stands f g (then_before f.place q g.place h.0 l), all_before q g fs h.1 l)
+all_before q g (f ∷ fs) h l = (stands_before f g (then_before f.place q g.place h.0 l), all_before q g fs h.1 l)
 
-behind_one : (f : Finding) (fs gs : List Finding) (q r : Place) → IsUpTo f.place q → AllUpTo q fs → IsBefore q r → StandBehind f fs → AreInOrder gs → AllFrom r gs → StandBehind f (fs ++ gs)
+behind_one : (f : Finding) (fs gs : List Finding) (q r : Place) → IsUpTo f.place q → AllUpTo q fs → IsEarlier q r → StandBehind f fs → AreInOrder gs → AllFrom r gs → StandBehind f (fs ++ gs)
 behind_one f [] [] q r u h l s o k = tt
-behind_one f [] (g ∷ gs) q r u h l s o k = (stands f g (before_then f.place r g.place (then_before f.place q r u l) k.0), o)
+behind_one f [] (g ∷ gs) q r u h l s o k = (stands_before f g (before_then f.place r g.place (then_before f.place q r u l) k.0), o)
 behind_one f (x ∷ fs) gs q r u h l s o k = (s.0, behind_one x fs gs q r h.0 h.1 l s.1 o k)
 
 -- findings in order up to q, and findings in order from a place behind q on
-pub order_append : (fs gs : List Finding) (q r : Place) → AreInOrder fs → AllUpTo q fs → IsBefore q r → AreInOrder gs → AllFrom r gs → AreInOrder (fs ++ gs)
+pub order_append : (fs gs : List Finding) (q r : Place) → AreInOrder fs → AllUpTo q fs → IsEarlier q r → AreInOrder gs → AllFrom r gs → AreInOrder (fs ++ gs)
 order_append [] gs q r s h l o k = o
 order_append (f ∷ fs) gs q r s h l o k = behind_one f fs gs q r h.0 h.1 l s o k
 

@@ -1,48 +1,22 @@
--- The bytes of a regular syllable: blanks, a text, a `(`, and snippets with their marks.
-use Rattle.std.proofs.Common.{◌≡◌, ◌≢◌, ℕ, zero, suc, ◌+◌, ◌-◌, ◌<◌, ◌≤◌, List, [], ◌∷◌, ◌++◌, Bool, true, false, ◌&&◌, ◌==◌, length, take, drop, get_or, encode_utf8_all, refl, sym, ap, ap₂, subst, ◌∙◌, arith, append_assoc, append-nil, length-drop, IsUtf8, below_more}
-use Rattle.std.specs.List.{All, list_all}
+-- The bytes of a regular syllable: a gap, a text, a `(`, and snippets with their marks.
+use Rattle.std.proofs.Common.{◌≡◌, ◌≢◌, ℕ, zero, suc, ◌+◌, ◌-◌, ◌<◌, ◌≤◌, List, [], ◌∷◌, ◌++◌, false, length, take, drop, get_or, encode_utf8_all, Option, Some, None, refl, sym, ap, ap₂, subst, ◌∙◌, arith, append_assoc, append-nil, length-drop, IsUtf8, below_more}
+use Rattle.std.specs.List.{All}
 use Rattle.std.specs.Str.{chars, IsAscii, IsCharBoundary}
 use Rattle.std.specs.String.Boundary.{IsSplitPoint}
 use Rattle.std.proofs.Math.Seq.{take-add}
-use Rattle.std.proofs.lemmas.Bool.{eqb-true, true≢false}
 use Rattle.std.proofs.lemmas.List.{take_more, take_rest, drop_at, drop-take, get_or-drop, length-take-le}
 use Rattle.std.proofs.lemmas.List.Elements.{All-append, All-head, All-tail, All-cons, All-nil, All-more}
 use Rattle.std.proofs.lemmas.Str.{IsUtf8-append, IsUtf8-take, IsUtf8-drop, IsUtf8-nil, IsUtf8-from_ascii, IsCharBoundary-from_take, chars-append, chars-IsAscii, chars-nil, encodes-chars, encodes-append, encodes-IsAscii}
 use lib.Utf8.{encode}
 use Rattle.gabc_places.specs.TextOfAnInput.{IsPlain, IsText}
-use Rattle.gabc_text.specs.Token.{is_blank}
 use Rattle.gabc_text.specs.RegularText.{IsRegularText}
+use Rattle.gabc_score.specs.declared.regular.SpanMark.{SpanMark}
 use Rattle.gabc_score.specs.Events.{next_line}
 use Rattle.gabc_score.specs.RegularSyllable.{SyllableParts, IsRegularOn, AreRegularFrom, spelled, notes_spelled, gap_kept}
-use Rattle.gabc_score.specs.machine.RegularLen.{begins_mark, IsUnmarked, IsPlainByte, with_bars_after, SnippetsBefore, BeginsWithSnippets, BeginsRegularly}
-use Rattle.gabc_score.proofs.regular_syllables.UnmarkedSyllables.{blank_unmarked}
-
--- ---- blanks
-
-blank_is : (c : ℕ) → is_blank c ≡ true → (c < 128) × IsPlain c
-blank_is c h = by (32 == c) (9 == c) (10 == c) refl refl refl h
-  where
-    by : (x y z : Bool) → (32 == c) ≡ x → (9 == c) ≡ y → (10 == c) ≡ z → is_blank c ≡ true → (c < 128) × IsPlain c
-    by true y z e f g h = let i = eqb-true 32 c e in (omega arith, ((λ w. omega arith), (λ w. omega arith)))
-    by false true z e f g h = let i = eqb-true 9 c f in (omega arith, ((λ w. omega arith), (λ w. omega arith)))
-    by false false true e f g h = let i = eqb-true 10 c g in (omega arith, ((λ w. omega arith), (λ w. omega arith)))
-    by false false false e f g h = absurd (true≢false (sym h ∙ rw (e, f, g) refl))
-
-and_both : (x y : Bool) → (x && y) ≡ true → (x ≡ true) × (y ≡ true)
-and_both true true e = (refl, refl)
-and_both true false e = absurd (cc)
-and_both false y e = absurd (cc)
-
-blanks_ascii : (bs : List ℕ) → list_all is_blank bs ≡ true → (i : ℕ) → get_or bs i 0 < 128
-blanks_ascii [] h i = omega arith
-blanks_ascii (b ∷ bs) h zero = (blank_is b (and_both (is_blank b) (list_all is_blank bs) h).0).0
-blanks_ascii (b ∷ bs) h (suc i) = blanks_ascii bs (and_both (is_blank b) (list_all is_blank bs) h).1 i
-
-blanks_plain : (bs : List ℕ) → list_all is_blank bs ≡ true → All IsPlain bs
-blanks_plain [] h = All-nil IsPlain
-blanks_plain (b ∷ bs) h =
-    let f = and_both (is_blank b) (list_all is_blank bs) h in
-    All-cons IsPlain b bs (blank_is b f.0).1 (blanks_plain bs f.1)
+use Rattle.gabc_score.specs.machine.RegularLen.{begins_mark, begins_other, mark_at, BeginsWithTag, IsMarked, IsPlainByte, with_bars_after, SnippetsBefore, BeginsWithSnippets, BeginsRegularly, IsPlainGap}
+use Rattle.gabc_score.proofs.regular_syllables.RegularSyllableIsMade.{one_byte}
+use Rattle.gabc_score.proofs.regular_syllables.MarkedSyllables.{blank_only, blank_unmarked}
+use Rattle.gabc_score.proofs.regular_syllables.TagsOfTexts.{text_tagged}
 
 ascii_one : (c : ℕ) → c < 128 → (i : ℕ) → get_or (c ∷ []) i 0 < 128
 ascii_one c less zero = less
@@ -55,9 +29,9 @@ more_plain l n less h p =
     let same : n + 0 ≡ n = omega arith in
     All-more IsPlainByte l n 0 less h (subst IsPlainByte (ap (λ (t : List ℕ). get_or t 0 0) (take_rest l n) ∙ (get_or-drop n l 0 0 ∙ ap (λ (k : ℕ). get_or l k 0) same)) p)
 
-pub more_unmarked : (l : List ℕ) (n : ℕ) → ((k : ℕ) → k < n → begins_mark (drop k l) ≡ false) → begins_mark (take (length l - n) (drop n l)) ≡ false
-    → (k : ℕ) → k < n + 1 → begins_mark (drop k l) ≡ false
-more_unmarked l n h e = below_more (λ (k : ℕ). begins_mark (drop k l) ≡ false) n h (ap begins_mark (sym (take_rest l n)) ∙ e)
+pub more_only : (x : SpanMark) (l : List ℕ) (n : ℕ) → ((k : ℕ) → k < n → begins_other x (drop k l) ≡ false) → begins_other x (take (length l - n) (drop n l)) ≡ false
+    → (k : ℕ) → k < n + 1 → begins_other x (drop k l) ≡ false
+more_only x l n h e = below_more (λ (k : ℕ). begins_other x (drop k l) ≡ false) n h (ap (begins_other x) (sym (take_rest l n)) ∙ e)
 
 -- of bytes without a CR and without the first byte of U+FEFF the characters are plain
 plain_spelled : (t : List ℕ) → All IsPlainByte (encode_utf8_all t) → All IsPlain t
@@ -81,20 +55,20 @@ plain_spelled (c ∷ t) h = All-cons IsPlain c t (no_cr, no_mark) (plain_spelled
 -- ---- cuts
 
 -- a text may be cut after bytes that are a text
-cut_after : (text : List ℕ) (n : ℕ) → IsUtf8 text → n ≤ length text → IsUtf8 (take n text) → IsCharBoundary text n
+pub cut_after : (text : List ℕ) (n : ℕ) → IsUtf8 text → n ≤ length text → IsUtf8 (take n text) → IsCharBoundary text n
 cut_after text n u le v = IsCharBoundary-from_take text n u le v
 
 rest_utf8 : (text : List ℕ) (n : ℕ) → IsUtf8 text → n ≤ length text → IsUtf8 (take n text) → IsUtf8 (drop n text)
 rest_utf8 text n u le v = IsUtf8-drop text n u (cut_after text n u le v)
 
-split_utf8 : (text : List ℕ) (n : ℕ) → IsUtf8 text → IsSplitPoint text n → IsUtf8 (take n text)
+pub split_utf8 : (text : List ℕ) (n : ℕ) → IsUtf8 text → IsSplitPoint text n → IsUtf8 (take n text)
 split_utf8 text zero u cut = IsUtf8-nil
 split_utf8 text (suc n) u cut = IsUtf8-take text (suc n) u (cut.0, cut.1 (omega arith))
 
 split_at : (text : List ℕ) (n : ℕ) → IsCharBoundary text n → IsSplitPoint text n
 split_at text n cut = (cut.0, λ some. cut.1)
 
-one_utf8 : (c : ℕ) → c < 128 → IsUtf8 (c ∷ [])
+pub one_utf8 : (c : ℕ) → c < 128 → IsUtf8 (c ∷ [])
 one_utf8 c less = IsUtf8-from_ascii (c ∷ []) (ascii_one c less)
 
 one_chars : (c : ℕ) → c < 128 → chars (c ∷ []) ≡ c ∷ []
@@ -171,13 +145,13 @@ module _ (lines : ℕ) (text : List ℕ) (n line k : ℕ) (utf8 : IsUtf8 text) (
 
 -- ---- the syllable
 
--- Blanks, a regular text, a `(` and snippets are a regular syllable of these bytes, where the bytes
--- after the blanks are plain and no span mark stands among them.
-module _ (lines : ℕ) (text : List ℕ) (gap k : ℕ) (utf8 : IsUtf8 text) (within : gap ≤ length text) (blanks : list_all is_blank (take gap text) ≡ true)
+-- A gap, a regular text, a `(` and snippets are a regular syllable of these bytes, where the bytes
+-- after the gap are plain and no span mark stands among them but one with which they begin.
+module _ (lines : ℕ) (text : List ℕ) (gap k : ℕ) (utf8 : IsUtf8 text) (within : gap ≤ length text) (blanks : IsPlainGap (take gap text))
     (word : IsText (take k (drop gap text))) (regular : IsRegularText (chars (take k (drop gap text))))
     (less : gap + k < length text) (at : get_or text (gap + k) 0 ≡ 40) where
   gap_ascii : IsAscii (take gap text)
-  gap_ascii = blanks_ascii (take gap text) blanks
+  gap_ascii = blanks.ascii
 
   gap_utf8 : IsUtf8 (take gap text)
   gap_utf8 = IsUtf8-from_ascii (take gap text) gap_ascii
@@ -233,26 +207,36 @@ module _ (lines : ℕ) (text : List ℕ) (gap k : ℕ) (utf8 : IsUtf8 text) (wit
         let same : gap + (gap + k + 1 + m - gap) ≡ gap + k + 1 + m = omega arith in
         sym (drop-take gap (gap + k + 1 + m - gap) text) ∙ (ap (λ (n : ℕ). drop gap (take n text)) same ∙ rest_are)
 
-    kept_unmarked : (gap : List ℕ) → IsUnmarked (encode_utf8_all rest) → IsUnmarked (encode_utf8_all ((gap_kept gap ++ made.text) ++ 40 ∷ notes_spelled notes.nexts notes.final))
+    -- a blank before them is no mark
+    kept_marked : (o : Option SpanMark) (gap : List ℕ) → IsMarked o (encode_utf8_all rest) → IsMarked o (encode_utf8_all ((gap_kept gap ++ made.text) ++ 40 ∷ notes_spelled notes.nexts notes.final))
     unfolding encode
-    kept_unmarked [] none = none
-    kept_unmarked (c ∷ gap) none = blank_unmarked (encode_utf8_all rest) none
+    kept_marked o [] h = h
+    kept_marked None (c ∷ gap) h = blank_unmarked (encode_utf8_all rest) h
+    kept_marked (Some x) (c ∷ gap) h = blank_only x (encode_utf8_all rest) h
 
-    pub syllable_here : All IsPlainByte (take (gap + k + 1 + m - gap) (drop gap text)) → IsUnmarked (take (gap + k + 1 + m - gap) (drop gap text))
-        → BeginsRegularly lines text (record { gap = gap; len = gap + k + 1 + m })
-    syllable_here plain none = record {
+    word_is : encode_utf8_all rest ≡ take k (drop gap text) ++ 40 ∷ encode_utf8_all (notes_spelled notes.nexts notes.final)
+    word_is =
+        encodes-append made.text (40 ∷ notes_spelled notes.nexts notes.final)
+        ∙ ap₂ (λ (a b : List ℕ). a ++ b) (encodes-chars (take k (drop gap text)) word.utf8) (one_byte 40 (notes_spelled notes.nexts notes.final) (omega arith))
+
+    pub syllable_here : All IsPlainByte (take (gap + k + 1 + m - gap) (drop gap text)) → (let slice = take (gap + k + 1 + m - gap) (drop gap text) in IsMarked (mark_at slice) slice)
+        → BeginsRegularly lines text (record { gap = gap; opening = gap + k; len = gap + k + 1 + m })
+    syllable_here plain marked = record {
       syllable = made;
-      is_regular = record { blanks = blanks; text = regular; notes = notes.regular; single = notes.single };
+      is_regular = record { blanks = blanks.is; text = regular; notes = notes.regular; single = notes.single };
       some = omega arith;
       cut = split_at text (gap + k + 1 + m) (cut_after text (gap + k + 1 + m) utf8 fits all_utf8);
       cut_gap = split_at text gap (cut_after text gap utf8 within gap_utf8);
       is_text = record {
         utf8 = all_utf8;
         plain = subst (All IsPlain) (sym (all_chars ∙ spelled_is))
-            (All-append IsPlain (take gap text) rest (blanks_plain (take gap text) blanks) (plain_spelled rest (subst (All IsPlainByte) slice_is plain)));
+            (All-append IsPlain (take gap text) rest (blanks.plain) (plain_spelled rest (subst (All IsPlainByte) slice_is plain)));
       };
       characters_are = all_chars;
       gap_is = sym (length-take-le gap text within);
+      opening_is = (let e = ap (λ (l : List ℕ). length l) (encodes-chars (take k (drop gap text)) word.utf8) in let n = length-take-le k (drop gap text) (let l = length-drop gap text in omega (arith, l, less)) in omega (arith, e, n));
       rest_is = rest_are;
-      unmarked = kept_unmarked (take gap text) (subst IsUnmarked slice_is none);
+      tagged = subst (λ (b : List ℕ). BeginsWithTag (mark_at b) made.text) (sym (rest_are ∙ word_is)) (text_tagged (take k (drop gap text)) (encode_utf8_all (notes_spelled notes.nexts notes.final)));
+      marked = subst (λ (b : List ℕ). IsMarked (mark_at b) (encode_utf8_all ((gap_kept (take gap text) ++ made.text) ++ 40 ∷ notes_spelled notes.nexts notes.final))) (sym rest_are)
+          (kept_marked (mark_at (encode_utf8_all rest)) (take gap text) (subst (λ (b : List ℕ). IsMarked (mark_at b) b) slice_is marked));
     }

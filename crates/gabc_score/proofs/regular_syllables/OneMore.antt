@@ -1,5 +1,7 @@
 -- A score that holds one syllable at most reads another one, by the lists of its characters.
-use Rattle.std.proofs.Common.{◌≡◌, ℕ, zero, suc, ◌+◌, ◌-◌, ◌<◌, ◌≤◌, ◌||◌, not, nat_lt, Bool, true, false, List, [], ◌∷◌, ◌++◌, map, length, take, drop, Option, None, is_some, refl, sym, ap, subst, ◌∙◌, arith, append_assoc, append-nil}
+use Rattle.std.proofs.Common.{◌≡◌, ℕ, zero, suc, ◌+◌, ◌-◌, ◌<◌, ◌≤◌, ◌||◌, not, nat_lt, Bool, true, false, List, [], ◌∷◌, ◌++◌, map, length, take, drop, Option, Some, None, is_some, refl, sym, ap, subst, ◌∙◌, arith, append_assoc, append-nil}
+use Rattle.std.proofs.lemmas.Bool.{true≢false}
+use Rattle.std.proofs.lemmas.Bool.Decides.{nat_tests}
 use Rattle.gabc_places.specs.StageLaw.{concat_of}
 use Rattle.gabc_places.specs.Place.{saturating_next_place}
 use Rattle.gabc_places.specs.declared.code.Finding.{Finding}
@@ -16,6 +18,7 @@ use Rattle.gabc_notes.specs.declared.stage.NoteEnd.TheVariants as note_end
 use Rattle.gabc_notes.specs.declared.stage.NoteEvent.TheVariants as note
 use Rattle.gabc_score.specs.declared.events.BodyEvent.{BodyEvent}
 use Rattle.gabc_score.specs.declared.events.BodyEvent.TheVariants as event
+use Rattle.gabc_score.specs.Canonical.{placed_syllables_by}
 use Rattle.gabc_score.specs.NoteBeforeClef.{found_first}
 use Rattle.gabc_score.specs.ScoreEvents.{ScoreOutput, Syllable, findings_now, outputs_of}
 use Rattle.gabc_score.specs.Syllable.{UnplacedSyllable, PlacedSyllable}
@@ -27,8 +30,7 @@ use Rattle.gabc_score.proofs.building.EventsOfOnePoint.{with_all_append}
 use Rattle.gabc_score.proofs.order.FindingsOfParts.{found, found_append, found_onto}
 use Rattle.gabc_score.proofs.regular_syllables.PointsPass.{score_through, points_through, NoneStops}
 use Rattle.gabc_score.proofs.resuming.HeldIsRead.{none_passed}
-use Rattle.gabc_score.proofs.resuming.SameButHeld.{all_stay, not_first}
-use Rattle.gabc_score.proofs.score_events.QuietPoints.{few_dropped, few_given, few_lent}
+use Rattle.gabc_score.proofs.resuming.SameButHeld.{all_stay}
 
 -- ---- what was made before does not count
 
@@ -67,6 +69,23 @@ made_before es ps made g none some =
 
 -- ---- one syllable at most
 
+few_dropped : (ms : List UnplacedSyllable) → length ms ≤ 1 → drop (length ms - 1) ms ≡ ms
+few_dropped [] few = refl
+few_dropped (m ∷ []) few = refl
+few_dropped (m ∷ n ∷ ms) few = absurd (omega (arith, few))
+
+few_given : (first : Bool) (ms : List UnplacedSyllable) → length ms ≤ 1 → take (length ms - 1) (placed_syllables_by first ms) ≡ []
+few_given first [] few = refl
+few_given first (m ∷ []) few = refl
+few_given first (m ∷ n ∷ ms) few = absurd (omega (arith, few))
+
+few_lent : (has_lent : Bool) (ms : List UnplacedSyllable) → length ms ≤ 1 → (has_lent || nat_lt 1 (length ms)) ≡ has_lent
+few_lent has_lent ms few = by has_lent (nat_lt 1 (length ms)) (grind (arith, nat_tests, few))
+  where
+    by : (a b : Bool) → b ≡ false → (a || b) ≡ a
+    by true b e = refl
+    by false b e = e
+
 held_more : (ms : List UnplacedSyllable) (m : UnplacedSyllable) → length ms ≤ 1 → drop (length (ms ++ m ∷ []) - 1) (ms ++ m ∷ []) ≡ m ∷ []
 held_more [] m h = refl
 held_more (k ∷ []) m h = refl
@@ -82,6 +101,35 @@ count_more [] m h = refl
 count_more (k ∷ []) m h = refl
 count_more (k ∷ l ∷ ms) m h = absurd (omega (arith, h))
 
+-- ---- what comes first, a note or a clef
+
+none_is : (k : Option ItemKind) → is_some k ≡ false → k ≡ None
+none_is None e = refl
+none_is (Some k) e = absurd (true≢false e)
+
+-- what has come or not at the end has come or not at each point before
+pub stays_before : (es more : List BodyEvent) (g : Gathered) → is_some (with_all g (es ++ more)).first_kind ≡ is_some g.first_kind → (with_all g es).first_kind ≡ g.first_kind
+stays_before es more g same = by (is_some g.first_kind) refl
+  where
+    later : Gathered
+    later = with_all g es
+
+    -- one that came would be there at the end
+    none_comes : is_some g.first_kind ≡ false → (b : Bool) → is_some later.first_kind ≡ b → later.first_kind ≡ g.first_kind
+    none_comes none true e = absurd (true≢false (
+        sym (ap (λ (k : Option ItemKind). is_some k) (all_stay more later e) ∙ e)
+        ∙ ap (λ (h : Gathered). is_some h.first_kind) (sym (with_all_append g es more)) ∙ same ∙ none
+        ))
+    none_comes none false e = none_is later.first_kind e ∙ sym (none_is g.first_kind none)
+
+    by : (b : Bool) → is_some g.first_kind ≡ b → later.first_kind ≡ g.first_kind
+    by true e = all_stay es g e
+    by false e = none_comes e (is_some later.first_kind) refl
+
+not_found : (k : Option ItemKind) (p : Place) → found_first k k p ≡ []
+not_found None p = refl
+not_found (Some k) p = refl
+
 -- ---- what one syllable more gathers
 
 -- no limit is passed, whatever was made before
@@ -93,10 +141,10 @@ pub record Fits (limits : Limits) (g : Gathered) : Type 0 where
 fits_any : (limits : Limits) (g : Gathered) (ms : List UnplacedSyllable) → Fits limits g → code_in limits (record g { made = ms }) ≡ None
 fits_any limits g ms f = none_passed limits (record g { made = ms }) (record { kept = f.kept; over = f.over; file = λ some. f.total })
 
--- With the last of these lists one syllable is made. Nothing is found, and no limit is passed.
+-- With the last of these lists one syllable is made. Nothing is found, no limit is passed, and where neither a note nor a clef has come, none comes.
 pub record Gathers (limits : Limits) (g : Gathered) (lists : List (List BodyEvent)) (m : UnplacedSyllable) : Type 0 where
   pub none : g.made ≡ []
-  pub sounded : is_some g.first_kind ≡ true
+  pub sounded : is_some (with_all g (concat_of lists)).first_kind ≡ is_some g.first_kind
   pub earlier : (n : ℕ) → n < length lists → (with_all g (concat_of (take n lists))).made ≡ []
   pub made : (with_all g (concat_of lists)).made ≡ m ∷ []
   pub fits : (n : ℕ) → n < length lists → Fits limits (with_all g (concat_of (take (suc n) lists)))
@@ -112,10 +160,14 @@ module _ (limits : Limits) (g : Gathered) (now : List BodyEvent) (lists : List (
   fits_now : Fits limits (with_all g now)
   fits_now = subst (Fits limits) (with_all_append g now []) (a.fits zero (omega arith))
 
+  -- a note or a clef has come then if it has come before
+  stays_now : (with_all g now).first_kind ≡ g.first_kind
+  stays_now = stays_before now (concat_of lists) g a.sounded
+
   later : 0 < length lists → Gathers limits (with_all g now) lists m
   later some = record {
     none = ap (λ (h : Gathered). h.made) (sym (with_all_append g now [])) ∙ a.earlier 1 (omega (arith, some));
-    sounded = ap (λ (k : Option ItemKind). is_some k) (all_stay now g a.sounded) ∙ a.sounded;
+    sounded = ap (λ (h : Gathered). is_some h.first_kind) (sym (with_all_append g now (concat_of lists))) ∙ a.sounded ∙ ap (λ (k : Option ItemKind). is_some k) (sym stays_now);
     earlier = λ n h. ap (λ (h : Gathered). h.made) (sym (with_all_append g now (concat_of (take n lists)))) ∙ a.earlier (suc n) (omega (arith, h));
     made = ap (λ (h : Gathered). h.made) (sym (with_all_append g now (concat_of lists))) ∙ a.made;
     fits = λ n h. subst (Fits limits) (with_all_append g now (concat_of (take (suc n) lists))) (a.fits (suc n) (omega (arith, h)));
@@ -158,8 +210,10 @@ module _ (limits : Limits) (lent : Bool) (ms : List UnplacedSyllable) (few : len
     goes_on made e = ap (code_in limits) (made_before now ms made g a.none e) ∙ fits_any limits (with_all g now) (ms ++ made) (fits_now limits g now lists m a)
 
     -- nothing is found
-    found_none : (k : _) → findings_now now ++ found_first g.first_kind k x.place ≡ []
-    found_none k = ap (λ (fs : List Finding). fs ++ found_first g.first_kind k x.place) (nothing_now limits g now lists m a) ∙ not_first g.first_kind k x.place a.sounded
+    found_none : findings_now now ++ found_first g.first_kind (with_all g now).first_kind x.place ≡ []
+    found_none =
+        ap (λ (fs : List Finding). fs ++ found_first g.first_kind (with_all g now).first_kind x.place) (nothing_now limits g now lists m a)
+        ∙ ap (λ (k : Option ItemKind). found_first g.first_kind k x.place) (stays_now limits g now lists m a) ∙ not_found g.first_kind x.place
 
     -- a character with which none is made
     module _ (none : (with_all g now).made ≡ []) where
@@ -175,7 +229,7 @@ module _ (limits : Limits) (lent : Bool) (ms : List UnplacedSyllable) (few : len
       early_outputs : point_outputs s x now ≡ []
       early_outputs =
           ap outputs_by early_is
-          ∙ ap (λ (fs : List Finding). outputs_of fs (take (length ms - 1) (placed_behind lent ms))) (found_none (with_all g now).first_kind)
+          ∙ ap (λ (fs : List Finding). outputs_of fs (take (length ms - 1) (placed_behind lent ms))) found_none
           ∙ ap (λ (ss : List PlacedSyllable). outputs_of [] ss) (few_given (not lent) ms few)
 
     -- the last one
@@ -192,7 +246,7 @@ module _ (limits : Limits) (lent : Bool) (ms : List UnplacedSyllable) (few : len
       last_outputs : point_outputs s x now ≡ map (λ (s : PlacedSyllable). Syllable s) (take (length ms) (placed_behind lent (ms ++ m ∷ [])))
       last_outputs =
           ap outputs_by last_is
-          ∙ ap (λ (fs : List Finding). outputs_of fs (take (length (ms ++ m ∷ []) - 1) (placed_behind lent (ms ++ m ∷ [])))) (found_none (with_all g now).first_kind)
+          ∙ ap (λ (fs : List Finding). outputs_of fs (take (length (ms ++ m ∷ []) - 1) (placed_behind lent (ms ++ m ∷ [])))) found_none
           ∙ ap (λ (n : ℕ). outputs_of [] (take n (placed_behind lent (ms ++ m ∷ [])))) (count_more ms m few)
 
   pub one_passes : (next : Place) (g : Gathered) (us : List Char) (lists : List (List BodyEvent)) (m : UnplacedSyllable) → length us ≡ length lists → Gathers limits g lists m

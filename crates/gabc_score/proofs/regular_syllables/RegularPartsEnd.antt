@@ -1,11 +1,15 @@
 -- Regular texts and snippets end at their marks, and nothing is found in them.
-use Rattle.std.proofs.Common.{◌≡◌, ◌⊎◌, inl, inr, ℕ, zero, suc, ◌+◌, ◌==◌, nat_lt, Bool, true, false, if◌then◌else◌, List, [], ◌∷◌, ◌++◌, length, take, drop, Option, Some, None, refl, sym, ap, subst, ◌∙◌, arith, append_assoc, append-nil, length-append, take-append-drop}
+use Rattle.std.proofs.Common.{◌≡◌, ◌⊎◌, inl, inr, ℕ, zero, suc, ◌+◌, nat_lt, Bool, true, if◌then◌else◌, List, [], ◌∷◌, ◌++◌, length, take, drop, Option, Some, None, refl, sym, ap, subst, ◌∙◌, arith, append_assoc, append-nil, length-append, take-append-drop}
 use Rattle.std.specs.List.{list_any}
+use Rattle.gabc_text.proofs.order.FindingsLieWithin.{found_more}
 use Rattle.gabc_places.specs.StageLaw.{concat_of}
 use Rattle.gabc_places.specs.declared.place.Place.{Place}
 use Rattle.gabc_places.specs.declared.place.Char.{Char}
 use Rattle.gabc_places.specs.Place.{placed_characters_from}
 use Rattle.gabc_places.proofs.PlacesOfAText.{placed_append}
+use Rattle.gabc_places.proofs.PushesAreOne.{joined-append}
+use Rattle.gabc_places.proofs.NothingBehindAnEnd.{both_empty}
+use Rattle.gabc_places.proofs.NumbersByTests.{suc_eqb}
 use Rattle.gabc_text.specs.declared.text_event.TextEnd.{TextEnd}
 use Rattle.gabc_text.specs.declared.text_event.TextEnd.TheVariants as text_end
 use Rattle.gabc_text.specs.declared.text_event.TextEvent.{TextEvent}
@@ -26,12 +30,8 @@ use Rattle.gabc_score.specs.Events.{InText, InNotes, is_next, is_close, next_lin
 use Rattle.gabc_score.specs.FoundInParts.{snippet_events}
 use Rattle.gabc_score.specs.RegularSyllable.{IsRegularOn, ended_at}
 use Rattle.gabc_score.specs.Units.{Mark, Opens, Next, Closes, events_through, EndsBehind}
-use Rattle.gabc_score.proofs.order.FindingsOfParts.{found, joined_append, text_found_append, text_through, snippet_through}
+use Rattle.gabc_score.proofs.order.FindingsOfParts.{found, text_through, snippet_through}
 use Rattle.gabc_score.proofs.texts_of_body.TextEmitsThroughEnd.{any_after, none_ends, ends_apart, length_of_codes, codes_append}
-
-front_none : {X : Type 0} (xs ys : List X) → xs ++ ys ≡ [] → xs ≡ []
-front_none [] ys e = refl
-front_none (x ∷ xs) ys e = absurd (cc)
 
 -- ---- texts
 
@@ -78,8 +78,8 @@ pub text_none : (lists : List (List TextEvent)) (xs : List Char) → found_in (c
 text_none lists xs h =
     let n = suc (length xs) in
     text_through lists xs
-    ∙ front_none (found_in (concat_of (take n lists))) (found_in (concat_of (drop n lists)))
-    (sym (ap found_in (ap concat_of (sym (take-append-drop n lists)) ∙ joined_append (take n lists) (drop n lists)) ∙ text_found_append (concat_of (take n lists)) (concat_of (drop n lists))) ∙ h)
+    ∙ (both_empty (found_in (concat_of (take n lists))) (found_in (concat_of (drop n lists)))
+    (sym (ap found_in (ap concat_of (sym (take-append-drop n lists)) ∙ joined-append (take n lists) (drop n lists)) ∙ found_more (concat_of (take n lists)) (concat_of (drop n lists))) ∙ h)).0
 
 -- ---- snippets
 
@@ -122,17 +122,11 @@ module _ (lines line : ℕ) (opened : Place) where
     notes_ends lists prefix how n k (tail_same l (note.Kept x ∷ []) (take (suc (length prefix)) lists) (through_end prefix how n) h),
   )
 
-not_zero : (n : ℕ) → (suc n == 0) ≡ false
-not_zero n = grind arith
-
 -- a mark of a snippet is its end's
 abbrev pub code_of : NoteEnd → ℕ
 code_of note_end.Next = 124
 code_of note_end.Close = 41
 code_of (note_end.Cut place) = 41
-
-take_more : {X : Type 0} (n m : ℕ) (xs ys : List X) → n ≡ m → take m xs ≡ ys → take n xs ≡ ys
-take_more n m xs ys e h = ap (λ k. take k xs) e ∙ h
 
 module _ (gabc_prefix : (split : Bool) (macros : ℕ) (xs ys zs : List Char) → take (length xs) (note_events split macros (xs ++ ys)) ≡ take (length xs) (note_events split macros (xs ++ zs)))
     (nabc_prefix : (xs ys zs : List Char) → take (length xs) (nabc_events (xs ++ ys)) ≡ take (length xs) (nabc_events (xs ++ zs))) (lines macros : ℕ) where
@@ -173,7 +167,7 @@ module _ (gabc_prefix : (split : Bool) (macros : ℕ) (xs ys zs : List Char) →
   read_through (suc line) at t how rest r m k = record {
     bytes = _;
     events_are = (let e = ended_at at t (code_of how) in
-        ap (λ b. take (suc (length e.characters)) (if b then note_events (nat_lt 0 lines) macros (e.characters ++ e.end ∷ rest) else nabc_events (e.characters ++ e.end ∷ rest))) (not_zero line))
+        ap (λ b. take (suc (length e.characters)) (if b then note_events (nat_lt 0 lines) macros (e.characters ++ e.end ∷ rest) else nabc_events (e.characters ++ e.end ∷ rest))) (suc_eqb line))
         ∙ alone (λ xs. nabc_events xs) (λ xs ys zs. nabc_prefix xs ys zs) at t how _ rest (r.events at how (code_of how) k);
   }
 

@@ -1,10 +1,11 @@
 -- A regular syllable makes its own spelling.
-use Rattle.std.proofs.Common.{◌≡◌, ◌⊎◌, inr, ℕ, zero, suc, ◌+◌, ◌<◌, ◌^◌, ◌%◌, nat_lt, Bool, true, false, cond, List, [], ◌∷◌, ◌++◌, map, length, take, take_at, Option, Some, None, refl, sym, ap, subst, ◌∙◌, arith, append_assoc, append-nil, length-append, codes}
-use Rattle.std.specs.List.{list_all, flat_map}
+use Rattle.std.proofs.Common.{◌≡◌, ◌⊎◌, inr, ℕ, zero, suc, ◌+◌, ◌<◌, ◌^◌, ◌%◌, nat_lt, Bool, true, false, cond, List, [], ◌∷◌, ◌++◌, map, length, take, take_at, Option, Some, None, refl, sym, ap, ap₂, subst, ◌∙◌, arith, append_assoc, append-nil, length-append, codes}
+use Rattle.std.specs.List.{flat_map}
 use Rattle.std.proofs.Math.Nat.{mod-eq_of_lt}
 use Rattle.std.proofs.Math.Numerals.{add-one}
 use Rattle.std.proofs.lemmas.Str.{encodes-append, encode_ascii}
 use lib.Utf8.{encodes}
+use Rattle.gabc_text.proofs.KeptCharacters.{codes_placed}
 use Rattle.gabc_places.specs.StageLaw.{concat_of}
 use Rattle.gabc_places.specs.declared.code.Finding.{Finding}
 use Rattle.gabc_places.specs.declared.place.Place.{Place}
@@ -13,8 +14,7 @@ use Rattle.gabc_places.specs.declared.place.Char.{Char}
 use Rattle.gabc_places.specs.Place.{placed_characters_from}
 use Rattle.gabc_patterns.specs.LongestItems.{IsSnippet}
 use Rattle.gabc_patterns.specs.Function.{trim}
-use Rattle.gabc_text.specs.Token.{is_blank}
-use Rattle.gabc_text.specs.RegularText.{IsRegularText}
+use Rattle.gabc_text.specs.RegularText.{IsRegularText, is_gap}
 use Rattle.gabc_text.specs.BuiltText.{with_events, empty_text, text_built_at, found_in}
 use Rattle.gabc_text.specs.Canonical.{canonical_text, span_bytes}
 use Rattle.gabc_text.specs.Ends.{EndsOnce}
@@ -39,15 +39,15 @@ use Rattle.gabc_score.specs.Body.{findings_of}
 use Rattle.gabc_score.specs.Canonical.{canonical, translation_text, with_bars}
 use Rattle.gabc_score.specs.Events.{texts_by_definition, text_from, snippet_from, next_line}
 use Rattle.gabc_score.specs.Holding.{ReadSnippet, kept_on_line, in_brackets, IsHeld}
-use Rattle.gabc_score.specs.RegularSyllable.{SyllableParts, IsRegularOn, AreRegularFrom, IsRegularSyllable, has_gap, gap_kept, kept_spelled, canonical_spelled, notes_spelled, spelled, after_part, nexts_at, final_at, unit_at}
+use Rattle.gabc_score.specs.RegularSyllable.{SyllableParts, line_and_text, snippet_texts, with_lines, IsRegularOn, AreRegularFrom, IsRegularSyllable, has_gap, gap_kept, kept_spelled, canonical_spelled, notes_spelled, spelled, after_part, nexts_at, final_at, unit_at}
 use Rattle.gabc_score.specs.Syllable.{UnplacedSyllable, since_close, slice}
 use Rattle.gabc_score.specs.SyllablesOfUnits.{HoldsUnit, NotesAre, ScoreUnit, score_unit, characters_in, characters_from}
 use Rattle.gabc_score.specs.UnitRead.{GivesOneSyllable, first_events, emitted_through}
 use Rattle.gabc_score.specs.Units.{Closes, EndedPart, BodyUnit, JustText, CutPart, Cuts, cut_part, whole, snippets_with, units_pieces}
 use Rattle.gabc_score.proofs.holding.SnippetsAreHeld.{bytes_stand, next_turn}
+use Rattle.gabc_score.proofs.holding.SpansBetweenCharacters.{part_text}
 use Rattle.gabc_score.proofs.order.FindingsOfParts.{found, found_onto}
 use Rattle.gabc_score.proofs.regular_syllables.RegularPartsEnd.{head_same, tail_same, next_ends, close_ends}
-use Rattle.gabc_score.proofs.texts_of_body.StageAndDefinitionAgree.{codes_placed}
 use Rattle.gabc_score.proofs.regular_syllables.RegularSyllableIsRead.{notes_at, unit_placed, syllable_passes, text_there, split_of, splits}
 use Rattle.gabc_score.proofs.syllables_of_units.UnitGivesOneSyllable.{one_syllable}
 use Rattle.gabc_score.proofs.syllables_of_units.UnitsGiveSyllables.{units_whole}
@@ -113,6 +113,27 @@ have_bytes lines all text before [] h = tt
 have_bytes lines all text before (s ∷ ss) h =
     (bytes_stand all s.snippet.span s.kept (h before ss s refl).stands, have_bytes lines all text (before ++ s ∷ []) ss (λ b a z e. h b a z (sym (append_assoc before (s ∷ []) ss) ∙ e)))
 
+on_line : (lines : ℕ) (all text : List ℕ) (before : List ReadSnippet) (s : ReadSnippet) (line : ℕ) (t : List ℕ) → line ≡ length before % (lines + 1) → IsHeld lines all text before s → s.kept ≡ t
+    → line_and_text (encodes all) s.snippet ≡ (line, encodes t)
+on_line lines all text before s line t l h e =
+    ap₂ (λ (n : ℕ) (bytes : List ℕ). (n, bytes)) (h.line_is ∙ sym l)
+    (part_text all s.snippet.span s.kept h.stands ∙ bytes_stand all s.snippet.span s.kept h.stands ∙ ap encodes e)
+
+-- each snippet stands on the line whose turn it is
+on_lines : (lines : ℕ) (all text : List ℕ) (nexts : List (List ℕ)) (final : List ℕ) (line : ℕ) (before ss : List ReadSnippet) → line ≡ length before % (lines + 1) → kept_texts ss ≡ nexts ++ final ∷ []
+    → ((b a : List ReadSnippet) (s : ReadSnippet) → before ++ ss ≡ b ++ s ∷ a → IsHeld lines all text b s)
+    → map (line_and_text (encodes all)) (map (λ (s : ReadSnippet). s.snippet) ss) ≡ with_lines lines line nexts final
+on_lines lines all text nexts final line before [] l e h = absurd (not_none nexts final (sym e))
+on_lines lines all text [] final line before (s ∷ z ∷ ss) l e h = absurd (let k = tail_same s.kept final (kept_texts (z ∷ ss)) [] e in cc)
+on_lines lines all text [] final line before (s ∷ []) l e h =
+    ap (λ (t : ℕ × List ℕ). t ∷ []) (on_line lines all text before s line final l (h before [] s refl) (head_same s.kept final [] [] e))
+on_lines lines all text (t ∷ nexts) final line before (s ∷ ss) l e h =
+    ap₂ (λ (x : ℕ × List ℕ) (xs : List (ℕ × List ℕ)). x ∷ xs)
+    (on_line lines all text before s line t l (h before ss s refl) (head_same s.kept t (kept_texts ss) (nexts ++ final ∷ []) e))
+    (on_lines lines all text nexts final (next_line lines line) (before ++ s ∷ []) ss
+    (ap (next_line lines) l ∙ next_turn lines (length before) ∙ ap (λ (m : ℕ). m % (lines + 1)) (sym (length-append before (s ∷ []) ∙ add-one (length before))))
+    (tail_same s.kept t (kept_texts ss) (nexts ++ final ∷ []) e) (λ b a z k. h b a z (sym (append_assoc before (s ∷ []) ss) ∙ k)))
+
 module _ (gabc_again : (split : Bool) (macros : ℕ) (at : Place) (how : NoteEnd) (t rest : List ℕ) (mark : ℕ) → IsSnippet gabc t → IsMarkOf split how mark → IsReadAgain split macros at t mark rest)
     (nabc_again : (at : Place) (how : NoteEnd) (t rest : List ℕ) (mark : ℕ) → IsSnippet nabc t → IsMarkOf true how mark → IsNabcReadAgain at t mark rest) (lines : ℕ) where
   -- a regular snippet is kept as it stands
@@ -147,21 +168,21 @@ module _ (gabc_again : (split : Bool) (macros : ℕ) (at : Place) (how : NoteEnd
 -- ---- the text as it stands
 
 module _ (kept_alone : (t rest : List ℕ) → IsRegularText t → kept (t ++ 40 ∷ rest) ≡ t)
-    (kept_behind : (b : ℕ) (gap t rest : List ℕ) → list_all is_blank (b ∷ gap) ≡ true → IsRegularText t → kept (b ∷ gap ++ (t ++ 40 ∷ rest)) ≡ 32 ∷ t) where
-  pub text_kept : (gap t rest : List ℕ) → list_all is_blank gap ≡ true → IsRegularText t → kept ((gap ++ t) ++ 40 ∷ rest) ≡ gap_kept gap ++ t
+    (kept_behind : (b : ℕ) (gap t rest : List ℕ) → is_gap (b ∷ gap) ≡ true → IsRegularText t → kept (b ∷ gap ++ (t ++ 40 ∷ rest)) ≡ 32 ∷ t) where
+  pub text_kept : (gap t rest : List ℕ) → is_gap gap ≡ true → IsRegularText t → kept ((gap ++ t) ++ 40 ∷ rest) ≡ gap_kept gap ++ t
   text_kept [] t rest b r = kept_alone t rest r
   text_kept (c ∷ gap) t rest b r = ap kept (append_assoc (c ∷ gap) t (40 ∷ rest)) ∙ kept_behind c gap t rest b r
 
 module _ (starts : (t : List ℕ) → (view_in t).word_start ≡ (view_facts t).word_start)
     (spanned : (text : List ℕ) (span : Span) (part : List ℕ) → StandsFor text span part → span_bytes (encodes text) span ≡ encodes part)
     (says_alone : (t rest : List ℕ) → IsRegularText t → view_facts (t ++ 40 ∷ rest) ≡ view_facts t)
-    (says_behind : (b : ℕ) (gap t rest : List ℕ) → list_all is_blank (b ∷ gap) ≡ true → IsRegularText t → view_facts (b ∷ gap ++ (t ++ 40 ∷ rest)) ≡ record (view_facts t) { word_start = true })
+    (says_behind : (b : ℕ) (gap t rest : List ℕ) → is_gap (b ∷ gap) ≡ true → IsRegularText t → view_facts (b ∷ gap ++ (t ++ 40 ∷ rest)) ≡ record (view_facts t) { word_start = true })
     (kept_alone : (t rest : List ℕ) → IsRegularText t → kept (t ++ 40 ∷ rest) ≡ t)
-    (kept_behind : (b : ℕ) (gap t rest : List ℕ) → list_all is_blank (b ∷ gap) ≡ true → IsRegularText t → kept (b ∷ gap ++ (t ++ 40 ∷ rest)) ≡ 32 ∷ t)
+    (kept_behind : (b : ℕ) (gap t rest : List ℕ) → is_gap (b ∷ gap) ≡ true → IsRegularText t → kept (b ∷ gap ++ (t ++ 40 ∷ rest)) ≡ 32 ∷ t)
     (printed_alone : (whole t rest : List ℕ) → IsRegularText t → (let all = t ++ 40 ∷ rest in StandsForView whole (view_in all) all → printed_view (view_in all) (encodes whole) ≡ encodes t))
-    (printed_behind : (whole : List ℕ) (b : ℕ) (gap t rest : List ℕ) → list_all is_blank (b ∷ gap) ≡ true → IsRegularText t
+    (printed_behind : (whole : List ℕ) (b : ℕ) (gap t rest : List ℕ) → is_gap (b ∷ gap) ≡ true → IsRegularText t
     → (let all = b ∷ gap ++ (t ++ 40 ∷ rest) in StandsForView whole (view_in all) all → printed_view (view_in all) (encodes whole) ≡ encodes (10 ∷ t))) where
-  text_starts : (gap t rest : List ℕ) → list_all is_blank gap ≡ true → IsRegularText t → (view_in ((gap ++ t) ++ 40 ∷ rest)).word_start ≡ has_gap gap
+  text_starts : (gap t rest : List ℕ) → is_gap gap ≡ true → IsRegularText t → (view_in ((gap ++ t) ++ 40 ∷ rest)).word_start ≡ has_gap gap
   text_starts [] t rest b r = starts (t ++ 40 ∷ rest) ∙ ap (λ v. v.word_start) (says_alone t rest r) ∙ r.no_start
   text_starts (c ∷ gap) t rest b r =
       starts ((c ∷ gap ++ t) ++ 40 ∷ rest) ∙ ap (λ (u : List ℕ). (view_facts u).word_start) (append_assoc (c ∷ gap) t (40 ∷ rest)) ∙ ap (λ v. v.word_start) (says_behind c gap t rest b r)
@@ -172,7 +193,7 @@ module _ (starts : (t : List ℕ) → (view_in t).word_start ≡ (view_facts t).
   translations all (Some span) (Some part) h = ap (λ (bs : List ℕ). codes "[" ++ (bs ++ codes "]")) (spanned all span part h ∙ sym (bytes_stand all span part h))
 
   -- an LF where it begins a word, and its bytes
-  view_printed : (all gap t rest : List ℕ) → list_all is_blank gap ≡ true → IsRegularText t
+  view_printed : (all gap t rest : List ℕ) → is_gap gap ≡ true → IsRegularText t
       → (let u = (gap ++ t) ++ 40 ∷ rest in StandsForView all (view_in u) u → canonical_text (view_in u) (encodes all) ++ printed_translation (encodes all) (view_in u).translation ≡ encodes t)
   view_printed all [] t rest b r h =
       let u = t ++ 40 ∷ rest in
@@ -188,7 +209,7 @@ module _ (starts : (t : List ℕ) → (view_in t).word_start ≡ (view_facts t).
       ∙ ap (λ (k : List ℕ). printed_view (view_in k) (encodes all)) same
       ∙ printed_behind all c gap t rest b r (subst (λ (k : List ℕ). StandsForView all (view_in k) k) same h) ∙ one_byte 10 t (omega arith))
 
-  text_printed : (all gap t rest : List ℕ) → list_all is_blank gap ≡ true → IsRegularText t
+  text_printed : (all gap t rest : List ℕ) → is_gap gap ≡ true → IsRegularText t
       → (let u = (gap ++ t) ++ 40 ∷ rest in StandsForView all (view_in u) u → canonical_text (view_in u) (encodes all) ++ translation_text (encodes all) (view_in u).translation ≡ encodes t)
   text_printed all gap t rest b r h =
       let u = (gap ++ t) ++ 40 ∷ rest in
@@ -223,6 +244,8 @@ module _ (starts : (t : List ℕ) → (view_in t).word_start ≡ (view_facts t).
       pub kept_is : m.kept ≡ encodes (kept_spelled r)
       pub starts_is : m.text.word_start ≡ has_gap r.gap
       pub canonical_is : (w : Bool) → canonical w m ≡ encodes (canonical_spelled w r)
+      pub text_is : canonical_text m.text m.kept ++ translation_text m.kept m.text.translation ≡ encodes r.text
+      pub snippets_are : snippet_texts m ≡ with_lines lines 0 r.nexts r.final
 
     pub held_spelled : (m : UnplacedSyllable) → HoldsUnit lines u m → Spelled m
     held_spelled m h = by u.snippets refl h.notes
@@ -253,6 +276,9 @@ module _ (starts : (t : List ℕ) → (view_in t).word_start ≡ (view_facts t).
             record {
               kept_is = h.kept_is ∙ ap encodes whole_is;
               starts_is = ap (λ (v : ViewContent). v.word_start) text_is ∙ text_starts r.gap r.text notes regular.blanks regular.text;
+              text_is = spelled_text;
+              snippets_are = ap (λ (bytes : List ℕ). map (line_and_text bytes) m.snippets) h.kept_is ∙ ap (map (line_and_text (encodes h.whole))) k.snippets_are
+                  ∙ on_lines lines h.whole (kept u.text) r.nexts r.final 0 [] ss (sym (mod-eq_of_lt (let some : zero < lines + 1 = omega arith in some))) kepts k.each;
               canonical_is = λ w. canonical_by w (canonical_text m.text m.kept) (translation_text m.kept m.text.translation) r.text notes (with_bars m.kept m.snippets) spelled_text spelled_bars;
             }
 
@@ -276,8 +302,8 @@ module _ (gabc_prefix : (split : Bool) (macros : ℕ) (xs ys zs : List Char) →
       (all_found : (at : Place) (t : List ℕ) → found_in (concat_of (events_by_point at t)) ≡ findings at t)
       (found_alone : (at : Place) (t rest : List ℕ) → IsRegularText t → findings at (t ++ 40 ∷ rest) ≡ [])
       (ends_alone : (t rest : List ℕ) → IsRegularText t → after_tokens (t ++ 40 ∷ rest) ≡ 40 ∷ rest)
-      (found_behind : (at : Place) (b : ℕ) (gap t rest : List ℕ) → list_all is_blank (b ∷ gap) ≡ true → IsRegularText t → findings at (b ∷ gap ++ (t ++ 40 ∷ rest)) ≡ [])
-      (ends_behind : (b : ℕ) (gap t rest : List ℕ) → list_all is_blank (b ∷ gap) ≡ true → IsRegularText t → after_tokens (b ∷ gap ++ (t ++ 40 ∷ rest)) ≡ 40 ∷ rest)
+      (found_behind : (at : Place) (b : ℕ) (gap t rest : List ℕ) → is_gap (b ∷ gap) ≡ true → IsRegularText t → findings at (b ∷ gap ++ (t ++ 40 ∷ rest)) ≡ [])
+      (ends_behind : (b : ℕ) (gap t rest : List ℕ) → is_gap (b ∷ gap) ≡ true → IsRegularText t → after_tokens (b ∷ gap ++ (t ++ 40 ∷ rest)) ≡ 40 ∷ rest)
       (at : Place) (r : SyllableParts) (regular : IsRegularSyllable lines r) where
     abbrev unit : BodyUnit
     unit = unit_at at r

@@ -1,14 +1,14 @@
 -- A regular syllable is read as it stands.
 use Rattle.std.proofs.Common.{◌≡◌, ◌⊎◌, inl, inr, ℕ, zero, suc, ◌+◌, nat_lt, Bool, true, List, [], ◌∷◌, ◌++◌, length, refl, sym, ap, subst, ◌∙◌, arith, append_assoc, length-append, take}
-use Rattle.std.specs.List.{list_all}
+use Rattle.gabc_text.proofs.KeptCharacters.{codes_placed}
 use Rattle.gabc_places.specs.StageLaw.{concat_of}
 use Rattle.gabc_places.specs.declared.place.Place.{Place}
 use Rattle.gabc_places.specs.declared.place.Char.{Char}
 use Rattle.gabc_places.specs.declared.code.Finding.{Finding}
 use Rattle.gabc_places.specs.Place.{place_past, placed_characters_from}
 use Rattle.gabc_places.proofs.PlacesOfAText.{length_placed, placed_append}
-use Rattle.gabc_text.specs.Token.{is_blank}
-use Rattle.gabc_text.specs.RegularText.{IsRegularText}
+use Rattle.gabc_places.proofs.PushesAreOne.{joined-append}
+use Rattle.gabc_text.specs.RegularText.{IsRegularText, is_gap}
 use Rattle.gabc_text.specs.BuiltText.{found_in}
 use Rattle.gabc_text.specs.Ends.{EndsOnce}
 use Rattle.gabc_text.specs.Events.{codes_of, events_by_point, after_tokens}
@@ -20,9 +20,8 @@ use Rattle.gabc_score.specs.Events.{PartAhead, texts_by_definition, text_from, s
 use Rattle.gabc_score.specs.RegularSyllable.{SyllableParts, IsRegularSyllable, AreRegularFrom, IsReadAsItStands, notes_spelled, spelled, ended_at, after_part, nexts_at, final_at, unit_at}
 use Rattle.gabc_score.specs.SyllablesOfUnits.{with_ends, characters_in}
 use Rattle.gabc_score.specs.Units.{Opens, Next, Closes, EndedPart, events_through, EndsBehind}
-use Rattle.gabc_score.proofs.order.FindingsOfParts.{found, found_append, found_onto, joined_append}
+use Rattle.gabc_score.proofs.order.FindingsOfParts.{found, found_append, found_onto}
 use Rattle.gabc_score.proofs.regular_syllables.RegularPartsEnd.{text_ends, text_none, next_ends, close_ends}
-use Rattle.gabc_score.proofs.texts_of_body.StageAndDefinitionAgree.{codes_placed}
 use Rattle.gabc_score.proofs.stopped_scores.PrefixesAreReadAlike.{through_length}
 use Rattle.gabc_score.proofs.texts_of_body.TextEmitsThroughEnd.{codes_append}
 use Rattle.gabc_score.proofs.units.BodyHasOneCutting.{ends_emitted}
@@ -58,7 +57,7 @@ pub record Passes (n : ℕ) (all later : List (List BodyEvent)) : Type 0 where
   pub nothing : found (concat_of front) ≡ []
 
 nothing_joined : (xs ys : List (List BodyEvent)) → found (concat_of xs) ≡ [] → found (concat_of ys) ≡ [] → found (concat_of (xs ++ ys)) ≡ []
-nothing_joined xs ys h k = ap found (joined_append xs ys) ∙ found_append (concat_of xs) (concat_of ys) ∙ ap (λ (fs : List Finding). fs ++ found (concat_of ys)) h ∙ k
+nothing_joined xs ys h k = ap found (joined-append xs ys) ∙ found_append (concat_of xs) (concat_of ys) ∙ ap (λ (fs : List Finding). fs ++ found (concat_of ys)) h ∙ k
 
 module _ (lines macros : ℕ) where
   abbrev lists_of : PartAhead → List Char → List (List BodyEvent)
@@ -126,9 +125,9 @@ module _ (lines macros : ℕ) where
     module _ (ends : (at : Place) (t : List ℕ) → EndsOnce at t) (all_found : (at : Place) (t : List ℕ) → found_in (concat_of (events_by_point at t)) ≡ findings at t)
         (found_alone : (at : Place) (t rest : List ℕ) → IsRegularText t → findings at (t ++ 40 ∷ rest) ≡ [])
         (ends_alone : (t rest : List ℕ) → IsRegularText t → after_tokens (t ++ 40 ∷ rest) ≡ 40 ∷ rest)
-        (found_behind : (at : Place) (b : ℕ) (gap t rest : List ℕ) → list_all is_blank (b ∷ gap) ≡ true → IsRegularText t → findings at (b ∷ gap ++ (t ++ 40 ∷ rest)) ≡ [])
-        (ends_behind : (b : ℕ) (gap t rest : List ℕ) → list_all is_blank (b ∷ gap) ≡ true → IsRegularText t → after_tokens (b ∷ gap ++ (t ++ 40 ∷ rest)) ≡ 40 ∷ rest) where
-      text_laws : (gap t rest : List ℕ) → list_all is_blank gap ≡ true → IsRegularText t → TextLaws gap t rest
+        (found_behind : (at : Place) (b : ℕ) (gap t rest : List ℕ) → is_gap (b ∷ gap) ≡ true → IsRegularText t → findings at (b ∷ gap ++ (t ++ 40 ∷ rest)) ≡ [])
+        (ends_behind : (b : ℕ) (gap t rest : List ℕ) → is_gap (b ∷ gap) ≡ true → IsRegularText t → after_tokens (b ∷ gap ++ (t ++ 40 ∷ rest)) ≡ 40 ∷ rest) where
+      text_laws : (gap t rest : List ℕ) → is_gap gap ≡ true → IsRegularText t → TextLaws gap t rest
       text_laws [] t rest b r = record { ends = ends_alone t rest r; nothing = λ at. found_alone at t rest r }
       text_laws (c ∷ gap) t rest b r = let e = append_assoc (c ∷ gap) t (40 ∷ rest) in record {
         ends = ap after_tokens e ∙ ends_behind c gap t rest b r;

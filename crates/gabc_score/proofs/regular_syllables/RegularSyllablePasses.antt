@@ -1,7 +1,7 @@
 -- A regular syllable is read between two syllables: what was held is given, and what it makes is
 -- held.
-use Rattle.std.proofs.Common.{◌≡◌, ℕ, ◌<◌, ◌≤◌, ◌||◌, nat_lt, true, false, List, [], ◌∷◌, ◌++◌, map, length, take, take_all, take-take, take_at, length-take-le, is_some, refl, sym, ap, subst, ◌∙◌, arith, append-nil, length-append}
-use Rattle.std.specs.List.{list_all, list_any}
+use Rattle.std.proofs.Common.{◌≡◌, ℕ, ◌<◌, ◌≤◌, ◌||◌, nat_lt, true, false, List, [], ◌∷◌, ◌++◌, map, length, take, take_all, take-take, take_at, length-take-le, is_some, refl, sym, ap, subst, ◌∙◌, arith, append_assoc, append-nil, length-append}
+use Rattle.std.specs.List.{list_any}
 use Rattle.std.proofs.lemmas.List.{append_cancel_left}
 use lib.Utf8.{encodes}
 use Rattle.gabc_places.specs.StageLaw.{concat_of}
@@ -11,12 +11,16 @@ use Rattle.gabc_places.specs.declared.place.Char.{Char}
 use Rattle.gabc_places.specs.Place.{place_past, placed_characters_from}
 use Rattle.gabc_places.proofs.PlacesOfAText.{length_placed}
 use Rattle.gabc_headers.specs.declared.head_event.HeadEvent.{HeadEvent}
-use Rattle.gabc_text.specs.Token.{is_blank}
-use Rattle.gabc_text.specs.Events.{CountsFit}
-use Rattle.gabc_text.specs.RegularText.{IsRegularText}
+use Rattle.gabc_text.specs.Events.{CountsFit, codes_of}
+use Rattle.gabc_text.specs.RegularText.{IsRegularText, is_gap}
 use Rattle.gabc_text.specs.View.{kept}
+use Rattle.gabc_text.specs.ViewFacts.{ViewFacts, view_facts}
+use Rattle.gabc_score.specs.SyllablesOfUnits.{span_tags}
+use Rattle.gabc_score.proofs.syllables_of_units.LastTagOpensTheSpan.{tags_of}
+use Rattle.gabc_text.proofs.KeptCharacters.{codes_placed}
 use Rattle.gabc_score.specs.declared.before.Spans.{Spans}
 use Rattle.gabc_score.specs.declared.events.BodyEvent.{BodyEvent}
+use Rattle.gabc_score.specs.Before.{sounds}
 use Rattle.gabc_score.specs.Body.{findings_of, is_none}
 use Rattle.gabc_score.specs.Events.{Texts, texts_by_definition, text_from, behind_mark, events_from}
 use Rattle.gabc_score.specs.GivesSyllables.{text_inputs}
@@ -28,7 +32,7 @@ use Rattle.gabc_score.specs.SyllablesOfUnits as units
 use Rattle.gabc_score.specs.UnitRead.{first_events}
 use Rattle.gabc_score.specs.Units.{BodyUnit, EndedPart}
 use Rattle.gabc_score.specs.witness.BodyStage.{texts_by_stage}
-use Rattle.gabc_score.specs.machine.Between.{with_one, past_one, given_before, IsBetween, LeavesRoomFor, GoesThrough, left_between, lists_between, IsAloneWith, IsMadeOf}
+use Rattle.gabc_score.specs.machine.Between.{with_one, past_one, given_before, SoundsNoMore, IsBetween, LeavesRoomFor, GoesThrough, left_between, lists_between, IsAloneWith, IsMadeOf}
 use Rattle.gabc_score.specs.machine.BodyBuilder.{with_all}
 use Rattle.gabc_score.specs.machine.Gatherer.{Gathered}
 use Rattle.gabc_score.specs.machine.Preceded.{spans_of}
@@ -46,6 +50,10 @@ use Rattle.gabc_score.proofs.regular_syllables.SpellingIsShort.{canonical_short,
 use Rattle.gabc_score.proofs.regular_syllables.UnitIsGathered.{unit_gathers, unit_is_gathered}
 use Rattle.gabc_score.proofs.resuming.HeldIsRead.{alone_of}
 use Rattle.gabc_score.proofs.resuming.OpenSpans.{opened, leaves_open, none_cut}
+
+-- the span marks among what a text says
+abbrev tags_said : ViewFacts → List (List ℕ)
+tags_said v = tags_of v.pieces
 
 module _ (lines macros : ℕ) (at : Place) (r : SyllableParts) (regular : IsRegularSyllable lines r) (fits : CountsFit at (spelled r)) where
   abbrev us : List Char
@@ -83,7 +91,7 @@ module _ (lines macros : ℕ) (at : Place) (r : SyllableParts) (regular : IsRegu
 
   module _ (spans : Spans) (s : MakesItsSpelling lines macros at r (opened spans))
       (kept_alone : (t rest : List ℕ) → IsRegularText t → kept (t ++ 40 ∷ rest) ≡ t)
-      (kept_behind : (b : ℕ) (gap t rest : List ℕ) → list_all is_blank (b ∷ gap) ≡ true → IsRegularText t → kept (b ∷ gap ++ (t ++ 40 ∷ rest)) ≡ 32 ∷ t) where
+      (kept_behind : (b : ℕ) (gap t rest : List ℕ) → is_gap (b ∷ gap) ≡ true → IsRegularText t → kept (b ∷ gap ++ (t ++ 40 ∷ rest)) ≡ 32 ∷ t) where
     abbrev m : UnplacedSyllable
     m = s.one.made
 
@@ -96,12 +104,32 @@ module _ (lines macros : ℕ) (at : Place) (r : SyllableParts) (regular : IsRegu
         ap (λ (n : ℕ). first_events lines macros at (units.characters_in unit ++ []) n) (sym unit_each) ∙ first_are (length lists) (omega arith) in
         ap (λ (ls : List (List BodyEvent)). found (concat_of ls)) (sym (take_all (length lists) lists (omega arith))) ∙ ap found (sym same) ∙ none
 
-    pub made_of : IsMadeOf lines spans r m
-    made_of = record {
+    -- its unit has the span marks of its text
+    tags_are : (says_alone : (t rest : List ℕ) → IsRegularText t → view_facts (t ++ 40 ∷ rest) ≡ view_facts t)
+        → (says_behind : (b : ℕ) (gap t rest : List ℕ) → is_gap (b ∷ gap) ≡ true → IsRegularText t → view_facts (b ∷ gap ++ (t ++ 40 ∷ rest)) ≡ record (view_facts t) { word_start = true })
+        → span_tags (units.score_unit unit []).text ≡ span_tags r.text
+    tags_are says_alone says_behind = ap span_tags text_is ∙ by r.gap regular.blanks
+      where
+        text_is : (units.score_unit unit []).text ≡ (r.gap ++ r.text) ++ 40 ∷ notes_spelled r.nexts r.final
+        text_is = ap codes_of (append-nil (units.characters_in unit) ∙ unit_placed at r) ∙ codes_placed at (spelled r)
+
+        by : (gap : List ℕ) → is_gap gap ≡ true → span_tags ((gap ++ r.text) ++ 40 ∷ notes_spelled r.nexts r.final) ≡ span_tags r.text
+        by [] b = ap tags_said (says_alone r.text (notes_spelled r.nexts r.final) regular.text)
+        by (c ∷ gap) b =
+            ap span_tags (append_assoc (c ∷ gap) r.text (40 ∷ notes_spelled r.nexts r.final))
+            ∙ ap tags_said (says_behind c gap r.text (notes_spelled r.nexts r.final) b regular.text)
+
+    pub made_of : (says_alone : (t rest : List ℕ) → IsRegularText t → view_facts (t ++ 40 ∷ rest) ≡ view_facts t)
+        → (says_behind : (b : ℕ) (gap t rest : List ℕ) → is_gap (b ∷ gap) ≡ true → IsRegularText t → view_facts (b ∷ gap ++ (t ++ 40 ∷ rest)) ≡ record (view_facts t) { word_start = true })
+        → IsMadeOf lines spans r m
+    made_of says_alone says_behind = record {
       kept = s.kept_is;
       starts = s.starts_is;
       canonical_is = s.canonical_is;
+      text_is = s.text_is;
+      snippets_are = s.snippets_are;
       unit = record { unit = units.score_unit unit []; noted = none_left unit.nexts unit.final; single = single; holds = s.one.holds };
+      tags = tags_are says_alone says_behind;
       follows = record { eu = s.one.eu_is ∙ ap (eu_past m) (leaves_open spans).eu; nlba = s.one.nlba_is ∙ ap (nlba_past m) (leaves_open spans).nlba };
     }
       where
@@ -112,7 +140,7 @@ module _ (lines macros : ℕ) (at : Place) (r : SyllableParts) (regular : IsRegu
     -- ---- what is gathered
 
     module _ (limits : Limits) (g : Gathered) (spans_are : spans_of g ≡ spans) (room : LeavesRoomFor limits g r) (nothing : g.builder ≡ nothing_open) (limit : g.limit ≡ limits.syllable)
-        (follows : g.follows ≡ true) (sounded : is_some g.first_kind ≡ true) (over : g.over ≡ false) (none : g.made ≡ []) where
+        (follows : g.follows ≡ true) (sounded : SoundsNoMore (is_some g.first_kind) (sounds m)) (over : g.over ≡ false) (none : g.made ≡ []) where
       eu_is : g.eu ≡ spans.eu
       eu_is = ap (λ (p : Spans). p.eu) spans_are
 
@@ -121,15 +149,15 @@ module _ (lines macros : ℕ) (at : Place) (r : SyllableParts) (regular : IsRegu
 
       gathers : Gathers limits g lists m
       gathers =
-          unit_gathers g spans nothing eu_is nlba_is none follows sounded (opened spans) (leaves_open spans) (none_cut spans) lines macros at unit s.one lists unit_each first_are limits
+          unit_gathers g spans nothing eu_is nlba_is none follows (opened spans) (leaves_open spans) (none_cut spans) lines macros at unit s.one sounded lists unit_each first_are limits
           (length (encodes (spelled r))) (record { limit = limit; over = over; syllable = room.syllable; input = room.input })
           (keeps_within r kept_alone kept_behind lines at regular limits.syllable room.syllable) (canonical_short r m s.starts_is s.canonical_is) nothing_found
 
       gathered_is : (ms : List UnplacedSyllable) → record (with_all g (concat_of lists)) { made = m ∷ [] } ≡ with_one (record g { made = ms }) m
-      gathered_is ms = unit_is_gathered g spans nothing eu_is nlba_is none follows sounded (opened spans) (leaves_open spans) (none_cut spans) lines macros at unit s.one lists unit_each first_are ms
+      gathered_is ms = unit_is_gathered g spans nothing eu_is nlba_is none follows (opened spans) (leaves_open spans) (none_cut spans) lines macros at unit s.one sounded lists unit_each first_are ms
 
     module _ (stage : (xs : List Char) → lists_by texts_by_stage at (us ++ xs) ≡ lists ++ lists_by texts_by_stage (behind_mark unit.final.end.place) xs) (limits : Limits) (held : HeldScore)
-        (between : IsBetween limits held) (spans_are : spans_of held.gathered ≡ spans) (room : LeavesRoomFor limits held.gathered r) where
+        (between : IsBetween limits held) (sounded : SoundsNoMore (is_some held.gathered.first_kind) (sounds m)) (spans_are : spans_of held.gathered ≡ spans) (room : LeavesRoomFor limits held.gathered r) where
       abbrev ms : List UnplacedSyllable
       ms = held.gathered.made
 
@@ -139,14 +167,14 @@ module _ (lines macros : ℕ) (at : Place) (r : SyllableParts) (regular : IsRegu
       passes : Pass limits held.has_lent ms between.few held us lists (holding_one limits held.has_lent ms between.few (next_of us held.next) (with_all g (concat_of lists)) m) (given_before held m)
       passes =
           one_passes limits held.has_lent ms between.few held.next g us lists m (sym lists_each)
-          (gathers limits g spans_are (record { syllable = room.syllable; input = room.input }) between.nothing between.limit between.follows between.sounded between.over refl)
+          (gathers limits g spans_are (record { syllable = room.syllable; input = room.input }) between.nothing between.limit between.follows sounded between.over refl)
 
       after_is : score_through held us lists ≡ past_one held next m
       after_is =
           passes.after_is
           ∙ ap (λ (p : Place). holding_one limits held.has_lent ms between.few p (with_all g (concat_of lists)) m) (next_past at r fits held.next some_stand)
           ∙ ap (λ (h : Gathered). record { next = next; gathered = h; has_lent = held.has_lent || nat_lt 0 (length ms) })
-          (gathered_is limits g spans_are (record { syllable = room.syllable; input = room.input }) between.nothing between.limit between.follows between.sounded between.over refl ms)
+          (gathered_is limits g spans_are (record { syllable = room.syllable; input = room.input }) between.nothing between.limit between.follows sounded between.over refl ms)
 
       pub through : GoesThrough limits lines macros at held (spelled r) (given_before held m) next (past_one held next m)
       through = record { points = points_through held us lists; one_each = passes.one_each ∙ size_of_us; law = law; given_are = passes.given_are }
@@ -169,11 +197,11 @@ module _ (lines macros : ℕ) (at : Place) (r : SyllableParts) (regular : IsRegu
           fine = ap (list_any is_error) (found_onto (concat_of lists) [] ∙ nothing_found);
         });
         gathered = ap (λ (made : List UnplacedSyllable). record (with_all held.gathered (concat_of lists)) { made = made }) all.made
-            ∙ gathered_is limits held.gathered spans_are room between.nothing between.limit between.follows between.sounded between.over none [];
+            ∙ gathered_is limits held.gathered spans_are room between.nothing between.limit between.follows sounded between.over none [];
       })
         where
           all : Gathers limits held.gathered lists m
-          all = gathers limits held.gathered spans_are room between.nothing between.limit between.follows between.sounded between.over none
+          all = gathers limits held.gathered spans_are room between.nothing between.limit between.follows sounded between.over none
 
           lists_are : lists_between lines macros at (spelled r) ≡ lists
           lists_are =

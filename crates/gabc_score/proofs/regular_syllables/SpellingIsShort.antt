@@ -1,13 +1,12 @@
 -- A regular syllable keeps no more bytes than it has, and its canonical text has no more.
 use Rattle.std.proofs.Common.{◌≡◌, ℕ, ◌+◌, ◌<◌, ◌≤◌, Bool, true, cond, List, [], ◌∷◌, ◌++◌, length, sym, ap, ◌∙◌, arith, append-nil, length-append, encode_utf8}
-use Rattle.std.specs.List.{list_all}
 use Rattle.std.proofs.lemmas.List.{append_cancel_left}
 use Rattle.std.proofs.lemmas.Str.{encodes-append, length-encode, len_utf8_bounds}
 use lib.Utf8.{encodes}
+use Rattle.gabc_text.proofs.KeptCharacters.{codes_placed}
 use Rattle.gabc_places.specs.declared.place.Place.{Place}
-use Rattle.gabc_text.specs.Token.{is_blank}
 use Rattle.gabc_text.specs.Events.{codes_of}
-use Rattle.gabc_text.specs.RegularText.{IsRegularText}
+use Rattle.gabc_text.specs.RegularText.{IsRegularText, is_gap}
 use Rattle.gabc_text.specs.View.{kept}
 use Rattle.gabc_score.specs.Canonical.{canonical}
 use Rattle.gabc_score.specs.RegularSyllable.{SyllableParts, IsRegularSyllable, has_gap, gap_kept, canonical_spelled, notes_spelled, spelled, unit_at}
@@ -16,7 +15,6 @@ use Rattle.gabc_score.specs.SyllablesOfUnits.{with_ends, snippets_in, characters
 use Rattle.gabc_score.specs.WithinLimits.{KeepsWithin}
 use Rattle.gabc_score.proofs.regular_syllables.RegularSyllableIsMade.{one_byte, text_kept}
 use Rattle.gabc_score.proofs.regular_syllables.RegularSyllableIsRead.{unit_placed}
-use Rattle.gabc_score.proofs.texts_of_body.StageAndDefinitionAgree.{codes_placed}
 use Rattle.gabc_score.proofs.texts_of_body.TextEmitsThroughEnd.{codes_append}
 
 -- ---- bytes
@@ -55,7 +53,7 @@ module _ (r : SyllableParts) where
   -- ---- what is kept of its unit
 
   module _ (kept_alone : (t rest : List ℕ) → IsRegularText t → kept (t ++ 40 ∷ rest) ≡ t)
-      (kept_behind : (b : ℕ) (gap t rest : List ℕ) → list_all is_blank (b ∷ gap) ≡ true → IsRegularText t → kept (b ∷ gap ++ (t ++ 40 ∷ rest)) ≡ 32 ∷ t)
+      (kept_behind : (b : ℕ) (gap t rest : List ℕ) → is_gap (b ∷ gap) ≡ true → IsRegularText t → kept (b ∷ gap ++ (t ++ 40 ∷ rest)) ≡ 32 ∷ t)
       (lines : ℕ) (at : Place) (regular : IsRegularSyllable lines r) where
     abbrev codes : List ℕ
     codes = codes_of (characters_in (unit_at at r))

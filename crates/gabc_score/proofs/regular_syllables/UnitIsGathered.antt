@@ -1,8 +1,10 @@
 -- What is gathered of a unit that makes one syllable, whatever was gathered before: that syllable,
 -- with no limit passed.
-use Rattle.std.proofs.Common.{◌≡◌, ℕ, suc, ◌+◌, ◌<◌, ◌≤◌, nat_lt, Bool, true, false, List, [], ◌∷◌, ◌++◌, length, take, take_all, Option, None, is_some, refl, sym, ap, subst, ◌∙◌, arith, append-nil}
+use Rattle.std.proofs.Common.{◌≡◌, ℕ, suc, ◌+◌, ◌<◌, ◌≤◌, ◌||◌, nat_lt, Bool, true, false, List, [], ◌∷◌, ◌++◌, length, take, take_all, Option, None, is_some, refl, sym, ap, subst, ◌∙◌, arith, append-nil}
 use Rattle.std.proofs.lemmas.Bool.Decides.{nat_tests}
 use Rattle.std.proofs.lemmas.List.{append_cancel_left}
+use Rattle.std.proofs.lemmas.List.Elements.{All-nil}
+use Rattle.std.specs.List.{All}
 use Rattle.gabc_places.specs.StageLaw.{concat_of}
 use Rattle.gabc_places.specs.declared.limits.Limits.{Limits}
 use Rattle.gabc_places.specs.declared.place.Place.{Place}
@@ -16,6 +18,8 @@ use Rattle.gabc_notes.specs.declared.stage.NoteEvent.TheVariants as note
 use Rattle.gabc_score.specs.declared.before.Spans.{Spans}
 use Rattle.gabc_score.specs.declared.events.BodyEvent.{BodyEvent}
 use Rattle.gabc_score.specs.declared.events.BodyEvent.TheVariants as event
+use Rattle.gabc_score.specs.declared.before.Preceding.{Preceding}
+use Rattle.gabc_score.specs.Before.{sounds, sounds_in, with_each}
 use Rattle.gabc_score.specs.Body.{is_longer, events_onto, cut_of}
 use Rattle.gabc_score.specs.Canonical.{canonical}
 use Rattle.gabc_score.specs.HeldAgain.{LeavesOpen}
@@ -24,18 +28,19 @@ use Rattle.gabc_score.specs.SyllablesOfUnits.{characters_in, score_unit}
 use Rattle.gabc_score.specs.UnitRead.{GivesOneSyllable, first_events, emitted_through}
 use Rattle.gabc_score.specs.Units.{BodyUnit}
 use Rattle.gabc_score.specs.WithinLimits.{KeepsWithin}
-use Rattle.gabc_score.specs.machine.Between.{with_one}
+use Rattle.gabc_score.specs.machine.Between.{with_one, SoundsNoMore}
 use Rattle.gabc_score.specs.machine.BodyBuilder.{with_all}
 use Rattle.gabc_score.specs.machine.Gatherer.{Gathered, with_event}
 use Rattle.gabc_score.specs.machine.PartKeeps.{ReadAlike}
-use Rattle.gabc_score.specs.machine.SyllableBuilder.{nothing_open}
+use Rattle.gabc_score.specs.machine.Preceded.{EndsBefore, IsPreceded}
+use Rattle.gabc_score.specs.machine.SyllableBuilder.{OpenSyllable, nothing_open}
 use Rattle.gabc_score.proofs.building.BuilderHoldsDefinition.{gathered}
 use Rattle.gabc_score.proofs.order.FindingsOfParts.{found}
-use Rattle.gabc_score.proofs.regular_syllables.OneMore.{Fits, Gathers}
+use Rattle.gabc_score.proofs.regular_syllables.OneMore.{Fits, Gathers, stays_before}
 use Rattle.gabc_score.proofs.resuming.HeldIsRead.{neither_is}
 use Rattle.gabc_score.proofs.resuming.MadeOfEvents.{open_of, MadeAlike, made_behind, Counts, counts_from, size_of}
-use Rattle.gabc_score.proofs.resuming.SameButHeld.{all_stay}
 use Rattle.gabc_score.proofs.resuming.ScoresAgree.{same_but}
+use Rattle.gabc_score.proofs.score_events.WhatPrecedes.{preceded_all}
 
 -- ---- a syllable stands before
 
@@ -106,6 +111,10 @@ stays_uncut (e ∷ es) before g h = stays_uncut es (e ∷ before) (with_event g 
 
 -- ---- the unit
 
+or_false : (b : Bool) → (b || false) ≡ b
+or_false true = refl
+or_false false = refl
+
 -- With so many bytes of a syllable no limit is passed.
 pub record HasRoom (limits : Limits) (g : Gathered) (size : ℕ) : Type 0 where
   pub limit : g.limit ≡ limits.syllable
@@ -113,9 +122,9 @@ pub record HasRoom (limits : Limits) (g : Gathered) (size : ℕ) : Type 0 where
   pub syllable : size ≤ limits.syllable
   pub input : g.total + size + 1 ≤ limits.input
 
-module _ (g : Gathered) (spans : Spans) (nothing : g.builder ≡ nothing_open) (eu : g.eu ≡ spans.eu) (nlba : g.nlba ≡ spans.nlba) (none : g.made ≡ []) (follows : g.follows ≡ true) (sounded : is_some g.first_kind ≡ true)
+module _ (g : Gathered) (spans : Spans) (nothing : g.builder ≡ nothing_open) (eu : g.eu ≡ spans.eu) (nlba : g.nlba ≡ spans.nlba) (none : g.made ≡ []) (follows : g.follows ≡ true)
     (before : List BodyEvent) (leaves : LeavesOpen spans before) (whole : cut_of before ≡ None) (lines macros : ℕ) (at : Place) (u : BodyUnit) (one : GivesOneSyllable lines macros at u [] before)
-    (lists : List (List BodyEvent)) (each : length lists ≡ length (characters_in u)) (are : (n : ℕ) → n ≤ length lists → first_events lines macros at (characters_in u ++ []) n ≡ concat_of (take n lists)) where
+    (sounded : SoundsNoMore (is_some g.first_kind) (sounds one.made)) (lists : List (List BodyEvent)) (each : length lists ≡ length (characters_in u)) (are : (n : ℕ) → n ≤ length lists → first_events lines macros at (characters_in u ++ []) n ≡ concat_of (take n lists)) where
   abbrev m : UnplacedSyllable
   m = one.made
 
@@ -142,6 +151,31 @@ module _ (g : Gathered) (spans : Spans) (nothing : g.builder ≡ nothing_open) (
 
   made : (with_all g (concat_of lists)).made ≡ m ∷ []
   made = append_cancel_left (all_syllables before) (with_all g (concat_of lists)).made (m ∷ []) (sym through.made ∙ one.given)
+
+  -- what would give what is gathered before the unit
+  abbrev preceding : Preceding
+  preceding = record { syllables = 1; canonical = g.total; spans = spans; sounded = is_some g.first_kind }
+
+  preceded_now : IsPreceded preceding g
+  preceded_now = record {
+    follows = follows ∙ ap (λ (ms : List UnplacedSyllable). nat_lt 0 (with_each preceding ms).syllables) (sym none);
+    total = ap (λ (ms : List UnplacedSyllable). (with_each preceding ms).canonical) (sym none);
+    sounded =
+        sym (or_false (is_some g.first_kind)) ∙ ap (λ (o : OpenSyllable). is_some g.first_kind || sounds_in o.kept o.snippets) (sym nothing)
+        ∙ ap (λ (ms : List UnplacedSyllable). (with_each preceding ms).sounded || sounds_in g.builder.kept g.builder.snippets) (sym none);
+    snippets = subst (λ (o : OpenSyllable). All (EndsBefore o.from) o.snippets) (sym nothing) (All-nil (EndsBefore 0));
+    from = subst (λ (o : OpenSyllable). o.from ≤ length o.kept) (sym nothing) (omega arith);
+  }
+
+  -- a note or a clef has come then if it had come before
+  sounds_on : is_some (with_all g (concat_of lists)).first_kind ≡ is_some g.first_kind
+  sounds_on =
+      let h = with_all g (concat_of lists) in
+      let builder : h.builder ≡ nothing_open = through.read.builder ∙ ap open_of one.nothing_behind in
+      (preceded_all preceding g (concat_of lists) preceded_now).sounded
+      ∙ ap (λ (ms : List UnplacedSyllable). (with_each preceding ms).sounded || sounds_in h.builder.kept h.builder.snippets) made
+      ∙ ap (λ (o : OpenSyllable). (is_some g.first_kind || sounds m) || sounds_in o.kept o.snippets) builder
+      ∙ or_false (is_some g.first_kind || sounds m) ∙ sounded
 
   counted : Counts g (with_all g (concat_of lists))
   counted = counts_from g none (concat_of lists)
@@ -173,7 +207,7 @@ module _ (g : Gathered) (spans : Spans) (nothing : g.builder ≡ nothing_open) (
         record { kept = omega (arith, k, l, l2); over = one_more.0 ∙ neither_is g.over _ room.over (neither_is (is_longer g.limit m.kept) _ long wide); total = omega (arith, total, input, few) }
 
     pub unit_gathers : found (concat_of lists) ≡ [] → Gathers limits g lists m
-    unit_gathers quiet = record { none = none; sounded = sounded; earlier = earlier; made = made; fits = λ n h. fits n h (nat_lt (suc n) (length lists)) refl; nothing = quiet }
+    unit_gathers quiet = record { none = none; sounded = sounds_on; earlier = earlier; made = made; fits = λ n h. fits n h (nat_lt (suc n) (length lists)) refl; nothing = quiet }
 
   -- ---- what is gathered then
 
@@ -190,7 +224,7 @@ module _ (g : Gathered) (spans : Spans) (nothing : g.builder ≡ nothing_open) (
       } in
       let counts = counted.one m made in
       ap (λ (k : Gathered). record k { made = m ∷ [] }) (same_but after h (sym counted.limit) read (sym (all_follow (concat_of lists) g follows)) (sym counts.1) (sym counts.0) (sym uncut))
-      ∙ ap (λ (k : Option ItemKind). record after { first_kind = k }) (all_stay (concat_of lists) g sounded)
+      ∙ ap (λ (k : Option ItemKind). record after { first_kind = k }) (stays_before (concat_of lists) [] g (ap (λ (es : List BodyEvent). is_some (with_all g es).first_kind) (append-nil (concat_of lists)) ∙ sounds_on))
     where
       whole_is : first_events lines macros at (characters_in u ++ []) (length (characters_in u)) ≡ concat_of lists
       whole_is =

@@ -7,6 +7,7 @@ use Rattle.gabc_headers.specs.declared.head_event.HeadEvent.{HeadEvent}
 use Rattle.gabc_headers.specs.declared.head_event.HeadEvent.TheVariants as head_event
 use Rattle.gabc_text.specs.Events.{codes_of}
 use Rattle.gabc_text.specs.StageTells as text
+use Rattle.gabc_text.specs.witness.StageReports as text_reports
 use Rattle.gabc_text.specs.TextStage.{fresh_stage}
 use Rattle.gabc_text.specs.declared.stage.TextStage.{TextStage}
 use Rattle.gabc_text.specs.declared.text_event.TextEnd.TheVariants as text_end
@@ -27,10 +28,10 @@ use Rattle.gabc_score.specs.witness.BodyStage.{BodyStageState, part_with, runnin
 
 -- A comment in front of a text counts for nothing, where the text keeps nothing yet.
 pub record CommentsCountForNothing : Type 0 where
-  pub stays : (s : TextStage) (place : Place) → Keeps s [] → Keeps (text.moved_to place s) []
-  pub goes_on : (s : TextStage) (place : Place) → text.is_in_comment (text.moved_to place s) ≡ text.is_in_comment s
-  pub on : (s : TextStage) (c : ℕ) (t : List ℕ) → Keeps s [] → text.is_in_comment s ≡ true → (c == 10) ≡ false → events_left s (c ∷ t) ≡ [] ∷ events_left (text.moved_to (saturating_next_place (text.next_of s) c) s) t
-  pub begins : (s : TextStage) (t : List ℕ) → Keeps s [] → text.is_in_comment s ≡ true → events_left s (10 ∷ t) ≡ events_left (fresh_stage (text.next_of s)) (10 ∷ t)
+  pub stays : (s : TextStage) (place : Place) → Keeps s [] → Keeps (text_reports.moved_to place s) []
+  pub goes_on : (s : TextStage) (place : Place) → text.is_in_comment (text_reports.moved_to place s) ≡ text.is_in_comment s
+  pub on : (s : TextStage) (c : ℕ) (t : List ℕ) → Keeps s [] → text.is_in_comment s ≡ true → (c == 10) ≡ false → events_left s (c ∷ t) ≡ [] ∷ events_left (text_reports.moved_to (saturating_next_place (text_reports.next_of s) c) s) t
+  pub begins : (s : TextStage) (t : List ℕ) → Keeps s [] → text.is_in_comment s ≡ true → events_left s (10 ∷ t) ≡ events_left (fresh_stage (text_reports.next_of s)) (10 ∷ t)
   pub ends : (s : TextStage) → Keeps s [] → text.is_in_comment s ≡ true → events_left s [] ≡ (text_event.Ended text_end.Finished ∷ []) ∷ []
 
 module _ (law : CommentsCountForNothing) where
@@ -41,17 +42,17 @@ module _ (law : CommentsCountForNothing) where
     abbrev text_ahead : TextStage → List HeadEvent → List (List BodyEvent)
     text_ahead s xs = ahead (InText (events_left s (codes_of (characters_in xs)))) xs
 
-    comment_is_text : (s : TextStage) → Keeps s [] → text.is_in_comment s ≡ true → (xs : List HeadEvent) → StandInLine (text.next_of s) xs → ahead InComment xs ≡ text_ahead s xs
+    comment_is_text : (s : TextStage) → Keeps s [] → text.is_in_comment s ≡ true → (xs : List HeadEvent) → StandInLine (text_reports.next_of s) xs → ahead InComment xs ≡ text_ahead s xs
     comment_is_text s keeps open_is [] line = ap (λ (lists : List (List TextEvent)). ahead (InText lists) []) (sym (law.ends s keeps open_is))
     comment_is_text s keeps open_is (head_event.End ∷ xs) line = ap (λ (lists : List (List TextEvent)). ahead (InText lists) []) (sym (law.ends s keeps open_is))
     comment_is_text s keeps open_is (head_event.Stop fault ∷ xs) line = ap (λ (lists : List (List TextEvent)). ahead (InText lists) []) (sym (law.ends s keeps open_is))
     comment_is_text s keeps open_is (head_event.Found f ∷ xs) line = comment_is_text s keeps open_is xs line.1
     comment_is_text s keeps open_is (head_event.Heads l m c ∷ xs) line = comment_is_text s keeps open_is xs line.1
     comment_is_text s keeps open_is (head_event.Body x ∷ xs) line =
-        by (comment_is_text there (law.stays s (saturating_next_place (text.next_of s) x.c) keeps) (law.goes_on s (saturating_next_place (text.next_of s) x.c) ∙ open_is) xs (subst (λ (p : Place). StandInLine (saturating_next_place p x.c) xs) line.0 line.1)) (x.c == 10) refl
+        by (comment_is_text there (law.stays s (saturating_next_place (text_reports.next_of s) x.c) keeps) (law.goes_on s (saturating_next_place (text_reports.next_of s) x.c) ∙ open_is) xs (subst (λ (p : Place). StandInLine (saturating_next_place p x.c) xs) line.0 line.1)) (x.c == 10) refl
       where
         there : TextStage
-        there = text.moved_to (saturating_next_place (text.next_of s) x.c) s
+        there = text_reports.moved_to (saturating_next_place (text_reports.next_of s) x.c) s
 
         codes : List ℕ
         codes = codes_of (characters_in xs)
@@ -59,7 +60,7 @@ module _ (law : CommentsCountForNothing) where
         at_feed : (c : ℕ) → c ≡ 10 → events_left (fresh_stage x.place) (c ∷ codes) ≡ events_left s (c ∷ codes)
         at_feed c e =
             ap (λ (p : Place). events_left (fresh_stage p) (c ∷ codes)) line.0
-            ∙ ap (λ (d : ℕ). events_left (fresh_stage (text.next_of s)) (d ∷ codes)) e
+            ∙ ap (λ (d : ℕ). events_left (fresh_stage (text_reports.next_of s)) (d ∷ codes)) e
             ∙ sym (law.begins s codes keeps open_is)
             ∙ ap (λ (d : ℕ). events_left s (d ∷ codes)) (sym e)
 

@@ -1,6 +1,6 @@
 -- A text that is read by itself is one syllable exactly where reading it one character after the other finds one.
 use Rattle.std.proofs.Common.{◌≡◌, ℕ, zero, suc, ◌+◌, ◌-◌, ◌<◌, ◌≤◌, ◌^◌, ◌||◌, ◌&&◌, not, min, nat_lt, Bool, true, false, cond, List, [], ◌∷◌, ◌++◌, length, take, take_all, take-take, Option, Some, None, is_some, refl, sym, ap, subst, ◌∙◌, arith, append-nil}
-use Rattle.std.proofs.lemmas.Bool.{true≢false}
+use Rattle.std.proofs.lemmas.Bool.{true≢false, and_parts, or_parts, not-true, and_from}
 use Rattle.std.proofs.lemmas.Bool.Decides.{nat_tests}
 use Rattle.std.proofs.lemmas.List.{append_cancel_left}
 use Rattle.std.proofs.lemmas.List.Elements.{All-nil, All-cons, All-head, All-tail}
@@ -21,7 +21,7 @@ use Rattle.gabc_score.specs.declared.events.BodyEvent.{BodyEvent}
 use Rattle.gabc_score.specs.Body.{is_longer, is_none, events_onto, findings_of}
 use Rattle.gabc_score.specs.Canonical.{canonical}
 use Rattle.gabc_score.specs.Events.{texts_by_definition, text_from, events_from}
-use Rattle.gabc_score.specs.Before.{preceding_of}
+use Rattle.gabc_score.specs.Before.{preceding_of, most}
 use Rattle.gabc_score.specs.ToldWithin.{written_behind}
 use Rattle.gabc_score.specs.HeldAgain.{LeavesOpen, emitted_first, emitted_behind, MayBeHeld}
 use Rattle.gabc_score.specs.ScoreEvents.{findings_now, first_place}
@@ -31,32 +31,16 @@ use Rattle.gabc_score.specs.machine.Gatherer.{Gathered}
 use Rattle.gabc_score.specs.machine.ReadAlone.{is_grave, is_error, is_fine, is_alone}
 use Rattle.gabc_score.specs.machine.SyllableBuilder.{nothing_open}
 use Rattle.gabc_score.proofs.building.EventsOfOnePoint.{with_all_append, found_on}
-use Rattle.gabc_score.proofs.order.FindingsOfScore.{onto_append}
-use Rattle.gabc_score.proofs.resuming.MadeOfEvents.{Counts, counts_from, made_behind, size_of, most}
+use Rattle.gabc_score.proofs.resuming.MadeOfEvents.{Counts, counts_from, made_behind, size_of}
 use Rattle.gabc_score.proofs.resuming.OpenSpans.{opened, leaves_open}
 use Rattle.gabc_score.proofs.score_events.WhatPrecedes.{not_some}
+use Rattle.gabc_score.proofs.building.EventsOfSyllableParts.{onto_append}
+use Rattle.gabc_score.proofs.resuming.MachinesPassAgain.{no_code_by}
 
 -- ---- tests
 
-both : (a b : Bool) → (a && b) ≡ true → (a ≡ true) × (b ≡ true)
-both true true e = (refl, refl)
-both true false e = absurd (true≢false (sym e))
-both false b e = absurd (true≢false (sym e))
-
-both_are : (a b : Bool) → a ≡ true → b ≡ true → (a && b) ≡ true
-both_are a b e f = ap (λ x. x && b) e ∙ f
-
-neither : (a b : Bool) → (a || b) ≡ false → (a ≡ false) × (b ≡ false)
-neither false false e = (refl, refl)
-neither false true e = absurd (true≢false e)
-neither true b e = absurd (true≢false e)
-
 pub neither_is : (a b : Bool) → a ≡ false → b ≡ false → (a || b) ≡ false
 neither_is a b e f = ap (λ x. x || b) e ∙ f
-
-is_not : (b : Bool) → not b ≡ true → b ≡ false
-is_not false e = refl
-is_not true e = absurd (true≢false (sym e))
 
 -- ---- no limit is passed
 
@@ -106,10 +90,6 @@ none_of : (ms : List UnplacedSyllable) → is_none ms ≡ true → ms ≡ []
 none_of [] e = refl
 none_of (m ∷ ms) e = absurd (true≢false (sym e))
 
-code_none : (code : Option Code) → is_some code ≡ false → code ≡ None
-code_none None e = refl
-code_none (Some k) e = absurd (true≢false e)
-
 errors_are : (now more : List BodyEvent) → list_any is_error (findings_now (now ++ more)) ≡ (list_any is_error (findings_now now) || list_any is_error (findings_now more))
 errors_are now more =
     ap (λ (es : List BodyEvent). list_any is_error (findings_of es)) (onto_append now more [])
@@ -117,17 +97,17 @@ errors_are now more =
     ∙ list_any-append is_error (findings_now now) (findings_now more)
 
 pub alone_is : (limits : Limits) (lists : List (List BodyEvent)) (g : Gathered) → is_alone limits g lists ≡ true → IsAlone limits g lists
-alone_is limits [] g e = record { earlier = λ n h. absurd (omega (arith, h)); some = is_not (is_none g.made) e; within = λ n h. absurd (omega (arith, h)); fine = refl }
+alone_is limits [] g e = record { earlier = λ n h. absurd (omega (arith, h)); some = not-true (is_none g.made) e; within = λ n h. absurd (omega (arith, h)); fine = refl }
 alone_is limits (now ∷ lists) g e =
-    let a = both (is_none g.made) (is_fine limits g now && is_alone limits (with_all g now) lists) e in
-    let b = both (is_fine limits g now) (is_alone limits (with_all g now) lists) a.1 in
-    let c = both (not (is_some (code_in limits (with_all g now)))) (not (list_any is_error (findings_now now))) b.0 in
+    let a = and_parts (is_none g.made) (is_fine limits g now && is_alone limits (with_all g now) lists) e in
+    let b = and_parts (is_fine limits g now) (is_alone limits (with_all g now) lists) a.1 in
+    let c = and_parts (not (is_some (code_in limits (with_all g now)))) (not (list_any is_error (findings_now now))) b.0 in
     let rest = alone_is limits lists (with_all g now) b.1 in
     record {
       earlier = earlier (none_of g.made a.0) rest;
       some = ap (λ (h : Gathered). is_none h.made) (with_all_append g now (concat_of lists)) ∙ rest.some;
-      within = within (is_within limits (with_all g now) (code_none (code_in limits (with_all g now)) (is_not (is_some (code_in limits (with_all g now))) c.0))) rest;
-      fine = errors_are now (concat_of lists) ∙ neither_is (list_any is_error (findings_now now)) (list_any is_error (findings_now (concat_of lists))) (is_not (list_any is_error (findings_now now)) c.1) rest.fine;
+      within = within (is_within limits (with_all g now) (no_code_by (code_in limits (with_all g now)) (not-true (is_some (code_in limits (with_all g now))) c.0))) rest;
+      fine = errors_are now (concat_of lists) ∙ neither_is (list_any is_error (findings_now now)) (list_any is_error (findings_now (concat_of lists))) (not-true (list_any is_error (findings_now now)) c.1) rest.fine;
     }
   where
     earlier : g.made ≡ [] → IsAlone limits (with_all g now) lists → (n : ℕ) → n < suc (length lists) → (with_all g (concat_of (take n (now ∷ lists)))).made ≡ []
@@ -141,7 +121,7 @@ alone_is limits (now ∷ lists) g e =
 pub alone_of : (limits : Limits) (lists : List (List BodyEvent)) (g : Gathered) → IsAlone limits g lists → is_alone limits g lists ≡ true
 alone_of limits [] g a = ap not a.some
 alone_of limits (now ∷ lists) g a =
-    let errors = neither (list_any is_error (findings_now now)) (list_any is_error (findings_now (concat_of lists))) (sym (errors_are now (concat_of lists)) ∙ a.fine) in
+    let errors = or_parts (list_any is_error (findings_now now)) (list_any is_error (findings_now (concat_of lists))) (sym (errors_are now (concat_of lists)) ∙ a.fine) in
     let first : IsWithinLimits limits (with_all g now) = subst (IsWithinLimits limits) (with_all_append g now []) (a.within zero (omega arith)) in
     let rest : IsAlone limits (with_all g now) lists = record {
       earlier = λ n h. ap (λ (k : Gathered). k.made) (sym (with_all_append g now (concat_of (take n lists)))) ∙ a.earlier (suc n) (omega (arith, h));
@@ -149,9 +129,9 @@ alone_of limits (now ∷ lists) g a =
       within = λ n h. subst (IsWithinLimits limits) (with_all_append g now (concat_of (take (suc n) lists))) (a.within (suc n) (omega (arith, h)));
       fine = errors.1;
     } in
-    both_are (is_none g.made) (is_fine limits g now && is_alone limits (with_all g now) lists) (ap is_none (a.earlier zero (omega arith)))
-    (both_are (is_fine limits g now) (is_alone limits (with_all g now) lists)
-    (both_are (not (is_some (code_in limits (with_all g now)))) (not (list_any is_error (findings_now now))) (ap (λ (k : Option Code). not (is_some k)) (none_passed limits (with_all g now) first)) (ap not errors.0))
+    and_from (is_none g.made) (is_fine limits g now && is_alone limits (with_all g now) lists) (ap is_none (a.earlier zero (omega arith)))
+    (and_from (is_fine limits g now) (is_alone limits (with_all g now) lists)
+    (and_from (not (is_some (code_in limits (with_all g now)))) (not (list_any is_error (findings_now now))) (ap (λ (k : Option Code). not (is_some k)) (none_passed limits (with_all g now) first)) (ap not errors.0))
     (alone_of limits lists (with_all g now) rest))
 
 -- ---- warnings
@@ -163,7 +143,7 @@ grave_is Fatal e = absurd (true≢false e)
 
 warn : (fs : List Finding) → list_any is_error fs ≡ false → All IsWarning fs
 warn [] e = All-nil IsWarning
-warn (f ∷ fs) e = let n = neither (is_error f) (list_any is_error fs) e in All-cons IsWarning f fs (grave_is (severity_of f.code) n.0) (warn fs n.1)
+warn (f ∷ fs) e = let n = or_parts (is_error f) (list_any is_error fs) e in All-cons IsWarning f fs (grave_is (severity_of f.code) n.0) (warn fs n.1)
 
 warnings_are : (fs : List Finding) → All IsWarning fs → list_any is_error fs ≡ false
 warnings_are [] a = refl
@@ -177,9 +157,6 @@ module _ (limits : Limits) (b : Before) (g : Gathered) (limit : g.limit ≡ limi
     (each : length lists ≡ length text) where
   small : limits.syllable < 2 ^ 64 - 1
   small = let r = limits.in_range in omega (arith, r)
-
-  events : ℕ → List BodyEvent
-  events n = concat_of (take n lists)
 
   emitted : (n : ℕ) → n ≤ length text → emitted_first b.nabc_lines b.macros first_place text n ≡ concat_of (take n lists)
   emitted n h =
@@ -236,7 +213,7 @@ module _ (limits : Limits) (b : Before) (g : Gathered) (limit : g.limit ≡ limi
       let counts = counts_from g none (concat_of lists) in
       let last = at_last a in
       let here = counts.one m one.1 in
-      let passed = neither (is_longer g.limit m.kept) (nat_lt g.limit (size_of g.follows m)) (neither g.over _ (sym here.0 ∙ last.over)).1 in
+      let passed = or_parts (is_longer g.limit m.kept) (nat_lt g.limit (size_of g.follows m)) (or_parts g.over _ (sym here.0 ∙ last.over)).1 in
       let size = starts m in
       let file = last.file a.some in
       let input = limits.in_range in

@@ -1,11 +1,12 @@
 -- A machine that reads a kept text again tells what is told of it.
-use Rattle.std.proofs.Common.{◌≡◌, ℕ, List, [], ◌∷◌, ◌++◌, Bool, true, false, Option, Some, None, is_some, encode_utf8, encode_utf8_all, refl, sym, ap, subst, ◌∙◌, append-nil, if◌then◌else◌}
+use Rattle.std.proofs.Common.{◌≡◌, ℕ, List, [], ◌∷◌, ◌++◌, Bool, true, false, Option, Some, None, is_some, encode_utf8, encode_utf8_all, refl, sym, ap, subst, ◌∙◌, append-nil}
 use Rattle.std.proofs.lemmas.Bool.{true≢false}
 use Rattle.std.proofs.lemmas.Str.{encodes_same}
 use Rattle.gabc_places.specs.declared.limits.Limits.{Limits}
 use Rattle.gabc_places.specs.declared.place.Char.{Char}
 use Rattle.gabc_places.specs.declared.place.Place.{Place}
 use Rattle.gabc_text.specs.StageTells as text_tells
+use Rattle.gabc_text.specs.witness.StageReports as text_reports
 use Rattle.gabc_text.specs.declared.stage.TextStage.{TextStage}
 use Rattle.gabc_text.specs.witness.Keeps as text
 use Rattle.gabc_notes.specs.declared.stage.NoteStage.{NoteStage}
@@ -33,8 +34,8 @@ use Rattle.gabc_score.proofs.resuming.ScoresAgree.{reads_in_body}
 
 -- what is open in a text stays open
 pub record TextStays : Type 0 where
-  pub opener : (s : TextStage) (at : Place) → text_tells.opener_of (text_tells.moved_to at s) ≡ text_tells.opener_of s
-  pub comment : (s : TextStage) (at : Place) → text_tells.is_in_comment (text_tells.moved_to at s) ≡ text_tells.is_in_comment s
+  pub opener : (s : TextStage) (at : Place) → text_tells.opener_of (text_reports.moved_to at s) ≡ text_tells.opener_of s
+  pub comment : (s : TextStage) (at : Place) → text_tells.is_in_comment (text_reports.moved_to at s) ≡ text_tells.is_in_comment s
 
 openers_moved : TextStays → (at : Place) (b : BodyPart) → openers_of (moved_part at b) ≡ openers_of b
 openers_moved stays at part.Comment = refl

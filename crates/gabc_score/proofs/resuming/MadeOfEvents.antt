@@ -17,6 +17,7 @@ use Rattle.gabc_score.specs.machine.BodyBuilder.{with_all}
 use Rattle.gabc_score.specs.machine.Gatherer.{Gathered, with_event, with_snippet, with_made}
 use Rattle.gabc_score.specs.machine.PartKeeps.{ReadAlike}
 use Rattle.gabc_score.specs.machine.SyllableBuilder.{OpenSyllable, nothing_open, made_from}
+use Rattle.gabc_score.specs.Before.{most}
 use Rattle.gabc_score.proofs.building.BuilderHoldsDefinition.{gathered}
 use Rattle.gabc_score.proofs.building.EventsOfOnePoint.{gathered_all}
 use Rattle.gabc_score.proofs.building.PartsOfKeptText.{event_alike}
@@ -76,9 +77,6 @@ module _ (g : Gathered) (spans : Spans) (nothing : g.builder ≡ nothing_open) (
   made_behind limit small es = subst (MadeAlike (all_syllables before) (with_all g es)) (gathered_all limit 0 before small es) (all_made es (all_syllables before) g (gathered limit 0 before) (begin_alike limit 0))
 
 -- ---- what they count
-
-abbrev pub most : ℕ
-most = 2 ^ 64 - 1
 
 -- the bytes of the first one, behind the syllables before it
 abbrev pub size_of : Bool → UnplacedSyllable → ℕ

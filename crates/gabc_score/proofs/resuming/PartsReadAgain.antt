@@ -11,6 +11,7 @@ use Rattle.gabc_patterns.specs.LongestItems.{IsSnippet}
 use Rattle.gabc_patterns.proofs.FunctionsMeetRelations.{trim_snippet}
 use Rattle.gabc_text.specs.BuiltText.{kept_in}
 use Rattle.gabc_text.specs.StageTells as text_tells
+use Rattle.gabc_text.specs.witness.StageReports as text_reports
 use Rattle.gabc_text.specs.witness.Keeps as text
 use Rattle.gabc_text.specs.declared.stage.TextStage.{TextStage}
 use Rattle.gabc_text.specs.declared.text_event.TextEvent.{TextEvent}
@@ -99,7 +100,7 @@ module _ (lines macros : ℕ) (x : Char) (s t : TextStage) (es : List TextEvent)
       goes : text.GoesOn s k x.c es t
       goes = on.goes k keeps goes_on
 
-      by : (outer o : Place) → x.place ≡ outer → text_tells.next_of s ≡ x.place → (text_tells.opener_of s ≡ Some o → o ≡ outer) → (text_tells.opener_of s ≡ Some o) ⊎ (text_tells.next_of s ≡ o) → o ≡ outer
+      by : (outer o : Place) → x.place ≡ outer → text_reports.next_of s ≡ x.place → (text_tells.opener_of s ≡ Some o → o ≡ outer) → (text_tells.opener_of s ≡ Some o) ⊎ (text_reports.next_of s ≡ o) → o ≡ outer
       by outer o at stands began (inl h) = began h
       by outer o at stands began (inr h) = sym h ∙ stands ∙ at
 

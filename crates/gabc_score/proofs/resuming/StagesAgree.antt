@@ -5,6 +5,7 @@ use Rattle.gabc_places.specs.declared.place.Char.{Char}
 use Rattle.gabc_places.specs.declared.place.Place.{Place}
 use Rattle.gabc_text.specs.Events.{codes_of}
 use Rattle.gabc_text.specs.StageTells as text_tells
+use Rattle.gabc_text.specs.witness.StageReports as text_reports
 use Rattle.gabc_text.specs.declared.stage.TextStage.{TextStage}
 use Rattle.gabc_text.specs.declared.text_event.TextEvent.{TextEvent}
 use Rattle.gabc_text.specs.witness.EventsLeft as text_events
@@ -33,7 +34,7 @@ pub record KeepTheSame (lines macros : ℕ) (a b : BodyPart) : Type 0 where
 
 -- the place that a text has counted for the next character
 abbrev pub next_in : BodyPart → Option Place
-next_in (part.Text stage) = Some (text_tells.next_of stage)
+next_in (part.Text stage) = Some (text_reports.next_of stage)
 next_in part = None
 
 -- two parts of bodies tell the same, beside their kept texts
@@ -58,7 +59,7 @@ two_lines lines macros line t earlier h g other = absurd (other (sym g.line_is �
 
 -- Stages over a part that keep one text and tell the same emit the same.
 pub record StagesAgree : Type 0 where
-  pub texts : (s t : TextStage) (k : List ℕ) → text.Keeps s k → text.Keeps t k → text_tells.opener_of s ≡ text_tells.opener_of t → text_tells.is_in_comment s ≡ text_tells.is_in_comment t → text_tells.next_of s ≡ text_tells.next_of t
+  pub texts : (s t : TextStage) (k : List ℕ) → text.Keeps s k → text.Keeps t k → text_tells.opener_of s ≡ text_tells.opener_of t → text_tells.is_in_comment s ≡ text_tells.is_in_comment t → text_reports.next_of s ≡ text_reports.next_of t
       → (u : List ℕ) → text_events.events_left s u ≡ text_events.events_left t u
   pub gabc : (split : Bool) (macros : ℕ) (s t : NoteStage) (k : List ℕ) → notes.Keeps split macros s k → notes.Keeps split macros t k → note_tells.opener_of s ≡ note_tells.opener_of t → note_tells.comment_of s ≡ note_tells.comment_of t
       → (xs : List Char) → note_events.events_left s xs ≡ note_events.events_left t xs

@@ -11,7 +11,7 @@ use Rattle.gabc_score.specs.machine.BodyBuilder.{with_all}
 use Rattle.gabc_score.specs.machine.PartCounts.{CountsHold}
 use Rattle.gabc_score.specs.machine.PartKeeps.{KeptParts, PartKeeps, ReadAlike, begun, said_by}
 use Rattle.gabc_score.specs.machine.PartMakes.{HoldUnits}
-use Rattle.gabc_score.specs.machine.ScoreMachine.{IsAtRest, IsFreed, IsScoreAt}
+use Rattle.gabc_score.specs.machine.ScoreMachine.{IsAtRest, IsScoreAt}
 use Rattle.gabc_score.specs.machine.SyllableBuilder.{OpenSyllable}
 use Rattle.gabc_score.specs.witness.BodyStage.{BodyStageState}
 use Rattle.gabc_score.proofs.score_events.FrontIsFirst.{front_moved}
@@ -52,25 +52,3 @@ module _ (m : ScoreMachine) (at : Place) (b : BodyStageState) (is : b ≡ record
     within = h.within;
     front = λ e. h.front (sym (ap (λ (k : BodyStageState). is_in_front k.part) is ∙ front_moved at m.body.part) ∙ e);
   }
-
--- so is one that takes characters quietly, of which only this place is not kept yet
-pub freed_moved : (m : ScoreMachine) (at : Place) → IsFreed m → IsFreed (record m { next = at })
-freed_moved m at f = record {
-  part = f.part;
-  body = record {
-    rests = record { none = f.body.rests.none; room = f.body.rests.room; limit = f.body.rests.limit; used = f.body.rests.used; over = f.body.rests.over; short = f.body.rests.short };
-    counts = f.body.counts;
-    kept = f.body.kept;
-    preceded = f.body.preceded;
-    behind = f.body.behind;
-    lent = f.body.lent;
-    code = f.body.code;
-    reading = f.body.reading;
-    units = f.body.units;
-    within = f.body.within;
-    front = f.body.front;
-  };
-  used = f.used;
-  code = f.code;
-  one = f.one;
-}

@@ -1,13 +1,13 @@
 -- A machine that goes on before a syllable, where none is held.
-use Rattle.std.proofs.Common.{◌≡◌, ℕ, ◌≤◌, ◌||◌, true, false, [], length, is_some, refl, sym, ap, subst, ◌∙◌, arith}
+use Rattle.std.proofs.Common.{◌≡◌, ℕ, ◌≤◌, ◌||◌, Bool, true, false, [], length, is_some, refl, sym, ap, subst, ◌∙◌, arith}
 use Rattle.std.proofs.lemmas.Bool.{true≢false}
 use Rattle.std.proofs.lemmas.Bool.Decides.{nat_tests}
 use Rattle.std.proofs.lemmas.List.Elements.{All-nil}
 use Rattle.std.specs.List.{All}
 use Rattle.gabc_text.specs.TextStage.{fresh_stage}
+use Rattle.gabc_text.specs.witness.Keeps as text
 use Rattle.gabc_places.specs.declared.place.Place.{Place}
 use Rattle.gabc_score.specs.declared.before.Preceding.{Preceding}
-use Rattle.gabc_score.specs.declared.before.Spans.{Spans}
 use Rattle.gabc_score.specs.declared.body_stage.BodyPart.{BodyPart}
 use Rattle.gabc_score.specs.declared.body_stage.BodyPart.TheVariants.{Text}
 use Rattle.gabc_score.specs.declared.score_machine.ScoreMachine.{ScoreMachine}
@@ -24,24 +24,23 @@ use Rattle.gabc_score.specs.machine.SlotPair.{SlotPairState, is_made}
 use Rattle.gabc_score.specs.machine.SyllableBuilder.{OpenSyllable, nothing_open}
 use Rattle.gabc_score.specs.witness.BodyStage.{BodyStageState}
 use Rattle.gabc_score.proofs.resuming.HeldIsRead.{none_passed}
-use Rattle.gabc_score.proofs.resuming.NothingIsRead.{begins_again}
 use Rattle.gabc_score.proofs.score_events.HeldWithinLimits.{within_none}
 use Rattle.gabc_score.proofs.score_events.UnitsAreHeld.{none_held}
 
--- where the spans are the same
-reads_with : (lines macros : ℕ) (part : BodyPart) (spans other : Spans) (g : Gathered) → other ≡ spans → IsReading lines macros part spans g → IsReading lines macros part other g
-reads_with lines macros part spans other g e r = subst (λ (s : Spans). IsReading lines macros part s g) (sym e) r
+last_false : (b : Bool) → b ≡ (b || false)
+last_false true = refl
+last_false false = refl
 
-module _ (m : ScoreMachine) (rests : IsInBody m) (p : Preceding) (some : 1 ≤ p.syllables) (sounded : p.sounded ≡ true) (spans : p.spans ≡ m.bounds.behind.spans)
-    (nothing : m.pair.gathered.builder ≡ nothing_open) (follows : m.pair.gathered.follows ≡ true) (kind : is_some m.pair.gathered.first_kind ≡ true) where
+module _ (m : ScoreMachine) (rests : IsInBody m) (p : Preceding) (some : 1 ≤ p.syllables) (sounded : is_some m.pair.gathered.first_kind ≡ p.sounded)
+    (nothing : m.pair.gathered.builder ≡ nothing_open) (follows : m.pair.gathered.follows ≡ true) where
   abbrev before_next : Gathered
-  before_next = record m.pair.gathered { made = []; total = p.canonical }
+  before_next = record m.pair.gathered { made = []; total = p.canonical; eu = p.spans.eu; nlba = p.spans.nlba }
 
   preceded_next : IsPreceded p before_next
   preceded_next = record {
     follows = follows ∙ sym (grind (arith, nat_tests, some));
     total = refl;
-    sounded = kind ∙ ap (λ b. b || sounds_in m.pair.gathered.builder.kept m.pair.gathered.builder.snippets) (sym sounded);
+    sounded = sounded ∙ last_false p.sounded ∙ ap (λ (o : OpenSyllable). p.sounded || sounds_in o.kept o.snippets) (sym nothing);
     snippets = subst (λ (o : OpenSyllable). All (EndsBefore o.from) o.snippets) (sym nothing) (All-nil (EndsBefore 0));
     from = subst (λ (o : OpenSyllable). o.from ≤ length o.kept) (sym nothing) (omega arith);
   }
@@ -49,12 +48,16 @@ module _ (m : ScoreMachine) (rests : IsInBody m) (p : Preceding) (some : 1 ≤ p
   outset_next : IsAtOutset p
   outset_next none = absurd (omega (arith, some, none))
 
-  reads_next : (lines macros : ℕ) (b : BodyPart) → m.body.nabc_lines ≡ lines → m.body.macros ≡ macros → PartKeeps lines macros b (in_text []) → IsReading lines macros b p.spans before_next
-  reads_next lines macros b e f keeps =
-      let r : IsReading lines macros m.body.part m.bounds.behind.spans m.pair.gathered = rw (sym e, sym f) rests.reading in
-      let again = begins_again lines macros m.body.part b m.bounds.behind.spans m.pair.gathered r nothing keeps in
-      reads_with lines macros b m.bounds.behind.spans p.spans before_next spans
-      (record { parts = again.parts; keeps = again.keeps; said = record { builder = again.said.builder; eu = again.said.eu; nlba = again.said.nlba }; kept = again.kept; from = again.from; uncut = again.uncut })
+  reads_next : (lines macros : ℕ) (b : BodyPart) → PartKeeps lines macros b (in_text []) → IsReading lines macros b p.spans before_next
+  unfolding text.said_of
+  reads_next lines macros b keeps = record {
+    parts = in_text [];
+    keeps = keeps;
+    said = record { builder = nothing; eu = refl; nlba = refl };
+    kept = ap (λ (o : OpenSyllable). o.kept) nothing;
+    from = ap (λ (o : OpenSyllable). o.from) nothing;
+    uncut = rests.reading.uncut;
+  }
 
   -- It rests, whatever slots it has, in which this is gathered.
   pub rests_next : (pair : SlotPairState) (body : BodyStageState) (next at : Place) → pair.gathered ≡ before_next → is_made pair.used ≡ false → body ≡ record m.body { part = Text (fresh_stage at) }
@@ -76,7 +79,7 @@ module _ (m : ScoreMachine) (rests : IsInBody m) (p : Preceding) (some : 1 ≤ p
     lent = sym (grind (arith, nat_tests, some));
     code = ap (code_in m.limits) is ∙ none_passed m.limits before_next (record { kept = (let k = ap (λ (o : OpenSyllable). length o.kept) nothing in omega (arith, k)); over = rests.rests.over; file = λ some. absurd (cc some) });
     reading = subst (IsReading body.nabc_lines body.macros body.part p.spans) (sym is)
-        (reads_next body.nabc_lines body.macros body.part (sym (ap (λ (b : BodyStageState). b.nabc_lines) text)) (sym (ap (λ (b : BodyStageState). b.macros) text)) (keeps body.nabc_lines body.macros));
+        (reads_next body.nabc_lines body.macros body.part (keeps body.nabc_lines body.macros));
     units = none_held body.nabc_lines p pair.gathered.made (ap (λ (g : Gathered). g.made) is);
     within = within_none m.limits p pair.gathered outset_next (ap (λ (g : Gathered). g.made) is);
     front = λ e. absurd (true≢false (sym e ∙ ap (λ (b : BodyStageState). is_in_front b.part) text));

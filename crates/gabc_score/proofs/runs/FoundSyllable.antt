@@ -1,31 +1,38 @@
 -- A regular syllable that was found: its bytes, and what it makes.
-use Rattle.std.proofs.Common.{◌≡◌, ℕ, ◌+◌, ◌-◌, ◌<◌, ◌≤◌, ◌^◌, ◌||◌, not, min, nat_lt, Bool, true, false, cond, if◌then◌else◌, List, [], ◌∷◌, ◌++◌, length, take, drop, encode_utf8_all, refl, sym, ap, subst, ◌∙◌, arith, length-drop}
+use Rattle.std.proofs.Common.{◌≡◌, ℕ, ◌+◌, ◌-◌, ◌<◌, ◌≤◌, ◌^◌, ◌||◌, not, min, nat_lt, Bool, true, false, cond, if◌then◌else◌, List, [], ◌∷◌, ◌++◌, map, length, take, drop, encode_utf8_all, Option, Some, None, is_some, refl, sym, ap, subst, ◌∙◌, arith, length-drop}
 use Rattle.std.proofs.lemmas.Bool.Decides.{nat_tests}
 use Rattle.std.specs.List.{All}
 use Rattle.std.specs.Str.{IsUtf8, chars}
 use Rattle.std.proofs.Math.Seq.{take-append_seam}
 use Rattle.std.proofs.lemmas.Str.{encodes-chars}
+use Rattle.gabc_notes.specs.declared.item.ItemKind.{ItemKind}
 use Rattle.gabc_places.specs.TextOfAnInput.{IsPlain}
 use Rattle.gabc_places.specs.declared.limits.Limits.{Limits}
 use Rattle.gabc_score.specs.declared.before.Spans.{Spans}
+use Rattle.gabc_score.specs.declared.regular.SpanMark.{SpanMark}
 use Rattle.gabc_score.specs.declared.run.Found.{Found}
+use Rattle.gabc_score.specs.SpansPast.{eu_past, nlba_past}
+use Rattle.gabc_score.specs.SyllablesOfUnits.{span_tags}
+use Rattle.gabc_score.specs.declared.snippets.Snippet.{Snippet}
+use Rattle.gabc_score.specs.Before.{sounds, sounds_in, sounds_on}
 use Rattle.gabc_score.specs.Body.{is_longer}
 use Rattle.gabc_score.specs.Canonical.{canonical, canonical_in_place, position_by, starts_word}
 use Rattle.gabc_score.specs.GivesSyllables.{spelled_canonical}
-use Rattle.gabc_score.specs.RegularSyllable.{SyllableParts, spelled, notes_spelled, canonical_spelled, has_gap}
+use Rattle.gabc_score.specs.RegularSyllable.{SyllableParts, spelled, notes_spelled, canonical_spelled, kept_spelled, has_gap, line_and_text, snippet_texts}
 use Rattle.gabc_score.specs.Syllable.{UnplacedSyllable}
-use Rattle.gabc_score.specs.machine.Between.{IsMadeOf, with_one as gathered_with}
+use Rattle.gabc_score.specs.machine.Between.{IsMadeOf, SoundsNoMore, with_one as gathered_with}
 use Rattle.gabc_score.specs.machine.Gatherer.{Gathered}
-use Rattle.gabc_score.specs.machine.RegularLen.{IsUnmarked}
-use Rattle.gabc_score.specs.machine.Run.{IsFound, canonical_length}
+use Rattle.gabc_score.specs.machine.RegularLen.{BeginsWithTag, HasOnly, IsMarked, IsUnmarked, mark_at, past_mark}
+use Rattle.gabc_score.specs.machine.Run.{IsFound, IsSteady, SpellsFound, canonical_length, mark_of, sounds_among}
 use Rattle.gabc_score.specs.machine.ScoreMachine.{IsShort}
 use Rattle.gabc_score.specs.machine.SyllableBuilder.{OpenSyllable, nothing_open}
-use Rattle.gabc_score.proofs.regular_syllables.UnmarkedSyllables.{unmarked_eu, unmarked_nlba, gap_starts}
+use Rattle.gabc_score.proofs.regular_syllables.MarkedSyllables.{gap_starts, marked_past, unmarked_past}
+use Rattle.gabc_score.proofs.regular_syllables.TagsOfTexts.{mark_first}
 
 -- ---- what was gathered
 
--- a syllable that leaves the spans as they were and is within the limit
-module _ (h : Gathered) (m : UnplacedSyllable) (total size : ℕ) (nothing : h.builder ≡ nothing_open) (follows : h.follows ≡ true) (over : h.over ≡ false) (eu : m.eu ≡ h.eu) (nlba : m.nlba ≡ h.nlba)
+-- a syllable within the limit
+module _ (h : Gathered) (m : UnplacedSyllable) (total size : ℕ) (nothing : h.builder ≡ nothing_open) (follows : h.follows ≡ true) (over : h.over ≡ false)
     (len : length (canonical m.text.word_start m) ≡ size) (short : size ≤ h.limit) (kept : length m.kept ≤ h.limit) (low : total + size < 2 ^ 64 - 1) where
   abbrev most_of : Bool → ℕ
   most_of b = min (length (canonical (not b || m.text.word_start) m)) (2 ^ 64 - 1)
@@ -48,23 +55,39 @@ module _ (h : Gathered) (m : UnplacedSyllable) (total size : ℕ) (nothing : h.b
   total_min : min (total + most_of true) (2 ^ 64 - 1) ≡ total + size
   total_min = ap (λ n. min (total + n) (2 ^ 64 - 1)) size_min ∙ omega (arith, low)
 
-  back : by h.eu h.nlba false (total + size) ≡ record h { made = m ∷ []; total = total + size }
+  back : by m.eu m.nlba false (total + size) ≡ record h { made = m ∷ []; total = total + size; eu = m.eu; nlba = m.nlba }
   back =
-      ap (λ b. by h.eu h.nlba b (total + size)) (sym over)
-      ∙ ap (λ (o : OpenSyllable). record h { builder = o; made = m ∷ []; follows = true; total = total + size }) (sym nothing)
-      ∙ ap (λ b. record h { made = m ∷ []; follows = b; total = total + size }) (sym follows)
+      ap (λ b. by m.eu m.nlba b (total + size)) (sym over)
+      ∙ ap (λ (o : OpenSyllable). record h { builder = o; made = m ∷ []; follows = true; total = total + size; eu = m.eu; nlba = m.nlba }) (sym nothing)
+      ∙ ap (λ b. record h { made = m ∷ []; follows = b; total = total + size; eu = m.eu; nlba = m.nlba }) (sym follows)
 
-  pub gathered_one : (g : Gathered) (old : List UnplacedSyllable) → g ≡ record h { made = old; total = total } → gathered_with g m ≡ record h { made = m ∷ []; total = total + size }
-  gathered_one g old is =
+  pub gathered_one : (g : Gathered) (old : List UnplacedSyllable) (eu nlba : Bool) → g ≡ record h { made = old; total = total; eu = eu; nlba = nlba }
+      → gathered_with g m ≡ record h { made = m ∷ []; total = total + size; eu = m.eu; nlba = m.nlba }
+  gathered_one g old eu nlba is =
       ap (λ (k : Gathered). gathered_with k m) is
       ∙ ap (λ b. by m.eu m.nlba (is_over b h.over) (min (total + most_of b) (2 ^ 64 - 1))) follows
       ∙ ap (λ b. by m.eu m.nlba b (min (total + most_of true) (2 ^ 64 - 1))) not_over
       ∙ ap (by m.eu m.nlba false) total_min
-      ∙ ap (λ b. by b m.nlba false (total + size)) eu
-      ∙ ap (λ b. by h.eu b false (total + size)) nlba
       ∙ back
 
+-- ---- what sounds
+
+sound_as : (kept : List ℕ) (ss : List Snippet) → sounds_in kept ss ≡ sounds_among (map (line_and_text kept) ss)
+sound_as kept [] = refl
+sound_as kept (s ∷ ss) = ap (λ b. sounds_on kept s || b) (sound_as kept ss)
+
+-- a syllable sounds as the texts of its snippets
+pub sounds_as : (m : UnplacedSyllable) → sounds m ≡ sounds_among (snippet_texts m)
+sounds_as m = sound_as m.kept m.snippets
+
 -- ---- a syllable that was found
+
+-- a place in a word says whether a word begins there
+pub begins_there : (b starts : Bool) → starts_word (position_by b starts) ≡ b
+begins_there true true = refl
+begins_there true false = refl
+begins_there false true = refl
+begins_there false false = refl
 
 module _ (f : Found) (lines total : ℕ) (limits : Limits) (found : IsFound lines limits total f) where
   abbrev pub parts : SyllableParts
@@ -137,21 +160,39 @@ module _ (f : Found) (lines total : ℕ) (limits : Limits) (found : IsFound line
       canonical = (let k = ap (λ (l : List ℕ). length l) (canonical_with false) in let d = length-drop f.gap f.spelled.now in let s = found.syllable in omega (arith, k, d, s));
     }
 
-    unmarked_kept : IsUnmarked m.kept
-    unmarked_kept = subst IsUnmarked (sym made.kept) found.is.unmarked
+    -- where it is steady, it sounds no more than what stands before it
+    pub sounds_no_more : (first : Option ItemKind) → IsSteady lines first parts → SoundsNoMore (is_some first) (sounds m)
+    sounds_no_more first steady = subst (SoundsNoMore (is_some first)) (sym (sounds_as m ∙ ap sounds_among made.snippets_are)) steady
 
-    pub eu_stays : m.eu ≡ spans.eu
-    eu_stays = made.follows.eu ∙ unmarked_eu m spans.eu unmarked_kept
+    -- which spans are open after it its mark says
+    spans_by : (o : Option SpanMark) → BeginsWithTag o parts.text → IsMarked o (encode_utf8_all (kept_spelled parts)) → (eu_past m spans.eu ≡ (past_mark o spans).eu) × (nlba_past m spans.nlba ≡ (past_mark o spans).nlba)
+    spans_by None tagged none = unmarked_past lines made.unit.unit m made.unit.holds spans (subst IsUnmarked (sym made.kept) none)
+    spans_by (Some x) tagged only =
+        marked_past lines made.unit.unit m made.unit.holds spans x (span_tags tagged.0) (made.tags ∙ ap span_tags tagged.1 ∙ mark_first x tagged.0) (subst (HasOnly x) (sym made.kept) only)
 
-    pub nlba_stays : m.nlba ≡ spans.nlba
-    nlba_stays = made.follows.nlba ∙ unmarked_nlba m spans.nlba unmarked_kept
+    spans_after : (eu_past m spans.eu ≡ (past_mark (mark_of f) spans).eu) × (nlba_past m spans.nlba ≡ (past_mark (mark_of f) spans).nlba)
+    spans_after =
+        spans_by (mark_of f) (subst (λ (b : List ℕ). BeginsWithTag (mark_at (drop f.gap b)) parts.text) front_is found.is.tagged)
+        (subst (λ (b : List ℕ). IsMarked (mark_at (drop f.gap b)) (encode_utf8_all (kept_spelled parts))) front_is found.is.marked)
 
-    begins_there : (b starts : Bool) → starts_word (position_by b starts) ≡ b
-    begins_there true true = refl
-    begins_there true false = refl
-    begins_there false true = refl
-    begins_there false false = refl
+    pub eu_after : m.eu ≡ (past_mark (mark_of f) spans).eu
+    eu_after = made.follows.eu ∙ spans_after.0
+
+    pub nlba_after : m.nlba ≡ (past_mark (mark_of f) spans).nlba
+    nlba_after = made.follows.nlba ∙ spans_after.1
 
     -- the canonical text where it stands
-    pub canonical_there : (starts : Bool) → canonical_in_place (record { made = m; position = position_by m.text.word_start starts }) ≡ spelled_canonical (nat_lt 0 f.gap) (drop f.gap f.spelled.now)
+    canonical_there : (starts : Bool) → canonical_in_place (record { made = m; position = position_by m.text.word_start starts }) ≡ spelled_canonical (nat_lt 0 f.gap) (drop f.gap f.spelled.now)
     canonical_there starts = ap (λ b. canonical b m) (begins_there m.text.word_start starts ∙ word_is) ∙ canonical_with (nat_lt 0 f.gap)
+
+    -- what its slices say of it
+    pub spelled_there : (begins : Bool) → SpellsFound lines (past_mark (mark_of f) spans) begins f parts (record { made = m; position = position_by m.text.word_start begins })
+    spelled_there begins = record {
+      position = ap (λ b. position_by b begins) word_is;
+      eu = eu_after;
+      nlba = nlba_after;
+      kept = made.kept;
+      canonical = canonical_there begins;
+      text = made.text_is;
+      snippets = made.snippets_are;
+    }

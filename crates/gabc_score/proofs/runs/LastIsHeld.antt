@@ -5,7 +5,7 @@ use Rattle.std.proofs.lemmas.Bool.Decides.{nat_tests}
 use Rattle.std.proofs.lemmas.List.Elements.{All-nil}
 use Rattle.std.specs.Str.{chars}
 use Rattle.gabc_text.specs.TextStage.{fresh_stage}
-use Rattle.gabc_places.specs.Place.{placed_characters_from}
+use Rattle.gabc_places.specs.Place.{place_past, placed_characters_from}
 use Rattle.gabc_places.specs.StageLaw.{concat_of}
 use Rattle.gabc_places.specs.TextOfAnInput.{IsText}
 use Rattle.gabc_places.specs.declared.limits.Limits.{Limits}
@@ -16,7 +16,6 @@ use Rattle.gabc_score.specs.declared.events.BodyEvent.{BodyEvent}
 use Rattle.gabc_score.specs.declared.run.Found.{Found}
 use Rattle.gabc_score.specs.declared.score_machine.ScoreMachine.{ScoreMachine}
 use Rattle.gabc_score.specs.declared.score_machine.ScorePart.{ScorePart}
-use Rattle.gabc_score.specs.declared.score_machine.ScorePart.TheVariants as score_part
 use Rattle.gabc_score.specs.ScoreTells.{is_in_front}
 use Rattle.gabc_score.specs.Syllable.{PlacedSyllable}
 use Rattle.gabc_score.specs.witness.BodyStage.{BodyStageState, running_events_left}
@@ -24,14 +23,14 @@ use Rattle.gabc_score.specs.machine.Between.{lists_between, with_one as gathered
 use Rattle.gabc_score.specs.machine.BodyBuilder.{with_all}
 use Rattle.gabc_score.specs.machine.Gatherer.{Gathered}
 use Rattle.gabc_score.specs.machine.PartCounts.{CountsHold}
-use Rattle.gabc_score.specs.machine.PartKeeps.{begun, in_text, PartKeeps, ReadAlike}
+use Rattle.gabc_score.specs.machine.PartKeeps.{in_text, PartKeeps}
 use Rattle.gabc_score.specs.machine.PartOnly.{HasText, HoldsTexts}
 use Rattle.gabc_score.specs.machine.ReadAlone.{is_alone, lists_from, HasRead}
 use Rattle.gabc_score.specs.machine.Run.{IsFound, RunsBefore, StandsBetween}
 use Rattle.gabc_score.specs.machine.ScoreMachine.{IsInBody, IsScoreAt}
 use Rattle.gabc_score.specs.machine.SlotPair.{is_made}
 use Rattle.gabc_score.specs.machine.SyllableBuilder.{OpenSyllable, nothing_open}
-use Rattle.gabc_score.proofs.resuming.NothingIsRead.{begins_again, nothing_alike}
+use Rattle.gabc_score.proofs.resuming.NothingIsRead.{begins_again}
 use Rattle.gabc_score.proofs.runs.BeforeLast.{rests_next}
 use Rattle.gabc_score.proofs.runs.FoundSyllable.{front_is}
 use Rattle.gabc_score.proofs.runs.RunEnds.{EndsWith, before_last}
@@ -39,64 +38,50 @@ use Rattle.gabc_score.proofs.runs.RunGives.{HoldsLast}
 use Rattle.gabc_score.proofs.score_events.TextsArePlain.{nothing_plain}
 
 -- The machine goes on before a syllable of a run, where none is held.
-pub record GoesBefore (m : ScoreMachine) (p : Preceding) (f : Found) (on : ScoreMachine) : Type 0 where
+pub record GoesBefore (m : ScoreMachine) (p : Preceding) (at : Place) (on : ScoreMachine) : Type 0 where
   pub gathered : on.pair.gathered ≡ before_last m p
   pub used : is_made on.pair.used ≡ false
-  pub body : on.body ≡ record m.body { part = Text (fresh_stage f.at) }
+  pub body : on.body ≡ record m.body { part = Text (fresh_stage at) }
   pub counts : CountsHold on.body.part nothing_open
   pub keeps : (lines macros : ℕ) → PartKeeps lines macros on.body.part (in_text [])
-  pub is : on ≡ record m { pair = on.pair; has_lent = true; bounds = record { before = p; behind = p }; body = on.body; next = f.at }
+  pub is : on ≡ record m { pair = on.pair; has_lent = true; bounds = record { before = p; behind = p }; body = on.body; next = at }
 
 module _ (m : ScoreMachine) (at : Place) (t : List ℕ) (given : List PlacedSyllable) (starts : Bool) (p : Preceding) (next : Place) (runs : RunsBefore m at t given starts p next)
-    (stands : StandsBetween m at) (f : Found) (on : ScoreMachine) (goes : GoesBefore m p f on) where
-  alike : ReadAlike m.pair.gathered (begun m.bounds.behind.spans)
-  alike = nothing_alike m.body.nabc_lines m.body.macros m.body.part m.bounds.behind.spans m.pair.gathered stands.rests.reading (ap (λ (o : OpenSyllable). o.kept) stands.between.nothing)
-
-  spans_are : p.spans ≡ m.bounds.behind.spans
-  spans_are =
-      ap (λ b. record { eu = b; nlba = p.spans.nlba }) (runs.spans_are.0 ∙ alike.eu)
-      ∙ ap (λ b. record { eu = m.bounds.behind.spans.eu; nlba = b }) (runs.spans_are.1 ∙ alike.nlba)
-
+    (stands : StandsBetween m at) (f : Found) (on : ScoreMachine) (goes : GoesBefore m p next on) where
   -- it rests there
   pub rests_there : IsInBody on
   rests_there = subst IsInBody (sym goes.is)
-      (rests_next m stands.rests p runs.some runs.sounded spans_are stands.between.nothing stands.between.follows stands.between.sounded on.pair on.body f.at f.at goes.gathered goes.used goes.body goes.counts goes.keeps)
-
-  pub part_there : on.part ≡ score_part.Body
-  part_there = ap (λ (n : ScoreMachine). n.part) goes.is ∙ stands.part
-
-  pub none_there : on.pair.gathered.made ≡ []
-  none_there = ap (λ (g : Gathered). g.made) goes.gathered
+      (rests_next m stands.rests p runs.some runs.sounded stands.between.nothing stands.between.follows on.pair on.body next next goes.gathered goes.used goes.body goes.counts goes.keeps)
 
   limits_there : on.limits ≡ m.limits
   limits_there = ap (λ (n : ScoreMachine). n.limits) goes.is
 
-  lists_are : lists_from on f.at (chars f.spelled.now) ≡ lists_between m.body.nabc_lines m.body.macros f.at (chars f.spelled.now)
-  lists_are = ap (λ (b : BodyStageState). take (length (chars f.spelled.now)) (running_events_left b (placed_characters_from f.at (chars f.spelled.now)))) goes.body
+  lists_are : lists_from on next (chars f.spelled.now) ≡ lists_between m.body.nabc_lines m.body.macros next (chars f.spelled.now)
+  lists_are = ap (λ (b : BodyStageState). take (length (chars f.spelled.now)) (running_events_left b (placed_characters_from next (chars f.spelled.now)))) goes.body
 
   texts_there : HoldsTexts on.pair.gathered
   texts_there = subst HoldsTexts (sym goes.gathered) (subst IsText (sym (ap (λ (o : OpenSyllable). o.kept) stands.between.nothing)) nothing_plain, All-nil HasText)
 
-  module _ (ends : EndsWith m at t given p f) where
+  module _ (ends : EndsWith m at t given p f next) where
     -- the syllable is whole with its last character
-    pub is_alone_there : is_alone on.limits on.pair.gathered (lists_from on f.at (chars f.spelled.now)) ≡ true
+    pub is_alone_there : is_alone on.limits on.pair.gathered (lists_from on next (chars f.spelled.now)) ≡ true
     is_alone_there =
-        ap (λ (l : Limits). is_alone l on.pair.gathered (lists_from on f.at (chars f.spelled.now))) limits_there
-        ∙ ap (λ (g : Gathered). is_alone m.limits g (lists_from on f.at (chars f.spelled.now))) goes.gathered
+        ap (λ (l : Limits). is_alone l on.pair.gathered (lists_from on next (chars f.spelled.now))) limits_there
+        ∙ ap (λ (g : Gathered). is_alone m.limits g (lists_from on next (chars f.spelled.now))) goes.gathered
         ∙ ap (λ (ls : List (List BodyEvent)). is_alone m.limits (before_last m p) ls) lists_are
         ∙ ends.alone.alone
 
-    module _ (found : IsFound m.body.nabc_lines m.limits p.canonical f) (read : ScoreMachine) (has : HasRead on read (lists_from on f.at (chars f.spelled.now)))
+    module _ (found : IsFound m.body.nabc_lines m.limits p.canonical f) (read : ScoreMachine) (has : HasRead on read (lists_from on next (chars f.spelled.now)))
         (was : IsScoreAt read.part read) (texts : IsText f.spelled.now → HoldsTexts on.pair.gathered → HoldsTexts read.pair.gathered)
-        (body : BodyStageState) (begins : body ≡ record read.body { part = Text (fresh_stage f.next) }) (counts : CountsHold body.part nothing_open)
+        (body : BodyStageState) (begins : body ≡ record read.body { part = Text (fresh_stage (place_past next (chars f.spelled.now))) }) (counts : CountsHold body.part nothing_open)
         (keeps : (lines macros : ℕ) → PartKeeps lines macros body.part (in_text [])) where
       abbrev pub then : ScoreMachine
-      then = record read { body = body; next = f.next }
+      then = record read { body = body; next = place_past next (chars f.spelled.now) }
 
       gathered_is : read.pair.gathered ≡ gathered_with (before_last m p) ends.made
       gathered_is =
           has.gathered
-          ∙ ap (λ (g : Gathered). with_all g (concat_of (lists_from on f.at (chars f.spelled.now)))) goes.gathered
+          ∙ ap (λ (g : Gathered). with_all g (concat_of (lists_from on next (chars f.spelled.now)))) goes.gathered
           ∙ ap (λ (ls : List (List BodyEvent)). with_all (before_last m p) (concat_of ls)) lists_are
           ∙ ends.alone.gathered
 
@@ -135,14 +120,14 @@ module _ (m : ScoreMachine) (at : Place) (t : List ℕ) (given : List PlacedSyll
       spelled_is_text = subst IsText (front_is f m.body.nabc_lines p.canonical m.limits found) found.is.is_text
 
       -- and holds the syllable
-      pub holds_then : HoldsLast m p f ends.made then
+      pub holds_then : HoldsLast m p (place_past next (chars f.spelled.now)) ends.made then
       holds_then = record {
         limits = has.limits ∙ limits_there;
         part = has.part;
         begins = ap (λ (b : BodyStageState). b.part) begins;
         lines = lines_are ∙ has.lines ∙ ap (λ (b : BodyStageState). b.nabc_lines) goes.body;
         macros = macros_are ∙ has.macros ∙ ap (λ (b : BodyStageState). b.macros) goes.body;
-        next = refl;
+        at = refl;
         gathered = gathered_is;
         before = before_is;
         lent = rested.lent ∙ ap (λ (q : Preceding). nat_lt 0 q.syllables) before_is ∙ some;

@@ -1,5 +1,5 @@
 -- A run begins with the syllable that is held.
-use Rattle.std.proofs.Common.{◌≡◌, ◌||◌, not, Bool, true, false, List, [], ◌∷◌, length, refl, sym, ap, subst, ◌∙◌, arith}
+use Rattle.std.proofs.Common.{◌≡◌, ◌||◌, not, Bool, true, false, List, [], ◌∷◌, length, is_some, refl, sym, ap, ap₂, subst, ◌∙◌, arith}
 use Rattle.std.proofs.lemmas.List.Elements.{All-nil, All-cons, All-head}
 use Rattle.std.specs.List.{All}
 use Rattle.gabc_places.specs.TextOfAnInput.{IsPlain}
@@ -31,22 +31,24 @@ module _ (m : ScoreMachine) (at : Place) (held : UnplacedSyllable) (stands : Sta
   total_is : m.pair.gathered.total ≡ m.bounds.behind.canonical
   total_is = stands.rests.preceded.total ∙ ap (λ (p : Preceding). p.canonical) (sym stands.rests.behind)
 
-  sounded_is : m.bounds.behind.sounded ≡ true
+  sounded_is : is_some m.pair.gathered.first_kind ≡ m.bounds.behind.sounded
   sounded_is =
-      last_false m.bounds.behind.sounded
-      ∙ ap (λ (o : OpenSyllable). m.bounds.behind.sounded || sounds_in o.kept o.snippets) (sym stands.between.nothing)
-      ∙ ap (λ (p : Preceding). p.sounded || sounds_in m.pair.gathered.builder.kept m.pair.gathered.builder.snippets) stands.rests.behind
-      ∙ sym stands.rests.preceded.sounded ∙ stands.between.sounded
+      stands.rests.preceded.sounded
+      ∙ ap (λ (p : Preceding). p.sounded || sounds_in m.pair.gathered.builder.kept m.pair.gathered.builder.snippets) (sym stands.rests.behind)
+      ∙ ap (λ (o : OpenSyllable). m.bounds.behind.sounded || sounds_in o.kept o.snippets) stands.between.nothing
+      ∙ last_false m.bounds.behind.sounded
     where
-      last_false : (b : Bool) → b ≡ (b || false)
+      last_false : (b : Bool) → (b || false) ≡ b
       last_false true = refl
       last_false false = refl
 
   alike : ReadAlike m.pair.gathered (begun m.bounds.behind.spans)
   alike = nothing_alike m.body.nabc_lines m.body.macros m.body.part m.bounds.behind.spans m.pair.gathered stands.rests.reading (ap (λ (o : OpenSyllable). o.kept) stands.between.nothing)
 
-  gathered_is : m.pair.gathered ≡ record m.pair.gathered { made = held ∷ []; total = m.bounds.behind.canonical }
-  gathered_is = ap (λ (ms : List UnplacedSyllable). record m.pair.gathered { made = ms }) one ∙ ap (λ n. record m.pair.gathered { made = held ∷ []; total = n }) total_is
+  gathered_is : m.pair.gathered ≡ record m.pair.gathered { made = held ∷ []; total = m.bounds.behind.canonical; eu = m.bounds.behind.spans.eu; nlba = m.bounds.behind.spans.nlba }
+  gathered_is =
+      ap (λ (ms : List UnplacedSyllable). record m.pair.gathered { made = ms }) one ∙ ap (λ n. record m.pair.gathered { made = held ∷ []; total = n }) total_is
+      ∙ ap₂ (λ a b. record m.pair.gathered { made = held ∷ []; total = m.bounds.behind.canonical; eu = a; nlba = b }) alike.eu alike.nlba
 
   -- nothing is read yet, and it is given
   pub run_begins : (starts : Bool) → RunsBefore m at [] (record { made = held; position = position_by (not m.has_lent || held.text.word_start) starts } ∷ []) starts m.bounds.behind at
@@ -65,6 +67,5 @@ module _ (m : ScoreMachine) (at : Place) (held : UnplacedSyllable) (stands : Sta
     few = omega arith;
     some = (let e = ap (λ (p : Preceding). p.syllables) behind_is in omega (arith, e));
     sounded = sounded_is;
-    spans_are = (sym alike.eu, sym alike.nlba);
     input = (let t = total_is in let room = stands.between.total in omega (arith, t, room));
   }

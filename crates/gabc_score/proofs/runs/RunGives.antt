@@ -66,21 +66,21 @@ left_there n at first second part begins xs =
     ∙ ap (λ (b : BodyPart). body_left n.limits (held_score n) (events_from texts_by_stage n.body.nabc_lines n.body.macros (part_with b (characters_in xs)) (characters_in xs)) xs) begins
 
 -- After a run the machine holds its last syllable: it goes on with the next text.
-pub record HoldsLast (m : ScoreMachine) (p : Preceding) (f : Found) (made : UnplacedSyllable) (after : ScoreMachine) : Type 0 where
+pub record HoldsLast (m : ScoreMachine) (p : Preceding) (next : Place) (made : UnplacedSyllable) (after : ScoreMachine) : Type 0 where
   pub limits : after.limits ≡ m.limits
   pub part : after.part ≡ score_part.Body
-  pub begins : after.body.part ≡ Text (fresh_stage f.next)
+  pub begins : after.body.part ≡ Text (fresh_stage next)
   pub lines : after.body.nabc_lines ≡ m.body.nabc_lines
   pub macros : after.body.macros ≡ m.body.macros
-  pub next : after.next ≡ f.next
+  pub at : after.next ≡ next
   pub gathered : after.pair.gathered ≡ gathered_with (before_last m p) made
   pub before : after.bounds.before ≡ p
   pub lent : after.has_lent ≡ true
   pub texts : HoldsTexts after.pair.gathered
 
 module _ (m : ScoreMachine) (at : Place) (t : List ℕ) (given : List PlacedSyllable) (starts : Bool) (p : Preceding) (next : Place) (runs : RunsBefore m at t given starts p next)
-    (stands : StandsBetween m at) (f : Found) (found : IsFound m.body.nabc_lines m.limits p.canonical f) (place : f.at ≡ next) (column : next.column + length f.spelled.now < 2 ^ 63)
-    (ends : EndsWith m at t given p f) (after : ScoreMachine) (held : HoldsLast m p f ends.made after) (first second : PlacedSyllable) where
+    (stands : StandsBetween m at) (f : Found) (found : IsFound m.body.nabc_lines m.limits p.canonical f) (column : next.column + length f.spelled.now < 2 ^ 63)
+    (ends : EndsWith m at t given p f next) (after : ScoreMachine) (held : HoldsLast m p (place_past next (chars f.spelled.now)) ends.made after) (first second : PlacedSyllable) where
   abbrev before : ScoreStageState
   before = record (shown m) { first = first; second = second }
 
@@ -90,26 +90,29 @@ module _ (m : ScoreMachine) (at : Place) (t : List ℕ) (given : List PlacedSyll
   long : length t + 1 ≤ length text
   long = let some = some_are f m.body.nabc_lines p.canonical m.limits found in let n = length-append t (chars f.spelled.now) in omega (arith, some, n)
 
-  next_is : f.next ≡ place_past at text
-  next_is = found.next ∙ ap (λ (q : Place). place_past q (chars f.spelled.now)) (place ∙ runs.place) ∙ sym (place_append at t (chars f.spelled.now))
+  abbrev past : Place
+  past = place_past next (chars f.spelled.now)
+
+  next_is : past ≡ place_past at text
+  next_is = ap (λ (q : Place). place_past q (chars f.spelled.now)) runs.place ∙ sym (place_append at t (chars f.spelled.now))
 
   there : after.next ≡ place_past at text
-  there = held.next ∙ next_is
+  there = held.at ∙ next_is
 
-  end_is : held_score after ≡ record { next = f.next; gathered = gathered_with (before_last m p) ends.made; has_lent = true }
+  end_is : held_score after ≡ record { next = past; gathered = gathered_with (before_last m p) ends.made; has_lent = true }
   end_is =
-      ap (λ (q : Place). record { next = q; gathered = after.pair.gathered; has_lent = after.has_lent }) held.next
-      ∙ ap (λ (g : Gathered). record { next = f.next; gathered = g; has_lent = after.has_lent }) held.gathered
-      ∙ ap (λ b. record { next = f.next; gathered = gathered_with (before_last m p) ends.made; has_lent = b }) held.lent
+      ap (λ (q : Place). record { next = q; gathered = after.pair.gathered; has_lent = after.has_lent }) held.at
+      ∙ ap (λ (g : Gathered). record { next = past; gathered = g; has_lent = after.has_lent }) held.gathered
+      ∙ ap (λ b. record { next = past; gathered = gathered_with (before_last m p) ends.made; has_lent = b }) held.lent
 
   left_after : (xs : List HeadEvent) → left_of (shown after) xs
-      ≡ left_between m.limits m.body.nabc_lines m.body.macros f.next (record { next = f.next; gathered = gathered_with (before_last m p) ends.made; has_lent = true }) xs
+      ≡ left_between m.limits m.body.nabc_lines m.body.macros past (record { next = past; gathered = gathered_with (before_last m p) ends.made; has_lent = true }) xs
   left_after xs =
-      left_there after f.next after.pair.first after.pair.second held.part held.begins xs
-      ∙ ap (λ l. left_between l after.body.nabc_lines after.body.macros f.next (held_score after) xs) held.limits
-      ∙ ap (λ l. left_between m.limits l after.body.macros f.next (held_score after) xs) held.lines
-      ∙ ap (λ l. left_between m.limits m.body.nabc_lines l f.next (held_score after) xs) held.macros
-      ∙ ap (λ (s : HeldScore). left_between m.limits m.body.nabc_lines m.body.macros f.next s xs) end_is
+      left_there after past after.pair.first after.pair.second held.part held.begins xs
+      ∙ ap (λ l. left_between l after.body.nabc_lines after.body.macros past (held_score after) xs) held.limits
+      ∙ ap (λ l. left_between m.limits l after.body.macros past (held_score after) xs) held.lines
+      ∙ ap (λ l. left_between m.limits m.body.nabc_lines l past (held_score after) xs) held.macros
+      ∙ ap (λ (s : HeldScore). left_between m.limits m.body.nabc_lines m.body.macros past s xs) end_is
 
   law_is : (xs : List HeadEvent) → left_of before (text_inputs at text ++ xs) ≡ ends.through.points ++ left_of (shown after) xs
   law_is xs =
@@ -133,12 +136,11 @@ module _ (m : ScoreMachine) (at : Place) (t : List ℕ) (given : List PlacedSyll
       let low = low_by next (chars f.spelled.now) in
       let k = low.1 in
       let few = few_characters f.spelled.now (utf8_is f m.body.nabc_lines p.canonical m.limits found) in
-      let c = ap (λ (q : Place). q.column) (found.next ∙ ap (λ (q : Place). place_past q (chars f.spelled.now)) place) in
-      let e = ap (λ (q : Place). q.column) held.next in
+      let e = ap (λ (q : Place). q.column) held.at in
       record {
         line = subst (λ (q : Place). 1 ≤ q.line) (sym there) from.0;
         column = subst (λ (q : Place). 1 ≤ q.column) (sym there) from.1;
-        in_64_bits = omega (arith, k, few, c, e, column);
+        in_64_bits = omega (arith, k, few, e, column);
       }
 
   told_is : at ≡ m.next → TellsOfText before → TellsOfText (shown after)
@@ -162,7 +164,7 @@ module _ (m : ScoreMachine) (at : Place) (t : List ℕ) (given : List PlacedSyll
   holds_is : HoldsIfAny (shown after)
   holds_is body none = absurd (cc (sym (ap (λ (q : ScorePart). held_in_body q after.pair.gathered.made) held.part ∙ ap (λ (g : Gathered). held_in_body score_part.Body g.made) held.gathered) ∙ none))
 
-  stands_there : (q : Place) → q ≡ f.next → StandsAt q after.body.part
+  stands_there : (q : Place) → q ≡ past → StandsAt q after.body.part
   stands_there q e = subst (StandsAt q) (sym held.begins) (sym e)
 
   -- what was given, and how it goes on
@@ -172,7 +174,7 @@ module _ (m : ScoreMachine) (at : Place) (t : List ℕ) (given : List PlacedSyll
     part = held.part ∙ sym stands.part;
     before_held = held.before ∙ runs.before;
     next = there ∙ sym (next_past at m.next text (let l = long in omega (arith, l)));
-    stands = λ here was body. stands_there after.next held.next;
+    stands = λ here was body. stands_there after.next held.at;
     whole = few_whole;
     told = λ here was told. told_is here told;
     holds = λ was. holds_is;
@@ -182,5 +184,6 @@ module _ (m : ScoreMachine) (at : Place) (t : List ℕ) (given : List PlacedSyll
     one_each = ends.through.one_each;
     given_are = ends.through.given_are;
     law = law_is;
+    in_heads = λ heads. absurd (cc (sym stands.part ∙ heads));
     none = λ e. absurd (let n = ap (λ (l : List ℕ). length l) e in let l = long in omega (arith, n, l));
   }

@@ -1,5 +1,5 @@
 -- A run goes on with one more regular syllable.
-use Rattle.std.proofs.Common.{◌≡◌, ℕ, ◌+◌, ◌<◌, ◌≤◌, ◌^◌, ◌==◌, ◌||◌, not, min, nat_lt, Bool, true, false, List, [], ◌∷◌, ◌++◌, length, map, take, drop, encode_utf8_all, refl, sym, ap, subst, ◌∙◌, arith, length-append}
+use Rattle.std.proofs.Common.{◌≡◌, ℕ, ◌+◌, ◌<◌, ◌≤◌, ◌^◌, ◌==◌, ◌||◌, not, min, nat_lt, Bool, true, false, List, [], ◌∷◌, ◌++◌, length, map, take, encode_utf8_all, Option, is_some, refl, sym, ap, ap₂, subst, ◌∙◌, arith, length-append}
 use Rattle.std.proofs.lemmas.Bool.Decides.{nat_tests}
 use Rattle.std.proofs.lemmas.List.Elements.{All-nil, All-cons, All-append}
 use Rattle.std.specs.Str.{IsUtf8, chars}
@@ -9,27 +9,27 @@ use Rattle.gabc_places.specs.TextOfAnInput.{IsPlain}
 use Rattle.gabc_places.specs.Place.{place_past, next_place}
 use Rattle.gabc_places.specs.declared.place.Place.{Place}
 use Rattle.gabc_places.proofs.PlacesOfAText.{place_append, within_on}
+use Rattle.gabc_notes.specs.declared.item.ItemKind.{ItemKind}
 use Rattle.gabc_text.specs.Events.{CountsFit}
 use Rattle.gabc_score.specs.declared.before.Preceding.{Preceding}
 use Rattle.gabc_score.specs.declared.before.Spans.{Spans}
 use Rattle.gabc_score.specs.declared.run.Found.{Found}
 use Rattle.gabc_score.specs.declared.score_machine.ScoreMachine.{ScoreMachine}
 use Rattle.gabc_score.specs.Before.{most, with_one, with_each, with_placed, sounds}
-use Rattle.gabc_score.specs.Canonical.{canonical, canonical_in_place, position_by}
-use Rattle.gabc_score.specs.GivesSyllables.{spelled_canonical}
+use Rattle.gabc_score.specs.Canonical.{canonical, position_by}
 use Rattle.gabc_score.specs.RegularSyllable.{SyllableParts, IsRegularSyllable, spelled}
 use Rattle.gabc_score.specs.ScoreStage.{IsWithin}
 use Rattle.gabc_score.specs.Syllable.{UnplacedSyllable, PlacedSyllable}
-use Rattle.gabc_score.specs.machine.Between.{IsBetween, LeavesRoomFor, GoesThrough, Makes, with_one as gathered_with, past_one, given_before}
+use Rattle.gabc_score.specs.machine.Between.{IsBetween, LeavesRoomFor, GoesThrough, Makes, SoundsNoMore, with_one as gathered_with, past_one, given_before}
 use Rattle.gabc_score.specs.machine.Gatherer.{Gathered}
 use Rattle.gabc_score.specs.machine.Preceded.{spans_of}
-use Rattle.gabc_score.specs.machine.Run.{IsFound, StandsBetween, RunsBefore, canonical_length, past_found}
+use Rattle.gabc_score.specs.machine.Run.{IsFound, IsSteady, SpellsFound, StandsBetween, RunsBefore, canonical_length, past_found}
 use Rattle.gabc_score.specs.machine.ScoreMachine.{held_score}
 use Rattle.gabc_score.specs.machine.ScoreStage.{HeldScore, placed_behind}
 use Rattle.gabc_score.proofs.score_events.FewAndShortAreLent.{short_within}
 use Rattle.gabc_score.proofs.score_events.WhatPrecedes.{each_then}
 use Rattle.gabc_score.proofs.texts_of_body.StageAndDefinitionAgree.{bytes_encodes}
-use Rattle.gabc_score.proofs.runs.FoundSyllable.{gathered_one, parts, characters_are, bytes_are, plain_is, some_are, length_is, word_is, size_is, kept_length, is_short, eu_stays, nlba_stays, canonical_there}
+use Rattle.gabc_score.proofs.runs.FoundSyllable.{gathered_one, parts, characters_are, bytes_are, plain_is, some_are, length_is, word_is, size_is, kept_length, is_short, eu_after, nlba_after, sounds_no_more, spelled_there}
 use Rattle.gabc_score.proofs.runs.Throughs.{through_both}
 
 -- ---- the place
@@ -68,30 +68,37 @@ MakeSyllables =
 
 -- It has read the syllable that was found too, which is placed before one that begins a word or
 -- not.
-pub record GoesOnWith (m : ScoreMachine) (at : Place) (t : List ℕ) (given : List PlacedSyllable) (p : Preceding) (f : Found) (begins : Bool) : Type 0 where
+pub record GoesOnWith (m : ScoreMachine) (at : Place) (t : List ℕ) (given : List PlacedSyllable) (p : Preceding) (f : Found) (r : SyllableParts) (begins : Bool) : Type 0 where
   pub placed : PlacedSyllable
-  pub canonical_is : canonical_in_place placed ≡ spelled_canonical (nat_lt 0 f.gap) (drop f.gap f.spelled.now)
-  pub runs : RunsBefore m at (t ++ chars f.spelled.now) (given ++ placed ∷ []) begins (past_found p f) f.next
+  pub spells : SpellsFound m.body.nabc_lines (past_found p f).spans begins f r placed
+  pub runs : RunsBefore m at (t ++ chars f.spelled.now) (given ++ placed ∷ []) begins (past_found p f) (place_past at (t ++ chars f.spelled.now))
 
 module _ (m : ScoreMachine) (at : Place) (t : List ℕ) (given : List PlacedSyllable) (starts : Bool) (p : Preceding) (next : Place) (runs : RunsBefore m at t given starts p next)
-    (stands : StandsBetween m at) (f : Found) (found : IsFound m.body.nabc_lines m.limits p.canonical f) (place : f.at ≡ next) (start : nat_lt 0 f.gap ≡ starts) where
+    (stands : StandsBetween m at) (f : Found) (found : IsFound m.body.nabc_lines m.limits p.canonical f) (start : nat_lt 0 f.gap ≡ starts)
+    (steady : IsSteady m.body.nabc_lines m.pair.gathered.first_kind found.is.syllable) where
   abbrev pub r : SyllableParts
   r = parts f m.body.nabc_lines p.canonical m.limits found
 
   abbrev pub spans : Spans
-  spans = spans_of m.pair.gathered
+  spans = p.spans
 
   bytes : encode_utf8_all (spelled r) ≡ f.spelled.now
   bytes = bytes_are f m.body.nabc_lines p.canonical m.limits found
 
-  module _ (one : UnplacedSyllable) (makes : Makes m.body.nabc_lines m.body.macros f.at r spans one) where
-    pub between : (s : HeldScore) (made : List UnplacedSyllable) → length made ≤ 1 → s.gathered ≡ record m.pair.gathered { made = made; total = p.canonical } → IsBetween m.limits s
+  -- the place after it
+  abbrev pub past : Place
+  past = place_past next (chars f.spelled.now)
+
+  pub past_is : past ≡ place_past at (t ++ chars f.spelled.now)
+  past_is = ap (λ (q : Place). place_past q (chars f.spelled.now)) runs.place ∙ sym (place_append at t (chars f.spelled.now))
+
+  module _ (one : UnplacedSyllable) (makes : Makes m.body.nabc_lines m.body.macros next r spans one) where
+    pub between : (s : HeldScore) (made : List UnplacedSyllable) → length made ≤ 1 → s.gathered ≡ record m.pair.gathered { made = made; total = p.canonical; eu = p.spans.eu; nlba = p.spans.nlba } → IsBetween m.limits s
     between s made few is = subst (λ (g : Gathered). IsBetween m.limits (record s { gathered = g })) (sym is) (record {
       nothing = stands.between.nothing;
       limit = stands.between.limit;
       few = few;
       follows = stands.between.follows;
-      sounded = stands.between.sounded;
       over = stands.between.over;
       total = runs.input;
     })
@@ -103,16 +110,17 @@ module _ (m : ScoreMachine) (at : Place) (t : List ℕ) (given : List PlacedSyll
         let i = found.input in
         record { syllable = omega (arith, e, s); input = omega (arith, e, total, i) }
 
-    after_is : f.next ≡ place_past f.at (spelled r)
-    after_is = found.next ∙ ap (place_past f.at) (characters_are f m.body.nabc_lines p.canonical m.limits found)
+    -- no note and no clef comes with it, or one has come
+    pub steady_one : (g : Gathered) → g.first_kind ≡ m.pair.gathered.first_kind → SoundsNoMore (is_some g.first_kind) (sounds one)
+    steady_one g e = subst (λ (k : Option ItemKind). SoundsNoMore (is_some k) (sounds one)) (sym e)
+        (sounds_no_more f m.body.nabc_lines p.canonical m.limits found spans one makes.made m.pair.gathered.first_kind steady)
 
-    through_one : GoesThrough m.limits m.body.nabc_lines m.body.macros next runs.s (chars f.spelled.now) (given_before runs.s one) f.next (past_one runs.s f.next one)
+    through_one : GoesThrough m.limits m.body.nabc_lines m.body.macros next runs.s (chars f.spelled.now) (given_before runs.s one) past (past_one runs.s past one)
     through_one =
-        subst (λ (q : Place). GoesThrough m.limits m.body.nabc_lines m.body.macros q runs.s (chars f.spelled.now) (given_before runs.s one) f.next (past_one runs.s f.next one)) place
-        (subst (λ (u : List ℕ). GoesThrough m.limits m.body.nabc_lines m.body.macros f.at runs.s u (given_before runs.s one) f.next (past_one runs.s f.next one))
+        subst (λ (u : List ℕ). GoesThrough m.limits m.body.nabc_lines m.body.macros next runs.s u (given_before runs.s one) (place_past next u) (past_one runs.s (place_past next u) one))
         (sym (characters_are f m.body.nabc_lines p.canonical m.limits found))
-        (subst (λ (q : Place). GoesThrough m.limits m.body.nabc_lines m.body.macros f.at runs.s (spelled r) (given_before runs.s one) q (past_one runs.s q one)) (sym after_is)
-        (makes.through m.limits runs.s (between runs.s (runs.held ∷ []) (omega arith) runs.gathered) (ap spans_of runs.gathered) (leaves runs.s.gathered (ap (λ (g : Gathered). g.total) runs.gathered)))))
+        (makes.through m.limits runs.s (between runs.s (runs.held ∷ []) (omega arith) runs.gathered) (steady_one runs.s.gathered (ap (λ (g : Gathered). g.first_kind) runs.gathered)) (ap spans_of runs.gathered)
+        (leaves runs.s.gathered (ap (λ (g : Gathered). g.total) runs.gathered)))
 
     word : one.text.word_start ≡ starts
     word = word_is f m.body.nabc_lines p.canonical m.limits found spans one makes.made ∙ start
@@ -124,15 +132,15 @@ module _ (m : ScoreMachine) (at : Place) (t : List ℕ) (given : List PlacedSyll
         ∙ sym runs.given_are
 
     -- through the syllable the one is given that was held
-    pub through_all : GoesThrough m.limits m.body.nabc_lines m.body.macros at (held_score m) (t ++ chars f.spelled.now) given f.next (past_one runs.s f.next one)
-    through_all = subst (λ (ss : List PlacedSyllable). GoesThrough m.limits m.body.nabc_lines m.body.macros at (held_score m) (t ++ chars f.spelled.now) ss f.next (past_one runs.s f.next one)) given_is
-        (through_both m.limits m.body.nabc_lines m.body.macros at (held_score m) runs.s (past_one runs.s f.next one) t (chars f.spelled.now) runs.earlier (given_before runs.s one) next f.next runs.place runs.through through_one)
+    pub through_all : GoesThrough m.limits m.body.nabc_lines m.body.macros at (held_score m) (t ++ chars f.spelled.now) given past (past_one runs.s past one)
+    through_all = subst (λ (ss : List PlacedSyllable). GoesThrough m.limits m.body.nabc_lines m.body.macros at (held_score m) (t ++ chars f.spelled.now) ss past (past_one runs.s past one)) given_is
+        (through_both m.limits m.body.nabc_lines m.body.macros at (held_score m) runs.s (past_one runs.s past one) t (chars f.spelled.now) runs.earlier (given_before runs.s one) next past runs.place runs.through through_one)
 
-    eu_is : one.eu ≡ m.pair.gathered.eu
-    eu_is = eu_stays f m.body.nabc_lines p.canonical m.limits found spans one makes.made
+    eu_is : one.eu ≡ (past_found p f).spans.eu
+    eu_is = eu_after f m.body.nabc_lines p.canonical m.limits found spans one makes.made
 
-    nlba_is : one.nlba ≡ m.pair.gathered.nlba
-    nlba_is = nlba_stays f m.body.nabc_lines p.canonical m.limits found spans one makes.made
+    nlba_is : one.nlba ≡ (past_found p f).spans.nlba
+    nlba_is = nlba_after f m.body.nabc_lines p.canonical m.limits found spans one makes.made
 
     size : length (canonical one.text.word_start one) ≡ canonical_length f
     size = size_is f m.body.nabc_lines p.canonical m.limits found spans one makes.made
@@ -140,14 +148,17 @@ module _ (m : ScoreMachine) (at : Place) (t : List ℕ) (given : List PlacedSyll
     few_bytes : canonical_length f ≤ length f.spelled.now
     few_bytes = length_is f m.body.nabc_lines p.canonical m.limits found
 
-    -- no more of what is gathered changes than the syllable that is held, and the bytes before
-    pub gathered_is : gathered_with runs.s.gathered one ≡ record m.pair.gathered { made = one ∷ []; total = (past_found p f).canonical }
+    -- no more of what is gathered changes than the syllable that is held, the bytes before and the
+    -- open spans
+    pub gathered_is : gathered_with runs.s.gathered one
+        ≡ record m.pair.gathered { made = one ∷ []; total = (past_found p f).canonical; eu = (past_found p f).spans.eu; nlba = (past_found p f).spans.nlba }
     gathered_is =
-        gathered_one m.pair.gathered one p.canonical (canonical_length f) stands.between.nothing stands.between.follows stands.between.over eu_is nlba_is size
+        gathered_one m.pair.gathered one p.canonical (canonical_length f) stands.between.nothing stands.between.follows stands.between.over size
         (let l = stands.between.limit in let s = found.syllable in omega (arith, few_bytes, l, s))
         (let l = stands.between.limit in let s = found.syllable in let k = kept_length f m.body.nabc_lines p.canonical m.limits found spans one makes.made in omega (arith, few_bytes, k, l, s))
         (let i = found.input in let top = m.limits.in_range.input_most in omega (arith, few_bytes, i, top))
-        runs.s.gathered (runs.held ∷ []) runs.gathered
+        runs.s.gathered (runs.held ∷ []) p.spans.eu p.spans.nlba runs.gathered
+        ∙ ap₂ (λ a b. record m.pair.gathered { made = one ∷ []; total = (past_found p f).canonical; eu = a; nlba = b }) eu_is nlba_is
 
     pub lent_is : (runs.s.has_lent || nat_lt 0 (length runs.s.gathered.made)) ≡ true
     lent_is = ap (λ (g : Gathered). runs.s.has_lent || nat_lt 0 (length g.made)) runs.gathered ∙ or_true runs.s.has_lent
@@ -161,9 +172,9 @@ module _ (m : ScoreMachine) (at : Place) (t : List ℕ) (given : List PlacedSyll
         ap (λ b. record { syllables = min (p.syllables + 1) most; canonical = min (p.canonical + min (length (canonical (b || one.text.word_start) one)) most) most; spans = record { eu = one.eu; nlba = one.nlba }; sounded = p.sounded || sounds one }) none_first
         ∙ ap (λ n. record { syllables = min (p.syllables + 1) most; canonical = min (p.canonical + min n most) most; spans = record { eu = one.eu; nlba = one.nlba }; sounded = p.sounded || sounds one }) size
         ∙ ap (λ n. record { syllables = min (p.syllables + 1) most; canonical = n; spans = record { eu = one.eu; nlba = one.nlba }; sounded = p.sounded || sounds one }) low
-        ∙ ap (λ b. record { syllables = min (p.syllables + 1) most; canonical = p.canonical + canonical_length f; spans = record { eu = b; nlba = one.nlba }; sounded = p.sounded || sounds one }) (eu_is ∙ sym runs.spans_are.0)
-        ∙ ap (λ b. record { syllables = min (p.syllables + 1) most; canonical = p.canonical + canonical_length f; spans = record { eu = p.spans.eu; nlba = b }; sounded = p.sounded || sounds one }) (nlba_is ∙ sym runs.spans_are.1)
-        ∙ ap (λ b. record { syllables = min (p.syllables + 1) most; canonical = p.canonical + canonical_length f; spans = p.spans; sounded = b }) (ap (λ b. b || sounds one) runs.sounded ∙ sym runs.sounded)
+        ∙ ap (λ b. record { syllables = min (p.syllables + 1) most; canonical = p.canonical + canonical_length f; spans = record { eu = b; nlba = one.nlba }; sounded = p.sounded || sounds one }) eu_is
+        ∙ ap (λ b. record { syllables = min (p.syllables + 1) most; canonical = p.canonical + canonical_length f; spans = record { eu = (past_found p f).spans.eu; nlba = b }; sounded = p.sounded || sounds one }) nlba_is
+        ∙ ap (λ b. record { syllables = min (p.syllables + 1) most; canonical = p.canonical + canonical_length f; spans = (past_found p f).spans; sounded = b }) (subst (λ b. SoundsNoMore b (sounds one)) runs.sounded (steady_one m.pair.gathered refl))
       where
         none_first : (p.syllables == 0) ≡ false
         none_first = let some = runs.some in grind (arith, nat_tests, some)
@@ -177,26 +188,25 @@ module _ (m : ScoreMachine) (at : Place) (t : List ℕ) (given : List PlacedSyll
         ∙ sym (each_then m.bounds.before (map (λ (s : PlacedSyllable). s.made) given) placed.made)
         ∙ ap (with_each m.bounds.before) (sym (map-append (λ (s : PlacedSyllable). s.made) given (placed ∷ [])))
 
-    goes_on_by : (begins : Bool) → GoesOnWith m at t given p f begins
+    goes_on_by : (begins : Bool) → GoesOnWith m at t given p f r begins
     goes_on_by begins = let placed : PlacedSyllable = record { made = one; position = position_by one.text.word_start begins } in record {
       placed = placed;
-      canonical_is = canonical_there f m.body.nabc_lines p.canonical m.limits found spans one makes.made begins;
+      spells = spelled_there f m.body.nabc_lines p.canonical m.limits found spans one makes.made begins;
       runs = record {
         held = one;
-        s = past_one runs.s f.next one;
+        s = past_one runs.s past one;
         earlier = given;
-        through = through_all;
+        through = subst (λ (q : Place). GoesThrough m.limits m.body.nabc_lines m.body.macros at (held_score m) (t ++ chars f.spelled.now) given q (past_one runs.s past one)) past_is through_all;
         gathered = gathered_is;
         given_are = ap (λ b. given ++ record { made = one; position = position_by (not b || one.text.word_start) begins } ∷ []) (sym lent_is);
         before = before_is placed refl;
-        place = found.next ∙ ap (λ (q : Place). place_past q (chars f.spelled.now)) (place ∙ runs.place) ∙ sym (place_append at t (chars f.spelled.now));
+        place = refl;
         within = All-append (IsWithin m.limits) given (placed ∷ []) runs.within
             (All-cons (IsWithin m.limits) placed [] (short_within m.limits placed.position one (is_short f m.body.nabc_lines p.canonical m.limits found spans one makes.made)) (All-nil (IsWithin m.limits)));
         plain = All-append IsPlain t (chars f.spelled.now) runs.plain (plain_is f m.body.nabc_lines p.canonical m.limits found);
         few = few_given;
         some = omega arith;
         sounded = runs.sounded;
-        spans_are = runs.spans_are;
         input = (let i = found.input in omega (arith, few_bytes, i));
       };
     }
@@ -214,17 +224,15 @@ module _ (m : ScoreMachine) (at : Place) (t : List ℕ) (given : List PlacedSyll
     small : length (encode_utf8_all (spelled r)) < 2 ^ 63
     small = let e = ap (λ (b : List ℕ). length b) bytes in omega (arith, e, line)
 
-    fits : CountsFit f.at (spelled r)
+    fits : CountsFit next (spelled r)
     fits =
         let e = ap (λ (b : List ℕ). length b) bytes in
         let few = length-le-encodes (spelled r) in
-        let l = ap (λ (q : Place). q.line) place in
-        let c = ap (λ (q : Place). q.column) place in
-        record { line = omega (arith, e, few, l, line); column = omega (arith, e, few, c, column); bytes = (let n = bytes_encodes (spelled r) in omega (arith, n, e, line)) }
+        record { line = omega (arith, e, few, line); column = omega (arith, e, few, column); bytes = (let n = bytes_encodes (spelled r) in omega (arith, n, e, line)) }
 
     -- what it makes
-    pub found_one : (one : UnplacedSyllable) × Makes m.body.nabc_lines m.body.macros f.at r spans one
-    found_one = law m.body.nabc_lines m.body.macros f.at r spans found.is.is_regular fits small
+    pub found_one : (one : UnplacedSyllable) × Makes m.body.nabc_lines m.body.macros next r spans one
+    found_one = law m.body.nabc_lines m.body.macros next r spans found.is.is_regular fits small
 
-    pub goes_on : (begins : Bool) → GoesOnWith m at t given p f begins
+    pub goes_on : (begins : Bool) → GoesOnWith m at t given p f r begins
     goes_on = goes_on_by found_one.0 found_one.1

@@ -1,7 +1,7 @@
 -- A run that a machine takes from a text.
 use Rattle.std.proofs.Common.{◌≡◌, ℕ, ◌+◌, ◌-◌, ◌<◌, ◌≤◌, ◌^◌, ◌||◌, not, nat_lt, Bool, true, false, List, [], ◌∷◌, ◌++◌, length, take, refl, sym, ap, subst, ◌∙◌, arith, append_assoc, length-append}
 use Rattle.std.specs.List.{All}
-use Rattle.std.specs.Str.{IsUtf8, chars}
+use Rattle.std.specs.Str.{IsCharBoundary, IsUtf8, chars}
 use Rattle.std.specs.String.Boundary.{IsSplitPoint}
 use Rattle.std.proofs.Math.Seq.{take-append_seam}
 use Rattle.std.proofs.lemmas.List.Elements.{All-append, All-nil}
@@ -26,7 +26,7 @@ use Rattle.gabc_score.specs.machine.PartCounts.{CountsHold}
 use Rattle.gabc_score.specs.machine.PartKeeps.{in_text, PartKeeps}
 use Rattle.gabc_score.specs.machine.PartOnly.{HoldsTexts}
 use Rattle.gabc_score.specs.machine.ReadAlone.{is_alone, lists_from, HasRead}
-use Rattle.gabc_score.specs.machine.Run.{IsFound, IsSamePair, StandsBetween, RunsBefore, RunsTo}
+use Rattle.gabc_score.specs.machine.Run.{IsFound, IsSamePair, IsSteady, StandsBetween, RunsBefore, RunsTo}
 use Rattle.gabc_score.specs.machine.ScoreMachine.{shown, IsInBody, IsScoreAt}
 use Rattle.gabc_score.specs.machine.SlotPair.{SlotPairState, is_made}
 use Rattle.gabc_score.specs.machine.SyllableBuilder.{nothing_open}
@@ -58,6 +58,7 @@ gives_none s at first second = record {
   given_are = refl;
   law = λ xs. refl;
   none = λ e. refl;
+  in_heads = λ heads. refl;
 }
 
 -- what a machine shows whose slots are used otherwise
@@ -72,8 +73,8 @@ shown_same old new same first second =
 abbrev pub placed_first : ScoreMachine → UnplacedSyllable → Bool → PlacedSyllable
 placed_first m x starts = record { made = x; position = position_by (not m.has_lent || x.text.word_start) starts }
 
-module _ (m : ScoreMachine) (at : Place) (text : List ℕ) (first : Found) (stands : StandsBetween m at) (lines : ℕ) (lines_are : lines ≡ m.body.nabc_lines)
-    (found : IsFound lines m.limits m.bounds.behind.canonical first) (place : first.at ≡ at) (is : text ≡ first.spelled.now ++ first.rest.now)
+module _ (m : ScoreMachine) (at : Place) (text : List ℕ) (first : Found) (stands : StandsBetween m at)
+    (found : IsFound m.body.nabc_lines m.limits m.bounds.behind.canonical first) (steady : IsSteady m.body.nabc_lines m.pair.gathered.first_kind found.is.syllable) (is : text ≡ first.spelled.now ++ first.rest.now)
     (line : at.line + length text < 2 ^ 63) (column : at.column + length text < 2 ^ 63) where
   abbrev pub reached_first : Reached
   reached_first = record { last = first; before = m.bounds.behind }
@@ -92,10 +93,10 @@ module _ (m : ScoreMachine) (at : Place) (text : List ℕ) (first : Found) (stan
         stands = there;
         bytes = [];
         utf8 = IsUtf8-nil;
-        runs = subst (λ (t : List ℕ). RunsBefore (record m { pair = pair }) at t given_first (nat_lt 0 first.gap) m.bounds.behind first.at) (sym chars-nil)
-            (subst (RunsBefore (record m { pair = pair }) at [] given_first (nat_lt 0 first.gap) m.bounds.behind) (sym place)
-            (run_begins (record m { pair = pair }) at held_first.0 there (ap (λ (g : Gathered). g.made) gathered ∙ held_first.1) (nat_lt 0 first.gap)));
-        found = subst (λ n. IsFound n m.limits m.bounds.behind.canonical first) lines_are found;
+        runs = subst (λ (t : List ℕ). RunsBefore (record m { pair = pair }) at t given_first (nat_lt 0 first.gap) m.bounds.behind (place_past at t)) (sym chars-nil)
+            (run_begins (record m { pair = pair }) at held_first.0 there (ap (λ (g : Gathered). g.made) gathered ∙ held_first.1) (nat_lt 0 first.gap));
+        found = found;
+        steady = subst (λ (g : Gathered). IsSteady m.body.nabc_lines g.first_kind found.is.syllable) (sym gathered) steady;
         text_is = is;
         line = line;
         column = column;
@@ -118,9 +119,6 @@ module _ (m : ScoreMachine) (at : Place) (text : List ℕ) (given : List PlacedS
   text_is : text ≡ (to.bytes ++ f.spelled.now) ++ f.rest.now
   text_is = to.text_is ∙ sym (append_assoc to.bytes f.spelled.now f.rest.now)
 
-  pub rest_within : length f.rest.now ≤ length text
-  rest_within = let n = ap (λ (l : List ℕ). length l) text_is ∙ length-append (to.bytes ++ f.spelled.now) f.rest.now in omega (arith, n)
-
   len_is : taken_bytes ≡ length (to.bytes ++ f.spelled.now)
   len_is = let n = ap (λ (l : List ℕ). length l) text_is ∙ length-append (to.bytes ++ f.spelled.now) f.rest.now in omega (arith, n)
 
@@ -142,44 +140,86 @@ module _ (m : ScoreMachine) (at : Place) (text : List ℕ) (given : List PlacedS
   pub plain_there : All IsPlain (chars (take taken_bytes text))
   plain_there = subst (All IsPlain) (sym chars_are) (All-append IsPlain (chars to.bytes) (chars f.spelled.now) to.runs.plain (plain_is f m.body.nabc_lines reached.before.canonical m.limits to.found))
 
-  pub next_there : f.next ≡ place_past at (chars (take taken_bytes text))
-  next_there =
-      to.found.next ∙ ap (λ (q : Place). place_past q (chars f.spelled.now)) to.runs.place ∙ sym (place_append at (chars to.bytes) (chars f.spelled.now))
-      ∙ ap (place_past at) (sym chars_are)
+  before_is : take (taken_bytes - length f.spelled.now) text ≡ to.bytes
+  before_is =
+      let n = len_is ∙ length-append to.bytes f.spelled.now in
+      let e : taken_bytes - length f.spelled.now ≡ length to.bytes = omega (arith, n) in
+      ap (λ n. take n text) e ∙ ap (take (length to.bytes)) to.text_is ∙ take-append_seam to.bytes (f.spelled.now ++ f.rest.now)
 
-  pub low : (f.at.line + length f.spelled.now < 2 ^ 63) × (f.at.column + length f.spelled.now < 2 ^ 63)
-  low = low_there at f.at to.bytes f.spelled.now f.rest.now text to.utf8 to.text_is to.runs.place to.line to.column
+  -- the text may be cut before the last syllable
+  pub cut_before : IsUtf8 text → IsCharBoundary text (taken_bytes - length f.spelled.now)
+  cut_before utf8 = IsCharBoundary-from_take text (taken_bytes - length f.spelled.now) utf8 (omega arith) (subst IsUtf8 (sym before_is) to.utf8)
 
-  -- ---- the last syllable
+  -- where the last syllable begins
+  pub start_is : (before : List ℕ) (from : Place) → from ≡ place_past at (chars before) → before ≡ take (taken_bytes - length f.spelled.now) text → from ≡ place_past at (chars to.bytes)
+  start_is before from e cut = e ∙ ap (λ (b : List ℕ). place_past at (chars b)) (cut ∙ before_is)
 
-  module _ (law : MakeSyllables) (on : ScoreMachine) (goes : GoesBefore m reached.before f on) where
-    ends : EndsWith m at (chars to.bytes) given reached.before f
-    ends = run_ends m at (chars to.bytes) given (nat_lt 0 f.gap) reached.before f.at to.runs to.stands f to.found refl refl law low.0 low.1
+  module _ (from : Place) (from_is : from ≡ place_past at (chars to.bytes)) where
+    runs_from : RunsBefore m at (chars to.bytes) given (nat_lt 0 f.gap) reached.before from
+    runs_from = subst (RunsBefore m at (chars to.bytes) given (nat_lt 0 f.gap) reached.before) (sym from_is) to.runs
 
-    pub rests_on : IsInBody on
-    rests_on = rests_there m at (chars to.bytes) given (nat_lt 0 f.gap) reached.before f.at to.runs to.stands f on goes
+    -- where it ends
+    abbrev pub past : Place
+    past = place_past from (chars f.spelled.now)
 
-    pub alone_on : is_alone on.limits on.pair.gathered (lists_from on f.at (chars f.spelled.now)) ≡ true
-    alone_on = is_alone_there m at (chars to.bytes) given (nat_lt 0 f.gap) reached.before f.at to.runs to.stands f on goes ends
+    pub next_there : past ≡ place_past at (chars (take taken_bytes text))
+    next_there =
+        ap (λ (q : Place). place_past q (chars f.spelled.now)) from_is
+        ∙ sym (place_append at (chars to.bytes) (chars f.spelled.now)) ∙ ap (place_past at) (sym chars_are)
 
-    module _ (read : ScoreMachine) (has : HasRead on read (lists_from on f.at (chars f.spelled.now))) (was : IsScoreAt read.part read)
-        (texts : IsText f.spelled.now → HoldsTexts on.pair.gathered → HoldsTexts read.pair.gathered)
-        (body : BodyStageState) (begins : body ≡ record read.body { part = Text (fresh_stage f.next) }) (counts : CountsHold body.part nothing_open)
-        (keeps : (lines macros : ℕ) → PartKeeps lines macros body.part (in_text [])) where
-      abbrev then : ScoreMachine
-      then = record read { body = body; next = f.next }
+    low : (from.line + length f.spelled.now < 2 ^ 63) × (from.column + length f.spelled.now < 2 ^ 63)
+    low = low_there at from to.bytes f.spelled.now f.rest.now text to.utf8 to.text_is from_is to.line to.column
 
-      -- it rests after it
-      pub rests_after : IsScoreAt read.part then
-      rests_after = subst (λ q. IsScoreAt q then) (sym has.part)
-          (rests_then m at (chars to.bytes) given (nat_lt 0 f.gap) reached.before f.at to.runs to.stands f on goes ends to.found read has was texts body begins counts keeps)
+    -- ---- the last syllable
 
-      gives_by : (first second : PlacedSyllable) → GivesSyllables (record (shown m) { first = first; second = second }) at (chars to.bytes ++ chars f.spelled.now) given (shown then)
-      gives_by = run_gives m at (chars to.bytes) given (nat_lt 0 f.gap) reached.before f.at to.runs to.stands f to.found refl low.1 ends then
-          (holds_then m at (chars to.bytes) given (nat_lt 0 f.gap) reached.before f.at to.runs to.stands f on goes ends to.found read has was texts body begins counts keeps)
+    module _ (law : MakeSyllables) (on : ScoreMachine) (goes : GoesBefore m reached.before from on) where
+      ends : EndsWith m at (chars to.bytes) given reached.before f from
+      ends = run_ends m at (chars to.bytes) given (nat_lt 0 f.gap) reached.before from runs_from to.stands f to.found refl to.steady law low.0 low.1
 
-      -- what the run gives, of a machine whose slots were used otherwise
-      pub gives_after : (old : ScoreMachine) → IsSamePair old m → GivesSyllables (shown old) at (chars (take taken_bytes text)) given (shown then)
-      gives_after old same =
-          subst (λ (t : List ℕ). GivesSyllables (shown old) at t given (shown then)) (sym chars_are)
-          (subst (λ (s : ScoreStageState). GivesSyllables s at (chars to.bytes ++ chars f.spelled.now) given (shown then)) (shown_same old m same old.pair.first old.pair.second) (gives_by old.pair.first old.pair.second))
+      pub rests_on : IsInBody on
+      rests_on = rests_there m at (chars to.bytes) given (nat_lt 0 f.gap) reached.before from runs_from to.stands f on goes
+
+      pub alone_on : is_alone on.limits on.pair.gathered (lists_from on from (chars f.spelled.now)) ≡ true
+      alone_on = is_alone_there m at (chars to.bytes) given (nat_lt 0 f.gap) reached.before from runs_from to.stands f on goes ends
+
+      module _ (read : ScoreMachine) (has : HasRead on read (lists_from on from (chars f.spelled.now))) (was : IsScoreAt read.part read)
+          (texts : IsText f.spelled.now → HoldsTexts on.pair.gathered → HoldsTexts read.pair.gathered)
+          (body : BodyStageState) (counts : CountsHold body.part nothing_open) (keeps : (lines macros : ℕ) → PartKeeps lines macros body.part (in_text [])) where
+        rests_by : (q : Place) → past ≡ q → body ≡ record read.body { part = Text (fresh_stage q) } → IsScoreAt read.part (record read { body = body; next = q })
+        rests_by q e = subst (λ (q : Place). body ≡ record read.body { part = Text (fresh_stage q) } → IsScoreAt read.part (record read { body = body; next = q })) e (λ begins.
+            subst (λ p. IsScoreAt p (record read { body = body; next = past })) (sym has.part)
+            (rests_then m at (chars to.bytes) given (nat_lt 0 f.gap) reached.before from runs_from to.stands f on goes ends to.found read has was texts body begins counts keeps))
+
+        -- it rests after it
+        pub rests_after : (q : Place) → q ≡ past → body ≡ record read.body { part = Text (fresh_stage q) } → IsScoreAt read.part (record read { body = body; next = q })
+        rests_after q e = rests_by q (sym e)
+
+        gives_by : body ≡ record read.body { part = Text (fresh_stage past) } → GivesSyllables (shown m) at (chars to.bytes ++ chars f.spelled.now) given (shown (record read { body = body; next = past }))
+        gives_by begins = run_gives m at (chars to.bytes) given (nat_lt 0 f.gap) reached.before from runs_from to.stands f to.found low.1 ends (record read { body = body; next = past })
+            (holds_then m at (chars to.bytes) given (nat_lt 0 f.gap) reached.before from runs_from to.stands f on goes ends to.found read has was texts body begins counts keeps) m.pair.first m.pair.second
+
+        -- what the run gives
+        pub gives_after : (q : Place) → q ≡ past → body ≡ record read.body { part = Text (fresh_stage q) } → GivesSyllables (shown m) at (chars (take taken_bytes text)) given (shown (record read { body = body; next = q }))
+        gives_after q e = subst (λ (q : Place). body ≡ record read.body { part = Text (fresh_stage q) } → GivesSyllables (shown m) at (chars (take taken_bytes text)) given (shown (record read { body = body; next = q }))) (sym e) (λ begins.
+            subst (λ (t : List ℕ). GivesSyllables (shown m) at t given (shown (record read { body = body; next = past }))) (sym chars_are) (gives_by begins))
+
+-- what is given from a machine whose slots are used otherwise
+pub gives_same : (old m : ScoreMachine) (at : Place) (t : List ℕ) (given : List PlacedSyllable) (after : ScoreStageState) → IsSamePair old m → GivesSyllables (shown m) at t given after → GivesSyllables (shown old) at t given after
+gives_same old m at t given after same gives = subst (λ (s : ScoreStageState). GivesSyllables s at t given after) (shown_same old m same old.pair.first old.pair.second) (record {
+  limits = gives.limits;
+  part = gives.part;
+  before_held = gives.before_held;
+  next = gives.next;
+  stands = gives.stands;
+  whole = gives.whole;
+  told = λ here was told. gives.told here was (λ body. let t = told body in record { counts = t.counts; next = t.next; openers = t.openers; reading = t.reading; held = t.held });
+  holds = gives.holds;
+  counts = gives.counts;
+  within = gives.within;
+  points = gives.points;
+  one_each = gives.one_each;
+  given_are = gives.given_are;
+  law = gives.law;
+  none = gives.none;
+  in_heads = gives.in_heads;
+})

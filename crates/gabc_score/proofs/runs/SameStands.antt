@@ -4,7 +4,7 @@ use Rattle.gabc_places.specs.declared.place.Place.{Place}
 use Rattle.gabc_score.specs.declared.score_machine.ScoreMachine.{ScoreMachine}
 use Rattle.gabc_score.specs.machine.Between.{IsBetween}
 use Rattle.gabc_score.specs.machine.Gatherer.{Gathered}
-use Rattle.gabc_score.specs.machine.Run.{IsSamePair, StandsBetween}
+use Rattle.gabc_score.specs.machine.Run.{StandsBetween}
 use Rattle.gabc_score.specs.machine.ScoreMachine.{IsInBody, held_score}
 use Rattle.gabc_score.specs.machine.SlotPair.{SlotPairState, is_made}
 
@@ -35,6 +35,3 @@ module _ (m : ScoreMachine) (pair : SlotPairState) (gathered : pair.gathered ≡
     between = subst (λ (g : Gathered). IsBetween m.limits (record (held_score m) { gathered = g })) (sym gathered) stands.between;
     one = ap (λ (g : Gathered). length g.made) gathered ∙ stands.one;
   }
-
-pub same_stands : (old new : ScoreMachine) (at : Place) → IsSamePair old new → is_made new.pair.used ≡ false → StandsBetween old at → StandsBetween new at
-same_stands old new at same used stands = subst (λ (m : ScoreMachine). StandsBetween m at) (sym same.is) (moved_stands old new.pair same.gathered used at stands)

@@ -1,5 +1,5 @@
 -- Where a machine stands between two syllables.
-use Rattle.std.proofs.Common.{◌≡◌, nat_lt, true, List, [], ◌∷◌, length, is_some, ap, ◌∙◌, arith}
+use Rattle.std.proofs.Common.{◌≡◌, nat_lt, true, List, [], ◌∷◌, length, ap, ◌∙◌, arith}
 use Rattle.std.proofs.lemmas.Bool.Decides.{nat_tests}
 use Rattle.gabc_text.specs.TextStage.{fresh_stage}
 use Rattle.gabc_places.specs.declared.place.Place.{Place}
@@ -14,8 +14,8 @@ use Rattle.gabc_score.specs.machine.ScoreMachine.{IsInBody}
 use Rattle.gabc_score.proofs.resuming.NothingIsRead.{nothing_alike}
 
 pub stands_between : (m : ScoreMachine) (at : Place) (x : UnplacedSyllable) → m.part ≡ score_part.Body → IsInBody m → m.pair.gathered.made ≡ x ∷ [] → m.pair.gathered.builder.kept ≡ []
-    → is_some m.pair.gathered.first_kind ≡ true → m.body.part ≡ Text (fresh_stage at) → StandsBetween m at
-stands_between m at x part rests made kept sounded begins = record {
+    → m.body.part ≡ Text (fresh_stage at) → StandsBetween m at
+stands_between m at x part rests made kept begins = record {
   part = part;
   rests = rests;
   begins = begins;
@@ -24,7 +24,6 @@ stands_between m at x part rests made kept sounded begins = record {
     limit = rests.rests.limit;
     few = (let n = ap (λ (ms : List UnplacedSyllable). length ms) made in omega (arith, n));
     follows = rests.preceded.follows ∙ ap (λ (ms : List UnplacedSyllable). nat_lt 0 (with_each m.bounds.before ms).syllables) made ∙ some;
-    sounded = sounded;
     over = rests.rests.over;
     total = (let low = rests.within.file (ap is_none made) in omega (arith, low));
   };

@@ -4,6 +4,7 @@ use Rattle.std.proofs.lemmas.List.{append_cancel_left}
 use Rattle.gabc_places.specs.BoundedList.{BoundedList, extended_by}
 use Rattle.gabc_places.specs.StageLaw.{concat_of, silence, EmitsNothing, StopsAtEnd}
 use Rattle.gabc_places.proofs.PushesAreOne.{joined_silence}
+use Rattle.gabc_places.proofs.NothingBehindAnEnd.{both_empty}
 use Rattle.gabc_places.specs.declared.code.Code.{Code}
 use Rattle.gabc_places.specs.declared.code.Fault.{Fault}
 use Rattle.gabc_places.specs.declared.limits.Limits.{Limits}
@@ -68,10 +69,6 @@ pub machine_ends : (m : ScoreMachine) (xs : List HeadEvent) → Ends (concat_of 
 machine_ends m xs = left_ends m.limits m.part (record { next = m.next; gathered = m.pair.gathered; has_lent = m.has_lent }) m.body xs
 
 -- ---- the same of events
-
-both_empty : (a b : List ScoreOutput) → a ++ b ≡ [] → (a ≡ []) × (b ≡ [])
-both_empty [] b e = (refl, e)
-both_empty (x ∷ a) b e = absurd (cc)
 
 last_event : (l : LentSyllable) (outputs later : List ScoreOutput) (before behind : List ScoreEvent) (e : ScoreEvent) → Ends (outputs ++ later) → events_lent l outputs ≡ before ++ e ∷ behind → is_last_event e ≡ true
     → (behind ≡ []) × (later ≡ [])

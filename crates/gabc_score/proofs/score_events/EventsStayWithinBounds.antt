@@ -42,7 +42,7 @@ code_turned limits g none = ap (λ (b : Bool). cond (is_longer g.limit g.builder
 
 -- ---- what events leave as it was
 
-limit_with : (g : Gathered) (t : BodyEvent) → (with_event g t).limit ≡ g.limit
+pub limit_with : (g : Gathered) (t : BodyEvent) → (with_event g t).limit ≡ g.limit
 limit_with g (event.Text (text.Kept c)) = refl
 limit_with g (event.Text (text.Part part.WordStart)) = refl
 limit_with g (event.Text (text.Part (part.Piece p))) = refl

@@ -29,8 +29,9 @@ use Rattle.gabc_score.specs.machine.Gatherer.{Gathered, with_event, with_last, w
 use Rattle.gabc_score.specs.machine.ScoreStage.{placed_behind}
 use Rattle.gabc_score.specs.machine.SyllableBuilder.{made_from}
 use Rattle.gabc_score.specs.machine.ScoreMachine.{IsShort}
-use Rattle.gabc_score.proofs.score_events.EventsStayWithinBounds.{limit_stays}
+use Rattle.gabc_score.proofs.score_events.EventsStayWithinBounds.{limit_stays, limit_with}
 use Rattle.gabc_score.proofs.score_events.OutputsOfLentSyllables.{found_syllables}
+use Rattle.gabc_score.proofs.score_events.MemoryIsKept.{limit_last}
 
 -- ---- short syllables stay so
 
@@ -77,12 +78,9 @@ short_with g (event.Notes line (note.Ended note_end.Next n)) s h = h
 short_with g (event.Notes line (note.Ended note_end.Close n)) s h = let unit = with_snippet g line n 41 in short_made unit (made_from unit.builder unit.eu unit.nlba) s h
 short_with g (event.Notes line (note.Ended (note_end.Cut p) n)) s h = h
 
-limit_is : (g : Gathered) (t : BodyEvent) → (with_event g t).limit ≡ g.limit
-limit_is g t = limit_stays g (t ∷ [])
-
 short_all : (g : Gathered) (now : List BodyEvent) → g.limit < 2 ^ 32 → AreShort g → AreShort (with_all g now)
 short_all g [] s h = h
-short_all g (t ∷ now) s h = short_all (with_event g t) now (let e = limit_is g t in omega (arith, e, s)) (short_with g t s h)
+short_all g (t ∷ now) s h = short_all (with_event g t) now (let e = limit_with g t in omega (arith, e, s)) (short_with g t s h)
 
 short_last : (g : Gathered) → g.limit < 2 ^ 32 → AreShort g → AreShort (with_last g)
 short_last g s h = by (has_text g.builder.view)
@@ -110,13 +108,6 @@ short_now limits g now e over short none =
     subst (λ (n : ℕ). All (IsShort n) (with_all g now).made) same
     (short_all g now small (λ o. subst (λ (n : ℕ). All (IsShort n) g.made) (sym e) short) (not_over limits (with_all g now) none))
 
-last_limit : (g : Gathered) → (with_last g).limit ≡ g.limit
-last_limit g = by (has_text g.builder.view)
-  where
-    by : (b : Bool) → (cond b (with_syllable (with_no_notes g)) g).limit ≡ g.limit
-    by true = refl
-    by false = refl
-
 -- the same at the end, with the last text
 pub short_at_end : (limits : Limits) (g : Gathered) (now : List BodyEvent) → g.limit ≡ limits.syllable → g.over ≡ false → All (IsShort limits.syllable) g.made → code_in limits (with_last (with_all g now)) ≡ None
     → All (IsShort limits.syllable) (with_last (with_all g now)).made
@@ -124,7 +115,7 @@ short_at_end limits g now e over short none =
     let most = limits.in_range.syllable_most in
     let small : g.limit < 2 ^ 32 = omega (arith, e, most) in
     let stays = limit_stays g now in
-    let last : (with_last (with_all g now)).limit ≡ (with_all g now).limit = last_limit (with_all g now) in
+    let last : (with_last (with_all g now)).limit ≡ (with_all g now).limit = limit_last (with_all g now) in
     let same : (with_last (with_all g now)).limit ≡ limits.syllable = last ∙ (stays ∙ e) in
     subst (λ (n : ℕ). All (IsShort n) (with_last (with_all g now)).made) same
     (short_last (with_all g now) (omega (arith, stays, small)) (short_all g now small (λ o. subst (λ (n : ℕ). All (IsShort n) g.made) (sym e) short)) (not_over limits (with_last (with_all g now)) none))

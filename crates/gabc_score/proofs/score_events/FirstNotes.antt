@@ -23,7 +23,7 @@ use Rattle.gabc_score.specs.machine.BodyBuilder.{with_all}
 use Rattle.gabc_score.specs.machine.Gatherer.{Gathered}
 use Rattle.gabc_score.proofs.building.BuilderHoldsDefinition.{gathered, gathered_step, over_by}
 use Rattle.gabc_score.proofs.building.EventsOfOnePoint.{gathered_all, found_on}
-use Rattle.gabc_score.proofs.order.FindingsOfScore.{onto_append}
+use Rattle.gabc_score.proofs.building.EventsOfSyllableParts.{onto_append}
 
 -- ---- events of which the same is gathered
 

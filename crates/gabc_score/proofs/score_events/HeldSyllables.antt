@@ -27,7 +27,7 @@ pub record MayGo (k : ℕ) (g : Gathered) : Type 0 where
   pub few : k ≤ length g.made
   pub some : is_none (drop k g.made) ≡ is_none g.made
 
-none_of : (xs : List UnplacedSyllable) (m : UnplacedSyllable) → is_none (xs ++ m ∷ []) ≡ false
+pub none_of : (xs : List UnplacedSyllable) (m : UnplacedSyllable) → is_none (xs ++ m ∷ []) ≡ false
 none_of [] m = refl
 none_of (x ∷ xs) m = refl
 

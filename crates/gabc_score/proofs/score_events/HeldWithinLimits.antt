@@ -1,7 +1,8 @@
--- What was gathered stays within the limits as it will be written, past a point and past a character taken quietly.
+-- What was gathered stays within the limits as it will be written, past a point.
 use Rattle.std.proofs.Common.{◌≡◌, ℕ, zero, suc, ◌+◌, ◌-◌, ◌≤◌, ◌<◌, ◌^◌, ◌==◌, ◌||◌, ◌&&◌, not, nat_lt, Bool, true, false, cond, List, [], ◌∷◌, ◌++◌, take, drop, map, length, Some, None, refl, sym, ap, subst, ◌∙◌, arith}
 use Rattle.std.proofs.lemmas.Bool.{true≢false}
 use Rattle.std.proofs.lemmas.Bool.Decides.{nat_tests}
+use Rattle.std.proofs.Math.Bool.{and-false, and-true}
 use Rattle.gabc_places.specs.declared.code.Code.TheVariants.{F5, F7}
 use Rattle.gabc_places.specs.declared.limits.Limits.{Limits}
 use Rattle.gabc_text.specs.declared.text_event.TextEnd.TheVariants as text_end
@@ -25,6 +26,7 @@ use Rattle.gabc_score.specs.machine.SyllableBuilder.{made_from}
 use Rattle.gabc_score.proofs.score_events.EventsStayWithinBounds.{limit_stays}
 use Rattle.gabc_score.proofs.score_events.FewAndShortAreLent.{counted, either, not_over}
 use Rattle.gabc_score.proofs.score_events.WhatPrecedes.{each_some, not_some}
+use Rattle.gabc_score.proofs.score_events.HeldSyllables.{none_of}
 
 -- ---- a syllable more
 
@@ -32,22 +34,10 @@ later : (limit : ℕ) (ms : List UnplacedSyllable) (m : UnplacedSyllable) → Ar
 later limit [] m h k = (k, tt)
 later limit (s ∷ ms) m h k = (h.0, later limit ms m h.1 k)
 
-and_true : (b : Bool) → (b && true) ≡ b
-and_true true = refl
-and_true false = refl
-
-and_false : (b : Bool) → (b && false) ≡ false
-and_false true = refl
-and_false false = refl
-
 one_more : (limit : ℕ) (first : Bool) (ms : List UnplacedSyllable) (m : UnplacedSyllable) → (starts : Bool) → starts ≡ (first && is_none ms) → AreWritten limit first ms → length (canonical (starts || m.text.word_start) m) ≤ limit
     → AreWritten limit first (ms ++ m ∷ [])
-one_more limit first [] m starts f h k = (subst (λ (b : Bool). length (canonical (b || m.text.word_start) m) ≤ limit) (f ∙ and_true first) k, tt)
-one_more limit first (s ∷ ms) m starts f h k = (h.0, later limit ms m h.1 (subst (λ (b : Bool). length (canonical (b || m.text.word_start) m) ≤ limit) (f ∙ and_false first) k))
-
-some_more : (ms : List UnplacedSyllable) (m : UnplacedSyllable) → is_none (ms ++ m ∷ []) ≡ false
-some_more [] m = refl
-some_more (s ∷ ms) m = refl
+one_more limit first [] m starts f h k = (subst (λ (b : Bool). length (canonical (b || m.text.word_start) m) ≤ limit) (f ∙ and-true first) k, tt)
+one_more limit first (s ∷ ms) m starts f h k = (h.0, later limit ms m h.1 (subst (λ (b : Bool). length (canonical (b || m.text.word_start) m) ≤ limit) (f ∙ and-false first) k))
 
 module _ (first : Bool) where
   -- where it is not over the limit
@@ -55,7 +45,7 @@ module _ (first : Bool) where
   AreWithin g = (not g.follows ≡ (first && is_none g.made)) × (g.over ≡ false → AreWritten g.limit first g.made)
 
   within_made : (g : Gathered) (m : UnplacedSyllable) → g.limit < 2 ^ 32 → AreWithin g → AreWithin (with_made g m)
-  within_made g m small h = (sym (and_false first) ∙ ap (λ b. first && b) (sym (some_more g.made m)), written)
+  within_made g m small h = (sym (and-false first) ∙ ap (λ b. first && b) (sym (none_of g.made m)), written)
     where
       written : (with_made g m).over ≡ false → AreWritten g.limit first (g.made ++ m ∷ [])
       written over =
@@ -83,8 +73,8 @@ module _ (first : Bool) where
   within_all g (t ∷ now) s h = within_all (with_event g t) now (let e = limit_stays g (t ∷ []) in omega (arith, e, s)) (within_with g t s h)
 
 is_first : (p : Preceding) (ms : List UnplacedSyllable) (follows : Bool) → follows ≡ nat_lt 0 (with_each p ms).syllables → not follows ≡ ((p.syllables == 0) && is_none ms)
-is_first p [] follows f = ap not f ∙ not_some p.syllables ∙ sym (and_true (p.syllables == 0))
-is_first p (m ∷ ms) follows f = ap not (f ∙ some) ∙ sym (and_false (p.syllables == 0))
+is_first p [] follows f = ap not f ∙ not_some p.syllables ∙ sym (and-true (p.syllables == 0))
+is_first p (m ∷ ms) follows f = ap not (f ∙ some) ∙ sym (and-false (p.syllables == 0))
   where
     some : nat_lt 0 (with_each (with_one p m) ms).syllables ≡ true
     some = let k : 1 ≤ (with_each (with_one p m) ms).syllables = each_some (with_one p m) ms (omega arith) in grind (arith, nat_tests, k)
@@ -159,13 +149,6 @@ within_past limits before behind has_lent g h turned now e over f within is none
       file = λ some. file_now limits h code (none_dropped (length h.made - 1) h.made some);
       outset = outset_passed has_lent before h.made within.outset;
     }))
-
-pub within_quietly : (limits : Limits) (before : Preceding) (g h : Gathered) → h.made ≡ g.made → h.total ≡ g.total → HoldsWithin limits before g → HoldsWithin limits before h
-within_quietly limits before g h made total within = record {
-  written = subst (AreWritten limits.syllable (before.syllables == 0)) (sym made) within.written;
-  file = λ some. subst (λ (n : ℕ). n < limits.input) (sym total) (within.file (sym (ap (λ (ms : List UnplacedSyllable). is_none ms) made) ∙ some));
-  outset = within.outset;
-}
 
 -- nothing was gathered
 pub within_none : (limits : Limits) (before : Preceding) (g : Gathered) → IsAtOutset before → g.made ≡ [] → HoldsWithin limits before g

@@ -3,6 +3,7 @@ use Rattle.std.proofs.Common.{◌≡◌, Option, None, refl, sym, ap, subst}
 use Rattle.gabc_places.specs.declared.place.Place.{Place}
 use Rattle.gabc_places.specs.Findings.{IsUpTo}
 use Rattle.gabc_text.specs.StageTells as text_tells
+use Rattle.gabc_text.specs.witness.StageReports as text_reports
 use Rattle.gabc_text.specs.declared.stage.TextStage.{TextStage}
 use Rattle.gabc_score.specs.declared.body_stage.BodyPart.{BodyPart}
 use Rattle.gabc_score.specs.declared.body_stage.BodyPart.TheVariants as part
@@ -11,7 +12,7 @@ use Rattle.gabc_score.specs.ToldWithin.{IsPlace, AreOpenersBefore, TellsOfText}
 use Rattle.gabc_score.specs.witness.ScoreStage.{ScoreStageState}
 use Rattle.gabc_score.proofs.score_events.OpenersInOrder.{openers_moved}
 
-module _ (text_stays : (s : TextStage) (at : Place) → text_tells.opener_of (text_tells.moved_to at s) ≡ text_tells.opener_of s) where
+module _ (text_stays : (s : TextStage) (at : Place) → text_tells.opener_of (text_reports.moved_to at s) ≡ text_tells.opener_of s) where
   pub openers_stay : (at : Place) (b : BodyPart) → openers_of (moved_part at b) ≡ openers_of b
   openers_stay at part.Comment = refl
   openers_stay at (part.Notes opened s) = refl

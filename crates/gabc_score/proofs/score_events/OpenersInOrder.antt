@@ -1,12 +1,11 @@
 -- What is open stands in its order before the next character, behind each character.
-use Rattle.std.proofs.Common.{◌≡◌, ◌⊎◌, inl, inr, ℕ, ◌+◌, ◌-◌, ◌<◌, ◌^◌, min, Bool, true, false, Option, Some, None, refl, sym, subst, arith, add-one, if◌then◌else◌}
+use Rattle.std.proofs.Common.{◌≡◌, ◌⊎◌, inl, inr, ℕ, ◌+◌, ◌-◌, ◌<◌, ◌^◌, min, Bool, true, false, Option, Some, None, refl, sym, subst, arith, if◌then◌else◌}
 use Rattle.std.specs.Prelude.{IfSome}
 use Rattle.std.proofs.lemmas.Bool.Decides.{nat_tests}
 use Rattle.gabc_places.specs.declared.place.Place.{Place}
 use Rattle.gabc_places.specs.Findings.{IsUpTo}
 use Rattle.gabc_places.specs.Place.{is_line_feed, saturating_next_place}
 use Rattle.gabc_score.specs.declared.body_tells.Openers.{Openers}
-use Rattle.gabc_score.specs.ScoreStage.{behind_front}
 use Rattle.gabc_places.specs.PlacesInOrder.{IsEarlier, LiesBefore, AreInOrder}
 use Rattle.gabc_score.specs.ToldWithin.{IsPlace, AreOpenersBefore}
 use Rattle.gabc_score.specs.machine.PartOpens.{OpensOn}
@@ -77,12 +76,3 @@ openers_moved next at o (inr up) h = record { notes = to o.notes h.notes; inner 
     to : (q : Option Place) → IfSome q (LiesBefore next) → IfSome q (LiesBefore at)
     to None k = tt
     to (Some p) k = record { line = k.line; column = k.column; in_64_bits = k.in_64_bits; earlier = earlier p k.earlier }
-
--- the place behind a printable character that stands so many columns behind a place
-abbrev column_at : Place → ℕ → Place
-column_at at n = record { line = at.line; column = at.column + n }
-
-pub column_behind : (at : Place) (n : ℕ) (before : Place) → IsPlace (column_at at n) → at.column + n + 1 < 2 ^ 64 → IsPlace (behind_front at (n + 1) before) × IsEarlier (column_at at n) (behind_front at (n + 1) before)
-column_behind at n before is h =
-    subst (λ (k : ℕ). IsPlace (behind_front at k before) × IsEarlier (column_at at n) (behind_front at k before)) (sym (add-one n))
-    (record { line = is.line; column = omega arith; in_64_bits = omega (arith, h) }, inr (refl, omega arith))

@@ -1,7 +1,6 @@
 -- What is collected of events is what the outputs say.
 use Rattle.std.proofs.Common.{◌≡◌, ◌⊎◌, inl, inr, ℕ, zero, suc, ◌+◌, ◌<◌, List, [], ◌∷◌, ◌++◌, take, length, get_or, Option, Some, None, refl, sym, ap, ◌∙◌, append_assoc, append-nil}
 use Rattle.std.proofs.lemmas.List.{take_more}
-use Rattle.gabc_places.specs.declared.code.Finding.{Finding}
 use Rattle.gabc_places.specs.declared.code.Fault.{Fault}
 use Rattle.gabc_score.specs.declared.body_result.BodyResult.{BodyResult}
 use Rattle.gabc_score.specs.declared.score_event.LentSyllable.{LentSyllable}
@@ -19,9 +18,6 @@ no_fault_then None = refl
 then_assoc : (a b c : Option Fault) → fault_then (fault_then a b) c ≡ fault_then a (fault_then b c)
 then_assoc (Some f) b c = refl
 then_assoc None b c = refl
-
-of_parts : List PlacedSyllable → List Finding → Option Fault → BodyResult
-of_parts ss fs o = record { syllables = ss; findings = fs; fault = o }
 
 pub with_none : (r : BodyResult) → result_with r [] ≡ r
 with_none r =

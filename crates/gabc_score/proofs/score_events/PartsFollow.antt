@@ -1,5 +1,6 @@
 -- Where a machine stands behind what it gives.
 use Rattle.std.proofs.Common.{◌≡◌, ◌||◌, Bool, true, false, List, [], ◌∷◌, ◌++◌, refl, ap, sym, ◌∙◌}
+use Rattle.std.proofs.Math.Bool.{or-true}
 use Rattle.std.specs.List.{list_any}
 use Rattle.gabc_places.specs.declared.code.Finding.{Finding}
 use Rattle.gabc_headers.specs.declared.head_event.HeadEvent.{HeadEvent}
@@ -9,14 +10,10 @@ use Rattle.gabc_score.specs.ScoreEvents.{ScoreOutput, is_last, outputs_of}
 use Rattle.gabc_score.specs.ScoreStage.{part_past}
 use Rattle.gabc_score.specs.Syllable.{PlacedSyllable}
 
-either_true : (b : Bool) → (b || true) ≡ true
-either_true true = refl
-either_true false = refl
-
 -- with a stop or the end behind them
 pub last_behind : (outputs : List ScoreOutput) (o : ScoreOutput) → is_last o ≡ true → list_any is_last (outputs ++ o ∷ []) ≡ true
 last_behind [] o e = ap (λ (b : Bool). b || false) e
-last_behind (x ∷ outputs) o e = ap (λ (b : Bool). is_last x || b) (last_behind outputs o e) ∙ either_true (is_last x)
+last_behind (x ∷ outputs) o e = ap (λ (b : Bool). is_last x || b) (last_behind outputs o e) ∙ or-true (is_last x)
 
 -- findings and syllables are neither
 none_is_last : (fs : List Finding) (ss : List PlacedSyllable) → list_any is_last (outputs_of fs ss) ≡ false

@@ -37,7 +37,7 @@ plain_more bytes c is h = record {
       (All-append IsPlain (chars bytes) (c ∷ []) h.plain (All-cons IsPlain c [] is.plain (All-nil IsPlain)));
 }
 
-seam_boundary : (bytes : List ℕ) (n : ℕ) → n ≤ length bytes → is_seam (drop n bytes) ≡ true → IsCharBoundary bytes n
+pub seam_boundary : (bytes : List ℕ) (n : ℕ) → n ≤ length bytes → is_seam (drop n bytes) ≡ true → IsCharBoundary bytes n
 seam_boundary [] zero l h = (omega arith, λ x y. absurd (omega (arith, x)))
 seam_boundary [] (suc n) l h = absurd (omega (arith, l))
 seam_boundary (b ∷ bytes) zero l h = (omega arith, λ x y. grind (arith, nat_tests, h, y))
@@ -113,6 +113,3 @@ of_character c (d ∷ ds) is h = All-cons IsTextCharacter d ds (by (All-head (Is
 
 pub plain_held : (h : Gathered) → HoldsTexts h → HoldsTexts (with_held h)
 plain_held h t = (t.0, All-drop HasText (length h.made - 1) h.made t.1)
-
-pub printable_plain : (c : ℕ) → 32 ≤ c → c < 127 → IsTextCharacter c
-printable_plain = ascii

@@ -1,7 +1,6 @@
 -- What a machine tells in the body is within its limits.
-use Rattle.std.proofs.Common.{◌≡◌, ℕ, ◌+◌, ◌-◌, ◌≤◌, ◌<◌, ◌^◌, ◌||◌, ◌==◌, nat_lt, min, Bool, true, false, Option, Some, None, is_some, List, [], ◌∷◌, ◌++◌, cond, if◌then◌else◌, length, codes, option_to_list, refl, sym, ◌∙◌, subst, arith, length-append}
+use Rattle.std.proofs.Common.{◌≡◌, ℕ, ◌+◌, ◌-◌, ◌≤◌, ◌<◌, ◌^◌, ◌||◌, ◌==◌, nat_lt, min, Bool, true, false, Option, Some, None, is_some, List, [], ◌∷◌, ◌++◌, cond, length, codes, option_to_list, refl, sym, ◌∙◌, subst, arith, length-append}
 use Rattle.std.specs.Prelude.{IfSome}
-use Rattle.std.proofs.lemmas.Bool.{true≢false}
 use Rattle.std.proofs.lemmas.Bool.Decides.{nat_tests}
 use Rattle.gabc_places.specs.declared.limits.Limits.{Limits}
 use Rattle.gabc_places.specs.declared.place.Place.{Place}
@@ -9,8 +8,6 @@ use Rattle.gabc_text.specs.Canonical.{canonical_text}
 use Rattle.gabc_text.specs.StageTells as text_tells
 use Rattle.gabc_text.specs.declared.stage.TextStage.{TextStage}
 use Rattle.gabc_text.specs.witness.Keeps as text
-use Rattle.gabc_text.specs.declared.token_state.TokenState.{TokenState}
-use Rattle.gabc_text.specs.declared.token_state.TokenState.TheVariants as token_state
 use Rattle.gabc_notes.specs.Events.{in_raw}
 use Rattle.gabc_notes.specs.StageTells.{comment_of, opener_of}
 use Rattle.gabc_notes.specs.declared.stage.NoteStage.{NoteStage}

@@ -1,9 +1,9 @@
--- What is held holds a unit, and its spans follow from those before it, past a point and past a character taken quietly.
+-- What is held holds a unit, and its spans follow from those before it, past a point.
 use Rattle.std.proofs.Common.{◌≡◌, ℕ, zero, suc, ◌-◌, ◌<◌, ◌^◌, not, take, drop, Bool, true, false, List, [], ◌∷◌, ◌++◌, length, IfSome, refl, sym, ap, subst, ◌∙◌, arith}
 use Rattle.std.proofs.lemmas.List.Elements.{All-nil, All-head, All-drop}
 use Rattle.std.proofs.lemmas.Str.{length-le-encodes}
 use Rattle.std.specs.List.{All}
-use Rattle.gabc_places.specs.declared.place.Char.{Char}
+use Rattle.gabc_text.proofs.KeptCharacters.{codes_placed}
 use Rattle.gabc_places.specs.declared.place.Place.{Place}
 use Rattle.gabc_patterns.specs.Function.{trim}
 use Rattle.gabc_patterns.specs.LongestItems.{IsSnippet}
@@ -41,13 +41,9 @@ use Rattle.gabc_score.specs.machine.BodyBuilder.{with_all}
 use Rattle.gabc_score.specs.machine.Gatherer.{Gathered}
 use Rattle.gabc_score.specs.machine.PartKeeps.{IsReading}
 use Rattle.gabc_score.specs.machine.PartMakes.{PartLaws, FollowEach, HoldUnits, PartMakes, characters_of}
-use Rattle.gabc_score.specs.machine.Quiet.{TakesQuietly}
 use Rattle.gabc_score.specs.machine.ScoreMachine.{IsShort, IsScoreAt}
 use Rattle.gabc_score.specs.machine.ScoreStage.{placed_behind, with_held}
-use Rattle.gabc_score.specs.machine.SlotPair.{SlotPairState}
-use Rattle.gabc_score.specs.witness.BodyStage.{BodyStageState}
 use Rattle.gabc_score.proofs.holding.SnippetsAreHeld.{bytes_are_size}
-use Rattle.gabc_score.proofs.order.FindingsOfParts.{codes_placed}
 use Rattle.gabc_score.proofs.score_events.FewAndShortAreLent.{short_within}
 
 pub none_held : (lines : ℕ) (p : Preceding) (made : List UnplacedSyllable) → made ≡ [] → HoldUnits lines p made
@@ -78,10 +74,6 @@ units_past lines macros l before p passed spans has_lent was g turned now fits i
       units = All-drop (HoldsSomeUnit lines) (length g.made - 1) g.made (all laws).units;
       follow = follow_dropped (length g.made - 1) (not has_lent) p g.made (all laws).follow;
     }
-
-pub units_quietly : (p : Preceding) (old new : BodyStageState) (x : Char) (pair next : SlotPairState) → TakesQuietly old x pair new next → HoldUnits old.nabc_lines p pair.gathered.made → HoldUnits new.nabc_lines p next.gathered.made
-units_quietly p old new x pair next q h =
-    subst (λ (k : ℕ). HoldUnits k p next.gathered.made) (sym q.lines) (subst (HoldUnits old.nabc_lines p) (sym q.made) h)
 
 -- so of what a machine shows as held
 pub held_unit : (m : ScoreMachine) (p : ScorePart) → IsScoreAt p m → PartLaws → IfSome (held_in_body p m.pair.gathered.made) (HoldsSomeUnit m.body.nabc_lines)

@@ -1,6 +1,5 @@
--- What was gathered of the syllable that is read stays what the parts of its kept text say, past a point and past a character taken quietly.
+-- What was gathered of the syllable that is read stays what the parts of its kept text say, past a point.
 use Rattle.std.proofs.Common.{◌≡◌, ℕ, ◌<◌, ◌^◌, nat_lt, Bool, true, false, cond, length, refl, sym, ap, subst, ◌∙◌, List, []}
-use Rattle.gabc_places.specs.declared.place.Char.{Char}
 use Rattle.gabc_text.specs.witness.Keeps as text
 use Rattle.gabc_score.specs.declared.before.Spans.{Spans}
 use Rattle.gabc_score.specs.declared.body_stage.BodyPart.{BodyPart}
@@ -11,11 +10,7 @@ use Rattle.gabc_score.specs.machine.BodyBuilder.{with_all}
 use Rattle.gabc_score.specs.machine.Gatherer.{Gathered, nothing_gathered}
 use Rattle.gabc_score.specs.machine.PartKeeps.{in_text, IsReading, PartKeepsOn, spans_past}
 use Rattle.gabc_score.specs.machine.Preceded.{behind_headers, past_point, spans_of}
-use Rattle.gabc_score.specs.machine.Quiet.{TakesQuietly}
 use Rattle.gabc_score.specs.machine.ScoreStage.{with_held}
-use Rattle.gabc_score.specs.machine.SlotPair.{SlotPairState}
-use Rattle.gabc_score.specs.witness.BodyStage.{BodyStageState}
-use Rattle.gabc_score.proofs.building.PartsOfKeptText.{stays}
 
 -- what is held is not read
 turned_reads : (lines macros : ℕ) (part : BodyPart) (spans : Spans) (g : Gathered) → IsReading lines macros part spans g → IsReading lines macros part spans (with_held g)
@@ -35,15 +30,6 @@ reading_past lines macros l m before after b passed was g turned now whole gave 
     (turned_reads lines macros after passed.behind.spans g
     (subst (λ (s : Spans). IsReading lines macros after s g) (sym (ap (λ (k : Bounds). k.behind.spans) p ∙ spans_there whole gave b g ∙ ap (λ (t : Bool). cond t (spans_of g) b.behind.spans) w))
     (subst (λ (k : Gathered). IsReading lines macros after (spans_past b.behind.spans was k) k) (sym is) (on b.behind.spans was fits r))))))
-
--- a character taken quietly makes no syllable
-pub reading_quietly : (spans : Spans) (old new : BodyStageState) (x : Char) (pair next : SlotPairState) → length pair.gathered.builder.kept < 2 ^ 64 → TakesQuietly old x pair new next
-    → IsReading old.nabc_lines old.macros old.part spans pair.gathered → IsReading new.nabc_lines new.macros new.part spans next.gathered
-reading_quietly spans old new x pair next fits q r =
-    subst (λ (k : ℕ). IsReading k new.macros new.part spans next.gathered) (sym q.lines)
-    (subst (λ (k : ℕ). IsReading old.nabc_lines k new.part spans next.gathered) (sym q.macros)
-    (subst (λ (s : Spans). IsReading old.nabc_lines old.macros new.part s next.gathered) (stays spans pair.gathered next.gathered q.made)
-    (subst (λ (k : Gathered). IsReading old.nabc_lines old.macros new.part (spans_past spans pair.gathered k) k) (sym q.gathered) (q.keeps spans pair.gathered fits r))))
 
 -- in the comment in front of a body nothing is gathered
 fresh_reads : (lines macros head limit count : ℕ) → IsReading lines macros part.Comment (behind_headers head).behind.spans (nothing_gathered limit count)

@@ -19,20 +19,17 @@ said_by outputs = record { findings = findings_in outputs; syllables = syllables
 abbrev pub said_before : List Finding → List PlacedSyllable → Said → Said
 said_before findings syllables later = record later { findings = findings ++ later.findings; syllables = syllables ++ later.syllables }
 
-said_found : (fs : List Finding) (outputs : List ScoreOutput) → said_by (map (λ f. Found f) fs ++ outputs) ≡ said_before fs [] (said_by outputs)
-said_found [] outputs = refl
-said_found (f ∷ fs) outputs = ap (λ (s : Said). record s { findings = f ∷ s.findings }) (said_found fs outputs)
-
 said_given : (ss : List PlacedSyllable) (outputs : List ScoreOutput) → said_by (map (λ s. Syllable s) ss ++ outputs) ≡ said_before [] ss (said_by outputs)
 said_given [] outputs = refl
 said_given (s ∷ ss) outputs = ap (λ (t : Said). record t { syllables = s ∷ t.syllables }) (said_given ss outputs)
 
 pub found_first : (fs : List Finding) (outputs : List ScoreOutput) → said_by (map (λ f. Found f) fs ++ outputs) ≡ said_before fs [] (said_by outputs)
-found_first = said_found
+found_first [] outputs = refl
+found_first (f ∷ fs) outputs = ap (λ (s : Said). record s { findings = f ∷ s.findings }) (found_first fs outputs)
 
 -- findings and syllables come before what is said later
 pub said_of : (fs : List Finding) (ss : List PlacedSyllable) (outputs : List ScoreOutput) → said_by (outputs_of fs ss ++ outputs) ≡ said_before fs ss (said_by outputs)
 said_of fs ss outputs = by (append_assoc (map (λ f. Found f) fs) (map (λ s. Syllable s) ss) outputs)
   where
     by : outputs_of fs ss ++ outputs ≡ map (λ f. Found f) fs ++ (map (λ s. Syllable s) ss ++ outputs) → said_by (outputs_of fs ss ++ outputs) ≡ said_before fs ss (said_by outputs)
-    by e = ap said_by e ∙ said_found fs (map (λ s. Syllable s) ss ++ outputs) ∙ ap (said_before fs []) (said_given ss outputs)
+    by e = ap said_by e ∙ found_first fs (map (λ s. Syllable s) ss ++ outputs) ∙ ap (said_before fs []) (said_given ss outputs)

@@ -8,7 +8,6 @@ use Rattle.std.proofs.lemmas.List.Elements.{All-nil, All-cons, All-head, All-tai
 use Rattle.std.proofs.lemmas.List.Folds.{list_any-append}
 use Rattle.gabc_places.specs.declared.place.Span.{Span}
 use Rattle.gabc_places.specs.declared.code.Finding.{Finding}
-use Rattle.gabc_places.specs.declared.place.Char.{Char}
 use Rattle.gabc_headers.specs.declared.head_event.HeadEvent.{HeadEvent}
 use Rattle.gabc_text.specs.declared.text_event.TextEnd.TheVariants as text_end
 use Rattle.gabc_text.specs.declared.text_event.TextEvent.TheVariants as text
@@ -33,9 +32,6 @@ use Rattle.gabc_score.specs.Syllable.{UnplacedSyllable, PlacedSyllable, is_seam,
 use Rattle.gabc_score.specs.machine.BodyBuilder.{with_all}
 use Rattle.gabc_score.specs.machine.Gatherer.{Gathered, with_event, with_made, with_snippet}
 use Rattle.gabc_score.specs.machine.PartPushes.{ClosesLast}
-use Rattle.gabc_score.specs.machine.Quiet.{TakesQuietly}
-use Rattle.gabc_score.specs.machine.SlotPair.{SlotPairState}
-use Rattle.gabc_score.specs.witness.BodyStage.{BodyStageState}
 use Rattle.gabc_score.specs.machine.Preceded.{EndsBefore, IsPreceded, behind_gathered, before_past, past_point}
 use Rattle.gabc_score.specs.machine.ScoreStage.{placed_behind, with_held}
 use Rattle.gabc_score.proofs.score_events.FewAndShortAreLent.{given_syllables}
@@ -406,10 +402,6 @@ turned b old freed h now held before_now has_lent whole gave same few is held_is
     (turns b old now preceded behind last (subst (λ (k : Gathered). length k.made ≤ 1) same few) has_lent whole gave
     (w ∙ ap (λ (ms : List UnplacedSyllable). nat_lt (length ms) (length h.made)) (held_is ∙ held_was) ∙ ap (λ (k : Gathered). nat_lt (length old.made) (length k.made)) here)
     (g ∙ ap (λ (k : Gathered). nat_lt 1 (length k.made)) here))
-
--- what stands before it stays, where a character is taken quietly
-pub quietly : (before : Preceding) (old new : BodyStageState) (x : Char) (pair next : SlotPairState) → TakesQuietly old x pair new next → IsPreceded before pair.gathered → IsPreceded before next.gathered
-quietly before old new x pair next q h = subst (λ (k : Gathered). IsPreceded before k) (sym q.gathered) (preceded_all before pair.gathered q.events h)
 
 -- what is given among these
 pub given_are : (fs : List Finding) (ss : List PlacedSyllable) → syllables_in (outputs_of fs ss) ≡ ss

@@ -1,5 +1,7 @@
 -- What a snippet of NABC emits through its end.
 use Rattle.std.proofs.Common.{not, eqb-true, ◌≡◌, ◌⊎◌, inl, inr, ℕ, ◌==◌, ◌||◌, Bool, true, false, cond, if◌then◌else◌, List, [], ◌∷◌, ◌++◌, refl, sym, ap, ◌∙◌, arith, append_assoc, append-nil}
+use Rattle.std.proofs.Math.Bool.{or-false}
+use Rattle.std.proofs.lemmas.Bool.{and_parts}
 use Rattle.gabc_places.specs.declared.place.Char.{Char}
 use Rattle.gabc_places.specs.declared.code.Code.TheVariants.{E3, E6, W7}
 use Rattle.gabc_patterns.specs.Derivative.{is_snippet, is_viable}
@@ -13,7 +15,7 @@ use Rattle.gabc_notes.specs.declared.stage.NoteEnd.TheVariants as note_end
 use Rattle.gabc_notes.specs.declared.stage.NoteEvent.{NoteEvent}
 use Rattle.gabc_notes.specs.declared.stage.NoteEvent.TheVariants as note
 use Rattle.gabc_notes.specs.SnippetRead.{kept_of as kept_in, ends_of}
-use Rattle.gabc_score.proofs.snippets_of_body.SnippetsEndAlike.{and_right, Goes, Stops, Cuts, IsMark, Grammar, lists, run, few_one}
+use Rattle.gabc_score.proofs.snippets_of_body.SnippetsEndAlike.{Goes, Stops, Cuts, IsMark, Grammar, lists, run, few_one}
 
 -- ---- one character more
 
@@ -21,12 +23,8 @@ or_assoc : (a b c : Bool) → ((a || b) || c) ≡ (a || (b || c))
 or_assoc true b c = refl
 or_assoc false b c = refl
 
-or_false : (a : Bool) → (a || false) ≡ a
-or_false true = refl
-or_false false = refl
-
 end_more : (prefix t : List ℕ) (c : ℕ) → has_end_behind prefix (t ++ c ∷ []) ≡ (has_end_behind prefix t || is_end (prefix ++ t) c)
-end_more prefix [] c = or_false (is_end prefix c) ∙ ap (λ s. is_end s c) (sym (append-nil prefix))
+end_more prefix [] c = or-false (is_end prefix c) ∙ ap (λ s. is_end s c) (sym (append-nil prefix))
 end_more prefix (d ∷ t) c =
     ap (λ b. is_end prefix d || b) (end_more (prefix ++ d ∷ []) t c ∙ ap (λ s. has_end_behind (prefix ++ d ∷ []) t || is_end s c) (append_assoc prefix (d ∷ []) t))
     ∙ sym (or_assoc (is_end prefix d) (has_end_behind (prefix ++ d ∷ []) t) (is_end (prefix ++ d ∷ t) c))
@@ -66,7 +64,7 @@ runs_on : (t : List ℕ) (x : Char) → is_end t x.c ≡ false → Running t →
 runs_on t x e r = end_more [] t x.c ∙ ap (λ b. b || is_end t x.c) r ∙ e
 
 is_mark_of : (t : List ℕ) (c : ℕ) → is_end t c ≡ true → IsMark c (end_by_mark c)
-is_mark_of t c h = by (c == 124) (c == 41) refl refl (and_right (not (in_comment t)) ((c == 41) || (c == 124)) h)
+is_mark_of t c h = by (c == 124) (c == 41) refl refl (and_parts (not (in_comment t)) ((c == 41) || (c == 124)) h).1
   where
     by : (a b : Bool) → (c == 124) ≡ a → (c == 41) ≡ b → (b || a) ≡ true → IsMark c (if a then note_end.Next else note_end.Close)
     by true b e f k = eqb-true c 124 e

@@ -1,5 +1,6 @@
 -- What a snippet of either grammar emits through its end.
-use Rattle.std.proofs.Common.{reverse, append-nil, ◌≡◌, ℕ, zero, suc, ◌+◌, ◌-◌, ◌<◌, ◌≤◌, ◌^◌, min, nat_lt, Bool, false, ◌==◌, if◌then◌else◌, List, [], ◌∷◌, ◌++◌, map, refl, sym, ap, subst, ◌∙◌, arith}
+use Rattle.std.proofs.Common.{reverse, append-nil, ◌≡◌, ℕ, zero, suc, ◌+◌, ◌-◌, ◌<◌, ◌≤◌, ◌^◌, min, nat_lt, Bool, if◌then◌else◌, List, [], ◌∷◌, ◌++◌, map, refl, sym, ap, subst, ◌∙◌, arith}
+use Rattle.gabc_places.proofs.NumbersByTests.{suc_eqb}
 use Rattle.gabc_places.specs.StageLaw.{concat_of}
 use Rattle.gabc_places.specs.declared.place.Place.{Place}
 use Rattle.gabc_places.specs.declared.place.Char.{Char}
@@ -82,9 +83,6 @@ module _ {K : Type 0} (table : Table K) (lines line : ℕ) (opened : Place) {S :
         marks = e.marks;
       }
 
-not_zero : (n : ℕ) → (suc n == 0) ≡ false
-not_zero n = grind arith
-
 gabc_trims : (t : List ℕ) → (rest : List ℕ) × (t ≡ trim gabc t ++ rest) × IsSnippet gabc (trim gabc t)
 gabc_trims t = let r = trim_trims gabc refl t in (r.rest, r.cut, r.longest.has)
 
@@ -104,7 +102,7 @@ module _ (lines macros : ℕ) (opened : Place) where
 
   nabc_part : (line : ℕ) (xs : List Char) → snippet_from lines macros (suc line) opened xs ≡ InNotes (suc line) opened (lists nabc_grammar [] xs)
   nabc_part line xs =
-      ap (λ b. InNotes (suc line) opened (if b then note_events split macros xs else nabc_emitted xs)) (not_zero line)
+      ap (λ b. InNotes (suc line) opened (if b then note_events split macros xs else nabc_emitted xs)) (suc_eqb line)
       ∙ ap (InNotes (suc line) opened) (events_lists [] xs)
 
   -- a snippet that ends at a mark

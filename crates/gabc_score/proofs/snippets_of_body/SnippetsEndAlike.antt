@@ -1,8 +1,9 @@
 -- Where a snippet ends, and what it emits through its end: for GABC and NABC alike.
-use Rattle.std.proofs.Common.{true, false, ◌&&◌, ◌≡◌, ◌⊎◌, inl, inr, ℕ, ◌+◌, ◌≤◌, Bool, false, ◌==◌, ◌||◌, if◌then◌else◌, List, [], ◌∷◌, ◌++◌, map, Option, Some, None, refl, sym, ap, ◌∙◌, arith, append_assoc, append-nil}
+use Rattle.std.proofs.Common.{◌≡◌, ◌⊎◌, inl, inr, ℕ, ◌+◌, ◌≤◌, Bool, ◌==◌, if◌then◌else◌, List, [], ◌∷◌, ◌++◌, map, Option, Some, None, refl, sym, ap, ◌∙◌, arith, append_assoc, append-nil}
 use Rattle.std.specs.Char.{len_utf8}
 use Rattle.std.specs.List.{list_any}
 use Rattle.std.proofs.lemmas.List.{map-append}
+use Rattle.gabc_notes.proofs.grammar.LawsOfEventsByPoint.{kept_append}
 use Rattle.gabc_places.specs.StageLaw.{concat_of}
 use Rattle.gabc_places.specs.declared.place.Place.{Place}
 use Rattle.gabc_places.specs.declared.place.Char.{Char}
@@ -18,10 +19,6 @@ use Rattle.gabc_score.specs.Events.{PartAhead, InNotes, is_next, is_close, next_
 use Rattle.gabc_score.specs.Units.{Mark, Opens, Next, Closes, events_through, Endless, EndsBehind}
 use Rattle.gabc_score.proofs.texts_of_body.SeamsOfCharacters.{size, size_append, size_of_one}
 
-pub and_right : (a b : Bool) → (a && b) ≡ true → b ≡ true
-and_right true b h = h
-and_right false b h = cc
-
 -- ---- events without an end
 
 ends_append : (xs ys : List NoteEvent) → ends_of xs ≡ [] → ends_of (xs ++ ys) ≡ ends_of ys
@@ -29,19 +26,6 @@ ends_append [] ys h = refl
 ends_append (note.Kept x ∷ xs) ys h = ends_append xs ys h
 ends_append (note.Found f ∷ xs) ys h = ends_append xs ys h
 ends_append (note.Ended how n ∷ xs) ys h = cc
-
-pub kept_append : (xs ys : List NoteEvent) → kept_of (xs ++ ys) ≡ kept_of xs ++ kept_of ys
-kept_append [] ys = refl
-kept_append (note.Kept x ∷ xs) ys = ap (λ ks. x.c ∷ ks) (kept_append xs ys)
-kept_append (note.Found f ∷ xs) ys = kept_append xs ys
-kept_append (note.Ended how n ∷ xs) ys = kept_append xs ys
-
-any_append : (test : NoteEvent → Bool) → ((x : Char) → test (note.Kept x) ≡ false) → ((f : _) → test (note.Found f) ≡ false)
-    → (xs ys : List NoteEvent) → ends_of xs ≡ [] → list_any test (xs ++ ys) ≡ list_any test ys
-any_append test k f [] ys h = refl
-any_append test k f (note.Kept x ∷ xs) ys h = ap (λ b. b || list_any test (xs ++ ys)) (k x) ∙ any_append test k f xs ys h
-any_append test k f (note.Found g ∷ xs) ys h = ap (λ b. b || list_any test (xs ++ ys)) (f g) ∙ any_append test k f xs ys h
-any_append test k f (note.Ended how n ∷ xs) ys h = cc
 
 pub few_one : (x : Char) (more : List ℕ) → more ≡ [] → size (x.c ∷ more) ≤ len_utf8 x.c
 few_one x more h = let one : size (x.c ∷ more) ≡ len_utf8 x.c = ap (λ ks. size (x.c ∷ ks)) h ∙ size_of_one x.c in omega arith
@@ -129,9 +113,6 @@ module _ (lines line : ℕ) (opened : Place) where
 
   abbrev mark_of : List NoteEvent → Option Mark
   mark_of emitted = mark_by (list_any is_next emitted) (list_any is_close emitted)
-
-  no_mark : (emitted : List NoteEvent) → list_any is_next emitted ≡ false → list_any is_close emitted ≡ false → mark_of emitted ≡ None
-  no_mark emitted n c = ap (λ b. mark_by b (list_any is_close emitted)) n ∙ ap (mark_by false) c
 
   silent_mark : (emitted : List NoteEvent) → ends_of emitted ≡ [] → mark_of emitted ≡ None
   silent_mark [] h = refl

@@ -5,6 +5,8 @@ use Rattle.std.proofs.lemmas.Bool.{ltb-true, ltb-false}
 use Rattle.std.proofs.lemmas.List.{take-append-le}
 use Rattle.std.proofs.lemmas.List.Sums.{sum_by-append, sum_by-cons}
 use Rattle.std.proofs.Math.Seq.{take-append-add}
+use Rattle.gabc_text.proofs.tokens.PrefixBeforeTag.{no_more}
+use Rattle.gabc_places.proofs.PushesAreOne.{joined-append}
 use Rattle.gabc_places.specs.StageLaw.{concat_of}
 use Rattle.gabc_places.specs.declared.place.Place.{Place}
 use Rattle.gabc_places.specs.declared.place.Char.{Char}
@@ -22,7 +24,6 @@ use Rattle.gabc_score.specs.Events.{PartAhead, InComment, InText, InNotes, is_ne
 use Rattle.gabc_score.specs.Units.{Mark, Opens, Next, Closes, CutPart, EndedPart, BodyUnit, LastUnit, JustText, OpenNotes, cut_part, whole, part_onward, events_through, mark_in, Endless, EndsBehind, snippets_with, last_pieces, units_pieces, part_following, Cuts, events_of_cutting}
 use Rattle.gabc_score.specs.SyllablesOfUnits.{with_ends, characters_in, count_within}
 use Rattle.gabc_score.proofs.texts_of_body.SeamsOfCharacters.{size}
-use Rattle.gabc_score.proofs.order.FindingsOfParts.{joined_append}
 use Rattle.gabc_score.proofs.snippets_of_body.SnippetsEndAlike.{Marks}
 use Rattle.gabc_score.proofs.snippets_of_body.SnippetEmitsThroughEnd.{LineEmitted, line_emitted}
 use Rattle.gabc_score.proofs.units.BodyHasOneCutting.{text_mark}
@@ -209,7 +210,7 @@ module _ (lines macros : ℕ) where
           let split : n ≡ length first + m = omega arith in
           let few : m ≤ length (whole pieces last) = omega arith in
           let lists : concat_of (take n (first ++ more)) ≡ concat_of first ++ concat_of (take m more) =
-          ap (λ i. concat_of (take i (first ++ more))) split ∙ ap concat_of (take-append-add first more m) ∙ joined_append first (take m more) in
+          ap (λ i. concat_of (take i (first ++ more))) split ∙ ap concat_of (take-append-add first more m) ∙ joined-append first (take m more) in
           ap close_count lists ∙ count_append (concat_of first) (concat_of (take m more)) ∙ ap (λ i. i + close_count (concat_of (take m more))) one ∙ ap (λ i. mark_count p.mark + i) (on m few)
       by false e s all one on =
           let first = events_through part p.characters in
@@ -240,9 +241,6 @@ last_step a n f = by (nat_lt a n) refl (nat_lt n (a + 1)) refl
     by false e false k = absurd (omega (arith, ltb-false a n e, ltb-false n (a + 1) k))
     by true e true k = absurd (omega (arith, ltb-true a n e, ltb-true n (a + 1) k))
     by true e false k = ap f (let e : n - suc a ≡ n - (a + 1) = omega arith in e)
-
-no_more : (m : ℕ) → 0 + m ≡ m
-no_more m = omega arith
 
 one_more : (m : ℕ) → 1 + m ≡ suc m
 one_more m = omega arith

@@ -152,9 +152,6 @@ module _ (fresh_is : (at : Place) (t : List ℕ) → CountsFit at t → events_l
     (so_far : (s : TextStage) (t u v : List ℕ) → take (length t) (events_left s (t ++ u)) ≡ take (length t) (events_left s (t ++ v)))
     (notes_so_far : (split : Bool) (macros : ℕ) (xs ys zs : List Char) → take (length xs) (notes.note_events split macros (xs ++ ys)) ≡ take (length xs) (notes.note_events split macros (xs ++ zs)))
     (nabc_so_far : (xs ys zs : List Char) → take (length xs) (nabc.nabc_events (xs ++ ys)) ≡ take (length xs) (nabc.nabc_events (xs ++ zs))) (lines macros : ℕ) where
-  abbrev through : List Char → Char → List Char → List Char
-  through prefix end rest = prefix ++ end ∷ rest
-
   through_is : (prefix : List Char) (end : Char) (rest : List Char) → (prefix ++ end ∷ []) ++ rest ≡ prefix ++ end ∷ rest
   through_is prefix end rest = append_assoc prefix (end ∷ []) rest
 

@@ -5,7 +5,7 @@ use Rattle.std.specs.Char.{len_utf8}
 use Rattle.std.proofs.lemmas.Str.{len_utf8_bounds}
 use Rattle.std.proofs.Math.Seq.{take-append_seam, drop-append_seam}
 use Rattle.gabc_places.specs.StageLaw.{concat_of}
-use Rattle.gabc_places.specs.Place.{place_after, placed_characters_behind, place_past, placed_characters_from, next_place}
+use Rattle.gabc_places.specs.Place.{place_after, placed_characters_behind, place_past, placed_characters_from}
 use Rattle.gabc_places.specs.declared.limits.Limits.{Limits}
 use Rattle.gabc_places.specs.declared.place.Place.{Place}
 use Rattle.gabc_places.specs.declared.place.Char.{Char}
@@ -41,7 +41,7 @@ use Rattle.gabc_score.specs.Units.{Units, BodyCutting}
 use Rattle.gabc_score.specs.SyllablesOfUnits.{closed_units, count_in, whole_count, through_unit, whole_prefix, units_within, body_characters, IsBodyCut, StandBeforeStop, StandBeforeBodyStop}
 use Rattle.gabc_score.proofs.score_events.PlainScores.{plain_by, plain_of}
 use Rattle.gabc_score.proofs.texts_of_body.SeamsOfCharacters.{size, size_append, size_of_one}
-use Rattle.gabc_places.proofs.PlacesOfAText.{placed_behind, behind_after}
+use Rattle.gabc_places.proofs.PlacesOfAText.{placed_behind, behind_after, placed_append}
 use Rattle.gabc_score.proofs.holding.ScoreHoldsParts.{behind_short}
 use Rattle.gabc_score.proofs.stopped_scores.StoppedScores.{as_many, closed_count, within_few, point_emits, stopped_read, stop_reached}
 use Rattle.gabc_score.proofs.stopped_scores.PrefixesAreReadAlike.{AllSmall, small_placed, small_behind}
@@ -57,10 +57,6 @@ placed_prefix f (c ∷ cs) (x ∷ xs) ys e =
     let first : here ≡ x = cc in
     let rest : placed_characters_behind (f ++ c ∷ []) cs ≡ xs ++ ys = cc in
     subst (λ (y : Char). placed_characters_behind f (y.c ∷ codes_of xs) ≡ y ∷ xs) first (ap (λ zs. here ∷ zs) (placed_prefix (f ++ c ∷ []) cs xs ys rest))
-
-pub placed_apart : (p : Place) (a b : List ℕ) → placed_characters_from p (a ++ b) ≡ placed_characters_from p a ++ placed_characters_from (place_past p a) b
-placed_apart p [] b = refl
-placed_apart p (c ∷ a) b = ap (λ xs. record { c = c; place = p } ∷ xs) (placed_apart (next_place p c) a b)
 
 some_bytes : (c : ℕ) → 1 ≤ size (c ∷ [])
 some_bytes c =
@@ -85,7 +81,7 @@ body_small t short =
     subst AllSmall
     (ap (λ p. placed_characters_from p (behind_heads t)) (behind_after [] (heads_text t)) ∙ placed_behind (heads_text t) (behind_heads t))
     (small_behind (placed_characters_from first (heads_text t)) (placed_characters_from (place_past first (heads_text t)) (behind_heads t))
-    (subst AllSmall (ap (placed_characters_from first) cut ∙ placed_apart first (heads_text t) (behind_heads t)) all))
+    (subst AllSmall (ap (placed_characters_from first) cut ∙ placed_append first (heads_text t) (behind_heads t)) all))
 
 -- ---- the score
 

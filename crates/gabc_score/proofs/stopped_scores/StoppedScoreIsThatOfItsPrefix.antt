@@ -4,6 +4,7 @@ use Rattle.std.specs.List.{flat_map}
 use Rattle.std.proofs.lemmas.Bool.{ltb-false}
 use Rattle.std.proofs.lemmas.List.{take-append-le, length-take-le, length-map}
 use Rattle.std.proofs.Math.Seq.{take-append-add, take-length, drop-append_seam}
+use Rattle.gabc_places.proofs.PushesAreOne.{joined-append}
 use Rattle.gabc_places.specs.StageLaw.{concat_of}
 use Rattle.gabc_places.specs.declared.code.Finding.{Finding}
 use Rattle.gabc_places.specs.declared.code.Fault.{Fault}
@@ -36,7 +37,6 @@ use Rattle.gabc_score.specs.Units.{BodyUnit, JustText, Units, BodyCutting, whole
 use Rattle.gabc_score.specs.SyllablesOfUnits.{with_ends, snippets_in, characters_in, characters_from, closed_units, count_within, count_in, whole_count, through_unit}
 use Rattle.gabc_score.proofs.texts_of_body.SeamsOfCharacters.{size}
 use Rattle.gabc_score.proofs.building.EventsOfSyllableParts.{onto_append}
-use Rattle.gabc_score.proofs.order.FindingsOfParts.{joined_append}
 use Rattle.gabc_score.proofs.building.EventsOfOnePoint.{made_before}
 use Rattle.gabc_score.proofs.building.StopIsFirst.{stop_is_first}
 use Rattle.gabc_score.proofs.building.OneListEachCharacter.{events_each}
@@ -117,10 +117,6 @@ begin_alike [] behind h k s = absurd (omega (arith, k))
 begin_alike (x ∷ prefix) behind h k s = record { at = x.place; all = refl; some = refl; begins = h; line = s.0; column = s.1.0 }
 
 -- ---- lists of the prefix
-
-none_of_zero : {X : Type 0} (xs : List X) → length xs ≡ 0 → xs ≡ []
-none_of_zero [] h = refl
-none_of_zero (x ∷ xs) h = absurd (omega (arith, h))
 
 -- a prefix of a prefix, before something else
 prefix_of_prefix : {X : Type 0} (i n : ℕ) (xs ys : List X) → i ≤ n → n ≤ length xs → take i (take n xs ++ ys) ≡ take i xs
@@ -224,7 +220,7 @@ module _ (ends : (at : Place) (t : List ℕ) → EndsOnce at t) (emits : (at : P
       let on : events_onto now a ≡ b =
       ap (λ ls. events_onto now (events_onto (concat_of ls) [])) (sym lists)
       ∙ sym (onto_append (concat_of (take (length prefix) (take n (events_here xs)))) now [])
-      ∙ ap (λ ts. events_onto ts []) (sym (joined_append (take (length prefix) (take n (events_here xs))) (drop (length prefix) (take n (events_here xs)))) ∙ ap concat_of (take-append-drop (length prefix) (take n (events_here xs)))) in
+      ∙ ap (λ ts. events_onto ts []) (sym (joined-append (take (length prefix) (take n (events_here xs))) (drop (length prefix) (take n (events_here xs)))) ∙ ap concat_of (take-append-drop (length prefix) (take n (events_here xs)))) in
       sym (made_before now a)
       ∙ ap (λ c. take (length (all_syllables a)) (all_syllables c)) on
       ∙ ap (λ m. take m (all_syllables b)) (w.count ∙ sym e)
@@ -284,7 +280,7 @@ module _ (ends : (at : Place) (t : List ℕ) → EndsOnce at t) (emits : (at : P
       ∙ ap (λ part. events_onto (concat_of (events_of_cutting texts_by_definition lines macros part fronts [])) []) a.some ∙ g.events_are in
       let by_prefix : events_onto (concat_of (events_here prefix)) [] ≡ finished ∷ r =
       ap (λ ls. events_onto (concat_of ls) []) events
-      ∙ ap (λ ts. events_onto ts []) (joined_append (take (length prefix) (events_here xs)) end)
+      ∙ ap (λ ts. events_onto ts []) (joined-append (take (length prefix) (events_here xs)) end)
       ∙ onto_append (concat_of (take (length prefix) (events_here xs))) (finished ∷ []) [] in
       let same : r ≡ g.mid = let e = sym by_prefix ∙ by_units in cc in
       let made : length (all_syllables g.mid) ≡ length g.step.made = ap length g.step.made_is in

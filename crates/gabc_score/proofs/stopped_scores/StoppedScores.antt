@@ -1,6 +1,7 @@
 -- A stopped score has the syllables of the units whose `)` stands before its stop.
 use Rattle.std.proofs.Common.{◌⊎◌, inl, inr, refl, Bool, true, false, nat_lt, if◌then◌else◌, ◌≡◌, ℕ, zero, suc, ◌+◌, ◌-◌, ◌<◌, ◌≤◌, ◌^◌, Option, option_map, Some, None, Result, Ok, Err, List, [], ◌∷◌, ◌++◌, length, map, take, drop, sym, ap, subst, ◌∙◌, arith, length-append, take-append-drop}
 use Rattle.std.proofs.lemmas.List.{take-append-le}
+use Rattle.gabc_places.proofs.PushesAreOne.{joined-append}
 use Rattle.gabc_places.specs.StageLaw.{concat_of}
 use Rattle.gabc_places.specs.Place.{place_after}
 use Rattle.gabc_places.specs.declared.code.Finding.{Finding}
@@ -33,7 +34,6 @@ use Rattle.gabc_score.specs.SyllablesOfUnits.{span_tags, characters_in, ScoreUni
 use Rattle.gabc_score.proofs.score_events.PlainScores.{plain_by, plain_of}
 use Rattle.gabc_score.proofs.texts_of_body.SeamsOfCharacters.{size}
 use Rattle.gabc_score.proofs.building.EventsOfSyllableParts.{onto_append}
-use Rattle.gabc_score.proofs.order.FindingsOfParts.{joined_append}
 use Rattle.gabc_score.proofs.building.EventsOfOnePoint.{made_before, made_after}
 use Rattle.gabc_score.proofs.building.StopIsFirst.{stop_is_first}
 use Rattle.gabc_score.proofs.building.OneListEachCharacter.{events_each}
@@ -118,7 +118,7 @@ module _ (ends : (at : Place) (t : List ℕ) → EndsOnce at t) (emits : (at : P
   split_at : (n : ℕ) (lists : List (List BodyEvent)) → events_onto (concat_of (drop n lists)) (events_onto (concat_of (take n lists)) []) ≡ events_onto (concat_of lists) []
   split_at n lists =
       sym (onto_append (concat_of (take n lists)) (concat_of (drop n lists)) [])
-      ∙ ap (λ ts. events_onto ts []) (sym (joined_append (take n lists) (drop n lists)) ∙ ap concat_of (take-append-drop n lists))
+      ∙ ap (λ ts. events_onto ts []) (sym (joined-append (take n lists) (drop n lists)) ∙ ap concat_of (take-append-drop n lists))
 
   units_at : (u : Units) (at : Place) (n : ℕ) → (let pieces = units_pieces lines u.closed u.last in let end = last_characters u.last in let xs = whole pieces end in let part = text_from texts_by_definition at xs in
       let lists = events_of_cutting texts_by_definition lines macros part pieces end in

@@ -9,10 +9,7 @@ use Rattle.gabc_score.specs.Score.{behind_heads, heads_text}
 use Rattle.gabc_score.specs.SyllablesOfUnits.{body_characters, characters_from, characters_in, first_characters, through_unit, unit_characters, whole_count, whole_prefix}
 use Rattle.gabc_score.specs.Units.{BodyCutting, BodyUnit, LastUnit, Units}
 use Rattle.gabc_score.proofs.holding.ScoreHoldsParts.{codes_placed}
-
-codes_append : (xs ys : List Char) → codes_of (xs ++ ys) ≡ codes_of xs ++ codes_of ys
-codes_append [] ys = refl
-codes_append (x ∷ xs) ys = ap (λ (l : List ℕ). x.c ∷ l) (codes_append xs ys)
+use Rattle.gabc_score.proofs.texts_of_body.TextEmitsThroughEnd.{codes_append}
 
 units_first : (n : ℕ) (units : List BodyUnit) (last : LastUnit) → (behind : List Char) × (characters_from units last ≡ flat_map characters_in (take n units) ++ behind)
 units_first zero units last = (characters_from units last, refl)

@@ -33,15 +33,17 @@ use Rattle.gabc_score.specs.declared.events.BodyEvent.TheVariants as event
 use Rattle.gabc_score.specs.Syllable.{since_close, kept_of, ended_parts_of, part_of, slice, is_mark, is_open_after, is_open}
 use Rattle.gabc_score.specs.Body.{events_onto}
 use Rattle.gabc_score.specs.SyllablesOfUnits.{span_tags, IsLeftOpen}
-use Rattle.gabc_score.proofs.building.EventsOfSyllableParts.{onto_append, text_emitted}
+use Rattle.gabc_score.specs.machine.PartKeeps.{text_events}
+use Rattle.gabc_score.proofs.building.EventsOfSyllableParts.{onto_append}
 use Rattle.gabc_score.proofs.holding.SnippetsAreHeld.{bytes_stand}
+use Rattle.gabc_score.proofs.building.PartsOfKeptText.{out_parts}
 
 -- ---- tags
 
-abbrev tags_of : List PieceFacts → List (List ℕ)
+abbrev pub tags_of : List PieceFacts → List (List ℕ)
 tags_of ps = map (λ (p : PieceFacts). p.text) (filter (λ (p : PieceFacts). is_mark p.kind) ps)
 
-tags_append : (ps qs : List PieceFacts) → tags_of (ps ++ qs) ≡ tags_of ps ++ tags_of qs
+pub tags_append : (ps qs : List PieceFacts) → tags_of (ps ++ qs) ≡ tags_of ps ++ tags_of qs
 tags_append ps qs =
     ap (map (λ (p : PieceFacts). p.text)) (filter-append (λ (p : PieceFacts). is_mark p.kind) ps qs)
     ∙ map-append (λ (p : PieceFacts). p.text) (filter (λ (p : PieceFacts). is_mark p.kind) ps) (filter (λ (p : PieceFacts). is_mark p.kind) qs)
@@ -60,7 +62,7 @@ blank_has_none p h = by p.kind h
     by piece.Tag e = refl
     by piece.Mark e = absurd (cc)
 
-tags_but_blank : (ps : List PieceFacts) → tags_of (but_blank ps) ≡ tags_of ps
+pub tags_but_blank : (ps : List PieceFacts) → tags_of (but_blank ps) ≡ tags_of ps
 tags_but_blank [] = refl
 tags_but_blank (p ∷ []) = by (is_blank_piece p.kind) refl
   where
@@ -95,10 +97,7 @@ module _ (opening closing : List ℕ) where
     kept : kept_at_point after ≡ kept_at_point before
     span : open_at after ≡ open_at before
 
-  still_both : (a b c : List BodyEvent) → Still a b → Still b c → Still a c
-  still_both a b c h k = record { kept = k.kept ∙ h.kept; span = k.span ∙ h.span }
-
-  found_still : (at : Place) (bs : List Token) (cs : List Code) (ts : List BodyEvent) → Still ts (events_onto (text_emitted (finding_events at bs cs)) ts)
+  found_still : (at : Place) (bs : List Token) (cs : List Code) (ts : List BodyEvent) → Still ts (events_onto (text_events (finding_events at bs cs)) ts)
   found_still at bs [] ts = record { kept = refl; span = refl }
   found_still at bs (c ∷ cs) ts = let on = found_still at bs cs (event.Text (text.Found (record { place = place_of at bs; code = c })) ∷ ts) in record { kept = on.kept; span = on.span }
 
@@ -108,7 +107,7 @@ module _ (opening closing : List ℕ) where
     kept : kept_at_point after ≡ kept_at_point before ++ encodes more
     span : open_at after ≡ open_at before
 
-  chars_keep : (cs : List Char) (ts : List BodyEvent) → Keeps (codes_of cs) ts (events_onto (text_emitted (map (λ (c : Char). text.Kept c) cs)) ts)
+  chars_keep : (cs : List Char) (ts : List BodyEvent) → Keeps (codes_of cs) ts (events_onto (text_events (map (λ (c : Char). text.Kept c) cs)) ts)
   chars_keep [] ts = record { kept = sym (append-nil (kept_at_point ts)); span = refl }
   chars_keep (c ∷ cs) ts =
       let on = chars_keep cs (event.Text (text.Kept c) ∷ ts) in
@@ -155,13 +154,10 @@ module _ (opening closing : List ℕ) where
   no_mark : (was : Bool) (kind : PieceKind) (spelled : List ℕ) → is_mark kind ≡ false → is_open_after opening closing was kind spelled ≡ was
   no_mark was kind spelled h = ap (λ b. cond b (cond (bytes_eq spelled opening) true (cond (bytes_eq spelled closing) false was)) was) h
 
-  abbrev parts_events : List TextPart → List TextEvent
-  parts_events ps = map (λ (p : TextPart). text.Part p) ps
+  events_append : (xs ys : List TextEvent) (ts : List BodyEvent) → events_onto (text_events (xs ++ ys)) ts ≡ events_onto (text_events ys) (events_onto (text_events xs) ts)
+  events_append xs ys ts = ap (λ us. events_onto us ts) (map-append (λ (o : TextEvent). event.Text o) xs ys) ∙ onto_append (text_events xs) (text_events ys) ts
 
-  events_append : (xs ys : List TextEvent) (ts : List BodyEvent) → events_onto (text_emitted (xs ++ ys)) ts ≡ events_onto (text_emitted ys) (events_onto (text_emitted xs) ts)
-  events_append xs ys ts = ap (λ us. events_onto us ts) (map-append (λ (o : TextEvent). event.Text o) xs ys) ∙ onto_append (text_emitted xs) (text_emitted ys) ts
-
-  waiting_still : (o : Option Piece) (ts : List BodyEvent) → IsNoMark o → Still ts (events_onto (text_emitted (parts_events (map (λ (p : Piece). part.Piece p) (option_list_of o)))) ts)
+  waiting_still : (o : Option Piece) (ts : List BodyEvent) → IsNoMark o → Still ts (events_onto (text_events (out_parts (map (λ (p : Piece). part.Piece p) (option_list_of o)))) ts)
   waiting_still None ts h = record { kept = refl; span = refl }
   waiting_still (Some p) ts h = record { kept = refl; span = no_mark (open_at ts) p.kind (slice p.span (kept_at_point ts)) h }
 
@@ -194,17 +190,17 @@ module _ (opening closing : List ℕ) where
 
   abbrev AfterParts : List Token → Token → List BodyEvent → Option PieceKind → Type 0
   AfterParts bs k ts o =
-      let after = events_onto (text_emitted (parts_events (parts_by bs k o))) ts in
+      let after = events_onto (text_events (out_parts (parts_by bs k o))) ts in
       (kept_at_point after ≡ kept_at_point ts) × (open_at after ≡ behind_tags (open_at ts) (tags_of (piece_of bs k o)))
 
-  parts_emit : (bs : List Token) (k : Token) (ts : List BodyEvent) → kept_at_point ts ≡ encodes (kept_before (k ∷ bs)) → PartsStep bs k ts (events_onto (text_emitted (parts_events (parts_at bs k))) ts)
+  parts_emit : (bs : List Token) (k : Token) (ts : List BodyEvent) → kept_at_point ts ≡ encodes (kept_before (k ∷ bs)) → PartsStep bs k ts (events_onto (text_events (out_parts (parts_at bs k))) ts)
   parts_emit bs k ts h = by (kind_of k) refl
     where
       blank : (b : Bool) → tags_of (cond b (record { kind = piece.Blank; styles = open_styles bs; text = [] } ∷ []) []) ≡ []
       blank true = refl
       blank false = refl
 
-      others : (a b : Bool) → Still ts (events_onto (text_emitted (parts_events (cond a (part.WordStart ∷ []) (cond b (part.Translation (translation_at bs k) ∷ []) [])))) ts)
+      others : (a b : Bool) → Still ts (events_onto (text_events (out_parts (cond a (part.WordStart ∷ []) (cond b (part.Translation (translation_at bs k) ∷ []) [])))) ts)
       others true b = record { kept = refl; span = refl }
       others false true = record { kept = refl; span = refl }
       others false false = record { kept = refl; span = refl }
@@ -216,17 +212,17 @@ module _ (opening closing : List ℕ) where
 
       some : (kind : PieceKind) → kind_of k ≡ Some kind → AfterParts bs k ts (Some kind)
       some kind e =
-          let first = parts_events (map (λ (p : Piece). part.Piece p) (option_list_of (waiting_blank bs))) in
+          let first = out_parts (map (λ (p : Piece). part.Piece p) (option_list_of (waiting_blank bs))) in
           let w = waiting_still (waiting_blank bs) ts (waiting_is_none bs) in
-          let middle = events_onto (text_emitted first) ts in
-          let all : events_onto (text_emitted (parts_events (parts_by bs k (Some kind)))) ts ≡ event.Text (text.Part (part.Piece (piece_at bs k kind))) ∷ middle =
-          ap (λ os. events_onto (text_emitted os) ts) (map-append (λ (p : TextPart). text.Part p) (map (λ (p : Piece). part.Piece p) (option_list_of (waiting_blank bs))) (part.Piece (piece_at bs k kind) ∷ []))
+          let middle = events_onto (text_events first) ts in
+          let all : events_onto (text_events (out_parts (parts_by bs k (Some kind)))) ts ≡ event.Text (text.Part (part.Piece (piece_at bs k kind))) ∷ middle =
+          ap (λ os. events_onto (text_events os) ts) (map-append (λ (p : TextPart). text.Part p) (map (λ (p : Piece). part.Piece p) (option_list_of (waiting_blank bs))) (part.Piece (piece_at bs k kind) ∷ []))
           ∙ events_append first (text.Part (part.Piece (piece_at bs k kind)) ∷ []) ts in (
             ap kept_at_point all ∙ w.kept,
             ap open_at all ∙ piece_emitted bs k middle (w.kept ∙ h) kind e ∙ ap (λ was. behind_tags was (tags_of (piece_of bs k (Some kind)))) w.span,
           )
 
-      by : (o : Option PieceKind) → kind_of k ≡ o → PartsStep bs k ts (events_onto (text_emitted (parts_events (parts_at bs k))) ts)
+      by : (o : Option PieceKind) → kind_of k ≡ o → PartsStep bs k ts (events_onto (text_events (out_parts (parts_at bs k))) ts)
       by None e = let a = subst (AfterParts bs k ts) (sym e) none in record { kept = a.0; span = a.1 }
       by (Some kind) e = let a = subst (AfterParts bs k ts) (sym e) (some kind e) in record { kept = a.0; span = a.1 }
 
@@ -250,17 +246,17 @@ module _ (opening closing : List ℕ) where
     kept : kept_at_point after ≡ encodes (kept_before (k ∷ bs))
     span : open_at after ≡ behind_tags (open_at before) (tags_of (pieces_at bs k))
 
-  token_emits : (at : Place) (bs : List Token) (k : Token) (ts : List BodyEvent) → kept_at_point ts ≡ encodes (kept_before bs) → TokenStep bs k ts (events_onto (text_emitted (events_at at bs k)) ts)
+  token_emits : (at : Place) (bs : List Token) (k : Token) (ts : List BodyEvent) → kept_at_point ts ≡ encodes (kept_before bs) → TokenStep bs k ts (events_onto (text_events (events_at at bs k)) ts)
   token_emits at bs k ts h =
       let early = early_events at bs k.kind in
       let chars = map (λ (c : Char). text.Kept c) (chars_at at bs k) in
-      let parts = parts_events (parts_at bs k) in
+      let parts = out_parts (parts_at bs k) in
       let late = finding_events at bs (late_codes bs k.kind (effect k)) in
-      let a = events_onto (text_emitted early) ts in
-      let b = events_onto (text_emitted chars) a in
-      let c = events_onto (text_emitted parts) b in
-      let d = events_onto (text_emitted late) c in
-      let all : events_onto (text_emitted (events_at at bs k)) ts ≡ d =
+      let a = events_onto (text_events early) ts in
+      let b = events_onto (text_events chars) a in
+      let c = events_onto (text_events parts) b in
+      let d = events_onto (text_events late) c in
+      let all : events_onto (text_events (events_at at bs k)) ts ≡ d =
       events_append early (chars ++ (parts ++ late)) ts ∙ events_append chars (parts ++ late) a ∙ events_append parts late b in
       let f = found_still at bs (early_codes bs k.kind) ts in
       let g = chars_keep (chars_at at bs k) a in
@@ -274,40 +270,40 @@ module _ (opening closing : List ℕ) where
       }
 
   tokens_emitted : (at : Place) (bs ks : List Token) (ts : List BodyEvent) → kept_at_point ts ≡ encodes (kept_before bs)
-      → open_at (events_onto (text_emitted (along (events_at at) bs ks)) ts) ≡ behind_tags (open_at ts) (tags_of (along pieces_at bs ks))
+      → open_at (events_onto (text_events (along (events_at at) bs ks)) ts) ≡ behind_tags (open_at ts) (tags_of (along pieces_at bs ks))
   tokens_emitted at bs [] ts h = refl
   tokens_emitted at bs (k ∷ ks) ts h =
       let r = token_emits at bs k ts h in
       ap open_at (events_append (events_at at bs k) (along (events_at at) (k ∷ bs) ks) ts)
-      ∙ tokens_emitted at (k ∷ bs) ks (events_onto (text_emitted (events_at at bs k)) ts) r.kept
+      ∙ tokens_emitted at (k ∷ bs) ks (events_onto (text_events (events_at at bs k)) ts) r.kept
       ∙ ap (λ was. behind_tags was (tags_of (along pieces_at (k ∷ bs) ks))) r.span
       ∙ sym (behind_append (open_at ts) (tags_of (pieces_at bs k)) (tags_of (along pieces_at (k ∷ bs) ks)))
       ∙ ap (behind_tags (open_at ts)) (sym (tags_append (pieces_at bs k) (along pieces_at (k ∷ bs) ks)))
 
   -- ---- a text
 
-  end_found : (fs : List Finding) (ts : List BodyEvent) → open_at (events_onto (text_emitted (map text.Found fs)) ts) ≡ open_at ts
+  end_found : (fs : List Finding) (ts : List BodyEvent) → open_at (events_onto (text_events (map text.Found fs)) ts) ≡ open_at ts
   end_found [] ts = refl
   end_found (f ∷ fs) ts = end_found fs (event.Text (text.Found f) ∷ ts)
 
-  end_centre : (o : Option Span) (ts : List BodyEvent) → open_at (events_onto (text_emitted (map (λ (s : Span). text.Part (part.Centre s)) (option_list_of o))) ts) ≡ open_at ts
+  end_centre : (o : Option Span) (ts : List BodyEvent) → open_at (events_onto (text_events (map (λ (s : Span). text.Part (part.Centre s)) (option_list_of o))) ts) ≡ open_at ts
   end_centre None ts = refl
   end_centre (Some s) ts = refl
 
-  end_still : (at : Place) (bs : List Token) (rest : List ℕ) (ts : List BodyEvent) → open_at (events_onto (text_emitted (end_events at bs rest)) ts) ≡ open_at ts
+  end_still : (at : Place) (bs : List Token) (rest : List ℕ) (ts : List BodyEvent) → open_at (events_onto (text_events (end_events at bs rest)) ts) ≡ open_at ts
   end_still at bs rest ts =
       let found = map text.Found (findings_at_end at bs) in
       let centre = map (λ (s : Span). text.Part (part.Centre s)) (option_list_of (centre_of bs)) in
       let last = text.Ended (end_after at bs rest) ∷ [] in
-      ap open_at (events_append found (centre ++ last) ts ∙ events_append centre last (events_onto (text_emitted found) ts))
-      ∙ end_centre (centre_of bs) (events_onto (text_emitted found) ts) ∙ end_found (findings_at_end at bs) ts
+      ap open_at (events_append found (centre ++ last) ts ∙ events_append centre last (events_onto (text_events found) ts))
+      ∙ end_centre (centre_of bs) (events_onto (text_events found) ts) ∙ end_found (findings_at_end at bs) ts
 
   -- behind a text a span is open by the tags of the text, and by what was before
-  pub text_opens_span : (at : Place) (t : List ℕ) (ts : List BodyEvent) → since_close ts ≡ [] → open_at (events_onto (text_emitted (events_of at t)) ts) ≡ behind_tags (open_at ts) (span_tags t)
+  pub text_opens_span : (at : Place) (t : List ℕ) (ts : List BodyEvent) → since_close ts ≡ [] → open_at (events_onto (text_events (events_of at t)) ts) ≡ behind_tags (open_at ts) (span_tags t)
   text_opens_span at t ts h =
       let tokens_events = along (events_at at) [] (tokens t) in
       ap open_at (events_append tokens_events (end_events at (reverse (tokens t)) (after_tokens t)) ts)
-      ∙ end_still at (reverse (tokens t)) (after_tokens t) (events_onto (text_emitted tokens_events) ts)
+      ∙ end_still at (reverse (tokens t)) (after_tokens t) (events_onto (text_events tokens_events) ts)
       ∙ tokens_emitted at [] (tokens t) ts (ap kept_of h)
       ∙ ap (behind_tags (open_at ts)) (sym (tags_but_blank (along pieces_at [] (tokens t))))
 

@@ -19,8 +19,9 @@ use Rattle.gabc_score.specs.Canonical.{position_by, next_starts, placed_syllable
 use Rattle.gabc_score.specs.Events.{InText, texts_by_definition, text_from, snippet_from, next_line, body_events}
 use Rattle.gabc_score.specs.Units.{EndedPart, LastUnit, JustText, OpenNotes, Units, BodyCutting, whole, events_through, snippets_with, last_pieces, units_pieces, last_characters, cutting_of, Cuts, events_of_cutting, IsCutFrom, IsCut, events_of_parts}
 use Rattle.gabc_score.specs.SyllablesOfUnits.{ScoreUnit, closed_units, last_units, score_units, span_tags, tags_in, begins_word, next_begins_word, HoldsUnit, IsSyllableOf, AreSyllablesOf}
+use Rattle.gabc_score.specs.machine.PartKeeps.{text_events}
 use Rattle.gabc_score.proofs.texts_of_body.SeamsOfCharacters.{size}
-use Rattle.gabc_score.proofs.building.EventsOfSyllableParts.{Sum, sum_of, text_emitted}
+use Rattle.gabc_score.proofs.building.EventsOfSyllableParts.{Sum, sum_of}
 use Rattle.gabc_score.proofs.texts_of_body.TextEmitsThroughEnd.{text_endless, endless_emits}
 use Rattle.gabc_score.proofs.snippets_of_body.SnippetEmitsThroughEnd.{line_cut}
 use Rattle.gabc_score.proofs.units.BodyHasOneCutting.{body_emits_all}
@@ -190,7 +191,7 @@ module _ (ends : (at : Place) (t : List ℕ) → EndsOnce at t) (emits : (at : P
       let all = events_onto events before in
       let e = text_endless ends emits lines at xs h in
       let back : IsBack (codes_of xs) (codes_of xs) = ([], refl) in
-      let by_outputs : events ≡ text_emitted (events_of at t) = endless_emits ends emits lines at xs h ∙ ap text_emitted (in_order at t) in
+      let by_outputs : events ≡ text_events (events_of at t) = endless_emits ends emits lines at xs h ∙ ap text_events (in_order at t) in
       text_emits lines t before all (last_text t t e.0 events back (spans t) e.2 e.1 before since).1 (last_text_sum t e.0 events e.2 e.1 before since) (spans t)
       (ap (λ ts. is_eu (events_onto ts before)) by_outputs ∙ text_opens_span (codes "<eu>") (codes "</eu>") at t before since)
       (ap (λ ts. is_nlba (events_onto ts before)) by_outputs ∙ text_opens_span (codes "<nlba>") (codes "</nlba>") at t before since)

@@ -5,8 +5,8 @@ use Rattle.std.specs.List.{All}
 use Rattle.std.proofs.lemmas.Bool.{lt-ltb}
 use Rattle.std.proofs.lemmas.List.Elements.{All-nil, All-cons, All-head, All-append}
 use lib.Utf8.{encodes}
+use Rattle.gabc_places.proofs.PushesAreOne.{joined-append}
 use Rattle.gabc_places.specs.StageLaw.{concat_of}
-use Rattle.gabc_places.specs.declared.code.Finding.{Finding}
 use Rattle.gabc_places.specs.declared.place.Place.{Place}
 use Rattle.gabc_places.specs.declared.place.Char.{Char}
 use Rattle.gabc_text.specs.BuiltText.{with_events, empty_text, text_built_at, found_in}
@@ -34,8 +34,8 @@ use Rattle.gabc_score.specs.SyllablesOfUnits.{with_ends, snippets_in, characters
 use Rattle.gabc_score.specs.UnitRead.{first_events, GivesOneSyllable}
 use Rattle.gabc_score.proofs.texts_of_body.SeamsOfCharacters.{size}
 use Rattle.gabc_score.proofs.holding.SnippetsAreHeld.{bytes_stand}
-use Rattle.gabc_score.proofs.order.FindingsOfParts.{found, found_onto, joined_append}
-use Rattle.gabc_score.proofs.order.PartsThatWarn.{joined_found, text_some, snippet_some}
+use Rattle.gabc_score.proofs.order.FindingsOfParts.{found, found_onto}
+use Rattle.gabc_score.proofs.order.PartsThatWarn.{joined_found, text_some, snippet_some, Warn}
 use Rattle.gabc_score.proofs.stopped_scores.PrefixesAreReadAlike.{through_length}
 use Rattle.gabc_score.proofs.stopped_scores.ClosedWithin.{close_of, close_count, count_one, pieces_count, units_within_are}
 use Rattle.gabc_score.proofs.syllables_of_units.LastTagOpensTheSpan.{behind_tags}
@@ -111,7 +111,7 @@ some_kept : (n : ℕ) (lists : List (List BodyEvent)) → all_kept (concat_of (t
 some_kept n lists =
     let parts : all_kept (concat_of (take n lists) ++ concat_of (drop n lists)) ≡ all_kept (concat_of (take n lists)) + all_kept (concat_of (drop n lists)) = kept_append (concat_of (take n lists)) (concat_of (drop n lists)) in
     let all : all_kept (concat_of (take n lists) ++ concat_of (drop n lists)) ≡ all_kept (concat_of lists) =
-    ap all_kept (sym (joined_append (take n lists) (drop n lists))) ∙ ap (λ (ls : List (List BodyEvent)). all_kept (concat_of ls)) (take-append-drop n lists) in
+    ap all_kept (sym (joined-append (take n lists) (drop n lists))) ∙ ap (λ (ls : List (List BodyEvent)). all_kept (concat_of ls)) (take-append-drop n lists) in
     omega (arith, parts, all)
 
 -- ---- spans
@@ -162,9 +162,6 @@ unit_past opening closing lines u m was h =
     ap (λ (k : List ℕ). open_past opening closing k m.text.pieces was) h.kept_is ∙ view_past opening closing h.whole u.text m.text was h.stands
 
 -- ---- the lists of a unit
-
-abbrev Warn : List Finding → Type 0
-Warn fs = All IsWarning fs
 
 -- these lists are one for each of n characters and then those, and what is found in the first are warnings, if so much is known
 record Front (n : ℕ) (Known : Type 0) (all later : List (List BodyEvent)) : Type 0 where
@@ -264,7 +261,7 @@ module _ (all_found : (at : Place) (t : List ℕ) → found_in (concat_of (event
       let size_is : size (codes_of e.characters) + 1 + size (codes_of (with_ends (nexts ++ final ∷ []))) ≤ size (codes_of (with_ends ((e ∷ nexts) ++ final ∷ []))) =
       size_with_end e.characters e.end (with_ends (nexts ++ final ∷ [])) in
       let on : all_kept (concat_of r.front) ≤ size (codes_of (with_ends (nexts ++ final ∷ []))) = notes_few nexts final more last next opened (fits_back (e.end ∷ []) rest (fits_back e.characters (e.end ∷ rest) fits)) h.1 in
-      let both : all_kept (concat_of (first ++ r.front)) ≡ all_kept (concat_of first) + all_kept (concat_of r.front) = ap all_kept (joined_append first r.front) ∙ kept_append (concat_of first) (concat_of r.front) in
+      let both : all_kept (concat_of (first ++ r.front)) ≡ all_kept (concat_of first) + all_kept (concat_of r.front) = ap all_kept (joined-append first r.front) ∙ kept_append (concat_of first) (concat_of r.front) in
       omega (arith, now, size_is, on, both)
 
   unit_few : (ends : (at : Place) (t : List ℕ) → EndsOnce at t) (emits : (at : Place) (t : List ℕ) → with_events empty_text (concat_of (events_by_point at t)) ≡ text_built_at at t)
@@ -287,7 +284,7 @@ module _ (all_found : (at : Place) (t : List ℕ) → found_in (concat_of (event
       let text_is : size (kept v.text) ≡ size (kept (codes_of xs)) = ap (λ (t : List ℕ). size (kept t)) (ap codes_of (sym (unit_whole lines u more last))) in
       let notes_are : size (codes_of []) + 1 + size (codes_of (with_ends (snippets_in u))) ≤ size v.notes = size_with_end [] end (with_ends (snippets_in u)) in
       let on : all_kept (concat_of r.front) ≤ size (codes_of (with_ends (snippets_in u))) = notes_few u.nexts u.final more last 0 end.place (fits_back (end ∷ []) rest (fits_back prefix (end ∷ rest) fits)) h.1 in
-      let both : all_kept (concat_of (first ++ r.front)) ≡ all_kept (concat_of first) + all_kept (concat_of r.front) = ap all_kept (joined_append first r.front) ∙ kept_append (concat_of first) (concat_of r.front) in
+      let both : all_kept (concat_of (first ++ r.front)) ≡ all_kept (concat_of first) + all_kept (concat_of r.front) = ap all_kept (joined-append first r.front) ∙ kept_append (concat_of first) (concat_of r.front) in
       omega (arith, now, text_is, notes_are, on, both, few)
 
   -- they are what its characters emit

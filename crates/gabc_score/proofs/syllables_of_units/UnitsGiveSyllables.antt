@@ -28,8 +28,9 @@ use Rattle.gabc_score.specs.Events.{Texts, PartAhead, InText, note_event, texts_
 use Rattle.gabc_score.specs.Units.{Mark, Opens, Next, Closes, CutPart, EndedPart, BodyUnit, LastUnit, JustText, OpenNotes, cut_part, whole, events_through, snippets_with, last_pieces, units_pieces, last_characters, EndsBehind, Cuts, events_of_cutting, Units, BodyCutting, cutting_of, IsCutFrom, IsCut}
 use Rattle.gabc_score.specs.Holding.{ReadSnippet, bracket_with}
 use Rattle.gabc_score.specs.SyllablesOfUnits.{with_ends, snippets_in, characters_in, last_in, characters_from, unit_characters, ScoreUnit, score_unit, closed_units, span_tags, tags_in, HoldsUnit}
+use Rattle.gabc_score.specs.machine.PartKeeps.{text_events}
 use Rattle.gabc_score.proofs.texts_of_body.SeamsOfCharacters.{size}
-use Rattle.gabc_score.proofs.building.EventsOfSyllableParts.{onto_append, text_emitted}
+use Rattle.gabc_score.proofs.building.EventsOfSyllableParts.{onto_append}
 use Rattle.gabc_score.proofs.texts_of_body.TextEmitsThroughEnd.{TextEmitted, codes_append, text_mark, text_ended, ended_emits}
 use Rattle.gabc_score.proofs.snippets_of_body.SnippetsEndAlike.{IsMark}
 use Rattle.gabc_score.proofs.snippets_of_body.SnippetEmitsThroughEnd.{LineEmitted, line_emitted}
@@ -124,7 +125,7 @@ line_uncut lines line opened_at prefix end mark events l before =
     by note_end.Close h = refl
     by (note_end.Cut place) h = absurd h
 
-text_uncut : (os : List TextEvent) (before : List BodyEvent) → ends_in os ≡ [] → cut_of (events_onto (text_emitted os) before) ≡ cut_of before
+text_uncut : (os : List TextEvent) (before : List BodyEvent) → ends_in os ≡ [] → cut_of (events_onto (text_events os) before) ≡ cut_of before
 text_uncut [] before h = refl
 text_uncut (text_out.Kept x ∷ os) before h = text_uncut os (Text (text_out.Kept x) ∷ before) h
 text_uncut (text_out.Part p ∷ os) before h = text_uncut os (Text (text_out.Part p) ∷ before) h
@@ -134,7 +135,7 @@ text_uncut (text_out.Ended how ∷ os) before h = absurd (cc)
 opened_uncut : (t : List ℕ) (events : List BodyEvent) (g : TextEmitted t text_end.Notes events) (before : List BodyEvent) → cut_of (events_onto events before) ≡ cut_of before
 opened_uncut t events g before =
     ap (λ ts. cut_of (events_onto ts before)) g.emitted_are
-    ∙ ap cut_of (onto_append (text_emitted g.mids) (Text (text_out.Ended text_end.Notes) ∷ []) before)
+    ∙ ap cut_of (onto_append (text_events g.mids) (Text (text_out.Ended text_end.Notes) ∷ []) before)
     ∙ text_uncut g.mids before g.silent
 
 -- ---- a unit
@@ -299,7 +300,7 @@ module _ (ends : (at : Place) (t : List ℕ) → EndsOnce at t) (emits : (at : P
         → is_open opening closing (events_onto (concat_of (events_through part prefix)) before) ≡ behind_tags opening closing (is_open opening closing before) (span_tags (codes_of xs)))
     text_spans at prefix end rest mark before since h =
         let xs = prefix ++ end ∷ rest in
-        ap (λ ts. is_open opening closing (events_onto ts before)) (ended_emits ends emits lines at prefix end rest mark h ∙ ap text_emitted (in_order at (codes_of xs)))
+        ap (λ ts. is_open opening closing (events_onto ts before)) (ended_emits ends emits lines at prefix end rest mark h ∙ ap text_events (in_order at (codes_of xs)))
         ∙ text_opens_span opening closing at (codes_of xs) before since
 
   -- a unit

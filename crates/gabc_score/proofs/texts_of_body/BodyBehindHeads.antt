@@ -1,11 +1,10 @@
 -- The prefix of a text and the body behind it, by characters and by bytes.
-use Rattle.std.proofs.Common.{◌≡◌, ℕ, zero, suc, ◌+◌, List, [], ◌∷◌, ◌++◌, length, take, drop, refl, sym, ap, subst, ◌∙◌, length-append, IsUtf8}
+use Rattle.std.proofs.Common.{◌≡◌, ℕ, zero, suc, ◌+◌, List, [], ◌∷◌, ◌++◌, length, take, drop, refl, sym, ap, subst, ◌∙◌, IsUtf8}
 use Rattle.std.specs.Str.{chars, IsCharBoundary}
-use Rattle.std.specs.Char.{len_utf8}
 use Rattle.std.proofs.lemmas.List.{take_at, drop_at, take-append-drop}
-use Rattle.std.proofs.lemmas.List.Sums.{sum_by-cons}
-use Rattle.std.proofs.lemmas.Str.{encodes-append, encodes-chars, encodes_same, length-encode, IsUtf8-take, IsUtf8-drop, IsUtf8-past_char, IsCharBoundary-at_seam}
-use lib.Utf8.{encode, encodes}
+use Rattle.std.proofs.lemmas.Str.{encodes-append, encodes-chars, encodes_same, IsUtf8-take, IsUtf8-drop, IsUtf8-past_char, IsCharBoundary-at_seam}
+use lib.Utf8.{encodes}
+use Rattle.gabc_headers.proofs.entries.TextsAsBytes.{length-encodes}
 use Rattle.gabc_places.specs.declared.limits.Limits.{Limits}
 use Rattle.gabc_places.specs.declared.place.Place.{Place}
 use Rattle.gabc_places.specs.declared.place.Char.{Char}
@@ -23,11 +22,6 @@ use Rattle.gabc_score.specs.NoteBeforeClef.{with_first_each, score_events}
 use Rattle.gabc_score.specs.Score.{heads_text, behind_heads, body_in}
 use Rattle.gabc_places.proofs.PlacesOfAText.{placed_behind, behind_after}
 
-length_encodes : (t : List ℕ) → length (encodes t) ≡ bytes_len t
-length_encodes [] = refl
-length_encodes (c ∷ t) =
-    length-append (encode c) (encodes t) ∙ ap (λ n. n + length (encodes t)) (length-encode c) ∙ ap (λ n. len_utf8 c + n) (length_encodes t) ∙ sym (sum_by-cons len_utf8 c t)
-
 utf8_behind : (t : List ℕ) (n : ℕ) → IsUtf8 (encodes t) → IsUtf8 (encodes (drop n t))
 utf8_behind t zero u = u
 utf8_behind [] (suc n) u = u
@@ -42,7 +36,7 @@ module _ (t bytes : List ℕ) (whole : bytes ≡ encodes t) (utf8 : IsUtf8 bytes
   utf8_of = subst IsUtf8 whole utf8
 
   size : length (encodes (take n t)) ≡ at
-  size = length_encodes (take n t) ∙ sym here
+  size = length-encodes (take n t) ∙ sym here
 
   seam : bytes ≡ encodes (take n t) ++ encodes (drop n t)
   seam = whole ∙ split_bytes t n

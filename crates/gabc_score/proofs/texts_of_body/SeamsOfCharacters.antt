@@ -1,37 +1,16 @@
 -- The bytes of characters, and where texts are cut.
-use Rattle.std.proofs.Common.{◌≡◌, ℕ, ◌+◌, ◌/◌, ◌||◌, nat_lt, Bool, true, false, cond, List, [], ◌∷◌, ◌++◌, length, take, sum_by, refl, sym, ap, ◌∙◌, arith, length-append}
+use Rattle.std.proofs.Common.{◌≡◌, ℕ, ◌+◌, true, cond, List, [], ◌∷◌, ◌++◌, length, take, sum_by, refl, sym, ap, ◌∙◌, arith, length-append}
 use Rattle.std.specs.Char.{len_utf8}
 use Rattle.std.proofs.lemmas.List.{take_at, drop_at}
 use Rattle.std.proofs.lemmas.List.Sums.{sum_by-cons}
 use Rattle.std.proofs.lemmas.Str.{encodes-append, length-encode}
-use lib.Utf8.{encode, encodes, next}
-use Rattle.gabc_score.specs.Syllable.{begins_character, is_seam, prefix_of}
-
-or_true : (b : Bool) → (b || true) ≡ true
-or_true true = refl
-or_true false = refl
-
--- a character begins with a byte that may begin one
-first_begins : (c : ℕ) (more : List ℕ) → is_seam (encode c ++ more) ≡ true
-unfolding encode
-first_begins c more = by (nat_lt c 128) (nat_lt c 2048) (nat_lt c 65536) refl
-  where
-    high : (byte : ℕ) → nat_lt 191 byte ≡ true → begins_character byte ≡ true
-    high byte h = ap (λ b. nat_lt byte 128 || b) h ∙ or_true (nat_lt byte 128)
-
-    low : (byte : ℕ) → nat_lt byte 128 ≡ true → begins_character byte ≡ true
-    low byte h = ap (λ b. b || nat_lt 191 byte) h
-
-    by : (a b d : Bool) → nat_lt c 128 ≡ a
-        → is_seam (cond a (c ∷ []) (cond b ((192 + c / 64) ∷ next c ∷ []) (cond d ((224 + c / 4096) ∷ next (c / 64) ∷ next c ∷ []) ((240 + c / 262144) ∷ next (c / 4096) ∷ next (c / 64) ∷ next c ∷ []))) ++ more) ≡ true
-    by true b d h = low c h
-    by false true d h = high (192 + c / 64) (grind arith)
-    by false false true h = high (224 + c / 4096) (grind arith)
-    by false false false h = high (240 + c / 262144) (grind arith)
+use lib.Utf8.{encode, encodes}
+use Rattle.gabc_score.proofs.holding.SeamsOfText.{first_byte}
+use Rattle.gabc_score.specs.Syllable.{is_seam, prefix_of}
 
 pub texts_begin : (t : List ℕ) → is_seam (encodes t) ≡ true
 texts_begin [] = refl
-texts_begin (c ∷ t) = first_begins c (encodes t)
+texts_begin (c ∷ t) = first_byte c (encodes t)
 
 -- a text is cut between two characters
 pub cut_between : (prefix back : List ℕ) → prefix_of (length (encodes prefix)) (encodes (prefix ++ back)) ≡ encodes prefix

@@ -4,13 +4,14 @@ use Rattle.std.specs.List.{list_any}
 use Rattle.std.specs.Str.{chars}
 use Rattle.std.proofs.lemmas.Str.{encodes-chars, length-encode, length-le-encodes}
 use lib.Utf8.{encode, encodes}
+use Rattle.gabc_text.proofs.KeptCharacters.{codes_placed}
 use Rattle.gabc_places.specs.declared.place.Place.{Place}
 use Rattle.gabc_places.specs.declared.place.Char.{Char}
 use Rattle.gabc_places.specs.Place.{next_place, is_line_feed, place_after, place_past, placed_characters_from}
 use Rattle.gabc_places.proofs.PlacesOfAText.{behind_after}
 use Rattle.gabc_headers.specs.Heads.{head_len}
 use Rattle.gabc_text.specs.declared.text_event.TextEvent.{TextEvent}
-use Rattle.gabc_text.specs.Events.{CountsFit, codes_of, events_by_point}
+use Rattle.gabc_text.specs.Events.{CountsFit, events_by_point}
 use Rattle.gabc_text.specs.View.{bytes_of}
 use Rattle.gabc_text.specs.witness.EventsLeft.{events_left}
 use Rattle.gabc_text.specs.TextStage.{fresh_stage}
@@ -18,10 +19,6 @@ use Rattle.gabc_score.specs.declared.events.BodyEvent.{BodyEvent}
 use Rattle.gabc_score.specs.Events.{PartAhead, InComment, InText, InNotes, is_next, is_close, first_list, other_lists, events_in, snippet_from, next_line, behind_mark, part_at, part_behind, events_from, texts_by_definition}
 use Rattle.gabc_score.specs.witness.BodyStage.{texts_by_stage}
 use Rattle.gabc_score.specs.Score.{heads_text, behind_heads}
-
-pub codes_placed : (at : Place) (t : List ℕ) → codes_of (placed_characters_from at t) ≡ t
-codes_placed at [] = refl
-codes_placed at (c ∷ t) = ap (λ (l : List ℕ). c ∷ l) (codes_placed (next_place at c) t)
 
 -- the text behind a character fits if the text from it on does
 fits_by : (at : Place) (c : ℕ) (t : List ℕ) (b : Bool) → CountsFit at (c ∷ t)

@@ -4,6 +4,8 @@ use Rattle.std.specs.List.{list_any}
 use lib.Utf8.{encodes}
 use Rattle.std.proofs.lemmas.List.{drop_at, map-append}
 use Rattle.std.proofs.lemmas.Grind.{flat_map-append}
+use Rattle.gabc_text.proofs.events.EventsByPointAreEvents.{joined_nothing}
+use Rattle.gabc_text.proofs.events.EventsBuildText.{events_append}
 use Rattle.gabc_places.specs.StageLaw.{concat_of}
 use Rattle.gabc_places.specs.declared.place.Place.{Place}
 use Rattle.gabc_places.specs.declared.place.Char.{Char}
@@ -20,7 +22,7 @@ use Rattle.gabc_score.specs.declared.events.BodyEvent.{BodyEvent}
 use Rattle.gabc_score.specs.declared.events.BodyEvent.TheVariants.{Text}
 use Rattle.gabc_score.specs.Events.{InText, is_text_end, texts_by_definition}
 use Rattle.gabc_score.specs.Units.{Mark, Opens, events_through, Endless, EndsBehind}
-use Rattle.gabc_score.proofs.building.EventsOfSyllableParts.{text_emitted}
+use Rattle.gabc_score.specs.machine.PartKeeps.{text_events}
 
 -- ---- events without an end
 
@@ -47,10 +49,6 @@ any_after (text.Ended how ∷ xs) ys h = cc
 
 pub none_ends : (xs : List TextEvent) → ends_in xs ≡ [] → list_any is_text_end xs ≡ false
 none_ends xs h = ap (list_any is_text_end) (sym (append-nil xs)) ∙ any_after xs [] h
-
-gathers_on : (g : Gathered) (xs ys : List TextEvent) → with_events g (xs ++ ys) ≡ with_events (with_events g xs) ys
-gathers_on g [] ys = refl
-gathers_on g (x ∷ xs) ys = gathers_on (with_event g x) xs ys
 
 -- ---- the first `(`
 
@@ -81,17 +79,17 @@ module _ (lines : ℕ) where
 
   -- what is emitted up to the end, and the end
   abbrev through : List (List TextEvent) → List TextEvent → TextEnd → List BodyEvent
-  through before last how = text_emitted (concat_of before ++ last) ++ Text (text.Ended how) ∷ []
+  through before last how = text_events (concat_of before ++ last) ++ Text (text.Ended how) ∷ []
 
-  last_through : (last : List TextEvent) (how : TextEnd) → text_emitted (last ++ text.Ended how ∷ []) ++ [] ≡ through [] last how
-  last_through last how = append-nil (text_emitted (last ++ text.Ended how ∷ [])) ∙ map-append (λ (o : TextEvent). Text o) last (text.Ended how ∷ [])
+  last_through : (last : List TextEvent) (how : TextEnd) → text_events (last ++ text.Ended how ∷ []) ++ [] ≡ through [] last how
+  last_through last how = append-nil (text_events (last ++ text.Ended how ∷ [])) ∙ map-append (λ (o : TextEvent). Text o) last (text.Ended how ∷ [])
 
   more_through : (b : List TextEvent) (before : List (List TextEvent)) (last : List TextEvent) (how : TextEnd) (later : List BodyEvent) → later ≡ through before last how
-      → text_emitted b ++ later ≡ through (b ∷ before) last how
+      → text_events b ++ later ≡ through (b ∷ before) last how
   more_through b before last how later h =
-      ap (λ ts. text_emitted b ++ ts) h
-      ∙ sym (append_assoc (text_emitted b) (text_emitted (concat_of before ++ last)) (Text (text.Ended how) ∷ []))
-      ∙ ap (λ ts. ts ++ Text (text.Ended how) ∷ []) (sym (map-append (λ (o : TextEvent). Text o) b (concat_of before ++ last)) ∙ ap text_emitted (sym (append_assoc b (concat_of before) last)))
+      ap (λ ts. text_events b ++ ts) h
+      ∙ sym (append_assoc (text_events b) (text_events (concat_of before ++ last)) (Text (text.Ended how) ∷ []))
+      ∙ ap (λ ts. ts ++ Text (text.Ended how) ∷ []) (sym (map-append (λ (o : TextEvent). Text o) b (concat_of before ++ last)) ∙ ap text_events (sym (append_assoc b (concat_of before) last)))
 
   last_mark : (how : TextEnd) (mark : Mark) → mark_by (list_any is_text_end (text.Ended how ∷ [])) ≡ Some mark → (how ≡ text_end.Notes) × (mark ≡ Opens)
   last_mark text_end.Notes mark h = (refl, cc)
@@ -125,7 +123,7 @@ module _ (lines : ℕ) where
       → ends_in last ≡ [] → length before ≤ length xs → Endless lines (InText (all_lists before last how rest)) xs
       → (concat_of (events_through (InText (all_lists before last how rest)) xs) ≡ through before last how)
   endless_through [] last how rest [] l few h = last_through last how
-  endless_through [] last how rest (x ∷ xs) l few h = ap (λ ts. text_emitted (last ++ text.Ended how ∷ []) ++ ts) (nothing_through rest xs) ∙ last_through last how
+  endless_through [] last how rest (x ∷ xs) l few h = ap (λ ts. text_events (last ++ text.Ended how ∷ []) ++ ts) (nothing_through rest xs) ∙ last_through last how
   endless_through (b ∷ before) last how rest [] l few h = absurd (omega arith)
   endless_through (b ∷ before) last how rest (x ∷ xs) l few h =
       more_through b before last how (concat_of (events_through (InText (all_lists before last how rest)) xs)) (endless_through before last how rest xs l (omega arith) h.1)
@@ -139,10 +137,6 @@ module _ (lines : ℕ) where
 
 -- ---- a text
 
-nothing_joined : (rest : List ℕ) → concat_of (no_events_each rest) ≡ []
-nothing_joined [] = refl
-nothing_joined (c ∷ rest) = nothing_joined rest
-
 pub length_of_codes : (xs : List Char) → length (codes_of xs) ≡ length xs
 length_of_codes [] = refl
 length_of_codes (x ∷ xs) = ap (λ n. suc n) (length_of_codes xs)
@@ -154,7 +148,7 @@ codes_append (x ∷ xs) ys = ap (λ cs. x.c ∷ cs) (codes_append xs ys)
 -- what a text emits through its end: what is emitted before the end gathers to its kept text and its view
 pub record TextEmitted (t : List ℕ) (how : TextEnd) (events : List BodyEvent) : Type 0 where
   pub mids : List TextEvent
-  pub emitted_are : events ≡ text_emitted mids ++ Text (text.Ended how) ∷ []
+  pub emitted_are : events ≡ text_events mids ++ Text (text.Ended how) ∷ []
   pub silent : ends_in mids ≡ []
   pub kept_is : (with_events empty_text mids).kept ≡ encodes (kept t)
   pub view_is : (with_events empty_text mids).view ≡ view_in t
@@ -163,7 +157,7 @@ module _ (ends : (at : Place) (t : List ℕ) → EndsOnce at t) (emits : (at : P
   joined_all : (before : List (List TextEvent)) (last : List TextEvent) (how : TextEnd) (rest : List ℕ) → concat_of (all_lists lines before last how rest) ≡ (concat_of before ++ last) ++ text.Ended how ∷ []
   joined_all before last how rest =
       flat_map-append (λ (xs : List TextEvent). xs) before ((last ++ text.Ended how ∷ []) ∷ no_events_each rest)
-      ∙ ap (λ ys. concat_of before ++ ((last ++ text.Ended how ∷ []) ++ ys)) (nothing_joined rest)
+      ∙ ap (λ ys. concat_of before ++ ((last ++ text.Ended how ∷ []) ++ ys)) (joined_nothing rest)
       ∙ ap (λ ys. concat_of before ++ ys) (append-nil (last ++ text.Ended how ∷ []))
       ∙ sym (append_assoc (concat_of before) last (text.Ended how ∷ []))
 
@@ -172,7 +166,7 @@ module _ (ends : (at : Place) (t : List ℕ) → EndsOnce at t) (emits : (at : P
       ap (with_events empty_text) (sym (joined_all e.before e.last e.how e.rest) ∙ ap concat_of (sym e.events_are)) ∙ emits at t
 
   with_end : (mids : List TextEvent) (how : TextEnd) → with_events empty_text (mids ++ text.Ended how ∷ []) ≡ with_event (with_events empty_text mids) (text.Ended how)
-  with_end mids how = gathers_on empty_text mids (text.Ended how ∷ [])
+  with_end mids how = events_append empty_text mids (text.Ended how ∷ [])
 
   text_emitted_by : (t : List ℕ) (events : List BodyEvent) → (let e = ends at t in events ≡ through lines e.before e.last e.how) → TextEmitted t (ends at t).how events
   text_emitted_by t events h = let e = ends at t in record {
@@ -236,13 +230,13 @@ module _ (ends : (at : Place) (t : List ℕ) → EndsOnce at t) (emits : (at : P
   )
 
   -- what is emitted of a text through its end is what it gives
-  events_all : (t : List ℕ) → (let e = ends at t in through lines e.before e.last e.how ≡ text_emitted (concat_of (events_by_point at t)))
+  events_all : (t : List ℕ) → (let e = ends at t in through lines e.before e.last e.how ≡ text_events (concat_of (events_by_point at t)))
   events_all t = let e = ends at t in
       sym (map-append (λ (o : TextEvent). Text o) (concat_of e.before ++ e.last) (text.Ended e.how ∷ []))
-      ∙ ap text_emitted (sym (joined_all e.before e.last e.how e.rest) ∙ ap concat_of (sym e.events_are))
+      ∙ ap text_events (sym (joined_all e.before e.last e.how e.rest) ∙ ap concat_of (sym e.events_are))
 
   pub ended_emits : (prefix : List Char) (end : Char) (rest : List Char) (mark : Mark) → (let xs = prefix ++ end ∷ rest in
-      EndsBehind lines (InText (texts_by_definition at xs)) prefix mark → concat_of (events_through (InText (texts_by_definition at xs)) prefix) ≡ text_emitted (concat_of (events_by_point at (codes_of xs))))
+      EndsBehind lines (InText (texts_by_definition at xs)) prefix mark → concat_of (events_through (InText (texts_by_definition at xs)) prefix) ≡ text_events (concat_of (events_by_point at (codes_of xs))))
   ended_emits prefix end rest mark h =
       let xs = prefix ++ end ∷ rest in
       let e = ends at (codes_of xs) in
@@ -250,7 +244,7 @@ module _ (ends : (at : Place) (t : List ℕ) → EndsOnce at t) (emits : (at : P
       ∙ (ends_through lines e.before e.last e.how e.rest prefix mark e.none_before e.none_in_last (subst (λ ls. EndsBehind lines (InText ls) prefix mark) e.events_are h)).0
       ∙ events_all (codes_of xs)
 
-  pub endless_emits : (xs : List Char) → Endless lines (InText (texts_by_definition at xs)) xs → concat_of (events_through (InText (texts_by_definition at xs)) xs) ≡ text_emitted (concat_of (events_by_point at (codes_of xs)))
+  pub endless_emits : (xs : List Char) → Endless lines (InText (texts_by_definition at xs)) xs → concat_of (events_through (InText (texts_by_definition at xs)) xs) ≡ text_events (concat_of (events_by_point at (codes_of xs)))
   endless_emits xs h =
       let e = ends at (codes_of xs) in
       ap (λ ls. concat_of (events_through (InText ls) xs)) e.events_are

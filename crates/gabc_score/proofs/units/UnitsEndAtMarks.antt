@@ -4,6 +4,8 @@ use Rattle.std.specs.List.{All, list_any}
 use Rattle.std.specs.Option.{option_map}
 use Rattle.std.proofs.lemmas.List.Elements.{All-nil, All-cons, All-append}
 use Rattle.std.proofs.lemmas.List.Folds.{list_any-append}
+use Rattle.std.proofs.lemmas.Bool.{true≢false}
+use Rattle.gabc_score.proofs.texts_of_body.TextEmitsThroughEnd.{ends_apart, none_ends}
 use Rattle.gabc_places.specs.StageLaw.{concat_of}
 use Rattle.gabc_places.specs.declared.place.Place.{Place}
 use Rattle.gabc_places.specs.declared.place.Char.{Char}
@@ -27,9 +29,6 @@ use Rattle.gabc_score.specs.Body.{has_text}
 use Rattle.gabc_score.specs.SyllablesOfUnits.{ScoreUnit, snippets_in, characters_from, score_unit, closed_units, last_units, score_units}
 use Rattle.gabc_text.specs.TextRead.{view_in}
 use Rattle.gabc_score.specs.Marks.{EndAt, EndAtTheirMarks, LastEndsAtItsMarks, AllEndAtTheirMarks}
-
-differ : {X : Type 0} → true ≡ false → X
-differ e = absurd (cc)
 
 -- ---- snippets
 
@@ -57,24 +56,24 @@ endless_close (note_out.Ended how n ∷ events) e = absurd (cc)
 
 -- where a `|` ends a snippet, and where a `)` does
 next_mark : (split : Bool) (c : ℕ) (events : List NoteEvent) → EndAtMost split c events → list_any is_next events ≡ true → (c ≡ 124) × (split ≡ true)
-next_mark split c events (inl e) h = differ (sym h ∙ endless_next events e)
+next_mark split c events (inl e) h = absurd (true≢false (sym h ∙ endless_next events e))
 next_mark split c events (inr w) h = by w.how w.mark
     (sym (ap (λ (os : List NoteEvent). list_any is_next os) w.cut
     ∙ (list_any-append is_next w.before (note_out.Ended w.how w.bytes ∷ []) ∙ ap (λ (b : Bool). b || list_any is_next (note_out.Ended w.how w.bytes ∷ [])) (endless_next w.before w.endless))) ∙ h)
   where
     by : (how : NoteEnd) → IsMarkOf split how c → list_any is_next (note_out.Ended how w.bytes ∷ []) ≡ true → (c ≡ 124) × (split ≡ true)
     by note_end.Next m e = m
-    by note_end.Close m e = differ (sym e)
+    by note_end.Close m e = absurd (true≢false (sym e))
     by (note_end.Cut p) m e = elim m [ ]
 
 close_mark : (split : Bool) (c : ℕ) (events : List NoteEvent) → EndAtMost split c events → list_any is_close events ≡ true → c ≡ 41
-close_mark split c events (inl e) h = differ (sym h ∙ endless_close events e)
+close_mark split c events (inl e) h = absurd (true≢false (sym h ∙ endless_close events e))
 close_mark split c events (inr w) h = by w.how w.mark
     (sym (ap (λ (os : List NoteEvent). list_any is_close os) w.cut
     ∙ (list_any-append is_close w.before (note_out.Ended w.how w.bytes ∷ []) ∙ ap (λ (b : Bool). b || list_any is_close (note_out.Ended w.how w.bytes ∷ [])) (endless_close w.before w.endless))) ∙ h)
   where
     by : (how : NoteEnd) → IsMarkOf split how c → list_any is_close (note_out.Ended how w.bytes ∷ []) ≡ true → c ≡ 41
-    by note_end.Next m e = differ (sym e)
+    by note_end.Next m e = absurd (true≢false (sym e))
     by note_end.Close m e = m
     by (note_end.Cut p) m e = elim m [ ]
 
@@ -101,20 +100,6 @@ module _ (lines : ℕ) where
 
 -- ---- texts
 
-endless_text : (events : List TextEvent) → ends_in events ≡ [] → list_any is_text_end events ≡ false
-endless_text [] e = refl
-endless_text (text_out.Kept x ∷ events) e = endless_text events e
-endless_text (text_out.Part p ∷ events) e = endless_text events e
-endless_text (text_out.Found f ∷ events) e = endless_text events e
-endless_text (text_out.Ended how ∷ events) e = absurd (cc)
-
-endless_parts : (a b : List TextEvent) → ends_in (a ++ b) ≡ [] → (ends_in a ≡ []) × (ends_in b ≡ [])
-endless_parts [] b e = (refl, e)
-endless_parts (text_out.Kept x ∷ a) b e = endless_parts a b e
-endless_parts (text_out.Part p ∷ a) b e = endless_parts a b e
-endless_parts (text_out.Found f ∷ a) b e = endless_parts a b e
-endless_parts (text_out.Ended how ∷ a) b e = absurd (cc)
-
 opens_read : (a : Bool) → (if a then Some Opens else None) ≡ Some Opens → a ≡ true
 opens_read true e = refl
 opens_read false e = absurd (cc)
@@ -134,18 +119,18 @@ module _ (lines : ℕ) where
   opens_at (b ∷ before) last how [] rest prefix end more n t e l v h = absurd (omega arith)
   opens_at [] last how [] rest (x ∷ prefix) end more n t e l v h = absurd (quiet rest prefix h.1)
   opens_at [] last how [] rest [] end more n t e l v h = by how v
-      (sym (list_any-append is_text_end last (text_out.Ended how ∷ []) ∙ ap (λ (b : Bool). b || list_any is_text_end (text_out.Ended how ∷ [])) (endless_text last l))
+      (sym (list_any-append is_text_end last (text_out.Ended how ∷ []) ∙ ap (λ (b : Bool). b || list_any is_text_end (text_out.Ended how ∷ [])) (none_ends last l))
       ∙ opens_read (list_any is_text_end (last ++ text_out.Ended how ∷ [])) h)
     where
       by : (how : TextEnd) → Leaves how rest → list_any is_text_end (text_out.Ended how ∷ []) ≡ true → end.c ≡ 40
       by text_end.Notes v f = (let g = t ∙ v in cc)
-      by text_end.Finished v f = differ (sym f)
-      by (text_end.Cut p) v f = differ (sym f)
+      by text_end.Finished v f = absurd (true≢false (sym f))
+      by (text_end.Cut p) v f = absurd (true≢false (sym f))
   opens_at (b ∷ before) last how (d ∷ codes) rest [] end more n t e l v h =
-      differ (sym (opens_read (list_any is_text_end b) h) ∙ endless_text b (endless_parts b (concat_of before) e).0)
+      absurd (true≢false (sym (opens_read (list_any is_text_end b) h) ∙ none_ends b (ends_apart b (concat_of before) e).0))
   opens_at (b ∷ before) last how (d ∷ codes) rest (x ∷ prefix) end more n t e l v h =
       let u : codes_of (prefix ++ end ∷ more) ≡ codes ++ rest = cc in
-      opens_at before last how codes rest prefix end more (omega arith) u (endless_parts b (concat_of before) e).1 l v h.1
+      opens_at before last how codes rest prefix end more (omega arith) u (ends_apart b (concat_of before) e).1 l v h.1
 
 -- ---- the units
 
@@ -153,6 +138,9 @@ module _ (lines : ℕ) where
 pub first_is : (ys : List Char) → BeginsWithLf ys → (at : Place) × (first_text texts_by_definition ys ≡ text_from texts_by_definition at ys)
 first_is [] h = elim h [ ]
 first_is (x ∷ ys) h = (x.place, refl)
+
+abbrev pub IsSingle : ScoreUnit → Type 0
+IsSingle u = length u.snippets ≤ 1
 
 module _ (ends_once : (at : Place) (t : List ℕ) → EndsOnce at t) (gabc_ends : (split : Bool) (macros : ℕ) (p : notes.Point) → EndAtMost split p.here.c (notes.events_at split macros p))
     (nabc_ends : (t : List ℕ) (x : Char) → EndAtMost true x.c (nabc.events_at t x)) (lines macros : ℕ) where
@@ -240,10 +228,7 @@ module _ (ends_once : (at : Place) (t : List ℕ) → EndsOnce at t) (gabc_ends 
   none_next z opened [] more last h = refl
   none_next z opened (e ∷ nexts) more last h =
       let split : nat_lt 0 lines ≡ true = next_splits (next_line lines 0) opened opened e (whole (snippets_with lines (next_line lines 0) opened nexts more) last) h.0 in
-      differ (sym split ∙ ap (nat_lt 0) z)
-
-  abbrev IsSingle : ScoreUnit → Type 0
-  IsSingle u = length u.snippets ≤ 1
+      absurd (true≢false (sym split ∙ ap (nat_lt 0) z))
 
   all_single : lines ≡ 0 → (units : List BodyUnit) (last : LastUnit) (at : Place)
       → Cuts texts_by_definition lines macros (text_from texts_by_definition at (whole (units_pieces lines units last) (last_characters last))) (units_pieces lines units last) (last_characters last)

@@ -4,6 +4,8 @@ use Rattle.std.specs.List.{All, list_any, flat_map}
 use Rattle.std.proofs.lemmas.Bool.Decides.{nat_tests}
 use Rattle.std.proofs.lemmas.List.Elements.{All-nil, All-cons, All-head, All-tail}
 use Rattle.std.proofs.lemmas.List.Sums.{sum_by-cons}
+use Rattle.std.proofs.lemmas.Bool.{or_parts}
+use Rattle.gabc_score.proofs.runs.FoundSyllable.{begins_there}
 use Rattle.gabc_places.specs.declared.code.Code.TheVariants.{F5, F7}
 use Rattle.gabc_places.specs.declared.limits.Limits.{Limits}
 use Rattle.gabc_score.specs.Body.{is_longer, is_over, is_none, is_full, code_by}
@@ -47,14 +49,6 @@ pub record PassNone (limits : Limits) (head : ℕ) (made : List UnplacedSyllable
   pub canonical_texts : AllShort limits.syllable (canonicals true made)
   pub file : is_none made ≡ false → head + canonical_bytes made + 1 ≤ limits.input
 
-or_left : (a b : Bool) → (a || b) ≡ false → a ≡ false
-or_left true b h = cc
-or_left false b h = refl
-
-or_right : (a b : Bool) → (a || b) ≡ false → b ≡ false
-or_right true b h = cc
-or_right false b h = h
-
 module _ (limits : Limits) (head : ℕ) (made : List UnplacedSyllable) (kept : List ℕ) where
   abbrev kept_over : Bool
   kept_over = list_any (λ (m : UnplacedSyllable). is_longer limits.syllable m.kept) made
@@ -69,13 +63,13 @@ module _ (limits : Limits) (head : ℕ) (made : List UnplacedSyllable) (kept : L
       by true b e f k = absurd (cc)
       by false true e f k = absurd (cc)
       by false false e f k =
-          let rest = or_right (is_longer limits.syllable kept) (kept_over || canonical_over) e in
+          let rest = (or_parts (is_longer limits.syllable kept) (kept_over || canonical_over) e).1 in
           record {
-            kept_now = short_is limits.syllable kept (or_left (is_longer limits.syllable kept) (kept_over || canonical_over) e);
+            kept_now = short_is limits.syllable kept (or_parts (is_longer limits.syllable kept) (kept_over || canonical_over) e).0;
             kept_texts = all_by_none (λ (m : UnplacedSyllable). length m.kept ≤ limits.syllable) (λ (m : UnplacedSyllable). is_longer limits.syllable m.kept)
-                (λ m. short_is limits.syllable m.kept) (λ m. is_short limits.syllable m.kept) made (or_left kept_over canonical_over rest);
+                (λ m. short_is limits.syllable m.kept) (λ m. is_short limits.syllable m.kept) made (or_parts kept_over canonical_over rest).0;
             canonical_texts = all_by_none (λ (t : List ℕ). length t ≤ limits.syllable) (λ t. is_longer limits.syllable t)
-                (short_is limits.syllable) (is_short limits.syllable) (canonicals true made) (or_right kept_over canonical_over rest);
+                (short_is limits.syllable) (is_short limits.syllable) (canonicals true made) (or_parts kept_over canonical_over rest).1;
             file = λ some. let g : nat_lt limits.input (head + canonical_bytes made + 1) ≡ false = ap (λ n. not n && nat_lt limits.input (head + canonical_bytes made + 1)) (sym some) ∙ f in grind (arith, nat_tests);
           }
 
@@ -97,12 +91,6 @@ module _ (limits : Limits) (head : ℕ) (made : List UnplacedSyllable) (kept : L
 
 -- ---- syllables in their places
 
-starts_is : (starts next : Bool) → starts_word (position_by starts next) ≡ starts
-starts_is true true = refl
-starts_is true false = refl
-starts_is false true = refl
-starts_is false false = refl
-
 abbrev KeptFit : ℕ → List PlacedSyllable → Type 0
 KeptFit limit ss = All (λ (s : PlacedSyllable). length s.made.kept ≤ limit) ss
 
@@ -122,7 +110,7 @@ module _ (limit : ℕ) where
       let starts : Bool = first || m.text.word_start in
       let one : length (canonical starts m) ≤ limit = All-head (λ (t : List ℕ). length t ≤ limit) (canonical starts m) (canonicals false ms) h in
       All-cons (λ (s : PlacedSyllable). length (canonical_in_place s) ≤ limit) _ (placed_syllables_by false ms)
-      (subst (λ b. length (canonical b m) ≤ limit) (sym (starts_is starts (next_starts ms))) one)
+      (subst (λ b. length (canonical b m) ≤ limit) (sym (begins_there starts (next_starts ms))) one)
       (canonical_placed false ms (All-tail (λ (t : List ℕ). length t ≤ limit) (canonical starts m) (canonicals false ms) h))
 
   placed_canonical : (first : Bool) (ms : List UnplacedSyllable) → CanonicalFit limit (placed_syllables_by first ms) → AllShort limit (canonicals first ms)
@@ -132,7 +120,7 @@ module _ (limit : ℕ) where
       let here : PlacedSyllable = record { made = m; position = position_by starts (next_starts ms) } in
       let one : length (canonical (starts_word (position_by starts (next_starts ms))) m) ≤ limit = All-head (λ (s : PlacedSyllable). length (canonical_in_place s) ≤ limit) here (placed_syllables_by false ms) h in
       All-cons (λ (t : List ℕ). length t ≤ limit) (canonical starts m) (canonicals false ms)
-      (subst (λ b. length (canonical b m) ≤ limit) (starts_is starts (next_starts ms)) one)
+      (subst (λ b. length (canonical b m) ≤ limit) (begins_there starts (next_starts ms)) one)
       (placed_canonical false ms (All-tail (λ (s : PlacedSyllable). length (canonical_in_place s) ≤ limit) here (placed_syllables_by false ms) h))
 
 bytes_placed : (first : Bool) (ms : List UnplacedSyllable) → length (flat_map canonical_in_place (placed_syllables_by first ms)) ≡ sum_by (λ (t : List ℕ). length t) (canonicals first ms)
@@ -140,7 +128,7 @@ bytes_placed first [] = refl
 bytes_placed first (m ∷ ms) =
     let starts : Bool = first || m.text.word_start in
     length-append (canonical (starts_word (position_by starts (next_starts ms))) m) (flat_map canonical_in_place (placed_syllables_by false ms))
-    ∙ ap (λ b. length (canonical b m) + length (flat_map canonical_in_place (placed_syllables_by false ms))) (starts_is starts (next_starts ms))
+    ∙ ap (λ b. length (canonical b m) + length (flat_map canonical_in_place (placed_syllables_by false ms))) (begins_there starts (next_starts ms))
     ∙ ap (λ n. length (canonical starts m) + n) (bytes_placed false ms)
     ∙ sym (sum_by-cons (λ (t : List ℕ). length t) (canonical starts m) (canonicals false ms))
 

@@ -3,6 +3,7 @@ use Rattle.std.proofs.Common.{◌≡◌, ℕ, suc, ◌≤◌, ◌<◌, ◌^◌, 
 use Rattle.std.specs.List.{All}
 use Rattle.std.proofs.lemmas.List.Elements.{All-push}
 use lib.Utf8.{encode}
+use Rattle.gabc_places.proofs.PushesAreOne.{joined-append}
 use Rattle.gabc_places.specs.StageLaw.{concat_of}
 use Rattle.gabc_places.specs.Place.{place_after}
 use Rattle.gabc_places.specs.declared.code.Finding.{Finding}
@@ -31,14 +32,14 @@ use Rattle.gabc_score.specs.Syllable.{UnplacedSyllable, PlacedSyllable, all_syll
 use Rattle.gabc_score.specs.SyllablesOfUnits.{closed_units, score_units, AreSyllablesOf, body_characters, IsBodyCut}
 use Rattle.gabc_score.specs.Units.{BodyUnit, JustText, Units, BodyCutting, whole, events_through, units_pieces, cutting_of, Endless, Cuts, IsCutFrom, IsCut, events_of_parts}
 use Rattle.gabc_score.specs.WithinLimits.{CanonicalWithin, KeepsWithin}
+use Rattle.gabc_score.specs.machine.PartKeeps.{text_events}
 use Rattle.gabc_score.proofs.score_events.PlainScores.{plain_by, plain_of}
 use Rattle.gabc_score.proofs.texts_of_body.SeamsOfCharacters.{size, size_is_sum}
 use Rattle.gabc_score.proofs.texts_of_body.TextEmitsThroughEnd.{endless_emits}
-use Rattle.gabc_score.proofs.building.EventsOfSyllableParts.{onto_append, text_emitted}
+use Rattle.gabc_score.proofs.building.EventsOfSyllableParts.{onto_append}
 use Rattle.gabc_score.proofs.building.EventsOfOnePoint.{made_after}
 use Rattle.gabc_score.proofs.building.StopIsFirst.{stop_is_first}
 use Rattle.gabc_score.proofs.building.OneListEachCharacter.{events_each}
-use Rattle.gabc_score.proofs.order.FindingsOfParts.{joined_append}
 use Rattle.gabc_score.proofs.order.FindingsOfScore.{reached_prefix}
 use Rattle.gabc_score.proofs.units.UnitsEndAtMarks.{first_is}
 use Rattle.gabc_score.proofs.holding.SyllablesHoldParts.{fits_back}
@@ -52,18 +53,18 @@ use Rattle.gabc_score.proofs.within_limits.UnitsKeepFew.{units_stay}
 -- ---- the last text
 
 -- an LF keeps a blank, and leaves nothing open
-lf_keeps : (at : Place) → all_kept (text_emitted (concat_of (events_by_point at (10 ∷ [])))) ≡ 1
+lf_keeps : (at : Place) → all_kept (text_events (concat_of (events_by_point at (10 ∷ [])))) ≡ 1
 unfolding encode
 lf_keeps at = refl
 
-lf_uncut : (at : Place) (before : List BodyEvent) → cut_of (events_onto (text_emitted (concat_of (events_by_point at (10 ∷ [])))) before) ≡ cut_of before
+lf_uncut : (at : Place) (before : List BodyEvent) → cut_of (events_onto (text_events (concat_of (events_by_point at (10 ∷ [])))) before) ≡ cut_of before
 lf_uncut at before = refl
 
 module _ (ends : (at : Place) (t : List ℕ) → EndsOnce at t) (emits : (at : Place) (t : List ℕ) → with_events empty_text (concat_of (events_by_point at t)) ≡ text_built_at at t)
     (spans : (t : List ℕ) → StandsForView (kept t) (view_in t) t) (in_order : (at : Place) (t : List ℕ) → concat_of (events_by_point at t) ≡ events_of at t) (lines macros : ℕ) where
   last_events : (at : Place) (last : List Char) → codes_of last ≡ 10 ∷ [] → Endless lines (InText (texts_by_definition at last)) last
-      → concat_of (events_through (InText (texts_by_definition at last)) last) ≡ text_emitted (concat_of (events_by_point at (10 ∷ [])))
-  last_events at last e h = endless_emits ends emits lines at last h ∙ ap (λ t. text_emitted (concat_of (events_by_point at t))) e
+      → concat_of (events_through (InText (texts_by_definition at last)) last) ≡ text_events (concat_of (events_by_point at (10 ∷ [])))
+  last_events at last e h = endless_emits ends emits lines at last h ∙ ap (λ t. text_events (concat_of (events_by_point at t))) e
 
   -- ---- a body
 
@@ -83,13 +84,13 @@ module _ (ends : (at : Place) (t : List ℕ) → EndsOnce at t) (emits : (at : P
         let s = units_stay ends emits lines macros limit units (JustText last) at [] refl fits h tt few in
         let g = units_give ends emits spans in_order lines macros units (JustText last) at [] refl fits h in
         let none : all_kept (since_close s.mid) ≡ 0 = ap all_kept s.since in
-        let lf_is : all_kept (text_emitted (concat_of (events_by_point s.at (10 ∷ [])))) ≡ 1 = lf_keeps s.at in
-        let here : all_events lines macros part pieces last [] ≡ events_onto (text_emitted (concat_of (events_by_point s.at (10 ∷ [])))) s.mid =
+        let lf_is : all_kept (text_events (concat_of (events_by_point s.at (10 ∷ [])))) ≡ 1 = lf_keeps s.at in
+        let here : all_events lines macros part pieces last [] ≡ events_onto (text_events (concat_of (events_by_point s.at (10 ∷ [])))) s.mid =
         s.events_are ∙ ap (λ ts. events_onto ts s.mid) (last_events s.at last lf s.cuts) in
-        let there : all_events lines macros part pieces last [] ≡ events_onto (text_emitted (concat_of (events_by_point g.at (10 ∷ [])))) g.mid =
+        let there : all_events lines macros part pieces last [] ≡ events_onto (text_events (concat_of (events_by_point g.at (10 ∷ [])))) g.mid =
         g.events_are ∙ ap (λ ts. events_onto ts g.mid) (last_events g.at last lf g.cuts) in
         record {
-          stays = subst (StaysWithin limit) (sym here) (stays_on limit (text_emitted (concat_of (events_by_point s.at (10 ∷ [])))) s.mid s.stays (omega arith));
+          stays = subst (StaysWithin limit) (sym here) (stays_on limit (text_events (concat_of (events_by_point s.at (10 ∷ [])))) s.mid s.stays (omega arith));
           uncut = ap cut_of there ∙ lf_uncut g.at g.mid ∙ g.step.uncut;
         }
 
@@ -144,7 +145,7 @@ module _ (ends : (at : Place) (t : List ℕ) → EndsOnce at t) (emits : (at : P
         let before = events_in_points [] lists n in
         let later = concat_of (drop n lists) in
         let rest : events_onto later before ≡ all =
-        sym (onto_append (concat_of (take n lists)) later []) ∙ ap (λ ts. events_onto ts []) (sym (joined_append (take n lists) (drop n lists)) ∙ ap concat_of (take-append-drop n lists)) in
+        sym (onto_append (concat_of (take n lists)) later []) ∙ ap (λ ts. events_onto ts []) (sym (joined-append (take n lists) (drop n lists)) ∙ ap concat_of (take-append-drop n lists)) in
         let m = made_after later before in
         let v = units_more (events_onto later before) in
         let units_are : all_units all ≡ all_syllables before ++ (m.0 ++ v.0) =

@@ -28,7 +28,7 @@ use Rattle.gabc_score.specs.Syllable.{since_close}
 use Rattle.gabc_score.specs.SyllablesOfUnits.{score_unit, with_ends, snippets_in, characters_in, closed_units, characters_from}
 use Rattle.gabc_score.specs.Units.{Mark, Opens, Next, Closes, CutPart, EndedPart, BodyUnit, LastUnit, cut_part, whole, events_through, snippets_with, last_pieces, units_pieces, last_characters, Cuts, events_of_cutting}
 use Rattle.gabc_score.specs.WithinLimits.{KeepsWithin}
-use Rattle.gabc_score.proofs.building.EventsOfSyllableParts.{text_emitted}
+use Rattle.gabc_score.specs.machine.PartKeeps.{text_events}
 use Rattle.gabc_score.proofs.texts_of_body.SeamsOfCharacters.{size, size_append}
 use Rattle.gabc_score.proofs.texts_of_body.TextEmitsThroughEnd.{TextEmitted, codes_append, text_ended}
 use Rattle.gabc_score.proofs.building.EventsOfSyllableParts.{onto_append}
@@ -40,14 +40,14 @@ use Rattle.gabc_score.proofs.within_limits.KeptSoFar.{bytes_kept, all_kept, kept
 -- ---- texts
 
 -- the events of a text keep what they gather
-text_keeps : (os : List TextEvent) (g : Gathered) → ends_in os ≡ [] → length g.kept + all_kept (text_emitted os) ≡ length (with_events g os).kept
+text_keeps : (os : List TextEvent) (g : Gathered) → ends_in os ≡ [] → length g.kept + all_kept (text_events os) ≡ length (with_events g os).kept
 text_keeps [] g h = omega arith
 text_keeps (text.Kept x ∷ os) g h =
-    let on : length (g.kept ++ encode x.c) + all_kept (text_emitted os) ≡ length (with_events g (text.Kept x ∷ os)).kept = text_keeps os (with_event g (text.Kept x)) h in
+    let on : length (g.kept ++ encode x.c) + all_kept (text_events os) ≡ length (with_events g (text.Kept x ∷ os)).kept = text_keeps os (with_event g (text.Kept x)) h in
     let a : length (g.kept ++ encode x.c) ≡ length g.kept + length (encode x.c) = length-append g.kept (encode x.c) in
     omega arith
-text_keeps (text.Part p ∷ os) g h = let on : length g.kept + all_kept (text_emitted os) ≡ length (with_events g (text.Part p ∷ os)).kept = text_keeps os (with_event g (text.Part p)) h in omega arith
-text_keeps (text.Found f ∷ os) g h = let on : length g.kept + all_kept (text_emitted os) ≡ length (with_events g (text.Found f ∷ os)).kept = text_keeps os (with_event g (text.Found f)) h in omega arith
+text_keeps (text.Part p ∷ os) g h = let on : length g.kept + all_kept (text_events os) ≡ length (with_events g (text.Part p ∷ os)).kept = text_keeps os (with_event g (text.Part p)) h in omega arith
+text_keeps (text.Found f ∷ os) g h = let on : length g.kept + all_kept (text_events os) ≡ length (with_events g (text.Found f ∷ os)).kept = text_keeps os (with_event g (text.Found f)) h in omega arith
 text_keeps (text.Ended how ∷ os) g h = cc
 
 end_keeps : (how : TextEnd) → bytes_kept (Text (text.Ended how)) ≤ 1
@@ -58,8 +58,8 @@ end_keeps (text_end.Cut place) = omega arith
 -- a text keeps its kept text, and its `(` if it has one
 pub text_few : (t : List ℕ) (how : TextEnd) (events : List BodyEvent) → TextEmitted t how events → all_kept events ≤ size (kept t) + 1
 text_few t how events e =
-    let all : all_kept events ≡ all_kept (text_emitted e.mids) + all_kept (Text (text.Ended how) ∷ []) = ap all_kept e.emitted_are ∙ kept_append (text_emitted e.mids) (Text (text.Ended how) ∷ []) in
-    let mids : 0 + all_kept (text_emitted e.mids) ≡ length (with_events empty_text e.mids).kept = text_keeps e.mids empty_text e.silent in
+    let all : all_kept events ≡ all_kept (text_events e.mids) + all_kept (Text (text.Ended how) ∷ []) = ap all_kept e.emitted_are ∙ kept_append (text_events e.mids) (Text (text.Ended how) ∷ []) in
+    let mids : 0 + all_kept (text_events e.mids) ≡ length (with_events empty_text e.mids).kept = text_keeps e.mids empty_text e.silent in
     let kept_is : length (with_events empty_text e.mids).kept ≡ size (kept t) = ap length e.kept_is in
     let last : bytes_kept (Text (text.Ended how)) ≤ 1 = end_keeps how in
     omega arith

@@ -7,13 +7,16 @@ use Rattle.gabc_places.specs.StageLaw.{concat_of}
 use Rattle.gabc_headers.specs.declared.head_event.HeadEvent.{HeadEvent}
 use Rattle.gabc_score.specs.declared.before.Spans.{Spans}
 use Rattle.gabc_score.specs.declared.events.BodyEvent.{BodyEvent}
-use Rattle.gabc_score.specs.Canonical.{canonical}
+use Rattle.gabc_text.specs.Canonical.{canonical_text}
+use Rattle.gabc_score.specs.Before.{sounds}
+use Rattle.gabc_score.specs.Canonical.{canonical, translation_text}
 use Rattle.gabc_score.specs.Events.{text_from, events_from}
 use Rattle.gabc_score.specs.GivesSyllables.{text_inputs}
-use Rattle.gabc_score.specs.RegularSyllable.{SyllableParts, spelled, kept_spelled, canonical_spelled, has_gap}
+use Rattle.gabc_score.specs.RegularSyllable.{SyllableParts, spelled, kept_spelled, canonical_spelled, has_gap, snippet_texts, with_lines}
 use Rattle.gabc_score.specs.ScoreEvents.{ScoreOutput, Syllable, characters_in}
 use Rattle.gabc_score.specs.SpansPast.{FollowsSpans}
 use Rattle.gabc_score.specs.Syllable.{UnplacedSyllable, PlacedSyllable}
+use Rattle.gabc_score.specs.SyllablesOfUnits.{span_tags}
 use Rattle.gabc_score.specs.UnitRead.{HoldsSomeUnit}
 use Rattle.gabc_score.specs.witness.BodyStage.{texts_by_stage}
 use Rattle.gabc_score.specs.machine.BodyBuilder.{with_all}
@@ -39,14 +42,17 @@ given_before s m = take (length s.gathered.made) (placed_behind s.has_lent (s.ga
 
 -- ---- between two syllables
 
+-- where neither a note nor a clef has come, none comes with the syllable
+abbrev pub SoundsNoMore : Bool → Bool → Type 0
+SoundsNoMore sounded sounds_now = (sounded || sounds_now) ≡ sounded
+
 module _ (limits : Limits) where
-  -- Nothing is read of the next syllable. One is held at most, a note or a clef has come, and no limit is passed.
+  -- Nothing is read of the next syllable. One is held at most, and no limit is passed.
   pub record IsBetween (s : HeldScore) : Type 0 where
     pub nothing : s.gathered.builder ≡ nothing_open
     pub limit : s.gathered.limit ≡ limits.syllable
     pub few : length s.gathered.made ≤ 1
     pub follows : s.gathered.follows ≡ true
-    pub sounded : is_some s.gathered.first_kind ≡ true
     pub over : s.gathered.over ≡ false
     pub total : s.gathered.total + 1 ≤ limits.input
 
@@ -60,7 +66,8 @@ module _ (limits : Limits) where
     abbrev pub left_between : Place → HeldScore → List HeadEvent → List (List ScoreOutput)
     left_between at s xs = body_left limits s (events_from texts_by_stage lines macros (text_from texts_by_stage at (characters_in xs)) (characters_in xs)) xs
 
-    -- A text of some characters is read, with which only these syllables are given, and then stands between two syllables again.
+    -- A text of some characters is read, with which only these syllables are given, and then stands
+    -- between two syllables again.
     pub record GoesThrough (at : Place) (s : HeldScore) (t : List ℕ) (given : List PlacedSyllable) (next : Place) (after : HeldScore) : Type 0 where
       pub points : List (List ScoreOutput)
       pub one_each : length points ≡ length t
@@ -71,27 +78,33 @@ module _ (limits : Limits) where
 abbrev pub lists_between : ℕ → ℕ → Place → List ℕ → List (List BodyEvent)
 lists_between lines macros at t = let us = placed_characters_from at t in take (length t) (events_from texts_by_stage lines macros (text_from texts_by_stage at us) us)
 
--- With these lists one syllable is gathered and nothing is read of the next one, no limit is passed and no error is found.
+-- With these lists one syllable is gathered and nothing is read of the next one, no limit is passed
+-- and no error is found.
 pub record IsAloneWith (limits : Limits) (g : Gathered) (lists : List (List BodyEvent)) (m : UnplacedSyllable) : Type 0 where
   pub alone : is_alone limits g lists ≡ true
   pub gathered : with_all g (concat_of lists) ≡ with_one g m
 
 -- ---- what a regular syllable makes
 
--- It keeps its spelling, with one blank where there are some before its text, and its spelling is its canonical text. It holds a unit, and which spans
--- are open after it follows from those before.
+-- It keeps its spelling, with one blank where there are some before its text, and its spelling is
+-- its canonical text, text and snippets. It holds a unit with the span marks of its text, and which
+-- spans are open after it follows from those before.
 pub record IsMadeOf (lines : ℕ) (spans : Spans) (r : SyllableParts) (m : UnplacedSyllable) : Type 0 where
   pub kept : m.kept ≡ encode_utf8_all (kept_spelled r)
   pub starts : m.text.word_start ≡ has_gap r.gap
   pub canonical_is : (starts : Bool) → canonical starts m ≡ encode_utf8_all (canonical_spelled starts r)
+  pub text_is : canonical_text m.text m.kept ++ translation_text m.kept m.text.translation ≡ encode_utf8_all r.text
+  pub snippets_are : snippet_texts m ≡ with_lines lines 0 r.nexts r.final
   pub unit : HoldsSomeUnit lines m
+  pub tags : span_tags unit.unit.text ≡ span_tags r.text
   pub follows : FollowsSpans spans m
 
--- Where these spans are open, a regular syllable that begins at this place makes this one, whatever was gathered before: it is read
--- to its end, and the one that was held is given.
+-- Where these spans are open, a regular syllable that begins at this place makes this one, whatever
+-- was gathered before, if no note and no clef comes with it or one has come before: it is read to
+-- its end, and the one that was held is given.
 pub record Makes (lines macros : ℕ) (at : Place) (r : SyllableParts) (spans : Spans) (m : UnplacedSyllable) : Type 0 where
   pub made : IsMadeOf lines spans r m
-  pub through : (limits : Limits) (s : HeldScore) → IsBetween limits s → spans_of s.gathered ≡ spans → LeavesRoomFor limits s.gathered r
+  pub through : (limits : Limits) (s : HeldScore) → IsBetween limits s → SoundsNoMore (is_some s.gathered.first_kind) (sounds m) → spans_of s.gathered ≡ spans → LeavesRoomFor limits s.gathered r
       → GoesThrough limits lines macros at s (spelled r) (given_before s m) (place_past at (spelled r)) (past_one s (place_past at (spelled r)) m)
-  pub alone : (limits : Limits) (s : HeldScore) → IsBetween limits s → s.gathered.made ≡ [] → spans_of s.gathered ≡ spans → LeavesRoomFor limits s.gathered r
+  pub alone : (limits : Limits) (s : HeldScore) → IsBetween limits s → SoundsNoMore (is_some s.gathered.first_kind) (sounds m) → s.gathered.made ≡ [] → spans_of s.gathered ≡ spans → LeavesRoomFor limits s.gathered r
       → IsAloneWith limits s.gathered (lists_between lines macros at (spelled r)) m

@@ -21,7 +21,7 @@ abbrev pub fault_then : Option Fault → Option Fault → Option Fault
 fault_then (Some fault) later = Some fault
 fault_then None later = later
 
--- a result with what these outputs say behind it
+-- a result with what these outputs say after it
 abbrev pub result_with : BodyResult → List ScoreOutput → BodyResult
 result_with r outputs = record { syllables = r.syllables ++ syllables_in outputs; findings = r.findings ++ findings_in outputs; fault = fault_then r.fault (fault_in outputs) }
 

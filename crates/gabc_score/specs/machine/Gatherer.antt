@@ -24,8 +24,10 @@ use Rattle.gabc_score.specs.Canonical.{canonical}
 use Rattle.gabc_score.specs.Body.{is_longer, empty_snippet, has_text}
 use Rattle.gabc_score.specs.machine.SyllableBuilder.{OpenSyllable, nothing_open, with_kept, past_text, snippet_from, past_snippet, made_from}
 
--- What was gathered: `follows` tells whether a syllable stands before the one that is read, `total` counts the canonical bytes of the headers and
--- of the syllables that stand before, and `over` tells whether one that was made is longer than the limit. `first_kind` tells which came first in the GABC snippets that have ended, a note or a clef.
+-- What was gathered: `follows` tells whether a syllable stands before the one that is read, `total`
+-- counts the canonical bytes of the headers and of the syllables that stand before, and `over`
+-- tells whether one that was made is longer than the limit. `first_kind` tells which came first in
+-- the GABC snippets that have ended, a note or a clef.
 pub record Gathered : Type 0 where
   pub limit : ℕ
   pub builder : OpenSyllable
@@ -70,10 +72,6 @@ with_text g (text.Ended end) = with_text_end g end
 -- neither a note nor a clef has come in GABC, and this is a line of GABC
 abbrev pub awaits : Option ItemKind → ℕ → Bool
 awaits first line = (line == 0) && not (is_some first)
-
--- and the part that is read keeps something
-abbrev pub awaits_in : Option ItemKind → ℕ → OpenSyllable → Bool
-awaits_in first line o = awaits first line && nat_lt o.from (length o.kept)
 
 -- which came first, with the snippet of that line and span
 abbrev pub first_past : Option ItemKind → ℕ → Span → List ℕ → Option ItemKind

@@ -8,12 +8,13 @@ use Rattle.gabc_score.specs.Syllable.{UnplacedSyllable}
 use Rattle.gabc_score.specs.ToldWithin.{IsAtOutset}
 use Rattle.gabc_score.specs.machine.Gatherer.{Gathered}
 
--- the canonical texts of these syllables are within the limit; `first` tells that the first of a score is among them
+-- the canonical texts of these syllables are within the limit; `first` tells that the first of a
+-- score is among them
 abbrev pub AreWritten : ℕ → Bool → List UnplacedSyllable → Type 0
 AreWritten limit first [] = Unit {0}
 AreWritten limit first (m ∷ ms) = (length (canonical (first || m.text.word_start) m) ≤ limit) × AreWritten limit false ms
 
--- so are those that are not given, behind those that are
+-- so are those that are not given, after those that are
 pub record HoldsWithin (limits : Limits) (before : Preceding) (g : Gathered) : Type 0 where
   pub written : AreWritten limits.syllable (before.syllables == 0) g.made
   pub file : is_none g.made ≡ false → g.total < limits.input

@@ -1,6 +1,6 @@
 -- What is counted of the syllable that is read, by the part in which the next character stands.
 use Rattle.std.specs.Prelude.{◌≡◌, ◌+◌, ◌≤◌, List, [], length}
-use Rattle.gabc_text.specs.PiecesOwed.{pieces_owed}
+use Rattle.gabc_text.specs.witness.PiecesOwed.{pieces_owed}
 use Rattle.gabc_score.specs.declared.events.BodyEvent.{BodyEvent}
 use Rattle.gabc_score.specs.declared.body_stage.BodyPart.{BodyPart}
 use Rattle.gabc_score.specs.declared.body_stage.BodyPart.TheVariants as part
@@ -20,7 +20,8 @@ CountsHold (part.Text stage) o = (length o.view.pieces + pieces_owed stage ≤ l
 CountsHold (part.Notes opened stage) o = CountsInNotes o
 CountsHold (part.Nabc line opened stage) o = CountsInNotes o
 
--- With these events a part goes on as this one: the counts hold again, and the events fit where the kept text is within the limit.
+-- With these events a part goes on as this one: the counts hold again, and the events fit where the
+-- kept text is within the limit.
 pub record PartGoesOn (before after : BodyPart) (now : List BodyEvent) : Type 0 where
   pub counts : (g : Gathered) → CountsHold before g.builder → CountsHold after (with_all g now).builder
   pub fit : (g : Gathered) → CountsHold before g.builder → length g.builder.kept ≤ g.limit → FitEach g now

@@ -1,5 +1,5 @@
--- The kept text of the syllable that is read is cut into its parts: a part of the body keeps the last of them, and what was gathered is what
--- they say.
+-- The kept text of the syllable that is read is cut into its parts: a part of the body keeps the
+-- last of them, and what was gathered is what they say.
 use Rattle.std.specs.Prelude.{◌≡◌, ◌≢◌, ◌<◌, ◌^◌, ℕ, zero, suc, nat_lt, List, [], ◌∷◌, ◌++◌, map, length, true, cond, None, encode_utf8_all}
 use Rattle.std.specs.List.{flat_map}
 use Rattle.gabc_places.specs.Place.{saturating_next_place}
@@ -27,12 +27,13 @@ use Rattle.gabc_score.specs.machine.Preceded.{spans_of}
 
 -- ---- the parts of a kept text
 
--- a text; or behind a text that has ended the kept texts of the snippets that have ended, and that of the one that is read
+-- a text; or after a text that has ended the kept texts of the snippets that have ended, and that
+-- of the one that is read
 pub data KeptParts : Type 0 where
   in_text : List ℕ → KeptParts
   in_notes : List ℕ → List (List ℕ) → List ℕ → KeptParts
 
--- snippets, each with the `|` behind it
+-- snippets, each with the `|` after it
 abbrev pub barred : List (List ℕ) → List ℕ
 barred snippets = flat_map (λ s. s ++ 124 ∷ []) snippets
 
@@ -50,7 +51,7 @@ last_part (in_notes t earlier k) = k
 abbrev pub joined : KeptParts → List ℕ
 joined p = text_before p ++ last_part p
 
--- the line behind these snippets, the first of which is of that line
+-- the line after these snippets, the first of which is of that line
 abbrev pub line_behind : ℕ → ℕ → List (List ℕ) → ℕ
 line_behind lines line [] = line
 line_behind lines line (s ∷ earlier) = line_behind lines (next_line lines line) earlier
@@ -90,7 +91,8 @@ pub record IsEndedText (t : List ℕ) : Type 0 where
   pub keeps : text.Keeps stage t
   pub ends : text.ends_behind t ≡ true
 
--- A snippet of a table has ended at its `|`: of the text that a stage kept it is what stands before an unfinished end.
+-- A snippet of a table has ended at its `|`: of the text that a stage kept it is what stands before
+-- an unfinished end.
 pub record IsEnded {S : Type 0} (Keeps : S → List ℕ → Type 0) (IsWhole : List ℕ → Type 0) (s : List ℕ) : Type 0 where
   pub stage : S
   pub rest : List ℕ
@@ -105,13 +107,13 @@ abbrev pub AreEnded : ℕ → ℕ → ℕ → List (List ℕ) → Type 0
 AreEnded lines macros line [] = Unit {0}
 AreEnded lines macros line (s ∷ earlier) = IsEndedOn lines macros line s × AreEnded lines macros (next_line lines line) earlier
 
--- behind a text that has ended these snippets have ended, and one of that line is read
+-- after a text that has ended these snippets have ended, and one of that line is read
 pub record AreBehind (lines macros line : ℕ) (t : List ℕ) (earlier : List (List ℕ)) : Type 0 where
   pub text_ended : IsEndedText t
   pub snippets_ended : AreEnded lines macros 0 earlier
   pub line_is : line_behind lines 0 earlier ≡ line
 
--- in the comment behind the `%%` nothing is kept
+-- in the comment after the `%%` nothing is kept
 abbrev pub PartKeeps : ℕ → ℕ → BodyPart → KeptParts → Type 0
 PartKeeps lines macros part.Comment p = p ≡ in_text []
 PartKeeps lines macros (part.Text stage) (in_text k) = text.Keeps stage k
@@ -135,8 +137,8 @@ pub record ReadAlike (g h : Gathered) : Type 0 where
   pub eu : g.eu ≡ h.eu
   pub nlba : g.nlba ≡ h.nlba
 
--- Of the syllable that is read, before which these spans are open, a part keeps the last of the parts of its kept text, and what was gathered
--- is what they say.
+-- Of the syllable that is read, before which these spans are open, a part keeps the last of the
+-- parts of its kept text, and what was gathered is what they say.
 pub record IsReading (lines macros : ℕ) (part : BodyPart) (spans : Spans) (g : Gathered) : Type 0 where
   pub parts : KeptParts
   pub keeps : PartKeeps lines macros part parts
@@ -145,7 +147,8 @@ pub record IsReading (lines macros : ℕ) (part : BodyPart) (spans : Spans) (g :
   pub from : g.builder.from ≡ length (encode_utf8_all (text_before parts))
   pub uncut : g.cut ≡ None
 
--- which spans are open before the syllable that is read, where h was gathered behind g: another one is read where one was made
+-- which spans are open before the syllable that is read, where h was gathered after g: another one
+-- is read where one was made
 abbrev pub spans_past : Spans → Gathered → Gathered → Spans
 spans_past spans g h = cond (nat_lt (length g.made) (length h.made)) (spans_of h) spans
 
@@ -155,7 +158,7 @@ PartKeepsOn lines macros before after now =
     (spans : Spans) (g : Gathered) → length g.builder.kept < 2 ^ 64 → IsReading lines macros before spans g
     → IsReading lines macros after (spans_past spans g (with_all g now)) (with_all g now)
 
--- where a part stands that keeps a text, it stands behind the character x with it
+-- where a part stands that keeps a text, it stands after the character x with it
 abbrev pub PartStandsOn : ℕ → ℕ → Char → BodyPart → BodyPart → Type 0
 PartStandsOn lines macros x before after =
     (p : KeptParts) → PartKeeps lines macros before p → StandsAt x.place before → StandsAt (saturating_next_place x.place x.c) after

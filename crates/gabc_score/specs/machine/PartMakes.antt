@@ -1,4 +1,5 @@
--- The syllables that a part of a body makes hold units, and their spans follow one another: by the laws of its texts and its snippets.
+-- The syllables that a part of a body makes hold units, and their spans follow one another: by the
+-- laws of its texts and its snippets.
 use Rattle.std.specs.Prelude.{◌≡◌, ℕ, ◌<◌, ◌^◌, List, [], ◌∷◌, ◌++◌, length, encode_utf8_all}
 use Rattle.std.specs.List.{All}
 use Rattle.gabc_places.specs.Place.{placed_characters_from}
@@ -23,19 +24,20 @@ use Rattle.gabc_score.specs.machine.PartKeeps.{IsEndedText, IsReading}
 abbrev pub characters_of : List ℕ → List Char
 characters_of t = placed_characters_from (record { line = 0; column = 0 }) t
 
--- Laws of texts and snippets: a text that has ended was said in full, the spans of a view stand for it, and a snippet that is whole is kept
--- again.
+-- Laws of texts and snippets: a text that has ended was said in full, the spans of a view stand for
+-- it, and a snippet that is whole is kept again.
 pub record PartLaws : Type 0 where
   pub said : (t : List ℕ) → IsEndedText t → length (encode_utf8_all (t ++ 40 ∷ [])) < 2 ^ 64 → IsSaidInFull t []
   pub stands : (t : List ℕ) → StandsForView (kept t) (view_in t) t
   pub kept_again : (line : ℕ) (s : List ℕ) → IsSnippetOf line s → s ≡ kept_on_line line (characters_of s)
 
--- which spans are open behind each of these follows from those before it, where p tells what stands before the first
+-- which spans are open after each of these follows from those before it, where p tells what stands
+-- before the first
 unfoldable pub FollowEach : Preceding → List UnplacedSyllable → Type 0
 FollowEach p [] = Unit {0}
 FollowEach p (m ∷ ms) = FollowsSpans p.spans m × FollowEach (with_one p m) ms
 
--- behind what p tells each of these syllables holds some unit, and their spans follow one another
+-- after what p tells each of these syllables holds some unit, and their spans follow one another
 pub record AreHeld (lines : ℕ) (p : Preceding) (made : List UnplacedSyllable) : Type 0 where
   pub units : All (HoldsSomeUnit lines) made
   pub follow : FollowEach p made
@@ -44,7 +46,8 @@ pub record AreHeld (lines : ℕ) (p : Preceding) (made : List UnplacedSyllable) 
 unfoldable pub HoldUnits : ℕ → Preceding → List UnplacedSyllable → Type 0
 HoldUnits lines p made = PartLaws → AreHeld lines p made
 
--- so do the syllables that were made behind these events of a part, if those did that were made before
+-- so do the syllables that were made after these events of a part, if those did that were made
+-- before
 unfoldable pub PartMakes : ℕ → ℕ → BodyPart → List BodyEvent → Type 0
 PartMakes lines macros before now =
     (p : Preceding) (g : Gathered) → length g.builder.kept < 2 ^ 64 → IsReading lines macros before (with_each p g.made).spans g → HoldUnits lines p g.made → HoldUnits lines p (with_all g now).made

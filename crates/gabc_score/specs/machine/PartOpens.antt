@@ -7,7 +7,8 @@ use Rattle.gabc_score.specs.declared.body_tells.Openers.{Openers}
 use Rattle.gabc_score.specs.ScoreTells.{StandsAt, is_in_comment, openers_of}
 use Rattle.gabc_score.specs.machine.PartKeeps.{KeptParts, PartKeeps}
 
--- Behind a character at this place the notes are the same, or nothing is open inside them. What is open inside begins with the character, or was open.
+-- After a character at this place the notes are the same, or nothing is open inside them. What is
+-- open inside begins with the character, or was open.
 pub record OpensOn (at : Place) (before after : Openers) : Type 0 where
   pub notes : (after.notes ≡ before.notes) ⊎ ((after.inner ≡ None) × ((after.notes ≡ None) ⊎ (after.notes ≡ Some at)))
   pub inner : (after.inner ≡ None) ⊎ ((after.inner ≡ before.inner) ⊎ (after.inner ≡ Some at))
@@ -17,6 +18,6 @@ abbrev pub PartOpensOn : ℕ → ℕ → Char → BodyPart → BodyPart → Type
 PartOpensOn lines macros x before after =
     (p : KeptParts) → PartKeeps lines macros before p → StandsAt x.place before → OpensOn x.place (openers_of before) (openers_of after)
 
--- nor is a comment open behind an LF
+-- nor is a comment open after an LF
 abbrev pub PartEndsLine : ℕ → ℕ → Char → BodyPart → BodyPart → Type 0
 PartEndsLine lines macros x before after = (p : KeptParts) → PartKeeps lines macros before p → x.c ≡ 10 → is_in_comment after ≡ false

@@ -1,4 +1,4 @@
--- What a score has gathered behind the syllables that were given.
+-- What a score has gathered after the syllables that were given.
 use Rattle.std.specs.Prelude.{◌≡◌, ◌||◌, ℕ, ◌+◌, ◌<◌, ◌≤◌, min, nat_lt, Bool, length, is_some, if◌then◌else◌}
 use Rattle.std.specs.List.{All}
 use Rattle.gabc_score.specs.declared.before.Preceding.{Preceding}
@@ -12,15 +12,17 @@ use Rattle.gabc_score.specs.machine.Gatherer.{Gathered}
 abbrev pub spans_of : Gathered → Spans
 spans_of g = record { eu = g.eu; nlba = g.nlba }
 
--- what stands behind all that was gathered, where so many syllables stand before the one that was made last
+-- what stands after all that was gathered, where so many syllables stand before the one that was
+-- made last
 abbrev pub behind_gathered : ℕ → Gathered → Preceding
 behind_gathered syllables g = record { syllables = min (syllables + 1) most; canonical = g.total; spans = spans_of g; sounded = is_some g.first_kind }
 
--- what stands before what is held, where a syllable has become whole or not, and the one held before was given or not
+-- what stands before what is held, where a syllable has become whole or not, and the one held
+-- before was given or not
 abbrev pub before_past : Bool → Bool → Bounds → Preceding
 before_past whole gave b = if whole then (if gave then b.behind else b.before) else b.before
 
--- what stands before and behind it then
+-- what stands before and after it then
 abbrev pub past_point : Bool → Bool → Bounds → Gathered → Bounds
 past_point whole gave b g = record {
   before = before_past whole gave b;
@@ -35,8 +37,8 @@ behind_headers head = record { before = no_syllable head; behind = no_syllable h
 abbrev pub EndsBefore : ℕ → Snippet → Type 0
 EndsBefore n s = s.span.to < n
 
--- Behind the syllables given, of which `before` tells, what was gathered counts and sounds as those that were made and are not given, and the
--- snippets that have ended of the syllable that is read.
+-- After the syllables given, of which `before` tells, what was gathered counts and sounds as those
+-- that were made and are not given, and the snippets that have ended of the syllable that is read.
 pub record IsPreceded (before : Preceding) (g : Gathered) : Type 0 where
   pub follows : g.follows ≡ nat_lt 0 (with_each before g.made).syllables
   pub total : g.total ≡ (with_each before g.made).canonical

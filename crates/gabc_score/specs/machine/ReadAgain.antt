@@ -24,17 +24,19 @@ use Rattle.gabc_score.specs.machine.PartKeeps.{KeptParts, in_text, in_notes, tex
 
 -- ---- the next character
 
--- Behind the kept text k of a snippet of that line the character c is kept again, or it is the `|` at which the snippet ends.
+-- After the kept text k of a snippet of that line the character c is kept again, or it is the `|`
+-- at which the snippet ends.
 abbrev pub IsNextIn : ℕ → ℕ → List ℕ → ℕ → Type 0
 IsNextIn lines zero k c = notes.IsKeptAgain (nat_lt 0 lines) k c ⊎ ((c ≡ 124) × ((nat_lt 0 lines ≡ true) × IsSnippet gabc k))
 IsNextIn lines (suc line) k c = nabc.IsKeptAgain k c ⊎ ((c ≡ 124) × IsSnippet nabc k)
 
--- Behind these parts of a kept text the character c is kept again, or it ends the text or the snippet that is read.
+-- After these parts of a kept text the character c is kept again, or it ends the text or the
+-- snippet that is read.
 abbrev pub IsNext : ℕ → KeptParts → ℕ → Type 0
 IsNext lines (in_text k) c = ((text.kept_with k c ≡ c ∷ []) × ((c == 37 && text.begins_comment k) ≡ false)) ⊎ ((c ≡ 40) × (text.ends_behind k ≡ true))
 IsNext lines (in_notes t earlier k) c = IsNextIn lines (line_behind lines 0 earlier) k c
 
--- a `%` behind them begins a comment
+-- a `%` after them begins a comment
 abbrev pub BeginsIn : ℕ → List ℕ → Type 0
 BeginsIn zero k = in_raw k ≡ false
 BeginsIn (suc line) k = Unit {0}
@@ -75,7 +77,8 @@ pub record Adds (g h : Gathered) (more : List ℕ) : Type 0 where
   pub kept : h.builder.kept ≡ g.builder.kept ++ encode_utf8_all more
   pub made : h.made ≡ g.made
 
--- At the character x a part that keeps p goes on. This is kept more, and whether a comment is open then.
+-- At the character x a part that keeps p goes on. This is kept more, and whether a comment is open
+-- then.
 pub record Reads (before : BodyPart) (p : KeptParts) (x : Char) (more : List ℕ) (comment : Bool) (after : BodyPart) (now : List BodyEvent) : Type 0 where
   pub adds : (g : Gathered) → g.builder.kept ≡ encode_utf8_all (joined p) → g.builder.from ≡ length (encode_utf8_all (text_before p)) → length g.builder.kept < 2 ^ 64 → Adds g (with_all g now) more
   pub comment_is : is_in_comment after ≡ comment
@@ -96,7 +99,8 @@ pub record IsToldBy (lines macros limit : ℕ) (part : BodyPart) (kept : List �
   pub is : kept ≡ encode_utf8_all (joined parts)
   pub short : length kept ≤ limit
 
--- So a machine stands in the body: this was kept of the syllable that is read, what is open began there, and a comment is open or not.
+-- So a machine stands in the body: this was kept of the syllable that is read, what is open began
+-- there, and a comment is open or not.
 pub record StandsSo (m : ScoreMachine) (openers : Openers) (kept : List ℕ) (comment : Bool) : Type 0 where
   pub body : m.part ≡ score_part.Body
   pub kept_is : m.pair.gathered.builder.kept ≡ kept
@@ -117,7 +121,7 @@ pub record IsRunAlike (before after : ScoreMachine) : Type 0 where
   pub lines : after.body.nabc_lines ≡ before.body.nabc_lines
   pub macros : after.body.macros ≡ before.body.macros
 
--- The machine goes on behind a character: this is kept more, and a comment is open or not.
+-- The machine goes on after a character: this is kept more, and a comment is open or not.
 pub record GoesBy (before : ScoreMachine) (x : Char) (more : List ℕ) (comment : Bool) (after : ScoreMachine) : Type 0 where
   pub body : after.part ≡ score_part.Body
   pub kept_is : after.pair.gathered.builder.kept ≡ before.pair.gathered.builder.kept ++ encode_utf8_all more
@@ -125,7 +129,8 @@ pub record GoesBy (before : ScoreMachine) (x : Char) (more : List ℕ) (comment 
   pub front : is_in_front after.body.part ≡ false
   pub openers : (outer inner : Place) → x.place ≡ place_in outer inner before.body.part → StandsAt x.place before.body.part → OpenAt outer inner before.body.part → OpenAt outer inner after.body.part
 
--- Outside a comment it keeps the next character of a text that is told, and a comment begins at the `%` behind one in which a comment is told.
+-- Outside a comment it keeps the next character of a text that is told, and a comment begins at the
+-- `%` after one in which a comment is told.
 pub record PassesAgain (before : ScoreMachine) (x : Char) (after : ScoreMachine) : Type 0 where
   pub next : (told : BodyPart) (kept rest : List ℕ) → IsToldBy before.body.nabc_lines before.body.macros before.limits.syllable told kept → is_in_comment before.body.part ≡ false
       → kept ≡ before.pair.gathered.builder.kept ++ (encode_utf8 x.c ++ rest) → GoesBy before x (x.c ∷ []) false after

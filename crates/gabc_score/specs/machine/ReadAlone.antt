@@ -1,4 +1,5 @@
--- What becomes of a text that is read by itself: whether it is one syllable, behind which no limit is passed.
+-- What becomes of a text that is read by itself: whether it is one syllable, after which no limit
+-- is passed.
 use Rattle.std.specs.Prelude.{◌≡◌, ℕ, ◌&&◌, ◌≤◌, not, List, [], ◌∷◌, ◌++◌, Bool, true, false, None, is_some, length, take}
 use Rattle.std.specs.List.{All, list_any}
 use Rattle.gabc_places.specs.BoundedList.{BoundedList, extended_by}
@@ -30,7 +31,8 @@ use Rattle.gabc_score.specs.witness.BodyStage.{BodyStageState, running_events_le
 
 -- ---- a character
 
--- at a character where no limit is passed the machine gathers what the body emits, gives what is found, and goes on
+-- at a character where no limit is passed the machine gathers what the body emits, gives what is
+-- found, and goes on
 pub record Gathers (old new : ScoreMachine) (x : Char) (now : List BodyEvent) (after : BodyStageState) (given left : BoundedList ScoreEvent) : Type 0 where
   pub part : new.part ≡ score_part.Body
   pub body : new.body ≡ after
@@ -71,7 +73,8 @@ is_error_event e = false
 abbrev pub is_fine : Limits → Gathered → List BodyEvent → Bool
 is_fine limits g now = not (is_some (code_in limits (with_all g now))) && not (list_any is_error (findings_now now))
 
--- through lists of events, one for each character, a syllable becomes whole with the last of them, and all is fine
+-- through lists of events, one for each character, a syllable becomes whole with the last of them,
+-- and all is fine
 abbrev pub is_alone : Limits → Gathered → List (List BodyEvent) → Bool
 is_alone limits g [] = not (is_none g.made)
 is_alone limits g (now ∷ lists) = is_none g.made && (is_fine limits g now && is_alone limits (with_all g now) lists)

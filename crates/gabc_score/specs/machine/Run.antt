@@ -1,25 +1,35 @@
 -- A run of regular syllables that a machine over a score takes from a text.
-use Rattle.std.specs.Prelude.{◌≡◌, ℕ, ◌+◌, ◌≤◌, ◌<◌, ◌^◌, ◌||◌, not, nat_lt, min, List, [], ◌∷◌, ◌++◌, Bool, true, length, drop, if◌then◌else◌}
-use Rattle.std.specs.List.{All}
+use Rattle.std.specs.Prelude.{◌≡◌, ℕ, ◌+◌, ◌≤◌, ◌<◌, ◌^◌, ◌||◌, ◌&&◌, ◌==◌, not, nat_lt, min, List, [], ◌∷◌, ◌++◌, Bool, length, drop, encode_utf8_all, if◌then◌else◌, Option, is_some}
+use Rattle.std.specs.List.{All, list_any}
 use Rattle.std.specs.Str.{IsUtf8, chars}
 use Rattle.gabc_places.specs.declared.limits.Limits.{Limits}
 use Rattle.gabc_places.specs.declared.place.Place.{Place}
 use Rattle.gabc_places.specs.Place.{place_past}
 use Rattle.gabc_places.specs.TextOfAnInput.{IsPlain}
 use Rattle.gabc_text.specs.TextStage.{fresh_stage}
+use Rattle.gabc_notes.specs.FirstNoteOrClef.{first_note_or_clef}
+use Rattle.gabc_notes.specs.Items.{items_of}
+use Rattle.gabc_notes.specs.declared.item.ItemKind.{ItemKind}
 use Rattle.gabc_score.specs.declared.before.Preceding.{Preceding}
 use Rattle.gabc_score.specs.declared.body_stage.BodyPart.TheVariants.{Text}
 use Rattle.gabc_score.specs.declared.regular.RegularLen.{RegularLen}
+use Rattle.gabc_score.specs.declared.regular.SpanMark.{SpanMark}
 use Rattle.gabc_score.specs.declared.run.Found.{Found}
 use Rattle.gabc_score.specs.declared.run.Reached.{Reached}
 use Rattle.gabc_score.specs.declared.score_machine.ScoreMachine.{ScoreMachine}
 use Rattle.gabc_score.specs.declared.score_machine.ScorePart.TheVariants as score_part
 use Rattle.gabc_score.specs.Before.{most, with_placed}
-use Rattle.gabc_score.specs.Canonical.{position_by}
+use Rattle.gabc_score.specs.Canonical.{canonical_in_place, position_by, translation_text}
+use Rattle.gabc_score.specs.GivesSyllables.{spelled_canonical}
+use Rattle.gabc_score.specs.RegularSyllable.{SyllableParts, kept_spelled, snippet_texts, with_lines}
+use Rattle.gabc_text.specs.Canonical.{canonical_text}
+use Rattle.gabc_score.specs.declared.before.Spans.{Spans}
+use Rattle.gabc_score.specs.declared.spelled.SpelledSyllable.{SpelledSyllable}
+use Rattle.gabc_score.specs.SpelledSyllable.{IsSpelling}
 use Rattle.gabc_score.specs.ScoreStage.{IsWithin}
 use Rattle.gabc_score.specs.Syllable.{UnplacedSyllable, PlacedSyllable}
-use Rattle.gabc_score.specs.machine.Between.{IsBetween, GoesThrough}
-use Rattle.gabc_score.specs.machine.RegularLen.{BeginsRegularly}
+use Rattle.gabc_score.specs.machine.Between.{IsBetween, GoesThrough, SoundsNoMore}
+use Rattle.gabc_score.specs.machine.RegularLen.{BeginsRegularly, mark_at, past_mark}
 use Rattle.gabc_score.specs.machine.ScoreMachine.{held_score, IsInBody}
 use Rattle.gabc_score.specs.machine.ScoreStage.{HeldScore}
 
@@ -27,26 +37,58 @@ use Rattle.gabc_score.specs.machine.ScoreStage.{HeldScore}
 
 -- How long it is.
 abbrev pub len_of : Found → RegularLen
-len_of f = record { gap = f.gap; len = length f.spelled.now }
+len_of f = record { gap = f.gap; opening = f.opening; len = length f.spelled.now }
 
--- A regular syllable was found at a place, with which no limit is passed after this many canonical bytes.
+-- A regular syllable was found, with which no limit is passed after this many canonical bytes.
 pub record IsFound (lines : ℕ) (limits : Limits) (total : ℕ) (f : Found) : Type 0 where
   pub is : BeginsRegularly lines (f.spelled.now ++ f.rest.now) (len_of f)
-  pub next : f.next ≡ place_past f.at (chars f.spelled.now)
   pub syllable : length f.spelled.now ≤ limits.syllable
   pub input : total + length f.spelled.now + 1 ≤ limits.input
+
+-- a snippet of GABC in these texts has a note or a clef
+abbrev pub sounds_on_line : ℕ × List ℕ → Bool
+sounds_on_line t = (t.0 == 0) && is_some (first_note_or_clef (items_of t.1))
+
+abbrev pub sounds_among : List (ℕ × List ℕ) → Bool
+sounds_among texts = list_any sounds_on_line texts
+
+-- where neither a note nor a clef has come, none comes with the syllable
+abbrev pub IsSteady : ℕ → Option ItemKind → SyllableParts → Type 0
+IsSteady lines first r = SoundsNoMore (is_some first) (sounds_among (with_lines lines 0 r.nexts r.final))
 
 -- the bytes of its canonical text, with the LF before a word
 abbrev pub canonical_length : Found → ℕ
 canonical_length f = length (drop f.gap f.spelled.now) + (if nat_lt 0 f.gap then 1 else 0)
 
+-- the span mark that its text begins with
+abbrev pub mark_of : Found → Option SpanMark
+mark_of f = mark_at (drop f.gap f.spelled.now)
+
 -- what stands before the syllable after this one
 abbrev pub past_found : Preceding → Found → Preceding
-past_found p f = record p { syllables = min (p.syllables + 1) most; canonical = p.canonical + canonical_length f }
+past_found p f = record p { syllables = min (p.syllables + 1) most; canonical = p.canonical + canonical_length f; spans = past_mark (mark_of f) p.spans }
+
+-- Of a syllable that was found, where these spans are open after it and it stands before one that
+-- begins a word or not: its place in its word, its open spans, what is kept of it, its canonical
+-- text, its text with its translation, and its snippets.
+pub record SpellsFound (lines : ℕ) (spans : Spans) (begins : Bool) (f : Found) (r : SyllableParts) (s : PlacedSyllable) : Type 0 where
+  pub position : s.position ≡ position_by (nat_lt 0 f.gap) begins
+  pub eu : s.made.eu ≡ spans.eu
+  pub nlba : s.made.nlba ≡ spans.nlba
+  pub kept : s.made.kept ≡ encode_utf8_all (kept_spelled r)
+  pub canonical : canonical_in_place s ≡ spelled_canonical (nat_lt 0 f.gap) (drop f.gap f.spelled.now)
+  pub text : canonical_text s.made.text s.made.kept ++ translation_text s.made.kept s.made.text.translation ≡ encode_utf8_all r.text
+  pub snippets : snippet_texts s.made ≡ with_lines lines 0 r.nexts r.final
+
+-- Slices spell a syllable of these parts.
+pub record IsSpelledBy (r : SpelledSyllable) (lines : ℕ) (parts : SyllableParts) : Type 0 where
+  pub spelling : IsSpelling r
+  pub parts_are : spelling.parts ≡ parts
+  pub lines_are : r.lines ≡ lines
 
 -- ---- the run
 
--- The machine stands between two syllables: it holds one, a text begins at this place, and a note or a clef has come.
+-- The machine stands between two syllables: it holds one, and a text begins at this place.
 pub record StandsBetween (m : ScoreMachine) (at : Place) : Type 0 where
   pub part : m.part ≡ score_part.Body
   pub rests : IsInBody m
@@ -54,14 +96,15 @@ pub record StandsBetween (m : ScoreMachine) (at : Place) : Type 0 where
   pub between : IsBetween m.limits (held_score m)
   pub one : length m.pair.gathered.made ≡ 1
 
--- From there it has read these characters, and has given these syllables with what follows, which begins a word or not: the last of them
--- is held in what it would have gathered. Before the next syllable, at `next`, stands what `p` says.
+-- From there it has read these characters, and has given these syllables with what follows, which
+-- begins a word or not: the last of them is held in what it would have gathered. Before the next
+-- syllable, at `next`, stands what `p` says.
 pub record RunsBefore (m : ScoreMachine) (at : Place) (t : List ℕ) (given : List PlacedSyllable) (starts : Bool) (p : Preceding) (next : Place) : Type 0 where
   pub held : UnplacedSyllable
   pub s : HeldScore
   pub earlier : List PlacedSyllable
   pub through : GoesThrough m.limits m.body.nabc_lines m.body.macros at (held_score m) t earlier next s
-  pub gathered : s.gathered ≡ record m.pair.gathered { made = held ∷ []; total = p.canonical }
+  pub gathered : s.gathered ≡ record m.pair.gathered { made = held ∷ []; total = p.canonical; eu = p.spans.eu; nlba = p.spans.nlba }
   pub given_are : given ≡ earlier ++ record { made = held; position = position_by (not s.has_lent || held.text.word_start) starts } ∷ []
   pub before : p ≡ with_placed m.bounds.before given
   pub place : next ≡ place_past at t
@@ -69,17 +112,18 @@ pub record RunsBefore (m : ScoreMachine) (at : Place) (t : List ℕ) (given : Li
   pub plain : All IsPlain t
   pub few : length earlier ≤ length t
   pub some : 1 ≤ p.syllables
-  pub sounded : p.sounded ≡ true
-  pub spans_are : (p.spans.eu ≡ m.pair.gathered.eu) × (p.spans.nlba ≡ m.pair.gathered.nlba)
+  pub sounded : is_some m.pair.gathered.first_kind ≡ p.sounded
   pub input : p.canonical + 1 ≤ m.limits.input
 
--- In this text, the first of whose characters stands at `at`, a run has given these syllables, and has reached one that is not given yet.
+-- In this text, the first of whose characters stands at `at`, a run has given these syllables, and
+-- has reached one that is not given yet.
 pub record RunsTo (m : ScoreMachine) (at : Place) (text : List ℕ) (given : List PlacedSyllable) (reached : Reached) : Type 0 where
   pub stands : StandsBetween m at
   pub bytes : List ℕ
   pub utf8 : IsUtf8 bytes
-  pub runs : RunsBefore m at (chars bytes) given (nat_lt 0 reached.last.gap) reached.before reached.last.at
+  pub runs : RunsBefore m at (chars bytes) given (nat_lt 0 reached.last.gap) reached.before (place_past at (chars bytes))
   pub found : IsFound m.body.nabc_lines m.limits reached.before.canonical reached.last
+  pub steady : IsSteady m.body.nabc_lines m.pair.gathered.first_kind found.is.syllable
   pub text_is : text ≡ bytes ++ (reached.last.spelled.now ++ reached.last.rest.now)
   pub line : at.line + length text < 2 ^ 63
   pub column : at.column + length text < 2 ^ 63

@@ -1,27 +1,21 @@
 -- What a machine over a score shows, and what holds of it between two calls.
-use Rattle.std.specs.Prelude.{◌≡◌, ℕ, ◌≤◌, nat_lt, true, false, List, [], ◌∷◌, length, None}
+use Rattle.std.specs.Prelude.{◌≡◌, ℕ, ◌≤◌, nat_lt, true, false, [], length, None}
 use Rattle.std.specs.List.{All}
-use Rattle.gabc_places.specs.declared.place.Char.{Char}
-use Rattle.gabc_headers.specs.declared.head_event.HeadEvent.{HeadEvent}
-use Rattle.gabc_headers.specs.declared.head_event.HeadEvent.TheVariants as head_event
 use Rattle.gabc_score.specs.declared.before.Preceding.{Preceding}
 use Rattle.gabc_score.specs.Before.{with_each}
 use Rattle.gabc_score.specs.Canonical.{canonical}
 use Rattle.gabc_score.specs.ScoreTells.{is_in_front}
 use Rattle.gabc_score.specs.Syllable.{UnplacedSyllable}
-use Rattle.gabc_places.specs.TextOfAnInput.{IsTextCharacter}
 use Rattle.gabc_score.specs.declared.score_machine.ScoreMachine.{ScoreMachine}
 use Rattle.gabc_score.specs.declared.score_machine.ScorePart.{ScorePart}
 use Rattle.gabc_score.specs.declared.score_machine.ScorePart.TheVariants as score_part
-use Rattle.gabc_score.specs.declared.slot_pair.SlotUse.TheVariants.{Filling}
-use Rattle.gabc_score.specs.witness.ScoreStage.{ScoreStageState, left_of}
+use Rattle.gabc_score.specs.witness.ScoreStage.{ScoreStageState}
 use Rattle.gabc_score.specs.machine.BodyBuilder.{code_in}
 use Rattle.gabc_score.specs.machine.Gatherer.{Gathered, nothing_gathered}
 use Rattle.gabc_score.specs.machine.HeldWithin.{HoldsWithin}
 use Rattle.gabc_score.specs.machine.PartCounts.{CountsHold}
 use Rattle.gabc_score.specs.machine.PartKeeps.{IsReading}
 use Rattle.gabc_score.specs.machine.PartMakes.{HoldUnits}
-use Rattle.gabc_score.specs.machine.PartOnly.{HoldsTexts}
 use Rattle.gabc_score.specs.machine.Preceded.{IsPreceded}
 use Rattle.gabc_score.specs.machine.ScoreStage.{HeldScore}
 use Rattle.gabc_score.specs.machine.SlotPair.{is_made}
@@ -38,7 +32,8 @@ pub record IsShort (limit : ℕ) (m : UnplacedSyllable) : Type 0 where
   pub kept : length m.kept ≤ limit
   pub canonical : length (canonical false m) ≤ limit
 
--- between two calls: nothing found is kept, the slots are those of the limits, and what is held is within them
+-- between two calls: nothing found is kept, the slots are those of the limits, and what is held is
+-- within them
 pub record IsAtRest (m : ScoreMachine) : Type 0 where
   pub none : m.found.items ≡ []
   pub room : 9 ≤ m.found.limit
@@ -58,8 +53,9 @@ pub record NoneIsWhole (before : Preceding) (g : Gathered) : Type 0 where
   pub none_before : before.syllables ≡ 0
   pub none_made : g.made ≡ []
 
--- In the body what is counted holds, no limit is passed, the kept text is within its limit, what is gathered is what its parts say, and what is
--- held holds a unit, and its spans follow from those before it. In front of the first text no syllable is whole.
+-- In the body what is counted holds, no limit is passed, the kept text is within its limit, what is
+-- gathered is what its parts say, and what is held holds a unit, and its spans follow from those
+-- before it. In front of the first text no syllable is whole.
 pub record IsInBody (m : ScoreMachine) : Type 0 where
   pub rests : IsAtRest m
   pub counts : CountsHold m.body.part m.pair.gathered.builder
@@ -72,25 +68,6 @@ pub record IsInBody (m : ScoreMachine) : Type 0 where
   pub units : HoldUnits m.body.nabc_lines m.bounds.before m.pair.gathered.made
   pub within : HoldsWithin m.limits m.bounds.before m.pair.gathered
   pub front : is_in_front m.body.part ≡ true → NoneIsWhole m.bounds.before m.pair.gathered
-
--- in the body, where nothing is lent, no limit is passed and one whole syllable is held at most
-pub record IsFreed (m : ScoreMachine) : Type 0 where
-  pub part : m.part ≡ score_part.Body
-  pub body : IsInBody m
-  pub used : m.pair.used ≡ Filling
-  pub code : code_in m.limits m.pair.gathered ≡ None
-  pub one : length m.pair.gathered.made ≤ 1
-
--- At this character of the body nothing was to come, and it goes on in its part with what follows under the same limits.
-pub record PassesQuietly (before : ScoreStageState) (x : Char) (after : ScoreStageState) : Type 0 where
-  pub limits : after.limits ≡ before.limits
-  pub part : after.part ≡ before.part
-  pub before_held : after.before ≡ before.before
-  pub lines : after.body.nabc_lines ≡ before.body.nabc_lines
-  pub macros : after.body.macros ≡ before.body.macros
-  pub made : after.held.gathered.made ≡ before.held.gathered.made
-  pub texts : IsTextCharacter x.c → HoldsTexts before.held.gathered → HoldsTexts after.held.gathered
-  pub law : (xs : List HeadEvent) → left_of before (head_event.Body x ∷ xs) ≡ [] ∷ left_of after xs
 
 -- the memory stays reserved: for what is found with one input, and for syllables within the limit
 pub record KeepsMemory (m : ScoreMachine) : Type 0 where

@@ -1,4 +1,5 @@
--- What a stage over a score does behind the headers. It holds one whole syllable, the one that is being read, and counts.
+-- What a stage over a score does after the headers. It holds one whole syllable, the one that is
+-- being read, and counts.
 use Rattle.std.specs.Prelude.{ℕ, false, ◌-◌, ◌||◌, not, nat_lt, List, [], ◌∷◌, ◌++◌, Bool, length, take, drop, Option, Some, None}
 use Rattle.gabc_places.specs.declared.code.Code.{Code}
 use Rattle.gabc_places.specs.declared.code.Fault.{Fault}
@@ -22,8 +23,8 @@ use Rattle.gabc_score.specs.Syllable.{UnplacedSyllable, PlacedSyllable}
 use Rattle.gabc_score.specs.machine.BodyBuilder.{with_all, code_in, end_fault, end_findings}
 use Rattle.gabc_score.specs.machine.Gatherer.{Gathered, nothing_gathered, with_last}
 
--- The place of the next character, and what was gathered: of the syllables made, those not given yet, of which the last is held. And
--- whether one was lent before.
+-- The place of the next character, and what was gathered: of the syllables made, those not given
+-- yet, of which the last is held. And whether one was lent before.
 pub record HeldScore : Type 0 where
   pub next : Place
   pub gathered : Gathered
@@ -88,7 +89,8 @@ begun_score limits at head = record { next = at; gathered = nothing_gathered lim
 abbrev pub fresh_score : Limits → ℕ → HeldScore
 fresh_score limits head = begun_score limits first_place head
 
--- what it will still emit before the body: what is found in the headers and what stops them is passed on
+-- what it will still emit before the body: what is found in the headers and what stops them is
+-- passed on
 abbrev pub score_left : Limits → List HeadEvent → List (List ScoreOutput)
 score_left limits [] = [] ∷ []
 score_left limits (head_event.Heads lines macros canonical ∷ xs) =

@@ -12,7 +12,8 @@ use Rattle.gabc_score.specs.machine.Gatherer.{Gathered}
 use Rattle.gabc_score.specs.machine.Slot.{ReadSyllable, made_in, placed_in}
 use Rattle.gabc_score.specs.machine.SyllableBuilder.{OpenSyllable, nothing_open}
 
--- what was gathered, the whole syllable that is held, if one is, how the slot is used that reads, and the two that may be lent
+-- what was gathered, the whole syllable that is held, if one is, how the slot is used that reads,
+-- and the two that may be lent
 pub record SlotPairState : Type 0 where
   pub gathered : Gathered
   pub held : List UnplacedSyllable

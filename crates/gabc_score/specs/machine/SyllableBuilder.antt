@@ -5,7 +5,8 @@ use Rattle.gabc_score.specs.declared.snippets.Snippet.{Snippet}
 use Rattle.gabc_score.specs.Syllable.{UnplacedSyllable, prefix_of}
 use Rattle.gabc_text.specs.BuiltText.{empty_view}
 
--- a syllable that is being read: its kept text, the bytes of it that stand before the part that is being read, its view and snippets
+-- a syllable that is being read: its kept text, the bytes of it that stand before the part that is
+-- being read, its view and snippets
 pub record OpenSyllable : Type 0 where
   pub kept : List ℕ
   pub from : ℕ

@@ -1,5 +1,5 @@
--- What the machine over a body will still emit. It is no promise: that it emits what a body emits is proved, where no count of
--- the body reaches its last value.
+-- What the machine over a body will still emit. It is no promise: that it emits what a body emits
+-- is proved, where no count of the body reaches its last value.
 use Rattle.std.specs.Prelude.{ℕ, List, [], map, Bool, if◌then◌else◌}
 use Rattle.gabc_places.specs.StageLaw.{silence}
 use Rattle.gabc_places.specs.declared.place.Char.{Char}
@@ -46,6 +46,6 @@ texts_by_stage at xs = text.events_left (fresh_stage at) (codes_of xs)
 abbrev pub running_events_left : BodyStageState → List Char → List (List BodyEvent)
 running_events_left r xs = events_from texts_by_stage r.nabc_lines r.macros (part_with r.part xs) xs
 
--- what it will still emit: nothing behind the end of the input
+-- what it will still emit: nothing after the end of the input
 abbrev pub events_left : BodyStageState → List Char → List (List BodyEvent)
 events_left r xs = if r.over then silence xs else running_events_left r xs

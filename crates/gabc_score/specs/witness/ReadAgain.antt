@@ -1,4 +1,5 @@
--- What makes the kept text of a syllable readable again. It holds of every stage in the body, and nobody has to believe it.
+-- What makes the kept text of a syllable readable again. It holds of every stage in the body, and
+-- nobody has to believe it.
 use Rattle.std.specs.Prelude.{◌≡◌}
 use Rattle.gabc_score.specs.declared.score_machine.ScorePart.TheVariants as score_part
 use Rattle.gabc_score.specs.machine.ReadAgain.{IsToldBy}

@@ -1,4 +1,5 @@
--- What a stage over a score will still emit, in any state. Nobody has to believe it: its maker's contract states it of a fresh one.
+-- What a stage over a score will still emit, in any state. Nobody has to believe it: its maker's
+-- contract states it of a fresh one.
 use Rattle.std.specs.Prelude.{List}
 use Rattle.gabc_places.specs.declared.limits.Limits.{Limits}
 use Rattle.gabc_headers.specs.declared.head_event.HeadEvent.{HeadEvent}
@@ -9,8 +10,9 @@ use Rattle.gabc_score.specs.machine.ScoreStage.{HeldScore, outputs_left}
 use Rattle.gabc_score.specs.ScoreEvents.{ScoreOutput}
 use Rattle.gabc_score.specs.Syllable.{PlacedSyllable}
 
--- What a stage shows: its limits, the part of the score in which it stands, what stands before the first syllable that was not given, what it
--- holds of the body and its machine, and the two syllables that it may lend.
+-- What a stage shows: its limits, the part of the score in which it stands, what stands before the
+-- first syllable that was not given, what it holds of the body and its machine, and the two
+-- syllables that it may lend.
 pub record ScoreStageState : Type 0 where
   pub limits : Limits
   pub part : ScorePart
@@ -20,6 +22,7 @@ pub record ScoreStageState : Type 0 where
   pub first : PlacedSyllable
   pub second : PlacedSyllable
 
--- What it will still emit for these inputs and their end. It is no promise but by the clause of the stage's maker.
+-- What it will still emit for these inputs and their end. It is no promise but by the clause of the
+-- stage's maker.
 abbrev pub left_of : ScoreStageState → List HeadEvent → List (List ScoreOutput)
 left_of s xs = outputs_left s.limits s.part s.held s.body xs

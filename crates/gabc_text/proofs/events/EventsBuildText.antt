@@ -53,9 +53,6 @@ events_found at before t (c ∷ cs) =
     events_found at before (with_event t (out.Found (found_at (place_of at before) c))) cs
     ∙ ap (λ (x : List Finding). record t { findings = x }) (append_assoc t.findings (found_at (place_of at before) c ∷ []) (map (found_at (place_of at before)) cs))
 
-codes : List Char → List ℕ
-codes cs = map (λ (c : Char). c.c) cs
-
 emitted_kept : (t : BuiltText) (cs : List Char) → with_events t (map (λ (c : Char). out.Kept c) cs) ≡ record t { kept = t.kept ++ encodes (map (λ (c : Char). c.c) cs) }
 emitted_kept t [] = ap (λ (x : List ℕ). record t { kept = x }) (sym (append-nil t.kept))
 emitted_kept t (c ∷ cs) = emitted_kept (with_event t (out.Kept c)) cs ∙ ap (λ (x : List ℕ). record t { kept = x }) (append_assoc t.kept (encode c.c) (encodes (map (λ (d : Char). d.c) cs)))
@@ -292,9 +289,6 @@ centre_emitted before = ap (λ (n : ℕ). centre_by n (begin_of before) (end_of 
         omega (arith, all)
 
 module _ (at : Place) (t : List ℕ) where
-  backwards : List Token
-  backwards = onto (tokens t) []
-
   events_centre : (s : BuiltText) (o : Option Span) → s.view.centre ≡ None → with_events s (map (λ (x : Span). out.Part (part.Centre x)) (option_list_of o)) ≡ record s { view = record s.view { centre = o } }
   events_centre s None e = ap (λ (x : Option Span). record s { view = record s.view { centre = x } }) e
   events_centre s (Some x) e = refl

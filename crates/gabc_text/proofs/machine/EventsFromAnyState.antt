@@ -47,7 +47,7 @@ abbrev LeftAt : TextStage → ℕ → List ℕ → List ℕ
 LeftAt s c t = cond s.done (c ∷ t) (stepwise_left s t)
 
 -- the last of some characters
-but_end_is : (held : List ℕ) (c : ℕ) → but_end (held ++ c ∷ []) ≡ held
+pub but_end_is : (held : List ℕ) (c : ℕ) → but_end (held ++ c ∷ []) ≡ held
 but_end_is [] c = refl
 but_end_is (x ∷ held) c = but_last_is x (held ++ c ∷ []) (x ∷ held) c refl
 

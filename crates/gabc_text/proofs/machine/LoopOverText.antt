@@ -1,7 +1,7 @@
 -- The loop over a text's characters, and its end.
 use Rattle.std.proofs.Common.{◌≡◌, ℕ, ◌+◌, ◌<◌, ◌≤◌, ◌^◌, List, [], ◌∷◌, Bool, true, false, cond, refl, sym, ap, ◌∙◌, subst, length, length-append, take, drop, reverse, take-append-drop, arith, IsUtf8}
 use Rattle.std.specs.Str.{chars}
-use Rattle.std.proofs.lemmas.Str.{length-encode, encodes-chars, length-le-encodes, chars-nil}
+use Rattle.std.proofs.lemmas.Str.{length-encode, encodes-chars, length-le-encodes}
 use lib.Utf8.{encode, encodes}
 use Rattle.gabc_places.specs.StageLaw.{concat_of}
 use Rattle.gabc_places.specs.declared.place.Place.{Place}
@@ -32,10 +32,6 @@ bytes_encodes (c ∷ t) = omega (arith, bytes_encodes t, length-encode c, length
 pub bytes_chars : (bs : List ℕ) → IsUtf8 bs → bytes_of (chars bs) ≡ length bs
 bytes_chars bs u = bytes_encodes (chars bs) ∙ ap (length {A = ℕ}) (encodes-chars bs u)
 
-pub chars_none : (bs : List ℕ) → length bs ≡ 0 → chars bs ≡ []
-chars_none [] e = chars-nil
-chars_none (x ∷ xs) e = absurd (omega arith)
-
 -- no count of the text of some bytes reaches its last value
 pub text_fits : (at : Place) (bs : List ℕ) → IsUtf8 bs → at.line + length bs < 2 ^ 64 → at.column + length bs < 2 ^ 64 → CountsFit at (chars bs)
 text_fits at bs u line column =
@@ -52,9 +48,6 @@ pub events_goes : (events now target : BuiltText) (stage next : TextStage) (c : 
 events_goes events now target stage next c cs e f g =
     ap (λ (x : TextStage). with_events now (concat_of (stepwise x cs))) f ∙ ap (λ (x : BuiltText). with_events x (concat_of (stepwise (push_stage stage c) cs))) g
     ∙ sym (events_append events (events_of_push stage c) (concat_of (stepwise (push_stage stage c) cs))) ∙ e
-
-left_by : TextStage → ℕ → List ℕ → List ℕ
-left_by s c cs = cond s.done (c ∷ cs) (stepwise_left s cs)
 
 pub left_goes : (stage next : TextStage) (c : ℕ) (cs left : List ℕ) → stepwise_left stage (c ∷ cs) ≡ left → next ≡ push_stage stage c → next.done ≡ false → stepwise_left next cs ≡ left
 left_goes stage next c cs left e f g = by (next.done) g ∙ ap (λ (x : TextStage). cond x.done (c ∷ cs) (stepwise_left x cs)) f ∙ e

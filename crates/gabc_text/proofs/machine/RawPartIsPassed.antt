@@ -3,6 +3,7 @@ use Rattle.std.proofs.Common.{◌≡◌, ℕ, ◌==◌, ◌&&◌, not, List, [],
 use Rattle.std.specs.Str.{chars, NonePass}
 use Rattle.std.proofs.lemmas.Str.{encodes-chars}
 use Rattle.std.proofs.lemmas.Bool.{eqb-true}
+use Rattle.std.proofs.Math.Bool.{and-false}
 use Rattle.gabc_text.specs.declared.token_state.TokenState.{TokenState}
 use Rattle.gabc_text.specs.declared.token_state.TokenState.TheVariants.{Raw}
 use Rattle.gabc_text.specs.declared.token.RawKind.{RawKind}
@@ -20,18 +21,14 @@ use Rattle.gabc_text.proofs.machine.EventsStepByStep.{stepwise, stepwise_left}
 use Rattle.gabc_text.proofs.events.EventsBuildText.{events_append}
 use Rattle.gabc_text.specs.machine.RawPart.{stage_past, events_of_pushes, is_unmatched, is_in_raw}
 
-and_false : (b : Bool) → (b && false) ≡ false
-and_false true = refl
-and_false false = refl
-
 -- a character that is kept in a raw part
 abbrev PassesOver : TextStage → ℕ → Type 0
 PassesOver s c = (push_stage s c ≡ record s { progress = progress_past s.progress c (Some c) }) × (events_of_push s c ≡ out.Kept (record { c = c; place = s.progress.next }) ∷ [])
 
 pass_at : (raw : RawKind) (facts : TextFacts) (progress : Progress) (c : ℕ) → c == 60 ≡ false → PassesOver (record { state = Raw raw 0; facts = facts; progress = progress; done = false }) c
-pass_at V facts progress c e = (rw (and_false (c == 40), e) refl, rw (and_false (c == 40), e) refl)
-pass_at Sp facts progress c e = (rw (and_false (c == 40), e) refl, rw (and_false (c == 40), e) refl)
-pass_at Alt facts progress c e = (rw (and_false (c == 40), e) refl, rw (and_false (c == 40), e) refl)
+pass_at V facts progress c e = (rw (and-false (c == 40), e) refl, rw (and-false (c == 40), e) refl)
+pass_at Sp facts progress c e = (rw (and-false (c == 40), e) refl, rw (and-false (c == 40), e) refl)
+pass_at Alt facts progress c e = (rw (and-false (c == 40), e) refl, rw (and-false (c == 40), e) refl)
 
 pub passes : (s : TextStage) (c : ℕ) → is_in_raw s ≡ true → c == 60 ≡ false → PassesOver s c
 passes s c h e = by s.state s.done h

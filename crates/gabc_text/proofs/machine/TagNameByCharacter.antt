@@ -1,14 +1,13 @@
 -- A tag's name as its characters come: its first ones show what the tag does.
 use Rattle.std.proofs.Common.{◌≡◌, ℕ, List, [], ◌∷◌, ◌++◌, length, map, nat_lt, Bool, true, false, not, cond, ◌&&◌, ◌||◌, ◌==◌, refl, sym, ap, ◌∙◌, arith, append_assoc, append-nil, length-append, ne_eqb, codes}
 use Rattle.std.specs.List.{list_all, zip}
-use Rattle.std.proofs.lemmas.Bool.{eqb-true, eqb-false, ltb-false, le-ltb}
+use Rattle.std.proofs.lemmas.Bool.{eqb-true, eqb-false, ltb-false, le-ltb, and_parts}
 use Rattle.gabc_text.specs.declared.token.TagEffect.{TagEffect}
 use Rattle.gabc_text.specs.declared.token.TagEffect.TheVariants.{Other}
 use Rattle.gabc_text.specs.declared.tags.TheConstants.{KEPT}
 use Rattle.gabc_text.specs.Token.{tag_names, is_text, is_one_of, effect_in, effect_of}
 use Rattle.gabc_text.specs.machine.TagPrefix.{next_name}
 use Rattle.gabc_text.specs.ExampleTexts.{name_so_far}
-use Rattle.gabc_text.proofs.tokens.CasesOfCharacters.{and_both}
 use Rattle.gabc_text.proofs.tokens.TokensByCharacter.{lacks}
 
 abbrev pub Rows : Type 0
@@ -55,7 +54,7 @@ text_is [] [] e = refl
 text_is [] (d ∷ s) e = absurd (cc)
 text_is (c ∷ r) [] e = absurd (cc)
 text_is (c ∷ r) (d ∷ s) e =
-    let both = and_both (d == c) (is_text r s) e in
+    let both = and_parts (d == c) (is_text r s) e in
     let f : d ≡ c = eqb-true d c both.0 in
     let g : r ≡ s = text_is r s both.1 in cc
 
@@ -79,7 +78,7 @@ other_length r s h = by (is_text r s) refl
 no_row : (p : List ℕ → Bool) (rows : Rows) (s : List ℕ) → list_all (λ (row : List ℕ × TagEffect). p row.0) rows ≡ true → p s ≡ false → effect_in rows s ≡ Other
 no_row p [] s h e = refl
 no_row p (row ∷ rows) s h e =
-    let both = and_both (p row.0) (list_all (λ (r : List ℕ × TagEffect). p r.0) rows) h in
+    let both = and_parts (p row.0) (list_all (λ (r : List ℕ × TagEffect). p r.0) rows) h in
     by both.0 (no_row p rows s both.1 e) (is_text row.0 s) refl
   where
     by : p row.0 ≡ true → effect_in rows s ≡ Other → (b : Bool) → is_text row.0 s ≡ b → cond b row.1 (effect_in rows s) ≡ Other

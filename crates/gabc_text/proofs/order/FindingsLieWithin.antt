@@ -1,5 +1,5 @@
 -- What is emitted of a text by a point is found no later than there.
-use Rattle.std.proofs.Common.{◌≡◌, ℕ, suc, ◌+◌, ◌==◌, List, [], ◌∷◌, ◌++◌, Bool, true, false, cond, refl, sym, ap, ◌∙◌, subst, append_assoc, append-nil, length, length-append, drop, take, map, arith, inl, inr}
+use Rattle.std.proofs.Common.{◌≡◌, ℕ, suc, ◌+◌, List, [], ◌∷◌, ◌++◌, Bool, true, false, cond, refl, sym, ap, ◌∙◌, subst, append_assoc, append-nil, length, length-append, drop, take, map, arith}
 use Rattle.gabc_places.specs.StageLaw.{concat_of}
 use Rattle.gabc_places.specs.Place.{next_place, place_past}
 use Rattle.gabc_places.specs.Findings.{IsUpTo, LieBetween}
@@ -17,44 +17,17 @@ use Rattle.gabc_text.specs.Events.{events_by_point, after_tokens, end_events, li
 use Rattle.gabc_text.specs.BuiltText.{found_in}
 use Rattle.gabc_text.specs.Printed.{text_of_tokens}
 use Rattle.gabc_places.proofs.PlacesOfAText.{place_append}
+use Rattle.gabc_places.proofs.PlacesInOrder.{up_to_self, up_to_next, up_to_past, lie_wider, lie_append}
 use Rattle.gabc_text.proofs.machine.TokensOneAfterAnother.{onto, after_is, size}
 use Rattle.gabc_text.proofs.tokens.TokensByCharacter.{drop_past}
 use Rattle.gabc_text.proofs.tokens.TextIsTokensAndRest.{Goes, AllGo, Parted, parted}
 
 -- ---- the order of places
 
-same_place : (p : Place) → IsUpTo p p
-same_place p = inr (refl, omega arith)
-
-up_then : (p q r : Place) → IsUpTo p q → IsUpTo q r → IsUpTo p r
-up_then p q r (inl h) (inl g) = inl (omega arith)
-up_then p q r (inl h) (inr g) = inl (omega (arith, g.0))
-up_then p q r (inr h) (inl g) = inl (omega (arith, h.0))
-up_then p q r (inr h) (inr g) = inr (h.0 ∙ g.0, (let a = h.1 in let b = g.1 in omega arith))
-
-up_next : (p : Place) (c : ℕ) → IsUpTo p (next_place p c)
-up_next p c = by (c == 10)
-  where
-    by : (b : Bool) → IsUpTo p (cond b (record { line = p.line + 1; column = 1 }) (record { line = p.line; column = p.column + 1 }))
-    by true = inl (omega arith)
-    by false = inr (refl, omega arith)
-
-up_past : (p : Place) (t : List ℕ) → IsUpTo p (place_past p t)
-up_past p [] = same_place p
-up_past p (c ∷ t) = up_then p (next_place p c) (place_past (next_place p c) t) (up_next p c) (up_past (next_place p c) t)
-
 up_token : (at : Place) (before : List Token) (k : Token) → IsUpTo (place_of at before) (place_of at (k ∷ before))
-up_token at before k = subst (IsUpTo (place_of at before)) (sym (place_append at (text_of before) (spelling k))) (up_past (place_of at before) (spelling k))
+up_token at before k = subst (IsUpTo (place_of at before)) (sym (place_append at (text_of before) (spelling k))) (up_to_past (place_of at before) (spelling k))
 
 -- ---- lists of findings
-
-lie_wide : (p q r : Place) (fs : List Finding) → IsUpTo q r → LieBetween p q fs → LieBetween p r fs
-lie_wide p q r [] h g = tt
-lie_wide p q r (f ∷ fs) h g = ((g.0.0, up_then f.place q r g.0.1 h), lie_wide p q r fs h g.1)
-
-lie_append : (p q : Place) (fs gs : List Finding) → LieBetween p q fs → LieBetween p q gs → LieBetween p q (fs ++ gs)
-lie_append p q [] gs h g = g
-lie_append p q (f ∷ fs) gs h g = (h.0, lie_append p q fs gs h.1 g)
 
 pub found_more : (xs ys : List TextEvent) → found_in (xs ++ ys) ≡ found_in xs ++ found_in ys
 found_more [] ys = refl
@@ -90,7 +63,7 @@ module _ (at : Place) where
   walked p [] (c ∷ rest) (xs ∷ lists) h = both p xs [] h.0 tt
   walked p (c ∷ prefix) rest (xs ∷ lists) h =
       both (place_past (next_place p c) prefix) xs (concat_of (take (suc (length prefix)) lists))
-      (lie_wide at p (place_past (next_place p c) prefix) (found_in xs) (up_past p (c ∷ prefix)) h.0)
+      (lie_wider at p (place_past (next_place p c) prefix) (found_in xs) (up_to_past p (c ∷ prefix)) h.0)
       (walked (next_place p c) prefix rest lists h.1)
 
   walk_nothing : (p : Place) (t u : List ℕ) → Walk p t (no_events_each u)
@@ -115,7 +88,7 @@ module _ (at : Place) where
   walk_last p (c ∷ s) xs (ys ∷ []) h g = (both p ys xs g.0 h, tt)
   walk_last p [] xs (ys ∷ zs ∷ ls) h g = (g.0, walk_last p [] xs (zs ∷ ls) h g.1)
   walk_last p (c ∷ s) xs (ys ∷ zs ∷ ls) h g =
-      (g.0, walk_last (next_place p c) s xs (zs ∷ ls) (lie_wide at p (next_place p c) (found_in xs) (up_next p c) h) g.1)
+      (g.0, walk_last (next_place p c) s xs (zs ∷ ls) (lie_wider at p (next_place p c) (found_in xs) (up_to_next p c) h) g.1)
 
   walk_kept : (p q : Place) (s t : List ℕ) → Walk p s (kept_each q t)
   walk_kept p q s [] = tt
@@ -168,11 +141,11 @@ module _ (at : Place) where
   -- ---- what a token emits
 
   from_here : (before : List Token) → IsUpTo at (place_of at before)
-  from_here before = up_past at (text_of before)
+  from_here before = up_to_past at (text_of before)
 
   lie_codes : (before : List Token) (cs : List Code) → LieBetween at (place_of at before) (found_in (finding_events at before cs))
   lie_codes before [] = tt
-  lie_codes before (c ∷ cs) = ((from_here before, same_place (place_of at before)), lie_codes before cs)
+  lie_codes before (c ∷ cs) = ((from_here before, up_to_self (place_of at before)), lie_codes before cs)
 
   lie_whole : (before : List Token) (k : Token) → LieBetween at (place_of at before) (found_in (token_events at before k))
   lie_whole before k =
@@ -191,7 +164,7 @@ module _ (at : Place) where
   lie_owed (k ∷ before) = by (is_lone k)
     where
       by : (b : Bool) → LieBetween at (place_of at (k ∷ before)) (found_in (cond b (token_events at before k) []))
-      by true = lie_wide at (place_of at before) (place_of at (k ∷ before)) (found_in (token_events at before k)) (up_token at before k) (lie_whole before k)
+      by true = lie_wider at (place_of at before) (place_of at (k ∷ before)) (found_in (token_events at before k)) (up_token at before k) (lie_whole before k)
       by false = tt
 
   walk_token : (before : List Token) (k : Token) → Walk (place_of at before) (spelling k) (lists_at at before k)
@@ -206,7 +179,7 @@ module _ (at : Place) where
 
   lie_map : (before : List Token) (cs : List Code) → LieBetween at (place_of at before) (map (found_at (place_of at before)) cs)
   lie_map before [] = tt
-  lie_map before (c ∷ cs) = ((from_here before, same_place (place_of at before)), lie_map before cs)
+  lie_map before (c ∷ cs) = ((from_here before, up_to_self (place_of at before)), lie_map before cs)
 
   lie_end : (before : List Token) → LieBetween at (place_of at before) (findings_at_end at before)
   lie_end before = by (is_cut before)

@@ -1,7 +1,6 @@
--- Blanks in front of a regular text begin a word, and all else is as without them.
-use Rattle.std.proofs.Common.{◌≡◌, ℕ, List, [], ◌∷◌, ◌++◌, Bool, true, false, cond, None, refl, sym, ap, ap₂, ◌∙◌, append-nil, append_assoc, map, reverse, length, drop, encode_utf8_all}
-use Rattle.std.specs.List.{list_all}
-use Rattle.std.proofs.lemmas.Bool.{true≢false}
+-- Blanks in front of a regular text begin a word, with comments among them or without, and all else is as without them.
+use Rattle.std.proofs.Common.{◌≡◌, ◌≢◌, ◌⊎◌, inl, inr, ℕ, ◌==◌, List, [], ◌∷◌, ◌++◌, Bool, true, false, not, ◌&&◌, cond, if◌then◌else◌, Option, Some, None, is_some, subst, refl, sym, ap, ap₂, ◌∙◌, append-nil, append_assoc, map, reverse, length, drop, encode_utf8_all}
+use Rattle.std.proofs.lemmas.Bool.{true≢false, eqb-true, and_parts}
 use Rattle.gabc_places.specs.declared.place.Place.{Place}
 use Rattle.gabc_places.specs.declared.code.Code.{Code}
 use Rattle.gabc_places.specs.declared.code.Finding.{Finding}
@@ -18,27 +17,47 @@ use Rattle.gabc_text.specs.TextRead.{view_in}
 use Rattle.gabc_text.specs.Canonical.{canonical_text}
 use Rattle.gabc_text.specs.Printed.{print, print_tokens, text_of_tokens, text_tokens, translation_tokens, word_break}
 use Rattle.gabc_text.specs.PrintedView.{printed_view}
-use Rattle.gabc_text.specs.RegularText.{IsRegularText}
-use Rattle.gabc_text.proofs.tokens.CasesOfCharacters.{and_both, by_case}
+use Rattle.gabc_text.specs.RegularText.{IsRegularText, is_gap, is_gap_after}
+use Rattle.gabc_text.proofs.tokens.CasesOfCharacters.{by_case}
 use Rattle.gabc_text.proofs.machine.TokenStateByCharacter.{turned}
-use Rattle.gabc_text.proofs.machine.TokensOneAfterAnother.{size, after_is}
-use Rattle.gabc_text.proofs.tokens.TokensByCharacter.{drop_past}
+use Rattle.gabc_text.proofs.machine.TokensOneAfterAnother.{size, after_is, onto}
+use Rattle.gabc_text.proofs.tokens.TokensByCharacter.{drop_past, tokens_first, lacks, lacks_more, before_lacks}
 use Rattle.gabc_text.proofs.printing.PrintedTextEndsBeforeNotes.{size_written}
-use Rattle.gabc_text.proofs.printing.PrintedTagsOpenStyles.{push, push_append, along_append}
-use Rattle.gabc_text.proofs.printing.LineFeedBeginsWord.{gap, Alike, alike_more, gap_alike, none_alike, gap_begins_word}
+use Rattle.gabc_text.proofs.printing.PrintedTagsOpenStyles.{push_append, along_append}
+use Rattle.gabc_text.proofs.printing.LineFeedBeginsWord.{gap, remark, Alike, alike_more, gap_alike, remark_alike, none_alike, gap_begins_word, remark_says_nothing}
 use Rattle.gabc_text.proofs.printing.ViewFromFirstToken.{view}
 use Rattle.gabc_text.proofs.printing.ViewForwardIsViewBackward.{facts_is}
 use Rattle.gabc_text.proofs.printing.PrintedTextIsReadAgain.{Sound, view_sound, reverse_push}
-use Rattle.gabc_text.proofs.printing.PrintedTextIsKept.{view_kept}
+use Rattle.gabc_text.proofs.printing.PrintedTextIsKept.{view_kept, written_append}
 use Rattle.gabc_text.proofs.printing.PrintedViewIsReadAgain.{printed_is}
 use Rattle.gabc_text.proofs.printing.CanonicalTextIsPrinted.{canonical_is}
 use Rattle.gabc_text.proofs.printing.NothingIsFoundInPrintedText.{no_head}
 use Rattle.gabc_text.proofs.printing.RegularTextIsPrinted.{own_form, own_tokens, same_tokens, text_alone}
 
--- ---- the tokens of blanks
+-- ---- the tokens of a gap
 
-abbrev front : List ℕ → List Token
-front g = map gap g
+-- a blank, or a comment
+abbrev GapToken : Type 0
+GapToken = ℕ ⊎ List ℕ
+
+abbrev token_of : GapToken → Token
+token_of (inl b) = gap b
+token_of (inr u) = remark u
+
+abbrev front : List GapToken → List Token
+front ps = map token_of ps
+
+abbrev has_blank : List GapToken → Bool
+has_blank [] = false
+has_blank (inl b ∷ ps) = true
+has_blank (inr u ∷ ps) = has_blank ps
+
+-- the tokens of a gap: one of them is a blank
+record Gap (g : List ℕ) : Type 0 where
+  pub parts : List GapToken
+  pub spelled : text_of_tokens (front parts) ≡ g
+  pub first : (t : List ℕ) → tokens (g ++ t) ≡ front parts ++ tokens t
+  pub blank : g ≢ [] → has_blank parts ≡ true
 
 one_gap : (b : ℕ) (t : List ℕ) → is_blank b ≡ true → tokens (b ∷ t) ≡ gap b ∷ tokens t
 one_gap b t h = by_case 32 b (λ x. is_blank x ≡ true → tokens (x ∷ t) ≡ gap x ∷ tokens t) (λ _. refl)
@@ -46,33 +65,86 @@ one_gap b t h = by_case 32 b (λ x. is_blank x ≡ true → tokens (x ∷ t) ≡
     (λ m. by_case 10 b (λ x. is_blank x ≡ true → tokens (x ∷ t) ≡ gap x ∷ tokens t) (λ _. refl)
     (λ l e. absurd (let f : is_blank b ≡ false = rw (turned 32 b n, turned 9 b m, turned 10 b l) refl in true≢false (sym e ∙ f))))) h
 
-front_tokens : (g t : List ℕ) → list_all is_blank g ≡ true → tokens (g ++ t) ≡ front g ++ tokens t
-front_tokens [] t h = refl
-front_tokens (b ∷ g) t h = let f = and_both (is_blank b) (list_all is_blank g) h in one_gap b (g ++ t) f.0 ∙ ap (λ (ks : List Token). gap b ∷ ks) (front_tokens g t f.1)
+one_remark : (u t : List ℕ) → lacks 10 u ≡ true → tokens (37 ∷ (u ++ 10 ∷ t)) ≡ remark u ∷ gap 10 ∷ tokens t
+one_remark u t h =
+    tokens_first 37 (u ++ 10 ∷ t) (10 ∷ t) (remark u) refl (ap remark (before_lacks 10 u t h)) refl
+    ∙ ap (λ (ks : List Token). remark u ∷ ks) (one_gap 10 t refl)
 
-all_tokens : (g t rest : List ℕ) → list_all is_blank g ≡ true → IsRegularText t → tokens (g ++ (t ++ 40 ∷ rest)) ≡ front g ++ tokens t
-all_tokens g t rest h r = front_tokens g (t ++ 40 ∷ rest) h ∙ ap (λ (ks : List Token). front g ++ ks) (same_tokens t rest r)
+-- what was read of a comment that is open
+abbrev opened : Option (List ℕ) → List ℕ
+opened None = []
+opened (Some u) = 37 ∷ u
+
+abbrev IsOpened : Option (List ℕ) → Type 0
+IsOpened None = Unit {0}
+IsOpened (Some u) = lacks 10 u ≡ true
+
+blank_before : (c : ℕ) (g : List ℕ) → is_blank c ≡ true → Gap g → Gap (c ∷ g)
+blank_before c g e f = record {
+  parts = inl c ∷ f.parts;
+  spelled = ap (λ (t : List ℕ). c ∷ t) f.spelled;
+  first = λ t. one_gap c (g ++ t) e ∙ ap (λ (ks : List Token). gap c ∷ ks) (f.first t);
+  blank = λ _. refl;
+}
+
+remark_before : (u g : List ℕ) → lacks 10 u ≡ true → Gap g → Gap (37 ∷ u ++ 10 ∷ g)
+remark_before u g l f = record {
+  parts = inr u ∷ inl 10 ∷ f.parts;
+  spelled = ap (λ (t : List ℕ). 37 ∷ u ++ 10 ∷ t) f.spelled;
+  first = λ t. ap (λ (x : List ℕ). tokens (37 ∷ x)) (append_assoc u (10 ∷ g) t) ∙ one_remark u (g ++ t) l ∙ ap (λ (ks : List Token). remark u ∷ gap 10 ∷ ks) (f.first t);
+  blank = λ _. refl;
+}
+
+gap_after : (o : Option (List ℕ)) (g : List ℕ) → IsOpened o → is_gap_after (is_some o) g ≡ true → Gap (opened o ++ g)
+gap_after None [] l h = record { parts = []; spelled = refl; first = λ t. refl; blank = λ n. absurd (n refl) }
+gap_after (Some u) [] l h = absurd (cc h)
+gap_after None (c ∷ g) l h = by (is_blank c) refl h (λ k. gap_after None g tt k) (λ k. gap_after (Some []) g refl k)
+  where
+    by : (b : Bool) → is_blank c ≡ b → (if b then is_gap_after false g else ((37 == c) && is_gap_after true g)) ≡ true → (is_gap_after false g ≡ true → Gap g) → (is_gap_after true g ≡ true → Gap (37 ∷ g)) → Gap (c ∷ g)
+    by true e h blank comment = blank_before c g e (blank h)
+    by false e h blank comment =
+        let f = and_parts (37 == c) (is_gap_after true g) h in
+        subst (λ (x : ℕ). Gap (x ∷ g)) (eqb-true 37 c f.0) (comment f.1)
+gap_after (Some u) (c ∷ g) l h = by (10 == c) refl h (λ k. gap_after None g tt k) (λ e k. gap_after (Some (u ++ c ∷ [])) g (lacks_more 10 u c l e) k)
+  where
+    by : (b : Bool) → (10 == c) ≡ b → is_gap_after (not b) g ≡ true → (is_gap_after false g ≡ true → Gap g) → ((10 == c) ≡ false → is_gap_after true g ≡ true → Gap (37 ∷ (u ++ c ∷ []) ++ g)) → Gap (37 ∷ u ++ c ∷ g)
+    by true e h ended more = subst (λ (x : ℕ). Gap (37 ∷ u ++ x ∷ g)) (eqb-true 10 c e) (remark_before u g l (ended h))
+    by false e h ended more = subst (λ (x : List ℕ). Gap (37 ∷ x)) (append_assoc u (c ∷ []) g) (more e h)
+
+gap_of : (g : List ℕ) → is_gap g ≡ true → Gap g
+gap_of g h = gap_after None g tt h
+
+all_tokens : (g t rest : List ℕ) (f : Gap g) → IsRegularText t → tokens (g ++ (t ++ 40 ∷ rest)) ≡ front f.parts ++ tokens t
+all_tokens g t rest f r = f.first (t ++ 40 ∷ rest) ∙ ap (λ (ks : List Token). front f.parts ++ ks) (same_tokens t rest r)
+
+some : (b : ℕ) (g : List ℕ) → b ∷ g ≢ []
+some b g e = cc e
 
 -- ---- what is said
 
-front_says : (b : ℕ) (g : List ℕ) (ks : List Token) → view_facts_by (front (b ∷ g) ++ ks) ≡ record (view_facts_by ks) { word_start = true }
-front_says b [] ks = gap_begins_word b ks
-front_says b (c ∷ g) ks = gap_begins_word b (front (c ∷ g) ++ ks) ∙ ap (λ (v : ViewFacts). record v { word_start = true }) (front_says c g ks)
+front_says : (ps : List GapToken) (ks : List Token) → view_facts_by (front ps ++ ks) ≡ (if has_blank ps then record (view_facts_by ks) { word_start = true } else view_facts_by ks)
+front_says [] ks = refl
+front_says (inr u ∷ ps) ks = remark_says_nothing u (front ps ++ ks) ∙ front_says ps ks
+front_says (inl b ∷ ps) ks = gap_begins_word b (front ps ++ ks) ∙ ap (λ (v : ViewFacts). record v { word_start = true }) (front_says ps ks) ∙ by (has_blank ps)
+  where
+    by : (w : Bool) → record (if w then record (view_facts_by ks) { word_start = true } else view_facts_by ks) { word_start = true } ≡ record (view_facts_by ks) { word_start = true }
+    by true = refl
+    by false = refl
 
-pub says_behind : (b : ℕ) (g t rest : List ℕ) → list_all is_blank (b ∷ g) ≡ true → IsRegularText t → view_facts (b ∷ g ++ (t ++ 40 ∷ rest)) ≡ record (view_facts t) { word_start = true }
-says_behind b g t rest h r = ap view_facts_by (all_tokens (b ∷ g) t rest h r) ∙ front_says b g (tokens t)
+pub says_behind : (b : ℕ) (g t rest : List ℕ) → is_gap (b ∷ g) ≡ true → IsRegularText t → view_facts (b ∷ g ++ (t ++ 40 ∷ rest)) ≡ record (view_facts t) { word_start = true }
+says_behind b g t rest h r =
+    let f = gap_of (b ∷ g) h in
+    ap view_facts_by (all_tokens (b ∷ g) t rest f r) ∙ front_says f.parts (tokens t) ∙ rw (f.blank (some b g)) refl
 
 -- ---- where it ends
 
-front_text : (g : List ℕ) (ks : List Token) → text_of_tokens (front g ++ ks) ≡ g ++ text_of_tokens ks
-front_text [] ks = refl
-front_text (b ∷ g) ks = ap (λ (x : List ℕ). b ∷ x) (front_text g ks)
-
-pub ends_behind : (g t rest : List ℕ) → list_all is_blank g ≡ true → IsRegularText t → after_tokens (g ++ (t ++ 40 ∷ rest)) ≡ 40 ∷ rest
+pub ends_behind : (g t rest : List ℕ) → is_gap g ≡ true → IsRegularText t → after_tokens (g ++ (t ++ 40 ∷ rest)) ≡ 40 ∷ rest
 ends_behind g t rest h r =
-    let text : text_of_tokens (front g ++ tokens t) ≡ g ++ t = front_text g (tokens t) ∙ ap (λ (x : List ℕ). g ++ x) (ap text_of_tokens (own_tokens t r) ∙ own_form t r) in
-    after_is (g ++ (t ++ 40 ∷ rest)) ∙ ap (λ (ks : List Token). drop (size ks) (g ++ (t ++ 40 ∷ rest))) (all_tokens g t rest h r)
-    ∙ ap (λ (n : ℕ). drop n (g ++ (t ++ 40 ∷ rest))) (size_written (front g ++ tokens t) ∙ ap (λ (x : List ℕ). length x) text)
+    let f = gap_of g h in
+    let text : text_of_tokens (front f.parts ++ tokens t) ≡ g ++ t =
+    written_append (front f.parts) (tokens t) ∙ ap₂ (λ (x y : List ℕ). x ++ y) f.spelled (ap text_of_tokens (own_tokens t r) ∙ own_form t r) in
+    after_is (g ++ (t ++ 40 ∷ rest)) ∙ ap (λ (ks : List Token). drop (size ks) (g ++ (t ++ 40 ∷ rest))) (all_tokens g t rest f r)
+    ∙ ap (λ (n : ℕ). drop n (g ++ (t ++ 40 ∷ rest))) (size_written (front f.parts ++ tokens t) ∙ ap (λ (x : List ℕ). length x) text)
     ∙ ap (drop (length (g ++ t))) (sym (append_assoc g t (40 ∷ rest))) ∙ drop_past (g ++ t) (40 ∷ rest)
 
 -- ---- what is found
@@ -99,11 +171,11 @@ none_moved at to b c (k ∷ ks) h e =
     (ap (map (found_at (place_of to b))) (codes_alike b c k.kind (effect k) h ∙ no_codes (place_of at c) (early_codes c k.kind ++ late_codes c k.kind (effect k)) f.0))
     (none_moved at to (k ∷ b) (k ∷ c) ks (alike_more b c k h) f.1)
 
-alike_push : (ks b c : List Token) → Alike b c → Alike (push ks b) (push ks c)
+alike_push : (ks b c : List Token) → Alike b c → Alike (onto ks b) (onto ks c)
 alike_push [] b c h = h
 alike_push (k ∷ ks) b c h = alike_push ks (k ∷ b) (k ∷ c) (alike_more b c k h)
 
-cut_alike : (ks b c : List Token) → is_cut b ≡ is_cut c → is_cut (push ks b) ≡ is_cut (push ks c)
+cut_alike : (ks b c : List Token) → is_cut b ≡ is_cut c → is_cut (onto ks b) ≡ is_cut (onto ks c)
 cut_alike [] b c e = e
 cut_alike (k ∷ ks) b c e = cut_alike ks (k ∷ b) (k ∷ c) refl
 
@@ -118,32 +190,36 @@ end_moved at to b c h e f = by (is_cut b) (is_cut c) e f
     by false true e f = absurd (cc)
     by false false e f = ap (map (found_at (place_of to b))) (codes ∙ no_codes (place_of at c) (codes_at_end c) f)
 
-front_alike : (g : List ℕ) (before : List Token) → Alike before [] → Alike (push (front g) before) []
+front_alike : (ps : List GapToken) (before : List Token) → Alike before [] → Alike (onto (front ps) before) []
 front_alike [] before h = h
-front_alike (b ∷ g) before h = front_alike g (gap b ∷ before) (gap_alike b before h)
+front_alike (inl b ∷ ps) before h = front_alike ps (gap b ∷ before) (gap_alike b before h)
+front_alike (inr u ∷ ps) before h = front_alike ps (remark u ∷ before) (remark_alike u before h)
 
-front_whole : (g : List ℕ) (before : List Token) → is_cut before ≡ false → is_cut (push (front g) before) ≡ false
+front_whole : (ps : List GapToken) (before : List Token) → is_cut before ≡ false → is_cut (onto (front ps) before) ≡ false
 front_whole [] before h = h
-front_whole (b ∷ g) before h = front_whole g (gap b ∷ before) refl
+front_whole (inl b ∷ ps) before h = front_whole ps (gap b ∷ before) refl
+front_whole (inr u ∷ ps) before h = front_whole ps (remark u ∷ before) refl
 
-none_in_front : (at : Place) (g : List ℕ) (before : List Token) → along (findings_at at) before (front g) ≡ []
+none_in_front : (at : Place) (ps : List GapToken) (before : List Token) → along (findings_at at) before (front ps) ≡ []
 none_in_front at [] before = refl
-none_in_front at (b ∷ g) before = none_in_front at g (gap b ∷ before)
+none_in_front at (inl b ∷ ps) before = none_in_front at ps (gap b ∷ before)
+none_in_front at (inr u ∷ ps) before = none_in_front at ps (remark u ∷ before)
 
-reversed : (ks : List Token) → reverse ks ≡ push ks []
+reversed : (ks : List Token) → reverse ks ≡ onto ks []
 reversed ks = sym (append-nil (reverse ks)) ∙ reverse_push ks []
 
-pub nothing_behind : (at : Place) (g t rest : List ℕ) → list_all is_blank g ≡ true → IsRegularText t → findings at (g ++ (t ++ 40 ∷ rest)) ≡ []
+pub nothing_behind : (at : Place) (g t rest : List ℕ) → is_gap g ≡ true → IsRegularText t → findings at (g ++ (t ++ 40 ∷ rest)) ≡ []
 nothing_behind at g t rest h r =
-    let ks = tokens t in
+    let p = gap_of g h in
+    let gs = front p.parts in
     let f = no_head (along (findings_at at) [] (tokens t)) (findings_at_end at (reverse (tokens t))) (r.nothing at) in
-    let alike = front_alike g [] none_alike in
-    let last : findings_at_end at (push (tokens t) []) ≡ [] = ap (findings_at_end at) (sym (reversed (tokens t))) ∙ f.1 in
-    ap (λ (ls : List Token). along (findings_at at) [] ls ++ findings_at_end at (reverse ls)) (all_tokens g t rest h r)
+    let alike = front_alike p.parts [] none_alike in
+    let last : findings_at_end at (onto (tokens t) []) ≡ [] = ap (findings_at_end at) (sym (reversed (tokens t))) ∙ f.1 in
+    ap (λ (ls : List Token). along (findings_at at) [] ls ++ findings_at_end at (reverse ls)) (all_tokens g t rest p r)
     ∙ ap₂ (λ (xs ys : List Finding). xs ++ ys)
-    (along_append (findings_at at) [] (front g) (tokens t) ∙ ap₂ (λ (xs ys : List Finding). xs ++ ys) (none_in_front at g []) (none_moved at at (push (front g) []) [] (tokens t) alike f.0))
-    (ap (findings_at_end at) (reversed (front g ++ tokens t) ∙ push_append (front g) (tokens t) [])
-    ∙ end_moved at at (push (tokens t) (push (front g) [])) (push (tokens t) []) (alike_push (tokens t) (push (front g) []) [] alike) (cut_alike (tokens t) (push (front g) []) [] (front_whole g [] refl)) last)
+    (along_append (findings_at at) [] (gs) (tokens t) ∙ ap₂ (λ (xs ys : List Finding). xs ++ ys) (none_in_front at p.parts []) (none_moved at at (onto (gs) []) [] (tokens t) alike f.0))
+    (ap (findings_at_end at) (reversed (gs ++ tokens t) ∙ push_append (gs) (tokens t) [])
+    ∙ end_moved at at (onto (tokens t) (onto (gs) [])) (onto (tokens t) []) (alike_push (tokens t) (onto (gs) []) [] alike) (cut_alike (tokens t) (onto (gs) []) [] (front_whole p.parts [] refl)) last)
 
 -- ---- what is kept
 
@@ -153,13 +229,26 @@ kept_alike b c (k ∷ ks) e f g =
     ap₂ (λ (x y : List ℕ). x ++ y) (rw (e, f, g) refl)
     (kept_alike (k ∷ b) (k ∷ c) ks (rw e refl) (rw (e, f) refl) (rw (e, f, g) refl))
 
-more_blanks : (g : List ℕ) (before : List Token) → follows_space before ≡ true → along kept_at before (front g) ≡ []
+more_blanks : (ps : List GapToken) (before : List Token) → follows_space before ≡ true → along kept_at before (front ps) ≡ []
 more_blanks [] before h = refl
-more_blanks (b ∷ g) before h = rw h (more_blanks g (gap b ∷ before) refl)
+more_blanks (inl b ∷ ps) before h = rw h (more_blanks ps (gap b ∷ before) refl)
+more_blanks (inr u ∷ ps) before h = more_blanks ps (remark u ∷ before) h
 
-front_space : (g : List ℕ) (before : List Token) → follows_space before ≡ true → follows_space (push (front g) before) ≡ true
+front_space : (ps : List GapToken) (before : List Token) → follows_space before ≡ true → follows_space (onto (front ps) before) ≡ true
 front_space [] before h = h
-front_space (b ∷ g) before h = front_space g (gap b ∷ before) refl
+front_space (inl b ∷ ps) before h = front_space ps (gap b ∷ before) refl
+front_space (inr u ∷ ps) before h = front_space ps (remark u ∷ before) h
+
+-- of the first blank one U+0020 is kept, and of all others nothing
+one_blank : (ps : List GapToken) (before : List Token) → follows_space before ≡ false → has_blank ps ≡ true → along kept_at before (front ps) ≡ 32 ∷ []
+one_blank [] before h e = absurd (cc e)
+one_blank (inl b ∷ ps) before h e = rw h (ap (λ (x : List ℕ). 32 ∷ x) (more_blanks ps (gap b ∷ before) refl))
+one_blank (inr u ∷ ps) before h e = one_blank ps (remark u ∷ before) h e
+
+last_space : (ps : List GapToken) (before : List Token) → has_blank ps ≡ true → follows_space (onto (front ps) before) ≡ true
+last_space [] before e = absurd (cc e)
+last_space (inl b ∷ ps) before e = front_space ps (gap b ∷ before) refl
+last_space (inr u ∷ ps) before e = last_space ps (remark u ∷ before) e
 
 tail : {xs ys : List ℕ} → 32 ∷ xs ≡ 32 ∷ ys → xs ≡ ys
 tail e = cc
@@ -178,13 +267,15 @@ behind_line_feed t r = by (view t) (view_sound t) (ap (λ (v : ViewFacts). v.wor
         view_kept (record v { word_start = true }) (record { good = s.good; no_last = s.no_last; centre_in = s.centre_in; translation_in = s.translation_in }) in
         ap (along kept_at (gap 10 ∷ [])) all ∙ tail kept ∙ text
 
-pub kept_behind : (b : ℕ) (g t rest : List ℕ) → list_all is_blank (b ∷ g) ≡ true → IsRegularText t → kept (b ∷ g ++ (t ++ 40 ∷ rest)) ≡ 32 ∷ t
+pub kept_behind : (b : ℕ) (g t rest : List ℕ) → is_gap (b ∷ g) ≡ true → IsRegularText t → kept (b ∷ g ++ (t ++ 40 ∷ rest)) ≡ 32 ∷ t
 kept_behind b g t rest h r =
-    let alike = front_alike g (gap b ∷ []) (gap_alike b [] none_alike) in
-    ap (along kept_at []) (all_tokens (b ∷ g) t rest h r)
-    ∙ ap (λ (x : List ℕ). 32 ∷ x) (along_append kept_at (gap b ∷ []) (front g) (tokens t)
-    ∙ ap₂ (λ (x y : List ℕ). x ++ y) (more_blanks g (gap b ∷ []) refl)
-    (kept_alike (push (front g) (gap b ∷ [])) (gap 10 ∷ []) (tokens t) alike.begun alike.ended (front_space g (gap b ∷ []) refl) ∙ behind_line_feed t r))
+    let p = gap_of (b ∷ g) h in
+    let blank = p.blank (some b g) in
+    let alike = front_alike p.parts [] none_alike in
+    ap (along kept_at []) (all_tokens (b ∷ g) t rest p r)
+    ∙ along_append kept_at [] (front p.parts) (tokens t)
+    ∙ ap₂ (λ (x y : List ℕ). x ++ y) (one_blank p.parts [] refl blank)
+    (kept_alike (onto (front p.parts) []) (gap 10 ∷ []) (tokens t) alike.begun alike.ended (last_space p.parts [] blank) ∙ behind_line_feed t r)
 
 -- ---- what is printed
 
@@ -194,13 +285,13 @@ printed_so v e = by v.word_start e
     by : (b : Bool) → b ≡ false → 10 ∷ text_of_tokens (text_tokens v ++ translation_tokens v.translation) ≡ 10 ∷ text_of_tokens (word_break b ++ text_tokens v ++ translation_tokens v.translation)
     by b e = rw e refl
 
-pub printed_behind : (whole : List ℕ) (b : ℕ) (g t rest : List ℕ) → list_all is_blank (b ∷ g) ≡ true → IsRegularText t → StandsForView whole (view_in (b ∷ g ++ (t ++ 40 ∷ rest))) (b ∷ g ++ (t ++ 40 ∷ rest))
+pub printed_behind : (whole : List ℕ) (b : ℕ) (g t rest : List ℕ) → is_gap (b ∷ g) ≡ true → IsRegularText t → StandsForView whole (view_in (b ∷ g ++ (t ++ 40 ∷ rest))) (b ∷ g ++ (t ++ 40 ∷ rest))
     → printed_view (view_in (b ∷ g ++ (t ++ 40 ∷ rest))) (encode_utf8_all whole) ≡ encode_utf8_all (10 ∷ t)
 printed_behind whole b g t rest h r s =
     printed_is whole (b ∷ g ++ (t ++ 40 ∷ rest)) s ∙ ap (λ (v : ViewFacts). encode_utf8_all (print v)) (says_behind b g t rest h r)
     ∙ ap encode_utf8_all (printed_so (view_facts t) r.no_start ∙ ap (λ (u : List ℕ). 10 ∷ u) r.printed)
 
-pub canonical_behind : (whole : List ℕ) (b : ℕ) (g t rest : List ℕ) → list_all is_blank (b ∷ g) ≡ true → IsRegularText t → (view_facts t).translation ≡ None
+pub canonical_behind : (whole : List ℕ) (b : ℕ) (g t rest : List ℕ) → is_gap (b ∷ g) ≡ true → IsRegularText t → (view_facts t).translation ≡ None
     → StandsForView whole (view_in (b ∷ g ++ (t ++ 40 ∷ rest))) (b ∷ g ++ (t ++ 40 ∷ rest))
     → canonical_text (view_in (b ∷ g ++ (t ++ 40 ∷ rest))) (encode_utf8_all whole) ≡ encode_utf8_all t
 canonical_behind whole b g t rest h r n s =

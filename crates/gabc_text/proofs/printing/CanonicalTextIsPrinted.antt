@@ -22,11 +22,8 @@ use Rattle.gabc_text.proofs.machine.TokenStateByCharacter.{turned}
 use Rattle.gabc_text.proofs.printing.PiecesPrintWell.{pieces_good}
 use Rattle.gabc_text.proofs.spans.SpansStandForView.{pieces_facts}
 use Rattle.gabc_text.proofs.spans.CentreLiesAmongPieces.{spanned_is}
+use Rattle.gabc_text.proofs.printing.PrintedTextIsKept.{written_append}
 use Rattle.gabc_text.specs.machine.PrintedPieces.{AllGood, Good, Says}
-
-written_append : (ks ls : List Token) → text_of_tokens (ks ++ ls) ≡ text_of_tokens ks ++ text_of_tokens ls
-written_append [] ls = refl
-written_append (k ∷ ks) ls = ap (λ (x : List ℕ). spelling k ++ x) (written_append ks ls) ∙ sym (append_assoc (spelling k) (text_of_tokens ks) (text_of_tokens ls))
 
 pub bytes_append : (ks ls : List Token) → encodes (text_of_tokens (ks ++ ls)) ≡ encodes (text_of_tokens ks) ++ encodes (text_of_tokens ls)
 bytes_append ks ls = ap encodes (written_append ks ls) ∙ encodes-append (text_of_tokens ks) (text_of_tokens ls)

@@ -1,10 +1,11 @@
 -- The styles that do not stay open between two neighbours are those from the first one on in which they differ.
-use Rattle.std.proofs.Common.{◌≡◌, ℕ, ◌==◌, ◌&&◌, not, [], ◌∷◌, Bool, true, false, cond, refl, sym, ap, ◌∙◌, ne_eqb, append-nil, List, ◌++◌, reverse}
-use Rattle.std.proofs.lemmas.Bool.{eqb-false}
+use Rattle.std.proofs.Common.{◌≡◌, ℕ, ◌&&◌, not, [], ◌∷◌, Bool, true, false, cond, refl, ap, ◌∙◌, append-nil, List, ◌++◌, reverse}
+use Rattle.std.proofs.lemmas.Bool.{and_parts}
 use Rattle.std.proofs.Math.Bool.{beq, and-true}
 use Rattle.std.specs.List.{filter, flat_map}
+use Rattle.gabc_text.proofs.printing.NothingIsFoundInPrintedText.{itself}
+use Rattle.gabc_text.proofs.machine.TokenStateByCharacter.{turned}
 use Rattle.gabc_text.specs.declared.styles.Style.{Style}
-use Rattle.gabc_text.specs.declared.styles.Style.TheVariants.{B, C, E, I, Sc, Tt, Ul}
 use Rattle.gabc_text.specs.declared.styles.Styles.{Styles}
 use Rattle.gabc_text.specs.TextFacts.{has_style}
 use Rattle.gabc_text.specs.View.{all_styles, is_same, rank}
@@ -25,10 +26,6 @@ abbrev distinct : List Style → Bool
 distinct [] = true
 distinct (s ∷ ss) = lacking s ss && distinct ss
 
-and_both : (a b : Bool) → (a && b) ≡ true → (a ≡ true) × (b ≡ true)
-and_both true b e = (refl, e)
-and_both false b e = absurd (cc)
-
 all_gone : (f g h : Style → Bool) (ss : List Style) → gone f g h true ss ≡ filter h ss
 all_gone f g h [] = refl
 all_gone f g h (s ∷ ss) = rw (all_gone f g h ss) (by (h s))
@@ -36,15 +33,6 @@ all_gone f g h (s ∷ ss) = rw (all_gone f g h ss) (by (h s))
     by : (b : Bool) → cond (b && true) (s ∷ filter h ss) (filter h ss) ≡ cond b (s ∷ filter h ss) (filter h ss)
     by true = refl
     by false = refl
-
-same_self : (s : Style) → is_same s s ≡ true
-same_self B = refl
-same_self C = refl
-same_self E = refl
-same_self I = refl
-same_self Sc = refl
-same_self Tt = refl
-same_self Ul = refl
 
 -- a style that the other list lacks
 after_one : (s : Style) (old new : List Style) → lacking s new ≡ true → after_common (s ∷ old) new ≡ (s ∷ old, new)
@@ -55,12 +43,9 @@ after_one s old (r ∷ new) h = rw (no (is_same s r) (lacking s new) h) refl
     no true b e = absurd (cc)
     no false b e = refl
 
-turned_rank : (m n : ℕ) → n == m ≡ false → m == n ≡ false
-turned_rank m n e = ne_eqb m n (λ f. eqb-false n m e (sym f))
-
 after_other : (s : Style) (old new : List Style) → lacking s old ≡ true → after_common old (s ∷ new) ≡ (old, s ∷ new)
 after_other s [] new h = refl
-after_other s (r ∷ old) new h = rw (turned_rank (rank r) (rank s) (no (is_same s r) (lacking s old) h)) refl
+after_other s (r ∷ old) new h = rw (turned (rank r) (rank s) (no (is_same s r) (lacking s old) h)) refl
   where
     no : (a b : Bool) → (not a && b) ≡ true → a ≡ false
     no true b e = absurd (cc)
@@ -69,7 +54,7 @@ after_other s (r ∷ old) new h = rw (turned_rank (rank r) (rank s) (no (is_same
 lacking_filter : (s : Style) (f : Style → Bool) (ss : List Style) → lacking s ss ≡ true → lacking s (filter f ss) ≡ true
 lacking_filter s f [] h = refl
 lacking_filter s f (r ∷ ss) h =
-    let both = and_both (not (is_same s r)) (lacking s ss) h in
+    let both = and_parts (not (is_same s r)) (lacking s ss) h in
     by (f r) both.0 (lacking_filter s f ss both.1)
   where
     by : (b : Bool) → not (is_same s r) ≡ true → lacking s (filter f ss) ≡ true → lacking s (cond b (r ∷ filter f ss) (filter f ss)) ≡ true
@@ -79,13 +64,13 @@ lacking_filter s f (r ∷ ss) h =
 after_by : (f g : Style → Bool) (ss : List Style) → distinct ss ≡ true → after_common (filter f ss) (filter g ss) ≡ (gone f g f false ss, gone f g g false ss)
 after_by f g [] h = refl
 after_by f g (s ∷ ss) h =
-    let both = and_both (lacking s ss) (distinct ss) h in
+    let both = and_parts (lacking s ss) (distinct ss) h in
     by (f s) (g s) both.0 (after_by f g ss both.1)
   where
     by : (a b : Bool) → lacking s ss ≡ true → after_common (filter f ss) (filter g ss) ≡ (gone f g f false ss, gone f g g false ss)
         → after_common (cond a (s ∷ filter f ss) (filter f ss)) (cond b (s ∷ filter g ss) (filter g ss))
         ≡ (cond (a && differs false a b) (s ∷ gone f g f (differs false a b) ss) (gone f g f (differs false a b) ss), cond (b && differs false a b) (s ∷ gone f g g (differs false a b) ss) (gone f g g (differs false a b) ss))
-    by true true l ih = rw (same_self s) ih
+    by true true l ih = rw (itself s) ih
     by false false l ih = ih
     by true false l ih = rw (all_gone f g f ss, all_gone f g g ss) (after_one s (filter f ss) (filter g ss) (lacking_filter s g ss l))
     by false true l ih = rw (all_gone f g f ss, all_gone f g g ss) (after_other s (filter f ss) (filter g ss) (lacking_filter s f ss l))
@@ -106,9 +91,9 @@ pub boundary_is : (old new : Styles) (m : List ℕ) → boundary (listed_styles 
 boundary_is old new m = ap (λ (x : List Style × List Style). flat_map style_closing (reverse x.0) ++ (m ++ flat_map style_opening x.1)) (common_is old new)
 
 -- nothing is left of a list after what it has in common with itself
-none_after : (ss : List Style) → after_common ss ss ≡ ([], [])
+pub none_after : (ss : List Style) → after_common ss ss ≡ ([], [])
 none_after [] = refl
-none_after (s ∷ ss) = rw (same_self s) (none_after ss)
+none_after (s ∷ ss) = rw (itself s) (none_after ss)
 
 -- between neighbours with the same styles there are no tags
 pub boundary_of_same : (ss : List Style) (middle : List ℕ) → boundary ss ss middle ≡ middle

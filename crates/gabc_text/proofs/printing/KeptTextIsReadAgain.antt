@@ -217,12 +217,6 @@ pub record AreTokensAlike (b c ks : List Token) : Type 0 where
   pub kept : along kept_at b ks ≡ along kept_at c (along kept_token b ks)
   pub after : Same (onto ks b) (onto (along kept_token b ks) c)
 
-same_kept : (b c : List Token) (k : Token) → Same b c → kept_at b k ≡ kept_at c k
-same_kept b c k h =
-    let o : is_left_out b k.kind ≡ is_left_out c k.kind = ap (λ (s : TextFacts). leaves_out s k.kind) h.facts in
-    let s : follows_space b ≡ follows_space c = ap (λ (s : TextFacts). s.space) h.facts in
-    rw (o, s) refl
-
 blank_is : (k : Token) → is_space k.kind ≡ true → k.kind ≡ kind.Blank
 blank_is k e = by k.kind e
   where

@@ -1,5 +1,5 @@
 -- A text that begins with a blank, as an LF, begins a word, and says nothing else by it.
-use Rattle.std.proofs.Common.{◌≡◌, ℕ, ◌+◌, List, [], ◌∷◌, ◌++◌, Bool, true, false, not, ◌||◌, ◌&&◌, is_some, length, Option, Some, None, refl, ap, ap₂, arith}
+use Rattle.std.proofs.Common.{◌≡◌, ℕ, ◌+◌, List, [], ◌∷◌, ◌++◌, Bool, true, false, not, ◌||◌, ◌&&◌, is_some, length, Option, Some, None, refl, ap, ap₂, ◌∙◌, arith}
 use Rattle.gabc_text.specs.declared.styles.Style.{Style}
 use Rattle.gabc_text.specs.declared.styles.Style.TheVariants.{B, C, E, I, Sc, Tt, Ul}
 use Rattle.gabc_text.specs.declared.view.PieceKind.{PieceKind}
@@ -100,17 +100,47 @@ gap_alike b before h = record {
 pub none_alike : Alike [] []
 none_alike = record { styles = λ s. refl; word = refl; blank = λ e. refl; begun = refl; ended = refl; translated = refl; count = refl; begin = refl; end = refl; translation = refl }
 
-pub gap_begins_word : (b : ℕ) (ks : List Token) → view_facts_by (gap b ∷ ks) ≡ record (view_facts_by ks) { word_start = true }
-gap_begins_word b ks =
-    let front : Alike (gap b ∷ []) [] = gap_alike b [] none_alike in
-    let h : Alike (onto ks (gap b ∷ [])) (onto ks []) = alike_onto ks (gap b ∷ []) [] front in
-    let pieces : along pieces_at (gap b ∷ []) ks ≡ along pieces_at [] ks = alike_along ks (gap b ∷ []) [] front in
-    all (stays ks (gap b ∷ []) refl) (ap but_blank pieces) (ap (λ (ps : List PieceFacts). length (but_blank ps)) pieces) h.begin h.end h.translation
+-- a token before all that is no piece, and counts for nothing but perhaps for the beginning of a word
+pub one_before : (k : Token) (ks : List Token) (w : Bool) → pieces_at [] k ≡ [] → Alike (k ∷ []) [] → starts_word (onto ks (k ∷ [])) ≡ w → view_facts_by (k ∷ ks) ≡ record (view_facts_by ks) { word_start = w }
+one_before k ks w none front starts =
+    let h : Alike (onto ks (k ∷ [])) (onto ks []) = alike_onto ks (k ∷ []) [] front in
+    let pieces : along pieces_at [] (k ∷ ks) ≡ along pieces_at [] ks = ap (λ (ps : List PieceFacts). ps ++ along pieces_at (k ∷ []) ks) none ∙ alike_along ks (k ∷ []) [] front in
+    all starts (ap but_blank pieces) (ap (λ (ps : List PieceFacts). length (but_blank ps)) pieces) h.begin h.end h.translation
   where
     all : {w w' : Bool} {ps ps' : List PieceFacts} {n n' : ℕ} {b b' e e' : Option ℕ} {t t' : Option (List ℕ)} → w ≡ w' → ps ≡ ps' → n ≡ n' → b ≡ b' → e ≡ e' → t ≡ t'
         → (let one : ViewFacts = record { word_start = w; pieces = ps; centre = centre_by n b e; translation = t } in
         let other : ViewFacts = record { word_start = w'; pieces = ps'; centre = centre_by n' b' e'; translation = t' } in one ≡ other)
     all c d f g h i = rw (c, d, f, g, h, i) refl
+
+pub gap_begins_word : (b : ℕ) (ks : List Token) → view_facts_by (gap b ∷ ks) ≡ record (view_facts_by ks) { word_start = true }
+gap_begins_word b ks = one_before (gap b) ks true refl (gap_alike b [] none_alike) (stays ks (gap b ∷ []) refl)
+
+-- ---- comments before all
+
+-- a comment in front of a text
+abbrev pub remark : List ℕ → Token
+remark u = record { kind = kind.Comment; first = 37; more = u }
+
+pub remark_alike : (u : List ℕ) (before : List Token) → Alike before [] → Alike (remark u ∷ before) []
+remark_alike u before h = record {
+  styles = h.styles;
+  word = h.word;
+  blank = λ e. absurd (cc e);
+  begun = h.begun;
+  ended = h.ended;
+  translated = h.translated;
+  count = (let e : count_pieces before + 0 ≡ 0 = omega (arith, h.count) in e);
+  begin = h.begin;
+  end = h.end;
+  translation = h.translation;
+}
+
+starts_alike : (ks b c : List Token) → has_word b ≡ has_word c → starts_word b ≡ starts_word c → starts_word (onto ks b) ≡ starts_word (onto ks c)
+starts_alike [] b c g h = h
+starts_alike (k ∷ ks) b c g h = starts_alike ks (k ∷ b) (k ∷ c) (ap (λ (x : Bool). is_word_kind (kind_of k) || x) g) (rw (g, h) refl)
+
+pub remark_says_nothing : (u : List ℕ) (ks : List Token) → view_facts_by (remark u ∷ ks) ≡ view_facts_by ks
+remark_says_nothing u ks = one_before (remark u) ks (starts_word (onto ks [])) refl (remark_alike u [] none_alike) (starts_alike ks (remark u ∷ []) [] refl refl)
 
 pub begins_word_alone : (t : List ℕ) → view_facts (10 ∷ t) ≡ record (view_facts t) { word_start = true }
 begins_word_alone t = gap_begins_word 10 (tokens t)

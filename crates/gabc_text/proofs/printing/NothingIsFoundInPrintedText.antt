@@ -1,6 +1,6 @@
 -- Nothing is found in a printed text whose tags are all known.
 use Rattle.std.proofs.Common.{◌≡◌, ℕ, ◌+◌, ◌≤◌, ◌<◌, ◌==◌, List, [], ◌∷◌, ◌++◌, Bool, true, false, ◌||◌, ◌&&◌, not, cond, refl, sym, ap, ap₂, ◌∙◌, map, reverse, append-nil, append_assoc, Option, Some, None, length, length-append, arith}
-use Rattle.std.proofs.lemmas.Bool.{true≢false}
+use Rattle.std.proofs.lemmas.Bool.{true≢false, or_parts, or_right}
 use Rattle.std.proofs.lemmas.List.{reverse-append}
 use Rattle.gabc_places.specs.declared.place.Place.{Place}
 use Rattle.gabc_places.specs.declared.place.Span.{Span}
@@ -17,17 +17,17 @@ use Rattle.gabc_text.specs.declared.token.TagEffect.{TagEffect}
 use Rattle.gabc_text.specs.declared.token.TagEffect.TheVariants.{Mark, Other}
 use Rattle.gabc_text.specs.Token.{Token, spelling, effect_of}
 use Rattle.gabc_text.specs.View.{along, effect, effect_as, tag_piece, piece_kind, PieceFacts, is_same, is_open, is_open_after, is_begin, is_end, has_begin, has_end, is_translation, has_translation, is_left_out, kept_at, kept_as, is_space, follows_space, is_cut, early_codes, late_codes, found_at, findings_at, codes_at_end, findings_at_end, place_of, is_word_kind, is_blank_piece, has_word, count_pieces}
-use Rattle.gabc_text.specs.ViewFacts.{ViewFacts}
+use Rattle.gabc_text.specs.ViewFacts.{ViewFacts, LiesAmong}
 use Rattle.gabc_text.specs.Canonical.{after_common}
 use Rattle.gabc_text.specs.Printed.{opening_tag, closing_tag, begin_brace, end_brace, brace_tokens, tokens_between, printed_piece, print_from, text_of_tokens, text_tokens, translation_tokens, word_break, print_tokens}
 use Rattle.gabc_text.proofs.printing.ViewFromFirstToken.{begin_at, end_at}
 use Rattle.gabc_text.proofs.printing.PrintedBracesGiveCentre.{centre_from, no_centre}
-use Rattle.gabc_text.proofs.printing.PrintedTextIsReadAgain.{Sound, IsCentre, reverse_push}
+use Rattle.gabc_text.proofs.printing.PrintedTextIsReadAgain.{Sound, reverse_push}
 use Rattle.gabc_text.proofs.printing.PrintedTextIsKept.{view_kept, word_kept}
 use Rattle.gabc_text.specs.machine.RegularBytes.{is_unknown, AllKnown}
-use Rattle.gabc_text.proofs.tokens.CasesOfCharacters.{no_or}
-use Rattle.gabc_text.proofs.printing.PrintedTagsOpenStyles.{push, push_append, along_append, member, AllOnce, across, once, same_style, any_append, any_reverse, within, open_one, close_one, closed}
+use Rattle.gabc_text.proofs.printing.PrintedTagsOpenStyles.{push_append, along_append, member, AllOnce, across, once, same_style, any_append, any_reverse, within, open_one, close_one, closed}
 use Rattle.gabc_text.proofs.printing.PrintedPiecesAreReadAgain.{AllSilent, between_silent, are_braces}
+use Rattle.gabc_text.proofs.machine.TokensOneAfterAnother.{onto}
 use Rattle.gabc_text.specs.machine.PrintedPieces.{AllGood, Good, Says}
 
 -- ---- styles, none of which stands twice
@@ -62,14 +62,10 @@ other_than y s ys h g = by (is_same y s) refl
     by false e = refl
     by true e = not_both (member s ys) g (ap (λ (x : Style). member x ys) (sym (same_style y s e)) ∙ h)
 
-in_tail : (a b : Bool) → b ≡ true → (a || b) ≡ true
-in_tail true b e = refl
-in_tail false b e = e
-
 once_more : (xs : List Style) (y : Style) → AllOnce xs → member y xs ≡ false → AllOnce (xs ++ y ∷ [])
 once_more [] y h g = (refl, tt)
 once_more (x ∷ xs) y h g =
-    let n = no_or (is_same x y) (member y xs) g in
+    let n = or_parts (is_same x y) (member y xs) g in
     (any_append x xs (y ∷ []) ∙ rw (h.0, same_turned x y n.0) refl, once_more xs y h.1 n.1)
 
 once_turned : (xs : List Style) → AllOnce xs → AllOnce (reverse xs)
@@ -109,7 +105,7 @@ of_new s (x ∷ old) [] h = absurd (cc)
 of_new s (x ∷ old) (y ∷ new) h = by (is_same x y) h (of_new s old new)
   where
     by : (b : Bool) → member s (cond b (after_common old new) (x ∷ old, y ∷ new)).1 ≡ true → (member s (after_common old new).1 ≡ true → member s new ≡ true) → member s (y ∷ new) ≡ true
-    by true g more = in_tail (is_same y s) (member s new) (more g)
+    by true g more = or_right (is_same y s) (member s new) (more g)
     by false g more = g
 
 -- what is left of the new is not open once the old is closed
@@ -143,14 +139,14 @@ codes_aside before k = codes_by before k.kind (effect k)
 abbrev NoneAside : List Token → List Token → Type 0
 NoneAside before ks = along codes_aside before ks ≡ []
 
-both_aside : (before ks ls : List Token) → NoneAside before ks → NoneAside (push ks before) ls → NoneAside before (ks ++ ls)
+both_aside : (before ks ls : List Token) → NoneAside before ks → NoneAside (onto ks before) ls → NoneAside before (ks ++ ls)
 both_aside before ks ls h g = along_append codes_aside before ks ls ∙ ap₂ (λ (a b : List Code). a ++ b) h g
 
 closings_aside : (ys : List Style) (before : List Token) → AllOnce ys → ((s : Style) → member s ys ≡ true → is_open s before ≡ true) → NoneAside before (map closing_tag ys)
 closings_aside [] before o h = refl
 closings_aside (y ∷ ys) before o h =
     ap₂ (λ (a b : List Code). a ++ b) (one y (h y (in_head y ys)))
-    (closings_aside ys (closing_tag y ∷ before) o.1 (λ s g. close_one y s before ∙ rw (other_than y s ys o.0 g) (h s (in_tail (is_same y s) (member s ys) g))))
+    (closings_aside ys (closing_tag y ∷ before) o.1 (λ s g. close_one y s before ∙ rw (other_than y s ys o.0 g) (h s (or_right (is_same y s) (member s ys) g))))
   where
     one : (y : Style) → is_open y before ≡ true → codes_aside before (closing_tag y) ≡ []
     one B e = rw e refl
@@ -165,7 +161,7 @@ openings_aside : (ys : List Style) (before : List Token) → AllOnce ys → ((s 
 openings_aside [] before o h = refl
 openings_aside (y ∷ ys) before o h =
     ap₂ (λ (a b : List Code). a ++ b) (one y (h y (in_head y ys)))
-    (openings_aside ys (opening_tag y ∷ before) o.1 (λ s g. open_one y s before ∙ rw (other_than y s ys o.0 g) (h s (in_tail (is_same y s) (member s ys) g))))
+    (openings_aside ys (opening_tag y ∷ before) o.1 (λ s g. open_one y s before ∙ rw (other_than y s ys o.0 g) (h s (or_right (is_same y s) (member s ys) g))))
   where
     one : (y : Style) → is_open y before ≡ false → codes_aside before (opening_tag y) ≡ []
     one B e = rw e refl
@@ -186,15 +182,15 @@ braces_aside (Some c) i before = by (c.from == i) (c.to == i)
     by false true = refl
     by false false = refl
 
-silent_translated : (ks before : List Token) → AllSilent ks → has_translation (push ks before) ≡ has_translation before
+silent_translated : (ks before : List Token) → AllSilent ks → has_translation (onto ks before) ≡ has_translation before
 silent_translated [] before h = refl
 silent_translated (k ∷ ks) before h = silent_translated ks (k ∷ before) h.1 ∙ rw (h.0).no_translation refl
 
 -- what tokens leave, after which these styles are open
 record Aside (before ks : List Token) (new : List Style) : Type 0 where
   none : NoneAside before ks
-  opens : (s : Style) → is_open s (push ks before) ≡ member s new
-  translated : has_translation (push ks before) ≡ has_translation before
+  opens : (s : Style) → is_open s (onto ks before) ≡ member s new
+  translated : has_translation (onto ks before) ≡ has_translation before
 
 gap_aside : (centre : Option Span) (i : ℕ) (old new : List Style) (before : List Token) → AllOnce old → AllOnce new → ((s : Style) → is_open s before ≡ member s old)
     → Aside before (tokens_between old new (brace_tokens centre i)) new
@@ -209,9 +205,9 @@ gap_aside centre i old new before o n h =
           both_aside before (closing ++ ms) (map opening_tag left.1)
           (both_aside before closing ms
           (closings_aside (reverse (after_common old new).0) before (once_turned (after_common old new).0 (once_old old new o)) (λ s g. h s ∙ of_old s old new (sym (back s) ∙ g)))
-          (braces_aside centre i (push closing before)))
-          (openings_aside left.1 (push (closing ++ ms) before) (once_new old new n)
-          (λ s g. ap (is_open s) (push_append closing ms before) ∙ braces.quiet s (push closing before) ∙ closed s (reverse (after_common old new).0) before
+          (braces_aside centre i (onto closing before)))
+          (openings_aside left.1 (onto (closing ++ ms) before) (once_new old new n)
+          (λ s g. ap (is_open s) (push_append closing ms before) ∙ braces.quiet s (onto closing before) ∙ closed s (reverse (after_common old new).0) before
           ∙ ap₂ (λ (a b : Bool). not a && b) (back s) (h s) ∙ shut s old new n g));
       opens = λ s. across s old new ms before o braces.quiet (h s);
       translated = silent_translated (tokens_between old new ms) before (between_silent old new ms braces.silent);
@@ -262,11 +258,11 @@ pieces_aside centre i old (p ∷ ps) w b before o h g k =
     let none : AllOnce p.styles = rw ((g.0).styles_are) (once (g.0).test) in
     let first = gap_aside centre i old p.styles before o none h in
     let passed = piece_passed p w b g.0 k.0 in
-    let rest = pieces_aside centre (i + 1) p.styles ps (is_word_kind (Some p.kind) || w) (is_blank_piece p.kind) (it ∷ push gap before) none
-    (λ s. passed.opens s (push gap before) ∙ first.opens s) g.1 k.1 in
-    let all : push (gap ++ it ∷ more) before ≡ push more (it ∷ push gap before) = push_append gap (it ∷ more) before in
+    let rest = pieces_aside centre (i + 1) p.styles ps (is_word_kind (Some p.kind) || w) (is_blank_piece p.kind) (it ∷ onto gap before) none
+    (λ s. passed.opens s (onto gap before) ∙ first.opens s) g.1 k.1 in
+    let all : onto (gap ++ it ∷ more) before ≡ onto more (it ∷ onto gap before) = push_append gap (it ∷ more) before in
     record {
-      none = both_aside before gap (it ∷ more) first.none (ap₂ (λ (x y : List Code). x ++ y) (passed.none (push gap before)) rest.none);
+      none = both_aside before gap (it ∷ more) first.none (ap₂ (λ (x y : List Code). x ++ y) (passed.none (onto gap before)) rest.none);
       opens = λ s. ap (is_open s) all ∙ rest.opens s;
       translated = ap has_translation all ∙ rest.translated ∙ rw passed.no_translation first.translated;
     }
@@ -332,25 +328,25 @@ none_along at before (k ∷ ks) h e =
 
 -- ---- what is found at the end
 
-ended_stays : (ks before : List Token) → has_end before ≡ true → has_end (push ks before) ≡ true
+ended_stays : (ks before : List Token) → has_end before ≡ true → has_end (onto ks before) ≡ true
 ended_stays [] before h = h
-ended_stays (k ∷ ks) before h = ended_stays ks (k ∷ before) (in_tail (is_end k.kind && has_begin before) (has_end before) h)
+ended_stays (k ∷ ks) before h = ended_stays ks (k ∷ before) (or_right (is_end k.kind && has_begin before) (has_end before) h)
 
-ended_by : (ks before : List Token) (x : ℕ) (xs : List ℕ) → along end_at before ks ≡ x ∷ xs → has_end (push ks before) ≡ true
+ended_by : (ks before : List Token) (x : ℕ) (xs : List ℕ) → along end_at before ks ≡ x ∷ xs → has_end (onto ks before) ≡ true
 ended_by [] before x xs e = absurd (cc)
 ended_by (k ∷ ks) before x xs e = by (is_end k.kind && has_begin before) (has_end before) refl refl e (ended_by ks (k ∷ before) x xs)
   where
     by : (a b : Bool) → (is_end k.kind && has_begin before) ≡ a → has_end before ≡ b → cond (a && not b) (count_pieces before ∷ []) [] ++ along end_at (k ∷ before) ks ≡ x ∷ xs
-        → (along end_at (k ∷ before) ks ≡ x ∷ xs → has_end (push ks (k ∷ before)) ≡ true) → has_end (push ks (k ∷ before)) ≡ true
+        → (along end_at (k ∷ before) ks ≡ x ∷ xs → has_end (onto ks (k ∷ before)) ≡ true) → has_end (onto ks (k ∷ before)) ≡ true
     by true b f g h more = ended_stays ks (k ∷ before) (rw f refl)
     by false b f g h more = more h
 
-not_begun : (ks before : List Token) → has_begin before ≡ false → along begin_at before ks ≡ [] → has_begin (push ks before) ≡ false
+not_begun : (ks before : List Token) → has_begin before ≡ false → along begin_at before ks ≡ [] → has_begin (onto ks before) ≡ false
 not_begun [] before h e = h
 not_begun (k ∷ ks) before h e = by (is_begin k.kind) refl (rw h at e) (not_begun ks (k ∷ before))
   where
     by : (b : Bool) → is_begin k.kind ≡ b → cond (b && true) (count_pieces before ∷ []) [] ++ along begin_at (k ∷ before) ks ≡ []
-        → (has_begin (k ∷ before) ≡ false → along begin_at (k ∷ before) ks ≡ [] → has_begin (push ks (k ∷ before)) ≡ false) → has_begin (push ks (k ∷ before)) ≡ false
+        → (has_begin (k ∷ before) ≡ false → along begin_at (k ∷ before) ks ≡ [] → has_begin (onto ks (k ∷ before)) ≡ false) → has_begin (onto ks (k ∷ before)) ≡ false
     by true f g more = absurd (cc)
     by false f g more = more (rw (f, h) refl) g
 
@@ -359,12 +355,12 @@ not_begun (k ∷ ks) before h e = by (is_begin k.kind) refl (rw h at e) (not_beg
 -- after its word start
 record Start (b : Bool) : Type 0 where
   none : NoneAside [] (word_break b)
-  opens : (s : Style) → is_open s (push (word_break b) []) ≡ false
-  translated : has_translation (push (word_break b) []) ≡ false
-  word : has_word (push (word_break b) []) ≡ false
-  count : count_pieces (push (word_break b) []) ≡ 0
-  begun : has_begin (push (word_break b) []) ≡ false
-  ended : has_end (push (word_break b) []) ≡ false
+  opens : (s : Style) → is_open s (onto (word_break b) []) ≡ false
+  translated : has_translation (onto (word_break b) []) ≡ false
+  word : has_word (onto (word_break b) []) ≡ false
+  count : count_pieces (onto (word_break b) []) ≡ 0
+  begun : has_begin (onto (word_break b) []) ≡ false
+  ended : has_end (onto (word_break b) []) ≡ false
   kept_long : (ks : List Token) → length (word_kept b ++ text_of_tokens ks) ≡ length (text_of_tokens (word_break b ++ ks))
 
 start_of : (b : Bool) → Start b
@@ -372,15 +368,15 @@ start_of true = record { none = refl; opens = λ s. refl; translated = refl; wor
 start_of false = record { none = refl; opens = λ s. refl; translated = refl; word = refl; count = refl; begun = refl; ended = refl; kept_long = λ ks. refl }
 
 -- the centre is not left open
-shut_centre : (v : ViewFacts) → Sound v → (before : List Token) → Start v.word_start → before ≡ push (word_break v.word_start) []
-    → (has_begin (push (text_tokens v) before) && not (has_end (push (text_tokens v) before))) ≡ false
+shut_centre : (v : ViewFacts) → Sound v → (before : List Token) → Start v.word_start → before ≡ onto (word_break v.word_start) []
+    → (has_begin (onto (text_tokens v) before) && not (has_end (onto (text_tokens v) before))) ≡ false
 shut_centre v s before a e = by v.centre s.centre_in
   where
     never : (x y : Bool) → y ≡ true → (x && not y) ≡ false
     never true y f = rw f refl
     never false y f = refl
 
-    by : (c : Option Span) → IsCentre (length v.pieces) c → (has_begin (push (print_from c 0 [] v.pieces) before) && not (has_end (push (print_from c 0 [] v.pieces) before))) ≡ false
+    by : (c : Option Span) → LiesAmong (length v.pieces) c → (has_begin (onto (print_from c 0 [] v.pieces) before) && not (has_end (onto (print_from c 0 [] v.pieces) before))) ≡ false
     by None h =
         let f = not_begun (print_from None 0 [] v.pieces) before (ap has_begin e ∙ a.begun)
         (no_centre 0 [] v.pieces false false before (ap has_word e ∙ a.word) (λ z. absurd (cc)) s.good) in
@@ -389,13 +385,13 @@ shut_centre v s before a e = by v.centre s.centre_in
         let both = centre_from c 0 [] v.pieces false false before false false (ap has_word e ∙ a.word) (λ z. absurd (cc)) s.good (ap count_pieces e ∙ a.count)
         (record { order = h.0; last = omega (arith, h.1); to_begin = λ _. omega arith; has_begun = λ z. absurd (cc); to_end = λ _. omega arith; has_ended = λ z. absurd (cc) })
         (ap has_begin e ∙ a.begun) (ap has_end e ∙ a.ended) in
-        never (has_begin (push (print_from (Some c) 0 [] v.pieces) before)) (has_end (push (print_from (Some c) 0 [] v.pieces) before))
+        never (has_begin (onto (print_from (Some c) 0 [] v.pieces) before)) (has_end (onto (print_from (Some c) 0 [] v.pieces) before))
         (ended_by (print_from (Some c) 0 [] v.pieces) before c.to [] both.1)
 
 -- a translation after the text
 record Behind (before : List Token) (tr : Option (List ℕ)) : Type 0 where
   none : NoneAside before (translation_tokens tr)
-  codes : codes_at_end (push (translation_tokens tr) before) ≡ codes_at_end before
+  codes : codes_at_end (onto (translation_tokens tr) before) ≡ codes_at_end before
 
 translated_once : (before : List Token) (tr : Option (List ℕ)) → has_translation before ≡ false → Behind before tr
 translated_once before None h = record { none = refl; codes = refl }
@@ -417,13 +413,13 @@ nothing_in v s known at =
     let wb = word_break v.word_start in
     let ms = text_tokens v in
     let ls = translation_tokens v.translation in
-    let text = pieces_aside v.centre 0 [] v.pieces false false (push wb []) tt a.opens s.good known in
-    let turn : push (wb ++ ms) [] ≡ push ms (push wb []) = push_append wb ms [] in
-    let last = translated_once (push (wb ++ ms) []) v.translation (ap has_translation turn ∙ text.translated ∙ a.translated) in
+    let text = pieces_aside v.centre 0 [] v.pieces false false (onto wb []) tt a.opens s.good known in
+    let turn : onto (wb ++ ms) [] ≡ onto ms (onto wb []) = push_append wb ms [] in
+    let last = translated_once (onto (wb ++ ms) []) v.translation (ap has_translation turn ∙ text.translated ∙ a.translated) in
     let none : NoneAside [] (wb ++ ms ++ ls) = both_aside [] (wb ++ ms) ls (both_aside [] wb ms a.none text.none) last.none in
     let long : length (along kept_at [] (wb ++ ms ++ ls)) ≡ length (text_of_tokens (wb ++ ms ++ ls)) =
     ap length (view_kept v s) ∙ a.kept_long (ms ++ ls) ∙ ap (λ (ks : List Token). length (text_of_tokens ks)) (sym (append_assoc wb ms ls)) in
-    let all : reverse (wb ++ ms ++ ls) ≡ push ls (push (wb ++ ms) []) = sym (append-nil (reverse (wb ++ ms ++ ls))) ∙ reverse_push (wb ++ ms ++ ls) [] ∙ push_append (wb ++ ms) ls [] in
+    let all : reverse (wb ++ ms ++ ls) ≡ onto ls (onto (wb ++ ms) []) = sym (append-nil (reverse (wb ++ ms ++ ls))) ∙ reverse_push (wb ++ ms ++ ls) [] ∙ push_append (wb ++ ms) ls [] in
     let codes : codes_at_end (reverse (wb ++ ms ++ ls)) ≡ [] =
-    ap codes_at_end all ∙ last.codes ∙ ap codes_at_end turn ∙ no_codes (push ms (push wb [])) text.opens (shut_centre v s (push wb []) a refl) in
+    ap codes_at_end all ∙ last.codes ∙ ap codes_at_end turn ∙ no_codes (onto ms (onto wb [])) text.opens (shut_centre v s (onto wb []) a refl) in
     ap₂ (λ (x y : List Finding). x ++ y) (none_along at [] (wb ++ ms ++ ls) long none) (none_last at (reverse (wb ++ ms ++ ls)) codes)

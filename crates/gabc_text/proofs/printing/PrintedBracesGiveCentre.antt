@@ -13,19 +13,20 @@ use Rattle.gabc_text.specs.View.{along, piece_kind, effect_as, pieces_at, PieceF
 use Rattle.gabc_text.proofs.printing.ViewFromFirstToken.{begin_at, end_at}
 use Rattle.gabc_text.specs.Canonical.{after_common}
 use Rattle.gabc_text.specs.Printed.{print_from, printed_piece, tokens_between, brace_tokens, opening_tag, closing_tag, begin_brace, end_brace}
-use Rattle.gabc_text.proofs.printing.PrintedTagsOpenStyles.{push, push_append, along_append}
+use Rattle.gabc_text.proofs.printing.PrintedTagsOpenStyles.{push_append, along_append}
 use Rattle.gabc_text.proofs.printing.PrintedPiecesAreReadAgain.{AllSilent, Does, does, silent_word, silent_blank, between_silent, are_braces}
+use Rattle.gabc_text.proofs.machine.TokensOneAfterAnother.{onto}
 use Rattle.gabc_text.specs.machine.PrintedPieces.{AllGood, Good, Says}
 
 -- what the tokens ks give of the centre, and what stands after them
 pub record Marks (before ks : List Token) (begins ends : List ℕ) (begun ended : Bool) (n : ℕ) : Type 0 where
   pub begins_are : along begin_at before ks ≡ begins
   pub ends_are : along end_at before ks ≡ ends
-  pub begun_is : has_begin (push ks before) ≡ begun
-  pub ended_is : has_end (push ks before) ≡ ended
-  pub count_is : count_pieces (push ks before) ≡ n
+  pub begun_is : has_begin (onto ks before) ≡ begun
+  pub ended_is : has_end (onto ks before) ≡ ended
+  pub count_is : count_pieces (onto ks before) ≡ n
 
-pub marks_append : (before ks ls : List Token) (b1 e1 b2 e2 : List ℕ) (x1 y1 x2 y2 : Bool) (n1 n2 : ℕ) → Marks before ks b1 e1 x1 y1 n1 → Marks (push ks before) ls b2 e2 x2 y2 n2
+pub marks_append : (before ks ls : List Token) (b1 e1 b2 e2 : List ℕ) (x1 y1 x2 y2 : Bool) (n1 n2 : ℕ) → Marks before ks b1 e1 x1 y1 n1 → Marks (onto ks before) ls b2 e2 x2 y2 n2
     → Marks before (ks ++ ls) (b1 ++ b2) (e1 ++ e2) x2 y2 n2
 marks_append before ks ls b1 e1 b2 e2 x1 y1 x2 y2 n1 n2 m k = record {
   begins_are = along_append begin_at before ks ls ∙ rw (m.begins_are, k.begins_are) refl;
@@ -76,12 +77,12 @@ between_marks : (old new : List Style) (middle before : List Token) (bs es : Lis
 between_marks old new middle before bs es x y n f =
     let left = after_common old new in
     let c = closing_marks (reverse left.0) before in
-    let m = f (push (map closing_tag (reverse left.0)) before) c.begun_is c.ended_is c.count_is in
+    let m = f (onto (map closing_tag (reverse left.0)) before) c.begun_is c.ended_is c.count_is in
     let cm = marks_append before (map closing_tag (reverse left.0)) middle [] [] bs es (has_begin before) (has_end before) x y (count_pieces before) n c m in
-    let o = opening_marks left.1 (push (map closing_tag (reverse left.0) ++ middle) before) in
+    let o = opening_marks left.1 (onto (map closing_tag (reverse left.0) ++ middle) before) in
     let all = marks_append before (map closing_tag (reverse left.0) ++ middle) (map opening_tag left.1) bs es [] []
-    x y (has_begin (push (map closing_tag (reverse left.0) ++ middle) before)) (has_end (push (map closing_tag (reverse left.0) ++ middle) before)) n
-    (count_pieces (push (map closing_tag (reverse left.0) ++ middle) before)) cm o in
+    x y (has_begin (onto (map closing_tag (reverse left.0) ++ middle) before)) (has_end (onto (map closing_tag (reverse left.0) ++ middle) before)) n
+    (count_pieces (onto (map closing_tag (reverse left.0) ++ middle) before)) cm o in
     record {
       begins_are = all.begins_are ∙ append-nil bs;
       ends_are = all.ends_are ∙ append-nil es;
@@ -280,10 +281,10 @@ centre_from c i old (p ∷ ps) w b0 before begun ended e f g count ph hb he =
     let k = printed_piece p.kind p.text in
     let more = print_from (Some c) (i + 1) p.styles ps in
     let silent = gap_silent (Some c) i old p.styles in
-    let d = does p w b0 (push gap before) g.0 (silent_word before gap silent ∙ e) (λ x. silent_blank before gap silent ∙ f x) in
+    let d = does p w b0 (onto gap before) g.0 (silent_word before gap silent ∙ e) (λ x. silent_blank before gap silent ∙ f x) in
     let q = gap_by old p.styles before c.from c.to i (length (p ∷ ps)) count (c.from == i) (c.to == i) begun ended refl refl ph hb he in
-    let m = piece_marks p w b0 (push gap before) g.0 d in
-    let r = centre_from c (i + 1) p.styles ps (is_word_kind (Some p.kind) || w) (is_blank_piece p.kind) (k ∷ push gap before) q.begun' q.ended'
+    let m = piece_marks p w b0 (onto gap before) g.0 d in
+    let r = centre_from c (i + 1) p.styles ps (is_word_kind (Some p.kind) || w) (is_blank_piece p.kind) (k ∷ onto gap before) q.begun' q.ended'
     d.word (λ x. d.blank) g.1 (m.count_is ∙ ap (λ (n : ℕ). n + 1) (q.marks).count_is)
     (record {
       order = ph.order;
@@ -294,8 +295,8 @@ centre_from c i old (p ∷ ps) w b0 before begun ended e f g count ph hb he =
       has_ended = λ z. (let u = q.has_ended z in omega arith);
     })
     (m.begun_is ∙ (q.marks).begun_is) (m.ended_is ∙ (q.marks).ended_is) in (
-      along_append begin_at before gap (k ∷ more) ∙ rw ((q.marks).begins_are) (ap (λ (x : List ℕ). q.begins ++ x) (pass begin_at (push gap before) k more m.begins_are ∙ r.0) ∙ q.begins_are),
-      along_append end_at before gap (k ∷ more) ∙ rw ((q.marks).ends_are) (ap (λ (x : List ℕ). q.ends ++ x) (pass end_at (push gap before) k more m.ends_are ∙ r.1) ∙ q.ends_are),
+      along_append begin_at before gap (k ∷ more) ∙ rw ((q.marks).begins_are) (ap (λ (x : List ℕ). q.begins ++ x) (pass begin_at (onto gap before) k more m.begins_are ∙ r.0) ∙ q.begins_are),
+      along_append end_at before gap (k ∷ more) ∙ rw ((q.marks).ends_are) (ap (λ (x : List ℕ). q.ends ++ x) (pass end_at (onto gap before) k more m.ends_are ∙ r.1) ∙ q.ends_are),
     )
   where
     pass : (at : List Token → Token → List ℕ) (now : List Token) (k : Token) (ks : List Token) → along at now (k ∷ []) ≡ [] → along at now (k ∷ ks) ≡ along at (k ∷ now) ks
@@ -312,9 +313,9 @@ no_centre i old (p ∷ ps) w b0 before e f g =
     let k = printed_piece p.kind p.text in
     let more = print_from None (i + 1) p.styles ps in
     let silent = gap_silent None i old p.styles in
-    let d = does p w b0 (push gap before) g.0 (silent_word before gap silent ∙ e) (λ x. silent_blank before gap silent ∙ f x) in
+    let d = does p w b0 (onto gap before) g.0 (silent_word before gap silent ∙ e) (λ x. silent_blank before gap silent ∙ f x) in
     let q = between_marks old p.styles [] before [] [] (has_begin before) (has_end before) (count_pieces before) (λ at u v w. no_braces at (has_begin before) (has_end before) (count_pieces before) u v w) in
-    let m = piece_marks p w b0 (push gap before) g.0 d in
+    let m = piece_marks p w b0 (onto gap before) g.0 d in
     along_append begin_at before gap (k ∷ more) ∙ rw q.begins_are
-    (along_append begin_at (push gap before) (k ∷ []) more ∙ rw m.begins_are
-    (no_centre (i + 1) p.styles ps (is_word_kind (Some p.kind) || w) (is_blank_piece p.kind) (k ∷ push gap before) d.word (λ x. d.blank) g.1))
+    (along_append begin_at (onto gap before) (k ∷ []) more ∙ rw m.begins_are
+    (no_centre (i + 1) p.styles ps (is_word_kind (Some p.kind) || w) (is_blank_piece p.kind) (k ∷ onto gap before) d.word (λ x. d.blank) g.1))

@@ -1,19 +1,20 @@
 -- Pieces one after another are printed one after another, if no style stays open between them.
-use Rattle.std.proofs.lemmas.Bool.{eqb-true}
+use Rattle.std.proofs.lemmas.Bool.{ne_eqb}
 use Rattle.std.proofs.Common.{◌≡◌, ℕ, ◌+◌, ◌<◌, ◌==◌, List, [], ◌∷◌, ◌++◌, Bool, true, false, ◌||◌, refl, sym, ap, ap₂, ◌∙◌, map, reverse, filter, append-nil, append_assoc, Option, Some, None, length, length-append, eq-eqb, arith}
+use Rattle.gabc_places.proofs.NumbersByTests.{below_eqb}
 use Rattle.gabc_places.specs.declared.place.Span.{Span}
 use Rattle.gabc_text.specs.declared.styles.Style.{Style}
 use Rattle.gabc_text.specs.declared.view.PieceKind.{PieceKind}
 use Rattle.gabc_text.specs.declared.view.PieceKind.TheVariants as piece
 use Rattle.gabc_text.specs.Token.{Token, spelling}
-use Rattle.gabc_text.specs.View.{PieceFacts, is_same, all_styles, is_word_kind, is_blank_piece}
+use Rattle.gabc_text.specs.View.{PieceFacts, all_styles, is_word_kind, is_blank_piece}
 use Rattle.gabc_text.specs.ViewFacts.{but_blank, LiesAmong}
 use Rattle.gabc_text.specs.Canonical.{after_common}
 use Rattle.gabc_text.specs.Printed.{opening_tag, closing_tag, begin_brace, end_brace, brace_tokens, tokens_between, print_from, text_of_tokens}
 use Rattle.gabc_text.specs.machine.PrintedPieces.{AllGood, Says}
 use Rattle.gabc_text.specs.machine.RegularBytes.{AllKnown, word_after, blank_after, first_styles, last_styles, AreApart, printed_as, printed_text}
-use Rattle.gabc_text.proofs.printing.NothingIsFoundInPrintedText.{itself}
 use Rattle.gabc_text.proofs.printing.PrintedTextIsKept.{written_append}
+use Rattle.gabc_text.proofs.printing.ChangedStylesCloseFromTheFirst.{none_after}
 
 -- ---- lists of pieces
 
@@ -75,11 +76,6 @@ none_taken (p ∷ q ∷ ps) e = ap (λ (rs : List PieceFacts). p ∷ rs) (none_t
 abbrev pub in_styles : List Style → PieceFacts → PieceFacts
 in_styles ss p = record { kind = p.kind; styles = ss; text = p.text }
 
--- between pieces with the same styles nothing stands
-same_common : (ss : List Style) → after_common ss ss ≡ ([], [])
-same_common [] = refl
-same_common (s ∷ ss) = rw (itself s) (same_common ss)
-
 old_alone : (old : List Style) → after_common old [] ≡ (old, [])
 old_alone [] = refl
 old_alone (s ∷ old) = refl
@@ -93,7 +89,7 @@ at_end old middle = rw (old_alone old) (append-nil (closings old ++ middle))
 
 run_behind : (i : ℕ) (ss : List Style) (ps : List PieceFacts) → print_from None i ss (map (in_styles ss) ps) ≡ map printed_as ps ++ closings ss
 run_behind i ss [] = at_end ss [] ∙ append-nil (closings ss)
-run_behind i ss (p ∷ ps) = rw (same_common ss) (ap (λ (ks : List Token). printed_as p ∷ ks) (run_behind (i + 1) ss ps))
+run_behind i ss (p ∷ ps) = rw (none_after ss) (ap (λ (ks : List Token). printed_as p ∷ ks) (run_behind (i + 1) ss ps))
 
 pub good_in : (ss : List Style) (test : Style → Bool) (w b : Bool) (ps : List PieceFacts) → ss ≡ filter test all_styles → AllGood w b ps → AllGood w b (map (in_styles ss) ps)
 good_in ss test w b [] e h = tt
@@ -123,19 +119,9 @@ abbrev pub IsPast : Option Span → ℕ → Type 0
 IsPast None i = Unit {0}
 IsPast (Some c) i = (c.from < i) × (c.to < i)
 
-differs : (d c : ℕ) → (d ≡ c → ⊥) → (d == c) ≡ false
-differs d c h = by (d == c) refl
-  where
-    by : (b : Bool) → (d == c) ≡ b → b ≡ false
-    by false e = refl
-    by true e = absurd (h (eqb-true d c e))
-
-pub other : (d c : ℕ) → d < c → (d == c) ≡ false
-other d c h = differs d c (λ e. omega arith)
-
 no_braces : (centre : Option Span) (i : ℕ) → IsPast centre i → brace_tokens centre i ≡ []
 no_braces None i h = refl
-no_braces (Some c) i h = rw (other c.from i h.0, other c.to i h.1) refl
+no_braces (Some c) i h = rw (below_eqb c.from i h.0, below_eqb c.to i h.1) refl
 
 past_more : (centre : Option Span) (i : ℕ) → IsPast centre i → IsPast centre (i + 1)
 past_more None i h = tt
@@ -196,9 +182,6 @@ apart_none old = old_alone old
 
 -- ---- a run in a style
 
-one_style : (s : Style) → Style → Bool
-one_style s r = is_same r s
-
 pub styled_printed : (s : Style) (ps : List PieceFacts) → blank_after true ps ≡ false
     → text_of_tokens (print_from None 0 [] (map (in_styles (s ∷ [])) ps)) ≡ spelling (opening_tag s) ++ (printed_text ps ++ spelling (closing_tag s))
 styled_printed s [] e = absurd (cc)
@@ -227,12 +210,12 @@ begun_centre : (c : Span) (i : ℕ) (old : List Style) (ps : List PieceFacts) �
     → print_from (Some c) i old ps ≡ print_from None i old ps ++ begin_brace ∷ []
 begun_centre c i old [] e h =
     let at_from : (c.from == i) ≡ true = eq-eqb c.from i (omega (arith, e)) in
-    let no_to : (c.to == i) ≡ false = differs c.to i (λ f. omega (arith, e, h, f)) in
+    let no_to : (c.to == i) ≡ false = ne_eqb c.to i (λ f. omega (arith, e, h, f)) in
     let brace : brace_tokens (Some c) i ≡ begin_brace ∷ [] = rw (at_from, no_to) refl in
     at_end old (brace_tokens (Some c) i) ∙ ap (λ (ks : List Token). closings old ++ ks) brace ∙ ap (λ (ks : List Token). ks ++ begin_brace ∷ []) (sym (at_end old [] ∙ append-nil (closings old)))
 begun_centre c i old (p ∷ ps) e h =
-    let no_from : (c.from == i) ≡ false = differs c.from i (λ f. omega (arith, e, f)) in
-    let no_to : (c.to == i) ≡ false = differs c.to i (λ f. omega (arith, e, h, f)) in
+    let no_from : (c.from == i) ≡ false = ne_eqb c.from i (λ f. omega (arith, e, f)) in
+    let no_to : (c.to == i) ≡ false = ne_eqb c.to i (λ f. omega (arith, e, h, f)) in
     let none : brace_tokens (Some c) i ≡ [] = rw (no_from, no_to) refl in
     let gap = tokens_between old p.styles [] in
     ap₂ (λ (ks ls : List Token). tokens_between old p.styles ks ++ printed_as p ∷ ls) none (begun_centre c (i + 1) p.styles ps (omega (arith, e)) h)
@@ -242,12 +225,12 @@ begun_centre c i old (p ∷ ps) e h =
 ended_centre : (c : Span) (j : ℕ) (rs : List PieceFacts) → c.from < j → j + length rs ≡ c.to
     → print_from (Some c) j [] (map (in_styles []) rs) ≡ map printed_as rs ++ end_brace ∷ []
 ended_centre c j [] h e =
-    let no_from : (c.from == j) ≡ false = differs c.from j (λ f. omega (arith, h, f)) in
+    let no_from : (c.from == j) ≡ false = ne_eqb c.from j (λ f. omega (arith, h, f)) in
     let at_to : (c.to == j) ≡ true = eq-eqb c.to j (omega (arith, e)) in
     rw (no_from, at_to) refl
 ended_centre c j (r ∷ rs) h e =
-    let no_from : (c.from == j) ≡ false = differs c.from j (λ f. omega (arith, h, f)) in
-    let no_to : (c.to == j) ≡ false = differs c.to j (λ f. omega (arith, e, f)) in
+    let no_from : (c.from == j) ≡ false = ne_eqb c.from j (λ f. omega (arith, h, f)) in
+    let no_to : (c.to == j) ≡ false = ne_eqb c.to j (λ f. omega (arith, e, f)) in
     rw (no_from, no_to) (ap (λ (ks : List Token). printed_as r ∷ ks) (ended_centre c (j + 1) rs (omega (arith, h)) (omega (arith, e))))
 
 pub centre_text : (c : Span) (ps rs : List PieceFacts) → blank_after true rs ≡ false → c.from ≡ length ps → c.to ≡ length ps + length rs

@@ -14,7 +14,8 @@ use Rattle.gabc_text.specs.View.{along, effect_as, tag_piece, piece_kind, is_ope
 use Rattle.gabc_text.specs.Canonical.{after_common}
 use Rattle.gabc_text.specs.Printed.{opening_tag, closing_tag, tokens_between, brace_tokens, printed_piece, print_from}
 use Rattle.gabc_text.proofs.printing.TokensAreReadAgain.{opening_stable, closing_stable}
-use Rattle.gabc_text.proofs.printing.PrintedTagsOpenStyles.{push, along_append, member, AllOnce, Quiet, across, styles_again, once}
+use Rattle.gabc_text.proofs.printing.PrintedTagsOpenStyles.{along_append, member, AllOnce, Quiet, across, styles_again, once}
+use Rattle.gabc_text.proofs.machine.TokensOneAfterAnother.{onto}
 use Rattle.gabc_text.specs.machine.PrintedPieces.{AllGood, Good, Says, Stable}
 
 -- ---- tokens that are no pieces
@@ -88,15 +89,15 @@ pub silent_along : (before ks : List Token) → AllSilent ks → along pieces_at
 silent_along before [] h = refl
 silent_along before (k ∷ ks) h = rw (no_pieces before k h.0) (silent_along (k ∷ before) ks h.1)
 
-pub silent_word : (before ks : List Token) → AllSilent ks → has_word (push ks before) ≡ has_word before
+pub silent_word : (before ks : List Token) → AllSilent ks → has_word (onto ks before) ≡ has_word before
 silent_word before [] h = refl
 silent_word before (k ∷ ks) h = silent_word (k ∷ before) ks h.1 ∙ rw h.0.none refl
 
-pub silent_blank : (before ks : List Token) → AllSilent ks → follows_blank (push ks before) ≡ follows_blank before
+pub silent_blank : (before ks : List Token) → AllSilent ks → follows_blank (onto ks before) ≡ follows_blank before
 silent_blank before [] h = refl
 silent_blank before (k ∷ ks) h = silent_blank (k ∷ before) ks h.1 ∙ rw (h.0.none, h.0.no_space) refl
 
-pub silent_starts : (before ks : List Token) → AllSilent ks → starts_word (push ks before) ≡ starts_word before
+pub silent_starts : (before ks : List Token) → AllSilent ks → starts_word (onto ks before) ≡ starts_word before
 silent_starts before [] h = refl
 silent_starts before (k ∷ ks) h = silent_starts (k ∷ before) ks h.1 ∙ rw h.0.no_space refl
 
@@ -159,7 +160,7 @@ pieces_again centre i old (p ∷ ps) w b before o h e f g =
     let gap = tokens_between old p.styles (brace_tokens centre i) in
     let silent : AllSilent gap = between_silent old p.styles (brace_tokens centre i) (are_braces centre i).silent in
     let set : p.styles ≡ filter (g.0).test all_styles = (g.0).styles_are in
-    let now = push gap before in
+    let now = onto gap before in
     let d = does p w b now g.0 (silent_word before gap silent ∙ e) (λ x. silent_blank before gap silent ∙ f x) in
     let styles : open_styles now ≡ p.styles =
     rw set (styles_again old (g.0).test (brace_tokens centre i) before o (are_braces centre i).quiet h) in

@@ -1,7 +1,9 @@
 -- Printed tags leave open the styles that they should.
 use Rattle.std.proofs.Common.{◌≡◌, List, [], ◌∷◌, ◌++◌, Bool, true, false, ◌||◌, ◌&&◌, not, cond, refl, sym, ap, ◌∙◌, map, reverse, filter, append_assoc}
 use Rattle.std.proofs.lemmas.List.{reverse-append}
+use Rattle.std.proofs.lemmas.Bool.{or_parts}
 use Rattle.std.specs.List.{list_any}
+use Rattle.gabc_text.proofs.machine.TokensOneAfterAnother.{onto}
 use Rattle.gabc_text.specs.declared.styles.Style.{Style}
 use Rattle.gabc_text.specs.declared.styles.Style.TheVariants.{B, C, E, I, Sc, Tt, Ul}
 use Rattle.gabc_text.specs.Token.{Token}
@@ -9,19 +11,14 @@ use Rattle.gabc_text.specs.View.{along, is_open, is_same, all_styles, open_style
 use Rattle.gabc_text.specs.Canonical.{after_common}
 use Rattle.gabc_text.specs.Printed.{opening_tag, closing_tag, tokens_between}
 
--- the tokens ks after `before`, the nearest first
-abbrev pub push : List Token → List Token → List Token
-push [] before = before
-push (k ∷ ks) before = push ks (k ∷ before)
-
-pub push_append : (ks ls before : List Token) → push (ks ++ ls) before ≡ push ls (push ks before)
+pub push_append : (ks ls before : List Token) → onto (ks ++ ls) before ≡ onto ls (onto ks before)
 push_append [] ls before = refl
 push_append (k ∷ ks) ls before = push_append ks ls (k ∷ before)
 
-pub along_append : {X : Type 0} (at : List Token → Token → List X) (before ks ls : List Token) → along at before (ks ++ ls) ≡ along at before ks ++ along at (push ks before) ls
+pub along_append : {X : Type 0} (at : List Token → Token → List X) (before ks ls : List Token) → along at before (ks ++ ls) ≡ along at before ks ++ along at (onto ks before) ls
 along_append at before [] ls = refl
 along_append at before (k ∷ ks) ls =
-    ap (λ x. at before k ++ x) (along_append at (k ∷ before) ks ls) ∙ sym (append_assoc (at before k) (along at (k ∷ before) ks) (along at (push ks (k ∷ before)) ls))
+    ap (λ x. at before k ++ x) (along_append at (k ∷ before) ks ls) ∙ sym (append_assoc (at before k) (along at (k ∷ before) ks) (along at (onto ks (k ∷ before)) ls))
 
 abbrev pub member : Style → List Style → Bool
 member s xs = list_any (λ r. is_same r s) xs
@@ -48,7 +45,7 @@ close_one Ul s before = refl
 
 -- ---- several tags
 
-opened : (s : Style) (ys : List Style) (before : List Token) → is_open s (push (map opening_tag ys) before) ≡ (member s ys || is_open s before)
+opened : (s : Style) (ys : List Style) (before : List Token) → is_open s (onto (map opening_tag ys) before) ≡ (member s ys || is_open s before)
 opened s [] before = refl
 opened s (y ∷ ys) before = opened s ys (opening_tag y ∷ before) ∙ ap (λ b. member s ys || b) (open_one y s before) ∙ turn (is_same y s) (member s ys) (is_open s before)
   where
@@ -57,7 +54,7 @@ opened s (y ∷ ys) before = opened s ys (opening_tag y ∷ before) ∙ ap (λ b
     turn true false b = refl
     turn false m b = refl
 
-pub closed : (s : Style) (ys : List Style) (before : List Token) → is_open s (push (map closing_tag ys) before) ≡ (not (member s ys) && is_open s before)
+pub closed : (s : Style) (ys : List Style) (before : List Token) → is_open s (onto (map closing_tag ys) before) ≡ (not (member s ys) && is_open s before)
 closed s [] before = refl
 closed s (y ∷ ys) before = closed s ys (closing_tag y ∷ before) ∙ ap (λ b. not (member s ys) && b) (close_one y s before) ∙ turn (is_same y s) (member s ys) (is_open s before)
   where
@@ -102,15 +99,11 @@ same_style Tt Tt e = refl
 same_style Ul Ul e = refl
 same_style _ _ e = absurd (cc)
 
-neither : (a b : Bool) → (a || b) ≡ false → (a ≡ false) × (b ≡ false)
-neither true b e = absurd (cc)
-neither false b e = (refl, e)
-
 -- what is left of the old are styles of the old
 pub within : (s : Style) (old new : List Style) → member s old ≡ false → member s (after_common old new).0 ≡ false
 within s [] new h = refl
 within s (x ∷ old) [] h = h
-within s (x ∷ old) (y ∷ new) h = by (is_same x y) (within s old new (neither (is_same x s) (member s old) h).1)
+within s (x ∷ old) (y ∷ new) h = by (is_same x y) (within s old new (or_parts (is_same x s) (member s old) h).1)
   where
     by : (b : Bool) → member s (after_common old new).0 ≡ false → member s (cond b (after_common old new) (x ∷ old, y ∷ new)).0 ≡ false
     by true e = e
@@ -149,16 +142,16 @@ turned_over s (x ∷ old) (y ∷ new) h = by (is_same x y) refl (turned_over s o
 
 -- tokens that are no style tags
 abbrev pub Quiet : List Token → Type 0
-Quiet ks = (s : Style) (before : List Token) → is_open s (push ks before) ≡ is_open s before
+Quiet ks = (s : Style) (before : List Token) → is_open s (onto ks before) ≡ is_open s before
 
 pub across : (s : Style) (old new : List Style) (middle before : List Token) → AllOnce old → Quiet middle → is_open s before ≡ member s old
-    → is_open s (push (tokens_between old new middle) before) ≡ member s new
+    → is_open s (onto (tokens_between old new middle) before) ≡ member s new
 across s old new middle before once quiet h =
     let left = after_common old new in
     ap (is_open s) (push_append (map closing_tag (reverse left.0) ++ middle) (map opening_tag left.1) before)
-    ∙ opened s left.1 (push (map closing_tag (reverse left.0) ++ middle) before)
+    ∙ opened s left.1 (onto (map closing_tag (reverse left.0) ++ middle) before)
     ∙ ap (λ b. member s left.1 || b)
-    (ap (is_open s) (push_append (map closing_tag (reverse left.0)) middle before) ∙ quiet s (push (map closing_tag (reverse left.0)) before)
+    (ap (is_open s) (push_append (map closing_tag (reverse left.0)) middle before) ∙ quiet s (onto (map closing_tag (reverse left.0)) before)
     ∙ closed s (reverse left.0) before ∙ ap (λ b. not b && is_open s before) (any_reverse s left.0) ∙ ap (λ b. not (member s left.0) && b) h)
     ∙ turned_over s old new once
 
@@ -193,9 +186,9 @@ all_members Ul = refl
 
 -- the open styles after a boundary are the new ones
 pub styles_again : (old : List Style) (f : Style → Bool) (middle before : List Token) → AllOnce old → Quiet middle → ((s : Style) → is_open s before ≡ member s old)
-    → open_styles (push (tokens_between old (filter f all_styles) middle) before) ≡ filter f all_styles
+    → open_styles (onto (tokens_between old (filter f all_styles) middle) before) ≡ filter f all_styles
 styles_again old f middle before once quiet h =
-    congruent (λ s. is_open s (push (tokens_between old (filter f all_styles) middle) before)) f all_styles
+    congruent (λ s. is_open s (onto (tokens_between old (filter f all_styles) middle) before)) f all_styles
     (λ s. across s old (filter f all_styles) middle before once quiet (h s) ∙ member_filter s f all_styles ∙ ap (λ b. f s && b) (all_members s) ∙ and_true (f s))
   where
     and_true : (b : Bool) → (b && true) ≡ b

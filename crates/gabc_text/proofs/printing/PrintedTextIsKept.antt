@@ -8,15 +8,16 @@ use Rattle.gabc_text.specs.declared.view.PieceKind.TheVariants as piece
 use Rattle.gabc_text.specs.Token.{Token, spelling}
 use Rattle.gabc_text.specs.View.{along, effect, PieceFacts, is_word_kind, has_word, follows_blank, follows_space, is_blank_piece, has_begin, has_end, count_pieces, is_left_out, is_space, kept, kept_at}
 use Rattle.gabc_text.specs.Canonical.{after_common}
-use Rattle.gabc_text.specs.ViewFacts.{ViewFacts, view_facts}
+use Rattle.gabc_text.specs.ViewFacts.{ViewFacts, view_facts, LiesAmong}
 use Rattle.gabc_text.specs.Printed.{print_from, printed_piece, tokens_between, brace_tokens, opening_tag, closing_tag, text_of_tokens, text_tokens, translation_tokens, word_break, print_tokens, print}
-use Rattle.gabc_text.proofs.printing.PrintedTagsOpenStyles.{push, along_append}
+use Rattle.gabc_text.proofs.printing.PrintedTagsOpenStyles.{along_append}
 use Rattle.gabc_text.proofs.printing.PrintedPiecesAreReadAgain.{does, silent_word, silent_blank}
 use Rattle.gabc_text.proofs.printing.PrintedBracesGiveCentre.{Phase, gap_by, gap_silent, closing_marks, piece_marks, braces_by}
 use Rattle.gabc_text.proofs.spans.SpansStandForView.{no_space, kept_spelled}
 use Rattle.gabc_text.proofs.printing.ViewFromFirstToken.{view}
-use Rattle.gabc_text.proofs.printing.PrintedTextIsReadAgain.{IsCentre, Sound, view_sound, tokens_printed}
+use Rattle.gabc_text.proofs.printing.PrintedTextIsReadAgain.{Sound, view_sound, tokens_printed}
 use Rattle.gabc_text.proofs.printing.ViewForwardIsViewBackward.{facts_is}
+use Rattle.gabc_text.proofs.machine.TokensOneAfterAnother.{onto}
 use Rattle.gabc_text.specs.machine.PrintedPieces.{AllGood, Good, Says}
 
 pub written_append : (ks ls : List Token) → text_of_tokens (ks ++ ls) ≡ text_of_tokens ks ++ text_of_tokens ls
@@ -27,8 +28,8 @@ written_append (k ∷ ks) ls = ap (λ (x : List ℕ). spelling k ++ x) (written_
 abbrev Kept : List Token → List Token → Type 0
 Kept before ks = along kept_at before ks ≡ text_of_tokens ks
 
-both_kept : (before ks ls : List Token) → Kept before ks → Kept (push ks before) ls → Kept before (ks ++ ls)
-both_kept before ks ls h g = along_append kept_at before ks ls ∙ ap (λ (x : List ℕ). x ++ along kept_at (push ks before) ls) h ∙ ap (λ (x : List ℕ). text_of_tokens ks ++ x) g ∙ sym (written_append ks ls)
+both_kept : (before ks ls : List Token) → Kept before ks → Kept (onto ks before) ls → Kept before (ks ++ ls)
+both_kept before ks ls h g = along_append kept_at before ks ls ∙ ap (λ (x : List ℕ). x ++ along kept_at (onto ks before) ls) h ∙ ap (λ (x : List ℕ). text_of_tokens ks ++ x) g ∙ sym (written_append ks ls)
 
 openings : (ss : List Style) (before : List Token) → Kept before (map opening_tag ss)
 openings [] before = refl
@@ -65,8 +66,8 @@ gap_kept old new before ms h =
     let cs = map closing_tag (reverse (after_common old new).0) in
     let m = closing_marks (reverse (after_common old new).0) before in
     both_kept before (map closing_tag (reverse (after_common old new).0) ++ ms) (map opening_tag (after_common old new).1)
-    (both_kept before (map closing_tag (reverse (after_common old new).0)) ms (closings (reverse (after_common old new).0) before) (h (push (map closing_tag (reverse (after_common old new).0)) before) m.begun_is m.ended_is))
-    (openings (after_common old new).1 (push (map closing_tag (reverse (after_common old new).0) ++ ms) before))
+    (both_kept before (map closing_tag (reverse (after_common old new).0)) ms (closings (reverse (after_common old new).0) before) (h (onto (map closing_tag (reverse (after_common old new).0)) before) m.begun_is m.ended_is))
+    (openings (after_common old new).1 (onto (map closing_tag (reverse (after_common old new).0) ++ ms) before))
 
 piece_kept : (p : PieceFacts) (w b : Bool) (now : List Token) → Good p w b → (w ≡ true → follows_blank now ≡ b) → kept_at now (printed_piece p.kind p.text) ≡ spelling (printed_piece p.kind p.text)
 piece_kept p w b now g f = by p.kind g.reads_so
@@ -95,13 +96,13 @@ kept_from c i old (p ∷ ps) w b0 before begun ended e f g count ph hb he =
     let k = printed_piece p.kind p.text in
     let more = print_from (Some c) (i + 1) p.styles ps in
     let silent = gap_silent (Some c) i old p.styles in
-    let d = does p w b0 (push gap before) g.0 (silent_word before gap silent ∙ e) (λ x. silent_blank before gap silent ∙ f x) in
+    let d = does p w b0 (onto gap before) g.0 (silent_word before gap silent ∙ e) (λ x. silent_blank before gap silent ∙ f x) in
     let q = gap_by old p.styles before c.from c.to i (length (p ∷ ps)) count (c.from == i) (c.to == i) begun ended refl refl ph hb he in
-    let m = piece_marks p w b0 (push gap before) g.0 d in
+    let m = piece_marks p w b0 (onto gap before) g.0 d in
     both_kept before (tokens_between old p.styles (brace_tokens (Some c) i)) (printed_piece p.kind p.text ∷ print_from (Some c) (i + 1) p.styles ps)
     (gap_kept old p.styles before (brace_tokens (Some c) i) (λ at u v. braces_kept (c.from == i) (c.to == i) begun ended at (allowed (c.from == i) (c.to == i) begun ended c.from c.to i (length (p ∷ ps)) refl refl ph) (u ∙ hb) (v ∙ he)))
-    (one_kept (push gap before) k more (piece_kept p w b0 (push gap before) g.0 (λ x. silent_blank before gap silent ∙ f x))
-    (kept_from c (i + 1) p.styles ps (is_word_kind (Some p.kind) || w) (is_blank_piece p.kind) (k ∷ push gap before) q.begun' q.ended'
+    (one_kept (onto gap before) k more (piece_kept p w b0 (onto gap before) g.0 (λ x. silent_blank before gap silent ∙ f x))
+    (kept_from c (i + 1) p.styles ps (is_word_kind (Some p.kind) || w) (is_blank_piece p.kind) (k ∷ onto gap before) q.begun' q.ended'
     d.word (λ x. d.blank) g.1 (m.count_is ∙ ap (λ (n : ℕ). n + 1) (q.marks).count_is)
     (record {
       order = ph.order;
@@ -121,11 +122,11 @@ kept_none i old (p ∷ ps) w b0 before e f g =
     let gap = tokens_between old p.styles [] in
     let k = printed_piece p.kind p.text in
     let silent = gap_silent None i old p.styles in
-    let d = does p w b0 (push gap before) g.0 (silent_word before gap silent ∙ e) (λ x. silent_blank before gap silent ∙ f x) in
+    let d = does p w b0 (onto gap before) g.0 (silent_word before gap silent ∙ e) (λ x. silent_blank before gap silent ∙ f x) in
     both_kept before (tokens_between old p.styles []) (printed_piece p.kind p.text ∷ print_from None (i + 1) p.styles ps)
     (gap_kept old p.styles before [] (λ at u v. refl))
-    (one_kept (push gap before) k (print_from None (i + 1) p.styles ps) (piece_kept p w b0 (push gap before) g.0 (λ x. silent_blank before gap silent ∙ f x))
-    (kept_none (i + 1) p.styles ps (is_word_kind (Some p.kind) || w) (is_blank_piece p.kind) (k ∷ push gap before) d.word (λ x. d.blank) g.1))
+    (one_kept (onto gap before) k (print_from None (i + 1) p.styles ps) (piece_kept p w b0 (onto gap before) g.0 (λ x. silent_blank before gap silent ∙ f x))
+    (kept_none (i + 1) p.styles ps (is_word_kind (Some p.kind) || w) (is_blank_piece p.kind) (k ∷ onto gap before) d.word (λ x. d.blank) g.1))
 
 -- the blank before a word, as it is kept
 abbrev pub word_kept : Bool → List ℕ
@@ -135,10 +136,10 @@ pub view_kept : (v : ViewFacts) → Sound v → along kept_at [] (print_tokens v
 view_kept v s =
     ap (along kept_at []) (append_assoc (word_break v.word_start) (text_tokens v) (translation_tokens v.translation))
     ∙ along_append kept_at [] (word_break v.word_start) (text_tokens v ++ translation_tokens v.translation)
-    ∙ ap (λ (x : List ℕ). x ++ along kept_at (push (word_break v.word_start) []) (text_tokens v ++ translation_tokens v.translation)) (word v.word_start)
+    ∙ ap (λ (x : List ℕ). x ++ along kept_at (onto (word_break v.word_start) []) (text_tokens v ++ translation_tokens v.translation)) (word v.word_start)
     ∙ ap (λ (x : List ℕ). word_kept v.word_start ++ x)
-    (both_kept (push (word_break v.word_start) []) (text_tokens v) (translation_tokens v.translation)
-    (text v.word_start v.centre s.centre_in) (end v.translation (push (text_tokens v) (push (word_break v.word_start) []))))
+    (both_kept (onto (word_break v.word_start) []) (text_tokens v) (translation_tokens v.translation)
+    (text v.word_start v.centre s.centre_in) (end v.translation (onto (text_tokens v) (onto (word_break v.word_start) []))))
   where
     word : (b : Bool) → along kept_at [] (word_break b) ≡ word_kept b
     word true = refl
@@ -148,14 +149,14 @@ view_kept v s =
     end None before = refl
     end (Some t) before = refl
 
-    starts : (b : Bool) → (has_word (push (word_break b) []) ≡ false) × (count_pieces (push (word_break b) []) ≡ 0) × (has_begin (push (word_break b) []) ≡ false) × (has_end (push (word_break b) []) ≡ false)
+    starts : (b : Bool) → (has_word (onto (word_break b) []) ≡ false) × (count_pieces (onto (word_break b) []) ≡ 0) × (has_begin (onto (word_break b) []) ≡ false) × (has_end (onto (word_break b) []) ≡ false)
     starts true = (refl, refl, refl, refl)
     starts false = (refl, refl, refl, refl)
 
-    text : (b : Bool) (c : Option Span) → IsCentre (length v.pieces) c → Kept (push (word_break b) []) (print_from c 0 [] v.pieces)
-    text b None h = kept_none 0 [] v.pieces false false (push (word_break b) []) (starts b).0 (λ e. absurd (cc)) s.good
+    text : (b : Bool) (c : Option Span) → LiesAmong (length v.pieces) c → Kept (onto (word_break b) []) (print_from c 0 [] v.pieces)
+    text b None h = kept_none 0 [] v.pieces false false (onto (word_break b) []) (starts b).0 (λ e. absurd (cc)) s.good
     text b (Some c) h =
-        kept_from c 0 [] v.pieces false false (push (word_break b) []) false false (starts b).0 (λ e. absurd (cc)) s.good (starts b).1
+        kept_from c 0 [] v.pieces false false (onto (word_break b) []) false false (starts b).0 (λ e. absurd (cc)) s.good (starts b).1
         (record { order = h.0; last = omega (arith, h.1); to_begin = λ _. omega arith; has_begun = λ e. absurd (cc); to_end = λ _. omega arith; has_ended = λ e. absurd (cc) })
         (starts b).2 (starts b).3
 

@@ -10,16 +10,17 @@ use Rattle.gabc_text.specs.declared.token.TokenKind.TheVariants as kind
 use Rattle.gabc_text.specs.Token.{Token, spelling, tokens, tokens_after, token_at, tag_at, token_of_tag, ended_token, through, ending_of, single, dollar_at, is_blank, is_one_of, effect_of}
 use Rattle.gabc_text.specs.View.{along, piece_kind, effect_as, is_word_kind, has_word, follows_blank, starts_word, pieces_at, PieceFacts, is_blank_piece, is_open, is_translation, is_begin, is_end, has_begin, has_end, count_pieces}
 use Rattle.gabc_text.proofs.printing.ViewFromFirstToken.{pieces_of, view, view_by, translation_by, translation_from, begin_at, end_at, centre_by}
-use Rattle.gabc_text.specs.ViewFacts.{ViewFacts, but_blank}
+use Rattle.gabc_text.specs.ViewFacts.{ViewFacts, but_blank, LiesAmong}
 use Rattle.gabc_text.specs.Printed.{print_tokens, print_from, text_tokens, translation_tokens, word_break, printed_piece, tokens_between, brace_tokens, print}
 use Rattle.gabc_text.specs.declared.token.TagEffect.{TagEffect}
 use Rattle.gabc_text.specs.declared.token.TagEffect.TheVariants.{Opens, Closes, Mark, Begins, Other}
 use Rattle.gabc_text.proofs.tokens.CasesOfCharacters.{by_case}
-use Rattle.gabc_text.proofs.printing.PrintedBracesGiveCentre.{centre_from, no_centre}
+use Rattle.gabc_text.proofs.printing.PrintedBracesGiveCentre.{centre_from, no_centre, gap_silent}
 use Rattle.gabc_text.proofs.printing.TokensAreReadAgain.{AllStable, written_stable, IsReadAgain, token_again}
-use Rattle.gabc_text.proofs.printing.PrintedTagsOpenStyles.{push, push_append, along_append}
-use Rattle.gabc_text.proofs.printing.PrintedPiecesAreReadAgain.{AllSilent, between_silent, are_braces, silent_word, silent_blank, silent_starts, does, pieces_again}
+use Rattle.gabc_text.proofs.printing.PrintedTagsOpenStyles.{push_append, along_append}
+use Rattle.gabc_text.proofs.printing.PrintedPiecesAreReadAgain.{AllSilent, silent_word, silent_blank, silent_starts, does, pieces_again}
 use Rattle.gabc_text.proofs.printing.PiecesPrintWell.{pieces_good, good_along, tokens_fine}
+use Rattle.gabc_text.proofs.machine.TokensOneAfterAnother.{onto}
 use Rattle.gabc_text.specs.machine.PrintedPieces.{AllGood, Good, Says, Stable}
 
 -- ---- all that is printed is stable
@@ -31,9 +32,6 @@ silent_stable (k ∷ ks) h = ((h.0).stable, silent_stable ks h.1)
 stable_append : (ks ls : List Token) → AllStable ks → AllStable ls → AllStable (ks ++ ls)
 stable_append [] ls h g = g
 stable_append (k ∷ ks) ls h g = (h.0, stable_append ks ls h.1 g)
-
-gap_silent : (centre : Option Span) (i : ℕ) (old new : List Style) → AllSilent (tokens_between old new (brace_tokens centre i))
-gap_silent centre i old new = between_silent old new (brace_tokens centre i) (are_braces centre i).silent
 
 stable_from : (centre : Option Span) (i : ℕ) (old : List Style) (ps : List PieceFacts) (w b : Bool) → AllGood w b ps → AllStable (print_from centre i old ps)
 stable_from centre i old [] w b g = silent_stable (tokens_between old [] (brace_tokens centre i)) (gap_silent centre i old [])
@@ -68,14 +66,14 @@ last_once w b (p ∷ q ∷ r ∷ ps) g = ap (λ (x : List PieceFacts). p ∷ x) 
 -- ---- the word start
 
 starts_from : (centre : Option Span) (i : ℕ) (old : List Style) (ps : List PieceFacts) (w b : Bool) (before : List Token) → has_word before ≡ w → (w ≡ true → follows_blank before ≡ b) → AllGood w b ps
-    → starts_word (push (print_from centre i old ps) before) ≡ starts_word before
+    → starts_word (onto (print_from centre i old ps) before) ≡ starts_word before
 starts_from centre i old [] w b before e f g = silent_starts before (tokens_between old [] (brace_tokens centre i)) (gap_silent centre i old [])
 starts_from centre i old (p ∷ ps) w b before e f g =
     let gap = tokens_between old p.styles (brace_tokens centre i) in
     let silent = gap_silent centre i old p.styles in
-    let d = does p w b (push gap before) g.0 (silent_word before gap silent ∙ e) (λ x. silent_blank before gap silent ∙ f x) in
+    let d = does p w b (onto gap before) g.0 (silent_word before gap silent ∙ e) (λ x. silent_blank before gap silent ∙ f x) in
     ap starts_word (push_append gap (printed_piece p.kind p.text ∷ print_from centre (i + 1) p.styles ps) before)
-    ∙ starts_from centre (i + 1) p.styles ps (is_word_kind (Some p.kind) || w) (is_blank_piece p.kind) (printed_piece p.kind p.text ∷ push gap before) d.word (λ x. d.blank) g.1
+    ∙ starts_from centre (i + 1) p.styles ps (is_word_kind (Some p.kind) || w) (is_blank_piece p.kind) (printed_piece p.kind p.text ∷ onto gap before) d.word (λ x. d.blank) g.1
     ∙ d.starts ∙ silent_starts before gap silent
 
 -- ---- the translation
@@ -216,11 +214,6 @@ translation_fine zero (c ∷ t) = by (c == 40) (translation_fine (length (token_
 
 -- ---- the centre of a text
 
--- a centre of n pieces
-abbrev pub IsCentre : ℕ → Option Span → Type 0
-IsCentre n None = Unit {0}
-IsCentre n (Some c) = (c.from ≤ c.to) × (c.to ≤ n)
-
 -- the first of the ends is no less
 abbrev FirstAtLeast : ℕ → List ℕ → Type 0
 FirstAtLeast n [] = Unit {0}
@@ -255,7 +248,7 @@ in_order before (k ∷ ks) h = by (is_begin k.kind) refl (in_order (k ∷ before
     by true e g = rw (no_end, e, h) (ends_later (count_pieces before) (k ∷ before) ks (let f : count_pieces (k ∷ before) ≡ count_pieces before + length (pieces_at before k) = refl in omega arith))
     by false e g = rw (no_end, e) (g (rw (e, h) refl))
 
-centre_fine : (n : ℕ) (xs ys : List ℕ) → Ordered xs ys → IsCentre n (centre_by n xs ys)
+centre_fine : (n : ℕ) (xs ys : List ℕ) → Ordered xs ys → LiesAmong n (centre_by n xs ys)
 centre_fine n [] ys h = tt
 centre_fine n (x ∷ xs) [] h = (omega arith, omega arith)
 centre_fine n (x ∷ xs) (y ∷ ys) h = (omega arith, omega arith)
@@ -266,7 +259,7 @@ centre_fine n (x ∷ xs) (y ∷ ys) h = (omega arith, omega arith)
 pub record Sound (v : ViewFacts) : Type 0 where
   pub good : AllGood false false v.pieces
   pub no_last : but_blank v.pieces ≡ v.pieces
-  pub centre_in : IsCentre (length v.pieces) v.centre
+  pub centre_in : LiesAmong (length v.pieces) v.centre
   pub translation_in : IsTranslated v.translation
 
 pub view_sound : (t : List ℕ) → Sound (view t)
@@ -283,12 +276,12 @@ record Opening (ks : List Token) (starts : Bool) : Type 0 where
   pieces : along pieces_at [] ks ≡ []
   begins : along begin_at [] ks ≡ []
   ends : along end_at [] ks ≡ []
-  open_none : (s : Style) → is_open s (push ks []) ≡ false
-  word : has_word (push ks []) ≡ false
-  count : count_pieces (push ks []) ≡ 0
-  begun : has_begin (push ks []) ≡ false
-  ended : has_end (push ks []) ≡ false
-  starts_are : starts_word (push ks []) ≡ starts
+  open_none : (s : Style) → is_open s (onto ks []) ≡ false
+  word : has_word (onto ks []) ≡ false
+  count : count_pieces (onto ks []) ≡ 0
+  begun : has_begin (onto ks []) ≡ false
+  ended : has_end (onto ks []) ≡ false
+  starts_are : starts_word (onto ks []) ≡ starts
   translation : (ls : List Token) → translation_from (ks ++ ls) ≡ translation_from ls
 
 opening_of : (b : Bool) → Opening (word_break b) b
@@ -325,7 +318,7 @@ record Closing (ks : List Token) (tr : Option (List ℕ)) : Type 0 where
   pieces : (before : List Token) → along pieces_at before ks ≡ []
   begins : (before : List Token) → along begin_at before ks ≡ []
   ends : (before : List Token) → along end_at before ks ≡ []
-  starts : (before : List Token) → starts_word (push ks before) ≡ starts_word before
+  starts : (before : List Token) → starts_word (onto ks before) ≡ starts_word before
   translation : translation_from ks ≡ tr
 
 closing_of : (tr : Option (List ℕ)) → IsTranslated tr → Closing (translation_tokens tr) tr
@@ -340,16 +333,16 @@ same_view a b ps qs c d x y e f g h =
     ∙ ap (λ (z : Option Span). record { word_start = b; pieces = qs; centre = z; translation = x }) g
     ∙ ap (λ (z : Option (List ℕ)). record { word_start = b; pieces = qs; centre = d; translation = z }) h
 
-pub reverse_push : (ks before : List Token) → reverse ks ++ before ≡ push ks before
+pub reverse_push : (ks before : List Token) → reverse ks ++ before ≡ onto ks before
 reverse_push [] before = refl
 reverse_push (k ∷ ks) before = ap (λ (x : List Token). x ++ before) (reverse-append (k ∷ []) ks) ∙ append_assoc (reverse ks) (k ∷ []) before ∙ reverse_push ks (k ∷ before)
 
 -- what stands in the middle gives all of it
-middle : {X : Type 0} (at : List Token → Token → List X) (ks ms ls : List Token) → along at [] ks ≡ [] → along at (push (ks ++ ms) []) ls ≡ []
-    → along at [] (ks ++ ms ++ ls) ≡ along at (push ks []) ms
+middle : {X : Type 0} (at : List Token → Token → List X) (ks ms ls : List Token) → along at [] ks ≡ [] → along at (onto (ks ++ ms) []) ls ≡ []
+    → along at [] (ks ++ ms ++ ls) ≡ along at (onto ks []) ms
 middle at ks ms ls e f =
     along_append at [] (ks ++ ms) ls ∙ ap (λ x. along at [] (ks ++ ms) ++ x) f ∙ append-nil (along at [] (ks ++ ms))
-    ∙ along_append at [] ks ms ∙ ap (λ x. x ++ along at (push ks []) ms) e
+    ∙ along_append at [] ks ms ∙ ap (λ x. x ++ along at (onto ks []) ms) e
 
 min_same : (a n : ℕ) → a ≤ n → min a n ≡ a
 min_same a n h = omega arith
@@ -365,13 +358,13 @@ printed_view v s =
     let ms = print_from v.centre 0 [] v.pieces in
     let ls = translation_tokens v.translation in
     let pieces : along pieces_at [] (wb ++ ms ++ ls) ≡ v.pieces =
-    middle pieces_at wb ms ls o.pieces (z.pieces (push (wb ++ ms) []))
-    ∙ pieces_again v.centre 0 [] v.pieces false false (push wb []) tt o.open_none o.word (λ e. absurd (cc)) s.good in
+    middle pieces_at wb ms ls o.pieces (z.pieces (onto (wb ++ ms) []))
+    ∙ pieces_again v.centre 0 [] v.pieces false false (onto wb []) tt o.open_none o.word (λ e. absurd (cc)) s.good in
     let kept : pieces_of (wb ++ ms ++ ls) ≡ v.pieces = ap but_blank pieces ∙ s.no_last in
     let starts : starts_word (reverse (wb ++ ms ++ ls)) ≡ v.word_start =
     ap starts_word (sym (append-nil (reverse (wb ++ ms ++ ls))) ∙ reverse_push (wb ++ ms ++ ls) [] ∙ push_append (wb ++ ms) ls [])
-    ∙ z.starts (push (wb ++ ms) []) ∙ ap starts_word (push_append wb ms [])
-    ∙ starts_from v.centre 0 [] v.pieces false false (push wb []) o.word (λ e. absurd (cc)) s.good ∙ o.starts_are in
+    ∙ z.starts (onto (wb ++ ms) []) ∙ ap starts_word (push_append wb ms [])
+    ∙ starts_from v.centre 0 [] v.pieces false false (onto wb []) o.word (λ e. absurd (cc)) s.good ∙ o.starts_are in
     let tr : translation_from (wb ++ ms ++ ls) ≡ v.translation =
     ap translation_from (append_assoc wb ms ls) ∙ o.translation (ms ++ ls)
     ∙ translation_after v.centre 0 [] v.pieces false false ls s.good ∙ z.translation in
@@ -382,20 +375,20 @@ printed_view v s =
     ∙ by v.centre (opening_of v.word_start) (closing_of v.translation s.translation_in) s.centre_in)
     tr
   where
-    by : (c : Option Span) → Opening (word_break v.word_start) v.word_start → Closing (translation_tokens v.translation) v.translation → IsCentre (length v.pieces) c
+    by : (c : Option Span) → Opening (word_break v.word_start) v.word_start → Closing (translation_tokens v.translation) v.translation → LiesAmong (length v.pieces) c
         → centre_by (length v.pieces) (along begin_at [] (word_break v.word_start ++ print_from c 0 [] v.pieces ++ translation_tokens v.translation))
         (along end_at [] (word_break v.word_start ++ print_from c 0 [] v.pieces ++ translation_tokens v.translation)) ≡ c
     by None o z h =
-        let e = middle begin_at (word_break v.word_start) (print_from None 0 [] v.pieces) (translation_tokens v.translation) o.begins (z.begins (push (word_break v.word_start ++ print_from None 0 [] v.pieces) []))
-        ∙ no_centre 0 [] v.pieces false false (push (word_break v.word_start) []) o.word (λ e. absurd (cc)) s.good in
+        let e = middle begin_at (word_break v.word_start) (print_from None 0 [] v.pieces) (translation_tokens v.translation) o.begins (z.begins (onto (word_break v.word_start ++ print_from None 0 [] v.pieces) []))
+        ∙ no_centre 0 [] v.pieces false false (onto (word_break v.word_start) []) o.word (λ e. absurd (cc)) s.good in
         rw e refl
     by (Some c) o z h =
-        let both = centre_from c 0 [] v.pieces false false (push (word_break v.word_start) []) false false o.word (λ e. absurd (cc)) s.good o.count
+        let both = centre_from c 0 [] v.pieces false false (onto (word_break v.word_start) []) false false o.word (λ e. absurd (cc)) s.good o.count
         (record { order = h.0; last = omega (arith, h.1); to_begin = λ _. omega arith; has_begun = λ e. absurd (cc); to_end = λ _. omega arith; has_ended = λ e. absurd (cc) })
         o.begun o.ended in
         centre_read (length v.pieces) c _ _
-        (middle begin_at (word_break v.word_start) (print_from (Some c) 0 [] v.pieces) (translation_tokens v.translation) o.begins (z.begins (push (word_break v.word_start ++ print_from (Some c) 0 [] v.pieces) [])) ∙ both.0)
-        (middle end_at (word_break v.word_start) (print_from (Some c) 0 [] v.pieces) (translation_tokens v.translation) o.ends (z.ends (push (word_break v.word_start ++ print_from (Some c) 0 [] v.pieces) [])) ∙ both.1)
+        (middle begin_at (word_break v.word_start) (print_from (Some c) 0 [] v.pieces) (translation_tokens v.translation) o.begins (z.begins (onto (word_break v.word_start ++ print_from (Some c) 0 [] v.pieces) [])) ∙ both.0)
+        (middle end_at (word_break v.word_start) (print_from (Some c) 0 [] v.pieces) (translation_tokens v.translation) o.ends (z.ends (onto (word_break v.word_start ++ print_from (Some c) 0 [] v.pieces) [])) ∙ both.1)
         h.0 h.1
 
 -- ---- the law

@@ -1,8 +1,8 @@
 -- Tokens that are read again, whatever follows.
-use Rattle.std.proofs.Common.{◌≡◌, ℕ, zero, suc, ◌≤◌, ◌==◌, List, [], ◌∷◌, ◌++◌, Bool, true, false, ◌&&◌, cond, refl, sym, ap, ◌∙◌, subst, append_assoc, append-nil, length, drop, Option, Some, None, option_map, arith, codes}
+use Rattle.std.proofs.Common.{◌≡◌, ℕ, ◌≤◌, ◌==◌, List, [], ◌∷◌, ◌++◌, Bool, true, false, ◌&&◌, cond, refl, sym, ap, ◌∙◌, subst, append_assoc, append-nil, length, drop, Option, Some, None, option_map, arith, codes}
 use Rattle.std.proofs.Common.{eq-eqb}
-use Rattle.std.proofs.lemmas.Bool.{eqb-true}
-use Rattle.gabc_text.proofs.tokens.CasesOfCharacters.{and_both, by_case, single_kind}
+use Rattle.std.proofs.lemmas.Bool.{eqb-true, and_parts}
+use Rattle.gabc_text.proofs.tokens.CasesOfCharacters.{by_case, single_kind}
 use Rattle.gabc_text.specs.declared.token.TokenKind.{TokenKind}
 use Rattle.gabc_text.specs.declared.token.TokenKind.TheVariants as kind
 use Rattle.gabc_text.specs.declared.token.TagEffect.{TagEffect}
@@ -11,7 +11,7 @@ use Rattle.gabc_text.specs.declared.token.RawKind.{RawKind}
 use Rattle.gabc_text.specs.declared.token.RawKind.TheVariants.{V, Sp, Alt}
 use Rattle.gabc_text.specs.declared.styles.Style.{Style}
 use Rattle.gabc_text.specs.declared.styles.Style.TheVariants.{B, C, E, I, Sc, Tt, Ul}
-use Rattle.gabc_text.specs.Token.{Token, spelling, tokens, tokens_after, token_at, through, begins_with, ended_token, tag_at, token_of_tag, single, is_special, is_blank, effect_of, ending_of}
+use Rattle.gabc_text.specs.Token.{Token, spelling, tokens, token_at, through, begins_with, ended_token, tag_at, token_of_tag, single, is_special, is_blank, effect_of, ending_of}
 use Rattle.gabc_text.specs.machine.PrintedPieces.{Stable}
 use Rattle.gabc_text.specs.Printed.{text_of_tokens, opening_tag, closing_tag, letter}
 use Rattle.gabc_text.proofs.tokens.TokensByCharacter.{tokens_first, drop_past}
@@ -64,7 +64,7 @@ begins_parts : (e t : List ℕ) → begins_with e t ≡ true → (rest : List �
 begins_parts [] t h = (t, refl)
 begins_parts (d ∷ e) [] h = absurd (cc)
 begins_parts (d ∷ e) (c ∷ t) h =
-    let both = and_both (d == c) (begins_with e t) h in
+    let both = and_parts (d == c) (begins_with e t) h in
     let r = begins_parts e t both.1 in
     let same : d ≡ c = eqb-true d c both.0 in
     let left : t ≡ e ++ r.0 = r.1 in
@@ -175,19 +175,6 @@ token_again c t =
     by_case 60 c (IsReadAgainAt t) (at_tag t) (λ e60.
     by_case 91 c (IsReadAgainAt t) (at_bracket t) (λ e91.
     λ h. absurd (let f : is_bracketed (single c) ≡ true = rw (e36, e37, e60, e91) at h in let g = single_plain c in cc)))))
-
-abbrev pub EachIsReadAgain : List Token → Type 0
-EachIsReadAgain [] = Unit {0}
-EachIsReadAgain (k ∷ ks) = IsReadAgain k × EachIsReadAgain ks
-
-pub tokens_again : (n : ℕ) (t : List ℕ) → EachIsReadAgain (tokens_after n t)
-tokens_again n [] = tt
-tokens_again (suc n) (c ∷ t) = tokens_again n t
-tokens_again zero (c ∷ t) = by (c == 40) (token_again c t) (tokens_again (length (token_at c t).more) t)
-  where
-    by : (b : Bool) → IsReadAgain (token_at c t) → EachIsReadAgain (tokens_after (length (token_at c t).more) t) → EachIsReadAgain (cond b [] (token_at c t ∷ tokens_after (length (token_at c t).more) t))
-    by true f g = tt
-    by false f g = (f, g)
 
 -- ---- a letter, as it is printed
 

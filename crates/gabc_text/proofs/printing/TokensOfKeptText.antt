@@ -39,7 +39,7 @@ abbrev AllRead : List Token → Type 0
 AllRead [] = Unit {0}
 AllRead (k ∷ ks) = IsReadBack k ks × AllRead ks
 
-none_after : (t : List ℕ) → tokens_after (length t) t ≡ []
+pub none_after : (t : List ℕ) → tokens_after (length t) t ≡ []
 none_after [] = refl
 none_after (c ∷ t) = none_after t
 
@@ -164,9 +164,6 @@ kept_tokens : (ks b : List Token) → AllRead ks → tokens (text_of_tokens (alo
 kept_tokens [] b h = refl
 kept_tokens (k ∷ ks) b h = by (is_left_out b k.kind) (is_space k.kind) (follows_space b) refl h.0 (kept_tokens ks (k ∷ b) h.1)
   where
-    rest : List Token
-    rest = along kept_token (k ∷ b) ks
-
     left : k.kind ≡ kind.Comment → is_left_out b k.kind ≡ false → ⊥
     left e f = let g : is_left_out b k.kind ≡ true = rw e refl in absurd (cc)
 

@@ -15,6 +15,7 @@ use Rattle.gabc_text.proofs.machine.TokensOneAfterAnother.{onto}
 use Rattle.gabc_text.proofs.printing.ViewFromFirstToken.{begin_at, end_at, translation_from, view, view_by, pieces_of}
 use Rattle.gabc_text.proofs.printing.ViewFromFirstToken as forward
 use Rattle.gabc_text.proofs.printing.PrintedTextIsReadAgain.{forward_again}
+use Rattle.gabc_text.proofs.printing.TokensOfKeptText.{none_after}
 
 abbrev first_in : List ℕ → Option ℕ
 first_in [] = None
@@ -172,10 +173,6 @@ takes_all c t =
     by_case 60 c (TakesAll t) (at_tag t) (λ e60.
     by_case 91 c (TakesAll t) (at_bracket t) (λ e91.
     λ h. absurd (let f : is_open_one (single c) ≡ true = rw (e36, e37, e60, e91) at h in let g = single_no c in cc)))))
-
-none_after : (t : List ℕ) → tokens_after (length t) t ≡ []
-none_after [] = refl
-none_after (c ∷ t) = none_after t
 
 open_last : (n : ℕ) (t : List ℕ) → OpenLast (tokens_after n t)
 open_last n [] = tt

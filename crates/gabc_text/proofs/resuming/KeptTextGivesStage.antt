@@ -7,7 +7,8 @@ use Rattle.gabc_text.specs.declared.text_event.TextEvent.{TextEvent}
 use Rattle.gabc_text.specs.declared.stage.TextStage.{TextStage}
 use Rattle.gabc_text.specs.BuiltText.{kept_in}
 use Rattle.gabc_text.specs.witness.Keeps.{Keeps, KeepsOn, GoesOn, end_text, begins_comment, kept_with}
-use Rattle.gabc_text.specs.StageTells.{opener_of, is_in_comment, moved_to}
+use Rattle.gabc_text.specs.StageTells.{opener_of, is_in_comment}
+use Rattle.gabc_text.specs.witness.StageReports.{moved_to}
 use Rattle.gabc_text.proofs.resuming.StagesKeep.{kept_again, comment_not_kept, comment_open, comment_alone, opener_open, moved_keeps}
 use Rattle.gabc_text.proofs.resuming.ToldByEvents.{opener_moved, comment_moved}
 

@@ -11,8 +11,9 @@ use Rattle.gabc_text.specs.declared.stage.TextStage.{TextStage}
 use Rattle.gabc_text.specs.BuiltText.{kept_in}
 use Rattle.gabc_text.specs.witness.EventsLeft.{events_left}
 use Rattle.gabc_text.specs.witness.Keeps.{IsKeptOf, said, end_text, EndsInNotes, stage_behind, Keeps, said_of, is_open_behind, begins_comment, kept_with, ends_behind, said_at_end, comment_with, GoesOn, EndsBehind, KeepsOn}
-use Rattle.gabc_text.specs.StageTells.{is_open, opener_of, is_in_comment, next_of, moved_to, place_told, told}
-use Rattle.gabc_text.specs.machine.StageTells.{is_comment, opener_in, comment_in}
+use Rattle.gabc_text.specs.StageTells.{opener_of, is_in_comment}
+use Rattle.gabc_text.specs.witness.StageReports.{next_of, moved_to, place_told, told}
+use Rattle.gabc_text.specs.machine.StageTells.{is_open, is_comment, opener_in, comment_in}
 use Rattle.gabc_text.specs.TextStage.{fresh_stage}
 use Rattle.gabc_text.specs.machine.RawPart.{stage_past, events_of_pushes}
 use Rattle.gabc_text.specs.machine.Resuming.{nowhere, placed, outside, IsAlike, kept_at, kept_past}
@@ -60,9 +61,6 @@ events_more s (c ∷ k) d =
 
 alike_done : (s r : TextStage) → IsAlike s r → r.done ≡ s.done
 alike_done s r a = ap (λ (x : TextStage). x.done) a.same
-
-head_same : (a b : ℕ) → a ∷ [] ≡ b ∷ [] → a ≡ b
-head_same a b e = cc
 
 some_same : (a b : Place) → Some a ≡ Some b → a ≡ b
 some_same a b e = cc

@@ -6,7 +6,7 @@ use Rattle.gabc_text.specs.declared.text_event.TextEvent.{TextEvent}
 use Rattle.gabc_text.specs.declared.stage.TextStage.{TextStage}
 use Rattle.gabc_text.specs.Token.{is_special}
 use Rattle.gabc_text.specs.witness.EventsLeft.{events_left}
-use Rattle.gabc_text.specs.StageTells.{told}
+use Rattle.gabc_text.specs.witness.StageReports.{told}
 use Rattle.gabc_text.specs.machine.TextStage.{push_stage, events_of_push, events_of_finish}
 use Rattle.gabc_text.proofs.machine.EventsLeftAreThoseAhead.{rest_is}
 use Rattle.gabc_text.proofs.machine.EventsStepByStep.{stepwise}

@@ -1,6 +1,6 @@
 -- The centre lies among the pieces, and the translation's span stands for what is between its brackets.
-use Rattle.std.proofs.Common.{◌≡◌, ℕ, zero, suc, ◌+◌, ◌-◌, ◌≤◌, ◌==◌, ◌||◌, ◌&&◌, not, List, [], ◌∷◌, ◌++◌, Bool, true, false, cond, refl, sym, ap, ◌∙◌, append_assoc, append-nil, length, length-append, reverse, drop, Option, Some, None, option_map, arith, nat_lt, slice_range}
-use Rattle.std.proofs.lemmas.Bool.{le-ltb}
+use Rattle.std.proofs.Common.{◌≡◌, ℕ, zero, suc, ◌+◌, ◌-◌, ◌≤◌, ◌==◌, ◌&&◌, not, List, [], ◌∷◌, ◌++◌, Bool, true, false, cond, refl, sym, ap, ◌∙◌, append_assoc, append-nil, length, length-append, reverse, drop, Option, Some, None, option_map, arith, nat_lt, slice_range}
+use Rattle.std.proofs.lemmas.Bool.{le-ltb, or_parts}
 use Rattle.std.proofs.lemmas.Str.{encodes-append}
 use Rattle.std.proofs.Math.Seq.{drop-append_seam, take-append_seam}
 use lib.Utf8.{encodes}
@@ -21,18 +21,15 @@ use Rattle.gabc_text.proofs.machine.LoopOverText.{bytes_encodes}
 use Rattle.gabc_text.proofs.machine.TokensOneAfterAnother.{onto}
 use Rattle.gabc_text.proofs.events.EventsBuildText.{kept_so, along_onto}
 use Rattle.gabc_text.proofs.spans.SpansStandForView.{pieces_facts}
+use Rattle.gabc_text.proofs.machine.EventsFromAnyState.{but_end_is}
 
 -- ---- the centre
-
-no_or : (a b : Bool) → (a || b) ≡ false → (a ≡ false) × (b ≡ false)
-no_or true b e = absurd (cc)
-no_or false b e = (refl, e)
 
 -- without a `{` no `}` ends a centre
 no_end : (before : List Token) → has_begin before ≡ false → end_of before ≡ None
 no_end [] e = refl
 no_end (k ∷ before) e =
-    let h = no_or (is_begin k.kind) (has_begin before) e in
+    let h = or_parts (is_begin k.kind) (has_begin before) e in
     rw h.1 (by (is_end k.kind) (no_end before h.1))
   where
     by : (b : Bool) → end_of before ≡ None → cond (b && (false && not (has_end before))) (Some (count_pieces before)) (end_of before) ≡ None
@@ -160,10 +157,6 @@ onto_bracketed (k ∷ ks) before h g = onto_bracketed ks (k ∷ before) h.1 (h.0
 but_last_end : (c : ℕ) (s : List ℕ) (d : ℕ) → but_last c (s ++ d ∷ []) ≡ c ∷ s
 but_last_end c [] d = refl
 but_last_end c (x ∷ s) d = ap (λ (t : List ℕ). c ∷ t) (but_last_end x s d)
-
-but_end_is : (s : List ℕ) (d : ℕ) → but_end (s ++ d ∷ []) ≡ s
-but_end_is [] d = refl
-but_end_is (c ∷ s) d = but_last_end c s d
 
 module _ (K : List ℕ) where
   span_stands : (before : List Token) (k : Token) (rest : List ℕ) → is_whole_translation k.kind ≡ true → Bracketed k → K ≡ kept_of before ++ (kept_at before k ++ rest)

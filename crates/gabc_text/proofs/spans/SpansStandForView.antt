@@ -1,5 +1,6 @@
 -- The spans of a text's view stand for what the view says.
 use Rattle.std.proofs.Common.{◌≡◌, ℕ, ◌||◌, ◌&&◌, not, is_some, List, [], ◌∷◌, ◌++◌, Bool, true, false, cond, refl, sym, ap, ◌∙◌, append_assoc, Option, Some, None}
+use Rattle.std.proofs.lemmas.Bool.{or_parts}
 use Rattle.gabc_text.specs.declared.token.TokenKind.{TokenKind}
 use Rattle.gabc_text.specs.declared.token.TokenKind.TheVariants as kind
 use Rattle.gabc_text.specs.declared.token.TagEffect.{TagEffect}
@@ -39,10 +40,6 @@ last_facts K (p ∷ o ∷ ps) (q ∷ r ∷ qs) h = (h.0, last_facts K (o ∷ ps)
 
 -- ---- a blank piece is a blank of the kept text
 
-no_or : (a b : Bool) → (a || b) ≡ false → (a ≡ false) × (b ≡ false)
-no_or true b e = absurd (cc)
-no_or false b e = (refl, e)
-
 -- what is left out is no piece
 pub left_no_piece : (before : List Token) (d : TokenKind) (s : TagEffect) → is_left_out before d ≡ true → is_some (piece_kind d s) ≡ false
 left_no_piece before kind.Comment s e = refl
@@ -53,7 +50,7 @@ left_no_piece before _ s e = absurd (cc)
 
 pub no_space : (before : List Token) → follows_blank before ≡ false → follows_space before ≡ false
 no_space [] e = refl
-no_space (k ∷ before) e = by (is_left_out before k.kind) refl (no_or (is_space k.kind) _ e) (λ f. no_space before f)
+no_space (k ∷ before) e = by (is_left_out before k.kind) refl (or_parts (is_space k.kind) _ e) (λ f. no_space before f)
   where
     by : (b : Bool) → is_left_out before k.kind ≡ b → (is_space k.kind ≡ false) × ((not (is_some (kind_of k)) && follows_blank before) ≡ false) → (follows_blank before ≡ false → follows_space before ≡ false)
         → (is_space k.kind || (b && follows_space before)) ≡ false

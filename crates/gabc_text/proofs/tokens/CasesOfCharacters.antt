@@ -1,5 +1,5 @@
 -- A character is this one or another, and by itself a token of one of five kinds; tests of tests.
-use Rattle.std.proofs.Common.{◌≡◌, ℕ, ◌==◌, Bool, true, false, cond, not, ◌||◌, ◌&&◌, refl, sym, subst, codes}
+use Rattle.std.proofs.Common.{◌≡◌, ℕ, ◌==◌, Bool, true, false, cond, refl, sym, subst, codes}
 use Rattle.std.proofs.lemmas.Bool.{eqb-true}
 use Rattle.gabc_text.specs.declared.token.TokenKind.{TokenKind}
 use Rattle.gabc_text.specs.declared.token.TokenKind.TheVariants as kind
@@ -11,18 +11,6 @@ by_case x c P here other = by (c == x) refl
     by : (b : Bool) → c == x ≡ b → P c
     by true e = subst P (sym (eqb-true c x e)) here
     by false e = other e
-
-pub and_both : (a b : Bool) → (a && b) ≡ true → (a ≡ true) × (b ≡ true)
-and_both true b e = (refl, e)
-and_both false b e = absurd (cc)
-
-pub no_or : (a b : Bool) → (a || b) ≡ false → (a ≡ false) × (b ≡ false)
-no_or true b e = absurd (cc)
-no_or false b e = (refl, e)
-
-pub no_not : (a : Bool) → not a ≡ true → a ≡ false
-no_not true e = absurd (cc)
-no_not false e = refl
 
 -- what a character by itself is
 pub single_kind : (P : TokenKind → Type 0) → P kind.Blank → P kind.Stray → P kind.Begin → P kind.End → P kind.Letter → (c : ℕ) → P (single c)

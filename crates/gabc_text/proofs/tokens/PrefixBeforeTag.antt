@@ -95,7 +95,7 @@ some_prefix bs (b ∷ prefix) cs c e n f = omega arith
 
 -- ---- a text that is cut behind its first character
 
-no_more : (n : ℕ) → 0 + n ≡ n
+pub no_more : (n : ℕ) → 0 + n ≡ n
 no_more n = omega arith
 
 pub first_boundary : (bs more : List ℕ) (c : ℕ) → IsUtf8 bs → bs ≡ encode c ++ more → IsCharBoundary bs (len_utf8 c)

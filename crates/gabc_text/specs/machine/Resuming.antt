@@ -15,7 +15,7 @@ nowhere = record { line = 0; column = 0 }
 abbrev pub placed : Place → Place → TextStage → TextStage
 placed at next s = record s { progress = record s.progress { place = at; next = next } }
 
--- behind a comment
+-- after a comment
 abbrev pub outside : TokenState → TokenState
 outside Comment = Plain
 outside m = m

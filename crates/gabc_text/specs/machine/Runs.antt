@@ -7,11 +7,11 @@ use Rattle.gabc_text.specs.declared.view.Piece.{Piece}
 use Rattle.gabc_text.specs.declared.view.TextView.{TextView}
 use Rattle.gabc_text.specs.Canonical.{listed_styles, span_bytes, text_from}
 
--- the text of the pieces from an index on, behind a piece with these styles
+-- the text of the pieces from an index on, after a piece with these styles
 abbrev pub text_at : TextView → List ℕ → Styles → ℕ → List ℕ
 text_at v kept old i = text_from v.centre kept i (listed_styles old) (drop i v.pieces.items)
 
--- the text of a run of these pieces and of those behind it, whose styles are these
+-- the text of a run of these pieces and of those after it, whose styles are these
 abbrev pub text_behind_run : Option Span → List Piece → List ℕ → Styles → Run → List ℕ
 text_behind_run centre pieces kept old r = span_bytes kept r.span ++ text_from centre kept r.next (listed_styles old) (drop r.next pieces)
 

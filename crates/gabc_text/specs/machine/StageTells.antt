@@ -2,9 +2,15 @@
 use Rattle.std.specs.Prelude.{Bool, true, false, Option, Some, None, if◌then◌else◌}
 use Rattle.gabc_places.specs.declared.place.Place.{Place}
 use Rattle.gabc_text.specs.declared.token_state.TokenState.{TokenState}
-use Rattle.gabc_text.specs.declared.token_state.TokenState.TheVariants.{Comment}
+use Rattle.gabc_text.specs.declared.token_state.TokenState.TheVariants.{Comment, Tag, Raw, Translation}
 use Rattle.gabc_text.specs.declared.stage.TextStage.{TextStage}
-use Rattle.gabc_text.specs.StageTells.{is_open}
+
+-- in a tag, a raw part or a translation
+abbrev pub is_open : TokenState → Bool
+is_open (Tag name) = true
+is_open (Raw part m) = true
+is_open Translation = true
+is_open _ = false
 
 abbrev pub is_comment : TokenState → Bool
 is_comment Comment = true

@@ -1,5 +1,5 @@
 -- What the machine does at a character and at the end.
-use Rattle.std.specs.Prelude.{◌≡◌, if◌then◌else◌, ℕ, ◌==◌, ◌&&◌, Bool, true, false, cond, List, [], ◌++◌, Option, Some, None}
+use Rattle.std.specs.Prelude.{if◌then◌else◌, ℕ, ◌==◌, ◌&&◌, Bool, true, false, cond, List, [], ◌++◌, Option, Some, None}
 use Rattle.std.specs.Char.{len_utf8}
 use Rattle.gabc_places.specs.declared.place.Place.{Place}
 use Rattle.gabc_text.specs.declared.token.TokenKind.{TokenKind}
@@ -129,14 +129,3 @@ events_of_finish_by t (Some k) =
 
 abbrev pub events_of_finish : TextStage → List TextEvent
 events_of_finish t = cond t.done [] (events_of_finish_by t (kind_at_end t.state))
-
--- a token of this kind emits nothing as a whole, wherever it stands
-abbrev pub IsSilentToken : TextFacts → TokenKind → TagEffect → Type 0
-IsSilentToken facts k s = (progress : Progress) (last : ℕ) → events_of_token facts progress k s last ≡ []
-
--- the character is kept as it is, no token and no text ends before it, and nothing is found where its token begins
-pub record IsKeptAlone (t : TextStage) (c : ℕ) : Type 0 where
-  pub settles_none : settled_kind t.state c ≡ None
-  pub begins_no_notes : (c == 40 && is_plain t.state) ≡ false
-  pub finds_none : early_at t.facts t.state c ≡ None
-  pub kept : keep t.facts t.state c ≡ Some c

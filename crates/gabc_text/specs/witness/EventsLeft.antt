@@ -1,6 +1,7 @@
--- What a stage still emits of a text, in any state. A state stands between two tokens or within one. A text of the token that
--- it stands in, and then the characters to come, are the tokens ahead; what was seen before one of them is what the state has
--- seen, with the tokens since. In these definitions `before` are the tokens since, the nearest first: before the first none.
+-- What a stage still emits of a text, in any state. A state stands between two tokens or within
+-- one. A text of the token that it stands in, and then the characters to come, are the tokens
+-- ahead; what was seen before one of them is what the state has seen, with the tokens since. In
+-- these definitions `before` are the tokens since, the nearest first: before the first none.
 use Rattle.std.specs.Prelude.{if◌then◌else◌, ℕ, List, [], ◌∷◌, ◌++◌, Bool, cond, not, ◌&&◌, length, drop, map, Option, Some, None, is_some, reverse}
 use Rattle.gabc_places.specs.declared.place.Place.{Place}
 use Rattle.gabc_places.specs.declared.place.Span.{Span}
@@ -45,7 +46,8 @@ each_kept p (c ∷ cs) = (out.Kept (record { c = c; place = p }) ∷ []) ∷ eac
 abbrev pub lists_kept : TextFacts → Place → TokenKind → List ℕ → List (List TextEvent)
 lists_kept facts p k cs = kept_lists_as (leaves_out facts k) facts.space k p cs (each_kept p cs)
 
--- the piece that a token is, if any: a blank is one after a word's piece, and not after a blank piece
+-- the piece that a token is, if any: a blank is one after a word's piece, and not after a blank
+-- piece
 abbrev pub piece_by : TextFacts → TokenKind → TagEffect → Option PieceKind
 piece_by facts k so = cond (is_space k && (facts.word && not facts.blank)) (Some piece.Blank) (piece_kind k so)
 
@@ -53,16 +55,18 @@ piece_by facts k so = cond (is_space k && (facts.word && not facts.blank)) (Some
 abbrev pub last_by : Progress → Token → List ℕ → ℕ
 last_by progress k cs = cond (is_lone k) progress.start (bytes_past progress.kept (but_end cs))
 
--- how many are kept behind it
+-- how many are kept after it
 abbrev pub kept_behind : TextFacts → Progress → TokenKind → List ℕ → ℕ
 kept_behind facts progress k cs = bytes_past progress.kept (kept_by facts k cs)
 
--- a piece has the span of its token in the kept text, a character that of the token's last character
+-- a piece has the span of its token in the kept text, a character that of the token's last
+-- character
 abbrev pub from_by : ℕ → PieceKind → ℕ → ℕ
 from_by start piece.Char last = last
 from_by start _ last = start
 
--- a piece of this kind, where so many bytes are kept before the token's last character, and so many behind it
+-- a piece of this kind, where so many bytes are kept before the token's last character, and so many
+-- after it
 abbrev pub piece_there : TextFacts → Progress → PieceKind → ℕ → ℕ → Piece
 piece_there facts progress kind last to = record { kind = kind; styles = facts.styles; span = record { from = from_by progress.start kind last; to = to } }
 
@@ -82,8 +86,8 @@ codes_by facts k so = late_codes_by (has_style facts.styles) facts.begun facts.e
 abbrev pub findings_there : Place → List Code → List TextEvent
 findings_there p cs = map (λ (c : Code). out.Found (record { place = p; code = c })) cs
 
--- what is emitted of it as a whole, where so many bytes are kept before its last character, and so many behind it: its parts and
--- its findings
+-- what is emitted of it as a whole, where so many bytes are kept before its last character, and so
+-- many after it: its parts and its findings
 abbrev pub whole_events_by : TextFacts → Progress → TokenKind → TagEffect → ℕ → ℕ → List TextEvent
 whole_events_by facts progress k so last to =
     map (λ (p : TextPart). out.Part p) (parts_by facts progress k last to (piece_kind k so))
@@ -97,7 +101,7 @@ abbrev pub early_events_by : TextFacts → Place → List ℕ → TokenKind → 
 early_events_by facts p [] k = cond (is_translation k && facts.translated) (findings_there p (W5 ∷ [])) []
 early_events_by facts p (c ∷ read) k = []
 
--- ---- what is counted behind a token
+-- ---- what is counted after a token
 
 -- the pieces, if it is this piece or none
 abbrev pub count_behind : ℕ → Option PieceKind → ℕ
@@ -224,15 +228,17 @@ module _ (read : List ℕ) (s : TextStage) where
   owed_events_at [] = []
   owed_events_at (k ∷ before) = cond (is_lone k) (token_events_at before k) []
 
-  -- What is emitted with each character to come of a token: with its first what the token before owes and the finding of a
-  -- second translation, then what is kept of each, and with its last the rest.
+  -- What is emitted with each character to come of a token: with its first what the token before
+  -- owes and the finding of a second translation, then what is kept of each, and with its last the
+  -- rest.
   abbrev pub lists_past : List Token → Token → List (List TextEvent)
   lists_past before k =
       with_last (cond (is_lone k) [] (token_events_at before k))
       (with_first (owed_events_at before ++ early_events_by (facts_at before) (place_at before) (read_at before) k.kind)
       (lists_kept (facts_at before) (next_at before) k.kind (ahead_at before k)))
 
-  -- a text is cut if its last token is left open; it ends at the `(` that follows, or with the input
+  -- a text is cut if its last token is left open; it ends at the `(` that follows, or with the
+  -- input
   abbrev pub end_at_text : List Token → List ℕ → TextEnd
   end_at_text [] rest = end_by_rest rest
   end_at_text (k ∷ before) rest = cond (is_open_kind k.kind) (ending.Cut (place_at before)) (end_by_rest rest)
@@ -241,11 +247,13 @@ module _ (read : List ℕ) (s : TextStage) where
   abbrev pub lists_last : List Token → List ℕ → List (List TextEvent)
   lists_last before rest = (owed_events_at before ++ end_events_by (facts_at before) (progress_at before) (is_cut before) (end_at_text before rest)) ∷ no_events_each rest
 
-  -- what is emitted of a text that begins with what was read: a list for each character after it, and one for the end
+  -- what is emitted of a text that begins with what was read: a list for each character after it,
+  -- and one for the end
   abbrev pub lists_ahead : List ℕ → List (List TextEvent)
   lists_ahead t = along lists_past [] (tokens t) ++ lists_last (reverse (tokens t)) (after_tokens t)
 
--- what a stage will still emit for these characters and then the end: a list for each of them, and one for the end
+-- what a stage will still emit for these characters and then the end: a list for each of them, and
+-- one for the end
 unfoldable pub events_left : TextStage → List ℕ → List (List TextEvent)
 events_left s t = cond s.done ([] ∷ no_events_each t) (lists_ahead (stands_for s.state) s (stands_for s.state ++ t))
 

@@ -1,5 +1,5 @@
--- What is seen past some tokens, and the counts past some characters, from any state on. In these definitions `before` are the
--- tokens, the nearest first.
+-- What is seen past some tokens, and the counts past some characters, from any state on. In these
+-- definitions `before` are the tokens, the nearest first.
 use Rattle.std.specs.Prelude.{ℕ, List, [], ◌∷◌, Bool, not, ◌||◌, ◌&&◌, is_some}
 use Rattle.std.specs.Char.{len_utf8}
 use Rattle.gabc_places.specs.declared.place.Place.{Place}
@@ -74,7 +74,7 @@ facts_past facts before = record {
 
 -- ---- counts: one that has reached its last value stays there
 
--- the place behind these characters
+-- the place after these characters
 abbrev pub past : Place → List ℕ → Place
 past p [] = p
 past p (c ∷ cs) = past (saturating_next_place p c) cs

@@ -10,7 +10,9 @@ use Rattle.gabc_text.specs.declared.text_event.TextEvent.TheVariants as out
 use Rattle.gabc_text.specs.declared.stage.TextStage.{TextStage}
 use Rattle.gabc_text.specs.BuiltText.{kept_in}
 use Rattle.gabc_text.specs.End.{is_end}
-use Rattle.gabc_text.specs.StageTells.{is_open, opener_of, is_in_comment, next_of}
+use Rattle.gabc_text.specs.StageTells.{opener_of, is_in_comment}
+use Rattle.gabc_text.specs.machine.StageTells.{is_open}
+use Rattle.gabc_text.specs.witness.StageReports.{next_of}
 use Rattle.gabc_text.specs.TextStage.{fresh_stage}
 use Rattle.gabc_text.specs.machine.RawPart.{stage_past, events_of_pushes}
 use Rattle.gabc_text.specs.machine.Resuming.{nowhere, IsAlike, IsReached, kept_past}
@@ -18,7 +20,8 @@ use Rattle.gabc_text.specs.machine.TextStage.{push_stage, events_of_push}
 use Rattle.gabc_text.specs.machine.TokenState.{is_plain}
 use Rattle.gabc_text.specs.witness.EventsLeft.{events_left}
 
--- what is said by these, but for findings and places: the characters kept, the parts of the view and the end
+-- what is said by these, but for findings and places: the characters kept, the parts of the view
+-- and the end
 abbrev pub said : List TextEvent → List TextEvent
 said [] = []
 said (out.Kept x ∷ os) = out.Kept (record { c = x.c; place = nowhere }) ∷ said os
@@ -34,7 +37,8 @@ end_text events = list_any is_end events
 abbrev pub stage_behind : List ℕ → TextStage
 stage_behind k = stage_past (fresh_stage nowhere) k
 
--- It goes on, and stands where a fresh stage does that has read k, but for places and a comment; of k all is kept.
+-- It goes on, and stands where a fresh stage does that has read k, but for places and a comment; of
+-- k all is kept.
 pub record Keeps (s : TextStage) (k : List ℕ) : Type 0 where
   pub goes_on : s.done ≡ false
   pub reached : IsReached s
@@ -47,11 +51,11 @@ pub record Keeps (s : TextStage) (k : List ℕ) : Type 0 where
 unfoldable pub said_of : List ℕ → List TextEvent
 said_of k = said (events_of_pushes (fresh_stage nowhere) k)
 
--- a tag, a raw part or a translation is open behind it
+-- a tag, a raw part or a translation is open after it
 unfoldable pub is_open_behind : List ℕ → Bool
 is_open_behind k = is_open (stage_behind k).state
 
--- a `%` behind it begins a comment
+-- a `%` after it begins a comment
 unfoldable pub begins_comment : List ℕ → Bool
 begins_comment k = is_plain (stage_behind k).state
 
@@ -59,20 +63,21 @@ begins_comment k = is_plain (stage_behind k).state
 unfoldable pub kept_with : List ℕ → ℕ → List ℕ
 kept_with k c = kept_in (events_of_push (stage_behind k) c)
 
--- a `(` behind it ends the text, where no comment is open, and what is said with it
+-- a `(` after it ends the text, where no comment is open, and what is said with it
 unfoldable pub ends_behind : List ℕ → Bool
 ends_behind k = (push_stage (stage_behind k) 40).done
 
 unfoldable pub said_at_end : List ℕ → List TextEvent
 said_at_end k = said (events_of_push (stage_behind k) 40)
 
--- a comment is open behind a character: as one was, up to an LF, or as a `%` begins one
+-- a comment is open after a character: as one was, up to an LF, or as a `%` begins one
 abbrev pub comment_with : List ℕ → Bool → ℕ → Bool
 comment_with k is_open c = if is_open then not (c == 10) else (c == 37 && begins_comment k)
 
 -- ---- what a character does
 
--- The text k goes on with a character: the stage keeps what is kept more. The opener is the one before, or the character.
+-- The text k goes on with a character: the stage keeps what is kept more. The opener is the one
+-- before, or the character.
 pub record GoesOn (before : TextStage) (k : List ℕ) (c : ℕ) (events : List TextEvent) (after : TextStage) : Type 0 where
   pub keeps : Keeps after (k ++ kept_in events)
   pub said : said_of (k ++ kept_in events) ≡ said_of k ++ said events
@@ -96,7 +101,8 @@ pub record EndsBehind (k : List ℕ) (events : List TextEvent) (after : TextStag
 abbrev pub IsKeptOf : ℕ → ℕ → Type 0
 IsKeptOf c d = (d ≡ c) ⊎ (d ≡ 32)
 
--- By the text that a stage keeps, whether a character ends it, what is kept of it, and which of the two it does.
+-- By the text that a stage keeps, whether a character ends it, what is kept of it, and which of the
+-- two it does.
 pub record KeepsOn (before : TextStage) (c : ℕ) (events : List TextEvent) (after : TextStage) : Type 0 where
   pub end : (k : List ℕ) → Keeps before k → end_text events ≡ (not (is_in_comment before) && (c == 40 && ends_behind k))
   pub kept : (k : List ℕ) → Keeps before k → is_in_comment before ≡ false → kept_in events ≡ kept_with k c

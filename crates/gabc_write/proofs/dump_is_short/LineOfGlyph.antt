@@ -6,7 +6,7 @@ use Rattle.gabc_notes.specs.declared.note.Note.{Note}
 use Rattle.gabc_notes.specs.declared.note.Shape.{Shape}
 use Rattle.gabc_notes.specs.declared.note.Shape.TheVariants as shape
 use Rattle.gabc_neumes.specs.Cut.{kind_by, longest_glyph}
-use Rattle.gabc_neumes.specs.Letters.{letters, letters_from, shape_letter}
+use Rattle.gabc_neumes.specs.Letters.{letters, shape_letter}
 use Rattle.gabc_neumes.specs.Table.{neumes}
 use Rattle.gabc_neumes.specs.Words.{shape_word, kind_word}
 use Rattle.gabc_neumes.specs.declared.glyph.Glyph.{Glyph}
@@ -18,6 +18,7 @@ use Rattle.gabc_patterns.proofs.BothOfTwoTests.{and_true}
 use Rattle.gabc_patterns.proofs.RowsRun.{item_at_end}
 use Rattle.std.proofs.lemmas.Bool.{leb-true}
 use Rattle.std.proofs.Math.Nat.{min-le_left, min-le_right}
+use Rattle.gabc_neumes.proofs.glyphs_of_notes.LettersOfNotes.{many as letters_count}
 use Rattle.gabc_write.specs.DumpOfNotes.{line_of_glyph}
 
 -- ---- the word of a kind, by the number of notes
@@ -104,10 +105,6 @@ sizes_of (n ∷ ns) = size_of n + sizes_of ns
 abbrev pub AreSized : List Note → Type 0
 AreSized [] = Unit {0}
 AreSized (n ∷ ns) = ((1 ≤ size_of n) × (length (shape_word n.shape) ≤ 10 * size_of n)) × AreSized ns
-
-letters_count : (before : Option ℕ) (ns : List Note) → length (letters_from before ns) ≡ length ns
-letters_count before [] = refl
-letters_count before (n ∷ ns) = omega (arith, letters_count (Some n.height) ns)
 
 pub few : (ns : List Note) → AreSized ns → length ns ≤ sizes_of ns
 few [] h = omega arith

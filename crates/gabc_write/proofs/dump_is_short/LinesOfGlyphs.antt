@@ -1,6 +1,6 @@
 -- The lines of the glyphs of a segment are short: of notes with b bytes in all, at most 20 * b; and each is written once.
 use Rattle.std.proofs.Common.{◌≡◌, ℕ, zero, suc, ◌+◌, ◌*◌, ◌≤◌, ◌<◌, ◌^◌, ◌==◌, List, [], ◌∷◌, Bool, true, false, Option, Some, None, length, length-append, length-take, take, drop, arith, refl, subst, if◌then◌else◌}
-use Rattle.std.proofs.lemmas.Bool.Decides.{nat_tests}
+use Rattle.std.proofs.lemmas.Bool.{eqb-true}
 use Rattle.gabc_notes.specs.declared.note.Note.{Note}
 use Rattle.gabc_neumes.specs.Cut.{kind_by, longest_glyph, glyphs_within, glyphs_of}
 use Rattle.gabc_neumes.specs.declared.glyph.Glyph.{Glyph}
@@ -52,15 +52,12 @@ abbrev ones_at : Glyph → ℕ → ℕ → ℕ
 ones_at g e zero = 0
 ones_at g e (suc n) = one_at g e + ones_at g (e + 1) n
 
-same : (a b : ℕ) → (a == b) ≡ true → a ≡ b
-same a b e = grind (arith, nat_tests)
-
 none_behind : (g : Glyph) (e n : ℕ) → g.first < e → ones_at g e n ≡ 0
 none_behind g e zero l = refl
 none_behind g e (suc n) l = omega (arith, by (g.first == e) refl, none_behind g (e + 1) n (omega arith))
   where
     by : (b : Bool) → (g.first == e) ≡ b → length (if b then line_of_glyph g else []) ≡ 0
-    by true f = absurd (omega (arith, same g.first e f))
+    by true f = absurd (omega (arith, eqb-true g.first e f))
     by false f = refl
 
 once : (g : Glyph) (e n : ℕ) → ones_at g e n ≤ length (line_of_glyph g)
@@ -68,7 +65,7 @@ once g e zero = omega arith
 once g e (suc n) = by (g.first == e) refl (once g (e + 1) n)
   where
     by : (b : Bool) → (g.first == e) ≡ b → ones_at g (e + 1) n ≤ length (line_of_glyph g) → length (if b then line_of_glyph g else []) + ones_at g (e + 1) n ≤ length (line_of_glyph g)
-    by true f later = omega (arith, none_behind g (e + 1) n (omega (arith, same g.first e f)))
+    by true f later = omega (arith, none_behind g (e + 1) n (omega (arith, eqb-true g.first e f)))
     by false f later = omega (arith, later)
 
 one_more : (g : Glyph) (gs : List Glyph) (e n : ℕ) → lines_at (g ∷ gs) e n ≡ ones_at g e n + lines_at gs e n

@@ -107,9 +107,6 @@ module _ (short : NamesAreShort) where
   part_short : (kept : List ℕ) (p : Descriptor) → 1 ≤ part_size p → length (line_of_part kept p) ≤ 36 * part_size p
   part_short kept p h = by p.space
     where
-      t : List ℕ
-      t = bytes_of kept p
-
       size : length (bytes_of kept p) ≤ part_size p
       size = omega (arith, length-take (p.span.to - p.span.from) (drop p.span.from kept))
 

@@ -1,13 +1,12 @@
 -- The dump of a syllable is short: at most 64 bytes for each byte of its canonical text, and 256.
-use Rattle.std.proofs.Common.{◌≡◌, ℕ, zero, suc, ◌+◌, ◌*◌, ◌-◌, ◌≤◌, ◌<◌, ◌^◌, ◌&&◌, ◌==◌, List, [], ◌∷◌, ◌++◌, Bool, true, false, cond, nat_le, Option, Some, None, length, length-append, length-take, length-drop, drop, codes, arith, refl, IsUtf8, if◌then◌else◌}
-use Rattle.std.specs.Str.{IsCharBoundary}
+use Rattle.std.proofs.Common.{◌≡◌, ℕ, ◌+◌, ◌*◌, ◌-◌, ◌≤◌, ◌<◌, ◌^◌, ◌&&◌, ◌==◌, List, [], ◌∷◌, ◌++◌, Bool, true, false, cond, nat_le, Option, Some, None, length, length-append, length-take, length-drop, drop, codes, arith, refl, IsUtf8, if◌then◌else◌}
 use Rattle.std.specs.List.{All}
 use Rattle.std.specs.Fmt.{decimal}
 use Rattle.std.proofs.lemmas.Bool.{leb-true}
-use Rattle.std.proofs.lemmas.Bool.Decides.{nat_tests}
 use Rattle.std.proofs.lemmas.Fmt.{length-decimal-le}
 use Rattle.std.proofs.lemmas.List.Elements.{All-head, All-tail}
 use Rattle.std.proofs.lemmas.Str.{IsUtf8-between}
+use Rattle.gabc_score.proofs.score_events.TextsArePlain.{seam_boundary}
 use Rattle.gabc_places.specs.declared.place.Span.{Span}
 use Rattle.gabc_neumes.specs.InForce.{InForce, passed}
 use Rattle.gabc_text.specs.Canonical.{canonical_text}
@@ -25,12 +24,6 @@ use Rattle.gabc_write.proofs.dump_is_short.LinesOfSnippets.{NamesAreShort, notes
 
 -- ---- the text of a span
 
-boundary : (bytes : List ℕ) (i : ℕ) → i ≤ length bytes → is_seam (drop i bytes) ≡ true → IsCharBoundary bytes i
-boundary [] zero l e = (l, λ x y. absurd (omega arith))
-boundary [] (suc i) l e = absurd (omega arith)
-boundary (b ∷ bytes) zero l e = (l, λ x y. grind (arith, nat_tests))
-boundary (b ∷ bytes) (suc i) l e = let h = boundary bytes i (omega arith) e in (l, λ x y. h.1 (omega arith) y)
-
 -- it is a text, with no more bytes than the span has
 pub text_short : (span : Span) (bytes : List ℕ) → IsUtf8 bytes → IsUtf8 (text_at span bytes) × (length (text_at span bytes) ≤ length (slice span bytes))
 unfolding slice
@@ -44,7 +37,7 @@ text_short span bytes u = by (nat_le span.from span.to && (nat_le span.to (lengt
         let z = and_true _ _ y.1 in
         let order = leb-true span.from span.to x.0 in
         let within = leb-true span.to (length bytes) y.0 in
-        (IsUtf8-between bytes span.from span.to u order (boundary bytes span.from (omega arith) z.0) (boundary bytes span.to within z.1), omega arith)
+        (IsUtf8-between bytes span.from span.to u order (seam_boundary bytes span.from (omega arith) z.0) (seam_boundary bytes span.to within z.1), omega arith)
     by false e = (([], (refl, refl)), omega arith)
 
 -- ---- the lines of a syllable

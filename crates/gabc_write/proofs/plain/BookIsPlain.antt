@@ -1,5 +1,6 @@
 -- The canonical header lines of a plain text's book are plain.
 use Rattle.std.proofs.Common.{◌≡◌, ℕ, ◌+◌, List, [], ◌∷◌, ◌++◌, Bool, true, false, ◌&&◌, ◌||◌, not, cond, ◌==◌, length, refl, ap, ◌∙◌, Option, Some, None, Ok, codes}
+use Rattle.std.proofs.lemmas.Bool.{and_parts, and_from}
 use Rattle.std.specs.List.{list_all}
 use Rattle.gabc_places.specs.declared.limits.Limits.{Limits}
 use Rattle.gabc_places.specs.Findings.{Stop, earliest}
@@ -11,7 +12,7 @@ use Rattle.gabc_headers.specs.Book.{is_kept, repeats, unless, entries, last_valu
 use Rattle.gabc_headers.specs.Canonical.{wants_lines, printed_value, header_line, header_lines, canonical_heads}
 use Rattle.gabc_headers.specs.Heads.{heads_of}
 use Rattle.gabc_headers.specs.witness.Heads.{head_stops, heads_by}
-use Rattle.gabc_write.proofs.plain.PlainCharacters.{either, plain_option, is_plain, plain, both, and, append}
+use Rattle.gabc_write.proofs.plain.PlainCharacters.{either, plain_option, is_plain, plain, append}
 use Rattle.std.specs.Prelude.{bytes_eq}
 
 -- ---- lines
@@ -20,15 +21,15 @@ abbrev plain_lines : List (List ℕ) → Bool
 plain_lines ls = list_all plain ls
 
 on_first_plain : (c : ℕ) (ls : List (List ℕ)) → is_plain c ≡ true → plain_lines ls ≡ true → plain_lines (on_first c ls) ≡ true
-on_first_plain c [] h k = and (plain (c ∷ [])) true (and (is_plain c) true h refl) refl
+on_first_plain c [] h k = and_from (plain (c ∷ [])) true (and_from (is_plain c) true h refl) refl
 on_first_plain c (l ∷ ls) h k =
-    let g = both (plain l) (plain_lines ls) k in
-    and (plain (c ∷ l)) (plain_lines ls) (and (is_plain c) (plain l) h g.0) g.1
+    let g = and_parts (plain l) (plain_lines ls) k in
+    and_from (plain (c ∷ l)) (plain_lines ls) (and_from (is_plain c) (plain l) h g.0) g.1
 
 lines_plain : (t : List ℕ) → plain t ≡ true → plain_lines (lines t) ≡ true
 lines_plain [] h = refl
 lines_plain (c ∷ t) h =
-    let g = both (is_plain c) (plain t) h in
+    let g = and_parts (is_plain c) (plain t) h in
     by g.0 (lines_plain t g.1) (c == 10)
   where
     by : is_plain c ≡ true → plain_lines (lines t) ≡ true → (b : Bool) → plain_lines (cond b ([] ∷ lines t) (on_first c (lines t))) ≡ true
@@ -38,8 +39,8 @@ lines_plain (c ∷ t) h =
 head_plain : (ls : List (List ℕ)) → plain_lines ls ≡ true → plain_lines (head_of ls) ≡ true
 head_plain [] h = refl
 head_plain (l ∷ ls) h =
-    let g = both (plain l) (plain_lines ls) h in
-    by (and (plain l) (plain_lines (head_of ls)) g.0 (head_plain ls g.1)) (is_score_line l)
+    let g = and_parts (plain l) (plain_lines ls) h in
+    by (and_from (plain l) (plain_lines (head_of ls)) g.0 (head_plain ls g.1)) (is_score_line l)
   where
     by : plain_lines (l ∷ head_of ls) ≡ true → (b : Bool) → plain_lines (cond b [] (l ∷ head_of ls)) ≡ true
     by more true = refl
@@ -50,24 +51,24 @@ head_plain (l ∷ ls) h =
 before_colon_plain : (l : List ℕ) → plain l ≡ true → plain (before_colon l) ≡ true
 before_colon_plain [] h = refl
 before_colon_plain (c ∷ l) h =
-    let g = both (is_plain c) (plain l) h in
-    either (c == 58) [] (c ∷ before_colon l) refl (and (is_plain c) (plain (before_colon l)) g.0 (before_colon_plain l g.1))
+    let g = and_parts (is_plain c) (plain l) h in
+    either (c == 58) [] (c ∷ before_colon l) refl (and_from (is_plain c) (plain (before_colon l)) g.0 (before_colon_plain l g.1))
 
 after_colon_plain : (l : List ℕ) → plain l ≡ true → plain (after_colon l) ≡ true
 after_colon_plain [] h = refl
 after_colon_plain (c ∷ l) h =
-    let g = both (is_plain c) (plain l) h in
+    let g = and_parts (is_plain c) (plain l) h in
     either (c == 58) l (after_colon l) g.1 (after_colon_plain l g.1)
 
 before_mark_plain : (n : ℕ) (l : List ℕ) → plain l ≡ true → plain (before_mark n l) ≡ true
 before_mark_plain n [] h = refl
 before_mark_plain n (c ∷ l) h =
-    let g = both (is_plain c) (plain l) h in
-    either (is_mark n (c ∷ l)) [] (c ∷ before_mark n l) refl (and (is_plain c) (plain (before_mark n l)) g.0 (before_mark_plain n l g.1))
+    let g = and_parts (is_plain c) (plain l) h in
+    either (is_mark n (c ∷ l)) [] (c ∷ before_mark n l) refl (and_from (is_plain c) (plain (before_mark n l)) g.0 (before_mark_plain n l g.1))
 
 trim_start_plain : (out : ℕ → Bool) (l : List ℕ) → plain l ≡ true → plain (trim_start out l) ≡ true
 trim_start_plain out [] h = refl
-trim_start_plain out (c ∷ l) h = either (out c) (trim_start out l) (c ∷ l) (trim_start_plain out l (both (is_plain c) (plain l) h).1) h
+trim_start_plain out (c ∷ l) h = either (out c) (trim_start out l) (c ∷ l) (trim_start_plain out l (and_parts (is_plain c) (plain l) h).1) h
 
 unless_last_plain : (b : Bool) (c : ℕ) (l : List ℕ) → plain (c ∷ l) ≡ true → plain (unless_last b c l) ≡ true
 unless_last_plain b c [] h = either b [] (c ∷ []) refl h
@@ -76,8 +77,8 @@ unless_last_plain b c (d ∷ l) h = h
 trim_end_plain : (out : ℕ → Bool) (l : List ℕ) → plain l ≡ true → plain (trim_end out l) ≡ true
 trim_end_plain out [] h = refl
 trim_end_plain out (c ∷ l) h =
-    let g = both (is_plain c) (plain l) h in
-    unless_last_plain (out c) c (trim_end out l) (and (is_plain c) (plain (trim_end out l)) g.0 (trim_end_plain out l g.1))
+    let g = and_parts (is_plain c) (plain l) h in
+    unless_last_plain (out c) c (trim_end out l) (and_from (is_plain c) (plain (trim_end out l)) g.0 (trim_end_plain out l g.1))
 
 name_trimmed : (l : List ℕ) → plain l ≡ true → plain (trim_name l) ≡ true
 name_trimmed l h = trim_start_plain is_blank (trim_end is_blank l) (trim_end_plain is_blank l h)
@@ -108,7 +109,7 @@ name_plain l h = by (is_good_name (trim_name (before_colon l)))
 
 ended_plain : (k : ℕ) (name : Option (List ℕ)) (v : List ℕ) (p : ℕ) → plain_option name ≡ true → plain v ≡ true → plain_parts (ended_parts k name v p) ≡ true
 ended_plain k None v p h g = refl
-ended_plain k (Some name) v p h g = and (plain name && plain (trim_value v)) true (and (plain name) (plain (trim_value v)) h (value_trimmed v g)) refl
+ended_plain k (Some name) v p h g = and_from (plain name && plain (trim_value v)) true (and_from (plain name) (plain (trim_value v)) h (value_trimmed v g)) refl
 
 bad_name_plain : (k : ℕ) (name : Option (List ℕ)) (p : ℕ) → plain_parts (bad_name_parts k name p) ≡ true
 bad_name_plain k None p = refl
@@ -132,7 +133,7 @@ line_plain outside k n l h g =
     either_parts (is_bare l) [] (cond (has_colon l) (bad ++ cond (has_mark 1 (after_colon l)) ended []) out) refl
     (either_parts (has_colon l) (bad ++ cond (has_mark 1 (after_colon l)) ended []) out named refl)
 line_plain (within j name v) k n l h g =
-    let c = both (plain_option name) (plain v) h in
+    let c = and_parts (plain_option name) (plain v) h in
     let ended = ended_parts j name (v ++ 10 ∷ before_mark 2 l) (n + mark_end 2 l) in
     either_parts (has_mark 2 l) ended [] (ended_plain j name (v ++ 10 ∷ before_mark 2 l) (n + mark_end 2 l) c.0 (behind_feed v (before_mark 2 l) c.1 (before_mark_plain 2 l g))) refl
 
@@ -143,10 +144,10 @@ either_context false s t h k = k
 below_plain : (w : LineContext) (k : ℕ) (l : List ℕ) → plain_context w ≡ true → plain l ≡ true → plain_context (context_below w k l) ≡ true
 below_plain outside k l h g =
     either_context (is_bare l || (not (has_colon l) || has_mark 1 (after_colon l))) outside (within k (name_of l) (after_colon l)) refl
-    (and (plain_option (name_of l)) (plain (after_colon l)) (name_plain l g) (after_colon_plain l g))
+    (and_from (plain_option (name_of l)) (plain (after_colon l)) (name_plain l g) (after_colon_plain l g))
 below_plain (within j name v) k l h g =
-    let c = both (plain_option name) (plain v) h in
-    either_context (has_mark 2 l) outside (within j name (v ++ 10 ∷ l)) refl (and (plain_option name) (plain (v ++ 10 ∷ l)) c.0 (behind_feed v l c.1 g))
+    let c = and_parts (plain_option name) (plain v) h in
+    either_context (has_mark 2 l) outside (within j name (v ++ 10 ∷ l)) refl (and_from (plain_option name) (plain (v ++ 10 ∷ l)) c.0 (behind_feed v l c.1 g))
 
 open_plain : (w : LineContext) → plain_parts (parts_left_open w) ≡ true
 open_plain outside = refl
@@ -155,7 +156,7 @@ open_plain (within j name v) = refl
 parts_plain : (w : LineContext) (k n : ℕ) (ls : List (List ℕ)) → plain_context w ≡ true → plain_lines ls ≡ true → plain_parts (parts w k n ls) ≡ true
 parts_plain w k n [] h g = open_plain w
 parts_plain w k n (l ∷ ls) h g =
-    let c = both (plain l) (plain_lines ls) g in
+    let c = and_parts (plain l) (plain_lines ls) g in
     append plain_part (parts_of_line w k n l) (parts (context_below w k l) (k + 1) (n + (length l + 1)) ls) (line_plain w k n l h c.0)
     (parts_plain (context_below w k l) (k + 1) (n + (length l + 1)) ls (below_plain w k l h c.0) c.1)
 
@@ -169,21 +170,21 @@ plain_book es = list_all plain_entry es
 
 unless_plain : (b : Bool) (e : List ℕ × List ℕ) (es : List (List ℕ × List ℕ)) → plain_entry e ≡ true → plain_book es ≡ true → plain_book (unless b e es) ≡ true
 unless_plain true e es h k = k
-unless_plain false e es h k = and (plain_entry e) (plain_book es) h k
+unless_plain false e es h k = and_from (plain_entry e) (plain_book es) h k
 
 entries_plain : (ps : List HeaderPart) → plain_parts ps ≡ true → plain_book (entries ps) ≡ true
 entries_plain [] h = refl
 entries_plain (left_out k p ∷ ps) h = entries_plain ps h
 entries_plain (unended k ∷ ps) h = entries_plain ps h
 entries_plain (header k name value p ∷ ps) h =
-    let g = both (plain name && plain value) (plain_parts ps) h in
+    let g = and_parts (plain name && plain value) (plain_parts ps) h in
     unless_plain (not (is_kept name value)) (name, value) (entries ps) g.0 (entries_plain ps g.1)
 
 last_value_plain : (name v : List ℕ) (es : List (List ℕ × List ℕ)) → plain v ≡ true → plain_book es ≡ true → plain (last_value name v es) ≡ true
 last_value_plain name v [] h k = h
 last_value_plain name v (e ∷ es) h k =
-    let g = both (plain_entry e) (plain_book es) k in
-    last_value_plain name (cond (bytes_eq name e.0) e.1 v) es (either (bytes_eq name e.0) e.1 v (both (plain e.0) (plain e.1) g.0).1 h) g.1
+    let g = and_parts (plain_entry e) (plain_book es) k in
+    last_value_plain name (cond (bytes_eq name e.0) e.1 v) es (either (bytes_eq name e.0) e.1 v (and_parts (plain e.0) (plain e.1) g.0).1 h) g.1
 
 value_plain : (name v : List ℕ) (es : List (List ℕ × List ℕ)) → plain v ≡ true → plain_book es ≡ true → plain (value_of name v es) ≡ true
 value_plain name v es h k = either (bytes_eq name (codes "annotation")) v (last_value name v es) h (last_value_plain name v es h k)
@@ -191,10 +192,10 @@ value_plain name v es h k = either (bytes_eq name (codes "annotation")) v (last_
 standing_plain : (seen : List (List ℕ)) (es : List (List ℕ × List ℕ)) → plain_book es ≡ true → plain_book (standing_entries seen es) ≡ true
 standing_plain seen [] h = refl
 standing_plain seen (e ∷ es) h =
-    let g = both (plain_entry e) (plain_book es) h in
-    let here = both (plain e.0) (plain e.1) g.0 in
+    let g = and_parts (plain_entry e) (plain_book es) h in
+    let here = and_parts (plain e.0) (plain e.1) g.0 in
     unless_plain (repeats seen e.0) (e.0, value_of e.0 e.1 es) (standing_entries (e.0 ∷ seen) es)
-    (and (plain e.0) (plain (value_of e.0 e.1 es)) here.0 (value_plain e.0 e.1 es here.1 g.1)) (standing_plain (e.0 ∷ seen) es g.1)
+    (and_from (plain e.0) (plain (value_of e.0 e.1 es)) here.0 (value_plain e.0 e.1 es here.1 g.1)) (standing_plain (e.0 ∷ seen) es g.1)
 
 book_plain : (t : List ℕ) → plain t ≡ true → plain_book (book_of (head_parts t)) ≡ true
 book_plain t h = standing_plain [] (entries (head_parts t)) (entries_plain (head_parts t) (parts_plain outside 1 0 (head_of (lines t)) refl (head_plain (lines t) (lines_plain t h))))
@@ -209,8 +210,8 @@ printed_plain false (c ∷ v) h = append is_plain (codes " " ++ (c ∷ v)) (code
 header_lines_plain : (es : List (List ℕ × List ℕ)) → plain_book es ≡ true → plain (header_lines es) ≡ true
 header_lines_plain [] h = refl
 header_lines_plain (e ∷ es) h =
-    let g = both (plain_entry e) (plain_book es) h in
-    let here = both (plain e.0) (plain e.1) g.0 in
+    let g = and_parts (plain_entry e) (plain_book es) h in
+    let here = and_parts (plain e.0) (plain e.1) g.0 in
     append is_plain (header_line e) (header_lines es)
     (append is_plain (e.0 ++ codes ":") (printed_value (wants_lines (lines e.1)) e.1) (append is_plain e.0 (codes ":") here.0 refl) (printed_plain (wants_lines (lines e.1)) e.1 here.1))
     (header_lines_plain es g.1)

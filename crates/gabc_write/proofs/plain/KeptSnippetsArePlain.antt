@@ -1,6 +1,8 @@
 -- What a snippet keeps of plain characters is plain.
 use Rattle.std.proofs.Common.{◌≡◌, ℕ, zero, suc, List, [], ◌∷◌, ◌++◌, Bool, true, false, cond, if◌then◌else◌, refl, ap, ◌∙◌, reverse}
 use Rattle.std.proofs.lemmas.Grind.{reverse_onto}
+use Rattle.std.proofs.lemmas.Bool.{and_parts, and_from}
+use Rattle.gabc_score.proofs.texts_of_body.TextEmitsThroughEnd.{codes_append}
 use Rattle.gabc_places.specs.declared.place.Char.{Char}
 use Rattle.gabc_patterns.specs.LongestItems.{Table}
 use Rattle.gabc_patterns.specs.Derivative.{is_snippet, is_viable}
@@ -11,42 +13,38 @@ use Rattle.gabc_notes.specs.Events as notes
 use Rattle.gabc_nabc.specs.Table.{nabc}
 use Rattle.gabc_nabc.specs.Events as nabc
 use Rattle.gabc_score.specs.Holding.{kept_on_line}
-use Rattle.gabc_write.proofs.plain.PlainCharacters.{either, is_plain, plain, both, and, append}
+use Rattle.gabc_write.proofs.plain.PlainCharacters.{either, is_plain, plain, append}
 
 module _ {K : Type 0} (rows : Table K) where
   with_last : (before : List ℕ) (c : ℕ) → plain before ≡ true → is_plain c ≡ true → plain (before ++ c ∷ []) ≡ true
-  with_last before c h k = append is_plain before (c ∷ []) h (and (is_plain c) true k refl)
+  with_last before c h k = append is_plain before (c ∷ []) h (and_from (is_plain c) true k refl)
 
   pub keep_plain : (kept t : List ℕ) → plain kept ≡ true → plain t ≡ true → plain (keep_from rows kept t) ≡ true
   keep_plain kept [] h k = h
   keep_plain kept (c ∷ t) h k =
-      let g = both (is_plain c) (plain t) k in
+      let g = and_parts (is_plain c) (plain t) k in
       keep_plain (cond (is_viable rows (kept ++ c ∷ [])) (kept ++ c ∷ []) kept) t (either (is_viable rows (kept ++ c ∷ [])) (kept ++ c ∷ []) kept (with_last kept c h g.0) h) g.1
 
   pub trim_plain : (best before t : List ℕ) → plain best ≡ true → plain before ≡ true → plain t ≡ true → plain (trim_from rows best before t) ≡ true
   trim_plain best before [] h k m = h
   trim_plain best before (c ∷ t) h k m =
-      let g = both (is_plain c) (plain t) m in
+      let g = and_parts (is_plain c) (plain t) m in
       trim_plain (cond (is_snippet rows (before ++ c ∷ [])) (before ++ c ∷ []) best) (before ++ c ∷ []) t (either (is_snippet rows (before ++ c ∷ [])) (before ++ c ∷ []) best (with_last before c k g.0) h) (with_last before c k g.0) g.1
 
 -- ---- the characters
 
-pub codes_append : (xs ys : List Char) → codes_of (xs ++ ys) ≡ codes_of xs ++ codes_of ys
-codes_append [] ys = refl
-codes_append (x ∷ xs) ys = ap (λ (t : List ℕ). x.c ∷ t) (codes_append xs ys)
-
 reversed_plain : (xs : List Char) → plain (codes_of xs) ≡ true → plain (codes_of (reverse xs)) ≡ true
 reversed_plain [] h = refl
 reversed_plain (x ∷ xs) h =
-    let g = both (is_plain x.c) (plain (codes_of xs)) h in
+    let g = and_parts (is_plain x.c) (plain (codes_of xs)) h in
     ap (λ (ys : List Char). plain (codes_of ys)) (reverse_onto xs x []) ∙ ap plain (codes_append (reverse xs) (x ∷ []))
-    ∙ append is_plain (codes_of (reverse xs)) (x.c ∷ []) (reversed_plain xs g.1) (and (is_plain x.c) true g.0 refl)
+    ∙ append is_plain (codes_of (reverse xs)) (x.c ∷ []) (reversed_plain xs g.1) (and_from (is_plain x.c) true g.0 refl)
 
 outside_plain : (back : List Char) → plain (codes_of back) ≡ true → plain (notes.outside_comments (notes.with_comments back)) ≡ true
 outside_plain [] h = refl
 outside_plain (x ∷ back) h =
-    let g = both (is_plain x.c) (plain (codes_of back)) h in
-    by (and (is_plain x.c) true g.0 refl) (outside_plain back g.1) (notes.goes_in_comment (notes.with_comments back) x.c)
+    let g = and_parts (is_plain x.c) (plain (codes_of back)) h in
+    by (and_from (is_plain x.c) true g.0 refl) (outside_plain back g.1) (notes.goes_in_comment (notes.with_comments back) x.c)
   where
     by : plain (x.c ∷ []) ≡ true → plain (notes.outside_comments (notes.with_comments back)) ≡ true → (b : Bool) → plain (if b then notes.outside_comments (notes.with_comments back) else notes.outside_comments (notes.with_comments back) ++ x.c ∷ []) ≡ true
     by here earlier true = earlier
@@ -55,11 +53,11 @@ outside_plain (x ∷ back) h =
 characters_plain : (t cs : List ℕ) → plain cs ≡ true → plain (nabc.characters_behind t cs) ≡ true
 characters_plain t [] h = refl
 characters_plain t (c ∷ cs) h =
-    let g = both (is_plain c) (plain cs) h in
+    let g = and_parts (is_plain c) (plain cs) h in
     by g.0 (characters_plain (t ++ c ∷ []) cs g.1) (nabc.is_character t c)
   where
     by : is_plain c ≡ true → plain (nabc.characters_behind (t ++ c ∷ []) cs) ≡ true → (b : Bool) → plain (if b then c ∷ nabc.characters_behind (t ++ c ∷ []) cs else nabc.characters_behind (t ++ c ∷ []) cs) ≡ true
-    by here later true = and (is_plain c) (plain (nabc.characters_behind (t ++ c ∷ []) cs)) here later
+    by here later true = and_from (is_plain c) (plain (nabc.characters_behind (t ++ c ∷ []) cs)) here later
     by here later false = later
 
 pub kept_plain : (line : ℕ) (xs : List Char) → plain (codes_of xs) ≡ true → plain (kept_on_line line xs) ≡ true

@@ -1,5 +1,6 @@
 -- A printed syllable of plain text and of snippets that keep plain characters is plain.
 use Rattle.std.proofs.Common.{◌≡◌, ℕ, List, [], ◌∷◌, ◌++◌, map, Bool, true, refl, sym, ap, ◌∙◌, codes, append_assoc}
+use Rattle.std.proofs.lemmas.Bool.{and_parts, and_from}
 use Rattle.std.specs.List.{list_all, flat_map}
 use Rattle.gabc_text.specs.Events.{codes_of}
 use Rattle.gabc_text.specs.ViewFacts.{view_facts}
@@ -7,7 +8,7 @@ use Rattle.gabc_text.specs.Printed.{print}
 use Rattle.gabc_score.specs.Holding.{ReadSnippet, IsHeld, bracket_with, in_brackets}
 use Rattle.gabc_write.specs.PlainText.{IsText}
 use Rattle.gabc_write.specs.SyllableAgain.{barred, printed_syllable}
-use Rattle.gabc_write.proofs.plain.PlainCharacters.{is_plain, plain, both, and, append, parts_of, is_text, text_plain}
+use Rattle.gabc_write.proofs.plain.PlainCharacters.{is_plain, plain, append, parts_of, is_text, text_plain}
 use Rattle.gabc_write.proofs.plain.PrintedViewIsPlain.{view_plain}
 use Rattle.gabc_write.proofs.plain.KeptSnippetsArePlain.{kept_plain}
 
@@ -16,9 +17,9 @@ plain_snippets ss = list_all plain ss
 
 barred_plain : (ss : List (List ℕ)) → plain_snippets ss ≡ true → plain (barred ss) ≡ true
 barred_plain [] h = refl
-barred_plain (s ∷ []) h = (both (plain s) true h).0
+barred_plain (s ∷ []) h = (and_parts (plain s) true h).0
 barred_plain (s ∷ t ∷ ss) h =
-    let g = both (plain s) (plain_snippets (t ∷ ss)) h in
+    let g = and_parts (plain s) (plain_snippets (t ∷ ss)) h in
     append is_plain s (124 ∷ barred (t ∷ ss)) g.0 (barred_plain (t ∷ ss) g.1)
 
 pub syllable_plain : (t : List ℕ) (ss : List (List ℕ)) → IsText t → plain_snippets ss ≡ true → IsText (printed_syllable (view_facts t) ss)
@@ -38,22 +39,22 @@ earlier_plain : (ss : List ReadSnippet) → plain (flat_map (λ s. characters_of
 earlier_plain [] h = refl
 earlier_plain (s ∷ ss) h =
     let g = parts_of is_plain (characters_of s ++ codes "|") (flat_map (λ s. characters_of s ++ codes "|") ss) h in
-    and (plain_read s) (list_all plain_read ss) (parts_of is_plain (characters_of s) (codes "|") g.0).0 (earlier_plain ss g.1)
+    and_from (plain_read s) (list_all plain_read ss) (parts_of is_plain (characters_of s) (codes "|") g.0).0 (earlier_plain ss g.1)
 
 -- the characters of the notes are those of their snippets
 read_plain : (earlier : List ReadSnippet) (last : ReadSnippet) → plain (in_brackets (λ s. codes_of s.characters) earlier last) ≡ true → list_all plain_read (earlier ++ last ∷ []) ≡ true
 read_plain earlier last h =
     let g = parts_of is_plain (bracket_with (λ s. codes_of s.characters) earlier) (characters_of last ++ codes ")") h in
     append plain_read earlier (last ∷ []) (earlier_plain earlier (parts_of is_plain (codes "(") (flat_map (λ s. characters_of s ++ codes "|") earlier) g.0).1)
-    (and (plain_read last) true (parts_of is_plain (characters_of last) (codes ")") g.1).0 refl)
+    (and_from (plain_read last) true (parts_of is_plain (characters_of last) (codes ")") g.1).0 refl)
 
 module _ (lines : ℕ) (K text : List ℕ) (all : List ReadSnippet)
     (each : (before after : List ReadSnippet) (s : ReadSnippet) → all ≡ before ++ s ∷ after → IsHeld lines K text before s) where
   held_plain : (before rs : List ReadSnippet) → all ≡ before ++ rs → list_all plain_read rs ≡ true → plain_snippets (map (λ (s : ReadSnippet). s.kept) rs) ≡ true
   held_plain before [] e h = refl
   held_plain before (r ∷ rs) e h =
-      let g = both (plain_read r) (list_all plain_read rs) h in
-      and (plain r.kept) (plain_snippets (map (λ (s : ReadSnippet). s.kept) rs)) (ap plain (each before rs r e).kept_is ∙ kept_plain r.snippet.line r.characters g.0)
+      let g = and_parts (plain_read r) (list_all plain_read rs) h in
+      and_from (plain r.kept) (plain_snippets (map (λ (s : ReadSnippet). s.kept) rs)) (ap plain (each before rs r e).kept_is ∙ kept_plain r.snippet.line r.characters g.0)
       (held_plain (before ++ r ∷ []) rs (e ∙ sym (append_assoc before (r ∷ []) rs)) g.1)
 
 pub snippets_plain : (lines : ℕ) (K text notes : List ℕ) (earlier : List ReadSnippet) (last : ReadSnippet) → notes ≡ in_brackets (λ s. codes_of s.characters) earlier last

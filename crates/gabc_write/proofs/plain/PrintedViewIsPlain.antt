@@ -1,5 +1,6 @@
 -- What a plain text says is printed as plain text.
 use Rattle.std.proofs.Common.{◌≡◌, ℕ, ◌+◌, List, [], ◌∷◌, ◌++◌, Bool, true, false, ◌&&◌, not, cond, ◌==◌, refl, sym, ap, ◌∙◌, reverse, map, Option, Some, None}
+use Rattle.std.proofs.lemmas.Bool.{and_parts, and_from}
 use Rattle.std.specs.List.{list_all}
 use Rattle.gabc_places.specs.declared.place.Span.{Span}
 use Rattle.gabc_text.specs.declared.styles.Style.{Style}
@@ -15,7 +16,7 @@ use Rattle.gabc_text.specs.Events.{but_last, is_whole_translation}
 use Rattle.gabc_text.specs.Canonical.{after_common}
 use Rattle.gabc_text.specs.Printed.{closing_tag, opening_tag, brace_tokens, tokens_between, letter, spelled_as, printed_piece, print_from, translation_tokens, word_break, text_of_tokens, print}
 use Rattle.gabc_text.proofs.tokens.TextIsTokensAndRest.{parted}
-use Rattle.gabc_write.proofs.plain.PlainCharacters.{plain_option, is_plain, plain, both, and, append, parts_of, reversed}
+use Rattle.gabc_write.proofs.plain.PlainCharacters.{plain_option, is_plain, plain, append, parts_of, reversed}
 
 -- ---- tokens
 
@@ -29,12 +30,12 @@ tokens_of : (ks : List Token) → plain (text_of_tokens ks) ≡ true → plain_t
 tokens_of [] h = refl
 tokens_of (k ∷ ks) h =
     let g = parts_of is_plain (spelling k) (text_of_tokens ks) h in
-    and (is_plain_token k) (plain_tokens ks) g.0 (tokens_of ks g.1)
+    and_from (is_plain_token k) (plain_tokens ks) g.0 (tokens_of ks g.1)
 
 text_of_plain : (ks : List Token) → plain_tokens ks ≡ true → plain (text_of_tokens ks) ≡ true
 text_of_plain [] h = refl
 text_of_plain (k ∷ ks) h =
-    let g = both (is_plain_token k) (plain_tokens ks) h in
+    let g = and_parts (is_plain_token k) (plain_tokens ks) h in
     append is_plain (spelling k) (text_of_tokens ks) g.0 (text_of_plain ks g.1)
 
 plain_cut : (t : List ℕ) → plain t ≡ true → plain_tokens (tokens t) ≡ true
@@ -52,7 +53,7 @@ plain_pieces ps = list_all is_plain_piece ps
 
 last_plain : (c : ℕ) (s : List ℕ) → plain (c ∷ s) ≡ true → plain (last_of c s) ≡ true
 last_plain c [] h = h
-last_plain c (d ∷ s) h = last_plain d s (both (is_plain c) (plain (d ∷ s)) h).1
+last_plain c (d ∷ s) h = last_plain d s (and_parts (is_plain c) (plain (d ∷ s)) h).1
 
 piece_text : (kind : PieceKind) (k : Token) → is_plain_token k ≡ true → plain (text_of_piece kind k) ≡ true
 piece_text piece.Char k h = last_plain k.first k.more h
@@ -70,12 +71,12 @@ piece_plain before k h = by (kind_of k)
 
     by : (o : Option PieceKind) → plain_pieces (piece_of before k o) ≡ true
     by None = blank (is_space k.kind && has_word before && not (follows_blank before))
-    by (Some kind) = and (plain (text_of_piece kind k)) true (piece_text kind k h) refl
+    by (Some kind) = and_from (plain (text_of_piece kind k)) true (piece_text kind k h) refl
 
 pieces_plain : (before ks : List Token) → plain_tokens ks ≡ true → plain_pieces (along pieces_at before ks) ≡ true
 pieces_plain before [] h = refl
 pieces_plain before (k ∷ ks) h =
-    let g = both (is_plain_token k) (plain_tokens ks) h in
+    let g = and_parts (is_plain_token k) (plain_tokens ks) h in
     append is_plain_piece (pieces_at before k) (along pieces_at (k ∷ before) ks) (piece_plain before k g.0) (pieces_plain (k ∷ before) ks g.1)
 
 but_blank_plain : (ps : List PieceFacts) → plain_pieces ps ≡ true → plain_pieces (but_blank ps) ≡ true
@@ -86,16 +87,16 @@ but_blank_plain (p ∷ []) h = by (is_blank_piece p.kind)
     by true = refl
     by false = h
 but_blank_plain (p ∷ q ∷ ps) h =
-    let g = both (is_plain_piece p) (plain_pieces (q ∷ ps)) h in
-    and (is_plain_piece p) (plain_pieces (but_blank (q ∷ ps))) g.0 (but_blank_plain (q ∷ ps) g.1)
+    let g = and_parts (is_plain_piece p) (plain_pieces (q ∷ ps)) h in
+    and_from (is_plain_piece p) (plain_pieces (but_blank (q ∷ ps))) g.0 (but_blank_plain (q ∷ ps) g.1)
 
 -- ---- the translation
 
 but_last_plain : (c : ℕ) (s : List ℕ) → plain (c ∷ s) ≡ true → plain (but_last c s) ≡ true
 but_last_plain c [] h = refl
 but_last_plain c (d ∷ s) h =
-    let g = both (is_plain c) (plain (d ∷ s)) h in
-    and (is_plain c) (plain (but_last d s)) g.0 (but_last_plain d s g.1)
+    let g = and_parts (is_plain c) (plain (d ∷ s)) h in
+    and_from (is_plain c) (plain (but_last d s)) g.0 (but_last_plain d s g.1)
 
 but_end_plain : (t : List ℕ) → plain t ≡ true → plain (but_end t) ≡ true
 but_end_plain [] h = refl
@@ -104,8 +105,8 @@ but_end_plain (c ∷ t) h = but_last_plain c t h
 translation_plain : (ks : List Token) → plain_tokens ks ≡ true → plain_option (translation_text ks) ≡ true
 translation_plain [] h = refl
 translation_plain (k ∷ before) h =
-    let g = both (is_plain_token k) (plain_tokens before) h in
-    by (but_end_plain k.more (both (is_plain k.first) (plain k.more) g.0).1) (translation_plain before g.1) (is_whole_translation k.kind && not (has_translation before))
+    let g = and_parts (is_plain_token k) (plain_tokens before) h in
+    by (but_end_plain k.more (and_parts (is_plain k.first) (plain k.more) g.0).1) (translation_plain before g.1) (is_whole_translation k.kind && not (has_translation before))
   where
     by : plain (but_end k.more) ≡ true → plain_option (translation_text before) ≡ true → (b : Bool) → plain_option (cond b (Some (but_end k.more)) (translation_text before)) ≡ true
     by here earlier true = here
@@ -153,11 +154,11 @@ letter_plain [] h = refl
 letter_plain (c ∷ s) h = by (is_special c)
   where
     here : is_plain c ≡ true
-    here = (both (is_plain c) (plain s) h).0
+    here = (and_parts (is_plain c) (plain s) h).0
 
     by : (b : Bool) → is_plain_token (cond b (record { kind = kind.Letter; first = 36; more = c ∷ [] }) (record { kind = kind.Letter; first = c; more = [] })) ≡ true
-    by true = and (is_plain c) true here refl
-    by false = and (is_plain c) true here refl
+    by true = and_from (is_plain c) true here refl
+    by false = and_from (is_plain c) true here refl
 
 spelled_plain : (k : TokenKind) (t : List ℕ) → plain t ≡ true → is_plain_token (spelled_as k t) ≡ true
 spelled_plain k [] h = refl
@@ -173,13 +174,13 @@ printed_plain piece.Mark t h = spelled_plain kind.Tag t h
 print_plain : (centre : Option Span) (i : ℕ) (old : List Style) (ps : List PieceFacts) → plain_pieces ps ≡ true → plain_tokens (print_from centre i old ps) ≡ true
 print_plain centre i old [] h = between_plain old [] (brace_tokens centre i) (braces_plain centre i)
 print_plain centre i old (p ∷ ps) h =
-    let g = both (is_plain_piece p) (plain_pieces ps) h in
+    let g = and_parts (is_plain_piece p) (plain_pieces ps) h in
     append is_plain_token (tokens_between old p.styles (brace_tokens centre i)) (printed_piece p.kind p.text ∷ print_from centre (i + 1) p.styles ps) (between_plain old p.styles (brace_tokens centre i) (braces_plain centre i))
-    (and (is_plain_token (printed_piece p.kind p.text)) (plain_tokens (print_from centre (i + 1) p.styles ps)) (printed_plain p.kind p.text g.0) (print_plain centre (i + 1) p.styles ps g.1))
+    (and_from (is_plain_token (printed_piece p.kind p.text)) (plain_tokens (print_from centre (i + 1) p.styles ps)) (printed_plain p.kind p.text g.0) (print_plain centre (i + 1) p.styles ps g.1))
 
 bracketed_plain : (o : Option (List ℕ)) → plain_option o ≡ true → plain_tokens (translation_tokens o) ≡ true
 bracketed_plain None h = refl
-bracketed_plain (Some t) h = and (plain (t ++ 93 ∷ [])) true (append is_plain t (93 ∷ []) h refl) refl
+bracketed_plain (Some t) h = and_from (plain (t ++ 93 ∷ [])) true (append is_plain t (93 ∷ []) h refl) refl
 
 break_plain : (b : Bool) → plain_tokens (word_break b) ≡ true
 break_plain true = refl

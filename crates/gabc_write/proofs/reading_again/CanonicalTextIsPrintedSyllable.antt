@@ -1,11 +1,11 @@
 -- The canonical text of a syllable is the printed syllable of what its unit says.
-use Rattle.std.proofs.Common.{◌≡◌, ◌≢◌, ℕ, zero, suc, ◌+◌, ◌%◌, ◌<◌, ◌≤◌, nat_lt, take, drop, List, [], ◌∷◌, ◌++◌, map, length, length-append, Bool, true, false, cond, if◌then◌else◌, Option, Some, None, refl, sym, ap, subst, ◌∙◌, append_assoc, arith, codes}
-use Rattle.std.proofs.lemmas.Bool.{ltb-true, ltb-false}
+use Rattle.std.proofs.Common.{◌≡◌, ◌≢◌, ℕ, zero, suc, ◌+◌, ◌%◌, ◌≤◌, take, drop, List, [], ◌∷◌, ◌++◌, map, length, length-append, cond, Option, Some, None, refl, sym, ap, subst, ◌∙◌, append_assoc, arith, codes}
 use Rattle.std.proofs.lemmas.List.{length-map}
 use Rattle.std.proofs.lemmas.Str.{encodes-append}
-use Rattle.std.proofs.Math.Nat.{suc-mod, mod-lt, mod-eq_of_lt, mod_self, zero-mod, sub_self}
-use Rattle.std.proofs.Math.Numerals.{add-one}
+use Rattle.std.proofs.Math.Nat.{zero-mod, sub_self}
 use lib.Utf8.{encode, encodes}
+use Rattle.gabc_notes.proofs.machine.LoopOverBody.{parts}
+use Rattle.gabc_score.proofs.holding.SnippetsAreHeld.{next_turn}
 use Rattle.gabc_places.specs.declared.place.Span.{Span}
 use Rattle.gabc_places.specs.declared.place.Char.{Char}
 use Rattle.gabc_text.specs.TextView.{ViewContent}
@@ -25,22 +25,6 @@ use Rattle.gabc_score.specs.SyllablesOfUnits.{ScoreUnit, HasNotes, NotesAre, Hol
 use Rattle.gabc_write.specs.SyllableAgain.{barred, printed_syllable, kept_snippets, AreSnippetsFrom, IsPrinted}
 use Rattle.gabc_write.proofs.plain.PrintedSyllableIsPlain.{syllable_plain, snippets_plain}
 
--- ---- whose turn it is
-
-turn_by : (lines r : ℕ) (b : Bool) → nat_lt r lines ≡ b → r < lines + 1 → (if b then r + 1 else 0) ≡ suc r % (lines + 1)
-turn_by lines r true h low =
-    let less : r < lines = ltb-true r lines h in
-    let fits : suc r < lines + 1 = omega arith in
-    add-one r ∙ sym (mod-eq_of_lt fits)
-turn_by lines r false h low =
-    let same : suc r ≡ lines + 1 = omega (arith, ltb-false r lines h) in
-    sym (ap (λ n. n % (lines + 1)) same ∙ mod_self (lines + 1))
-
-next_turn : (lines n : ℕ) → next_line lines (n % (lines + 1)) ≡ suc n % (lines + 1)
-next_turn lines n =
-    let some : zero < lines + 1 = omega arith in
-    turn_by lines (n % (lines + 1)) (nat_lt (n % (lines + 1)) lines) refl (mod-lt n some) ∙ sym (suc-mod n (lines + 1))
-
 -- ---- the bytes
 
 opening : codes "(" ≡ encodes (40 ∷ [])
@@ -55,18 +39,15 @@ bar : codes "|" ≡ encodes (124 ∷ [])
 unfolding encode
 bar = refl
 
-heads : {X : Type 0} (x y : X) (xs ys : List X) → x ∷ xs ≡ y ∷ ys → (x ≡ y) × (xs ≡ ys)
-heads x y xs ys e = (cc, cc)
-
 bars_are : (K : List ℕ) (snippets : List Snippet) (ss : List (List ℕ)) → map (λ (s : Snippet). slice s.span K) snippets ≡ map encodes ss → with_bars K snippets ≡ encodes (barred ss)
 bars_are K [] [] e = refl
 bars_are K [] (t ∷ ss) e = absurd (cc)
 bars_are K (s ∷ snippets) [] e = absurd (cc)
-bars_are K (s ∷ []) (t ∷ []) e = (heads (slice s.span K) (encodes t) [] [] e).0
-bars_are K (s ∷ []) (t ∷ u ∷ ss) e = absurd (let g = (heads (slice s.span K) (encodes t) [] (encodes u ∷ map encodes ss) e).1 in cc)
-bars_are K (s ∷ r ∷ snippets) (t ∷ []) e = absurd (let g = (heads (slice s.span K) (encodes t) (slice r.span K ∷ map (λ (s : Snippet). slice s.span K) snippets) [] e).1 in cc)
+bars_are K (s ∷ []) (t ∷ []) e = (parts (slice s.span K) (encodes t) [] [] e).0
+bars_are K (s ∷ []) (t ∷ u ∷ ss) e = absurd (let g = (parts (slice s.span K) (encodes t) [] (encodes u ∷ map encodes ss) e).1 in cc)
+bars_are K (s ∷ r ∷ snippets) (t ∷ []) e = absurd (let g = (parts (slice s.span K) (encodes t) (slice r.span K ∷ map (λ (s : Snippet). slice s.span K) snippets) [] e).1 in cc)
 bars_are K (s ∷ r ∷ snippets) (t ∷ u ∷ ss) e =
-    let h = heads (slice s.span K) (encodes t) (slice r.span K ∷ map (λ (s : Snippet). slice s.span K) snippets) (encodes u ∷ map encodes ss) e in
+    let h = parts (slice s.span K) (encodes t) (slice r.span K ∷ map (λ (s : Snippet). slice s.span K) snippets) (encodes u ∷ map encodes ss) e in
     ap (λ (x : List ℕ). x ++ (codes "|" ++ with_bars K (r ∷ snippets))) h.0
     ∙ ap (λ (x : List ℕ). encodes t ++ (x ++ with_bars K (r ∷ snippets))) bar
     ∙ ap (λ (x : List ℕ). encodes t ++ (encodes (124 ∷ []) ++ x)) (bars_are K (r ∷ snippets) (u ∷ ss) h.1)

@@ -6,6 +6,9 @@ use Rattle.std.proofs.lemmas.Bool.{eqb-true}
 use Rattle.std.proofs.lemmas.List.Elements.{All-head, All-tail}
 use Rattle.std.proofs.lemmas.Str.{encodes-append}
 use lib.Utf8.{encode, encodes}
+use Rattle.gabc_score.proofs.runs.FoundSyllable.{begins_there}
+use Rattle.gabc_score.proofs.syllables_of_units.UnitsGiveSyllables.{units_whole}
+use Rattle.gabc_score.proofs.units.UnitsEndAtMarks.{IsSingle}
 use Rattle.gabc_places.specs.declared.place.Char.{Char}
 use Rattle.gabc_text.specs.Events.{codes_of}
 use Rattle.gabc_text.specs.TextRead.{view_in}
@@ -14,14 +17,13 @@ use Rattle.gabc_text.specs.ViewFacts.{ViewFacts, view_facts}
 use Rattle.gabc_score.specs.Body.{has_text}
 use Rattle.gabc_score.specs.Events.{texts_by_definition}
 use Rattle.gabc_score.specs.Syllable.{UnplacedSyllable, PlacedSyllable}
-use Rattle.gabc_score.specs.Canonical.{canonical, canonical_in_place, starts_word, position_by}
+use Rattle.gabc_score.specs.Canonical.{canonical, canonical_in_place, starts_word}
 use Rattle.gabc_score.specs.Units.{BodyUnit, LastUnit, JustText, OpenNotes, Units, BodyCutting, cutting_of, BeginsWithLf, IsCutFrom, IsCut}
 use Rattle.gabc_score.specs.SyllablesOfUnits.{ScoreUnit, HoldsUnit, AreSyllablesOf, begins_word, next_begins_word, characters_in, characters_from, closed_units, last_units, score_units}
 use Rattle.gabc_write.specs.SyllableAgain.{printed_syllable, IsPrinted}
 use Rattle.gabc_write.specs.BodyAgain.{SyllableFacts, printed_body, AreSyllables, FirstBeginsWord, FirstTextBeginsWord, AreFactsOf, AreOwnFacts, ArePrintedTexts, ArePrinted}
 use Rattle.gabc_write.specs.PlainText.{IsText, AreUnitTexts}
 use Rattle.gabc_write.proofs.plain.PlainCharacters.{is_plain, append, is_text, text_plain}
-use Rattle.gabc_write.proofs.reading_again.PrintedSyllableIsOneUnit.{whole_units}
 
 -- ---- the first unit
 
@@ -45,15 +47,9 @@ module _ (begins : (t : List ℕ) → (view_facts (10 ∷ t)).word_start ≡ tru
     where
       by : (units : Option Units) → IsCutFrom texts_by_definition lines macros xs cut.comment (option_map (cutting_of lines) units) → FirstTextBeginsWord (score_units units)
       by None k = tt
-      by (Some u) k = first_of u.closed u.last (subst BeginsWithLf (whole_units lines u.closed u.last) k.1.1.0)
+      by (Some u) k = first_of u.closed u.last (subst BeginsWithLf (units_whole lines u.closed u.last) k.1.1.0)
 
 -- ---- the syllables
-
-starts_by : (a b : Bool) → starts_word (position_by a b) ≡ a
-starts_by true true = refl
-starts_by true false = refl
-starts_by false true = refl
-starts_by false false = refl
 
 feed : codes "\n" ≡ encodes (10 ∷ [])
 unfolding encode
@@ -61,9 +57,6 @@ feed = refl
 
 joined : (s t : List ℕ) → IsText s → IsText t → IsText (s ++ t)
 joined s t h k = is_text (s ++ t) (append is_plain s t (text_plain s h) (text_plain t k))
-
-abbrev IsSingle : ScoreUnit → Type 0
-IsSingle u = length u.snippets ≤ 1
 
 module _ (lines : ℕ) (one : (u : ScoreUnit) (m : UnplacedSyllable) → HoldsUnit lines u m → (lines ≡ 0 → length u.snippets ≤ 1) → IsPrinted lines u m)
     (all : List ScoreUnit) (made : List PlacedSyllable) (syllables : AreSyllablesOf lines all made) (first : FirstTextBeginsWord all) where
@@ -93,7 +86,7 @@ module _ (lines : ℕ) (one : (u : ScoreUnit) (m : UnplacedSyllable) → HoldsUn
       let r = behind (before ++ u ∷ []) units (earlier ++ s ∷ []) ss (e ∙ sym (append_assoc before (u ∷ []) units)) (f ∙ sym (append_assoc earlier (s ∷ []) ss))
       (omega (arith, length-append before (u ∷ []), length-append earlier (s ∷ []), n)) (omega (arith, m)) (λ z. All-tail IsSingle u units (single z)) in
       let starts : starts_word s.position ≡ s.made.text.word_start =
-      ap starts_word h.position_is ∙ starts_by (begins_word before u) (next_begins_word units) ∙ begins_as before units u e ∙ sym (ap (λ (v : ViewContent). v.word_start) h.holds.view_is) in
+      ap starts_word h.position_is ∙ begins_there (begins_word before u) (next_begins_word units) ∙ begins_as before units u e ∙ sym (ap (λ (v : ViewContent). v.word_start) h.holds.view_is) in
       let here : canonical_in_place s ≡ encodes (printed_syllable (view_facts u.text) p.snippets) = ap (λ (b : Bool). canonical b s.made) starts ∙ p.bytes in
       record {
         facts = record { view = view_facts u.text; snippets = p.snippets } ∷ r.facts;

@@ -3,6 +3,7 @@ use Rattle.std.proofs.Common.{◌≡◌, ℕ, ◌+◌, ◌<◌, ◌≤◌, ◌==
 use Rattle.std.specs.List.{All, list_any}
 use Rattle.std.proofs.lemmas.List.{append_cancel_left}
 use Rattle.std.proofs.lemmas.List.Elements.{All-head, All-tail}
+use Rattle.gabc_write.proofs.DumpOfWhatIsSaid.{said_by, IsWhole}
 use Rattle.gabc_places.specs.declared.limits.Limits.{Limits}
 use Rattle.gabc_notes.specs.FirstNoteOrClef.{first_note_or_clef}
 use Rattle.gabc_notes.specs.Items.{items_of}
@@ -16,7 +17,7 @@ use Rattle.gabc_score.specs.HeldAside.{MayStandFor}
 use Rattle.gabc_score.specs.Holding.{HasWholeSnippets}
 use Rattle.gabc_score.specs.ScoreEvents.{first_place}
 use Rattle.gabc_score.specs.SpansPast.{FollowsSpans, eu_past, nlba_past}
-use Rattle.gabc_score.specs.Syllable.{UnplacedSyllable, all_syllables, slice, text_at}
+use Rattle.gabc_score.specs.Syllable.{UnplacedSyllable, all_syllables}
 use Rattle.gabc_score.specs.ToldWithin.{IsHeldWithin, written_behind}
 use Rattle.gabc_score.specs.UnitRead.{HoldsSomeUnit}
 use Rattle.gabc_write.specs.SetDown.{MayBeHeldByItsText, SayTheSame}
@@ -25,14 +26,8 @@ use Rattle.gabc_write.specs.SyllableRead.{as_it_stands, SaysTheSame, IsReadByIts
 
 -- ---- whether it sounds is said
 
-abbrev said_by : List ℕ → Snippet → ℕ × List ℕ
-said_by kept s = (s.line, slice s.span kept)
-
 abbrev sounds_said : ℕ × List ℕ → Bool
 sounds_said s = (s.0 == 0) && is_some (first_note_or_clef (items_of s.1))
-
-abbrev IsWhole : List ℕ → Snippet → Type 0
-IsWhole kept s = text_at s.span kept ≡ slice s.span kept
 
 sound_is_said : (kept : List ℕ) (ss : List Snippet) → All (IsWhole kept) ss → sounds_in kept ss ≡ list_any sounds_said (map (said_by kept) ss)
 sound_is_said kept [] h = refl

@@ -1,6 +1,9 @@
 -- Where the end of a part is emitted, there the part ends in the cutting of a body.
 use Rattle.std.proofs.Common.{◌≡◌, ℕ, suc, List, [], ◌∷◌, ◌++◌, length, length-append, take, Bool, true, false, ◌||◌, if◌then◌else◌, Option, Some, None, refl, sym, ap, subst, ◌∙◌, append-nil, arith}
 use Rattle.std.specs.List.{list_any}
+use Rattle.gabc_places.proofs.NothingBehindAnEnd.{both_empty}
+use Rattle.gabc_notes.proofs.grammar.LawsOfEventsByPoint.{ends_append}
+use Rattle.gabc_score.proofs.texts_of_body.TextEmitsThroughEnd.{ends_apart, none_ends}
 use Rattle.gabc_places.specs.StageLaw.{concat_of}
 use Rattle.gabc_places.specs.declared.place.Place.{Place}
 use Rattle.gabc_places.specs.declared.place.Char.{Char}
@@ -20,13 +23,6 @@ use Rattle.gabc_score.specs.Units.{Mark, Opens, Next, Closes, EndsBehind}
 
 -- ---- texts
 
-pub text_endless : (events : List TextEvent) → ends_in events ≡ [] → list_any is_text_end events ≡ false
-text_endless [] e = refl
-text_endless (text_out.Kept x ∷ events) e = text_endless events e
-text_endless (text_out.Part p ∷ events) e = text_endless events e
-text_endless (text_out.Found f ∷ events) e = text_endless events e
-text_endless (text_out.Ended how ∷ events) e = absurd (cc)
-
 text_ended : (events : List TextEvent) → list_any is_text_end (events ++ text_out.Ended text_end.Notes ∷ []) ≡ true
 text_ended [] = refl
 text_ended (x ∷ events) = by (is_text_end x) (text_ended events)
@@ -35,21 +31,14 @@ text_ended (x ∷ events) = by (is_text_end x) (text_ended events)
     by true e = refl
     by false e = e
 
-pub text_none : (xs ys : List TextEvent) → ends_in (xs ++ ys) ≡ [] → (ends_in xs ≡ []) × (ends_in ys ≡ [])
-text_none [] ys e = (refl, e)
-text_none (text_out.Kept x ∷ xs) ys e = text_none xs ys e
-text_none (text_out.Part p ∷ xs) ys e = text_none xs ys e
-text_none (text_out.Found f ∷ xs) ys e = text_none xs ys e
-text_none (text_out.Ended how ∷ xs) ys e = absurd (cc)
-
 text_behind : (lines : ℕ) (before : List (List TextEvent)) (l : List TextEvent) (after : List (List TextEvent)) (xs : List Char) → ends_in (concat_of before) ≡ []
     → length before ≡ length xs → list_any is_text_end l ≡ true → EndsBehind lines (InText (before ++ l ∷ after)) xs Opens
 text_behind lines [] l after [] e n h = ap (λ (b : Bool). if b then Some Opens else None) h
 text_behind lines [] l after (x ∷ xs) e n h = absurd (omega (arith, n))
 text_behind lines (b ∷ before) l after [] e n h = absurd (omega (arith, n))
 text_behind lines (b ∷ before) l after (x ∷ xs) e n h =
-    let o = text_none b (concat_of before) e in
-    (ap (λ (z : Bool). if z then Some Opens else None) (text_endless b o.0), text_behind lines before l after xs o.1 (omega (arith, n)) h)
+    let o = ends_apart b (concat_of before) e in
+    (ap (λ (z : Bool). if z then Some Opens else None) (none_ends b o.0), text_behind lines before l after xs o.1 (omega (arith, n)) h)
 
 -- a text that leaves a `(` and what follows ends there
 pub text_ends : (lines : ℕ) (at : Place) (t rest : List ℕ) (xs : List Char) → EndsOnce at (t ++ 40 ∷ rest) → after_tokens (t ++ 40 ∷ rest) ≡ 40 ∷ rest → length xs ≡ length t
@@ -109,16 +98,6 @@ one_mark lines line opened how n (note_out.Ended end m ∷ events) e =
     by note_end.Close a b = rw (a) refl
     by (note_end.Cut p) a b = rw (a, b) refl
 
-notes_apart : (xs ys : List NoteEvent) → ends_of (xs ++ ys) ≡ ends_of xs ++ ends_of ys
-notes_apart [] ys = refl
-notes_apart (note_out.Kept x ∷ xs) ys = notes_apart xs ys
-notes_apart (note_out.Found f ∷ xs) ys = notes_apart xs ys
-notes_apart (note_out.Ended how n ∷ xs) ys = ap (λ (l : List (NoteEnd × ℕ)). (how, n) ∷ l) (notes_apart xs ys)
-
-first_empty : (a b : List (NoteEnd × ℕ)) → a ++ b ≡ [] → (a ≡ []) × (b ≡ [])
-first_empty [] b e = (refl, e)
-first_empty (x ∷ a) b e = absurd (cc)
-
 -- the lists before have no end, and that of the mark has one
 pub snippet_ends : (lines line : ℕ) (opened : Place) (mark : Mark) (lists : List (List NoteEvent)) (xs : List Char) (how : NoteEnd) (n : ℕ) → mark_of lines line opened how ≡ Some mark
     → ends_of (concat_of (take (length xs) lists)) ≡ [] → ends_of (concat_of (take (suc (length xs)) lists)) ≡ (how, n) ∷ [] → EndsBehind lines (InNotes line opened lists) xs mark
@@ -126,8 +105,8 @@ snippet_ends lines line opened mark [] [] how n m e f = absurd (cc)
 snippet_ends lines line opened mark [] (x ∷ xs) how n m e f = absurd (cc)
 snippet_ends lines line opened mark (l ∷ lists) [] how n m e f = one_mark lines line opened how n l (sym (ap ends_of (append-nil l)) ∙ f) ∙ m
 snippet_ends lines line opened mark (l ∷ lists) (x ∷ xs) how n m e f =
-    let o = first_empty (ends_of l) (ends_of (concat_of (take (length xs) lists))) (sym (notes_apart l (concat_of (take (length xs) lists))) ∙ e) in
+    let o = both_empty (ends_of l) (ends_of (concat_of (take (length xs) lists))) (sym (ends_append l (concat_of (take (length xs) lists))) ∙ e) in
     let none = next_none l o.0 in
     let later : ends_of (concat_of (take (suc (length xs)) lists)) ≡ (how, n) ∷ [] =
-    sym (ap (λ (z : List (NoteEnd × ℕ)). z ++ ends_of (concat_of (take (suc (length xs)) lists))) o.0) ∙ sym (notes_apart l (concat_of (take (suc (length xs)) lists))) ∙ f in
+    sym (ap (λ (z : List (NoteEnd × ℕ)). z ++ ends_of (concat_of (take (suc (length xs)) lists))) o.0) ∙ sym (ends_append l (concat_of (take (suc (length xs)) lists))) ∙ f in
     (rw (none.0, none.1) refl, snippet_ends lines line opened mark lists xs how n m o.1 later)

@@ -1,5 +1,7 @@
 -- The printed syllables of a body, with an LF behind them, are its units.
 use Rattle.std.proofs.Common.{◌≡◌, ℕ, List, [], ◌∷◌, ◌++◌, length, length-append, Bool, true, if◌then◌else◌, Some, None, refl, sym, ap, subst, ◌∙◌, arith}
+use Rattle.gabc_score.proofs.texts_of_body.TextEmitsThroughEnd.{ends_apart, none_ends}
+use Rattle.gabc_score.proofs.syllables_of_units.UnitsGiveSyllables.{units_whole}
 use Rattle.gabc_places.specs.StageLaw.{concat_of}
 use Rattle.gabc_places.specs.declared.place.Place.{Place}
 use Rattle.gabc_places.specs.declared.place.Char.{Char}
@@ -14,8 +16,6 @@ use Rattle.gabc_score.specs.Units.{Opens, BodyUnit, JustText, Endless, units_pie
 use Rattle.gabc_score.specs.SyllablesOfUnits.{last_units}
 use Rattle.gabc_write.specs.SyllableAgain.{barred, printed_syllable, AreSnippets, AreUnitsFrom, SaysAgain, IsOneUnit}
 use Rattle.gabc_write.specs.BodyAgain.{SyllableFacts, printed_body, AreSyllables, FirstBeginsWord, SayAgain, IsBodyAgain}
-use Rattle.gabc_write.proofs.reading_again.PartsEndAtTheirMarks.{text_endless, text_none}
-use Rattle.gabc_write.proofs.reading_again.PrintedSyllableIsOneUnit.{whole_units}
 
 -- ---- a text that leaves nothing ends with no character
 
@@ -23,8 +23,8 @@ open_by : (lines : ℕ) (before after : List (List TextEvent)) (xs : List Char) 
 open_by lines before after [] e n = tt
 open_by lines [] after (x ∷ xs) e n = absurd (omega (arith, n))
 open_by lines (b ∷ before) after (x ∷ xs) e n =
-    let o = text_none b (concat_of before) e in
-    (ap (λ (z : Bool). if z then Some Opens else None) (text_endless b o.0), open_by lines before after xs o.1 (omega (arith, n)))
+    let o = ends_apart b (concat_of before) e in
+    (ap (λ (z : Bool). if z then Some Opens else None) (none_ends b o.0), open_by lines before after xs o.1 (omega (arith, n)))
 
 text_open : (lines : ℕ) (at : Place) (t : List ℕ) (xs : List Char) → EndsOnce at t → after_tokens t ≡ [] → length xs ≡ length t → Endless lines (InText (events_by_point at t)) xs
 text_open lines at t xs ends none n =
@@ -81,7 +81,7 @@ module _ (ends_once : (at : Place) (t : List ℕ) → EndsOnce at t) (lines macr
       let r = units_from at ss h in
       let u = r.cut at in
       let b = body_begins ss first in
-      let parts : whole (units_pieces lines r.units (JustText r.last)) r.last ≡ placed_characters_from at (printed_body ss) = whole_units lines r.units (JustText r.last) ∙ sym u.characters in
+      let parts : whole (units_pieces lines r.units (JustText r.last)) r.last ≡ placed_characters_from at (printed_body ss) = units_whole lines r.units (JustText r.last) ∙ sym u.characters in
       let begins : placed_characters_from at (printed_body ss) ≡ placed_characters_from at (10 ∷ b.0) = ap (placed_characters_from at) b.1 in
       let all = parts ∙ begins in
       record {

@@ -1,6 +1,8 @@
 -- A printed syllable is one unit in front of whatever follows.
 use Rattle.std.proofs.Common.{◌≡◌, ℕ, zero, suc, nat_lt, List, [], ◌∷◌, ◌++◌, length, Bool, true, false, cond, refl, sym, ap, subst, ◌∙◌, append_assoc, append-nil, arith, codes}
 use Rattle.std.proofs.lemmas.Bool.Decides.{nat_tests}
+use Rattle.gabc_text.proofs.KeptCharacters.{codes_placed}
+use Rattle.gabc_score.proofs.syllables_of_units.UnitsGiveSyllables.{units_whole}
 use Rattle.gabc_places.specs.declared.place.Place.{Place}
 use Rattle.gabc_places.specs.declared.place.Char.{Char}
 use Rattle.gabc_places.specs.Place.{next_place, place_past, placed_characters_from}
@@ -18,28 +20,12 @@ use Rattle.gabc_notes.specs.ReadAgain.{IsReadAgain}
 use Rattle.gabc_nabc.specs.Table.{nabc}
 use Rattle.gabc_nabc.specs.ReadAgain.{IsNabcReadAgain}
 use Rattle.gabc_score.specs.Events.{InText, texts_by_definition, text_from, snippet_from, behind_mark}
-use Rattle.gabc_score.specs.Units.{Opens, Closes, BodyUnit, LastUnit, JustText, OpenNotes, CutPart, cut_part, snippets_with, last_characters, units_pieces, whole, EndsBehind, Cuts}
-use Rattle.gabc_score.specs.SyllablesOfUnits.{with_ends, snippets_in, characters_in, characters_from}
+use Rattle.gabc_score.specs.Units.{Opens, Closes, BodyUnit, LastUnit, CutPart, cut_part, snippets_with, last_characters, units_pieces, whole, EndsBehind, Cuts}
+use Rattle.gabc_score.specs.SyllablesOfUnits.{with_ends, snippets_in, characters_in}
 use Rattle.gabc_write.specs.SyllableAgain.{barred, printed_syllable, AreSnippets, AreSnippetsFrom, AreUnitsFrom, IsOneUnit}
 use Rattle.gabc_places.proofs.PlacesOfAText.{place_append, placed_append}
-use Rattle.gabc_write.proofs.reading_again.PlacedCharacters.{codes_placed}
 use Rattle.gabc_write.proofs.reading_again.PartsEndAtTheirMarks.{text_ends}
 use Rattle.gabc_write.proofs.reading_again.SnippetsAreReadAgain.{nexts_of, final_of, spelled, snippets_spelled, whole_nexts, ends_with, Several, snippets_cut, snippets_again}
-
--- ---- the characters of units
-
--- the parts of units are their characters
-pub whole_units : (lines : ℕ) (units : List BodyUnit) (last : LastUnit) → whole (units_pieces lines units last) (last_characters last) ≡ characters_from units last
-whole_units lines [] (JustText xs) = refl
-whole_units lines [] (OpenNotes text nexts xs) =
-    ap (λ (ys : List Char). text.characters ++ text.end ∷ ys) (whole_nexts lines 0 text.end.place nexts [] xs)
-    ∙ sym (append_assoc text.characters (text.end ∷ with_ends nexts) xs)
-whole_units lines (u ∷ units) last =
-    let pieces : List CutPart = units_pieces lines units last in
-    let behind : List Char = characters_from units last in
-    ap (λ (ys : List Char). u.text.characters ++ u.text.end ∷ ys) (whole_nexts lines 0 u.text.end.place u.nexts (cut_part u.final Closes ∷ pieces) (last_characters last)
-    ∙ ap (λ (ys : List Char). spelled u.nexts u.final ys) (whole_units lines units last) ∙ sym (ends_with u.nexts u.final behind))
-    ∙ sym (append_assoc u.text.characters (u.text.end ∷ with_ends (snippets_in u)) behind)
 
 -- ---- the unit
 
@@ -124,7 +110,7 @@ module _ (ends_once : (at : Place) (t : List ℕ) → EndsOnce at t)
     one_more begins units last h =
         let pieces : List CutPart = units_pieces lines units last in
         let parts : List CutPart = snippets_with lines 0 opening unit.nexts (cut_part unit.final Closes ∷ pieces) in
-        let rest_is : whole pieces (last_characters last) ≡ behind = whole_units lines units last ∙ sym h.characters in
+        let rest_is : whole pieces (last_characters last) ≡ behind = units_whole lines units last ∙ sym h.characters in
         let onward = subst (λ (xs : List Char). Cuts texts_by_definition lines macros (text_from texts_by_definition (behind_mark unit.final.end.place) xs) pieces (last_characters last)) (sym rest_is) h.cut in
         let notes_cut = snippets_cut gabc_again nabc_again lines macros 0 opening notes s ss rest pieces (last_characters last) (several (s ∷ ss) single) each (rest_is ∙ behind_is) onward in
         let parts_are : placed_characters_from notes later ≡ whole parts (last_characters last) =

@@ -5,11 +5,13 @@ use Rattle.std.specs.Char.{IsScalar}
 use Rattle.std.proofs.lemmas.List.Elements.{All-nil, All-cons, All-head, All-tail, All-take, All-drop}
 use Rattle.std.proofs.lemmas.Str.{encodes-append}
 use lib.Utf8.{encodes}
+use Rattle.gabc_score.proofs.texts_of_body.TextEmitsThroughEnd.{codes_append}
+use Rattle.gabc_score.proofs.holding.ScoreHoldsParts.{codes_placed}
+use Rattle.gabc_score.proofs.units.UnitsEndAtMarks.{IsSingle}
 use Rattle.gabc_places.specs.declared.limits.Limits.{Limits}
 use Rattle.gabc_places.specs.LargerLimits.{AreNoLess}
 use Rattle.gabc_places.specs.declared.place.Char.{Char}
 use Rattle.gabc_places.specs.declared.code.Fault.{Fault}
-use Rattle.gabc_places.specs.Place.{placed_characters_behind}
 use Rattle.gabc_headers.specs.declared.heads.Heads.{Heads}
 use Rattle.gabc_headers.specs.declared.heads.HeadFault.{HeadFault}
 use Rattle.gabc_headers.specs.Book.{nabc_lines_of, macros_of}
@@ -27,6 +29,7 @@ use Rattle.gabc_score.specs.Units.{BodyUnit, LastUnit, JustText, OpenNotes, Unit
 use Rattle.gabc_score.specs.SyllablesOfUnits.{ScoreUnit, with_ends, snippets_in, characters_in, last_in, characters_from, unit_characters, closed_units, last_units, score_units, count_within, units_within, AreSyllablesOf, body_characters, IsBodyCut, StandBeforeBodyStop}
 use Rattle.gabc_write.specs.PlainText.{IsText, AreUnitTexts}
 use Rattle.gabc_places.specs.Text.{decoded_of}
+use Rattle.gabc_places.specs.TextOfAnInput.{IsPlain}
 use Rattle.gabc_write.specs.BodyAgain.{SyllableFacts, AreSyllables, FirstBeginsWord, FirstTextBeginsWord, ArePrinted, printed_body, AreFactsOf}
 use Rattle.gabc_write.specs.FileAgain.{printed_file, IsFileAgain}
 use Rattle.gabc_write.specs.ScoreAgain.{IsPrintedScore, IsSameScore, IsScoreAgain}
@@ -34,15 +37,10 @@ use Rattle.gabc_notes.specs.ReadAgain.{IsWarning}
 use Rattle.gabc_score.specs.WithinLimits.{CanonicalWithin, AreWithin}
 use Rattle.gabc_write.specs.SyllableMeaning.{AreSame}
 use Rattle.gabc_write.proofs.reading_again.NoLimitIsPassedAgain.{AllShort, printed_short, within_larger, file_fits}
-use Rattle.gabc_write.proofs.plain.PlainCharacters.{NoMark, is_plain, plain, append, parts_of, is_text, text_plain}
-use Rattle.gabc_write.proofs.plain.KeptSnippetsArePlain.{codes_append}
+use Rattle.gabc_write.proofs.plain.PlainCharacters.{is_plain, plain, append, parts_of, is_text, text_plain}
 use Rattle.gabc_write.proofs.plain.BookIsPlain.{heads_plain}
 
 -- ---- the units of a text
-
-codes_behind : (prefix t : List ℕ) → codes_of (placed_characters_behind prefix t) ≡ t
-codes_behind prefix [] = refl
-codes_behind prefix (c ∷ t) = ap (λ (s : List ℕ). c ∷ s) (codes_behind (prefix ++ c ∷ []) t)
 
 abbrev plain_characters : List Char → Type 0
 plain_characters xs = plain (codes_of xs) ≡ true
@@ -99,9 +97,6 @@ first_within : (n : ℕ) (units : Option Units) → FirstTextBeginsWord (score_u
 first_within n None h = tt
 first_within n (Some u) h = first_taken (count_within n u.closed) (closed_units u.closed u.last) (last_units u.last) h
 
-abbrev IsSingle : ScoreUnit → Type 0
-IsSingle u = length u.snippets ≤ 1
-
 all_left : (us vs : List ScoreUnit) → All IsSingle (us ++ vs) → All IsSingle us
 all_left [] vs h = All-nil IsSingle
 all_left (u ∷ us) vs h = All-cons IsSingle u us (All-head IsSingle u (us ++ vs) h) (all_left us vs (All-tail IsSingle u (us ++ vs) h))
@@ -147,8 +142,8 @@ module _ (one : (texts : Texts) (lines macros : ℕ) (xs : List Char) → (cut :
   module _ (limits : Limits) (t : List ℕ) (book : List (List ℕ × List ℕ)) (cut : BodyCutting) (is_cut : IsBodyCut book t cut) (short : length (encodes t) < 2 ^ 63) where
     units_plain : IsText t → plain_characters (unit_characters cut.units)
     units_plain h =
-        let behind : IsText (behind_heads t) = record { scalars = All-drop IsScalar _ t h.scalars; plain = All-drop NoMark _ t h.plain } in
-        let body : plain_characters (body_characters t) = ap plain (codes_behind (heads_text t) (behind_heads t)) ∙ text_plain (behind_heads t) behind in
+        let behind : IsText (behind_heads t) = record { scalars = All-drop IsScalar _ t h.scalars; plain = All-drop IsPlain _ t h.plain } in
+        let body : plain_characters (body_characters t) = ap plain (codes_placed (heads_text t) (behind_heads t)) ∙ text_plain (behind_heads t) behind in
         (halves cut.comment (unit_characters cut.units) (subst plain_characters (characters texts_by_definition (nabc_lines_of book) (macros_of book) (body_characters t) cut is_cut) body)).1
 
     begins : FirstTextBeginsWord (score_units cut.units)

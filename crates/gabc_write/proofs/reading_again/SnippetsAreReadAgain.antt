@@ -1,7 +1,7 @@
 -- Printed snippets with `|` between them are cut into themselves.
-use Rattle.std.proofs.Common.{◌≡◌, ℕ, zero, suc, ◌+◌, ◌==◌, nat_lt, List, [], ◌∷◌, ◌++◌, length, take, Bool, true, false, if◌then◌else◌, Some, refl, sym, ap, subst, ◌∙◌, append_assoc, arith}
+use Rattle.std.proofs.Common.{◌≡◌, ℕ, zero, suc, nat_lt, List, [], ◌∷◌, ◌++◌, length, take, Bool, true, if◌then◌else◌, Some, refl, sym, ap, subst, ◌∙◌, append_assoc, add-one}
 use Rattle.std.specs.List.{All}
-use Rattle.std.proofs.lemmas.Bool.Decides.{nat_tests}
+use Rattle.gabc_text.proofs.KeptCharacters.{codes_placed}
 use Rattle.gabc_places.specs.declared.place.Place.{Place}
 use Rattle.gabc_places.specs.declared.place.Char.{Char}
 use Rattle.gabc_places.specs.Place.{next_place, place_past, placed_characters_from}
@@ -28,7 +28,7 @@ use Rattle.gabc_score.specs.SyllablesOfUnits.{with_ends}
 use Rattle.gabc_score.specs.FoundInParts.{snippet_events}
 use Rattle.gabc_write.specs.SyllableAgain.{barred, AreSnippetsFrom, IsSnippetAgain, AreSnippetsAgain}
 use Rattle.gabc_places.proofs.PlacesOfAText.{place_append, placed_append}
-use Rattle.gabc_write.proofs.reading_again.PlacedCharacters.{codes_placed}
+use Rattle.gabc_places.proofs.NumbersByTests.{suc_eqb}
 use Rattle.gabc_write.proofs.reading_again.PartsEndAtTheirMarks.{mark_of, snippet_ends}
 
 -- ---- the parts
@@ -93,15 +93,9 @@ record Marks (split : Bool) (mark : ℕ) (how : NoteEnd) : Type 0 where
   is_mark : IsMarkOf split how mark
   end_is : notes.end_by_mark mark ≡ how
 
-one_more : (n : ℕ) → n + 1 ≡ suc n
-one_more n = omega arith
-
-no_gabc : (line : ℕ) → (suc line == 0) ≡ false
-no_gabc line = grind (arith, nat_tests)
-
 -- a snippet of a later line is NABC
 nabc_line : (lines macros line : ℕ) (xs : List Char) → nabc.nabc_events xs ≡ snippet_events lines macros (suc line) xs
-nabc_line lines macros line xs = sym (ap (λ (b : Bool). if b then notes.note_events (nat_lt 0 lines) macros xs else nabc.nabc_events xs) (no_gabc line))
+nabc_line lines macros line xs = sym (ap (λ (b : Bool). if b then notes.note_events (nat_lt 0 lines) macros xs else nabc.nabc_events xs) (suc_eqb line))
 
 module _ (gabc_again : (split : Bool) (macros : ℕ) (at : Place) (how : NoteEnd) (t rest : List ℕ) (mark : ℕ) → IsSnippet gabc t → IsMarkOf split how mark → IsReadAgain split macros at t mark rest)
     (nabc_again : (at : Place) (how : NoteEnd) (t rest : List ℕ) (mark : ℕ) → IsSnippet nabc t → IsMarkOf true how mark → IsNabcReadAgain at t mark rest)
@@ -112,7 +106,7 @@ module _ (gabc_again : (split : Bool) (macros : ℕ) (at : Place) (how : NoteEnd
       record {
         bytes = notes.bytes_of s;
         unended = r.unended;
-        ended = ap (λ (n : ℕ). ends_of (concat_of (take n (notes.note_events (nat_lt 0 lines) macros (placed_characters_from p (s ++ mark ∷ rest)))))) (sym (one_more (length s)))
+        ended = ap (λ (n : ℕ). ends_of (concat_of (take n (notes.note_events (nat_lt 0 lines) macros (placed_characters_from p (s ++ mark ∷ rest)))))) (sym (add-one (length s)))
             ∙ r.ended ∙ ap (λ (x : NoteEnd). (x, notes.bytes_of s) ∷ []) m.end_is;
         kept = r.kept;
         warnings = r.warnings;
@@ -125,7 +119,7 @@ module _ (gabc_again : (split : Bool) (macros : ℕ) (at : Place) (how : NoteEnd
         bytes = nabc.bytes_in s;
         unended = subst (λ (ls : List (List NoteEvent)). ends_of (concat_of (take (length s) ls)) ≡ []) lists r.unended;
         ended = subst (λ (ls : List (List NoteEvent)). ends_of (concat_of (take (suc (length s)) ls)) ≡ (how, nabc.bytes_in s) ∷ []) lists
-            (ap (λ (n : ℕ). ends_of (concat_of (take n (nabc.nabc_events xs)))) (sym (one_more (length s)))
+            (ap (λ (n : ℕ). ends_of (concat_of (take n (nabc.nabc_events xs)))) (sym (add-one (length s)))
             ∙ r.ended ∙ ap (λ (x : NoteEnd). (x, nabc.bytes_in s) ∷ []) m.end_is);
         kept = ap (λ (t : List ℕ). kept_before t (mark ∷ rest)) (codes_placed p s) ∙ r.kept;
         warnings = subst (λ (ls : List (List NoteEvent)). All IsWarning (findings_of (concat_of ls))) lists r.warnings;

@@ -1,5 +1,5 @@
 -- A stage that stands behind the same holds by its text what may stand for the syllable that is held.
-use Rattle.std.proofs.Common.{◌≡◌, ℕ, ◌<◌, ◌≤◌, ◌^◌, Bool, true, false, List, length, Option, Some, None, IfSome, is_some, refl, sym, ap, subst, ◌∙◌, arith}
+use Rattle.std.proofs.Common.{◌≡◌, ℕ, Bool, true, false, List, Option, Some, IfSome, is_some, refl, sym, ap, subst, ◌∙◌}
 use Rattle.std.specs.Prelude.{IsUtf8, ◌==◌}
 use Rattle.std.specs.Str.{chars}
 use Rattle.std.proofs.lemmas.Str.{chars_from_encodes}
@@ -44,23 +44,7 @@ module _ (told old : ScoreStageState) (runs : is_some (before_of told) ≡ true)
       some_is : Some (told_before old) ≡ Some (told_before told) → told_before old ≡ told_before told
       some_is e = cc e
 
-  pub begins_with_none : held_of told ≡ None → BeginsAlike told old
-  begins_with_none none = record {
-    holds = record {
-      limits_are = stands.limits_are;
-      before_is = stands.before_is ∙ sym before_told;
-      held =
-          subst (λ (o : Option UnplacedSyllable). HoldTheSame (told.before.syllables == 0) o (held_of old)) (sym none)
-          (subst (HoldTheSame (told.before.syllables == 0) None) (sym stands.none_held) tt);
-      says = subst (λ (o : Option UnplacedSyllable). SayTheSame (told.before.syllables == 0) o (held_of old)) (sym none) (subst (SayTheSame (told.before.syllables == 0) None) (sym stands.none_held) tt);
-    };
-    begins = stands.begins;
-  }
-
   module _ (m : UnplacedSyllable) (is : held_of told ≡ Some m) (within : IsHeldWithin told.limits told.before m) (held : List ℕ) (text : held ≡ written_behind told.before m) where
-    pub held_fits : length held < 2 ^ 63
-    held_fits = let few = subst (λ (t : List ℕ). length t ≤ told.limits.syllable) (sym text) within.short in let most = told.limits.in_range.syllable_most in omega (arith, few, most)
-
     -- the text may be held there
     pub is_held : IsUtf8 held → MayBeHeldByItsText told.limits (told_before told) m → (result : Bool)
         → (result ≡ false → (n : UnplacedSyllable) → MayBeHeld old.limits (told_before old) (chars held) n → ⊥) → result ≡ true

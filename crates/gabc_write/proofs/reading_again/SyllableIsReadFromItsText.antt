@@ -3,6 +3,7 @@ use Rattle.std.proofs.Common.{◌≡◌, ℕ, suc, ◌<◌, ◌≤◌, ◌^◌, 
 use Rattle.std.specs.List.{All}
 use Rattle.std.proofs.lemmas.List.{length-map}
 use lib.Utf8.{encode, encodes}
+use Rattle.gabc_text.proofs.KeptCharacters.{codes_placed}
 use Rattle.gabc_places.specs.declared.place.Place.{Place}
 use Rattle.gabc_places.specs.declared.place.Char.{Char}
 use Rattle.gabc_places.specs.declared.place.Span.{Span}
@@ -35,7 +36,6 @@ use Rattle.gabc_write.specs.SyllableRead.{as_it_stands, SaysTheSame, IsReadByIts
 use Rattle.gabc_write.proofs.reading_again.NoErrorIsFoundAgain.{snippets_warn}
 use Rattle.gabc_score.specs.WithinLimits.{KeepsWithin}
 use Rattle.gabc_write.proofs.reading_again.NoLimitIsPassedAgain.{one_keeps}
-use Rattle.gabc_write.proofs.reading_again.PlacedCharacters.{codes_placed}
 use Rattle.gabc_write.proofs.reading_again.ScoreReadAgainIsTheSame.{kept_again, some_parts}
 use Rattle.gabc_write.proofs.reading_again.SyllablesSayTheSame.{one_said, said_by}
 

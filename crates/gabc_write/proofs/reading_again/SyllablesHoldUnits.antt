@@ -4,6 +4,7 @@ use Rattle.std.specs.List.{All}
 use Rattle.std.proofs.lemmas.List.{length-map}
 use Rattle.std.proofs.lemmas.List.Elements.{All-head, All-tail}
 use lib.Utf8.{encodes}
+use Rattle.gabc_score.proofs.units.UnitsEndAtMarks.{IsSingle}
 use Rattle.gabc_places.specs.declared.limits.Limits.{Limits}
 use Rattle.gabc_places.specs.declared.place.Char.{Char}
 use Rattle.gabc_headers.specs.Book.{nabc_lines_of}
@@ -34,9 +35,6 @@ split (suc n) (x ∷ xs) h =
 there : {A : Type 0} (P : A → Type 0) (xs ys : List A) (x : A) → All P (xs ++ x ∷ ys) → P x
 there P [] ys x h = All-head P x ys h
 there P (z ∷ xs) ys x h = there P xs ys x (All-tail P z (xs ++ x ∷ ys) h)
-
-abbrev IsSingle : ScoreUnit → Type 0
-IsSingle u = length u.snippets ≤ 1
 
 -- a syllable has as many snippets as its unit, or one without notes
 few : (lines : ℕ) (u : ScoreUnit) (xss : List (List Char)) (whole : List ℕ) (snippets : List Snippet) → u.snippets ≡ xss → NotesAre lines u xss whole snippets → IsSingle u → length snippets ≤ 1

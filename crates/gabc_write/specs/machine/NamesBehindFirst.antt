@@ -1,4 +1,4 @@
--- The names of codes behind the first, as they are put.
+-- The names of codes after the first, as they are put.
 use Rattle.std.specs.Prelude.{ℕ, List, ◌++◌, codes}
 use Rattle.std.specs.List.{flat_map}
 use Rattle.gabc_nabc.specs.declared.code.GlyphCode.{GlyphCode}

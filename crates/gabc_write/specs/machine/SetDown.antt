@@ -6,7 +6,8 @@ use Rattle.gabc_score.specs.ScoreTells.{StandsAt, before_of, held_of, is_in_comm
 use Rattle.gabc_score.specs.witness.ScoreStage.{ScoreStageState}
 use Rattle.gabc_write.specs.SetDown.{SayTheSame}
 
--- It stands behind the same under the same limits, and holds what may stand for the syllable that is held.
+-- It stands after the same under the same limits, and holds what may stand for the syllable that is
+-- held.
 pub record HoldsAlike (told s : ScoreStageState) : Type 0 where
   pub limits_are : s.limits ≡ told.limits
   pub before_is : before_of s ≡ before_of told

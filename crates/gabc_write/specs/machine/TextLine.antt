@@ -3,7 +3,7 @@ use Rattle.std.proofs.Common.{ℕ, List, [], ◌∷◌, ◌++◌, ◌≡◌, Boo
 use Rattle.std.proofs.lemmas.Grind.{flat_map-append}
 use Rattle.gabc_write.specs.DumpLines.{escaped, escaped_byte}
 
--- the line has begun behind these bytes: there are some, or it had before
+-- the line has begun after these bytes: there are some, or it had before
 abbrev pub begun_behind : Bool → List ℕ → Bool
 begun_behind begun [] = begun
 begun_behind begun (c ∷ t) = true

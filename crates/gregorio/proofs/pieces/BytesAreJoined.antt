@@ -3,18 +3,15 @@ use Rattle.std.proofs.Common.{◌≡◌, ℕ, List, [], ◌++◌, ap, sym, ◌�
 use Rattle.std.proofs.lemmas.List.{append_cancel_left}
 use Rattle.gabc_places.specs.BoundedList.{BoundedList, extended_by}
 use Rattle.gregorio.specs.Streams.{Streams, behind_bytes}
-use Rattle.gregorio_jobs.specs.declared.job.Status.{Status}
 
 pub behind_both : (output lines more_output more_lines : List ℕ) (s : Streams) → behind_bytes (output ++ more_output) (lines ++ more_lines) s ≡ behind_bytes output lines (behind_bytes more_output more_lines s)
 behind_both output lines more_output more_lines s =
     ap (λ (o : List ℕ). record s { output = o; messages = (lines ++ more_lines) ++ s.messages }) (append_assoc output more_output s.output)
     ∙ ap (λ (l : List ℕ). record s { output = output ++ (more_output ++ s.output); messages = l }) (append_assoc lines more_lines s.messages)
 
-pub same_streams : (s t : Streams) → s.output ≡ t.output → s.messages ≡ t.messages → s.status ≡ t.status → s ≡ t
-same_streams s t output messages status =
-    ap (λ (o : List ℕ). record s { output = o }) output
-    ∙ (ap (λ (l : List ℕ). record s { output = t.output; messages = l }) messages
-    ∙ ap (λ (x : Status). record t { status = x }) status)
+pub same_streams : (s t : Streams) → s.output ≡ t.output → s.messages ≡ t.messages → s.status ≡ t.status → s.fault ≡ t.fault → s ≡ t
+same_streams s t output messages status fault =
+    λ i. record { output = output i; messages = messages i; status = status i; fault = fault i }
 
 -- what stands behind the same bytes is the same
 pub behind_same : (output lines : List ℕ) (s t : Streams) → behind_bytes output lines s ≡ behind_bytes output lines t → s ≡ t
@@ -22,6 +19,7 @@ behind_same output lines s t e = same_streams s t
     (append_cancel_left output s.output t.output (ap (λ (x : Streams). x.output) e))
     (append_cancel_left lines s.messages t.messages (ap (λ (x : Streams). x.messages) e))
     (ap (λ (x : Streams). x.status) e)
+    (ap (λ (x : Streams). x.fault) e)
 
 pub extended_by_none : {T : Type 0} (r : BoundedList T) → r ≡ extended_by r []
 extended_by_none r = ap (λ (xs : List _). record r { items = xs }) (sym (append-nil r.items))

@@ -1,5 +1,5 @@
 -- A byte that an engine takes brings what was to come for it, and so do the bytes of a piece.
-use Rattle.std.proofs.Common.{◌≡◌, ℕ, ◌||◌, List, [], ◌∷◌, ◌++◌, length, take, Bool, true, false, not, Option, Some, None, IfSome, is_none, is_some, Result, refl, ap, append_assoc, sym, ◌∙◌, arith}
+use Rattle.std.proofs.Common.{◌≡◌, ℕ, ◌+◌, ◌≤◌, ◌||◌, List, [], ◌∷◌, ◌++◌, length, take, drop, length-take, take-add, take-take, subst, Bool, true, false, not, Option, Some, None, IfSome, is_none, is_some, Result, refl, ap, append_assoc, sym, ◌∙◌, arith}
 use Rattle.std.specs.List.{list_any}
 use Rattle.gabc_places.specs.BoundedList.{BoundedList}
 use Rattle.gabc_places.specs.StageLaw.{concat_of}
@@ -15,15 +15,15 @@ use Rattle.gabc_score.specs.witness.ScoreStage.{ScoreStageState, left_of}
 use Rattle.gregorio.specs.declared.source_ending.SourceEnding.{SourceEnding}
 use Rattle.gregorio.specs.declared.source_ending.SourceEnding.TheVariants.{Whole as Ended, Broken}
 use Rattle.gregorio.specs.Engine.{Brings, NothingWaits, is_running, with_waiting}
-use Rattle.gregorio.specs.witness.Engine.{EngineState, Written, book_behind, head_events_left, items_left, streams_left}
-use Rattle.gregorio.specs.Streams.{Streams, behind_bytes, ended_with}
+use Rattle.gregorio.specs.witness.Engine.{EngineState, Written, book_behind, ended_by, head_events_left, items_left, streams_left}
+use Rattle.gregorio.specs.Streams.{Streams, behind_bytes}
 use Rattle.gregorio.specs.Outcome.{is_error_finding, is_whole, status_by}
 use Rattle.gregorio.specs.machine.RunWriter.{line_room, most_waiting, out_room}
 use Rattle.gregorio.specs.machine.ScoreWriter.{ScoreWriterState, IsOver, IsReserved, IsSteady}
 use Rattle.gregorio.specs.machine.Engine.{WritesItems, streams_of_items}
 use Rattle.gregorio.proofs.pieces.BytesAreJoined.{behind_both}
 use Rattle.gregorio_jobs.specs.declared.job.Format.{Format}
-use Rattle.gregorio_jobs.specs.declared.job.Status.{Status}
+use Rattle.gregorio.specs.declared.run_ending.RunEnding.{RunEnding}
 use Rattle.gregorio_jobs.specs.declared.job.Status.TheVariants.{ReadFault}
 use Rattle.gregorio.proofs.StreamsOfOutputs.{EndsAtLast, outputs_are_said, over_is_last, said}
 
@@ -74,33 +74,40 @@ byte_taken d e h now w new byte items law a bytes ending =
 
 -- ---- a piece
 
-pub goes_on : (ended : Option Status) → is_none ended ≡ true → ended ≡ None
+pub goes_on : (ended : Option RunEnding) → is_none ended ≡ true → ended ≡ None
 goes_on None running = refl
-goes_on (Some status) running = absurd (cc running)
+goes_on (Some how) running = absurd (cc running)
 
 pub none_wait : (s : EngineState) → NothingWaits s → (rest : Streams) → with_waiting s rest ≡ rest
 none_wait s waits rest = ap (λ (o : List ℕ). behind_bytes o s.messages rest) waits.output ∙ ap (λ (l : List ℕ). behind_bytes [] l rest) waits.messages
-
--- the same waits
-pub same_wait : (old new : EngineState) → new.output ≡ old.output → new.messages ≡ old.messages → (rest : Streams) → with_waiting old rest ≡ with_waiting new rest
-same_wait old new output messages rest = ap (λ (o : List ℕ). behind_bytes o old.messages rest) (sym output) ∙ ap (λ (l : List ℕ). behind_bytes new.output l rest) (sym messages)
 
 -- what bytes bring and bytes after them is what both bring
 pub brings_both : (old mid new : EngineState) (xs ys : List ℕ) → Brings old xs mid → Brings mid ys new → Brings old (xs ++ ys) new
 brings_both old mid new xs ys first second more ending =
     ap (λ (bytes : List ℕ). with_waiting old (streams_left old ending bytes)) (append_assoc xs ys more) ∙ (first (ys ++ more) ending ∙ second more ending)
 
-pub found_over : (o : Option Status) (w : Written) (score : ScoreStageState) → is_some o ≡ true → IfSome o (λ status. IsOver w score status) → (status : Status) × IsOver w score status
-found_over (Some status) w score is over = (status, over)
+-- a front of a front of a piece is a front of the piece
+pub front_of_front : (count most : ℕ) (piece : List ℕ) → count ≤ length (take most piece) → take count (take most piece) ≡ take count piece
+front_of_front count most piece within = let l = length-take most piece in take-take count most piece (omega (arith, within, l))
+
+-- bytes behind bytes that were taken
+pub brings_more : (first now new : EngineState) (piece rest : List ℕ) (count more : ℕ) → rest ≡ drop count piece → Brings first (take count piece) now → Brings now (take more rest) new
+    → Brings first (take (count + more) piece) new
+brings_more first now new piece rest count more is so_far next =
+    subst (λ (xs : List ℕ). Brings first xs new) (sym (take-add count more piece ∙ ap (λ (xs : List ℕ). take count piece ++ take more xs) (sym is)))
+    (brings_both first now new (take count piece) (take more rest) so_far next)
+
+pub found_over : (o : Option RunEnding) (w : Written) (score : ScoreStageState) → is_some o ≡ true → IfSome o (λ how. IsOver w score how) → (how : RunEnding) × IsOver w score how
+found_over (Some how) w score is over = (how, over)
 found_over None w score is over = absurd (cc is)
 
 -- where the run is over, nothing is written
-pub over_left : (s : EngineState) (status : Status) → IsOver s.written s.score status → (ending : SourceEnding) (bytes : List ℕ) → streams_left s ending bytes ≡ ended_with status
-over_left s status over ending bytes = let items = items_left s ending bytes in over_is_last s.written s.score status over (book_behind s.heads items) (head_events_left s.heads ending items)
+pub over_left : (s : EngineState) (how : RunEnding) → IsOver s.written s.score how → (ending : SourceEnding) (bytes : List ℕ) → streams_left s ending bytes ≡ ended_by how
+over_left s how over ending bytes = let items = items_left s ending bytes in over_is_last s.written s.score how over (book_behind s.heads items) (head_events_left s.heads ending items)
 
 -- a piece is taken, and nothing follows
-pub stopped_brings : (s : EngineState) (status : Status) → IsOver s.written s.score status → (piece : List ℕ) → Brings s piece s
-stopped_brings s status over piece more ending = ap (with_waiting s) (over_left s status over ending (piece ++ more) ∙ sym (over_left s status over ending more))
+pub stopped_brings : (s : EngineState) (how : RunEnding) → IsOver s.written s.score how → (piece : List ℕ) → Brings s piece s
+stopped_brings s how over piece more ending = ap (with_waiting s) (over_left s how over ending (piece ++ more) ∙ sym (over_left s how over ending more))
 
 -- ---- an input that breaks off
 
@@ -129,3 +136,7 @@ read_fault_if_broken s running gives =
     ap (λ (t : Streams). t.status) (broken_is_said s (goes_on s.written.ended running) gives)
     ∙ (ap (λ (f : Option Fault). status_by f (not (has_end outputs)) errors) gives.stop
     ∙ ap (λ (b : Bool). status_by None (not b) errors) gives.end)
+
+-- and no fault
+pub no_fault_if_broken : (s : EngineState) → is_running s ≡ true → GivesNoLast (concat_of (left_of s.score [])) → (streams_left s Broken []).fault ≡ None
+no_fault_if_broken s running gives = ap (λ (t : Streams). t.fault) (broken_is_said s (goes_on s.written.ended running) gives) ∙ gives.stop

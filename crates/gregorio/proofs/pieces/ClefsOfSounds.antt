@@ -82,10 +82,3 @@ module _ (law : LeavesClef) (old : ScoreStageState) (w : Written) (x : HeadEvent
 
 pub clef_past : LeavesClef → (old : ScoreStageState) (w : Written) (x : HeadEvent) (new : ScoreWriterState) → PassesOn old w x new → HasClefOfSounds old w → HasClefOfSounds new.score new.writer.written
 clef_past law old w x new p had = λ running. clef_by law old w x new p running old.part refl (had (went_on_past old w x new p running).before)
-
--- ---- where nothing is written
-
-pub clef_kept : (old new : ScoreStageState) (w : Written) → new.part ≡ old.part → new.before ≡ old.before → HasClefOfSounds old w → HasClefOfSounds new w
-clef_kept old new w part before had = λ running.
-    subst (λ (p : Preceding). IsClefIn new.part p.sounded w.force.clef) (sym before)
-    (subst (λ (q : ScorePart). IsClefIn q old.before.sounded w.force.clef) (sym part) (had running))

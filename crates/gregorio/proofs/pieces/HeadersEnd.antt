@@ -16,7 +16,7 @@ use Rattle.gabc_headers.specs.witness.HeadEvents.{HeaderStageState, HeadProgress
 use Rattle.gabc_score.specs.declared.score_machine.ScorePart.TheVariants as score_part
 use Rattle.gabc_score.specs.ScoreTells.{StandsInFront}
 use Rattle.gabc_score.specs.witness.ScoreStage.{ScoreStageState}
-use Rattle.gregorio_jobs.specs.declared.job.Status.{Status}
+use Rattle.gregorio.specs.declared.run_ending.RunEnding.{RunEnding}
 use Rattle.gregorio.specs.witness.Engine.{Written, is_heads}
 use Rattle.gregorio.specs.machine.Engine.{headed_past}
 use Rattle.gregorio.specs.machine.InStep.{PassesAll, PassesOn, written_at}
@@ -68,7 +68,7 @@ pub record HeadersEnd (limits : Limits) (progress : HeadProgress) (item : Result
   pub end : HeadersEndAt limits text last s
 
 -- in a run that is over they are not written
-none_written : (headed : Bool) (ended : Option Status) → headed ≡ false → is_none ended ≡ false → (headed || not (headed || is_some ended)) ≡ false
+none_written : (headed : Bool) (ended : Option RunEnding) → headed ≡ false → is_none ended ≡ false → (headed || not (headed || is_some ended)) ≡ false
 none_written headed None un done = absurd (cc done)
 none_written headed (Some status) un done = rw un refl
 

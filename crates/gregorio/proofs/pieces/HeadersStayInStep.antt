@@ -25,7 +25,7 @@ use Rattle.gabc_score.specs.Before.{no_syllable, with_placed}
 use Rattle.gabc_score.specs.ScoreEvents.{ScoreOutput, is_last, syllables_in}
 use Rattle.gabc_score.specs.ScoreStage.{Counts, most_whole, part_past}
 use Rattle.gabc_score.specs.ToldWithin.{whole_syllables}
-use Rattle.gregorio_jobs.specs.declared.job.Status.{Status}
+use Rattle.gregorio.specs.declared.run_ending.RunEnding.{RunEnding}
 use Rattle.gregorio.specs.witness.Engine.{Written}
 use Rattle.gregorio.specs.machine.InStep.{AreInOnePart, PassesAll, PassesOn, RunsInStep, StayInStep, written_at}
 use Rattle.gregorio.specs.machine.ScoreWriter.{ScoreWriterState}
@@ -76,7 +76,7 @@ pub record StepsTo (progress : HeadProgress) (s : ScoreWriterState) : Type 0 whe
   pub whole : s.writer.written.headed ≡ true → whole_syllables s.score ≡ 0
   pub counts : (place : Place) → Counts place s.score
 
-headed_now : (headed : Bool) (ended : Option Status) → headed ≡ false → is_none ended ≡ true → (headed || not (headed || is_some ended)) ≡ true
+headed_now : (headed : Bool) (ended : Option RunEnding) → headed ≡ false → is_none ended ≡ true → (headed || not (headed || is_some ended)) ≡ true
 headed_now headed None un runs = rw un refl
 headed_now headed (Some status) un runs = absurd (false≢true runs)
 

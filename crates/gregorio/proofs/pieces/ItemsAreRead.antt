@@ -41,6 +41,14 @@ past_behind limits hasher book [] = refl
 past_behind limits hasher book (Ok c ∷ items) = past_behind limits hasher book items
 past_behind limits hasher book (Err fault ∷ items) = past_over limits hasher book items
 
+-- each character is an input of the body
+pub inputs_behind : (limits : Limits) (hasher : DefaultHasher) (book : List (List ℕ × List ℕ)) (cs : List Char) (ending : SourceEnding) (more : List (Result Char Fault))
+    → (let h : HeaderStageState = record { limits = limits; progress = behind book; book = book; hasher = hasher } in
+    head_events_left h ending (map (λ (c : Char). Ok c) cs ++ more) ≡ map (λ (c : Char). head_event.Body c) cs ++ head_events_left h ending more)
+inputs_behind limits hasher book [] ending more = refl
+inputs_behind limits hasher book (c ∷ cs) Ended more = ap (λ (events : List HeadEvent). head_event.Body c ∷ events) (inputs_behind limits hasher book cs Ended more)
+inputs_behind limits hasher book (c ∷ cs) Broken more = ap (λ (events : List HeadEvent). head_event.Body c ∷ events) (inputs_behind limits hasher book cs Broken more)
+
 found_books : (fs : List Finding) (rest : List HeadEvent) (book read : List (List ℕ × List ℕ)) → AreBooksAt rest book read → AreBooksAt (map (λ f. head_event.Found f) fs ++ rest) book read
 found_books [] rest book read h = h
 found_books (f ∷ fs) rest book read h = (tt, found_books fs rest book read h)

@@ -19,12 +19,12 @@ use Rattle.gabc_score.specs.ScoreEvents.{HasNoEnd, ScoreOutput, Found, Stop, Syl
 use Rattle.gabc_score.specs.witness.ScoreStage.{ScoreStageState, left_of}
 use Rattle.gabc_places.specs.Message.{message_text}
 use Rattle.gregorio_jobs.specs.declared.job.Format.{Format}
-use Rattle.gregorio_jobs.specs.declared.job.Status.{Status}
+use Rattle.gregorio.specs.declared.run_ending.RunEnding.{RunEnding}
 use Rattle.gregorio_jobs.specs.declared.job.Status.TheVariants.{ReadFault}
 use Rattle.gregorio.specs.declared.source_ending.SourceEnding.TheVariants.{Broken}
 use Rattle.gregorio.specs.Outcome.{fault_line, shown_line}
 use Rattle.gregorio.specs.Engine.{Brings, IsHeldText, IsPrompt, NothingWaits, is_running}
-use Rattle.gregorio.specs.witness.Engine.{EngineState, Written, behind_heads, behind_output, behind_outputs, book_behind, ceased_status, first_list, head_events_left, items_left, lines_of_outputs, streams_from, streams_left, writes_heads}
+use Rattle.gregorio.specs.witness.Engine.{EngineState, Written, behind_heads, behind_output, behind_outputs, book_behind, ceased_ending, first_list, head_events_left, items_left, lines_of_outputs, status_of_ending, streams_from, streams_left, writes_heads}
 use Rattle.gregorio.specs.Streams.{Streams, count_behind, last_text, texts_behind}
 use Rattle.gregorio.specs.machine.ScoreWriter.{IsOver, IsSilent}
 use Rattle.gregorio.proofs.StreamsOfOutputs.{concat_first, first_false, said, second_empty, second_false}
@@ -49,17 +49,17 @@ held_text lines true w outputs headed end few noted = inr (record {
 })
 
 -- where a run is over, nothing is held
-pub prompt_where_over : (s : EngineState) (status : Status) → IsOver s.written s.score status → IsPrompt s.written.format (streams_left s Broken [])
-prompt_where_over s status ended =
-    subst (λ (streams : Streams). IsPrompt s.written.format streams) (sym (over_left s status ended Broken [])) (record { messages = refl; output = inl refl })
+pub prompt_where_over : (s : EngineState) (how : RunEnding) → IsOver s.written s.score how → IsPrompt s.written.format (streams_left s Broken [])
+prompt_where_over s how is =
+    subst (λ (streams : Streams). IsPrompt s.written.format streams) (sym (over_left s how is Broken [])) (record { messages = refl; output = inl refl })
 
 pub prompt_now : (s : EngineState) → GivesNoLast (concat_of (left_of s.score [])) → length (syllables_in (concat_of (left_of s.score []))) ≤ 1
     → All (λ (p : PlacedSyllable). HoldsSomeUnit s.score.body.nabc_lines p.made) (syllables_in (concat_of (left_of s.score []))) → (IsSome s.written.ended → IsSilent s.score)
     → IsPrompt s.written.format (streams_left s Broken [])
 prompt_now s gives few noted silent = by s.written.ended refl
   where
-    by : (ended : Option Status) → s.written.ended ≡ ended → IsPrompt s.written.format (streams_left s Broken [])
-    by (Some status) ended = prompt_where_over s status (record { ended = ended; silent = silent (subst IsSome (sym ended) (search rules)) })
+    by : (ended : Option RunEnding) → s.written.ended ≡ ended → IsPrompt s.written.format (streams_left s Broken [])
+    by (Some how) ended = prompt_where_over s how (record { ended = ended; silent = silent (subst IsSome (sym ended) (search rules)) })
     by None ended =
         let outputs = concat_of (left_of s.score []) in
         let w = s.written in
@@ -71,17 +71,6 @@ prompt_now s gives few noted silent = by s.written.ended refl
         })
 
 -- ---- the last byte
-
--- Behind a front of a piece, which brought nothing, an engine is as prompt as it is.
-pub prompt_behind : (old mid : EngineState) (bytes : List ℕ) → ((more : List ℕ) → streams_left old Broken (bytes ++ more) ≡ streams_left mid Broken more) → mid.written.format ≡ old.written.format
-    → IsPrompt mid.written.format (streams_left mid Broken []) → IsPrompt old.written.format (streams_left old Broken bytes)
-prompt_behind old mid bytes law format prompt =
-    subst (λ (f : Format). IsPrompt f (streams_left old Broken bytes)) format
-    (subst (λ (s : Streams). IsPrompt mid.written.format s)
-    (sym (law []) ∙ ap (λ (xs : List ℕ). streams_left old Broken xs) (append-nil bytes)) prompt)
-
-pub one_more : (count : ℕ) → count ≡ count + 1 - 1
-one_more count = omega arith
 
 one_less : (count more : ℕ) → 0 < more → count + more - 1 ≡ count + (more - 1)
 one_less count more some = omega (arith, some)
@@ -109,12 +98,6 @@ pub ends_further : (first now : EngineState) (piece rest : List ℕ) (count more
 ends_further first now piece rest count more is so_far some fault =
     ap (λ (xs : List ℕ). (streams_left first Broken xs).status) (before_last piece rest count more is some)
     ∙ (ap (λ (s : Streams). s.status) (so_far (take (more - 1) rest) Broken) ∙ fault)
-
--- Behind a front at which nothing is written it ends as it does before.
-pub ends_behind_front : (old mid : EngineState) (bytes : List ℕ) → ((more : List ℕ) → streams_left old Broken (bytes ++ more) ≡ streams_left mid Broken more)
-    → (streams_left mid Broken []).status ≡ ReadFault → (streams_left old Broken bytes).status ≡ ReadFault
-ends_behind_front old mid bytes law fault =
-    ap (λ (xs : List ℕ). (streams_left old Broken xs).status) (sym (append-nil bytes)) ∙ (ap (λ (s : Streams). s.status) (law []) ∙ fault)
 
 -- where a loop over a piece stops before its first step, the piece is empty
 pub took_some : (P : Type 0) (count n : ℕ) → (0 < count) ⊎ P → (P → n ≤ count) → 0 < n → 0 < count
@@ -190,7 +173,7 @@ told : (w : Written) (book : List (List ℕ × List ℕ)) (from_heads : List Hea
     → (streams_from w book from_heads lists).messages ≡ [] → (streams_from w book from_heads lists).status ≡ ReadFault
 told w book [] lists end runs none =
     let outputs = concat_of lists in
-    ap ceased_status (no_fault w outputs (sym (append-nil (lines_of_outputs w outputs)) ∙ none) end ∙ runs)
+    ap (λ (o : Option RunEnding). status_of_ending (ceased_ending o)) (no_fault w outputs (sym (append-nil (lines_of_outputs w outputs)) ∙ none) end ∙ runs)
 told w book (x ∷ from_heads) lists end runs none =
     let v = behind_heads w (writes_heads w x) in
     let outputs = first_list lists in

@@ -1,5 +1,5 @@
 -- The parts of an engine stay in step in its body, and where it begins and ends.
-use Rattle.std.proofs.Common.{◌≡◌, ℕ, ◌+◌, ◌-◌, ◌^◌, ◌≤◌, ◌<◌, min, zero, suc, List, [], ◌∷◌, Bool, true, false, Option, Some, is_none, Result, Ok, Err, if◌then◌else◌, refl, ap, sym, subst, ◌∙◌, arith}
+use Rattle.std.proofs.Common.{◌≡◌, ℕ, ◌+◌, ◌-◌, ◌^◌, ◌≤◌, ◌<◌, min, List, [], ◌∷◌, Bool, true, false, Option, Some, is_none, Result, Ok, Err, if◌then◌else◌, refl, ap, sym, subst, ◌∙◌, arith}
 use Rattle.std.proofs.lemmas.Bool.{false≢true}
 use Rattle.std.specs.List.{list_any}
 use Rattle.gabc_places.specs.DecoderMachine.{DecoderState, fresh_decoder}
@@ -17,10 +17,10 @@ use Rattle.gabc_score.specs.declared.score_machine.ScorePart.{ScorePart}
 use Rattle.gabc_score.specs.declared.score_machine.ScorePart.TheVariants as score_part
 use Rattle.gabc_score.specs.Before.{with_placed}
 use Rattle.gabc_score.specs.ScoreEvents.{ScoreOutput, is_last, syllables_in}
-use Rattle.gabc_score.specs.ScoreStage.{Counts, behind_front, most_whole, part_past, preceding_past}
+use Rattle.gabc_score.specs.ScoreStage.{Counts, most_whole, part_past, preceding_past}
 use Rattle.gabc_score.specs.ToldWithin.{whole_syllables}
 use Rattle.gabc_score.specs.witness.ScoreStage.{ScoreStageState}
-use Rattle.gregorio_jobs.specs.declared.job.Status.{Status}
+use Rattle.gregorio.specs.declared.run_ending.RunEnding.{RunEnding}
 use Rattle.gregorio.specs.witness.Engine.{Written}
 use Rattle.gregorio.specs.machine.Engine.{event_of_item}
 use Rattle.gregorio.specs.machine.InStep.{AreInOnePart, HasForce, IsInStep, PassesOn, RunsInStep, StayInStep}
@@ -163,55 +163,10 @@ nothing_in_step h s = record {
 
 -- ---- a run that is over
 
-pub over_in_step : (d : DecoderState) (h : HeaderStageState) (s : ScoreWriterState) (status : Status) → HasForce s.writer.written → s.writer.written.ended ≡ Some status → IsInStep d h s.score s.writer.written
-over_in_step d h s status force over_is = record {
+pub over_in_step : (d : DecoderState) (h : HeaderStageState) (s : ScoreWriterState) (how : RunEnding) → HasForce s.writer.written → s.writer.written.ended ≡ Some how → IsInStep d h s.score s.writer.written
+over_in_step d h s how force over_is = record {
   force = force;
-  runs = λ running. absurd (false≢true (sym (ap (λ (o : Option Status). is_none o) over_is) ∙ running));
-}
-
--- ---- characters that are taken at once
-
--- a decoder has skipped so many bytes
-pub record Skips (d : DecoderState) (n : ℕ) (e : DecoderState) : Type 0 where
-  pub limit : e.limit ≡ d.limit
-  pub taken : e.taken ≡ d.taken + n
-  pub line : e.place.line ≡ d.place.line
-  pub column : e.place.column ≡ d.place.column + n
-  pub runs : e.running ≡ d.running
-
-front_place : (at : Place) (n : ℕ) → behind_front at n at ≡ place_at at.line (at.column + n)
-front_place at zero = ap (λ (m : ℕ). place_at at.line m) (omega arith)
-front_place at (suc n) = refl
-
-pub place_skipped : (d e : DecoderState) (n : ℕ) → Skips d n e → behind_front d.place n d.place ≡ e.place
-place_skipped d e n skips =
-    front_place d.place n
-    ∙ (ap (λ (m : ℕ). place_at m (d.place.column + n)) (sym skips.line) ∙ ap (λ (m : ℕ). place_at e.place.line m) (sym skips.column))
-
-front_runs : (d e : DecoderState) (h : HeaderStageState) (old new : ScoreStageState) (w : Written) (n : ℕ) → Skips d n e → new.limits ≡ old.limits → new.part ≡ old.part → new.before ≡ old.before → whole_syllables new ≡ whole_syllables old
-    → (Counts d.place old → Counts (behind_front d.place n d.place) new) → RunsInStep d h old w → RunsInStep e h new w
-front_runs d e h old new w n skips limits part before whole counts was =
-    let taken = skips.taken in
-    let line = skips.line in
-    let column = skips.column in
-    let same = ap (λ (q : Preceding). q.syllables) before in
-    record {
-      runs = skips.runs ∙ was.runs;
-      limit = skips.limit ∙ (was.limit ∙ ap (λ (l : Limits). l.input) (sym limits));
-      parts = subst (λ (p : ScorePart). AreInOnePart h.progress p w.headed) (sym part) was.parts;
-      none = was.none;
-      count = λ is. was.count is ∙ sym same;
-      taken = λ is. let most = was.taken is in omega (arith, most, taken, whole);
-      column = let first = was.column in omega (arith, first, column);
-      near = let near = was.near in omega (arith, near, taken, line, column);
-      counts = λ within. subst (λ (place : Place). Counts place new) (place_skipped d e n skips) (counts (was.counts (let limit = skips.limit in omega (arith, within, limit, taken))));
-    }
-
-pub front_in_step : (d e : DecoderState) (h : HeaderStageState) (old new : ScoreStageState) (w : Written) (n : ℕ) → Skips d n e → new.limits ≡ old.limits → new.part ≡ old.part → new.before ≡ old.before → whole_syllables new ≡ whole_syllables old
-    → (Counts d.place old → Counts (behind_front d.place n d.place) new) → IsInStep d h old w → IsInStep e h new w
-front_in_step d e h old new w n skips limits part before whole counts was = record {
-  force = was.force;
-  runs = λ running. front_runs d e h old new w n skips limits part before whole counts (was.runs running);
+  runs = λ running. absurd (false≢true (sym (ap (λ (o : Option RunEnding). is_none o) over_is) ∙ running));
 }
 
 -- ---- before the first byte

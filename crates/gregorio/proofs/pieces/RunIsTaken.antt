@@ -21,6 +21,7 @@ use Rattle.gabc_headers.specs.witness.HeadEvents.{HeaderStageState, HeadProgress
 use Rattle.gabc_score.specs.GivesSyllables.{next_after}
 use Rattle.gabc_score.specs.ScoreStage.{Counts}
 use Rattle.gabc_score.specs.ScoreTells.{StandsAt}
+use Rattle.gabc_score.specs.ScoreEvents.{Syllable}
 use Rattle.gabc_score.specs.Syllable.{PlacedSyllable}
 use Rattle.gabc_score.specs.Before.{with_placed}
 use Rattle.gabc_score.specs.declared.before.Preceding.{Preceding}
@@ -34,10 +35,10 @@ use Rattle.gregorio.specs.machine.ReadsHeaders.{ReadsHeaders}
 use Rattle.gregorio.specs.machine.RunWriter.{RunWriterState, TakesRuns, outputs_of_syllables}
 use Rattle.gregorio.specs.machine.ScoreWriter.{ScoreWriterState, WritesRun, streams_of}
 use Rattle.gregorio.specs.machine.TellsInStep.{IsTelling}
-use Rattle.gregorio.specs.witness.Engine.{Written, book_behind, head_events_left, lines_of_outputs, texts_of_outputs}
+use Rattle.gabc_neumes.specs.InForce.{nothing_in_force}
+use Rattle.gregorio.specs.witness.Engine.{behind_output, behind_outputs, Written, book_behind, head_events_left, lines_of_outputs, texts_of_outputs}
 use Rattle.gregorio.proofs.pieces.BytesAreTaken.{items_taken}
-use Rattle.gregorio.proofs.pieces.FrontIsTaken.{inputs_behind}
-use Rattle.gregorio.proofs.pieces.ItemsAreRead.{past_behind}
+use Rattle.gregorio.proofs.pieces.ItemsAreRead.{inputs_behind, past_behind}
 use Rattle.gregorio.proofs.pieces.PartsStayInStep.{IsInBody, in_body, one_part}
 use Rattle.gregorio.proofs.pieces.RunIsWritten.{run_counted, run_law, same_force, syllables_of}
 use Rattle.gregorio.proofs.pieces.TextOfHeaders.{headed_read}
@@ -121,6 +122,20 @@ module _ (w new : ScoreWriterState) (at : Place) (t : List ℕ) (r : WritesRun w
     law = λ ending more. run_in_body h.limits h.hasher h.progress h.book ending more is together;
   }
 
+-- a syllable more is counted
+one_counted : (v : Written) (s : PlacedSyllable) → v.headed ≡ true → 1 ≤ (behind_output v (Syllable s)).count
+one_counted v s headed = rw headed (omega arith)
+
+some_counted : (ss : List PlacedSyllable) (v : Written) → v.headed ≡ true → 1 ≤ v.count → 1 ≤ (behind_outputs v (outputs_of_syllables ss)).count
+some_counted [] v headed some = some
+some_counted (s ∷ ss) v headed some = some_counted ss (behind_output v (Syllable s)) headed (one_counted v s headed)
+
+-- where no syllable is counted, none was written
+outset_force : (ss : List PlacedSyllable) (v : Written) → v.headed ≡ true → (v.count ≡ 0 → v.force ≡ nothing_in_force) → (behind_outputs v (outputs_of_syllables ss)).count ≡ 0
+    → (behind_outputs v (outputs_of_syllables ss)).force ≡ nothing_in_force
+outset_force [] v headed was none = was none
+outset_force (s ∷ ss) v headed was none = absurd (let some = some_counted ss (behind_output v (Syllable s)) headed (one_counted v s headed) in omega (arith, some, none))
+
 -- ---- what an engine writes
 
 module _ (d e : DecoderState) (h : HeaderStageState) (w new : ScoreWriterState) (text : List ℕ) (r : WritesRun w d.place (chars text) new) (takes : TakesRuns w.writer.written) (skips : SkipsText d text e)
@@ -157,8 +172,12 @@ module _ (d e : DecoderState) (h : HeaderStageState) (w new : ScoreWriterState) 
 
   run_forces : HasForce new.writer.written
   run_forces =
-      let none = ap (λ (x : RunWriterState). x.written.force) r.taken ∙ (same_force r.syllables w.writer.written takes.canonical ∙ step.force.untracked takes.canonical) in
-      record { untracked = λ gabc. none; outset = λ outset. none }
+      let force = ap (λ (x : RunWriterState). x.written.force) r.taken in
+      let format = ap (λ (v : Written). v.format) (run_counted w d.place (chars text) new r).is in
+      record {
+        untracked = λ gabc. (let canonical = sym format ∙ gabc in force ∙ (same_force r.syllables w.writer.written canonical ∙ step.force.untracked canonical));
+        outset = λ outset. force ∙ outset_force r.syllables w.writer.written takes.headed step.force.outset (sym (ap (λ (x : RunWriterState). x.written.count) r.taken) ∙ outset);
+      }
 
   run_runs : RunsInStep e h new.score new.writer.written
   run_runs =

@@ -3,11 +3,12 @@ use Rattle.std.proofs.Common.{◌≡◌, ℕ, List, [], ◌∷◌, ◌++◌, Boo
 use Rattle.std.proofs.lemmas.Bool.{or_parts}
 use Rattle.gabc_headers.specs.declared.head_event.HeadEvent.{HeadEvent}
 use Rattle.gabc_neumes.specs.InForce.{InForce}
-use Rattle.gabc_neumes.specs.declared.sound.Clef.{Clef}
 use Rattle.gabc_places.proofs.PushesAreOne.{joined-append}
 use Rattle.gabc_places.specs.StageLaw.{concat_of}
 use Rattle.gabc_places.specs.declared.place.Place.{Place}
-use Rattle.gabc_score.specs.Before.{sounds, with_placed}
+use Rattle.gabc_neumes.specs.InForce.{passed}
+use Rattle.gabc_write.specs.DumpOfSyllables.{steps_of_syllable}
+use Rattle.gabc_score.specs.Before.{sounds, with_one, with_placed}
 use Rattle.gabc_score.specs.GivesSyllables.{text_inputs}
 use Rattle.gabc_score.specs.ScoreEvents.{ScoreOutput, Syllable, syllables_in}
 use Rattle.gabc_score.specs.Syllable.{PlacedSyllable}
@@ -16,8 +17,8 @@ use Rattle.gabc_score.specs.declared.score_machine.ScorePart.{ScorePart}
 use Rattle.gabc_score.specs.declared.score_machine.ScorePart.TheVariants as score_part
 use Rattle.gabc_score.specs.witness.ScoreStage.{left_of}
 use Rattle.gregorio_jobs.specs.declared.job.Format.{Format}
-use Rattle.gregorio_jobs.specs.declared.job.Format.TheVariants.{Gabc}
-use Rattle.gregorio_jobs.specs.declared.job.Status.{Status}
+use Rattle.gregorio_jobs.specs.declared.job.Format.TheVariants.{Gabc, Dump}
+use Rattle.gregorio.specs.declared.run_ending.RunEnding.{RunEnding}
 use Rattle.gregorio.specs.Streams.{Streams, behind_bytes, force_behind}
 use Rattle.gregorio.specs.machine.ClefInForce.{HasClefOfSounds, IsClefIn}
 use Rattle.gregorio.specs.machine.RunWriter.{RunWriterState, TakesRuns, outputs_of_syllables}
@@ -57,6 +58,22 @@ earlier_silent : (ss : List PlacedSyllable) (p : Preceding) → (with_placed p s
 earlier_silent [] p silent = silent
 earlier_silent (s ∷ ss) p silent = (or_parts p.sounded (sounds s.made) (earlier_silent ss (with_placed p (s ∷ [])) silent)).0
 
+-- where a syllable without a note or a clef leaves the clef in force
+abbrev pub ClefStays : Type 0
+ClefStays = (outset : InForce) (s : PlacedSyllable) → sounds s.made ≡ false → (passed outset (steps_of_syllable s)).clef ≡ outset.clef
+
+-- where nothing sounds in syllables, they leave it
+same_clef : ClefStays → (ss : List PlacedSyllable) (w : Written) (p : Preceding) → (with_placed p ss).sounded ≡ false → (behind_outputs w (outputs_of_syllables ss)).force.clef ≡ w.force.clef
+same_clef stays [] w p silent = refl
+same_clef stays (s ∷ ss) w p silent =
+    same_clef stays ss (behind_output w (Syllable s)) (with_one p s.made) silent
+    ∙ by w.headed w.format (or_parts p.sounded (sounds s.made) (earlier_silent ss (with_placed p (s ∷ [])) silent)).1
+  where
+    by : (headed : Bool) (format : Format) → sounds s.made ≡ false → (if headed then force_behind format w.force s else w.force).clef ≡ w.force.clef
+    by true Gabc none = refl
+    by true Dump none = stays w.force s none
+    by false format none = refl
+
 module _ (old : ScoreWriterState) (at : Place) (t : List ℕ) (new : ScoreWriterState) (r : WritesRun old at t new) where
   abbrev outputs : List ScoreOutput
   outputs = outputs_of_syllables r.syllables
@@ -83,22 +100,24 @@ module _ (old : ScoreWriterState) (at : Place) (t : List ℕ) (new : ScoreWriter
   pub run_silent : TakesRuns old.writer.written → IsSome new.writer.written.ended → IsSilent new.score
   run_silent takes over = absurd (by new.writer.written.ended (ap (λ (v : Written). is_none v.ended) run_counted.is ∙ takes.runs) over)
     where
-      by : (o : Option Status) → is_none o ≡ true → IsSome o → ⊥
+      by : (o : Option RunEnding) → is_none o ≡ true → IsSome o → ⊥
       by None none some = cc some
       by (Some status) none some = cc none
 
-  clef_in : (part : ScorePart) (clef : Option Clef) → IsClefIn part old.score.before.sounded clef → IsClefIn part (with_placed old.score.before r.syllables).sounded clef
-  clef_in score_part.Heads clef was = was
-  clef_in score_part.Body clef was = λ silent. was (earlier_silent r.syllables old.score.before silent)
-  clef_in score_part.Over clef was = tt
+  module _ (stays : ClefStays) where
+    clef_in : (part : ScorePart) → old.score.part ≡ part → IsClefIn part old.score.before.sounded old.writer.written.force.clef → IsClefIn part (with_placed old.score.before r.syllables).sounded new.writer.written.force.clef
+    clef_in score_part.Heads e was =
+        ap (λ (w : RunWriterState). w.written.force.clef) r.taken
+        ∙ ap (λ (ss : List PlacedSyllable). (behind_outputs old.writer.written (outputs_of_syllables ss)).force.clef) (r.gives.in_heads e) ∙ was
+    clef_in score_part.Body e was = λ silent.
+        ap (λ (w : RunWriterState). w.written.force.clef) r.taken ∙ same_clef stays r.syllables old.writer.written old.score.before silent ∙ was (earlier_silent r.syllables old.score.before silent)
+    clef_in score_part.Over e was = tt
 
-  pub run_clef : TakesRuns old.writer.written → HasClefOfSounds old.score old.writer.written → HasClefOfSounds new.score new.writer.written
-  run_clef takes had = λ running.
-      let force : new.writer.written.force ≡ old.writer.written.force = ap (λ (w : RunWriterState). w.written.force) r.taken ∙ same_force r.syllables old.writer.written takes.canonical in
-      subst (λ (f : InForce). IsClefIn new.score.part new.score.before.sounded f.clef) (sym force)
-      (subst (λ (p : Preceding). IsClefIn new.score.part p.sounded old.writer.written.force.clef) (sym r.gives.before_held)
-      (subst (λ (q : ScorePart). IsClefIn q (with_placed old.score.before r.syllables).sounded old.writer.written.force.clef) (sym r.gives.part)
-      (clef_in old.score.part old.writer.written.force.clef (had takes.runs))))
+    pub run_clef : TakesRuns old.writer.written → HasClefOfSounds old.score old.writer.written → HasClefOfSounds new.score new.writer.written
+    run_clef takes had = λ running.
+        subst (λ (p : Preceding). IsClefIn new.score.part p.sounded new.writer.written.force.clef) (sym r.gives.before_held)
+        (subst (λ (q : ScorePart). IsClefIn q (with_placed old.score.before r.syllables).sounded new.writer.written.force.clef) (sym r.gives.part)
+        (clef_in old.score.part refl (had takes.runs)))
 
   -- ---- what it will still write
 

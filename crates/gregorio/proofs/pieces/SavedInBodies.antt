@@ -2,16 +2,13 @@
 use Rattle.std.proofs.Common.{◌≡◌, ℕ, ◌+◌, ◌≤◌, List, length, Bool, true, false, Option, None, Some, IfSome, is_none, Result, refl, ap, sym, subst, ◌∙◌, arith}
 use Rattle.std.proofs.lemmas.Bool.{false≢true}
 use Rattle.std.specs.Option.{option_map}
-use Rattle.gabc_places.specs.BoundedList.{BoundedList}
-use Rattle.gabc_places.specs.DecoderMachine.{DecoderState}
 use Rattle.gabc_places.specs.DecoderTells.{MayBeTold, is_after_cr}
 use Rattle.gabc_places.specs.declared.code.Fault.{Fault}
 use Rattle.gabc_places.specs.declared.place.Char.{Char}
 use Rattle.gabc_places.specs.witness.DecoderEvents as decoder
-use Rattle.gabc_headers.specs.declared.head_event.HeadEvent.{HeadEvent}
 use Rattle.gabc_places.specs.declared.limits.Limits.{Limits}
 use Rattle.gabc_places.specs.declared.place.Place.{Place}
-use Rattle.gabc_headers.specs.witness.HeadEvents.{HeaderStageState, HeadProgress, reading, behind, over, IsBehind, events_left}
+use Rattle.gabc_headers.specs.witness.HeadEvents.{HeadProgress, reading, behind, over, IsBehind, events_left}
 use Rattle.gabc_neumes.specs.InForce.{InForce}
 use Rattle.gabc_score.specs.ScoreStage.{StandInLine}
 use Rattle.gabc_score.specs.ScoreTells.{StandsAt, before_of, before_with, held_of, in_body as in_body_of, openers_of}
@@ -24,18 +21,15 @@ use Rattle.gabc_score.specs.declared.score_machine.ScorePart.TheVariants as scor
 use Rattle.gabc_score.specs.witness.ScoreStage.{ScoreStageState, left_of}
 use Rattle.gregorio_state.specs.Fields.{PhaseFields, ScoreFields, StateFields, InHeaders, InScore}
 use Rattle.gregorio.specs.declared.source_ending.SourceEnding.{SourceEnding}
-use Rattle.gregorio.specs.Engine.{is_running}
 use Rattle.gregorio.specs.Saved.{held_count, held_text, phase_fields, score_fields, state_of}
 use Rattle.gregorio.specs.witness.Engine.{EngineState, book_behind, head_events_left, items_left, streams_left}
-use Rattle.gregorio.specs.machine.Engine.{IsEngine}
 use Rattle.gregorio.specs.machine.InStep.{AreInOnePart, RunsInStep}
 use Rattle.gabc_write.specs.SavedAlike.{AreSavedAlike}
 use Rattle.gregorio.specs.machine.SavedAlike.{WriteTheSame}
-use Rattle.gregorio.specs.machine.ScoreWriter.{ScoreWriterState}
 use Rattle.gregorio.specs.machine.TellsInStep.{TellsInBody, TellsInStep}
 use Rattle.gregorio.proofs.pieces.ItemsStandInLine.{left_in_line}
 use Rattle.gregorio.proofs.pieces.PartsStayInStep.{IsInBody, in_body}
-use Rattle.gregorio.proofs.pieces.SavedInHeaders.{limits_saved, shown, written_saved}
+use Rattle.gregorio.proofs.pieces.SavedInHeaders.{limits_saved, written_saved}
 use Rattle.gregorio.proofs.pieces.StatesOfScores.{score_in_body}
 use Rattle.gregorio.proofs.pieces.StreamsAgree.{no_matter_which_book_behind, streams_agree}
 
@@ -231,24 +225,3 @@ bodies_agree one other written headed decoded given gives ending bytes =
     streams_agree one other ending bytes written (decoded bytes) given
     (no_matter_which_book_behind one.written (book_behind one.heads items) (book_behind other.heads items) from_heads (left_of one.score from_heads) headed)
     (gives ending bytes)
-
--- ---- an engine shows its parts
-
-pub runs_shown : (d : DecoderState) (h : HeaderStageState) (from_heads : BoundedList HeadEvent) (w : ScoreWriterState) (one : EngineState) → IsEngine d h from_heads w → shown d h w ≡ one → is_running one ≡ true
-    → MayBeTold d.limit d.taken d.place d.pending (is_after_cr d) → Runs (shown d h w)
-runs_shown d h from_heads w one is view running decoder =
-    let runs = ap (λ (s : EngineState). is_running s) view ∙ running in
-    record { runs = runs; step = is.step.runs runs; tells = is.tells runs; decoder = decoder }
-
--- what holds of two engines holds of what they show
-pub record AreShownAlike (a b : EngineState) : Type 0 where
-  pub headed : a.written.headed ≡ true
-  pub name : a.written.name ≡ b.written.name
-  pub state : state_of a ≡ state_of b
-
-pub shown_alike : (a b one other : EngineState) → a ≡ one → b ≡ other → one.written.headed ≡ true → one.written.name ≡ other.written.name → state_of one ≡ state_of other → AreShownAlike a b
-shown_alike a b one other view view2 headed name same = record {
-  headed = ap (λ (s : EngineState). s.written.headed) view ∙ headed;
-  name = ap (λ (s : EngineState). s.written.name) view ∙ (name ∙ sym (ap (λ (s : EngineState). s.written.name) view2));
-  state = ap (λ (s : EngineState). state_of s) view ∙ (same ∙ sym (ap (λ (s : EngineState). state_of s) view2));
-}

@@ -21,13 +21,11 @@ use Rattle.gabc_neumes.specs.InForce.{InForce}
 use Rattle.gabc_score.specs.declared.score_machine.ScorePart.{ScorePart}
 use Rattle.gabc_score.specs.declared.score_machine.ScorePart.TheVariants as score_part
 use Rattle.gabc_score.specs.witness.ScoreStage.{ScoreStageState, left_of}
-use Rattle.gregorio_jobs.specs.declared.job.Status.{Status}
+use Rattle.gregorio.specs.declared.run_ending.RunEnding.{RunEnding}
 use Rattle.gregorio_state.specs.Fields.{PhaseFields, StateFields, InHeaders, InScore}
 use Rattle.gregorio.specs.declared.source_ending.SourceEnding.{SourceEnding}
-use Rattle.gregorio.specs.Engine.{is_running}
 use Rattle.gregorio.specs.Saved.{phase_fields, state_of}
 use Rattle.gregorio.specs.witness.Engine.{EngineState, book_behind, head_events_left, items_left, streams_from, streams_left}
-use Rattle.gregorio.specs.machine.Engine.{IsEngine}
 use Rattle.gregorio.specs.machine.InStep.{AreInOnePart, HasForce, RunsInStep}
 use Rattle.gregorio.specs.machine.ReadsHeaders.{IsReadSoFar}
 use Rattle.gregorio.specs.machine.SavedAlike.{WriteTheSame}
@@ -41,7 +39,7 @@ pub limits_saved : (one other : EngineState) → state_of one ≡ state_of other
 limits_saved one other same = same_limits one.score.limits other.score.limits (ap (λ (s : StateFields). s.header_limit) same) (ap (λ (s : StateFields). s.syllable_limit) same) (ap (λ (s : StateFields). s.input_limit) same)
 
 -- where they do not end a run
-none_both : (a b : Option Status) → is_none a ≡ true → is_none b ≡ true → a ≡ b
+none_both : (a b : Option RunEnding) → is_none a ≡ true → is_none b ≡ true → a ≡ b
 none_both None None h k = refl
 none_both (Some x) b h k = absurd (false≢true h)
 none_both None (Some x) h k = absurd (false≢true k)
@@ -197,30 +195,3 @@ heads_agree one other alike decoded given ending bytes =
 
 abbrev pub shown : DecoderState → HeaderStageState → ScoreWriterState → EngineState
 shown d h w = record { decoder = d; heads = h; score = w.score; written = w.writer.written; output = w.writer.out.items; messages = w.writer.messages.items }
-
-module _ (d : DecoderState) (h : HeaderStageState) (from_heads : BoundedList HeadEvent) (w : ScoreWriterState) (d2 : DecoderState) (h2 : HeaderStageState) (from_heads2 : BoundedList HeadEvent) (w2 : ScoreWriterState) where
-  abbrev here : EngineState
-  here = shown d h w
-
-  abbrev there : EngineState
-  there = shown d2 h2 w2
-
-  runs_in_heads : IsEngine d h from_heads w → is_running here ≡ true → RunsInHeads here
-  runs_in_heads is runs = record { runs = runs; step = is.step.runs runs; force = is.step.force; read = is.headers runs; limits = is.together.limits }
-
-  runs_in_heads_too : IsEngine d2 h2 from_heads2 w2 → is_running there ≡ true → RunsInHeads there
-  runs_in_heads_too is runs = record { runs = runs; step = is.step.runs runs; force = is.step.force; read = is.headers runs; limits = is.together.limits }
-
-  pub alike_in_heads : (one other : EngineState) → IsEngine d h from_heads w → IsEngine d2 h2 from_heads2 w2 → here ≡ one → there ≡ other → is_running one ≡ true → is_running other ≡ true → one.written.headed ≡ false
-      → one.written.name ≡ other.written.name → state_of one ≡ state_of other → AreAlikeInHeads here there
-  alike_in_heads one other is is2 view view2 runs runs2 headed name same =
-      saved_in_heads here there (runs_in_heads is (ap (λ (s : EngineState). is_running s) view ∙ runs)) (runs_in_heads_too is2 (ap (λ (s : EngineState). is_running s) view2 ∙ runs2))
-      (ap (λ (s : EngineState). s.written.headed) view ∙ headed)
-      (ap (λ (s : EngineState). s.written.name) view ∙ (name ∙ sym (ap (λ (s : EngineState). s.written.name) view2)))
-      (ap (λ (s : EngineState). state_of s) view ∙ (same ∙ sym (ap (λ (s : EngineState). state_of s) view2)))
-
--- what is left of what they show is left of them
-pub left_of_shown : (a b one other : EngineState) → a ≡ one → b ≡ other → ((ending : SourceEnding) (bytes : List ℕ) → streams_left a ending bytes ≡ streams_left b ending bytes)
-    → (ending : SourceEnding) (bytes : List ℕ) → streams_left one ending bytes ≡ streams_left other ending bytes
-left_of_shown a b one other view view2 law ending bytes =
-    sym (ap (λ (s : EngineState). streams_left s ending bytes) view) ∙ (law ending bytes ∙ ap (λ (s : EngineState). streams_left s ending bytes) view2)

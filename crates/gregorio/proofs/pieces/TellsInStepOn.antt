@@ -1,10 +1,10 @@
 -- A score goes on telling of a text in step with its decoder.
-use Rattle.std.proofs.Common.{◌≡◌, ℕ, ◌+◌, ◌^◌, ◌<◌, ◌≤◌, List, [], ◌∷◌, ◌++◌, length, map, Bool, true, false, Option, Some, is_none, Result, Ok, Err, if◌then◌else◌, refl, ap, sym, subst, ◌∙◌, arith}
+use Rattle.std.proofs.Common.{◌≡◌, ℕ, ◌+◌, ◌^◌, ◌<◌, ◌≤◌, List, [], ◌∷◌, ◌++◌, map, Bool, true, false, Option, Some, is_none, Result, Ok, Err, if◌then◌else◌, refl, ap, sym, subst, ◌∙◌, arith}
 use Rattle.std.proofs.lemmas.Bool.{false≢true}
 use Rattle.std.proofs.lemmas.List.Elements.{All-head, All-tail}
 use Rattle.std.specs.List.{All}
 use Rattle.gabc_places.specs.DecoderMachine.{DecoderState, fresh_decoder}
-use Rattle.gabc_places.specs.DecoderTells.{MovesOn, is_after_cr}
+use Rattle.gabc_places.specs.DecoderTells.{MovesOn}
 use Rattle.gabc_places.specs.Place.{next_place, saturating_next_place, is_line_feed}
 use Rattle.gabc_places.specs.declared.code.Fault.{Fault}
 use Rattle.gabc_places.specs.declared.code.Finding.{Finding}
@@ -22,19 +22,18 @@ use Rattle.gabc_score.specs.declared.body_stage.BodyPart.{BodyPart}
 use Rattle.gabc_score.specs.declared.body_stage.BodyPart.TheVariants as part
 use Rattle.gabc_score.specs.declared.score_machine.ScorePart.{ScorePart}
 use Rattle.gabc_score.specs.declared.score_machine.ScorePart.TheVariants as score_part
-use Rattle.gabc_score.specs.ScoreStage.{IsPlaceBelow, MayCome, behind_front, next_past}
-use Rattle.gabc_score.specs.ScoreTells.{StandsAt, is_in_comment, is_in_front, moved_part, moved_to, openers_of}
+use Rattle.gabc_score.specs.ScoreStage.{IsPlaceBelow, MayCome, next_past}
+use Rattle.gabc_score.specs.ScoreTells.{StandsAt, is_in_front, moved_part, moved_to, openers_of}
 use Rattle.gabc_score.specs.ToldWithin.{AreOpenersBefore, IsPlace, TellsOfText}
 use Rattle.gabc_score.specs.witness.ScoreStage.{ScoreStageState}
-use Rattle.gregorio_jobs.specs.declared.job.Status.{Status}
+use Rattle.gregorio.specs.declared.run_ending.RunEnding.{RunEnding}
 use Rattle.gregorio.specs.witness.Engine.{Written}
 use Rattle.gregorio.specs.machine.Engine.{event_of_item}
 use Rattle.gregorio.specs.machine.InStep.{AreInOnePart, PassesAll, PassesOn, RunsInStep, StayInStep}
 use Rattle.gregorio.specs.machine.ScoreWriter.{ScoreWriterState}
-use Rattle.gregorio.specs.machine.Telling.{TellsThrough}
-use Rattle.gregorio.specs.machine.TellsInStep.{BeginsBody, IsInHeads, IsTelling, StayTelling, TellsInBody, TellsInStep, begun}
+use Rattle.gregorio.specs.machine.TellsInStep.{BeginsBody, IsInHeads, IsTelling, StayTelling, TellsInBody, begun}
 use Rattle.gregorio.proofs.pieces.HeadersEnd.{HeadersEnd, HeadersEndAt, stands_in_front}
-use Rattle.gregorio.proofs.pieces.PartsStayInStep.{Skips, in_body, place_skipped, same_next}
+use Rattle.gregorio.proofs.pieces.PartsStayInStep.{in_body, same_next}
 use Rattle.gregorio.proofs.pieces.WrittenGoesOn.{running_before, went_on_past}
 
 -- ---- lines
@@ -194,35 +193,6 @@ module _ (h now : HeaderStageState) (old mid new : ScoreWriterState) (item : Res
             (stands_in_front h.limits h.progress item mid.score end).front within);
       }
 
--- ---- characters that are taken at once
-
-no_bytes : (bytes : List ℕ) → length bytes ≡ 0 → bytes ≡ []
-no_bytes [] none = refl
-no_bytes (byte ∷ bytes) none = absurd (omega (arith, none))
-
-pub front_stays_telling : (d e : DecoderState) (h : HeaderStageState) (old new : ScoreStageState) (w : Written) (bytes : List ℕ) → Skips d (length bytes) e → (bytes ≡ [] → e ≡ d) → (0 < length bytes → is_after_cr e ≡ false)
-    → TellsThrough old d.place bytes new → RunsInStep d h old w → TellsInStep d old w → TellsInStep e new w
-front_stays_telling d e h old new w bytes skips none some through was told =
-    let line = skips.line in
-    let least = told.line in
-    record {
-      line = omega (arith, line, least);
-      body = λ headed within.
-          let fewer : d.taken ≤ d.limit = (let taken = skips.taken in let limit = skips.limit in omega (arith, taken, limit, within)) in
-          let t = told.body headed fewer in
-          record {
-            next = through.next ∙ (ap (λ (p : Place). behind_front d.place (length bytes) p) t.next ∙ place_skipped d e (length bytes) skips);
-            told = through.told (sym t.next) (λ body. subst (λ (place : Place). StandsAt place old.body.part) (sym t.next) (was.counts fewer body)) t.told;
-            holds = through.holds t.holds;
-            comment = λ cr. by bytes refl cr t.comment;
-          };
-    }
-  where
-    by : (bs : List ℕ) → bs ≡ bytes → is_after_cr e ≡ true → (is_after_cr d ≡ true → is_in_comment old.body.part ≡ false) → is_in_comment new.body.part ≡ false
-    by [] is cr before =
-        ap (λ (b : BodyPart). is_in_comment b) (through.none (sym is)) ∙ before (sym (ap (λ (s : DecoderState). is_after_cr s) (none (sym is))) ∙ cr)
-    by (b ∷ bs) is cr before = absurd (false≢true (sym (some (subst (λ (l : List ℕ). 0 < length l) is (omega arith))) ∙ cr))
-
 -- ---- before the first byte, and where the run is over
 
 pub fresh_tells : (limits : Limits) (d : DecoderState) (s : ScoreWriterState) → d ≡ fresh_decoder limits.input → s.writer.written.headed ≡ false → IsTelling d s
@@ -230,8 +200,8 @@ fresh_tells limits d s is unheaded = λ running.
     let line = ap (λ (x : DecoderState). x.place.line) is in
     record { line = omega (arith, line); body = λ headed. absurd (false≢true (sym unheaded ∙ headed)) }
 
-pub over_tells : (d : DecoderState) (s : ScoreWriterState) (status : Status) → s.writer.written.ended ≡ Some status → IsTelling d s
-over_tells d s status over_now = λ running. absurd (false≢true (sym (ap (λ (o : Option Status). is_none o) over_now) ∙ running))
+pub over_tells : (d : DecoderState) (s : ScoreWriterState) (how : RunEnding) → s.writer.written.ended ≡ Some how → IsTelling d s
+over_tells d s how over_now = λ running. absurd (false≢true (sym (ap (λ (o : Option RunEnding). is_none o) over_now) ∙ running))
 
 -- ---- the headers
 

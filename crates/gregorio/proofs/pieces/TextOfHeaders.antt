@@ -1,5 +1,5 @@
 -- Of the text of headers that an engine reads the place and the errors are those that it gives.
-use Rattle.std.proofs.Common.{◌≡◌, ℕ, ◌+◌, ◌<◌, ◌||◌, zero, suc, List, [], ◌∷◌, ◌++◌, Bool, true, false, is_none, Option, Some, Result, Ok, Err, if◌then◌else◌, refl, ap, sym, subst, ◌∙◌, arith}
+use Rattle.std.proofs.Common.{◌≡◌, ℕ, ◌||◌, List, [], ◌∷◌, ◌++◌, Bool, true, false, is_none, Option, Some, Result, Ok, Err, if◌then◌else◌, refl, ap, sym, subst, ◌∙◌}
 use Rattle.std.proofs.Math.Bool.{or-false, or_assoc}
 use Rattle.std.proofs.lemmas.Bool.{false≢true}
 use Rattle.std.specs.Char.{IsScalar}
@@ -26,14 +26,14 @@ use Rattle.gabc_score.specs.ScoreEvents.{ScoreOutput}
 use Rattle.gabc_score.specs.declared.score_machine.ScorePart.{ScorePart}
 use Rattle.gabc_score.specs.declared.score_machine.ScorePart.TheVariants as score_part
 use Rattle.gregorio.specs.Outcome.{is_error_finding}
-use Rattle.gregorio.specs.machine.InStep.{AreInOnePart, PassesAll, RunsInStep, written_at}
+use Rattle.gregorio.specs.machine.InStep.{AreInOnePart, PassesAll, written_at}
 use Rattle.gregorio.specs.machine.ReadsHeaders.{IsReadAs, IsReadSoFar, ReadsHeaders, ReadsOn}
 use Rattle.gregorio.specs.machine.RunWriter.{RunWriterState}
 use Rattle.gregorio.specs.machine.ScoreWriter.{ScoreWriterState, begun_again}
 use Rattle.gregorio.specs.witness.Engine.{Written, behind_outputs}
 use Rattle.gregorio.proofs.pieces.HeadersStayInStep.{HeadsYet, found_events, found_passed, in_heads}
 use Rattle.gregorio.proofs.pieces.WrittenGoesOn.{running_before, went_on_past}
-use Rattle.gregorio_jobs.specs.declared.job.Status.{Status}
+use Rattle.gregorio.specs.declared.run_ending.RunEnding.{RunEnding}
 
 -- ---- what is found
 
@@ -52,9 +52,6 @@ found_errors (f ∷ fs) old new yet all running =
     found_errors fs mid new (found_passed f old mid passes yet) all.1.1 running
     ∙ (ap (λ (b : Bool). b || list_any is_error_finding fs) first
     ∙ or_assoc old.writer.written.errors (is_error_finding f) (list_any is_error_finding fs))
-
-same_place : (p q : Place) → q.line ≡ p.line → p.column ≡ q.column → p ≡ q
-same_place p q line column = ap (λ (n : ℕ). record p { column = n }) column ∙ ap (λ (n : ℕ). record q { line = n }) (sym line)
 
 -- ---- a character
 
@@ -140,14 +137,6 @@ pub nothing_reads_on : (h : HeaderStageState) (s : ScoreWriterState) → ReadsOn
 nothing_reads_on h s d e moves ran reads running =
     subst (λ (p : Place). IsReadSoFar h.limits h.progress p s.writer.written.errors) (sym moves.place) (reads running)
 
--- Characters of the body, or none, are taken at once.
-pub front_reads_on : (d e : DecoderState) (h : HeaderStageState) (s : ScoreWriterState) (n : ℕ) → e.place.line ≡ d.place.line → e.place.column ≡ d.place.column + n → (0 < n → s.writer.written.headed ≡ true)
-    → (is_none s.writer.written.ended ≡ true → RunsInStep d h s.score s.writer.written) → ReadsHeaders d h s.writer.written → ReadsHeaders e h s.writer.written
-front_reads_on d e h s zero line column headed ran reads running =
-    subst (λ (p : Place). IsReadSoFar h.limits h.progress p s.writer.written.errors) (same_place d.place e.place line (omega (arith, column))) (reads running)
-front_reads_on d e h s (suc n) line column headed ran reads running =
-    headed_read h.limits h.progress s.score.part s.writer.written.headed e.place s.writer.written.errors (headed (omega arith)) (ran running).parts
-
 -- ---- before the first byte, and behind the last
 
 pub fresh_reads : (v : Written) (limits : Limits) (d : DecoderState) (h : HeaderStageState) (w : Written) → ((limits : Limits) → IsHeld limits []) → d ≡ fresh_decoder limits.input → h ≡ fresh_stage limits h.hasher → w ≡ begun_again v
@@ -162,5 +151,5 @@ fresh_reads v limits d h w law is_d is_h is_w running =
       };
     })
 
-pub over_reads : (d : DecoderState) (h : HeaderStageState) (w : Written) (status : Status) → w.ended ≡ Some status → ReadsHeaders d h w
-over_reads d h w status over_is running = absurd (false≢true (sym (ap (λ (o : Option Status). is_none o) over_is) ∙ running))
+pub over_reads : (d : DecoderState) (h : HeaderStageState) (w : Written) (how : RunEnding) → w.ended ≡ Some how → ReadsHeaders d h w
+over_reads d h w how over_is running = absurd (false≢true (sym (ap (λ (o : Option RunEnding). is_none o) over_is) ∙ running))

@@ -3,7 +3,6 @@ use Rattle.std.proofs.Common.{◌≡◌, ℕ, ◌+◌, ◌-◌, List, [], Bool, 
 use Rattle.std.proofs.lemmas.Bool.{false≢true}
 use Rattle.gabc_places.specs.declared.place.Place.{Place}
 use Rattle.gabc_places.specs.TextOfAnInput.{IsText}
-use Rattle.gabc_text.specs.witness.EventsLeft as fresh_events
 use Rattle.gabc_score.specs.Before.{no_syllable, preceding_of}
 use Rattle.gabc_score.specs.ReadAgain.{CanBeReadInText, StandsBefore, TellsOfReading, TellsTheSameBut, no_openers}
 use Rattle.gabc_score.specs.ScoreTells.{StandsInFront, before_of, before_with, in_body, is_in_comment, is_in_front, openers_of, reading_in_body}
@@ -55,12 +54,11 @@ kept_told : (p : ScorePart) (kept : List ℕ) → p ≡ score_part.Body → read
 kept_told p kept body = rw body refl
 
 module _ (f : ScoreFields) (old : ScoreStageState) (holds : HoldsHeld f old) where
-  stands_before : StandsBefore old
-  unfolding fresh_events.events_left
-  stands_before = record {
+  stands_before : is_in_comment old.body.part ≡ false → StandsBefore old
+  stands_before outside = record {
     runs = ap (λ (b : Option Before). is_some b) holds.behind.before_is;
     nothing_read = holds.begins.nothing_read;
-    outside = ap is_in_comment holds.begins.begins;
+    outside = outside;
   }
 
   module _ (o : Openers) (open_at : o ≡ openers_told f) (new : ScoreStageState) (result : Bool) where
@@ -70,9 +68,9 @@ module _ (f : ScoreFields) (old : ScoreStageState) (holds : HoldsHeld f old) whe
         → (result ≡ true) × TellsOfReading new f.kept o f.in_comment
 
     -- where the kept text is read so, all of it is kept
-    pub is_kept_again : ReadsAgain → IsReportedSo old.limits f → (result ≡ true) × TellsOfReading new f.kept (openers_told f) f.in_comment
-    is_kept_again again kept =
-        let h = again told (record { body = kept.keeps.body; told = kept.keeps.told }) kept.limits_are same_before (subst (λ (x : Openers). TellsOfReading told f.kept x f.in_comment) (sym open_at) tells) stands_before in
+    pub is_kept_again : is_in_comment old.body.part ≡ false → ReadsAgain → IsReportedSo old.limits f → (result ≡ true) × TellsOfReading new f.kept (openers_told f) f.in_comment
+    is_kept_again outside again kept =
+        let h = again told (record { body = kept.keeps.body; told = kept.keeps.told }) kept.limits_are same_before (subst (λ (x : Openers). TellsOfReading told f.kept x f.in_comment) (sym open_at) tells) (stands_before outside) in
         (h.0, subst (λ (x : Openers). TellsOfReading new f.kept x f.in_comment) open_at h.1)
       where
         told : ScoreStageState

@@ -1,4 +1,5 @@
--- The clef in force behind the syllables that are written, by whether a note or a clef has come in GABC.
+-- The clef in force after the syllables that are written, by whether a note or a clef has come in
+-- GABC.
 use Rattle.std.specs.Prelude.{◌≡◌, Bool, true, false, Option, None, is_none}
 use Rattle.gabc_neumes.specs.declared.sound.Clef.{Clef}
 use Rattle.gabc_score.specs.declared.score_machine.ScorePart.{ScorePart}

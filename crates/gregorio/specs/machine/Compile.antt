@@ -22,7 +22,8 @@ pub record AreSent (out messages : Use) (output lines : List ℕ) : Type 0 where
   pub goes_on : GoesOn out.calls_old out.calls_new
   pub messages_go_on : GoesOn messages.calls_old messages.calls_new
 
--- So many bytes of both streams were written: at some point no less of the output, and no more of the messages.
+-- So many bytes of both streams were written: at some point no less of the output, and no more of
+-- the messages.
 pub record AreInOrder (IsPoint : List ℕ → List ℕ → Type 0) (output_count lines_count : ℕ) : Type 0 where
   pub output : List ℕ
   pub lines : List ℕ
@@ -30,7 +31,8 @@ pub record AreInOrder (IsPoint : List ℕ → List ℕ → Type 0) (output_count
   pub output_first : length output ≤ output_count
   pub lines_then : lines_count ≤ length lines
 
--- A sink failed: each took a prefix of these bytes, and at some point of them all output and no more messages.
+-- A sink failed: each took a prefix of these bytes, and at some point of them all output and no
+-- more messages.
 pub record AreCut (IsPoint : List ℕ → List ℕ → Type 0) (out messages : Use) (output lines : List ℕ) : Type 0 where
   pub output_count : ℕ
   pub lines_count : ℕ

@@ -1,4 +1,5 @@
--- What an engine does with items, which are characters or the fault that stops the text, and what holds of it between two calls.
+-- What an engine does with items, which are characters or the fault that stops the text, and what
+-- holds of it between two calls.
 use Rattle.std.specs.Prelude.{◌≡◌, ◌≤◌, ◌⊎◌, ◌||◌, ℕ, List, [], ◌∷◌, ◌++◌, length, Bool, true, Option, Some, None, Result, Ok, Err}
 use Rattle.std.specs.List.{list_any}
 use Rattle.gabc_places.specs.BoundedList.{BoundedList, extended_by}
@@ -24,7 +25,8 @@ abbrev pub AreBooksAt : List HeadEvent → List (List ℕ × List ℕ) → List 
 AreBooksAt [] book read = Unit {0}
 AreBooksAt (x ∷ events) book read = IsBookAt x book read × AreBooksAt events book read
 
--- At these events it wrote what was to come for them, and goes on with what follows. `read` is the book that was read.
+-- At these events it wrote what was to come for them, and goes on with what follows. `read` is the
+-- book that was read.
 pub record WritesAll (old : ScoreWriterState) (events : List HeadEvent) (read : List (List ℕ × List ℕ)) (new : ScoreWriterState) : Type 0 where
   pub output : List ℕ
   pub lines : List ℕ
@@ -32,7 +34,7 @@ pub record WritesAll (old : ScoreWriterState) (events : List HeadEvent) (read : 
   pub messages : new.writer.messages ≡ extended_by old.writer.messages lines
   pub law : (book : List (List ℕ × List ℕ)) (from_heads : List HeadEvent) → AreBooksAt events book read → streams_of old book (events ++ from_heads) ≡ behind_bytes output lines (streams_of new book from_heads)
 
--- behind these the headers are written at most where they were before or are whole among these
+-- after these the headers are written at most where they were before or are whole among these
 abbrev pub headed_past : Bool → List HeadEvent → Bool
 headed_past headed events = headed || list_any is_heads events
 
@@ -77,21 +79,22 @@ pub record IsEmpty (w : ScoreWriterState) : Type 0 where
 abbrev pub IsSettled : ScoreWriterState → Type 0
 IsSettled w = (book other : List (List ℕ × List ℕ)) (from_heads more : List HeadEvent) → streams_of w book from_heads ≡ streams_of w other more
 
--- the book that the stage of headers stands behind is the one that it has read
+-- the book that the stage of headers stands after is the one that it has read
 abbrev pub IsBookRead : HeadProgress → List (List ℕ × List ℕ) → Type 0
 IsBookRead (behind book) read = book ≡ read
 IsBookRead (reading t) read = Unit {0}
 IsBookRead over read = Unit {0}
 
--- The stage of headers and the writer have the same limits. Where the headers are written, the stage of headers is behind the line `%%`, or it
--- is no matter what comes.
+-- The stage of headers and the writer have the same limits. Where the headers are written, the
+-- stage of headers is after the line `%%`, or it is no matter what comes.
 pub record GoTogether (h : HeaderStageState) (w : ScoreWriterState) : Type 0 where
   pub limits : h.limits ≡ w.score.limits
   pub headed : w.writer.written.headed ≡ true → IsBehind h.progress ⊎ IsSettled w
   pub book : IsBookRead h.progress h.book
   pub short : IsShortBook h.limits h.book
 
--- There is room for the events of one call, the rooms of the writer are those of the limits, and all parts are in step.
+-- There is room for the events of one call, the rooms of the writer are those of the limits, and
+-- all parts are in step.
 pub record IsEngine (decoder : DecoderState) (heads : HeaderStageState) (from_heads : BoundedList HeadEvent) (w : ScoreWriterState) : Type 0 where
   pub few : 2 ≤ from_heads.limit
   pub together : GoTogether heads w

@@ -34,6 +34,6 @@ pub record IsPushed (limits : Limits) (hasher : DefaultHasher) (t : List ℕ) (h
   pub past : h ≡ stage_past (fresh_stage limits hasher) (inputs_of xs)
   pub holds : HoldsSo limits t error h.progress
 
--- behind the line `%%` alone
+-- after the line `%%` alone
 abbrev pub behind_mark : Limits → DefaultHasher → HeaderStageState
 behind_mark limits hasher = record { limits = limits; progress = behind []; book = []; hasher = hasher }

@@ -7,3 +7,4 @@ pub record TakeTheSame {A B : Type 0} (takes : A → List ℕ → A) (takes_too 
   pub output : takes out_then streams_then.output ≡ takes out streams.output
   pub lines : takes_too messages_then streams_then.messages ≡ takes_too messages streams.messages
   pub status : streams_then.status ≡ streams.status
+  pub fault : streams_then.fault ≡ streams.fault

@@ -31,7 +31,7 @@ given_in_heads head_event.End = End ∷ []
 given_in_heads (head_event.Body x) = []
 given_in_heads (head_event.Heads lines macros canonical) = []
 
--- At an event the score gave these, and what is written is what stands behind them.
+-- At an event the score gave these, and what is written is what stands after them.
 pub record PassesOn (old : ScoreStageState) (w : Written) (x : HeadEvent) (new : ScoreWriterState) : Type 0 where
   pub outputs : List ScoreOutput
   pub few : length (syllables_in outputs) ≤ most_lent x
@@ -61,8 +61,9 @@ AreInOnePart (reading t) score_part.Heads headed = headed ≡ false
 AreInOnePart (behind book) score_part.Body headed = headed ≡ true
 AreInOnePart progress part headed = ⊥
 
--- An engine that runs: its decoder does, its stages are in one part, as many syllables are written as stand before the one that is held, and no more
--- are whole than bytes were taken. In the body a text has counted the place where the decoder stands.
+-- An engine that runs: its decoder does, its stages are in one part, as many syllables are written
+-- as stand before the one that is held, and no more are whole than bytes were taken. In the body a
+-- text has counted the place where the decoder stands.
 pub record RunsInStep (d : DecoderState) (h : HeaderStageState) (s : ScoreStageState) (w : Written) : Type 0 where
   pub runs : d.running ≡ true
   pub limit : d.limit ≡ s.limits.input

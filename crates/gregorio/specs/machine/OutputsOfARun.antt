@@ -21,9 +21,6 @@ one_then w o rest =
     (append_assoc w.out.items (text_of_output w.written o) (texts_of_outputs v rest))
     ∙ ap (λ (lines : List ℕ). record p { messages = record w.messages { items = lines } }) (append_assoc w.messages.items (lines_of_output w.written o) (lines_of_outputs v rest))
 
-pub one_alone : (w : RunWriterState) (o : ScoreOutput) → past_output w o ≡ past_outputs w (o ∷ [])
-one_alone w o = sym (past_no_output (past_output w o)) ∙ one_then w o []
-
 -- ---- syllables
 
 pub past_none : (w : RunWriterState) → past_syllables w [] ≡ w

@@ -33,14 +33,16 @@ abbrev pub IsForceIn : Format → PhaseFields → Type 0
 IsForceIn format (InHeaders text) = Unit {0}
 IsForceIn format (InScore f) = IsForceBefore format f
 
--- The part of a state that hangs on what comes before it: the limits, what its decoder tells, how many syllables there are, and what is in force.
+-- The part of a state that hangs on what comes before it: the limits, what its decoder tells, how
+-- many syllables there are, and what is in force.
 pub record IsStateOfInput (s : StateFields) : Type 0 where
   pub limits : AreLimits s.header_limit s.syllable_limit s.input_limit
   pub decoder : MayBeTold s.input_limit s.taken s.place s.pending s.after_cr
   pub syllables : AreSyllablesWithin s.taken s.phase
   pub force : IsForceIn s.format s.phase
 
--- The part of a state that its score tells: all but what is in force, and which spans are open, before the syllable that is held.
+-- The part of a state that its score tells: all but what is in force, and which spans are open,
+-- before the syllable that is held.
 pub record IsScoreTold (s : StateFields) (f : ScoreFields) : Type 0 where
   pub counts : AreCounts s f
   pub held : IsHeldWithin s.syllable_limit f

@@ -16,7 +16,8 @@ use Rattle.gregorio.specs.machine.Restoring.{IsSetDown}
 use Rattle.gregorio.specs.machine.RunWriter.{RunWriterState, line_room, most_waiting, out_room}
 use Rattle.gregorio.specs.machine.ScoreWriter.{fresh_writer}
 
--- what was written: in the headers nothing, and in the score the headers and all syllables but the one that is held
+-- what was written: in the headers nothing, and in the score the headers and all syllables but the
+-- one that is held
 abbrev pub written_by : Job → StateFields → PhaseFields → Written
 written_by job s (InHeaders text) = record (fresh_writer job) { errors = s.has_error }
 written_by job s (InScore f) = record (fresh_writer job) { headed = true; count = f.syllables - 1; force = f.in_force; errors = s.has_error }
@@ -27,7 +28,7 @@ pub record StandInHeaders (s : StateFields) (text : List ℕ) (limits : Limits) 
   pub gives : GivesHeaders limits (chars text) s.place s.has_error
   pub part : score.part ≡ Heads
 
--- In the score one stage is behind some headers, and the other one is set down.
+-- In the score one stage is after some headers, and the other one is set down.
 pub record StandInScore (s : StateFields) (f : ScoreFields) (limits : Limits) (h : HeaderStageState) (score : ScoreStageState) : Type 0 where
   pub heads : h ≡ behind_mark limits h.hasher
   pub set_down : IsSetDown s f score

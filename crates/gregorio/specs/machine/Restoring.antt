@@ -8,8 +8,8 @@ use Rattle.gregorio_state.specs.Fields.{ScoreFields, StateFields}
 use Rattle.gregorio.specs.Saved.{score_fields}
 use Rattle.gregorio.specs.SavedState.{TellsLimits}
 
--- A stage over a score, under the limits of the state, tells what the fields of its score say, at the place of the state, and that is what a text
--- gives.
+-- A stage over a score, under the limits of the state, tells what the fields of its score say, at
+-- the place of the state, and that is what a text gives.
 pub record IsSetDown (s : StateFields) (f : ScoreFields) (stage : ScoreStageState) : Type 0 where
   pub limits_are : TellsLimits s stage.limits
   pub body : stage.part ≡ Body

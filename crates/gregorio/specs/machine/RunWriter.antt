@@ -7,7 +7,7 @@ use Rattle.gabc_score.specs.ScoreEvents.{ScoreOutput, Found, Stop, Syllable, End
 use Rattle.gabc_places.specs.declared.limits.Limits.{Limits}
 use Rattle.gabc_score.specs.ScoreStage.{IsWithin}
 use Rattle.gabc_score.specs.Syllable.{PlacedSyllable}
-use Rattle.gregorio.specs.witness.Engine.{Written, behind_heads, behind_output, behind_outputs, ceased_status, ceased_text, if_headed, is_before_heads, lines_of_output, lines_of_outputs, text_of_heads, text_of_output, texts_of_outputs}
+use Rattle.gregorio.specs.witness.Engine.{Written, behind_heads, behind_output, behind_outputs, ceased_ending, ceased_text, if_headed, is_before_heads, lines_of_output, lines_of_outputs, text_of_heads, text_of_output, texts_of_outputs}
 use Rattle.gregorio.specs.Streams.{last_text}
 use Rattle.gregorio_jobs.specs.declared.job.Format.{Format}
 use Rattle.gregorio_jobs.specs.declared.job.Format.TheVariants.{Gabc, Dump}
@@ -38,7 +38,7 @@ past_outputs w outputs = record (with_bytes w (texts_of_outputs w.written output
 
 -- where its source has failed, if the run is not over
 abbrev pub past_end : RunWriterState → RunWriterState
-past_end w = record w { written = record w.written { ended = Some (ceased_status w.written.ended) }; out = extended_by w.out (ceased_text w.written.ended w.written) }
+past_end w = record w { written = record w.written { ended = Some (ceased_ending w.written.ended) }; out = extended_by w.out (ceased_text w.written.ended w.written) }
 
 -- ---- the syllables of a run
 
@@ -50,16 +50,10 @@ outputs_of_syllables ss = map (λ (s : PlacedSyllable). Syllable s) ss
 abbrev pub past_syllables : RunWriterState → List PlacedSyllable → RunWriterState
 past_syllables w ss = past_outputs w (outputs_of_syllables ss)
 
--- The output is in canonical form, the headers were written, and the run is not over.
+-- The headers were written, and the run is not over.
 pub record TakesRuns (w : Written) : Type 0 where
-  pub canonical : w.format ≡ Gabc
   pub headed : w.headed ≡ true
   pub runs : is_none w.ended ≡ true
-
--- There is room for a syllable of n bytes, too.
-pub record TakesText (w : RunWriterState) (n : ℕ) : Type 0 where
-  pub runs : TakesRuns w.written
-  pub fits : Fits w.out n
 
 -- ---- how much room is reserved, in bytes
 
@@ -71,6 +65,11 @@ abbrev pub syllable_len : Format → Bool → ℕ → ℕ
 syllable_len Gabc no_notes canonical = canonical
 syllable_len Dump true canonical = 2 * canonical + 128
 syllable_len Dump false canonical = 64 * canonical + 256
+
+-- There is room for a syllable with notes whose canonical text has n bytes, too.
+pub record TakesText (w : RunWriterState) (n : ℕ) : Type 0 where
+  pub runs : TakesRuns w.written
+  pub fits : Fits w.out (syllable_len w.written.format false n)
 
 abbrev pub syllable_room : Format → ℕ → ℕ
 syllable_room format limit = syllable_len format false (limit + 1)
@@ -90,11 +89,13 @@ heads_room format limit = heads_len format (limit + 2)
 abbrev pub last_room : ℕ
 last_room = 25
 
--- the output that a step brings: the headers, a syllable, one after it that has no notes, and last lines
+-- the output that a step brings: the headers, a syllable, one after it that has no notes, and last
+-- lines
 abbrev pub out_room : Format → Limits → ℕ
 out_room format limits = heads_room format limits.header + syllable_room format limits.syllable + room_without_notes format limits.syllable + 128
 
--- how many bytes of the output, and as many of the messages, may wait before a step: as many as the headers may have, up to 65,536
+-- how many bytes of the output, and as many of the messages, may wait before a step: as many as the
+-- headers may have, up to 65,536
 abbrev pub most_waiting : Limits → ℕ
 most_waiting limits = min limits.header 65536
 
@@ -114,7 +115,8 @@ abbrev pub texts_room : Format → ℕ → List ScoreOutput → ℕ
 texts_room format limit [] = 0
 texts_room format limit (o ∷ outputs) = text_room format limit o + texts_room format limit outputs
 
--- With what these bring, the messages and the output have at most so many bytes. The syllables are within the limits.
+-- With what these bring, the messages and the output have at most so many bytes. The syllables are
+-- within the limits.
 pub record IsInRoom (limits : Limits) (most_lines most_texts : ℕ) (w : RunWriterState) (outputs : List ScoreOutput) : Type 0 where
   pub lines : length w.messages.items + lines_room w.written.name outputs ≤ most_lines
   pub texts : length w.out.items + texts_room w.written.format limits.syllable outputs ≤ most_texts

@@ -1,5 +1,5 @@
 -- What a writer of scores does with what a stage of headers gives.
-use Rattle.std.specs.Prelude.{Bool, false, true, Some, None, IsSome, ◌≡◌, ℕ, ◌+◌, ◌*◌, ◌<◌, ◌≤◌, List, [], ◌∷◌, ◌++◌, length, map, encode_utf8_all, if◌then◌else◌}
+use Rattle.std.specs.Prelude.{Bool, false, true, Some, None, IsSome, ◌≡◌, ℕ, ◌+◌, ◌*◌, ◌≤◌, List, [], ◌∷◌, length, map, encode_utf8_all, if◌then◌else◌}
 use Rattle.gabc_places.specs.BoundedList.{BoundedList, extended_by}
 use Rattle.gabc_places.specs.declared.limits.Limits.{Limits}
 use Rattle.gabc_places.specs.declared.place.Place.{Place}
@@ -14,19 +14,17 @@ use Rattle.gabc_score.specs.declared.score_machine.ScorePart.{ScorePart}
 use Rattle.gabc_score.specs.declared.score_machine.ScorePart.TheVariants as score_part
 use Rattle.gabc_score.specs.GivesSyllables.{Runs}
 use Rattle.gabc_score.specs.ScoreEvents.{ScoreOutput, Found, Stop, Syllable, End}
-use Rattle.gabc_score.specs.ScoreStage.{Counts, behind_front, body_inputs, is_final, lent_in}
-use Rattle.gabc_score.specs.ToldWithin.{whole_syllables}
+use Rattle.gabc_score.specs.ScoreStage.{is_final, lent_in}
 use Rattle.gabc_places.specs.StageLaw.{concat_of}
 use Rattle.gabc_score.specs.witness.ScoreStage.{ScoreStageState, left_of}
 use Rattle.gregorio.specs.Outcome.{input_name}
 use Rattle.gregorio_jobs.specs.declared.job.Job.{Job}
-use Rattle.gregorio.specs.Streams.{Streams, behind_bytes, ended_with}
-use Rattle.gregorio.specs.witness.Engine.{Written, streams_from}
+use Rattle.gregorio.specs.declared.run_ending.RunEnding.{RunEnding}
+use Rattle.gregorio.specs.Streams.{Streams, behind_bytes}
+use Rattle.gregorio.specs.witness.Engine.{Written, ended_by, streams_from}
 use Rattle.gregorio.specs.machine.ClefInForce.{HasClefOfSounds}
-use Rattle.gregorio.specs.machine.Telling.{TellsThrough}
 use Rattle.gregorio.specs.machine.RunWriter.{RunWriterState, past_syllables, line_room, syllable_room, room_without_notes, heads_room, last_room, most_waiting, out_room}
 use Rattle.gregorio_jobs.specs.declared.job.Format.{Format}
-use Rattle.gregorio_jobs.specs.declared.job.Status.{Status}
 
 pub record ScoreWriterState : Type 0 where
   pub score : ScoreStageState
@@ -53,7 +51,8 @@ abbrev pub IsBookAt : HeadEvent → List (List ℕ × List ℕ) → List (List �
 IsBookAt (head_event.Heads lines macros canonical) book read = book ≡ read
 IsBookAt _ book read = Unit {0}
 
--- At an event it wrote what was to come for it, and goes on with what follows. `read` is the book that was read.
+-- At an event it wrote what was to come for it, and goes on with what follows. `read` is the book
+-- that was read.
 pub record WritesAt (old : ScoreWriterState) (x : HeadEvent) (read : List (List ℕ × List ℕ)) (new : ScoreWriterState) : Type 0 where
   pub output : List ℕ
   pub lines : List ℕ
@@ -61,46 +60,37 @@ pub record WritesAt (old : ScoreWriterState) (x : HeadEvent) (read : List (List 
   pub messages : new.writer.messages ≡ extended_by old.writer.messages lines
   pub law : (book : List (List ℕ × List ℕ)) (from_heads : List HeadEvent) → IsBookAt x book read → streams_of old book (x ∷ from_heads) ≡ behind_bytes output lines (streams_of new book from_heads)
 
--- At these characters, the first of which stands at this place, it was behind the headers and wrote nothing, and it goes on with what follows.
-pub record WritesNothing (old : ScoreWriterState) (at : Place) (bytes : List ℕ) (new : ScoreWriterState) : Type 0 where
-  pub headed : 0 < length bytes → old.writer.written.headed ≡ true
-  pub limits : new.score.limits ≡ old.score.limits
-  pub part : new.score.part ≡ old.score.part
-  pub before_held : new.score.before ≡ old.score.before
-  pub counts : Counts at old.score → Counts (behind_front at (length bytes) at) new.score
-  pub whole : whole_syllables new.score ≡ whole_syllables old.score
-  pub writer : new.writer ≡ old.writer
-  pub law : (book : List (List ℕ × List ℕ)) (from_heads : List HeadEvent) → streams_of old book (body_inputs at bytes ++ from_heads) ≡ streams_of new book from_heads
-  pub tells : TellsThrough old.score at bytes new.score
-
--- At these characters, the first of which stands at this place, it wrote syllables and nothing else, and it goes on with what follows.
+-- At these characters, the first of which stands at this place, it wrote syllables and nothing
+-- else, and it goes on with what follows.
 abbrev pub WritesRun : ScoreWriterState → Place → List ℕ → ScoreWriterState → Type 0
 WritesRun old at t new = Runs past_syllables old.score at t new.score old.writer new.writer
 
 -- At the end of what comes it wrote what was still to come.
-pub record WritesLast (old new : ScoreWriterState) (status : Status) : Type 0 where
+pub record WritesLast (old new : ScoreWriterState) (how : RunEnding) : Type 0 where
   pub output : List ℕ
   pub lines : List ℕ
   pub out : new.writer.out ≡ extended_by old.writer.out output
   pub messages : new.writer.messages ≡ extended_by old.writer.messages lines
-  pub law : (book : List (List ℕ × List ℕ)) → streams_of old book [] ≡ behind_bytes output lines (ended_with status)
+  pub law : (book : List (List ℕ × List ℕ)) → streams_of old book [] ≡ behind_bytes output lines (ended_by how)
 
 -- whatever comes, a stage gives nothing more
 abbrev pub IsSilent : ScoreStageState → Type 0
 IsSilent s = (xs : List HeadEvent) → concat_of (left_of s xs) ≡ []
 
 -- The run is over, and ended so.
-pub record IsOver (written : Written) (score : ScoreStageState) (status : Status) : Type 0 where
-  pub ended : written.ended ≡ Some status
+pub record IsOver (written : Written) (score : ScoreStageState) (how : RunEnding) : Type 0 where
+  pub ended : written.ended ≡ Some how
   pub silent : IsSilent score
 
--- Between two calls there is room for the events of one, and where the run is over the stage gives nothing.
+-- Between two calls there is room for the events of one, and where the run is over the stage gives
+-- nothing.
 pub record IsScoreWriter (score : ScoreStageState) (events : BoundedList ScoreEvent) (writer : RunWriterState) : Type 0 where
   pub room : 16 ≤ events.limit
   pub silent : IsSome writer.written.ended → IsSilent score
   pub clef : HasClefOfSounds score writer.written
 
--- what no call changes: the limits, the format, the name and whether warnings are told, and how much the rooms take
+-- what no call changes: the limits, the format, the name and whether warnings are told, and how
+-- much the rooms take
 pub record IsSteady (old new : ScoreWriterState) : Type 0 where
   pub limits : new.score.limits ≡ old.score.limits
   pub format : new.writer.written.format ≡ old.writer.written.format
@@ -123,7 +113,8 @@ event_room format limit head_event.End = syllable_room format limit + room_witho
 event_room format limit (head_event.Found f) = last_room
 event_room format limit (head_event.Heads lines macros canonical) = last_room
 
--- that these bring, and their end if nothing comes behind them: behind a stop or the end nothing is written
+-- that these bring, and their end if nothing comes after them: after a stop or the end nothing is
+-- written
 abbrev pub events_room : Format → ℕ → Bool → List HeadEvent → ℕ
 events_room format limit ends [] = if ends then syllable_room format limit + last_room else 0
 events_room format limit ends (x ∷ events) = event_room format limit x + (if is_final x then 0 else events_room format limit ends events)
@@ -138,7 +129,8 @@ needed_in score_part.Over room = 0
 abbrev pub heads_left : Written → ℕ → ℕ
 heads_left w limit = if w.headed then 0 else heads_room w.format limit
 
--- There is room for what these bring, and if nothing comes behind them, for what their end brings then.
+-- There is room for what these bring, and if nothing comes after them, for what their end brings
+-- then.
 pub record FitsEvents (s : ScoreWriterState) (ends : Bool) (events : List HeadEvent) : Type 0 where
   pub lines : length s.writer.messages.items + (length events + 1) * (16 * line_room s.writer.written.name) ≤ s.writer.messages.limit
   pub texts : length s.writer.out.items + (heads_left s.writer.written s.score.limits.header + needed_in s.score.part (events_room s.writer.written.format s.score.limits.syllable ends events) + last_room) ≤ s.writer.out.limit

@@ -17,7 +17,8 @@ use Rattle.gregorio.specs.SavedState.{before_held}
 abbrev pub openers_told : ScoreFields → Openers
 openers_told f = record { notes = f.notes_opener; inner = f.inner_opener }
 
--- It stands behind what stands before the syllable of the held text, and holds this syllable, if there is one.
+-- It stands after what stands before the syllable of the held text, and holds this syllable, if
+-- there is one.
 pub record StandsBehindHeld (f : ScoreFields) (stage : ScoreStageState) : Type 0 where
   pub before_is : before_of stage ≡ Some (before_held f)
   pub text : held_text stage.before (held_of stage) ≡ f.held
@@ -45,7 +46,7 @@ pub record IsReportedSo (limits : Limits) (f : ScoreFields) : Type 0 where
   pub macros : stage.body.macros ≡ f.macros
   pub tells : TellsOfReading stage f.kept (openers_told f) f.in_comment
 
--- It has read the kept text, behind the comment in front, and the next character stands there.
+-- It has read the kept text, after the comment in front, and the next character stands there.
 pub record ReadsOn (place : Place) (f : ScoreFields) (stage : ScoreStageState) : Type 0 where
   pub behind : StandsBehindHeld f stage
   pub read : HasRead f stage

@@ -1,10 +1,9 @@
 -- A score goes on telling of a text.
-use Rattle.std.specs.Prelude.{◌≡◌, ℕ, List, [], length, false}
-use Rattle.gabc_places.specs.declared.place.Place.{Place}
+use Rattle.std.specs.Prelude.{◌≡◌, ℕ, false}
 use Rattle.gabc_headers.specs.declared.head_event.HeadEvent.{HeadEvent}
 use Rattle.gabc_headers.specs.declared.head_event.HeadEvent.TheVariants as head_event
 use Rattle.gabc_score.specs.declared.score_machine.ScorePart.TheVariants as score_part
-use Rattle.gabc_score.specs.ScoreStage.{EndsLine, MayCome, StandsInLine, behind_front, next_past}
+use Rattle.gabc_score.specs.ScoreStage.{EndsLine, MayCome, StandsInLine, next_past}
 use Rattle.gabc_score.specs.ScoreTells.{StandsInFront, is_in_comment}
 use Rattle.gabc_score.specs.ToldWithin.{HoldsIfAny, TellsOfText}
 use Rattle.gabc_score.specs.witness.ScoreStage.{ScoreStageState}
@@ -17,10 +16,3 @@ pub record TellsOn (old : ScoreStageState) (x : HeadEvent) (new : ScoreStageStat
   pub holds : HoldsIfAny old → HoldsIfAny new
   pub line : EndsLine x → new.part ≡ score_part.Body → is_in_comment new.body.part ≡ false
   pub front : old.part ≡ score_part.Heads → (lines macros canonical : ℕ) → x ≡ head_event.Heads lines macros canonical → StandsInFront new
-
--- At these characters, the first of which stands at this place, where nothing is given.
-pub record TellsThrough (old : ScoreStageState) (at : Place) (bytes : List ℕ) (new : ScoreStageState) : Type 0 where
-  pub next : new.held.next ≡ behind_front at (length bytes) old.held.next
-  pub told : at ≡ old.held.next → StandsInLine old → TellsOfText old → TellsOfText new
-  pub holds : HoldsIfAny old → HoldsIfAny new
-  pub none : bytes ≡ [] → new.body.part ≡ old.body.part

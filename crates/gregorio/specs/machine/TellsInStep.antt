@@ -21,7 +21,7 @@ use Rattle.gregorio.specs.machine.ScoreWriter.{ScoreWriterState}
 abbrev pub IsInHeads : ScoreWriterState → Type 0
 IsInHeads w = is_none w.writer.written.ended ≡ true → w.writer.written.headed ≡ false → w.score.part ≡ score_part.Heads
 
--- the score, where the body begins behind this character if the headers are written
+-- the score, where the body begins after this character if the headers are written
 abbrev pub begun : Result Char Fault → Bool → ScoreStageState → ScoreStageState
 begun (Ok x) true s = moved_to (saturating_next_place x.place x.c) s
 begun (Ok x) false s = s
@@ -34,7 +34,8 @@ pub record BeginsBody (item : Result Char Fault) (old new : ScoreWriterState) : 
 
 -- ---- between two calls
 
--- In the body the next character stands where the decoder does, and no comment is open directly behind a CR.
+-- In the body the next character stands where the decoder does, and no comment is open directly
+-- after a CR.
 pub record TellsInBody (d : DecoderState) (s : ScoreStageState) : Type 0 where
   pub next : s.held.next ≡ d.place
   pub told : TellsOfText s

@@ -1,4 +1,5 @@
--- What an engine will still write, in any state. Nobody has to believe it: `Engine::new` states it of a fresh one.
+-- What an engine will still write, in any state. Nobody has to believe it: `Engine::new` states it
+-- of a fresh one.
 use Rattle.std.specs.Prelude.{ℕ, ◌||◌, ◌&&◌, not, List, [], ◌∷◌, ◌++◌, drop, Bool, true, false, Option, Some, None, is_some, Result, if◌then◌else◌}
 use Rattle.gabc_places.specs.declared.code.Fault.{Fault}
 use Rattle.gabc_places.specs.declared.place.Char.{Char}
@@ -13,16 +14,19 @@ use Rattle.gabc_headers.specs.witness.HeadEvents as heads_left
 use Rattle.gabc_neumes.specs.InForce.{InForce}
 use Rattle.gabc_score.specs.ScoreEvents.{ScoreOutput, Found, Stop, Syllable, End}
 use Rattle.gabc_score.specs.witness.ScoreStage.{ScoreStageState, left_of}
+use Rattle.gregorio.specs.declared.run_ending.RunEnding.{RunEnding}
+use Rattle.gregorio.specs.declared.run_ending.RunEnding.TheVariants as run_ending
 use Rattle.gregorio.specs.declared.source_ending.SourceEnding.{SourceEnding}
-use Rattle.gregorio.specs.Outcome.{is_whole, shown_line, is_error_finding, status_by}
+use Rattle.gregorio.specs.Outcome.{is_whole, shown_line, is_error_finding}
 use Rattle.gregorio_jobs.specs.declared.job.Format.{Format}
 use Rattle.gregorio_jobs.specs.declared.job.Status.{Status}
-use Rattle.gregorio_jobs.specs.declared.job.Status.TheVariants.{Fatal, ReadFault}
+use Rattle.gregorio_jobs.specs.declared.job.Status.TheVariants as run_status
 use Rattle.gabc_write.specs.Message.{line_of}
-use Rattle.gregorio.specs.Streams.{Streams, behind_bytes, heads_text, syllable_text, force_behind, last_text, next_number}
+use Rattle.gregorio.specs.Streams.{Streams, behind_bytes, ended_with, heads_text, syllable_text, force_behind, last_text, next_number}
 
--- What an engine writes: the format, what messages call the input, whether warnings are wanted; whether the headers were written; how many
--- syllables were, a count that saturates; what is in force behind them, in a dump; whether an error was found; and how the run ended, once it is over.
+-- What an engine writes: the format, what messages call the input, whether warnings are wanted;
+-- whether the headers were written; how many syllables were, a count that saturates; what is in
+-- force after them, in a dump; whether an error was found; and how the run ended, once it is over.
 pub record Written : Type 0 where
   pub format : Format
   pub name : List ℕ
@@ -31,7 +35,7 @@ pub record Written : Type 0 where
   pub count : ℕ
   pub force : InForce
   pub errors : Bool
-  pub ended : Option Status
+  pub ended : Option RunEnding
 
 -- What an engine shows: its stages, what it writes, and the bytes that wait to be taken.
 pub record EngineState : Type 0 where
@@ -42,17 +46,42 @@ pub record EngineState : Type 0 where
   pub output : List ℕ
   pub messages : List ℕ
 
--- what the decoder will still give of these bytes, behind which the input ends so
+-- what the decoder will still give of these bytes, after which the input ends so
 abbrev pub items_left : EngineState → SourceEnding → List ℕ → List (Result Char Fault)
 items_left s ending bytes = heads.emitted_by (is_whole ending) bytes (decoder.events_left s.decoder bytes)
 
--- what the stage of headers will still give of these characters and the fault behind them
+-- what the stage of headers will still give of these characters and the fault after them
 abbrev pub head_events_left : HeaderStageState → SourceEnding → List (Result Char Fault) → List HeadEvent
 head_events_left h ending items = heads.emitted_by (is_whole ending) items (heads_left.events_left h.limits h.progress items)
 
 -- the headers that this stage has read once these have come
 abbrev pub book_behind : HeaderStageState → List (Result Char Fault) → List (List ℕ × List ℕ)
 book_behind h items = (stage_past h items).book
+
+-- ---- how a run ended
+
+-- the status of a run that ended so
+abbrev pub status_of_ending : RunEnding → Status
+status_of_ending run_ending.Whole = run_status.Whole
+status_of_ending run_ending.Errors = run_status.Errors
+status_of_ending (run_ending.Fatal fault) = run_status.Fatal
+status_of_ending run_ending.ReadFault = run_status.ReadFault
+
+-- the fault that stopped it
+abbrev pub fault_of_ending : RunEnding → Option Fault
+fault_of_ending run_ending.Whole = None
+fault_of_ending run_ending.Errors = None
+fault_of_ending (run_ending.Fatal fault) = Some fault
+fault_of_ending run_ending.ReadFault = None
+
+-- the ending of a run that was read to its end, where an error was found or not
+abbrev pub ending_of_whole : Bool → RunEnding
+ending_of_whole true = run_ending.Errors
+ending_of_whole false = run_ending.Whole
+
+-- nothing more is written by a run that ended so
+abbrev pub ended_by : RunEnding → Streams
+ended_by how = ended_with (status_of_ending how) (fault_of_ending how)
 
 -- ---- what the score says
 
@@ -76,9 +105,9 @@ lines_of_output w End = []
 -- A stop or the end ends the run.
 abbrev pub behind_output : Written → ScoreOutput → Written
 behind_output w (Found f) = record w { errors = w.errors || is_error_finding f }
-behind_output w (Stop fault) = record w { ended = Some Fatal }
+behind_output w (Stop fault) = record w { ended = Some (run_ending.Fatal fault) }
 behind_output w (Syllable s) = record w { count = if w.headed then next_number w.count else w.count; force = if w.headed then force_behind w.format w.force s else w.force }
-behind_output w End = record w { ended = Some (status_by None false w.errors) }
+behind_output w End = record w { ended = Some (ending_of_whole w.errors) }
 
 abbrev pub texts_of_outputs : Written → List ScoreOutput → List ℕ
 texts_of_outputs w [] = []
@@ -115,18 +144,18 @@ behind_heads w writes = record w { headed = w.headed || writes }
 -- ---- what comes
 
 -- Where the input ceases, and neither a stop nor the end has come, its source has failed.
-abbrev pub ceased_text : Option Status → Written → List ℕ
+abbrev pub ceased_text : Option RunEnding → Written → List ℕ
 ceased_text None w = if_headed w (last_text w.format false w.count)
-ceased_text (Some status) w = []
+ceased_text (Some how) w = []
 
-abbrev pub ceased_status : Option Status → Status
-ceased_status None = ReadFault
-ceased_status (Some status) = status
+abbrev pub ceased_ending : Option RunEnding → RunEnding
+ceased_ending None = run_ending.ReadFault
+ceased_ending (Some how) = how
 
 abbrev pub ceased : Written → Streams
-ceased w = record { output = ceased_text w.ended w; messages = []; status = ceased_status w.ended }
+ceased w = record (ended_by (ceased_ending w.ended)) { output = ceased_text w.ended w }
 
--- the streams of these, behind which the input ceases
+-- the streams of these, after which the input ceases
 abbrev pub streams_in : Written → List ScoreOutput → Streams
 streams_in w outputs = behind_bytes (texts_of_outputs w outputs) (lines_of_outputs w outputs) (ceased (behind_outputs w outputs))
 
@@ -134,7 +163,8 @@ abbrev pub first_list : List (List ScoreOutput) → List ScoreOutput
 first_list [] = []
 first_list (outputs ∷ lists) = outputs
 
--- The streams where these come from the stage of headers, and of each of them, and of their end, the score says one of the lists.
+-- The streams where these come from the stage of headers, and of each of them, and of their end,
+-- the score says one of the lists.
 abbrev pub streams_from : Written → List (List ℕ × List ℕ) → List HeadEvent → List (List ScoreOutput) → Streams
 streams_from w book [] lists = streams_in w (concat_of lists)
 streams_from w book (x ∷ from_heads) lists =
@@ -142,7 +172,7 @@ streams_from w book (x ∷ from_heads) lists =
     behind_bytes (text_of_heads w book (writes_heads w x) ++ texts_of_outputs v (first_list lists)) (lines_of_outputs v (first_list lists))
     (streams_from (behind_outputs v (first_list lists)) book from_heads (drop 1 lists))
 
--- What an engine will still write of these bytes, behind which the input ends so, beside what waits.
+-- What an engine will still write of these bytes, after which the input ends so, beside what waits.
 abbrev pub streams_left : EngineState → SourceEnding → List ℕ → Streams
 streams_left s ending bytes =
     let items = items_left s ending bytes in

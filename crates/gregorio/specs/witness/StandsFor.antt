@@ -11,7 +11,8 @@ use Rattle.gregorio.specs.Streams.{Streams}
 use Rattle.gregorio.specs.witness.Engine.{EngineState, streams_left}
 use Rattle.gregorio.specs.witness.MayRun.{MayRun}
 
--- These bytes are the saved state of a run of this job under these limits, which will still write this of whatever follows.
+-- These bytes are the saved state of a run of this job under these limits, which will still write
+-- this of whatever follows.
 pub record StandsFor (job : Job) (limits : Limits) (bytes : List ℕ) (left : SourceEnding → List ℕ → Streams) : Type 0 where
   pub engine : EngineState
   pub may : MayRun engine

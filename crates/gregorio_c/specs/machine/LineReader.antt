@@ -1,11 +1,12 @@
--- How lines of messages are read back, byte by byte: `NAME:LINE:COLUMN: KIND: CODE: TEXT` and LF each.
+-- How lines of messages are read back, byte by byte: `NAME:LINE:COLUMN: KIND: CODE: TEXT` and LF
+-- each.
 use Rattle.std.proofs.Common.{◌≡◌, ℕ, ◌+◌, ◌-◌, ◌*◌, ◌/◌, ◌%◌, ◌^◌, ◌<◌, min, ◌==◌, ◌&&◌, Bool, nat_lt, List, [], ◌∷◌, ◌++◌, Option, None, Some, if◌then◌else◌, refl, ap, ◌∙◌, ◌≤◌, length, take}
 use Rattle.gregorio_c.specs.declared.line_reader.Field.{Field}
 use Rattle.gregorio_c.specs.declared.line_reader.Field.TheVariants.{Name, Line, Column, Kind, Code, Text}
 use Rattle.gregorio_c.specs.declared.line_reader.LineReader.{LineReader}
 use Rattle.gregorio_c.specs.declared.message.Message.{Message}
 
--- the field behind a `:`
+-- the field after a `:`
 abbrev pub next_field : Field → Field
 next_field Name = Line
 next_field Line = Column
@@ -14,21 +15,22 @@ next_field Kind = Code
 next_field Code = Text
 next_field Text = Text
 
--- The number of a place behind a digit. The last value of a `u64` stands for one that is larger, or begins with a 0.
+-- The number of a place after a digit. The last value of a `u64` stands for one that is larger, or
+-- begins with a 0.
 abbrev pub with_digit : ℕ → ℕ → ℕ
 with_digit number byte = if (number == 0) && (byte == 48) then 2 ^ 64 - 1 else min (min (number * 10) (2 ^ 64 - 1) + (byte - 48)) (2 ^ 64 - 1)
 
--- the number of a severity behind a byte of its word: `w`, `e` and `f` tell it
+-- the number of a severity after a byte of its word: `w`, `e` and `f` tell it
 abbrev pub severity_with : ℕ → ℕ → ℕ
 severity_with severity byte = if byte == 119 then 0 else if byte == 101 then 1 else if byte == 102 then 2 else severity
 
--- the number of a code behind a byte of its name: ` `, `E`, `W`, `F`, or a digit
+-- the number of a code after a byte of its name: ` `, `E`, `W`, `F`, or a digit
 abbrev pub code_with : ℕ → ℕ → ℕ
 code_with code byte =
     if byte == 32 then 0 else if byte == 69 then 100 else if byte == 87 then 200 else if byte == 70 then 300
     else min (code / 100 * 100 + (code % 100 * 10 + (byte - 48))) (2 ^ 32 - 1)
 
--- the message behind a byte of this field
+-- the message after a byte of this field
 abbrev pub message_with : Field → Message → ℕ → Message
 message_with Name message byte = message
 message_with Line message byte = record message { line = with_digit message.line byte }
@@ -67,7 +69,8 @@ messages_in reader (byte ∷ bytes) = with_message (ended_by reader byte) (messa
 abbrev pub has_place : Message → Bool
 has_place message = nat_lt message.line (2 ^ 64 - 1) && nat_lt message.column (2 ^ 64 - 1)
 
--- A count behind a message. It saturates at the last value of a `usize`, and is this at once where the message has no place.
+-- A count after a message. It saturates at the last value of a `usize`, and is this at once where
+-- the message has no place.
 abbrev pub counted_by : ℕ → Message → ℕ
 counted_by count message = if has_place message then min (count + 1) (2 ^ 64 - 1) else 2 ^ 64 - 1
 
@@ -84,7 +87,7 @@ pub record AreCounted (count : ℕ) (lines : List ℕ) : Type 0 where
 pub record AreFirst (messages list : List Message) : Type 0 where
   pub are : length messages ≤ length list → take (length messages) list ≡ messages
 
--- ---- lines in two pieces, one behind the other
+-- ---- lines in two pieces, one after the other
 
 pub behind_both : (reader : LineReader) (a b : List ℕ) → behind_bytes (behind_bytes reader a) b ≡ behind_bytes reader (a ++ b)
 behind_both reader [] b = refl

@@ -16,6 +16,7 @@ pub record HasWritten (run : Run) (streams : Streams) : Type 0 where
   pub output : Keeps run.output streams.output
   pub messages : Keeps run.messages streams.messages
   pub status : run.status ≡ streams.status
+  pub fault : run.fault ≡ streams.fault
   pub output_counted : run.output.counter < 2 ^ 64 - 1
   pub messages_counted : run.messages.counter < 2 ^ 64 - 1
 
@@ -24,6 +25,7 @@ pub record AreToldBy (counted : Counted) (first : List Message) (streams : Strea
   pub first_are : AreFirst (messages_in before_line streams.messages) first
   pub are_counted : AreCounted counted.count streams.messages
   pub status : counted.status ≡ streams.status
+  pub fault : counted.fault ≡ streams.fault
 
 -- a run over a score under these limits writes what one under the usual ones does
 pub record IsAsUsual (request : Request) (limits : Limits) (score : List ℕ) : Type 0 where

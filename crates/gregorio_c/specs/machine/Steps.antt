@@ -1,5 +1,6 @@
 -- What private calls make of an engine, for the steps of a run in pieces.
-use Rattle.std.specs.Prelude.{◌≡◌, ◌≢◌, ℕ, ◌≤◌, ◌⊎◌, List, [], ◌++◌}
+use Rattle.std.specs.Prelude.{◌≡◌, ◌≢◌, ℕ, ◌≤◌, ◌⊎◌, List, [], ◌++◌, Option}
+use Rattle.gabc_places.specs.declared.code.Fault.{Fault}
 use Rattle.gabc_places.specs.declared.limits.Limits.{Limits}
 use Rattle.gregorio_jobs.specs.declared.job.Job.{Job}
 use Rattle.gregorio_jobs.specs.declared.job.Status.{Status}
@@ -29,8 +30,9 @@ pub record FedAs (job : Job) (limits : Limits) (left : Writes) (piece : List ℕ
 -- what a step makes of the end of an input
 pub record EndedAs (ending : SourceEnding) (left : Writes) (made : Made) : Type 0 where
   pub status : Status
+  pub fault : Option Fault
   pub over : IsOver made status
-  pub law : left ending [] ≡ last_of made status
+  pub law : left ending [] ≡ last_of made status fault
 
 -- the number of an answer with which nothing is written
 abbrev pub number_of : Refusal → ℕ

@@ -12,7 +12,7 @@ use Rattle.gregorio_c.specs.declared.request.Request.{Request}
 abbrev pub streams_of_score : Request → Limits → List ℕ → Streams
 streams_of_score request limits score =
     let outcome = outcome_of limits Whole score in
-    record { output = output_of request.format outcome; messages = lines_of stdin_name request.all_warnings outcome.score; status = status_of outcome }
+    record { output = output_of request.format outcome; messages = lines_of stdin_name request.all_warnings outcome.score; status = status_of outcome; fault = outcome.score.fault }
 
 -- the lengths of an output and of messages
 pub record AreLengthsOf (lengths : Lengths) (streams : Streams) : Type 0 where

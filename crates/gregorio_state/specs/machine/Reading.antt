@@ -21,7 +21,7 @@ abbrev pub Gives : {X Y : Type 0} → (X → Y) → Option X → Option Y → Ty
 Gives view (Some x) read = read ≡ Some (view x)
 Gives view None read = read ≡ None
 
--- ---- A field is a value and the bytes behind it.
+-- ---- A field is a value and the bytes after it.
 
 abbrev pub byte_at : List ℕ → Option (ℕ × List ℕ)
 byte_at [] = None

@@ -8,7 +8,7 @@ range_from-requires c = λ some.
     let found = rw (c.as_bytes-bytes.ensures.value) at c.in-Some-eq40.ensures.lookup in
     notes_cut c.args.lines c.args.text.now c.gap_len-gap.result c.regular_text.result c.utf8.text
     (rw (c.as_bytes-bytes.ensures.value) at c.gap_len-gap.ensures.within)
-    (rw (c.as_bytes-bytes.ensures.value) at c.gap_len-gap.ensures.blanks)
+    (rw (c.as_bytes-bytes.ensures.value) at c.gap_len-gap.ensures.gap)
     (rw (c.as_bytes-bytes.ensures.value, take_rest) at c.regular_text.ensures.text)
     (rw (c.as_bytes-bytes.ensures.value, take_rest) at c.regular_text.ensures.regular)
     found.3.0 (sym (found.3.1 0) ∙ c.in-Some-eq40.field-0-test)
@@ -19,10 +19,10 @@ returns c =
     let some : 0 < c.snippets_len-notes.result = omega (arith, c.if-notes-eq0.false) in
     syllable_here c.args.lines c.args.text.now c.gap_len-gap.result c.regular_text.result c.utf8.text
     (rw (c.as_bytes-bytes.ensures.value) at c.gap_len-gap.ensures.within)
-    (rw (c.as_bytes-bytes.ensures.value) at c.gap_len-gap.ensures.blanks)
+    (rw (c.as_bytes-bytes.ensures.value) at c.gap_len-gap.ensures.gap)
     (rw (c.as_bytes-bytes.ensures.value, take_rest) at c.regular_text.ensures.text)
     (rw (c.as_bytes-bytes.ensures.value, take_rest) at c.regular_text.ensures.regular)
     found.3.0 (sym (found.3.1 0) ∙ c.in-Some-eq40.field-0-test) c.snippets_len-notes.result
     (rw (c.range_from.ensures.value) at c.snippets_len-notes.ensures some)
-    (rw (c.as_bytes-bytes.ensures.value) at c.is_plain.ensures.plain c.if-not-is_plain.false)
-    (rw (c.as_bytes-bytes.ensures.value) at c.is_plain.ensures.unmarked c.if-not-is_plain.false)
+    (rw (c.as_bytes-bytes.ensures.value) at c.may_be_kept.ensures.plain c.if-not-may_be_kept.false)
+    (rw (c.as_bytes-bytes.ensures.value) at c.may_be_kept.ensures.marked c.if-not-may_be_kept.false)

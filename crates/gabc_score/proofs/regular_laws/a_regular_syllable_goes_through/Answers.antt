@@ -10,8 +10,8 @@ returns c lines macros at r spans h fits small =
     let stage = λ (xs : _). c.a_stage_reads_a_regular_syllable_as_it_stands.ensures lines macros at r xs h fits in (
       s.one.made,
       record {
-        made = made_of lines macros at r h fits spans s text with_gap;
-        through = λ limits held between are room. through lines macros at r h fits spans s text with_gap stage limits held between are room;
-        alone = λ limits held between none are room. alone lines macros at r h fits spans s text with_gap stage limits held between are room none;
+        made = made_of lines macros at r h fits spans s text with_gap c.a_regular_text_is_printed_as_it_stands.ensures.says c.blanks_before_a_regular_text_begin_a_word.ensures.says;
+        through = λ limits held between sounded are room. through lines macros at r h fits spans s text with_gap stage limits held between sounded are room;
+        alone = λ limits held between sounded none are room. alone lines macros at r h fits spans s text with_gap stage limits held between sounded are room none;
       },
     )

@@ -15,4 +15,4 @@ returns c lines macros at r before h fits since =
     let codes_are = unit_text view.starts view.bytes text.says behind.says text.kept behind.kept text.printed behind.printed c.kept_again.ensures.snippet c.kept_again-2.ensures.snippet lines at r h in
     let g = one (subst (λ (t : List ℕ). length (encodes t) < 2 ^ 63) (sym codes_are) fits) before since in
     let spelled = held_spelled view.starts view.bytes text.says behind.says text.kept behind.kept text.printed behind.printed c.kept_again.ensures.snippet c.kept_again-2.ensures.snippet lines at r h g.made g.holds in
-    record { one = g; nothing = none before; kept_is = spelled.kept_is; starts_is = spelled.starts_is; canonical_is = spelled.canonical_is }
+    record { one = g; nothing = none before; kept_is = spelled.kept_is; starts_is = spelled.starts_is; canonical_is = spelled.canonical_is; text_is = spelled.text_is; snippets_are = spelled.snippets_are }

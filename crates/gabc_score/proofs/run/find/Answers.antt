@@ -14,7 +14,6 @@ returns-clause-found c =
     let both : text ≡ spelled ++ rest = sym (take-append-drop found.len text) ∙ ap (λ (l : List ℕ). l ++ drop found.len text) (sym front) ∙ ap (λ (l : List ℕ). spelled ++ l) (sym c.split_at.ensures.back) in
     record {
       is = rw (sym both, len) b;
-      next = c.place_after.ensures;
       syllable = (let few = c.if-found-limits.false in omega (arith, few, len));
       input = (let few = c.if-found-left.false in let left = c.saturating_sub-left.ensures in omega (arith, few, left, len));
     }

@@ -5,7 +5,8 @@ use Rattle.gabc_places.specs.BoundedList.{BoundedList}
 use Rattle.gabc_text.specs.declared.text_event.TextEvent.{TextEvent}
 use Rattle.gabc_text.specs.declared.stage.TextStage.{TextStage}
 use Rattle.gabc_text.specs.witness.Keeps.{Keeps, KeepsOn}
-use Rattle.gabc_text.specs.StageTells.{opener_of, is_in_comment, next_of, moved_to}
+use Rattle.gabc_text.specs.StageTells.{opener_of, is_in_comment}
+use Rattle.gabc_text.specs.witness.StageReports.{next_of, moved_to}
 use Rattle.std.specs.Option.{unwrap_or}
 use Rattle.gabc_places.specs.declared.place.Place.{Place}
 use Rattle.gabc_text.proofs.resuming.KeptTextGivesStage.{IsBack, reads_on, comment_back, opener_back}
@@ -75,7 +76,7 @@ comment_behind : (c : goal.After-go_to-2) → is_in_comment c.go_to-2.new.self �
 comment_behind c = ap is_in_comment c.go_to-2.ensures.moved ∙ comment_moved _ _ ∙ (back_behind c).comment_is
 
 next_behind : (c : goal.After-go_to-2) → next_of c.go_to-2.new.self ≡ next_of c.args.stage.now
-next_behind c = ap next_of c.go_to-2.ensures.moved ∙ c.next.ensures
+next_behind c = ap next_of c.go_to-2.ensures.moved ∙ c.next.ensures.reports
 
 pub returns-clause-keeps : goal.returns-clause-keeps
 returns-clause-keeps c = keeps_behind c

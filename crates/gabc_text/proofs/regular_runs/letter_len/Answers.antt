@@ -1,10 +1,10 @@
-use Rattle.std.proofs.Common.{sym, ◌∙◌}
+use Rattle.std.proofs.Common.{refl, sym, ◌∙◌}
 use Rattle.gabc_text.proofs.RegularBytes.{one_read, escape_read, pair_read, triple_read}
 use Rattle.gabc_text.proofs.regular_runs.letter_len.Goals as goal
 
 pub returns-then-is_letter_byte-clause-letter : goal.returns-then-is_letter_byte-clause-letter
 returns-then-is_letter_byte-clause-letter c = λ _.
-    one_read c.args.bytes.now _ _ c.byte_at-first.ensures c.byte_at-second.ensures (sym c.is_letter_byte.ensures ∙ c.if-is_letter_byte.true)
+    one_read c.args.bytes.now _ _ c.byte_at-first.ensures refl (sym c.is_letter_byte.ensures ∙ c.if-is_letter_byte.true)
 
 pub returns-then-is_escape-clause-letter : goal.returns-then-is_escape-clause-letter
 returns-then-is_escape-clause-letter c = λ _.

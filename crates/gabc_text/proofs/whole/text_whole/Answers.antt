@@ -2,12 +2,13 @@ use Rattle.std.proofs.Common.{◌≡◌, ◌==◌, ◌+◌, [], ◌∷◌, lengt
 use Rattle.std.specs.Str.{chars, NonePass, IsCharBoundary}
 use Rattle.std.specs.Str.Iter.{chars_rest}
 use Rattle.std.proofs.lemmas.Str.{chars_past_char}
+use Rattle.gabc_places.proofs.texts.CharactersOfStrings.{chars-none}
 use Rattle.gabc_text.specs.TextView.{content_of}
 use Rattle.gabc_text.specs.View.{bytes_of}
 use Rattle.gabc_text.specs.machine.TextStage.{events_of_finish}
 use Rattle.gabc_text.specs.machine.BuiltText.{built_text_of}
 use Rattle.gabc_text.specs.BuiltText.{with_events}
-use Rattle.gabc_text.proofs.machine.LoopOverText.{events_goes, left_goes, left_ends, all_meant, events_ends, text_fits, chars_none, bytes_chars}
+use Rattle.gabc_text.proofs.machine.LoopOverText.{events_goes, left_goes, left_ends, all_meant, events_ends, text_fits, bytes_chars}
 use Rattle.gabc_text.proofs.tokens.PrefixBeforeTag.{none_before, prefix_boundary, prefix_chars, some_prefix, first_boundary, first_chars, bytes_before}
 use Rattle.gabc_text.proofs.machine.RawPartIsPassed.{raw_goes}
 use Rattle.gabc_text.proofs.whole.text_whole.Goals as goal
@@ -87,7 +88,7 @@ returns-then-is_done c =
 pub returns : goal.returns
 returns c =
     let i = c.loop-c.invariant in
-    let none : chars c.loop-c.rest.now ≡ [] = chars_none c.loop-c.rest.now (ap length (sym c.chars.ensures.rest) ∙ c.in_default.ensures.steps.0.0) in
+    let none : chars c.loop-c.rest.now ≡ [] = chars-none c.loop-c.rest.now (ap length (sym c.chars.ensures.rest) ∙ c.in_default.ensures.steps.0.0) in
     let fits = text_fits c.args.at c.args.body.now c.utf8.body c.requires.line c.requires.column in
     let index : length c.args.body.now + bytes_of [] ≡ bytes_of (chars c.args.body.now) = omega (arith, bytes_chars c.args.body.now c.utf8.body) in
     let m = all_meant c.args.at (chars c.args.body.now) (built_text_of c.close.new.self) _ [] fits

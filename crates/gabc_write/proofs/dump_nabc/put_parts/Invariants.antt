@@ -1,4 +1,4 @@
-use Rattle.std.proofs.Common.{◌≡◌, ◌≤◌, length}
+use Rattle.std.proofs.Common.{◌≡◌}
 use Rattle.std.specs.List.{flat_map}
 use Rattle.gabc_nabc.specs.Parts.{parts_of, AreWithin}
 use Rattle.gabc_write.specs.DumpOfNabc.{line_of_part}

@@ -1,5 +1,4 @@
-use Rattle.std.proofs.Common.{◌≡◌, ℕ, Some, sym, ◌∙◌, length}
-use Rattle.gabc_neumes.specs.Cut.{longest_glyph}
+use Rattle.std.proofs.Common.{sym, ◌∙◌, length}
 use Rattle.gabc_write.specs.machine.NoteLines.{notes_from}
 use Rattle.gabc_write.proofs.ItemsLineByLine.{longest_fits}
 use Rattle.gabc_write.proofs.dump_notes.put_glyph_from.Goals as goal

@@ -1,4 +1,4 @@
-use Rattle.std.proofs.Common.{◌≡◌, ◌∷◌, ◌++◌, List, [], length, reverse}
+use Rattle.std.proofs.Common.{◌≡◌, ◌++◌, List, [], length, reverse}
 use Rattle.gabc_notes.specs.Items.{items_of, AreWithin}
 use Rattle.gabc_notes.specs.declared.item.Item.{Item}
 use Rattle.gabc_write.specs.DumpOfNotes.{in_force_at, lines_behind}

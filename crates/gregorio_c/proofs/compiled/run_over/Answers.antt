@@ -1,16 +1,18 @@
+use Rattle.std.proofs.Common.{ap, sym, ◌∙◌}
+use Rattle.gabc_headers.specs.TooLong.{is_stopped_too_long}
 use Rattle.gregorio.specs.declared.source_ending.SourceEnding.TheVariants.{Whole}
 use Rattle.gregorio_c.specs.declared.compiled.Run.{Run}
 use Rattle.gregorio_c.proofs.RunsAreUsual.{made_as_usual, small_as_usual}
 use Rattle.gregorio_c.proofs.compiled.run_over.Goals as goal
 
-pub returns-then-may_be_too_long-clause-usual : goal.returns-then-may_be_too_long-clause-usual
-returns-then-may_be_too_long-clause-usual c =
-    made_as_usual c.args.request c.default-usual.result c.default-usual.ensures c.args.score.now (λ (x : Run). x.limits) c.run_under-then-may_be_too_long.result
-    c.run_under-then-may_be_too_long.ensures.limits
+pub returns-then-is_too_long-clause-usual : goal.returns-then-is_too_long-clause-usual
+returns-then-is_too_long-clause-usual c =
+    made_as_usual c.args.request c.default-usual.result c.default-usual.ensures c.args.score.now (λ (x : Run). x.limits) c.run_under-then-is_too_long.result
+    c.run_under-then-is_too_long.ensures.limits
 
 pub returns-clause-usual : goal.returns-clause-usual
 returns-clause-usual c =
     let small = c.small_limits in
-    let short = c.may_be_too_long.ensures c.args.request small.result c.args.score.now c.in_ok-run.ensures.written c.if-may_be_too_long.false in
+    let short = ap is_stopped_too_long (sym c.in_ok-run.ensures.written.fault) ∙ (sym c.is_too_long.ensures ∙ c.if-is_too_long.false) in
     small_as_usual c.args.request c.default-usual.result c.default-usual.ensures c.args.score.now _ small.result c.in_ok-run.ensures.limits
     (c.larger_limits_change_nothing.ensures small.result c.default-usual.result Whole c.args.score.now small.ensures.no_less small.ensures.input short)

@@ -11,6 +11,7 @@ returns-clause-written c =
       output = keeps_written c.in_ok-output.output c.run_over-status.new.out _ _ c.in_ok-output.ensures.taken ran.out (ap (λ (s : Streams). s.output) is);
       messages = keeps_written c.in_ok-messages.messages c.run_over-status.new.messages _ _ c.in_ok-messages.ensures.taken ran.messages (ap (λ (s : Streams). s.messages) is);
       status = ran.status ∙ ap (λ (s : Streams). s.status) is;
+      fault = c.fault-fault.ensures.fault ∙ (ran.fault ∙ ap (λ (s : Streams). s.fault) is);
       output_counted = omega arith;
       messages_counted = omega arith;
     }

@@ -10,10 +10,9 @@ use Rattle.gabc_places.specs.DecoderMachine.{DecoderState, IsReached}
 use Rattle.gabc_places.specs.DecoderTells.{MovesThrough, is_after_cr}
 use Rattle.gabc_places.specs.witness.DecoderEvents.{events_left}
 use Rattle.gabc_places.specs.contracts.decoder.Decoder.{the_view}
-use Rattle.gabc_places.proofs.decoding.PrintableBytesAreSkipped.{most_is_left}
 use Rattle.gabc_places.proofs.decoding.TextsAreEmitted.{one_each, all_emitted}
 use Rattle.gabc_places.proofs.decoding.TextsMoveADecoder.{text_moves}
-use Rattle.gabc_places.proofs.decoding.TextsAreSkipped.{moved_past, text_skipped, reached_past_text}
+use Rattle.gabc_places.proofs.decoding.TextsAreSkipped.{most_is_left, moved_past, text_skipped, reached_past_text}
 use Rattle.gabc_places.proofs.decoder.Decoder.skip_text.Goals as goal
 
 next_is : (c : goal.After-self-then-not-is_empty-1) → place_past c.self.inside.place (chars c.args.text.now) ≡ c.args.next

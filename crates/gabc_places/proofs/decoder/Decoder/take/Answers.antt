@@ -1,12 +1,13 @@
 use Rattle.gabc_places.specs.declared.place.Place.{Place}
 use Rattle.std.proofs.Common.{◌≡◌, IfSome, true, refl, subst, ◌+◌, arith, sym, ap, ◌∙◌}
 use Rattle.std.proofs.lemmas.Bool.Decides.{nat_tests}
+use Rattle.std.proofs.lemmas.List.{nil_from_length}
 use Rattle.gabc_places.specs.declared.code.Code.TheVariants.{F7}
 use Rattle.std.specs.Char.{IsScalar}
 use Rattle.gabc_places.specs.DecoderMachine.{DecoderState, is_fault_item}
 use Rattle.gabc_places.specs.witness.DecoderEvents.{DecoderStep, take_character, take_byte}
 use Rattle.gabc_places.specs.contracts.decoder.Decoder.{the_view}
-use Rattle.gabc_places.proofs.decoding.AByteIsTaken.{plain_byte_taken, plain_is_scalar, nothing_pending}
+use Rattle.gabc_places.proofs.decoding.AByteIsTaken.{plain_byte_taken, plain_is_scalar}
 use Rattle.gabc_places.proofs.decoding.ADecoderMoves.{character_moves_on, fault_moves_on, part_moves_on}
 use Rattle.gabc_places.proofs.decoding.ADecoderStops.{fault_stops, part_stops, part_stays, character_is_none, item_of_byte}
 use Rattle.gabc_places.proofs.decoder.Decoder.take.Goals as goal
@@ -15,7 +16,7 @@ use Rattle.gabc_places.proofs.decoder.Decoder.take.Goals.{else-byte-lt128-via-th
 taken : (c : goal.After-take_character) → take_character c.from.result (the_view (record c.self.inside { taken = c.self.inside.taken + 1 })) ≡ take_byte c.args.byte (the_view c.self.inside)
 taken c = ap (λ n. take_character n (the_view (record c.self.inside { taken = c.self.inside.taken + 1 }))) c.from.ensures
     ∙ sym (plain_byte_taken c.args.byte (the_view c.self.inside) c.if-not-self.false c.if-self.false
-    (nothing_pending c.self.inside.pending.items (grind (arith, nat_tests, c.if-is_empty.ensures))) c.if-byte-lt128.true)
+    (nil_from_length c.self.inside.pending.items (grind (arith, nat_tests, c.if-is_empty.ensures))) c.if-byte-lt128.true)
 
 pub returns-then-is_empty-clause-item : goal.returns-then-is_empty-clause-item
 returns-then-is_empty-clause-item c =

@@ -1,14 +1,14 @@
 use Rattle.std.proofs.Common.{◌≡◌, ℕ, arith, sym, ap, ◌∙◌, length, length-append, List, [], ◌∷◌}
 use Rattle.std.proofs.lemmas.Str.{chars-nil}
+use Rattle.std.proofs.lemmas.List.{nil_from_length}
 use Rattle.std.specs.Str.{chars}
 use Rattle.gabc_places.specs.declared.decoded.Tail.TheVariants.{Nothing, Part}
 use Rattle.gabc_places.proofs.utf8.CharacterByCharacter.{partial_short}
 use Rattle.gabc_places.proofs.utf8.PartOfACharacter.{nothing_is_partial, part_is}
-use Rattle.gabc_places.proofs.decoding.AByteIsTaken.{nothing_pending}
 use Rattle.gabc_places.proofs.decoder.Decoder.take_part.Goals as goal
 
 no_chars : (text rest : List ℕ) → rest ≡ text → length rest ≡ 0 → chars text ≡ []
-no_chars text rest e none = ap chars (sym e ∙ nothing_pending rest none) ∙ chars-nil
+no_chars text rest e none = ap chars (sym e ∙ nil_from_length rest none) ∙ chars-nil
 
 pub push-requires : goal.push-requires
 push-requires c = (omega arith, partial_short c.self.inside.pending.items c.self.invariant.partial)

@@ -1,8 +1,6 @@
-use Rattle.std.proofs.Common.{◌≡◌, ◌==◌, ℕ, true, false, arith, List, [], ◌∷◌, length, is_some, refl, subst, ◌∙◌, sym, ap}
+use Rattle.std.proofs.Common.{◌≡◌, ◌==◌, ℕ, true, false, arith, List, [], ◌∷◌, length, refl, subst, ◌∙◌, sym}
 use Rattle.std.proofs.lemmas.Bool.{true≢false}
 use Rattle.std.proofs.lemmas.Bool.Decides.{nat_tests}
-use Rattle.gabc_notes.specs.declared.item.ItemKind.{ItemKind}
-use Rattle.std.specs.Prelude.{Option}
 use Rattle.gabc_score.specs.declared.score_machine.ScorePart.{ScorePart}
 use Rattle.gabc_score.specs.machine.ScoreMachine.{IsInBody, IsScoreAt}
 use Rattle.gabc_score.proofs.runs.StandsThere.{stands_between}
@@ -21,5 +19,4 @@ returns c = λ yes.
     let rests : IsInBody m = subst (λ (p : ScorePart). IsScoreAt p m) c.in-Body.is c.requires.rests in
     stands_between m c.args.at _ c.in-Body.is rests c.in-Some.ensures
     (sym c.reading.ensures ∙ no_bytes c.reading.result.now c.if-not-is_empty.ensures)
-    (ap (λ (k : Option ItemKind). is_some k) (sym c.first_kind.ensures) ∙ c.if-is_none.ensures)
     (c.begins_text.ensures.0 yes)

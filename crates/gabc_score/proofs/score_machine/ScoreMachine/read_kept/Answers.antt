@@ -1,6 +1,7 @@
-use Rattle.std.proofs.Common.{◌≡◌, ◌++◌, ◌∷◌, ℕ, List, [], false, length, encode_utf8, refl, sym, ap, subst, ◌∙◌, arith, append_assoc, append-nil}
+use Rattle.std.proofs.Common.{◌++◌, false, encode_utf8, sym, ap, subst, ◌∙◌, append_assoc, append-nil}
 use Rattle.std.specs.Str.Iter.{chars_rest}
 use Rattle.std.proofs.lemmas.Str.{IsUtf8-past_char}
+use Rattle.std.proofs.lemmas.List.{nil_from_length}
 use Rattle.gabc_score.specs.machine.ReadAgain.{StandsSo}
 use Rattle.gabc_score.proofs.resuming.MachinesReadAgain.{alike_through, same_through, told_alike}
 use Rattle.gabc_score.proofs.score_machine.ScoreMachine.read_kept.Goals as goal
@@ -28,14 +29,10 @@ loop-c-preserved c =
           );
     }
 
-nothing_left : (bs : List ℕ) → length bs ≡ 0 → bs ≡ []
-nothing_left [] e = refl
-nothing_left (b ∷ bs) e = absurd (omega arith)
-
 pub returns-clause-again : goal.returns-clause-again
 returns-clause-again c = λ told t s.
     let i = c.loop-c.invariant in
     let h = i.again told t s in
     let rest = chars_rest c.loop-c.c-iterator in
     subst (λ kept. StandsSo c.loop-c.self c.args.openers kept false)
-    (sym (h.2 ∙ ap (λ b. h.0 ++ b) (nothing_left rest c.in-None.ensures.steps.0.0) ∙ append-nil h.0)) h.1
+    (sym (h.2 ∙ ap (λ b. h.0 ++ b) (nil_from_length rest c.in-None.ensures.steps.0.0) ∙ append-nil h.0)) h.1

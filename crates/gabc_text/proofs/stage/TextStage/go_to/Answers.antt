@@ -1,7 +1,9 @@
 use Rattle.std.proofs.Common.{◌≡◌, Bool, true, false, if◌then◌else◌, sym, ap, ◌∙◌}
 use Rattle.gabc_places.specs.declared.place.Place.{Place}
-use Rattle.gabc_text.specs.StageTells.{is_open, opener_of}
+use Rattle.gabc_text.specs.StageTells.{opener_of}
+use Rattle.gabc_text.specs.machine.StageTells.{is_open}
 use Rattle.gabc_text.specs.declared.stage.TextStage.{TextStage}
+use Rattle.gabc_text.proofs.resuming.KeptStandsFromNext.{is_next}
 use Rattle.gabc_text.proofs.resuming.ToldByEvents.{opener_moved}
 use Rattle.gabc_text.proofs.stage.TextStage.go_to.Goals as goal
 use Rattle.gabc_text.proofs.stage.TextStage.go_to.Goals.{then-not-is_open, else-not-is_open}
@@ -13,4 +15,10 @@ pub returns-clause-opener : goal.returns-clause-opener
 returns-clause-opener c = elim c.if-not-is_open.branch [
   | then-not-is_open w ↦ rw w.self-is (stays c.args.self.now c.args.place false (sym c.is_open.ensures ∙ w.if-not-is_open.true))
   | else-not-is_open w ↦ rw w.self-is (stays c.args.self.now c.args.place true (sym c.is_open.ensures ∙ w.if-not-is_open.false))
+]
+
+pub returns-clause-next : goal.returns-clause-next
+returns-clause-next c = elim c.if-not-is_open.branch [
+  | then-not-is_open w ↦ rw w.self-is (is_next (record c.args.self.now { progress = record c.args.self.now.progress { place = c.args.place; next = c.args.place } }))
+  | else-not-is_open w ↦ rw w.self-is (is_next (record c.args.self.now { progress = record c.args.self.now.progress { next = c.args.place } }))
 ]

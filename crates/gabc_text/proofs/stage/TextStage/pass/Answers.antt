@@ -2,8 +2,8 @@ use Rattle.std.proofs.Common.{◌≡◌, ◌==◌, [], ◌∷◌, refl, sym, ap,
 use Rattle.std.specs.Str.{chars, NonePass}
 use Rattle.std.specs.Str.Iter.{chars_rest}
 use Rattle.std.proofs.lemmas.Str.{chars_past_char, IsUtf8-past_char}
+use Rattle.gabc_places.proofs.texts.CharactersOfStrings.{chars-none}
 use Rattle.gabc_text.specs.machine.RawPart.{stage_past}
-use Rattle.gabc_text.proofs.machine.LoopOverText.{chars_none}
 use Rattle.gabc_text.proofs.machine.RawPartIsPassed.{pass_goes}
 use Rattle.gabc_text.proofs.stage.TextStage.pass.Goals as goal
 
@@ -30,5 +30,5 @@ loop-c-preserved c =
 pub returns : goal.returns
 returns c =
     let i = c.loop-c.invariant in
-    let none : chars (chars_rest c.loop-c.c-iterator) ≡ [] = chars_none (chars_rest c.loop-c.c-iterator) c.in-None.ensures.steps.0.0 in
+    let none : chars (chars_rest c.loop-c.c-iterator) ≡ [] = chars-none (chars_rest c.loop-c.c-iterator) c.in-None.ensures.steps.0.0 in
     sym (ap (stage_past c.loop-c.self) none) ∙ i.passed

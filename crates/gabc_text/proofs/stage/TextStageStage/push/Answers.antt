@@ -3,7 +3,7 @@ use Rattle.gabc_text.specs.machine.TextStage.{events_of_push}
 use Rattle.gabc_text.proofs.resuming.StagesKeep.{push_keeps}
 use Rattle.gabc_text.proofs.PiecesFollowCharacters.{in_room, push_is_paid}
 use Rattle.gabc_text.proofs.machine.EventsLeftAreThoseAhead.{push_emits}
-use Rattle.gabc_text.proofs.EndedStages.{push_ended, push_stays}
+use Rattle.gabc_text.proofs.EndedStages.{push_ended, push_ends, push_next, push_stays}
 use Rattle.gabc_text.proofs.NothingBehindTheEnd.{push_stops}
 use Rattle.gabc_text.proofs.stage.TextStageStage.push.Goals as goal
 
@@ -26,3 +26,11 @@ returns-clause-stays c = push_stays c.args.self.now c.take.new.self c.args.input
 
 pub returns-clause-ended : goal.returns-clause-ended
 returns-clause-ended c = push_ended c.args.self.now c.take.new.self c.args.input.c c.take.ensures.stage
+
+pub returns-clause-ends : goal.returns-clause-ends
+returns-clause-ends c =
+    push_ends c.args.self.now c.take.new.self c.args.input.c (drop (length c.args.out.now.items) c.take.new.out.items) c.take.ensures.stage
+    (in_room c.args.out.now c.take.new.out (events_of_push c.args.self.now c.args.input.c) c.take.ensures.out)
+
+pub returns-clause-next : goal.returns-clause-next
+returns-clause-next c = push_next c.args.self.now c.take.new.self c.args.input.c c.take.ensures.stage

@@ -6,15 +6,15 @@ use Rattle.gabc_places.specs.DecoderMachine.{DecoderState}
 use Rattle.gabc_places.specs.declared.code.Fault.{Fault}
 use Rattle.gabc_places.specs.declared.place.Char.{Char}
 use Rattle.gabc_places.specs.witness.DecoderEvents as decoder
-use Rattle.gregorio.specs.Engine.{NothingWaits}
-use Rattle.gregorio.specs.Streams.{ended_with}
+use Rattle.gregorio.specs.Engine.{NothingWaits, fault_of}
+use Rattle.gregorio.specs.Streams.{behind_bytes, ended_with}
 use Rattle.gregorio.specs.declared.source_ending.SourceEnding.TheVariants.{Whole}
 use Rattle.gregorio.specs.witness.Engine.{EngineState, streams_left}
 use Rattle.gregorio.specs.machine.Engine.{GoTogether, IsEmpty, IsNoCharacter}
 use Rattle.gregorio.specs.machine.ScoreWriter.{ScoreWriterState, FitsEnd, FitsEvents}
 use Rattle.gregorio.proofs.pieces.HeadersAreRead.{given_of_end}
 use Rattle.gregorio.proofs.pieces.RoomIsLeft.{room_before_end, room_where_none_waits}
-use Rattle.gregorio.proofs.pieces.InputsAreEnded.{no_character_at_end, ends_given, ends_items, ends_now, over_is_settled, over_of_items, over_stage, over_together}
+use Rattle.gregorio.proofs.pieces.InputsAreEnded.{no_character_at_end, ended_as, ends_given, ends_items, ends_now, over_is_settled, over_of_items, over_stage, over_together}
 use Rattle.gregorio.proofs.pieces.BytesAreTaken.{none_wait, still_reserved}
 use Rattle.gregorio.proofs.pieces.EventsAreWritten.{steady_both}
 use Rattle.gregorio.proofs.pieces.PartsStayInStep.{over_in_step}
@@ -63,17 +63,24 @@ returns-clause-law c =
     (option_to_list c.end-item.result) c.end-item.ensures.item c.read_decoded.ensures.writes
     (ends_given c.read_decoded.new.heads c.read_decoded.new.writer c.pass_on.new.writer c.finish-2.new.self c.finish-2.result c.slice.result.now c.finish.new.self.book from_heads c.pass_on.ensures.writes c.finish-2.ensures.writes) in
     ap (λ (s : EngineState). streams_left s Whole []) (sym c.self.view_is)
-    ∙ ends_now _ c.self.inside.writer c.finish-2.new.self c.finish-2.result ends empty
+    ∙ (ends_now _ c.self.inside.writer c.finish-2.new.self c.finish-2.result ends empty
+    ∙ ap (behind_bytes c.finish-2.new.self.writer.out.items c.finish-2.new.self.writer.messages.items)
+    (ended_as c.finish-2.result c.status-2.result c.finish-2.new.self.writer.written.ended c.status-2.ensures c.finish-2.ensures.over.ended))
 
 pub returns-in-Some-clause-last : goal.returns-in-Some-clause-last
 returns-in-Some-clause-last c = λ bytes ending.
-    ap (λ (s : EngineState). streams_left s ending bytes) (sym c.self.view_is) ∙ over_of_items c.self.inside.heads c.self.inside.writer c.in-Some.status c.in-Some.ensures.over ending _
+    ap (λ (s : EngineState). streams_left s ending bytes) (sym c.self.view_is)
+    ∙ (over_of_items c.self.inside.heads c.self.inside.writer c.in-Some.ended c.in-Some.ensures.over ending _
+    ∙ (ended_as c.in-Some.ended c.status.result c.self.inside.writer.writer.written.ended c.status.ensures c.in-Some.ensures.over.ended
+    ∙ ap (λ (s : EngineState). ended_with c.status.result (fault_of s)) c.self.view_is))
 
 pub returns-in-Some-clause-law : goal.returns-in-Some-clause-law
 returns-in-Some-clause-law c =
     ap (λ (s : EngineState). streams_left s Whole []) (sym c.self.view_is)
-    ∙ (over_of_items c.self.inside.heads c.self.inside.writer c.in-Some.status c.in-Some.ensures.over Whole _
-    ∙ sym (none_wait c.args.self.now c.requires.waits (ended_with c.in-Some.status)))
+    ∙ (over_of_items c.self.inside.heads c.self.inside.writer c.in-Some.ended c.in-Some.ensures.over Whole _
+    ∙ (ended_as c.in-Some.ended c.status.result c.self.inside.writer.writer.written.ended c.status.ensures c.in-Some.ensures.over.ended
+    ∙ (ap (λ (s : EngineState). ended_with c.status.result (fault_of s)) c.self.view_is
+    ∙ sym (none_wait c.args.self.now c.requires.waits (ended_with c.status.result (fault_of c.args.self.now))))))
 
 pub invariant_of-self : goal.invariant_of-self
 invariant_of-self c =
@@ -94,4 +101,6 @@ invariant_of-self c =
     }
 
 pub returns-clause-last : goal.returns-clause-last
-returns-clause-last c = λ bytes ending. over_of_items c.finish.new.self c.finish-2.new.self c.finish-2.result c.finish-2.ensures.over ending _
+returns-clause-last c = λ bytes ending.
+    over_of_items c.finish.new.self c.finish-2.new.self c.finish-2.result c.finish-2.ensures.over ending _
+    ∙ ended_as c.finish-2.result c.status-2.result c.finish-2.new.self.writer.written.ended c.status-2.ensures c.finish-2.ensures.over.ended

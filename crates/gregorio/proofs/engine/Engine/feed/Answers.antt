@@ -1,7 +1,7 @@
 use Rattle.std.proofs.Common.{◌≤◌, not, refl, inl, inr, length, length-drop, ap, sym, ◌∙◌, arith}
 use Rattle.gregorio.specs.Engine.{NothingWaits}
 use Rattle.gregorio.proofs.PiecesAreSent.{all_behind}
-use Rattle.gregorio.proofs.pieces.FrontIsTaken.{brings_more}
+use Rattle.gregorio.proofs.pieces.BytesAreTaken.{brings_more}
 use Rattle.gregorio.proofs.pieces.NothingIsKeptBack.{no_fault_is_kept_back, prompt_further, took_some}
 use Rattle.gregorio.proofs.pieces.RoomIsLeft.{leaves_room}
 use Rattle.gregorio.proofs.engine.Engine.feed.Goals.{else-loop-count-test, then-loop-count-test+else-nothing_waits}

@@ -3,7 +3,7 @@ use Rattle.gregorio_jobs.specs.declared.job.Status.TheVariants.{ReadFault}
 use Rattle.gregorio.specs.Engine.{Brings, NothingWaits, is_running}
 use Rattle.gregorio.specs.declared.source_ending.SourceEnding.TheVariants.{Broken}
 use Rattle.gregorio.specs.witness.Engine.{EngineState, streams_left}
-use Rattle.gregorio.proofs.pieces.FrontIsTaken.{brings_more, front_of_front}
+use Rattle.gregorio.proofs.pieces.BytesAreTaken.{brings_more, front_of_front}
 use Rattle.gregorio.proofs.pieces.NothingIsKeptBack.{ends_further, took_some}
 use Rattle.gregorio.proofs.pieces.RoomIsLeft.{leaves_room}
 use Rattle.gregorio.proofs.engine.Engine.fill.Goals.{else-loop-count-test, then-loop-count-test+else-has_room}

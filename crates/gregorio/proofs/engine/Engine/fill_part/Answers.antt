@@ -1,5 +1,5 @@
 use Rattle.std.proofs.Common.{refl, inl, inr, drop, sym, ◌∙◌, arith}
-use Rattle.gregorio.proofs.pieces.FrontIsTaken.{brings_more}
+use Rattle.gregorio.proofs.pieces.BytesAreTaken.{brings_more}
 use Rattle.gregorio.proofs.pieces.NothingIsKeptBack.{ends_further}
 use Rattle.gregorio.proofs.engine.Engine.fill_part.Goals as goal
 

@@ -1,21 +1,21 @@
 use Rattle.std.proofs.Common.{◌≡◌, true, not, Option, Some, None, is_none, is_some, refl, length, take, ap, sym, subst, ◌∙◌, arith}
-use Rattle.gregorio_jobs.specs.declared.job.Status.{Status}
+use Rattle.gregorio.specs.declared.run_ending.RunEnding.{RunEnding}
 use Rattle.gregorio.specs.witness.Engine.{EngineState}
 use Rattle.gregorio.specs.machine.ScoreWriter.{IsOver}
 use Rattle.gregorio.proofs.pieces.BytesAreTaken.{found_over, stopped_brings}
 use Rattle.gregorio.proofs.pieces.NothingIsKeptBack.{prompt_where_over}
 use Rattle.gregorio.proofs.engine.Engine.is_over.Goals as goal
 
-some_is_not_none : (o : Option Status) → is_some o ≡ not (is_none o)
+some_is_not_none : (o : Option RunEnding) → is_some o ≡ not (is_none o)
 some_is_not_none None = refl
-some_is_not_none (Some status) = refl
+some_is_not_none (Some how) = refl
 
 pub returns-clause-over : goal.returns-clause-over
 returns-clause-over c =
-    c.is_some.ensures ∙ (some_is_not_none c.ended.result ∙ ap (λ (o : Option Status). not (is_none o)) (c.ended.ensures.ended ∙ ap (λ (s : EngineState). s.written.ended) c.self.view_is))
+    c.is_some.ensures ∙ (some_is_not_none c.ended.result ∙ ap (λ (o : Option RunEnding). not (is_none o)) (c.ended.ensures.ended ∙ ap (λ (s : EngineState). s.written.ended) c.self.view_is))
 
-ended : (s : EngineState) (status : Status) → IsOver s.written s.score status → is_none s.written.ended ≡ true → ⊥
-ended s status over runs = cc (sym (ap is_none over.ended) ∙ runs)
+ended : (s : EngineState) (how : RunEnding) → IsOver s.written s.score how → is_none s.written.ended ≡ true → ⊥
+ended s how over runs = cc (sym (ap is_none over.ended) ∙ runs)
 
 pub returns-clause-takes : goal.returns-clause-takes
 returns-clause-takes c = λ is piece.

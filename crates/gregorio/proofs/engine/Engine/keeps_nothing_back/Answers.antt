@@ -5,7 +5,7 @@ use Rattle.gabc_score.specs.witness.ScoreStage.{left_of}
 use Rattle.gregorio.specs.witness.Engine.{EngineState}
 use Rattle.gregorio.specs.machine.ScoreWriter.{IsSilent}
 use Rattle.gabc_score.specs.witness.MayStand.{MayStand}
-use Rattle.gregorio.proofs.pieces.BytesAreTaken.{GivesNoLast, read_fault_if_broken}
+use Rattle.gregorio.proofs.pieces.BytesAreTaken.{GivesNoLast, no_fault_if_broken, read_fault_if_broken}
 use Rattle.gregorio.proofs.pieces.NothingIsKeptBack.{prompt_now}
 use Rattle.gregorio.proofs.engine.Engine.keeps_nothing_back.Goals as goal
 
@@ -20,4 +20,5 @@ returns c =
     record {
       prompt = prompt_now s gives few (c.what_breaks_off_holds_a_unit.ensures s.score may) over;
       running = λ runs. read_fault_if_broken s runs gives;
+      fault = λ runs. no_fault_if_broken s runs gives;
     }

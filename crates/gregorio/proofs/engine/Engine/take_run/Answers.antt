@@ -10,8 +10,7 @@ use Rattle.gregorio.specs.Engine.{with_waiting}
 use Rattle.gregorio.specs.machine.RunWriter.{TakesRuns}
 use Rattle.gregorio.specs.machine.ScoreWriter.{WritesRun}
 use Rattle.gregorio.specs.witness.Engine.{EngineState, Written, streams_left}
-use Rattle.gregorio.proofs.pieces.BytesAreTaken.{still_reserved}
-use Rattle.gregorio.proofs.pieces.FrontIsTaken.{front_of_front}
+use Rattle.gregorio.proofs.pieces.BytesAreTaken.{front_of_front, still_reserved}
 use Rattle.gregorio.proofs.pieces.RunIsTaken.{SkipsText, fewer_characters, run_in_step, run_reads_on, run_stays_telling, run_together, text_taken}
 use Rattle.gregorio.proofs.pieces.RunIsWritten.{run_counted}
 use Rattle.gregorio.proofs.engine.Engine.take_run.Goals as goal

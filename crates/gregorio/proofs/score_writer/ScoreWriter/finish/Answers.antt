@@ -8,7 +8,7 @@ use Rattle.gregorio.proofs.OutputsOfEvents.{nothing_left}
 use Rattle.gregorio.specs.machine.InStep.{HasForce}
 use Rattle.gregorio.specs.machine.ScoreWriter.{ScoreWriterState, outputs_of_events}
 use Rattle.gregorio.proofs.pieces.WrittenGoesOn.{force_ended}
-use Rattle.gregorio_jobs.specs.declared.job.Status.{Status}
+use Rattle.gregorio.specs.declared.run_ending.RunEnding.{RunEnding}
 use Rattle.gregorio.proofs.score_writer.ScoreWriter.finish.Goals as goal
 
 pub write_events-requires : goal.write_events-requires
@@ -26,10 +26,10 @@ pub returns-clause-writes : goal.returns-clause-writes
 returns-clause-writes c =
     let i = c.self.inside in
     last_is_written i.score c.finish.new.self i.writer c.args.self.now c.self.view_is i.events c.clear.new.self c.finish.new.out c.clear.ensures c.slice.result.now c.slice.ensures c.finish.ensures.step c.finish.ensures.end c.requires.room
-    c.cease.new.self c.cease.result (c.cease.ensures.writes ∙ ap past_end c.write_events.ensures.writes) c.cease.ensures.status
+    c.cease.new.self c.cease.result (c.cease.ensures.writes ∙ ap past_end c.write_events.ensures.writes) c.cease.ensures.ended
 
 pub returns-clause-over : goal.returns-clause-over
-returns-clause-over c = record { ended = c.cease.ensures.status; silent = λ xs. nothing_left c.finish.new.self xs c.finish.ensures.over }
+returns-clause-over c = record { ended = c.cease.ensures.ended; silent = λ xs. nothing_left c.finish.new.self xs c.finish.ensures.over }
 
 pub invariant_of-self : goal.invariant_of-self
 invariant_of-self c =
@@ -38,7 +38,7 @@ invariant_of-self c =
     record {
       room = omega (arith, c.self.invariant.room, given, cleared);
       silent = λ over xs. nothing_left c.finish.new.self xs c.finish.ensures.over;
-      clef = λ running. absurd (both_ways _ (ap (λ (o : Option Status). is_none o) c.cease.ensures.status) running);
+      clef = λ running. absurd (both_ways _ (ap (λ (o : Option RunEnding). is_none o) c.cease.ensures.ended) running);
     }
 
 pub returns-clause-force : goal.returns-clause-force

@@ -19,7 +19,7 @@ invariant_of-self c =
     record {
       room = omega (arith, c.self.invariant.room, given, cleared);
       silent = run_silent old c.args.at t new c.take_run.ensures.runs takes;
-      clef = run_clef old c.args.at t new c.take_run.ensures.runs takes c.self.invariant.clef;
+      clef = run_clef old c.args.at t new c.take_run.ensures.runs c.where_nothing_sounds_the_clef_stays.ensures takes c.self.invariant.clef;
     }
 
 pub returns-clause-steady : goal.returns-clause-steady

@@ -1,0 +1,24 @@
+use Rattle.std.proofs.Common.{◌≡◌, ℕ, ◌||◌, Bool, true, false, Option, is_some, refl, sym, ap, ◌∙◌}
+use Rattle.gabc_notes.specs.declared.item.ItemKind.{ItemKind}
+use Rattle.gabc_score.specs.RegularSyllable.{SyllableParts, with_lines}
+use Rattle.gabc_score.specs.machine.Run.{IsSteady, sounds_among}
+use Rattle.gabc_score.proofs.score_machine.ScoreMachine.is_first_with.Goals as goal
+
+or_false : (b : Bool) → (b || false) ≡ b
+or_false true = refl
+or_false false = refl
+
+-- where none comes with it
+silent : (lines : ℕ) (first : Option ItemKind) (r : SyllableParts) (b : Bool) → b ≡ sounds_among (with_lines lines 0 r.nexts r.final) → b ≡ false → IsSteady lines first r
+silent lines first r b e none = ap (λ x. is_some first || x) (sym e ∙ none) ∙ or_false (is_some first)
+
+-- where one has come
+sounded : (lines : ℕ) (first : Option ItemKind) (r : SyllableParts) → is_some first ≡ true → IsSteady lines first r
+sounded lines first r some = ap (λ x. x || sounds_among (with_lines lines 0 r.nexts r.final)) some ∙ sym some
+
+pub returns-then-is_none : goal.returns-then-is_none
+returns-then-is_none c = λ no is. silent c.args.lines c.args.self.now.pair.gathered.first_kind is.syllable c.sounds.result (c.sounds.ensures is) no
+
+pub returns : goal.returns
+returns c = λ no is.
+    sounded c.args.lines c.args.self.now.pair.gathered.first_kind is.syllable (ap (λ (k : Option ItemKind). is_some k) (sym c.first_kind.ensures) ∙ c.if-is_none.ensures)

@@ -1,0 +1,62 @@
+-- A regular syllable by the slices that spell it.
+use Rattle.std.specs.Prelude.{◌≡◌, ℕ, ◌==◌, List, [], ◌∷◌, ◌++◌, Bool, true, false, length, slice_index, take, ◌-◌, Option, Some, None, encode_utf8_all}
+use Rattle.std.specs.Str.{IsUtf8}
+use Rattle.gabc_text.specs.Canonical.{canonical_text}
+use Rattle.gabc_score.specs.declared.spelled.SpelledSyllable.{SpelledSyllable}
+use Rattle.gabc_score.specs.declared.spelled.SpelledSnippets.{SpelledSnippets}
+use Rattle.gabc_score.specs.declared.spelled.SpelledSnippet.{SpelledSnippet}
+use Rattle.gabc_score.specs.Canonical.{canonical_in_place, starts_word, translation_text}
+use Rattle.gabc_score.specs.GivesSyllables.{spelled_canonical}
+use Rattle.gabc_score.specs.RegularSyllable.{SyllableParts, AreRegularFrom, IsRegularSyllable, canonical_spelled, kept_spelled, notes_spelled, snippet_texts, with_lines}
+use Rattle.gabc_score.specs.Syllable.{PlacedSyllable}
+
+-- The slices are the bytes of a regular syllable, and its text ends where they say.
+pub record IsSpelling (r : SpelledSyllable) : Type 0 where
+  pub parts : SyllableParts
+  pub regular : IsRegularSyllable r.lines parts
+  pub canonical_is : r.canonical.now ≡ encode_utf8_all (canonical_spelled false parts)
+  pub opening_is : r.opening ≡ length (encode_utf8_all parts.text)
+  pub utf8 : IsUtf8 r.canonical.now
+
+-- ---- snippets with their lines
+
+-- the first of some snippets
+abbrev pub first_of : List (List ℕ) → List ℕ → List ℕ
+first_of [] final = final
+first_of (s ∷ nexts) final = s
+
+-- These regular snippets are still to come, each with its line.
+pub record AreToCome (it : SpelledSnippets) (nexts : List (List ℕ)) (final : List ℕ) : Type 0 where
+  pub regular : AreRegularFrom it.lines it.line nexts final
+  pub single : it.lines ≡ 0 → nexts ≡ []
+  pub rest_is : it.rest.now ≡ encode_utf8_all (notes_spelled nexts final)
+  pub utf8 : IsUtf8 it.rest.now
+  pub goes_on : it.over ≡ false
+
+-- These are still to come, or none.
+abbrev pub ToCome : SpelledSnippets → List (ℕ × List ℕ) → Type 0
+ToCome it [] = it.over ≡ true
+ToCome it (t ∷ texts) = (nexts : List (List ℕ)) × ((final : List ℕ) × (AreToCome it nexts final × (t ∷ texts ≡ with_lines it.lines it.line nexts final)))
+
+-- what comes first of them, if one is left, and what is to come then
+abbrev pub GivesNext : Option SpelledSnippet → List (ℕ × List ℕ) → SpelledSnippets → Type 0
+GivesNext None texts after = texts ≡ []
+GivesNext (Some s) texts after = (more : List (ℕ × List ℕ)) × ((texts ≡ (s.line, s.text.now) ∷ more) × ToCome after more)
+
+-- ---- the syllable
+
+-- the last of these bytes is a `]`
+abbrev pub ends_in_bracket : List ℕ → Bool
+ends_in_bracket bytes = slice_index bytes (length bytes - 1) == 93
+
+-- Slices spell a syllable: its place in its word, its open spans, what is kept of it, its canonical
+-- text, its text with its translation, and its snippets.
+pub record Spells (r : SpelledSyllable) (s : PlacedSyllable) : Type 0 where
+  pub spelling : IsSpelling r
+  pub position : s.position ≡ r.position
+  pub eu : s.made.eu ≡ r.spans.eu
+  pub nlba : s.made.nlba ≡ r.spans.nlba
+  pub kept : s.made.kept ≡ encode_utf8_all (kept_spelled spelling.parts)
+  pub canonical : canonical_in_place s ≡ spelled_canonical (starts_word r.position) r.canonical.now
+  pub text : canonical_text s.made.text s.made.kept ++ translation_text s.made.kept s.made.text.translation ≡ take r.opening r.canonical.now
+  pub snippets : snippet_texts s.made ≡ with_lines r.lines 0 spelling.parts.nexts spelling.parts.final

@@ -1,0 +1,147 @@
+//! A regular syllable as it is spelled.
+
+ghost use Rattle.std.specs.Prelude.{◌≡◌, ◌<◌, ℕ, List, IfSome, length, take, encode_utf8_all};
+ghost use Rattle.gabc_score.specs.RegularSyllable.{with_lines};
+ghost use Rattle.gabc_score.specs.SpelledSyllable.{AreToCome, GivesNext, IsSpelling, ToCome, ends_in_bracket, first_of};
+ghost use Rattle.gabc_score.specs.machine.Run.{sounds_among, sounds_on_line};
+
+use crate::before::Spans;
+use crate::body_stage::next_line;
+use crate::regular::snippet_len;
+use crate::syllable::Position;
+use gabc_notes::first_note_or_clef;
+
+/// A regular syllable as it is spelled, in a slice of the text that it stands in.
+#[derive(Clone, Copy)]
+pub struct SpelledSyllable<'a> {
+    /// Where it stands in its word.
+    pub position: Position,
+    /// The spans that are open after it.
+    pub spans: Spans,
+    /// How many NABC lines there are under each GABC snippet.
+    pub lines: u8,
+    /// Its canonical text but for the LF before a word.
+    pub canonical: &'a str,
+    /// How many bytes of that stand before the `(`: those of its text and its translation.
+    pub opening: usize,
+}
+
+/// A snippet of a regular syllable as it is spelled.
+#[derive(Clone, Copy)]
+pub struct SpelledSnippet<'a> {
+    /// 0 for GABC, and 1 to 4 for NABC.
+    pub line: u8,
+    /// Its text.
+    pub text: &'a str,
+}
+
+/// The snippets of a regular syllable that are still to come.
+#[derive(Clone, Copy)]
+pub struct SpelledSnippets<'a> {
+    lines: u8,
+    /// The line of the next one.
+    line: u8,
+    /// The next one and what follows it, through the `)`.
+    rest: &'a str,
+    /// Whether none is left.
+    over: bool,
+}
+
+impl<'a> SpelledSyllable<'a> {
+    /// Returns its text with its translation.
+    pub fn text(self) -> &'a str
+        requires { IsSpelling self }
+        ensures { result.now ≡ take self.entry.opening self.entry.canonical.now }
+    {
+        self.canonical.split_at(self.opening).0
+    }
+
+    /// Returns whether its text ends with a `]`, as each text does that has a translation.
+    pub fn may_be_translated(self) -> bool
+        requires { IsSpelling self }
+        ensures { result ≡ ends_in_bracket (take self.entry.opening self.entry.canonical.now) }
+    {
+        let text = self.text().as_bytes();
+        !text.is_empty() && text[text.len() - 1] == b']'
+    }
+
+    /// Returns its snippets in order.
+    pub fn snippets(self) -> SpelledSnippets<'a>
+        requires { IsSpelling self }
+        ensures { (is : IsSpelling self.entry) →
+            ToCome result (with_lines self.entry.lines 0 is.parts.nexts is.parts.final) }
+    {
+        let (_, notes) = self.canonical.split_at(self.opening + 1);
+        SpelledSnippets {
+            lines: self.lines,
+            line: 0,
+            rest: notes,
+            over: false,
+        }
+    }
+
+    /// Returns whether a note or a clef stands in its snippets of GABC.
+    pub(crate) fn sounds(self) -> bool
+        requires { IsSpelling self }
+        ensures { (is : IsSpelling self.entry) →
+            result ≡ sounds_among (with_lines self.entry.lines 0 is.parts.nexts is.parts.final) }
+    {
+        let mut rest = self.snippets();
+        while let Some(snippet) = rest.next() {
+            if snippet.sounds() {
+                return true;
+            }
+        }
+        false
+    }
+}
+
+impl<'a> SpelledSnippet<'a> {
+    /// Returns whether it is of GABC, and a note or a clef stands in it.
+    fn sounds(self) -> bool
+        ensures { result ≡ sounds_on_line (self.entry.line, self.entry.text.now) }
+    {
+        self.line == 0 && first_note_or_clef(self.text).is_some()
+    }
+}
+
+impl<'a> SpelledSnippets<'a> {
+    /// Returns how many bytes the next snippet has.
+    fn next_len(self) -> usize
+        requires { (nexts : List (List ℕ)) × ((final : List ℕ) × AreToCome self nexts final) }
+        ensures { (nexts : List (List ℕ)) (final : List ℕ) → AreToCome self.entry nexts final →
+            result ≡ length (encode_utf8_all (first_of nexts final)) }
+    {
+        gabc_notes::laws::what_follows_emits_nothing();
+        gabc_nabc::laws::what_follows_emits_nothing();
+        if self.lines == 0 {
+            self.rest.len() - 1
+        } else {
+            snippet_len(self.line, self.rest)
+        }
+    }
+
+    /// Returns the next snippet with its line, if one is left.
+    pub fn next(&mut self) -> Option<SpelledSnippet<'a>>
+        requires { (texts : List (ℕ × List ℕ)) × ToCome self.old texts }
+        ensures next { (texts : List (ℕ × List ℕ)) → ToCome self.old texts →
+            GivesNext result texts self.new }
+        ensures shorter { IfSome result
+            (λ _. length self.new.rest.now < length self.old.rest.now) }
+    {
+        if self.over {
+            return None;
+        }
+        let len = self.next_len();
+        let (text, _) = self.rest.split_at(len);
+        let (_, rest) = self.rest.split_at(len + 1);
+        let snippet = SpelledSnippet {
+            line: self.line,
+            text,
+        };
+        self.over = self.rest.as_bytes()[len] != b'|';
+        self.line = next_line(self.lines, self.line);
+        self.rest = rest;
+        Some(snippet)
+    }
+}

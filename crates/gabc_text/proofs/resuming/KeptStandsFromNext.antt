@@ -1,0 +1,181 @@
+-- What is kept of the characters to come stands as in a text that begins where the next character stands.
+use Rattle.std.proofs.lemmas.List.Elements.{All-nil, All-cons, All-head}
+use Rattle.std.proofs.Common.{◌≡◌, ◌==◌, ◌&&◌, ℕ, List, [], ◌∷◌, ◌++◌, map, Bool, true, false, cond, Option, Some, None, take, append-nil, refl, sym, ap, ◌∙◌, subst}
+use Rattle.std.specs.List.{All}
+use Rattle.gabc_places.specs.Place.{saturating_next_place}
+use Rattle.gabc_places.specs.StageLaw.{concat_of}
+use Rattle.gabc_places.specs.declared.place.Char.{Char}
+use Rattle.gabc_places.specs.declared.place.Place.{Place}
+use Rattle.gabc_text.specs.BuiltText.{kept_chars_in, kept_in}
+use Rattle.gabc_text.specs.Events.{count_by, option_list_of}
+use Rattle.gabc_text.specs.StageTells.{IsNext, KeptStands}
+use Rattle.gabc_text.specs.witness.StageReports.{next_of}
+use Rattle.gabc_text.specs.View.{centre_by, piece_kind}
+use Rattle.gabc_places.specs.declared.code.Code.{Code}
+use Rattle.gabc_places.specs.declared.place.Span.{Span}
+use Rattle.gabc_text.specs.declared.progress.Progress.{Progress}
+use Rattle.gabc_text.specs.declared.stage.TextStage.{TextStage}
+use Rattle.gabc_text.specs.declared.text_event.TextEnd.{TextEnd}
+use Rattle.gabc_text.specs.declared.text_event.TextEnd.TheVariants as text_ending
+use Rattle.gabc_text.specs.declared.text_event.TextEvent.{TextEvent}
+use Rattle.gabc_text.specs.declared.text_event.TextPart.{TextPart}
+use Rattle.gabc_text.specs.declared.text_event.TextPart.TheVariants as part
+use Rattle.gabc_text.specs.declared.text_event.TextEvent.TheVariants as out
+use Rattle.gabc_text.specs.declared.text_facts.TextFacts.{TextFacts}
+use Rattle.gabc_text.specs.declared.token.TagEffect.{TagEffect}
+use Rattle.gabc_text.specs.declared.token.TagEffect.TheVariants as tag
+use Rattle.gabc_text.specs.declared.token.TokenKind.{TokenKind}
+use Rattle.gabc_text.specs.declared.token_state.Step.{Step}
+use Rattle.gabc_text.specs.declared.token_state.Step.TheVariants.{Stays, Ends}
+use Rattle.gabc_text.specs.machine.TextFacts.{early_at, facts_after}
+use Rattle.gabc_text.specs.machine.TextStage.{char_event, end_by, events_of_end, events_of_finish, events_of_finish_by, events_of_push, events_of_reading, events_of_settling_by, events_of_step, events_of_token, is_cut_end, progress_after, push_stage, settle_stage, settle_stage_by, stage_past_char}
+use Rattle.gabc_text.specs.machine.TokenState.{is_plain, keep, kind_at_end, next_step, settled_kind}
+use Rattle.gabc_text.specs.witness.EventsLeft.{codes_by, codes_last, end_events_by, events_left, findings_there, parts_by, whole_events_by}
+use Rattle.gabc_text.proofs.events.EventsBuildText.{kept_more, none_kept}
+use Rattle.gabc_text.proofs.machine.EventsLeftAreThoseAhead.{rest_is}
+use Rattle.gabc_text.proofs.machine.EventsStepByStep.{stepwise}
+use Rattle.gabc_text.proofs.resuming.WhatStagesTell.{next_goes}
+
+-- ---- events that keep nothing
+
+parts_none : (ps : List TextPart) → kept_in (map (λ (p : TextPart). out.Part p) ps) ≡ []
+parts_none = none_kept (λ p. out.Part p) (λ p. refl)
+
+found_none : (p : Place) (codes : List Code) → kept_in (findings_there p codes) ≡ []
+found_none p = none_kept (λ (c : Code). out.Found (record { place = p; code = c })) (λ c. refl)
+
+whole_kept : (facts : TextFacts) (p : Progress) (k : TokenKind) (so : TagEffect) (last to : ℕ) → kept_in (whole_events_by facts p k so last to) ≡ []
+whole_kept facts p k so last to =
+    let parts : List TextPart = parts_by facts p k last to (piece_kind k so) in
+    kept_more (map (λ (x : TextPart). out.Part x) parts) (findings_there p.place (codes_by facts k so))
+    ∙ rw (parts_none parts) (found_none p.place (codes_by facts k so))
+
+centre_none : (o : Option Span) (how : TextEnd) → kept_in (map (λ (c : Span). out.Part (part.Centre c)) (option_list_of o) ++ out.Ended how ∷ []) ≡ []
+centre_none None how = refl
+centre_none (Some c) how = refl
+
+end_kept : (facts : TextFacts) (p : Progress) (cut : Bool) (how : TextEnd) → kept_in (end_events_by facts p cut how) ≡ []
+end_kept facts p cut how =
+    kept_more (findings_there p.next (cond cut [] (codes_last facts))) _
+    ∙ rw (found_none p.next (cond cut [] (codes_last facts))) (centre_none (centre_by (count_by p.pieces p.blank) p.begin p.end) how)
+
+step_kept : (s : TextStage) (step : Step) (last : ℕ) → kept_in (events_of_step s step last) ≡ []
+step_kept s (Stays state) last = refl
+step_kept s (Ends k so) last = whole_kept s.facts s.progress k so last s.progress.kept
+
+settling_kept : (s : TextStage) (o : Option TokenKind) → kept_in (events_of_settling_by s o) ≡ []
+settling_kept s None = refl
+settling_kept s (Some k) = whole_kept s.facts s.progress k tag.Other s.progress.start s.progress.kept
+
+finish_kept : (s : TextStage) → kept_in (events_of_finish s) ≡ []
+finish_kept s = by s.done (kind_at_end s.state)
+  where
+    by : (d : Bool) (o : Option TokenKind) → kept_in (cond d [] (events_of_finish_by s o)) ≡ []
+    by true o = refl
+    by false None = end_kept s.facts s.progress false text_ending.Finished
+    by false (Some k) =
+        kept_more (events_of_token s.facts s.progress k tag.Other s.progress.start) _
+        ∙ rw (whole_kept s.facts s.progress k tag.Other s.progress.start s.progress.kept)
+        (end_kept (facts_after s.facts k tag.Other) (progress_after s.facts s.progress k tag.Other s.progress.next)
+        (is_cut_end (end_by k s.progress.place)) (end_by k s.progress.place))
+
+-- ---- what a character keeps stands where it stands
+
+abbrev StandAt : Place → List TextEvent → Type 0
+StandAt p es = All (λ (x : Char). x.place ≡ p) (kept_chars_in es)
+
+no_chars : (es : List TextEvent) → kept_in es ≡ [] → kept_chars_in es ≡ []
+no_chars [] e = refl
+no_chars (out.Kept c ∷ es) e = cc
+no_chars (out.Part p ∷ es) e = no_chars es e
+no_chars (out.Found f ∷ es) e = no_chars es e
+no_chars (out.Ended h ∷ es) e = no_chars es e
+
+none_stand : (p : Place) (es : List TextEvent) → kept_in es ≡ [] → StandAt p es
+none_stand p es e = subst (λ (xs : List Char). All (λ (x : Char). x.place ≡ p) xs) (sym (no_chars es e)) (All-nil (λ (x : Char). x.place ≡ p))
+
+stand_behind : (p : Place) (a b : List TextEvent) → kept_in a ≡ [] → StandAt p b → StandAt p (a ++ b)
+stand_behind p [] b e stand = stand
+stand_behind p (out.Kept c ∷ a) b e stand = cc
+stand_behind p (out.Part q ∷ a) b e stand = stand_behind p a b e stand
+stand_behind p (out.Found f ∷ a) b e stand = stand_behind p a b e stand
+stand_behind p (out.Ended h ∷ a) b e stand = stand_behind p a b e stand
+
+char_stands : (p : Place) (o : Option ℕ) (es : List TextEvent) → kept_in es ≡ [] → StandAt p (option_list_of (char_event p o) ++ es)
+char_stands p None es e = none_stand p es e
+char_stands p (Some c) es e = All-cons (λ (x : Char). x.place ≡ p) (record { c = c; place = p }) (kept_chars_in es) refl (none_stand p es e)
+
+read_stands : (s : TextStage) (c : ℕ) → StandAt (next_of s) (events_of_reading s c)
+read_stands s c =
+    stand_behind (next_of s) (findings_there s.progress.place (option_list_of (early_at s.facts s.state c))) _
+    (found_none s.progress.place (option_list_of (early_at s.facts s.state c)))
+    (char_stands (next_of s) (keep s.facts s.state c)
+    (events_of_step (stage_past_char s c) (next_step s.state c) s.progress.kept) (step_kept (stage_past_char s c) (next_step s.state c) s.progress.kept))
+
+settled_stands : (s : TextStage) (o : Option TokenKind) (c : ℕ) → StandAt (next_of s) (events_of_reading (settle_stage_by s o) c)
+settled_stands s None c = read_stands s c
+settled_stands s (Some k) c = read_stands (settle_stage_by s (Some k)) c
+
+push_stands : (s : TextStage) (c : ℕ) → StandAt (next_of s) (events_of_push s c)
+push_stands s c = by s.done (settled_kind s.state c) (c == 40 && is_plain (settle_stage s c).state)
+  where
+    by : (d : Bool) (o : Option TokenKind) (b : Bool) → StandAt (next_of s) (cond d [] (events_of_settling_by s o
+        ++ cond b (events_of_end (settle_stage_by s o).facts (settle_stage_by s o).progress text_ending.Notes) (events_of_reading (settle_stage_by s o) c)))
+    by true o b = All-nil (λ (x : Char). x.place ≡ next_of s)
+    by false o true = stand_behind (next_of s) (events_of_settling_by s o) (events_of_end (settle_stage_by s o).facts (settle_stage_by s o).progress text_ending.Notes) (settling_kept s o)
+        (none_stand (next_of s) (events_of_end (settle_stage_by s o).facts (settle_stage_by s o).progress text_ending.Notes) (end_kept (settle_stage_by s o).facts (settle_stage_by s o).progress false text_ending.Notes))
+    by false o false = stand_behind (next_of s) (events_of_settling_by s o) (events_of_reading (settle_stage_by s o) c) (settling_kept s o) (settled_stands s o c)
+
+-- ---- what is kept of a text
+
+-- a stage that has ended stays as it is
+stays_ended : (s : TextStage) (c : ℕ) → s.done ≡ true → (push_stage s c).done ≡ true
+stays_ended s c e = rw e refl
+
+keeps_none : (s : TextStage) (c : ℕ) → s.done ≡ true → kept_chars_in (events_of_push s c) ≡ []
+keeps_none s c e = rw e refl
+
+finish_stands : (p : Place) (s : TextStage) → KeptStands p [] (stepwise s [])
+finish_stands p s = no_chars (events_of_finish s ++ []) (kept_more (events_of_finish s) [] ∙ rw (finish_kept s) refl)
+
+ended_stands : (p : Place) (s : TextStage) (t : List ℕ) → s.done ≡ true → KeptStands p t (stepwise s t)
+ended_stands p s [] e = finish_stands p s
+ended_stands p s (c ∷ t) e = (
+  subst (λ (xs : List Char). All (λ (x : Char). x.place ≡ p) xs) (sym (keeps_none s c e)) (All-nil (λ (x : Char). x.place ≡ p)),
+  ended_stands (saturating_next_place p c) (push_stage s c) t (stays_ended s c e),
+)
+
+going_stands : (s : TextStage) (t : List ℕ) → s.done ≡ false → KeptStands (next_of s) t (stepwise s t)
+going_stands s [] e = finish_stands (next_of s) s
+going_stands s (c ∷ t) e = (push_stands s c, by (push_stage s c).done refl (going_stands (push_stage s c) t))
+  where
+    by : (d : Bool) → (push_stage s c).done ≡ d → ((push_stage s c).done ≡ false → KeptStands (next_of (push_stage s c)) t (stepwise (push_stage s c) t))
+        → KeptStands (saturating_next_place (next_of s) c) t (stepwise (push_stage s c) t)
+    by true f later = ended_stands (saturating_next_place (next_of s) c) (push_stage s c) t f
+    by false f later = subst (λ (p : Place). KeptStands p t (stepwise (push_stage s c) t)) (next_goes s c e f) (later f)
+
+stands : (s : TextStage) (t : List ℕ) (d : Bool) → s.done ≡ d → KeptStands (next_of s) t (stepwise s t)
+stands s t true e = ended_stands (next_of s) s t e
+stands s t false e = going_stands s t e
+
+-- the next character stands where the stage says
+pub is_next : (s : TextStage) → IsNext s (next_of s)
+is_next s t = subst (λ (lists : List (List TextEvent)). KeptStands (next_of s) t lists) (sym (rest_is s t)) (stands s t s.done refl)
+
+-- ---- one place
+
+head_stands : (p : Place) (x : Char) (xs ys : List Char) → ys ≡ x ∷ xs → All (λ (y : Char). y.place ≡ p) ys → x.place ≡ p
+head_stands p x xs ys e all = All-head (λ (y : Char). y.place ≡ p) x xs (subst (λ (zs : List Char). All (λ (y : Char). y.place ≡ p) zs) e all)
+
+first_stands : (p : Place) (c : ℕ) (x : Char) (xs : List Char) (lists : List (List TextEvent)) → kept_chars_in (concat_of (take 1 lists)) ≡ x ∷ xs
+    → KeptStands p (c ∷ []) lists → x.place ≡ p
+first_stands p c x xs [] e stand = absurd stand
+first_stands p c x xs (events ∷ lists) e stand =
+    head_stands p x xs (kept_chars_in events) (ap kept_chars_in (sym (append-nil events)) ∙ e) stand.0
+
+-- what is kept of a character stands at one place
+pub one_place : (s : TextStage) (p q : Place) (c : ℕ) (x : Char) (xs : List Char) → kept_chars_in (concat_of (take 1 (events_left s (c ∷ [])))) ≡ x ∷ xs
+    → IsNext s p → IsNext s q → p ≡ q
+one_place s p q c x xs e there here =
+    sym (first_stands p c x xs (events_left s (c ∷ [])) e (there (c ∷ [])))
+    ∙ first_stands q c x xs (events_left s (c ∷ [])) e (here (c ∷ []))

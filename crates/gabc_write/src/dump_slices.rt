@@ -1,0 +1,77 @@
+//! The lines of a regular syllable in a dump, from the slices that spell it.
+
+ghost use Rattle.std.specs.Prelude.{◌≡◌, ◌≤◌, ◌+◌, ◌*◌, ◌<◌, ℕ, List, false, length, take};
+ghost use Rattle.std.specs.List.{All};
+ghost use Rattle.gabc_neumes.specs.InForce.{passed};
+ghost use Rattle.gabc_score.specs.Canonical.{canonical_in_place};
+ghost use Rattle.gabc_score.specs.SpelledSyllable.{IsSpelling, Spells, ToCome, ends_in_bracket};
+ghost use Rattle.gabc_score.specs.Syllable.{PlacedSyllable};
+ghost use Rattle.gabc_write.specs.DumpOfSyllables.{line_of_text, lines_of_syllable, steps_of_syllable};
+ghost use Rattle.gabc_write.specs.machine.DumpOfTexts.{lines_of_texts, steps_of_texts, IsOnLine};
+
+use crate::dump_item::put_last;
+use crate::dump_syllables::{pass_position, put_first_line, put_snippet};
+use crate::laws;
+use gabc_neumes::Alterations;
+use gabc_places::Put;
+use gabc_score::{SpelledSnippets, SpelledSyllable};
+
+/// Puts the line of `text`, if there is any: `text:T`.
+fn put_line_of<S: Put>(text: &[u8], out: &mut S)
+    ensures { out.new ≡ S.taken out.old (line_of_text text.now) }
+{
+    if !text.is_empty() {
+        out.put(b"text:");
+        put_last(text, out);
+    }
+}
+
+/// Puts the lines of `snippets`, and passes their items.
+fn put_spelled_snippets<S: Put>(
+    snippets: SpelledSnippets<'_>,
+    alterations: &mut Alterations,
+    out: &mut S,
+)
+    requires { (texts : List (ℕ × List ℕ)) × ToCome snippets texts }
+    ensures put { (texts : List (ℕ × List ℕ)) → ToCome snippets.entry texts →
+        out.new ≡ S.taken out.old (lines_of_texts alterations.old texts) }
+    ensures alterations { (texts : List (ℕ × List ℕ)) → ToCome snippets.entry texts →
+        alterations.new ≡ passed alterations.old (steps_of_texts texts) }
+    ensures lines { (texts : List (ℕ × List ℕ)) → ToCome snippets.entry texts →
+        All IsOnLine texts }
+{
+    gabc_neumes::laws::steps_are_passed_one_by_one();
+    let mut rest = snippets;
+    while let Some(snippet) = rest.next() {
+        put_snippet(snippet.line, snippet.text, alterations, out);
+    }
+}
+
+/// Puts the lines of the syllable with this `number` that `syllable` spells, which has no
+/// translation, as `dump_syllable` puts them. `alterations` are those in force before it, and then
+/// those after it.
+pub fn dump_spelled<S: Put>(
+    number: u64,
+    syllable: SpelledSyllable<'_>,
+    alterations: &mut Alterations,
+    out: &mut S,
+)
+    requires spelling { IsSpelling syllable }
+    requires untranslated { ends_in_bracket (take syllable.opening syllable.canonical.now)
+        ≡ false }
+    ensures put { (s : PlacedSyllable) → Spells syllable.entry s →
+        out.new ≡ S.taken out.old (lines_of_syllable number alterations.old s) }
+    ensures alterations { (s : PlacedSyllable) → Spells syllable.entry s →
+        alterations.new ≡ passed alterations.old (steps_of_syllable s) }
+    ensures short { (s : PlacedSyllable) → Spells syllable.entry s →
+        length (lines_of_syllable number alterations.old s)
+        ≤ 64 * length (canonical_in_place s) + 256 }
+{
+    laws::a_dump_is_short();
+    gabc_neumes::laws::steps_are_passed_one_by_one();
+    put_first_line(number, syllable.position, syllable.spans, out);
+    let canonical = syllable.canonical.as_bytes();
+    put_line_of(&canonical[..syllable.opening], out);
+    pass_position(syllable.position, alterations);
+    put_spelled_snippets(syllable.snippets(), alterations, out);
+}
