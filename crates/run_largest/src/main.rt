@@ -1,37 +1,66 @@
-//! Compiles a file with the largest limits: `run_largest gabc FILE` writes its canonical form,
-//! `run_largest dump FILE` its dump. The messages go to standard error. `tools/bench largest` times
-//! it on one header, one text, one snippet of notes and one of NABC of almost 16 MB.
+//! Reads a file with the largest limits, for what `tools/bench` times.
+//!
+//! `run_largest gabc FILE` writes its canonical form, `run_largest dump FILE` its dump; the
+//! messages go to standard error. `run_largest whole KEY FILE` prints how many headers stand in
+//! their book, read as a whole, `run_largest stage KEY FILE` read by a stage. Their names are
+//! hashed with a key that is `fixed` or `random`.
 #![tactic(auto)]
 
+mod headers;
+
+use crate::headers::{Way, count};
 use gabc_places::{FromReader, Limits, ToWriter};
 use gregorio::{Format, Input, Job, Output, Status, compile};
+use std::collections::hash_map::RandomState;
+use std::hash::{BuildHasher, DefaultHasher};
 use std::{env, fs, io};
 
-/// The largest limits that there are.
+/// What there is to do with a file.
+#[derive(Clone, Copy)]
+enum Task {
+    Compile(Format),
+    Count { way: Way, is_random: bool },
+}
+
+/// Returns the largest limits that there are.
 fn largest() -> Limits {
     Limits::new(16_777_216, 16_777_216, u32::MAX).unwrap_or(Limits::DEFAULT)
 }
 
-/// The job of this word.
-fn job_of(word: &str) -> Job {
-    Job {
-        format: match word {
-            "dump" => Format::Dump,
-            _ => Format::Gabc,
-        },
-        input: Input::Stdin,
-        output: Output::Stdout,
-        messages: None,
-        all_warnings: false,
+/// Returns the task of the words before the file, if they name one.
+fn task_of(words: &[&str]) -> Option<Task> {
+    match words {
+        ["gabc"] => Some(Task::Compile(Format::Gabc)),
+        ["dump"] => Some(Task::Compile(Format::Dump)),
+        [way, key] => Some(Task::Count {
+            way: match *way {
+                "whole" => Way::Whole,
+                "stage" => Way::Stage,
+                _ => return None,
+            },
+            is_random: match *key {
+                "random" => true,
+                "fixed" => false,
+                _ => return None,
+            },
+        }),
+        _ => None,
     }
 }
 
 /// Compiles the file with this name.
-fn run(rt: &HostRuntime, job: &Job, path: &str) -> io::Result<Status> {
+fn run(rt: &HostRuntime, format: Format, path: &str) -> io::Result<Status> {
+    let job = Job {
+        format,
+        input: Input::Stdin,
+        output: Output::Stdout,
+        messages: None,
+        all_warnings: false,
+    };
     let file = fs::open(rt, path)?;
     Ok(compile(
         rt.alloc(),
-        job,
+        &job,
         largest(),
         &mut FromReader::new(file),
         &mut ToWriter::new(rt.stdout()),
@@ -39,11 +68,52 @@ fn run(rt: &HostRuntime, job: &Job, path: &str) -> io::Result<Status> {
     ))
 }
 
+/// Returns the hasher that begins with the fixed key, or with a random one.
+fn hasher_of(rt: &HostRuntime, is_random: bool) -> io::Result<DefaultHasher> {
+    if is_random {
+        Ok(RandomState::new(rt)?.build_hasher())
+    } else {
+        Ok(DefaultHasher::new())
+    }
+}
+
+/// Does the task with the file of this name.
+fn perform(rt: &HostRuntime, task: Task, path: &str) -> io::Result<()> {
+    match task {
+        Task::Compile(format) => {
+            let status = run(rt, format, path)?;
+            eprintln!(rt; "status {}", status.code())
+        }
+        Task::Count { way, is_random } => {
+            let hasher = hasher_of(rt, is_random)?;
+            let text = fs::read_to_string(rt, path)?;
+            match count(rt.alloc(), way, text.as_str(), largest(), hasher)? {
+                Some(headers) => println!(rt; "{headers} headers"),
+                None => println!(rt; "no headers"),
+            }
+        }
+    }
+}
+
 fn main(rt: HostRuntime) -> io::Result<()> {
     let mut words = env::args(&rt)?.skip(1);
-    let (Some(word), Some(path)) = (words.next(), words.next()) else {
-        return println!(rt; "usage: run_largest gabc|dump FILE");
+    let Some(first) = words.next() else {
+        return usage(&rt);
     };
-    let status = run(&rt, &job_of(word.as_str()), path.as_str())?;
-    eprintln!(rt; "status {}", status.code())
+    let Some(second) = words.next() else {
+        return usage(&rt);
+    };
+    let (task, path) = match words.next() {
+        Some(third) => (task_of(&[first.as_str(), second.as_str()]), third),
+        None => (task_of(&[first.as_str()]), second),
+    };
+    match task {
+        Some(task) => perform(&rt, task, path.as_str()),
+        None => usage(&rt),
+    }
+}
+
+/// Prints the words of the program.
+fn usage(rt: &HostRuntime) -> io::Result<()> {
+    println!(rt; "usage: run_largest gabc|dump FILE, or run_largest whole|stage fixed|random FILE")
 }

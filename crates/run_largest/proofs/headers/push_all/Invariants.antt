@@ -1,5 +1,5 @@
 use Rattle.std.proofs.Common.{◌≤◌}
-use Rattle.read_headers.proofs.push_all.Given as goal
+use Rattle.run_largest.proofs.headers.push_all.Given as goal
 
 abbrev pub invariant-loop-c : goal.invariant-loop-c
 invariant-loop-c l = 2 ≤ l.out.limit

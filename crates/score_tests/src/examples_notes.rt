@@ -39,7 +39,7 @@ fn keeps_notes(alloc: Global) -> Result<bool, AllocError> {
     Ok(ends_in(chars.as_slice(), 4))
 }
 
-/// Whether a kept text has so many items, all of them notes, also looking ahead.
+/// Returns whether a kept text has `count` items, all of them notes, also looking ahead.
 fn has_notes(kept: &str, count: usize) -> bool {
     let mut items = items_in(kept);
     let ahead = items.ahead().count();

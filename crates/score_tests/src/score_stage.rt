@@ -80,10 +80,10 @@ fn push_all(
     finish(alloc, stage, lines)
 }
 
-/// Prints what a stage tells of where it stands: what stands before the syllable that is held, the
+/// Prints where a stage reports that it stands: what stands before the syllable that is held, the
 /// kept texts of this one and of the one that is read, the places of what is open, and whether a
 /// comment is.
-fn told(alloc: Global, stage: &ScoreStage) -> Result<String, AllocError> {
+fn reported(alloc: Global, stage: &ScoreStage) -> Result<String, AllocError> {
     let Some(before) = stage.before() else {
         return String::from_str(alloc, "nothing");
     };
@@ -104,16 +104,16 @@ fn told(alloc: Global, stage: &ScoreStage) -> Result<String, AllocError> {
     Ok(line)
 }
 
-/// Whether a new stage tells this once it has read `body`, which begins at 2:1.
-fn tells(alloc: Global, body: &str, wanted: &str) -> Result<bool, AllocError> {
+/// Whether a new stage reports this once it has read `body`, which begins at 2:1.
+fn reports(alloc: Global, body: &str, wanted: &str) -> Result<bool, AllocError> {
     let mut stage = ScoreStage::with_limits(alloc, Limits::DEFAULT)?;
-    let line = told_behind(alloc, &mut stage, body);
+    let line = reported_after(alloc, &mut stage, body);
     drop(stage);
     Ok(line?.as_str() == wanted)
 }
 
-/// Pushes `body`, which begins at 2:1, to a new stage, and prints what it tells then.
-fn told_behind(alloc: Global, stage: &mut ScoreStage, body: &str) -> Result<String, AllocError> {
+/// Pushes `body`, which begins at 2:1, to a new stage, and prints what it reports then.
+fn reported_after(alloc: Global, stage: &mut ScoreStage, body: &str) -> Result<String, AllocError> {
     let mut given = String::new(alloc);
     let heads = HeadEvent::Heads {
         nabc_lines: 1,
@@ -126,7 +126,7 @@ fn told_behind(alloc: Global, stage: &mut ScoreStage, body: &str) -> Result<Stri
         push(alloc, stage, HeadEvent::Body(Char { c, place }), &mut given)?;
         place = place.saturating_after(c);
     }
-    told(alloc, stage)
+    reported(alloc, stage)
 }
 
 /// Whether a stage gives this of a body, which ended so.
@@ -171,19 +171,19 @@ fn gives_the_held_syllable_where_the_source_fails(rt: HostRuntime) -> Result<(),
 }
 
 #[test]
-fn tells_nothing_before_the_body_and_behind_the_end(rt: HostRuntime) -> Result<(), AllocError> {
+fn reports_nothing_before_the_body_and_after_the_end(rt: HostRuntime) -> Result<(), AllocError> {
     let mut stage = ScoreStage::with_limits(rt.alloc(), Limits::DEFAULT)?;
-    assert!(rt; told(rt.alloc(), &stage)?.as_str() == "nothing");
+    assert!(rt; reported(rt.alloc(), &stage)?.as_str() == "nothing");
     assert!(rt; stage.held().is_none() && stage.reading().is_empty());
     assert!(rt; stage.openers().is_none() && stage.in_comment().is_none());
     let mut out = Room::with_limit(rt.alloc(), 16)?;
     stage.finish(&mut out);
-    assert!(rt; told(rt.alloc(), &stage)?.as_str() == "nothing");
+    assert!(rt; reported(rt.alloc(), &stage)?.as_str() == "nothing");
     drop(stage);
     Ok(())
 }
 
-/// Bodies, and what a stage tells after them.
+/// Bodies, and what a stage reports after them.
 const TOLD: [(&str, &str); 14] = [
     ("", "0 3 false false false \"\" None None %"),
     (" %x", "0 3 false false false \"\" None None %"),
@@ -226,9 +226,9 @@ const TOLD: [(&str, &str); 14] = [
 ];
 
 #[test]
-fn tells_where_it_stands(rt: HostRuntime) -> Result<(), AllocError> {
+fn reports_where_it_stands(rt: HostRuntime) -> Result<(), AllocError> {
     for (body, wanted) in TOLD {
-        assert!(rt; tells(rt.alloc(), body, wanted)?);
+        assert!(rt; reports(rt.alloc(), body, wanted)?);
     }
     Ok(())
 }
@@ -237,10 +237,10 @@ fn tells_where_it_stands(rt: HostRuntime) -> Result<(), AllocError> {
 fn goes_to_another_place(rt: HostRuntime) -> Result<(), AllocError> {
     let mut stage = ScoreStage::with_limits(rt.alloc(), Limits::DEFAULT)?;
     assert!(rt; stage.next().is_none());
-    let told = told_behind(rt.alloc(), &mut stage, "\na(f) <b")?;
+    let reported = reported_after(rt.alloc(), &mut stage, "\na(f) <b")?;
     let at = Place { line: 7, column: 5 };
     stage.go_to(at);
-    assert!(rt; stage.next() == Some(at) && !told.as_str().is_empty());
+    assert!(rt; stage.next() == Some(at) && !reported.as_str().is_empty());
     Ok(())
 }
 
@@ -256,13 +256,13 @@ fn given_on(alloc: Global, stage: &mut ScoreStage, rest: &str) -> Result<String,
     Ok(given)
 }
 
-/// Whether a stage after `before` that reads again what a stage tells after `body` tells the same,
+/// Whether a stage after `before` that reads again what a stage reports after `body` reports the same,
 /// and gives the same from then on.
 fn reads_again(alloc: Global, before: &str, body: &str) -> Result<bool, AllocError> {
     let mut one = ScoreStage::with_limits(alloc, Limits::DEFAULT)?;
-    let wanted = told_behind(alloc, &mut one, body)?;
+    let wanted = reported_after(alloc, &mut one, body)?;
     let mut again = ScoreStage::with_limits(alloc, Limits::DEFAULT)?;
-    let first = told_behind(alloc, &mut again, before)?;
+    let first = reported_after(alloc, &mut again, before)?;
     let Some(openers) = one.openers() else {
         return Ok(false);
     };
@@ -271,7 +271,7 @@ fn reads_again(alloc: Global, before: &str, body: &str) -> Result<bool, AllocErr
     };
     let in_comment = one.in_comment() == Some(true);
     let read = again.read_again(one.reading(), openers, in_comment, next);
-    let line = told(alloc, &again)?;
+    let line = reported(alloc, &again)?;
     let same = line.as_str() == wanted.as_str() && again.next() == Some(next);
     let one_gives = given_on(alloc, &mut one, "\n</i>]|ta)c<b")?;
     let again_gives = given_on(alloc, &mut again, "\n</i>]|ta)c<b")?;
@@ -301,12 +301,12 @@ fn reads_a_kept_text_again(rt: HostRuntime) -> Result<(), AllocError> {
 #[test]
 fn reads_no_whole_syllable_again(rt: HostRuntime) -> Result<(), AllocError> {
     let mut stage = ScoreStage::with_limits(rt.alloc(), Limits::DEFAULT)?;
-    let told = told_behind(rt.alloc(), &mut stage, "\na(f)")?;
+    let reported = reported_after(rt.alloc(), &mut stage, "\na(f)")?;
     let openers = Openers {
         notes: None,
         inner: None,
     };
     assert!(rt; !stage.read_again("b(g)c", openers, false, Place::START));
-    assert!(rt; stage.before().is_none() && !told.as_str().is_empty());
+    assert!(rt; stage.before().is_none() && !reported.as_str().is_empty());
     Ok(())
 }

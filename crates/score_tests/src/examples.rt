@@ -6,13 +6,11 @@ ghost use Rattle.std.specs.Prelude.{◌<◌, length};
 use gabc_headers::{HeadFault, HeaderBook, Heads, headers_whole};
 use gabc_neumes::Alterations;
 use gabc_places::{
-    Code, Decoded, Fault, Findings, FromReader, Limits, Place, Room, Span, Text, ToWriter,
-    place_of_byte, text_of,
+    Code, Decoded, Fault, Findings, Limits, Place, Room, Span, Text, place_of_byte, text_of,
 };
 use gabc_score::{InputEnding, Score, Syllable, score_whole};
 use gabc_text::{Piece, kept_chars, text_len, text_whole};
 use gabc_write::{dump_end, dump_header, dump_len, dump_syllable, message_len, message_line};
-use gregorio::{Format, Input, Job, Output, Status, compile};
 use std::alloc::{AllocError, Global};
 
 /// Whether a fault is shown so.
@@ -116,7 +114,7 @@ fn score_of(alloc: Global, text: &str) -> Result<Score, AllocError> {
 }
 
 /// Puts the lines of the first syllable of a score, with this number, in a dump. Returns how many
-/// bytes `dump_len` tells.
+/// bytes `dump_len` returns.
 fn put_lines(number: u64, syllable: &Syllable, out: &mut Room<u8>) -> usize {
     let mut alterations = Alterations::new();
     let len = dump_len(number, syllable, &alterations);
@@ -125,7 +123,7 @@ fn put_lines(number: u64, syllable: &Syllable, out: &mut Room<u8>) -> usize {
 }
 
 /// Whether these are the lines of a syllable with this number in a dump, and as many bytes as
-/// `dump_len` tells.
+/// `dump_len` returns.
 fn is_dumped(
     alloc: Global,
     number: u64,
@@ -249,32 +247,4 @@ fn writes_a_message(rt: HostRuntime) -> Result<(), AllocError> {
         b"a.gabc:2:6: fatal: F1: not UTF-8\n".as_slice()
     );
     Ok(())
-}
-
-/// Whether a job over a slice gives its canonical form.
-fn is_compiled(alloc: Global, job: &Job) -> bool {
-    let mut source = FromReader::new(b"%%\nKy(f)ri(g)".as_slice());
-    let mut out = ToWriter::new(Vec::new(alloc));
-    let mut messages = ToWriter::new(Vec::new(alloc));
-    let status = compile(
-        alloc,
-        job,
-        Limits::DEFAULT,
-        &mut source,
-        &mut out,
-        &mut messages,
-    );
-    status == Status::Whole && out.inner().as_slice() == b"%%\nKy(f)ri(g)\n".as_slice()
-}
-
-#[test]
-fn compiles_a_slice(rt: HostRuntime) {
-    let job = Job {
-        format: Format::Gabc,
-        input: Input::Stdin,
-        output: Output::Stdout,
-        messages: None,
-        all_warnings: true,
-    };
-    assert!(rt; is_compiled(rt.alloc(), &job));
 }

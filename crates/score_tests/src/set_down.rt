@@ -1,5 +1,5 @@
 //! Stages of snippets that are cut at each character and set down again, from the text that they
-//! kept and what they tell.
+//! kept and what they report.
 
 use gabc_nabc::NabcStage;
 use gabc_notes::{NoteEvent, NoteStage};
@@ -194,7 +194,7 @@ fn nabc_goes_on(alloc: Global, text: &str, cut: usize) -> Result<bool, AllocErro
 }
 
 #[test]
-fn notes_go_on_behind_each_character(rt: HostRuntime) -> Result<(), AllocError> {
+fn notes_go_on_after_each_character(rt: HostRuntime) -> Result<(), AllocError> {
     for text in NOTES {
         for cut in 0..text.chars().count() {
             assert!(rt; notes_go_on(rt.alloc(), text, cut)?, "{text} at {cut}");
@@ -204,7 +204,7 @@ fn notes_go_on_behind_each_character(rt: HostRuntime) -> Result<(), AllocError> 
 }
 
 #[test]
-fn nabc_goes_on_behind_each_character(rt: HostRuntime) -> Result<(), AllocError> {
+fn nabc_goes_on_after_each_character(rt: HostRuntime) -> Result<(), AllocError> {
     for text in NABC {
         for cut in 0..text.chars().count() {
             assert!(rt; nabc_goes_on(rt.alloc(), text, cut)?, "{text} at {cut}");

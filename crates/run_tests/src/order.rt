@@ -65,7 +65,7 @@ fn job() -> Job {
 /// with it. In pieces of three bytes that is `%%` with the first, and `(c4)` after an LF before the
 /// one with the error; in one piece it is all but the last syllable.
 #[test]
-fn messages_come_behind_their_output(rt: HostRuntime) -> Result<(), AllocError> {
+fn messages_come_after_their_output(rt: HostRuntime) -> Result<(), AllocError> {
     for (most, before) in [(3, [2, 7].as_slice()), (64, [19].as_slice())] {
         let count = Cell::new(0);
         let mut source = TrialSource::new(b"%%\n(c4) Ky(f)ri(/./)a(g)", most, None);
@@ -112,7 +112,7 @@ impl Read for Threes<'_> {
 
 /// `%%` is written with the first piece, and `(c4)` with the fifth one, whose `)` ends `Ky(f)`.
 #[test]
-fn reads_no_piece_behind_a_sinks_failure(rt: HostRuntime) -> Result<(), AllocError> {
+fn reads_no_piece_after_a_sinks_failure(rt: HostRuntime) -> Result<(), AllocError> {
     for (holds, calls) in [(0, 1), (1, 1), (2, 5), (6, 5)] {
         let mut source = FromReader::new(Threes {
             rest: b"%%\n(c4) Ky(f)ri(g)",

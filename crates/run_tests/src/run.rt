@@ -1,7 +1,7 @@
 //! Runs from failing sources and into failing sinks. Rows of whole runs are the data of the program
 //! `vectors`.
 
-use gabc_places::{Limits, TrialSink, TrialSource};
+use gabc_places::{FromReader, Limits, ToWriter, TrialSink, TrialSource};
 use gregorio::{Format, Input, Job, Name, Output, Status, compile};
 use std::alloc::{AllocError, Global};
 
@@ -59,7 +59,7 @@ fn is_run(
     )
 }
 
-/// Whether a job on standard input writes and answers this, as `is_run` tells it.
+/// Whether a job on standard input writes and answers this, as `is_run` has it.
 fn runs(
     alloc: Global,
     all_warnings: bool,
@@ -93,7 +93,7 @@ fn takes_one_byte_a_write(rt: HostRuntime) -> Result<(), AllocError> {
     Ok(())
 }
 
-/// Whether a job on the file `x.gabc` without warnings writes and answers this, as `is_run` tells
+/// Whether a job on the file `x.gabc` without warnings writes and answers this, as `is_run` has
 /// it.
 fn runs_on_file(
     alloc: Global,
@@ -213,18 +213,36 @@ fn names_keep_their_text(rt: HostRuntime) -> Result<(), AllocError> {
     Ok(())
 }
 
+/// Whether a job over a slice gives its canonical form.
+fn is_compiled(alloc: Global, job: &Job) -> bool {
+    let mut source = FromReader::new(b"%%\nKy(f)ri(g)".as_slice());
+    let mut out = ToWriter::new(Vec::new(alloc));
+    let mut messages = ToWriter::new(Vec::new(alloc));
+    let status = compile(
+        alloc,
+        job,
+        Limits::DEFAULT,
+        &mut source,
+        &mut out,
+        &mut messages,
+    );
+    status == Status::Whole && out.inner().as_slice() == b"%%\nKy(f)ri(g)\n".as_slice()
+}
+
+#[test]
+fn compiles_a_slice(rt: HostRuntime) {
+    let job = Job {
+        format: Format::Gabc,
+        input: Input::Stdin,
+        output: Output::Stdout,
+        messages: None,
+        all_warnings: true,
+    };
+    assert!(rt; is_compiled(rt.alloc(), &job));
+}
+
 #[test]
 fn laws_are_called() {
-    gabc_score::laws::given_syllables_are_within_the_limits();
-    gabc_score::laws::no_limit_is_passed_by_short_units();
-    gabc_score::laws::a_score_warns_as_its_parts_do();
-    gabc_score::laws::a_stage_of_headers_emits_the_events();
-    gabc_score::laws::syllables_are_fewer_than_bytes();
-    gabc_score::stage_laws::texts_are_read_in_full();
-    gabc_score::stage_laws::inputs_that_cease_give_no_stop();
-    gabc_score::stage_laws::nothing_follows_a_stop();
-    gabc_score::stage_laws::the_end_comes_with_the_end();
-    gabc_write::laws::score_again();
     gregorio::laws::canonical_again();
     gregorio::laws::a_run_over_an_output_repeats_it();
     gregorio::laws::a_stopped_run_writes_what_its_prefix_writes();

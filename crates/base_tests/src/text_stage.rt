@@ -1,4 +1,4 @@
-//! Text stages that are set down again from the text that they kept and what they tell.
+//! Text stages that are set down again from the text that they kept and what they report.
 
 use gabc_places::{Char, Place, Room, Stage};
 use gabc_text::{TextEvent, TextStage};
@@ -179,7 +179,7 @@ fn is_given_back_at_each_cut(
     is_given_back(alloc, stage, kept.as_slice(), &[])
 }
 
-/// Returns whether a fresh stage over `text` is given back by what it keeps and tells, wherever
+/// Returns whether a fresh stage over `text` is given back by what it keeps and reports, wherever
 /// `text` is cut.
 fn cuts_change_nothing(alloc: Global, text: &str) -> Result<bool, AllocError> {
     let mut chars = Vec::new(alloc);
@@ -200,7 +200,7 @@ fn a_kept_text_gives_a_stage_back(rt: HostRuntime) -> Result<(), Fail> {
 }
 
 #[test]
-fn a_stage_tells_where_it_stands(rt: HostRuntime) -> Result<(), Fail> {
+fn a_stage_reports_where_it_stands(rt: HostRuntime) -> Result<(), Fail> {
     let mut stage = TextStage::new(Place { line: 1, column: 4 });
     assert!(rt; read(rt.alloc(), &mut stage, '[', &mut Vec::new(rt.alloc()))?);
     assert_eq!(rt; stage.opener(), Some(Place { line: 1, column: 4 }));

@@ -12,7 +12,7 @@ fn plan_of(alloc: Global, texts: &[&str]) -> Result<Result<Plan, Refusal>, Alloc
     Ok(plan(alloc, &words))
 }
 
-/// Returns whether this line tells of a refusal.
+/// Returns whether this line reports a refusal.
 fn is_written(alloc: Global, refusal: Refusal, line: &str) -> Result<bool, AllocError> {
     Ok(format!(in alloc; "{refusal}")?.as_str() == line)
 }
@@ -22,7 +22,7 @@ fn is_refused(alloc: Global, texts: &[&str], refusal: Refusal) -> Result<bool, A
     Ok(plan_of(alloc, texts)?.err() == Some(refusal))
 }
 
-/// Words that are refused, why, and the line that tells it.
+/// Words that are refused, why, and the line that reports it.
 const REFUSED: [(&[&str], Refusal, &str); 10] = [
     (&["-Q"], Refusal::O1, "O1: arguments not understood"),
     (&["-S", "x.gabc"], Refusal::O2, "O2: -F is needed"),

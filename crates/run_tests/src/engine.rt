@@ -207,8 +207,8 @@ fn writes_what_is_known(rt: HostRuntime) {
     }
 }
 
-/// Whether an engine takes so many bytes of a piece, and what waits then is taken, and so on with
-/// the rest of the piece, to its end.
+/// Returns whether an engine takes a piece to its end in calls that take `counts` bytes each, where
+/// what waits after a call is taken.
 fn takes_counts(engine: &mut Engine, piece: &[u8], counts: &[usize]) -> bool {
     let mut rest = piece;
     for count in counts {
@@ -225,7 +225,7 @@ fn takes_counts(engine: &mut Engine, piece: &[u8], counts: &[usize]) -> bool {
     rest.is_empty()
 }
 
-/// Whether a new engine takes so many bytes of a piece at each call.
+/// Returns whether a new engine takes `counts` bytes of a piece, a count a call.
 fn is_fed(alloc: Global, piece: &[u8], counts: &[usize]) -> bool {
     match engine_of(alloc, Format::Gabc) {
         Ok(mut engine) => {

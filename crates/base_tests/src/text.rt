@@ -107,7 +107,7 @@ fn padded(alloc: Global, letters: u32, tail: &[u8]) -> Result<Vec<u8>, AllocErro
     Ok(bytes)
 }
 
-/// Returns whether so many letters and these bytes give a text of so many bytes, with this fault.
+/// Returns whether `letters` letters and `tail` give a text of `kept` bytes, with this fault.
 fn keeps(
     rt: &HostRuntime,
     letters: u32,

@@ -1,9 +1,9 @@
-//! A decoder that is made again from what another one tells.
+//! A decoder that is made again from what another one reports.
 
 use gabc_places::{Decoder, Limits, Place};
 use std::test::Fail;
 
-/// Returns the decoder made from what `decoder` tells.
+/// Returns the decoder made from what `decoder` reports.
 fn made_again(decoder: &Decoder, limits: Limits) -> Option<Decoder> {
     Decoder::resume(
         limits,
@@ -29,7 +29,7 @@ fn goes_on_alike(bytes: &[u8], limits: Limits) -> bool {
 }
 
 #[test]
-fn a_decoder_is_made_again_behind_each_byte(rt: HostRuntime) -> Result<(), Fail> {
+fn a_decoder_is_made_again_after_each_byte(rt: HostRuntime) -> Result<(), Fail> {
     let rows: [&[u8]; 6] = [
         b"a\r\nb\rc\n\r\r\n",
         "\u{FEFF}\u{E9}\u{2013}\u{1D11E}\r\u{FEFF}\n".as_bytes(),
@@ -44,7 +44,7 @@ fn a_decoder_is_made_again_behind_each_byte(rt: HostRuntime) -> Result<(), Fail>
     Ok(())
 }
 
-/// Returns whether a decoder can be made that tells so much of 5 bytes.
+/// Returns whether a decoder can be made that reports this of 5 bytes.
 fn may_be_made(line: u64, column: u64, pending: &[u8], after_cr: bool) -> bool {
     Decoder::resume(
         Limits::DEFAULT,
@@ -57,7 +57,7 @@ fn may_be_made(line: u64, column: u64, pending: &[u8], after_cr: bool) -> bool {
 }
 
 #[test]
-fn what_cannot_be_told_makes_no_decoder(rt: HostRuntime) -> Result<(), Fail> {
+fn what_cannot_be_reported_makes_no_decoder(rt: HostRuntime) -> Result<(), Fail> {
     let part: &[u8] = b"\xE2\x82";
     let made: [(u64, u64, &[u8], bool); 6] = [
         (1, 6, b"", false),
