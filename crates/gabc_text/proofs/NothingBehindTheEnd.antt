@@ -39,12 +39,9 @@ use Rattle.gabc_text.specs.machine.TextStage.{char_event, events_of_token, event
 use Rattle.gabc_text.specs.machine.TextFacts.{facts_after}
 use Rattle.gabc_text.proofs.machine.EventsLeftAreThoseAhead.{rest_by, rest_is}
 use Rattle.gabc_text.proofs.machine.EventsStepByStep.{stepwise}
+use Rattle.gabc_text.proofs.events.EventsByPointAreEvents.{joined_nothing}
 
 -- ---- a stage that is done gives nothing
-
-joined_nothing : (t : List ℕ) → concat_of (no_events_each t) ≡ []
-joined_nothing [] = refl
-joined_nothing (c ∷ t) = joined_nothing t
 
 pub ended_is_silent : (s : TextStage) (t : List ℕ) → s.done ≡ true → concat_of (events_left s t) ≡ []
 ended_is_silent s t e =

@@ -8,7 +8,7 @@ use Rattle.gabc_places.specs.declared.code.Finding.{Finding}
 use Rattle.gabc_places.specs.declared.limits.Limits.{Limits}
 use Rattle.gabc_places.specs.declared.place.Char.{Char}
 use Rattle.gabc_places.specs.declared.place.Place.{Place}
-use Rattle.gabc_text.proofs.printing.NothingIsFoundInPrintedText.{no_head}
+use Rattle.gabc_places.proofs.NothingBehindAnEnd.{both_empty}
 use Rattle.gabc_text.specs.declared.text_event.TextEnd.TheVariants as text_end
 use Rattle.gabc_text.specs.declared.text_event.TextEvent.TheVariants as text
 use Rattle.gabc_text.specs.declared.text_event.TextPart.{TextPart}
@@ -152,7 +152,7 @@ pub record Gathers (limits : Limits) (g : Gathered) (lists : List (List BodyEven
 
 module _ (limits : Limits) (g : Gathered) (now : List BodyEvent) (lists : List (List BodyEvent)) (m : UnplacedSyllable) (a : Gathers limits g (now ∷ lists) m) where
   nothing_in : (found now ≡ []) × (found (concat_of lists) ≡ [])
-  nothing_in = no_head (found now) (found (concat_of lists)) (sym (found_append now (concat_of lists)) ∙ a.nothing)
+  nothing_in = both_empty (found now) (found (concat_of lists)) (sym (found_append now (concat_of lists)) ∙ a.nothing)
 
   nothing_now : findings_now now ≡ []
   nothing_now = found_onto now [] ∙ nothing_in.0

@@ -24,14 +24,14 @@ use Rattle.gabc_text.proofs.machine.TokensOneAfterAnother.{size, after_is, onto}
 use Rattle.gabc_text.proofs.tokens.TokensByCharacter.{drop_past, tokens_first, lacks, lacks_more, before_lacks}
 use Rattle.gabc_text.proofs.printing.PrintedTextEndsBeforeNotes.{size_written}
 use Rattle.gabc_text.proofs.printing.PrintedTagsOpenStyles.{push_append, along_append}
-use Rattle.gabc_text.proofs.printing.LineFeedBeginsWord.{gap, remark, Alike, alike_more, gap_alike, remark_alike, none_alike, gap_begins_word, remark_says_nothing}
+use Rattle.gabc_text.proofs.printing.LineFeedBeginsWord.{gap, remark, Alike, alike_more, alike_onto, gap_alike, remark_alike, none_alike, gap_begins_word, remark_says_nothing}
 use Rattle.gabc_text.proofs.printing.ViewFromFirstToken.{view}
 use Rattle.gabc_text.proofs.printing.ViewForwardIsViewBackward.{facts_is}
 use Rattle.gabc_text.proofs.printing.PrintedTextIsReadAgain.{Sound, view_sound, reverse_push}
 use Rattle.gabc_text.proofs.printing.PrintedTextIsKept.{view_kept, written_append}
 use Rattle.gabc_text.proofs.printing.PrintedViewIsReadAgain.{printed_is}
 use Rattle.gabc_text.proofs.printing.CanonicalTextIsPrinted.{canonical_is}
-use Rattle.gabc_text.proofs.printing.NothingIsFoundInPrintedText.{no_head}
+use Rattle.gabc_places.proofs.NothingBehindAnEnd.{both_empty}
 use Rattle.gabc_text.proofs.printing.RegularTextIsPrinted.{own_form, own_tokens, same_tokens, text_alone}
 
 -- ---- the tokens of a gap
@@ -166,14 +166,10 @@ no_codes p (c ∷ cs) e = absurd (cc)
 none_moved : (at to : Place) (b c ks : List Token) → Alike b c → along (findings_at at) c ks ≡ [] → along (findings_at to) b ks ≡ []
 none_moved at to b c [] h e = refl
 none_moved at to b c (k ∷ ks) h e =
-    let f = no_head (findings_at at c k) (along (findings_at at) (k ∷ c) ks) e in
+    let f = both_empty (findings_at at c k) (along (findings_at at) (k ∷ c) ks) e in
     ap₂ (λ (xs ys : List Finding). xs ++ ys)
     (ap (map (found_at (place_of to b))) (codes_alike b c k.kind (effect k) h ∙ no_codes (place_of at c) (early_codes c k.kind ++ late_codes c k.kind (effect k)) f.0))
     (none_moved at to (k ∷ b) (k ∷ c) ks (alike_more b c k h) f.1)
-
-alike_push : (ks b c : List Token) → Alike b c → Alike (onto ks b) (onto ks c)
-alike_push [] b c h = h
-alike_push (k ∷ ks) b c h = alike_push ks (k ∷ b) (k ∷ c) (alike_more b c k h)
 
 cut_alike : (ks b c : List Token) → is_cut b ≡ is_cut c → is_cut (onto ks b) ≡ is_cut (onto ks c)
 cut_alike [] b c e = e
@@ -212,14 +208,14 @@ pub nothing_behind : (at : Place) (g t rest : List ℕ) → is_gap g ≡ true �
 nothing_behind at g t rest h r =
     let p = gap_of g h in
     let gs = front p.parts in
-    let f = no_head (along (findings_at at) [] (tokens t)) (findings_at_end at (reverse (tokens t))) (r.nothing at) in
+    let f = both_empty (along (findings_at at) [] (tokens t)) (findings_at_end at (reverse (tokens t))) (r.nothing at) in
     let alike = front_alike p.parts [] none_alike in
     let last : findings_at_end at (onto (tokens t) []) ≡ [] = ap (findings_at_end at) (sym (reversed (tokens t))) ∙ f.1 in
     ap (λ (ls : List Token). along (findings_at at) [] ls ++ findings_at_end at (reverse ls)) (all_tokens g t rest p r)
     ∙ ap₂ (λ (xs ys : List Finding). xs ++ ys)
     (along_append (findings_at at) [] (gs) (tokens t) ∙ ap₂ (λ (xs ys : List Finding). xs ++ ys) (none_in_front at p.parts []) (none_moved at at (onto (gs) []) [] (tokens t) alike f.0))
     (ap (findings_at_end at) (reversed (gs ++ tokens t) ∙ push_append (gs) (tokens t) [])
-    ∙ end_moved at at (onto (tokens t) (onto (gs) [])) (onto (tokens t) []) (alike_push (tokens t) (onto (gs) []) [] alike) (cut_alike (tokens t) (onto (gs) []) [] (front_whole p.parts [] refl)) last)
+    ∙ end_moved at at (onto (tokens t) (onto (gs) [])) (onto (tokens t) []) (alike_onto (tokens t) (onto (gs) []) [] alike) (cut_alike (tokens t) (onto (gs) []) [] (front_whole p.parts [] refl)) last)
 
 -- ---- what is kept
 

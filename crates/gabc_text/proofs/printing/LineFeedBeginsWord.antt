@@ -73,7 +73,7 @@ alike_more b c k h = record {
     by (Some q) e = refl
     by None e = ap (λ (x : Bool). is_space k.kind || x) (h.blank e)
 
-alike_onto : (ks b c : List Token) → Alike b c → Alike (onto ks b) (onto ks c)
+pub alike_onto : (ks b c : List Token) → Alike b c → Alike (onto ks b) (onto ks c)
 alike_onto [] b c h = h
 alike_onto (k ∷ ks) b c h = alike_onto ks (k ∷ b) (k ∷ c) (alike_more b c k h)
 

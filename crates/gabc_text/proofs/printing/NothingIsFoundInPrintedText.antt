@@ -29,6 +29,7 @@ use Rattle.gabc_text.proofs.printing.PrintedTagsOpenStyles.{push_append, along_a
 use Rattle.gabc_text.proofs.printing.PrintedPiecesAreReadAgain.{AllSilent, between_silent, are_braces}
 use Rattle.gabc_text.proofs.machine.TokensOneAfterAnother.{onto}
 use Rattle.gabc_text.specs.machine.PrintedPieces.{AllGood, Good, Says}
+use Rattle.gabc_places.proofs.NothingBehindAnEnd.{both_empty}
 
 -- ---- styles, none of which stands twice
 
@@ -310,10 +311,6 @@ brace_fine before k h e = by k.kind (effect k) h e
     by kind.OpenTag so g f = f
     by kind.OpenTranslation so g f = f
 
-pub no_head : {X : Type 0} (xs ys : List X) → xs ++ ys ≡ [] → (xs ≡ []) × (ys ≡ [])
-no_head [] ys e = (refl, e)
-no_head (x ∷ xs) ys e = absurd (cc)
-
 pub none_along : (at : Place) (before ks : List Token) → length (along kept_at before ks) ≡ length (text_of_tokens ks) → NoneAside before ks → along (findings_at at) before ks ≡ []
 none_along at before [] h e = refl
 none_along at before (k ∷ ks) h e =
@@ -321,7 +318,7 @@ none_along at before (k ∷ ks) h e =
     let others = all_short (k ∷ before) ks in
     let x = length-append (kept_at before k) (along kept_at (k ∷ before) ks) in
     let y = length-append (spelling k) (text_of_tokens ks) in
-    let f = no_head (codes_aside before k) (along codes_aside (k ∷ before) ks) e in
+    let f = both_empty (codes_aside before k) (along codes_aside (k ∷ before) ks) e in
     ap₂ (λ (a b : List Finding). a ++ b)
     (ap (map (found_at (place_of at before))) (brace_fine before k (omega (arith, one, others, x, y, h)) f.0))
     (none_along at (k ∷ before) ks (omega (arith, one, others, x, y, h)) f.1)

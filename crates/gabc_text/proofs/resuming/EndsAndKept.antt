@@ -48,7 +48,7 @@ ends_said (out.Part p ∷ es) = ends_said es
 ends_said (out.Found f ∷ es) = ends_said es
 ends_said (out.Ended h ∷ es) = refl
 
-no_kept : (ps : List TextPart) → kept_in (map (λ (x : TextPart). out.Part x) ps) ≡ []
+pub no_kept : (ps : List TextPart) → kept_in (map (λ (x : TextPart). out.Part x) ps) ≡ []
 no_kept = none_kept (λ x. out.Part x) (λ x. refl)
 
 pub no_ends : (ps : List TextPart) → end_text (map (λ (x : TextPart). out.Part x) ps) ≡ false
@@ -91,12 +91,12 @@ read_goes t c =
     ∙ list_any-append is_end (said_of_char (keep t.facts t.state c)) (said_of_step (stage_past_char t c) (next_step t.state c) t.progress.kept)
     ∙ rw (char_goes (keep t.facts t.state c), step_goes (stage_past_char t c) (next_step t.state c) t.progress.kept) refl
 
-settling_kept : (s : TextStage) (o : Option TokenKind) → kept_in (events_of_settling_by s o) ≡ []
+pub settling_kept : (s : TextStage) (o : Option TokenKind) → kept_in (events_of_settling_by s o) ≡ []
 settling_kept s None = refl
 settling_kept s (Some k) =
     sym (kept_said (events_of_settling_by s (Some k))) ∙ ap kept_in (token_said s.facts s.progress k tag.Other s.progress.start) ∙ no_kept (parts_by s.facts s.progress k s.progress.start s.progress.kept (piece_kind k tag.Other))
 
-no_found_kept : (p : Place) (cs : List Code) → kept_in (findings_there p cs) ≡ []
+pub no_found_kept : (p : Place) (cs : List Code) → kept_in (findings_there p cs) ≡ []
 no_found_kept p [] = refl
 no_found_kept p (c ∷ cs) = no_found_kept p cs
 

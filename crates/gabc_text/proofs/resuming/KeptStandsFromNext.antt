@@ -34,21 +34,16 @@ use Rattle.gabc_text.specs.witness.EventsLeft.{codes_by, codes_last, end_events_
 use Rattle.gabc_text.proofs.events.EventsBuildText.{kept_more, none_kept}
 use Rattle.gabc_text.proofs.machine.EventsLeftAreThoseAhead.{rest_is}
 use Rattle.gabc_text.proofs.machine.EventsStepByStep.{stepwise}
+use Rattle.gabc_text.proofs.resuming.EndsAndKept.{no_found_kept, no_kept, settling_kept}
 use Rattle.gabc_text.proofs.resuming.WhatStagesTell.{next_goes}
 
 -- ---- events that keep nothing
-
-parts_none : (ps : List TextPart) → kept_in (map (λ (p : TextPart). out.Part p) ps) ≡ []
-parts_none = none_kept (λ p. out.Part p) (λ p. refl)
-
-found_none : (p : Place) (codes : List Code) → kept_in (findings_there p codes) ≡ []
-found_none p = none_kept (λ (c : Code). out.Found (record { place = p; code = c })) (λ c. refl)
 
 whole_kept : (facts : TextFacts) (p : Progress) (k : TokenKind) (so : TagEffect) (last to : ℕ) → kept_in (whole_events_by facts p k so last to) ≡ []
 whole_kept facts p k so last to =
     let parts : List TextPart = parts_by facts p k last to (piece_kind k so) in
     kept_more (map (λ (x : TextPart). out.Part x) parts) (findings_there p.place (codes_by facts k so))
-    ∙ rw (parts_none parts) (found_none p.place (codes_by facts k so))
+    ∙ rw (no_kept parts) (no_found_kept p.place (codes_by facts k so))
 
 centre_none : (o : Option Span) (how : TextEnd) → kept_in (map (λ (c : Span). out.Part (part.Centre c)) (option_list_of o) ++ out.Ended how ∷ []) ≡ []
 centre_none None how = refl
@@ -57,15 +52,11 @@ centre_none (Some c) how = refl
 end_kept : (facts : TextFacts) (p : Progress) (cut : Bool) (how : TextEnd) → kept_in (end_events_by facts p cut how) ≡ []
 end_kept facts p cut how =
     kept_more (findings_there p.next (cond cut [] (codes_last facts))) _
-    ∙ rw (found_none p.next (cond cut [] (codes_last facts))) (centre_none (centre_by (count_by p.pieces p.blank) p.begin p.end) how)
+    ∙ rw (no_found_kept p.next (cond cut [] (codes_last facts))) (centre_none (centre_by (count_by p.pieces p.blank) p.begin p.end) how)
 
 step_kept : (s : TextStage) (step : Step) (last : ℕ) → kept_in (events_of_step s step last) ≡ []
 step_kept s (Stays state) last = refl
 step_kept s (Ends k so) last = whole_kept s.facts s.progress k so last s.progress.kept
-
-settling_kept : (s : TextStage) (o : Option TokenKind) → kept_in (events_of_settling_by s o) ≡ []
-settling_kept s None = refl
-settling_kept s (Some k) = whole_kept s.facts s.progress k tag.Other s.progress.start s.progress.kept
 
 finish_kept : (s : TextStage) → kept_in (events_of_finish s) ≡ []
 finish_kept s = by s.done (kind_at_end s.state)
@@ -108,7 +99,7 @@ char_stands p (Some c) es e = All-cons (λ (x : Char). x.place ≡ p) (record { 
 read_stands : (s : TextStage) (c : ℕ) → StandAt (next_of s) (events_of_reading s c)
 read_stands s c =
     stand_behind (next_of s) (findings_there s.progress.place (option_list_of (early_at s.facts s.state c))) _
-    (found_none s.progress.place (option_list_of (early_at s.facts s.state c)))
+    (no_found_kept s.progress.place (option_list_of (early_at s.facts s.state c)))
     (char_stands (next_of s) (keep s.facts s.state c)
     (events_of_step (stage_past_char s c) (next_step s.state c) s.progress.kept) (step_kept (stage_past_char s c) (next_step s.state c) s.progress.kept))
 

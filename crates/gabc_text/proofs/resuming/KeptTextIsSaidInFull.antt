@@ -27,6 +27,7 @@ use Rattle.gabc_text.proofs.machine.TokensOneAfterAnother.{rest_done}
 use Rattle.gabc_text.proofs.resuming.EndsAndKept.{kept_said, ends_said, no_ends, done_is, kept_is, none_kept_at_end, notes_at_end}
 use Rattle.gabc_text.proofs.resuming.PlacesAside.{said_append}
 use Rattle.gabc_text.proofs.resuming.ReachedStages.{goes_on}
+use Rattle.gabc_text.proofs.resuming.StagesKeep.{ends_are, last_is, said_is}
 
 -- ---- the events of a text up to its `(`
 
@@ -54,18 +55,6 @@ pushes_keep s (c ∷ k) e =
     ∙ ap (λ (t : List ℕ). option_to_list (kept_at s c) ++ t) (pushes_keep (push_stage s c) k e)
 
 -- ---- what is said
-
-said_is : (k : List ℕ) → said_of k ≡ said (events_of_pushes (fresh_stage nowhere) k)
-unfolding said_of
-said_is k = refl
-
-last_is : (k : List ℕ) → said_at_end k ≡ said (events_of_push (stage_behind k) 40)
-unfolding said_at_end
-last_is k = refl
-
-ends_are : (k : List ℕ) → ends_behind k ≡ (push_stage (stage_behind k) 40).done
-unfolding ends_behind
-ends_are k = refl
 
 silent_by : (es : List TextEvent) → end_text es ≡ false → ends_in es ≡ []
 silent_by [] e = refl

@@ -67,7 +67,7 @@ some_same a b e = cc
 
 -- ---- what follows from a kept text
 
-said_is : (k : List ℕ) → said_of k ≡ said (events_of_pushes (fresh_stage nowhere) k)
+pub said_is : (k : List ℕ) → said_of k ≡ said (events_of_pushes (fresh_stage nowhere) k)
 unfolding said_of
 said_is k = refl
 
@@ -83,11 +83,11 @@ pub kept_with_is : (k : List ℕ) (c : ℕ) → kept_with k c ≡ kept_in (event
 unfolding kept_with
 kept_with_is k c = refl
 
-ends_are : (k : List ℕ) → ends_behind k ≡ (push_stage (stage_behind k) 40).done
+pub ends_are : (k : List ℕ) → ends_behind k ≡ (push_stage (stage_behind k) 40).done
 unfolding ends_behind
 ends_are k = refl
 
-last_is : (k : List ℕ) → said_at_end k ≡ said (events_of_push (stage_behind k) 40)
+pub last_is : (k : List ℕ) → said_at_end k ≡ said (events_of_push (stage_behind k) 40)
 unfolding said_at_end
 last_is k = refl
 
