@@ -1,6 +1,6 @@
 //! Tests of `gabc_places`, `gabc_patterns`, `gabc_headers`, `gabc_text` and `gregorio_state`
 //! through their public surface: values from outside; stages, sources and sinks as other crates
-//! make them; a stage that is set down again; saved states from their bytes.
+//! make them; a stage that is restored; saved states from their bytes.
 //!
 //! They stand in a crate of their own, since a crate with tests is proved twice.
 #![tactic(auto)]

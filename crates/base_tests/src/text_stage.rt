@@ -1,4 +1,4 @@
-//! Text stages that are set down again from the text that they kept and what they report.
+//! Text stages that are restored from the text that they kept and what they report.
 
 use gabc_places::{Char, Place, Room, Stage};
 use gabc_text::{TextEvent, TextStage};
@@ -121,7 +121,7 @@ fn agree_on(
     Ok(first.slice() == second.slice())
 }
 
-/// Returns whether `stage`, set down again after `kept`, emits the same with `rest` and then at the
+/// Returns whether `stage`, restored after `kept`, emits the same with `rest` and then at the
 /// end.
 fn is_given_back(
     alloc: Global,
@@ -160,7 +160,7 @@ fn read(
     Ok(goes_on)
 }
 
-/// Returns whether `stage`, set down again before each character of `text` up to its end, goes on
+/// Returns whether `stage`, restored before each character of `text` up to its end, goes on
 /// as it does uncut.
 fn is_given_back_at_each_cut(
     alloc: Global,

@@ -109,7 +109,7 @@ impl HeaderBook {
         self.iter().is_macro(digit)
     }
 
-    /// Returns the macros that are defined: the bit `d` tells it of the macro of the digit `d`
+    /// Returns the macros that are defined: the bit `d` says so of the macro of the digit `d`
     /// (GregorioRef, "Macros").
     pub fn macros(&self) -> u16
         ensures { result ≡ macros_of self.now }

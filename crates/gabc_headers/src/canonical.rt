@@ -81,7 +81,7 @@ pub(crate) fn put_header<S: Put>(name: &str, value: &str, out: &mut S)
 }
 
 /// Puts the canonical header lines of `headers` and `%%`, as many bytes as
-/// `HeaderBook::canonical_len` tells. A room without that many bytes left gets as many of them as
+/// `HeaderBook::canonical_len` returns. A room without that many bytes left gets as many of them as
 /// fit.
 pub fn canon_header<S: Put>(headers: Headers<'_>, out: &mut S)
     ensures { out.new ≡ S.taken out.old (encode_utf8_all (canonical_heads headers.entry)) }

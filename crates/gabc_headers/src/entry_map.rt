@@ -26,7 +26,7 @@ pub(crate) enum Key {
 }
 
 impl Key {
-    /// Returns the key of a header of this `name`, before which there are so many.
+    /// Returns the key of a header of this `name`, after `before` headers.
     fn of(name: &str, before: usize) -> Key
         requires { length name.now ≤ 64 }
         ensures { IsKeyOf name.now before result }

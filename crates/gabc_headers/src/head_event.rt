@@ -13,7 +13,7 @@ pub enum HeadEvent {
     Heads {
         /// The number of lines of NABC under each snippet of notes, 0 to 4.
         nabc_lines: u8,
-        /// The bit `d` tells that the macro of the digit `d` is defined.
+        /// The bit `d` says that the macro of the digit `d` is defined.
         macros: u16,
         /// The number of bytes of the canonical header lines and `%%`.
         canonical: u32,

@@ -15,8 +15,8 @@ pub(crate) enum HeaderStep {
     Ended(HeaderEnding),
 }
 
-/// The machine. It has read so many characters (`point`) and bytes, and stands at this place. A `%`
-/// that begins a line is held back, until the next character tells whether that is the line `%%`.
+/// The machine. It has read `point` characters, and stands at this place. A `%`
+/// that begins a line is held back, until the next character shows whether that is the line `%%`.
 #[derive(Clone, Copy)]
 pub(crate) struct HeaderMachine {
     pub parts: PartMachine,

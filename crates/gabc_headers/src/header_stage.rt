@@ -95,7 +95,7 @@ fn emit_finding(found: Option<Finding>, out: &mut Room<HeadEvent>)
     }
 }
 
-/// Emits the headers at the line `%%`, whose canonical lines have so many bytes.
+/// Emits the headers at the line `%%`, whose canonical lines have `size` bytes.
 fn emit_heads(book: &Headers<'_>, place: Place, size: usize, out: &mut Room<HeadEvent>)
     requires size { size ≡ bytes_len (header_lines book.now) }
     requires small { size < 2 ^ 31 }

@@ -120,7 +120,7 @@ impl<'a> Headers<'a> {
         digit < 10 && self.get(macro_header(digit)).is_some()
     }
 
-    /// Returns the macros that are defined: the bit `d` tells it of the macro of the digit `d`
+    /// Returns the macros that are defined: the bit `d` says so of the macro of the digit `d`
     /// (GregorioRef, "Macros").
     pub fn macros(&self) -> u16
         ensures { result ≡ macros_of self.now }

@@ -41,13 +41,13 @@ pub fn groups_are_unique()
 {}
 
 /// Law: the parts of lines, the first of which has the number k and begins at point n, are what
-/// their groups tell: of each header its name and its value, and what is left out.
+/// their groups say: of each header its name and its value, and what is left out.
 pub fn groups_tell_parts()
     ensures { (lines : List (List ℕ)) (groups : List Group) (k n : ℕ) → AreGroups lines groups →
         parts outside k n lines ≡ parts_of_groups k n groups }
 {}
 
-/// Law: the headers of a text are what the groups of its lines tell, and nothing else is.
+/// Law: the headers of a text are what the groups of its lines say, and nothing else is.
 pub fn heads_are_of_groups()
     ensures are { (limits : Limits) (t : List ℕ) → AreHeads limits t (heads_of limits t) }
     ensures one { (limits : Limits) (t : List ℕ) (read : Result Heads HeadFault) →

@@ -138,7 +138,7 @@ pub fn a_held_text_grows()
 {}
 
 /// Law: the text that a stage holds is within the limit of the headers, or one `%` that begins a
-/// line is above it: the next character tells whether that belongs to the line `%%`.
+/// line is above it: the next character shows whether that belongs to the line `%%`.
 pub fn a_held_text_is_within_its_limit()
     ensures { (limits : Limits) (t : List ℕ) → 1 ≤ limits.header → IsHeld limits t →
         IsWithinHeaders limits.header (encode_utf8_all t) }

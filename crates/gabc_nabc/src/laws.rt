@@ -179,8 +179,8 @@ pub fn kept_again()
         IsSnippet nabc (kept_before prefix (mark ∷ rest)) }
 {}
 
-/// Law: two stages after one kept text emit the same of whatever follows, if both tell the same of
-/// whether a comment is open.
+/// Law: two stages after one kept text emit the same of whatever follows, if both report the same
+/// of whether a comment is open.
 pub fn stages_behind_one_text_agree()
     ensures { (one other : NabcStage) (k : List ℕ) → Keeps one k → Keeps other k →
         comment_of one ≡ comment_of other →

@@ -9,11 +9,11 @@
 //!
 //! - `nabc_whole` reads the snippet with which a text begins: its kept text, its findings and its
 //!   end. `kept_chars` gives the characters of that kept text with their places in the source.
-//! - `is_nabc` tells whether a text is an NABC snippet. `parts_in` goes over its descriptors and
+//! - `is_nabc` says whether a text is an NABC snippet. `parts_in` goes over its descriptors and
 //!   spaces, and `codes_in` over the codes of one of them; `descriptors_whole`, `descriptors_into`
 //!   and `codes_into` gather them. Spans count its bytes. `name_of` names a code. `regular_nabc`
 //!   says how far a text is an NABC snippet in which nothing is left out or found.
-//! - `NabcStage` reads the characters of a snippet one at a time. `NabcStage::in_comment` tells
+//! - `NabcStage` reads the characters of a snippet one at a time. `NabcStage::in_comment` says
 //!   what matters of a stage beside the text that it kept (`specs/witness/Keeps.antt`).
 //! - `laws` has what follows of the definitions.
 //!

@@ -196,7 +196,7 @@ impl NabcStage {
         }
     }
 
-    /// Adds a character to the kept text. With it that stands at `next`, and `whole` tells that it
+    /// Adds a character to the kept text. With it that stands at `next`, and `whole` says that it
     /// is an NABC snippet then.
     fn keep(&mut self, next: DescriptorState, whole: bool, c: char)
         ensures { self.new ≡ stage_kept self.old next whole c }

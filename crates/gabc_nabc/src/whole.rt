@@ -102,7 +102,7 @@ impl NabcBuilder {
         self.kept.truncate(len);
     }
 
-    /// Returns what was read of a snippet that ends as `how` tells.
+    /// Returns what was read of a snippet that ends as `how` says.
     fn into_read(self, how: SnippetEnding) -> SnippetRead
         ensures kept { string_bytes result.kept ≡ string_bytes self.kept }
         ensures findings { result.findings ≡ self.findings }

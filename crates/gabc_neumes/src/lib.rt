@@ -6,8 +6,8 @@
 //!   among them.
 //! - `segments` adds the segments: as many notes, attributes and fusion marks in a row as there
 //!   are. Each lies in one element. `notes_into` adds the notes among the items of one.
-//!   `is_in_element` and `is_in_segment` tell it of one item.
-//! - `kind_of` tells which neume some notes are, if they are one. The neumes are the rows of one
+//!   `is_in_element` and `is_in_segment` say so of one item.
+//! - `kind_of` says which neume some notes are, if they are one. The neumes are the rows of one
 //!   table (`specs/Table.antt`), which reads like the printed one. `cut` adds the glyphs of a
 //!   segment: each is the longest neume that begins where the one before it ends. `glyph_from`
 //!   finds the one that begins with a note, and reads the items after that note only as far as it
@@ -15,7 +15,7 @@
 //! - A `GlyphKind` is printed as its word, such as `pes-subpunctis-resupinus`: those of its base
 //!   and its tail (`word_of_base`, `word_of_tail`). `word_of_shape` is the word of one note's
 //!   shape.
-//! - `Alterations` follows a score, whose words and items it passes one by one. It tells the clef
+//! - `Alterations` follows a score, whose words and items it passes one by one. It reports the clef
 //!   in force, and how a note sounds: its degree, as `degree` gives it, and what alters it. What is
 //!   in force is defined by what comes first on the way back from the note (`specs/InForce.antt`).
 //!   `sign_of` reads an alteration; an `Alter` is printed as its word (`word_of_alter`).

@@ -133,7 +133,7 @@ impl<'a> Iterator for ItemReader<'a> {
 
 /// Returns an iterator over the items of `kept`, in order: spans that count its bytes, each item
 /// the longest that begins where the one before it ends. They make up all of a snippet, as
-/// `is_snippet` tells it; what `snippet_whole` keeps is one wherever the snippet ended. Of another
+/// `is_snippet` says so; what `snippet_whole` keeps is one wherever the snippet ended. Of another
 /// text they go as far as an item begins. It asks for no memory, and each item is read when it is
 /// asked for.
 pub fn items_in(kept: &str) -> ItemReader<'_>

@@ -203,7 +203,7 @@ pub fn stages_that_tell_the_same_agree(one: &NoteStage, other: &NoteStage)
     ensures { (xs : List Char) → events_left one.now xs ≡ events_left other.now xs }
 {}
 
-/// Law: two stages after one kept text that tell the same emit the same of whatever follows: the
+/// Law: two stages after one kept text that report the same emit the same of whatever follows: the
 /// place of the bracket that is open, and whether a comment is open.
 pub fn stages_behind_one_text_agree()
     ensures { (split : Bool) (macros : ℕ) (one other : NoteStage) (k : List ℕ) →
@@ -212,7 +212,7 @@ pub fn stages_behind_one_text_agree()
         (xs : List Char) → events_left one xs ≡ events_left other xs }
 {}
 
-/// Law: a stage that keeps a text tells an opener exactly if that text lies inside raw, and there
+/// Law: a stage that keeps a text reports an opener exactly if that text lies inside raw, and there
 /// no comment is open.
 pub fn an_opener_is_told_inside_raw()
     ensures opener { (split : Bool) (macros : ℕ) (s : NoteStage) (k : List ℕ) →

@@ -8,15 +8,15 @@
 //!
 //! - `snippet_whole` reads the snippet with which a text begins: its kept text, its findings and
 //!   its end. `kept_chars` gives the characters of that kept text with their places in the source.
-//! - `is_snippet` tells whether a text is a snippet. `items_in` goes over the items of a kept text
+//! - `is_snippet` says whether a text is a snippet. `items_in` goes over the items of a kept text
 //!   as far as an item begins, of a snippet to its end; `items_whole` and `items_into` gather them.
 //!   `regular_notes` says how far a text is a snippet in which nothing is left out or found.
-//!   `note_of` reads an item. `first_note_or_clef` tells which of the two comes first. Spans count
+//!   `note_of` reads an item. `first_note_or_clef` says which of the two comes first. Spans count
 //!   bytes of the kept text.
 //! - `NoteStage` reads the characters of a snippet one at a time: it emits those that are kept, the
 //!   findings, and the end. What it emits is `note_events` of `specs/Events.antt`, a definition
 //!   without states: what is emitted of a character depends on it and on the characters before it.
-//!   `NoteStage::opener` and `NoteStage::in_comment` tell what matters of a stage beside the text
+//!   `NoteStage::opener` and `NoteStage::in_comment` report what matters of a stage beside the text
 //!   that it kept (`specs/witness/Keeps.antt`).
 //! - `laws` has what follows of the definitions.
 //!

@@ -205,7 +205,7 @@ fn found(x: Char, code: Code) -> NoteEvent
     })
 }
 
-/// Emits the end of the snippet: an unfinished end and an open `@[` are found there. `whole` tells
+/// Emits the end of the snippet: an unfinished end and an open `@[` are found there. `whole` says
 /// that the kept text is a snippet.
 fn emit_end(before: Before, whole: bool, x: Char, out: &mut Room<NoteEvent>)
     requires { Fits out.old 3 }
@@ -275,7 +275,7 @@ pub struct NoteStage {
 
 impl NoteStage {
     /// Returns a stage before the first character of a snippet. With `split` a `|` ends the snippet
-    /// too. The bit `d` of `macros`, from 0 to 9, tells that the macro of the digit `d` is defined.
+    /// too. The bit `d` of `macros`, from 0 to 9, says that the macro of the digit `d` is defined.
     pub fn new(split: bool, macros: u16) -> NoteStage
         ensures events { (xs : List Char) →
             AreNoteEvents split macros xs (events_left result xs) }

@@ -84,7 +84,7 @@ impl SnippetBuilder {
         self.add_all(room.slice())
     }
 
-    /// Returns what was read of a snippet that ends as `how` tells, with `bytes` bytes of the kept
+    /// Returns what was read of a snippet that ends as `how` says, with `bytes` bytes of the kept
     /// text.
     fn into_read(self, how: SnippetEnding, bytes: usize) -> SnippetRead
         requires { IsSplitPoint (string_bytes self.kept) bytes }
@@ -110,7 +110,7 @@ impl SnippetBuilder {
 /// `body` (GregorioRef, "Notation — Note Syntax"). Each number of `at` and the bytes of `body`
 /// together have to be below 2^64. The first character of `body` stands at `at`, a line and a
 /// column from 1, as `gabc_places` counts them in a `Text`. With `split` a `|` ends the snippet
-/// too. The bit `d` of `macros`, from 0 to 9, tells that the macro of the digit `d` is defined. It
+/// too. The bit `d` of `macros`, from 0 to 9, says that the macro of the digit `d` is defined. It
 /// fails only for want of memory.
 pub fn snippet_whole(
     alloc: Global,

@@ -11,7 +11,7 @@ ghost use Rattle.gabc_patterns.specs.Kept.{Keeps, Trims, IsKeptText};
 ghost use Rattle.gabc_patterns.specs.Derivative.{may_end, derivative, is_snippet, is_viable};
 ghost use Rattle.gabc_patterns.specs.Function.{items, keep, more_kept, trim, kept_text};
 
-/// Law: the derivative of a pattern spells what may follow a character, and a test tells whether it
+/// Law: the derivative of a pattern spells what may follow a character, and a test shows whether it
 /// spells the empty text.
 pub fn derivative_spells_what_follows()
     ensures to { (p : Pattern) (c : ℕ) (t : List ℕ) → Spells p (c ∷ t) → Spells (derivative c p) t }

@@ -16,7 +16,7 @@
 //! - lemmas for the crates above, in `proofs/`. A crate describes its automaton by a record of its
 //!   functions and an example text of each state (`AutomatonsByTests`); two tests of each state,
 //!   closed by `refl`, show that it reads the table (`TestedAutomatonReads`). Then the state after
-//!   a text tells whether the text is viable and whole (`StatesAfterTexts`), and what follows at a
+//!   a text shows whether the text is viable and whole (`StatesAfterTexts`), and what follows at a
 //!   state is what follows after its example (`StatesFollowExamples`). A loop over characters finds
 //!   the longest item at a place (`ItemSoFar`, `ItemHere`, by bytes `FirstItemByBytes`) and lists
 //!   the items (`ItemList`). For lists that are read by letters of their elements, as notes are,

@@ -6,7 +6,7 @@ use crate::codes::CODES;
 use crate::place::Place;
 use crate::severity::Severity;
 
-/// What is found in an input, or what stops a run. An error tells of a character, a part or a
+/// What is found in an input, or what stops a run. An error reports a character, a part or a
 /// header left out, a warning of something else. A fatal fault stops the run.
 #[derive(Clone, Copy, Debug, PartialEq, Eq)]
 pub enum Code {

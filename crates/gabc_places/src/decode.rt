@@ -12,7 +12,7 @@ use crate::text::Text;
 use memchr::memchr;
 use std::alloc::{AllocError, Global};
 
-/// Returns the text of an input's `bytes`, and its fault. `ended` tells that the source ended and
+/// Returns the text of an input's `bytes`, and its fault. `ended` says that the source ended and
 /// did not fail.
 ///
 /// The text is the longest prefix of the bytes that is UTF-8, without U+FEFF, with CR LF and CR as

@@ -78,7 +78,7 @@ fn read_as(c: char) -> char
     if c == '\r' { '\n' } else { c }
 }
 
-/// Returns whether the next character can stand at `place` after so many bytes, of which the last
+/// Returns whether the next character can stand at `place` after `taken` bytes, of which the last
 /// `pending` are a part of it.
 fn is_reached(place: Place, pending: usize, taken: u32) -> bool
     requires { pending < 2 ^ 32 }
@@ -99,7 +99,7 @@ fn begins_line(place: Place) -> bool
     place.column == 1 && 2 <= place.line
 }
 
-/// Returns whether a decoder under `limit` may tell this of where it stands.
+/// Returns whether a decoder under `limit` may report this of where it stands.
 fn may_be_told(limit: u32, taken: u32, place: Place, pending: &[u8], after_cr: bool) -> bool
     ensures { IsTrue result ↔ MayBeTold limit taken place pending.now after_cr }
 {
@@ -132,9 +132,9 @@ impl Decoder {
     }
 
     /// Returns a decoder that has taken `taken` bytes under `limits`. The next character stands at
-    /// `place`, `pending` are the bytes of it that have come, and `after_cr` tells whether a CR
+    /// `place`, `pending` are the bytes of it that have come, and `after_cr` says whether a CR
     /// stands directly before the next byte. Returns `None` where that cannot be: more bytes than
-    /// the limit, a place that so many bytes do not reach, bytes that are not the beginning of one
+    /// the limit, a place that these bytes do not reach, bytes that are not the beginning of one
     /// character, a CR with bytes pending or not at the end of a line.
     pub fn resume(
         limits: Limits,
@@ -241,7 +241,7 @@ impl Decoder {
 
     /// Returns how many bytes `skip_text` may take now: as many as are left to the limit, or 0
     /// where the decoder has stopped or a character is not whole. A column that is counted on for
-    /// so many characters fits a `u64`.
+    /// as many characters fits a `u64`.
     pub fn most_skipped(&self) -> usize
         ensures most { result ≡ most_skipped_by self.now }
         ensures column { self.now.place.column + result < 2 ^ 64 }

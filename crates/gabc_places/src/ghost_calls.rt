@@ -48,7 +48,7 @@ impl GhostCalls {
         }
     }
 
-    /// Adds a call that was answered; `is_end` says whether it told the end.
+    /// Adds a call that was answered; `is_end` says whether it was the end.
     pub fn add_answer(&mut self, is_end: bool)
         ensures { self.new ≡ behind_answer is_end self.old }
     {

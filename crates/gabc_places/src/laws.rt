@@ -66,7 +66,7 @@ pub fn first_place()
     ensures { Place.START ≡ place_after [] }
 {}
 
-/// Law: each character stands at the place that the text before it tells.
+/// Law: each character stands at the place that follows from the text before it.
 pub fn characters_stand_behind_the_text_before()
     ensures len { (text : List ℕ) → length (placed_characters text) ≡ length text }
     ensures at { (text : List ℕ) (i : ℕ) → i < length text →
@@ -126,15 +126,15 @@ pub fn a_decoder_emits_what_is_known(
     push_all(&mut decoder, bytes, out);
 }
 
-/// Law: two decoders that run, under one limit, and tell the same emit the same of whatever
-/// follows. The bytes that they tell of a character that is not whole are a part of one.
+/// Law: two decoders that run, under one limit, and report the same emit the same of whatever
+/// follows. The bytes that they report of a character that is not whole are a part of one.
 pub fn decoders_that_tell_the_same_agree()
     ensures { (one other : DecoderState) → one.running ≡ true → other.running ≡ true →
         one.limit ≡ other.limit → IsPartial one.pending → TellTheSame one other →
         (bytes : List ℕ) → events_left one bytes ≡ events_left other bytes }
 {}
 
-/// Law: what a decoder tells may be told: a decoder can be made from it.
+/// Law: what a decoder reports may be reported: a decoder can be made from it.
 pub fn what_a_decoder_tells_may_be_told(decoder: &Decoder)
     ensures { MayBeTold decoder.now.limit decoder.now.taken decoder.now.place
         decoder.now.pending (is_after_cr decoder.now) }

@@ -1,5 +1,5 @@
 //! What takes bytes: a room, or a count of them. A writer that is generic over it writes a text,
-//! and tells how long the text is.
+//! and returns how long the text is.
 
 ghost use Rattle.std.specs.Prelude.{◌≡◌, [], ◌++◌, ℕ, List};
 ghost use Rattle.gabc_places.specs.Put.{filled_with, counted_with};

@@ -3,9 +3,9 @@
 /// How grave a code is.
 #[derive(Clone, Copy, Debug, PartialEq, Eq)]
 pub enum Severity {
-    /// It tells of anything else that an editor may want to look at.
+    /// It reports anything else that an editor may want to look at.
     Warning,
-    /// It tells of a character, a part or a header left out.
+    /// It reports a character, a part or a header left out.
     Error,
     /// It stops the run.
     Fatal,

@@ -1,5 +1,5 @@
-//! A source and a sink for trials: they give and take as much as they are told, and fail where they
-//! are told.
+//! A source and a sink for trials: they give and take as much as they are asked to, and fail
+//! where they are asked to.
 
 ghost use Rattle.std.specs.Prelude.{◌≡◌, ◌<◌, ◌↔◌, [], length, IfOk, IsErr, OnErr, Some};
 ghost use Rattle.std.specs.Io.{ReadsAtMost, WritesAtMost};
@@ -16,8 +16,8 @@ use crate::source::{Source, SourceFault};
 use std::alloc::{AllocError, Global};
 use std::marker::Model;
 
-/// A source that gives bytes, at most so many a read. After a number of bytes all its reads fail,
-/// if it is told to.
+/// A source that gives bytes, at most `n` a read. After a number of bytes all its reads fail, if
+/// that was asked for.
 #[derive(Drop)]
 pub struct TrialSource<'a> {
     rest: &'a [u8],
@@ -96,7 +96,7 @@ impl Source for TrialSource<'_> {
     }
 }
 
-/// A sink that takes at most so many bytes a write. Once it holds a number of bytes, all its writes
+/// A sink that takes at most `n` bytes a write. Once it holds a number of bytes, all its writes
 /// of more fail.
 #[derive(Drop)]
 pub struct TrialSink {

@@ -237,7 +237,7 @@ fn joins(run: Span, old: Styles, piece: Piece, braces: &str, kept: &str) -> bool
     run.to == piece.span.from && braces.is_empty() && is_as_kept(piece, kept)
 }
 
-/// Puts what comes before the kept bytes in the text of `piece`, and tells where these lie.
+/// Puts what comes before the kept bytes in the text of `piece`, and returns where these lie.
 fn put_head<S: Put>(piece: Piece, kept: &str, out: &mut S) -> Span
     ensures text { S.taken out.new (span_bytes kept.now result)
         ≡ S.taken out.old (piece_text kept.now piece) }
@@ -333,7 +333,7 @@ fn whole_run(view: &TextView, kept: &str, old: Styles, run: Run) -> Run
     joined_run(view.pieces.as_slice(), view.centre, kept, old, run)
 }
 
-/// Puts the run with all pieces that join it, where `old` are its styles, and tells the index of
+/// Puts the run with all pieces that join it, where `old` are its styles, and returns the index of
 /// the piece after them.
 fn put_run<S: Put>(view: &TextView, kept: &str, old: Styles, run: Run, out: &mut S) -> usize
     requires ordered { run.span.from ≤ run.span.to }

@@ -243,8 +243,8 @@ pub fn stages_that_tell_the_same_agree(one: &TextStage, other: &TextStage)
     ensures { (t : List ℕ) → events_left one.now t ≡ events_left other.now t }
 {}
 
-/// Law: two stages that keep one text emit the same of whatever follows, if they tell the same: the
-/// place of the opener, whether a comment is open, and the place of the next character.
+/// Law: two stages that keep one text emit the same of whatever follows, if they report the same:
+/// the place of the opener, whether a comment is open, and the place of the next character.
 pub fn stages_behind_one_text_agree()
     ensures { (one other : TextStage) (k : List ℕ) → Keeps one k → Keeps other k →
         opener_of one ≡ opener_of other → is_in_comment one ≡ is_in_comment other →
@@ -350,8 +350,8 @@ pub fn a_comment_before_a_text_counts_for_nothing()
         events_left s [] ≡ (TextEvent.Ended TextEnd.Finished ∷ []) ∷ [] }
 {}
 
-/// Returns a stage that is set down as `stage` stands, by the text `kept` that it keeps and what it
-/// tells: a fresh stage reads this text again, each character at the place of the opener, then a
+/// Returns a stage that is restored as `stage` stands, by the text `kept` that it keeps and what it
+/// reports: a fresh stage reads this text again, each character at the place of the opener, then a
 /// `%` where a comment is open, and goes to the place of the next character. From then on it emits
 /// what `stage` emits.
 pub fn a_kept_text_gives_the_stage_back(

@@ -11,8 +11,8 @@ use crate::tags::{KEPT, TAGS};
 use crate::token::TagEffect;
 use std::marker::Model;
 
-/// What was read of a tag's name: its first characters, up to so many that no known name has as
-/// many. Contracts see the list of them.
+/// What was read of a tag's name: its first characters, up to more than any known name has.
+/// Contracts see the list of them.
 #[derive(Clone, Copy)]
 pub struct TagPrefix {
     letters: [char; KEPT],

@@ -52,7 +52,7 @@ pub(crate) fn settled_kind(state: TokenState, c: char) -> Option<TokenKind>
     }
 }
 
-/// The character of the ending that comes after so many.
+/// Returns the character of the ending of `raw` after `matched` of its characters.
 pub(crate) fn wanted_char(raw: RawKind, matched: u8) -> char
     ensures { result ≡ wanted_char raw matched }
 {
@@ -91,7 +91,7 @@ fn ends(kind: TokenKind) -> Step
     }
 }
 
-/// The raw part goes on, with so many characters of its ending read.
+/// The raw part goes on, with `matched` characters of its ending read.
 fn stays_in_raw(part: RawKind, matched: u8) -> Step
     ensures { result ≡ Step.Stays (TokenState.Raw part matched) }
 {

@@ -139,7 +139,7 @@ impl TextBuilder {
     }
 }
 
-/// How a text ends after so many bytes.
+/// Returns how a text ends after `index` bytes.
 fn ending_of(end: TextEnd, index: usize) -> TextEnding
     ensures { result ≡ ending_of end index }
 {

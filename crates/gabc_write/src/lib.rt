@@ -1,7 +1,7 @@
 //! What a run writes: canonical GABC, the lines of a dump, and message lines. Each call puts its
 //! text into a room that the caller made, or into a counter. No call asks for memory.
 //!
-//! The caller makes room for what the calls of lengths tell:
+//! The caller makes room for what the calls of lengths return:
 //!
 //! ```
 //! let place = Place { line: 2, column: 6 };

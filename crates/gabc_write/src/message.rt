@@ -1,4 +1,4 @@
-//! The lines that tell findings and faults.
+//! The lines that report findings and faults.
 
 ghost use Rattle.std.specs.Prelude.{◌≡◌, ◌++◌, ◌+◌, ◌≤◌, length, codes};
 ghost use Rattle.std.specs.Fmt.{decimal};
@@ -55,9 +55,9 @@ fn put_kind<S: Put>(code: Code, out: &mut S)
     put_code(code, out);
 }
 
-/// Puts the line that tells `code` at `place` of the input `name`: `NAME:LINE:COLUMN: KIND: CODE:
-/// TEXT` and LF, as many bytes as `message_len` tells. A room without that many bytes left gets as
-/// many of them as fit.
+/// Puts the line that reports `code` at `place` of the input `name`: `NAME:LINE:COLUMN: KIND: CODE:
+/// TEXT` and LF, as many bytes as `message_len` returns. A room without that many bytes left gets
+/// as many of them as fit.
 pub fn message_line<S: Put>(name: &str, place: Place, code: Code, out: &mut S)
     ensures put { out.new ≡ S.taken out.old (line_of name.now place code) }
     ensures short { length (line_of name.now place code) ≤ length name.now + 128 }
@@ -67,7 +67,7 @@ pub fn message_line<S: Put>(name: &str, place: Place, code: Code, out: &mut S)
     put_kind(code, out);
 }
 
-/// Returns the number of bytes of the line that tells `code` at `place` of the input `name`, with
+/// Returns the number of bytes of the line that reports `code` at `place` of the input `name`, with
 /// its LF. It is at most the name's and 128.
 pub fn message_len(name: &str, place: Place, code: Code) -> usize
     ensures len { result ≡ length (line_of name.now place code) }

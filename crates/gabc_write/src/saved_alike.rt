@@ -12,10 +12,10 @@ use crate::laws;
 
 /// In the body two stages of which the same is saved go on alike, of characters that stand one
 /// after the other. They run under the same limits after the same, hold none or syllables with one
-/// canonical text there, and tell the same of the syllable that is not whole. What the one tells is
-/// that of a text, and the next character stands where a text that is read has counted it. Of
-/// syllables with one canonical text each may stand for the other, since both are read from this
-/// text.
+/// canonical text there, and report the same of the syllable that is not whole. What the one
+/// reports is that of a text, and the next character stands where a text that is read has counted
+/// it. Of syllables with one canonical text each may stand for the other, since both are read from
+/// this text.
 pub fn what_is_saved_alike_goes_on_alike()
     ensures { (one other : ScoreStageState) → MayStand one → MayStand other →
         AreSavedAlike one other → GoesOnAlikeInLine one other }

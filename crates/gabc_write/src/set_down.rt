@@ -1,4 +1,4 @@
-//! The law on which saved states stand: a stage over a score is set down again from what it tells.
+//! The law on which saved states stand: a stage over a score is restored from what it reports.
 //! The function's contract is the law, and its body makes the calls.
 
 ghost use Rattle.std.specs.Prelude.{◌≡◌, ◌≤◌, [], true, false, is_some, IfSome};
@@ -65,9 +65,9 @@ fn read_told(stage: &mut ScoreStage, told: &ScoreStage) -> bool
     stage.read_again(told.reading(), openers, in_comment, next)
 }
 
-/// From what `told` tells in the body, not in front of the first text, a stage is set down that
+/// From what `told` reports in the body, not in front of the first text, a stage is restored that
 /// gives the same of whatever follows. `stage` is what `ScoreStage::resume` makes, under the same
-/// limits, of what `told` tells to stand before. It holds the syllable of which `held` is the
+/// limits, of what `told` reports to stand before. It holds the syllable of which `held` is the
 /// canonical text there, if one is held, and reads the kept text of the next one. The answer is
 /// `true`. `room` is empty and has room for 16 events; nothing stands in it afterwards.
 pub fn a_stage_is_set_down_again(

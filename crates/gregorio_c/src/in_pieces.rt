@@ -35,7 +35,7 @@ pub struct Numbers<'a> {
 
 /// Where a run stands after a piece.
 enum Fed {
-    /// It goes on, and its state has so many bytes.
+    /// It goes on, and its state has this number of bytes.
     On(usize),
     /// It is over, and answered this number.
     Over(u32),
@@ -49,7 +49,7 @@ fn writes_nothing(number: u32) -> bool
     number == 3 || number == 5 || number >= 7
 }
 
-/// Returns where a run stands that answered this number, and whose state has so many bytes then.
+/// Returns where a run stands that answered `number`, and whose state has `len` bytes then.
 fn fed_by(number: u32, len: usize) -> Fed
     ensures { result ≡ fed_as number len }
 {

@@ -44,8 +44,8 @@ fn number_with(number: u64, byte: u8) -> u64
     number.saturating_mul(10).saturating_add(digit)
 }
 
-/// Returns the number of a severity once `byte` of its word is read: one letter of each word tells
-/// it.
+/// Returns the number of a severity once `byte` of its word is read: one letter of each word is
+/// enough it.
 fn severity_behind(severity: u32, byte: u8) -> u32
     ensures { result ≡ severity_with severity byte }
 {
@@ -57,7 +57,7 @@ fn severity_behind(severity: u32, byte: u8) -> u32
     }
 }
 
-/// Returns the number of a code once `byte` of its name is read: its letter tells the hundreds, and
+/// Returns the number of a code once `byte` of its name is read: its letter gives the hundreds, and
 /// its digits what is after them.
 fn code_behind(code: u32, byte: u8) -> u32
     ensures { result ≡ code_with code byte }

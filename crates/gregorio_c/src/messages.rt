@@ -36,7 +36,7 @@ struct Counted {
 
 /// Runs `engine`, which has these `limits`, over `score`, writes the first of its messages into
 /// `first`, and returns how many it has and how it ended. Where they are more than can be counted,
-/// or a place is larger than a record can tell, it fails as for want of memory.
+/// or a place is larger than a record can hold, it fails as for want of memory.
 fn count_by(
     engine: &mut Engine,
     limits: Limits,

@@ -42,7 +42,7 @@ pub extern "C" fn gregorio_state_bound(options: &[Options]) -> usize
 }
 
 /// Begins a run: writes its first state to the front of `state`. `format` and `flags` are those of
-/// `gregorio_compile`. `options` are limits and a key, one or none. `step` tells the lengths.
+/// `gregorio_compile`. `options` are limits and a key, one or none. `step` gives the lengths.
 ///
 /// Returns 6: the run goes on. It returns 7 where `state` is too small, and stays as it was then; 3
 /// where a number is not known or out of range, and 5 where there is no memory: nothing is written
@@ -81,7 +81,7 @@ pub extern "C" fn gregorio_begin(
 ///
 /// Returns 6: the run goes on. Where a fatal fault stopped it, it returns 2: what is written is the
 /// last, and there is no state. It returns 7 where a buffer is too small: all stay as they were,
-/// and `step` tells the lengths that are wanted. With 3 and 5, as `gregorio_begin` returns them,
+/// and `step` gives the lengths that are wanted. With 3 and 5, as `gregorio_begin` returns them,
 /// with 8, where the bytes are no state, and 9, where they are one of another format, of other
 /// flags or limits, nothing is written.
 #[unsafe(no_mangle)]
@@ -156,7 +156,7 @@ fn end_so(
 }
 
 /// Ends the run whose state is `state`, at the end of its input: puts the last of the output and of
-/// the messages into the buffers, and tells their `lengths`. The other parameters are those of
+/// the messages into the buffers, and gives their `lengths`. The other parameters are those of
 /// `gregorio_begin`, and have to be those of that run.
 ///
 /// Returns the exit status that the program would have: 0, 1 or 2. With 7 the buffers stay as they

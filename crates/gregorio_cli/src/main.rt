@@ -99,7 +99,7 @@ fn finish(rt: &HostRuntime, status: Status) -> ExitCode {
     ExitCode::from(status.code())
 }
 
-/// Runs a job, tells how it went, and ends with its status.
+/// Runs a job, reports how it went, and ends with its status.
 fn run_and_finish(rt: &HostRuntime, job: &Job) -> ExitCode {
     match run(rt, job) {
         Ok(status) => finish(rt, status),

@@ -6,7 +6,7 @@ ghost use Rattle.gregorio_jobs.specs.declared.refusal.Refusal.TheVariants.{O0};
 use std::alloc::AllocError;
 use thiserror::Error;
 
-/// Why the words are no job. Its text is what the program tells of it.
+/// Why the words are no job. Its text is what the program says of it.
 #[derive(Clone, Copy, Debug, PartialEq, Eq, Error)]
 pub enum Refusal {
     /// There was no memory to read the words.

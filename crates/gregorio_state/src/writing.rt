@@ -192,8 +192,8 @@ impl Phase<'_> {
 }
 
 impl StateFields<'_> {
-    /// Puts the bytes of the state, as many as `len` tells. The fields have to meet the conditions
-    /// of a saved state.
+    /// Puts the bytes of the state, as many as `len` returns. The fields have to meet the
+    /// conditions of a saved state.
     pub fn write<S: Put>(&self, out: &mut S)
         requires { AreStateFields (fields_of self.now) }
         ensures { out.new ≡ S.taken out.old (state_bytes (fields_of self.now)) }
@@ -252,7 +252,7 @@ impl StateFields<'_> {
 
     /// Writes the bytes of the state as `save_into` does, with the text `held` for the held text of
     /// the fields, which is not read. The fields with that text have to meet the conditions of a
-    /// saved state. A `buf` that is as long as `len` can tell is not too short.
+    /// saved state. A `buf` that is as long as `len` can return is not too short.
     pub fn save_holding<H: PutText>(&self, held: &H, buf: &mut [u8]) -> Result<usize, TooShort>
         requires { AreStateFields (holding (H.text held.now) (fields_of self.now)) }
         ensures written { OnOk result (

@@ -1,6 +1,6 @@
-//! Tests of `gregorio` through its public surface, of what rows of data cannot say: what words want;
-//! a source that fails in mid-stream, and sinks that take little and then fail; with which byte an
-//! engine writes what. Rows of runs are the data of the program `vectors`.
+//! Tests of `gregorio` through its public surface, of what rows of data cannot say: what words
+//! want; a source that fails in mid-stream, and sinks that take little and then fail; with which
+//! byte an engine writes what. Rows of runs are the data of the program `vectors`.
 #![tactic(auto)]
 
 #[cfg(test)]

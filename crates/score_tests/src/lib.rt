@@ -1,6 +1,6 @@
 //! Tests of `gabc_text`, `gabc_notes`, `gabc_neumes`, `gabc_nabc`, `gabc_score` and `gabc_write`
 //! through their public surface: the examples that their documents show; stages that are cut,
-//! interrupted and set down again. Rows of calls are the data of the program `vectors`.
+//! interrupted and restored. Rows of calls are the data of the program `vectors`.
 //!
 //! They need no run, so that they are proved while `gregorio` is.
 #![tactic(auto)]

@@ -256,8 +256,8 @@ fn given_on(alloc: Global, stage: &mut ScoreStage, rest: &str) -> Result<String,
     Ok(given)
 }
 
-/// Whether a stage after `before` that reads again what a stage reports after `body` reports the same,
-/// and gives the same from then on.
+/// Whether a stage after `before` that reads again what a stage reports after `body` reports the
+/// same, and gives the same from then on.
 fn reads_again(alloc: Global, before: &str, body: &str) -> Result<bool, AllocError> {
     let mut one = ScoreStage::with_limits(alloc, Limits::DEFAULT)?;
     let wanted = reported_after(alloc, &mut one, body)?;

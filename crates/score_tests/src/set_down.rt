@@ -1,4 +1,4 @@
-//! Stages of snippets that are cut at each character and set down again, from the text that they
+//! Stages of snippets that are cut at each character and restored, from the text that they
 //! kept and what they report.
 
 use gabc_nabc::NabcStage;
@@ -164,7 +164,7 @@ fn set_down<S: Stage<Input = Char, Output = NoteEvent>>(
     Ok(())
 }
 
-/// Returns whether a stage of notes, cut there and set down again, emits the same of the rest, or
+/// Returns whether a stage of notes, cut there and restored, emits the same of the rest, or
 /// the snippet has ended there.
 fn notes_go_on(alloc: Global, text: &str, cut: usize) -> Result<bool, AllocError> {
     let mut kept = String::new(alloc);
@@ -179,7 +179,7 @@ fn notes_go_on(alloc: Global, text: &str, cut: usize) -> Result<bool, AllocError
     Ok(lines == emit_rest(alloc, &mut again, text, cut)?)
 }
 
-/// Returns whether a stage of NABC, cut there and set down again, emits the same of the rest, or
+/// Returns whether a stage of NABC, cut there and restored, emits the same of the rest, or
 /// the snippet has ended there.
 fn nabc_goes_on(alloc: Global, text: &str, cut: usize) -> Result<bool, AllocError> {
     let mut kept = String::new(alloc);

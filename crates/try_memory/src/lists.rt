@@ -99,7 +99,7 @@ impl Trial for CopyView {
     }
 }
 
-/// Returns a view of so many pieces.
+/// Returns a view of `pieces` pieces.
 fn view_of(alloc: Global, pieces: u8) -> Result<TextView, AllocError> {
     let mut view = TextView::new(alloc);
     for _ in 0..pieces {

@@ -16,7 +16,7 @@ pub(crate) trait Trial {
     fn arguments(&self) -> u64;
 }
 
-/// Makes an attempt, and tells how it went, without asking for memory itself. Returns whether the
+/// Makes an attempt, and reports how it went, without asking for memory itself. Returns whether the
 /// call succeeded.
 fn attempt<T: Trial>(rt: &HostRuntime, trial: &mut T) -> io::Result<bool> {
     println!(rt; "try")?;
@@ -34,7 +34,7 @@ fn attempt<T: Trial>(rt: &HostRuntime, trial: &mut T) -> io::Result<bool> {
     Ok(succeeded)
 }
 
-/// Makes a call with the same arguments until it succeeds, and tells how each attempt went.
+/// Makes a call with the same arguments until it succeeds, and reports how each attempt went.
 pub(crate) fn try_call<T: Trial>(rt: &HostRuntime, trial: &mut T) -> io::Result<()> {
     println!(rt; "arguments {}", trial.arguments())?;
     for _ in 0..ATTEMPTS {

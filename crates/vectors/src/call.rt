@@ -92,7 +92,7 @@ fn answer(
 }
 
 /// Returns whether a line has a call, its input and the answer of this call, split by tabs. Words
-/// after the call tell how it is made, and the answer may have several columns.
+/// after the call say how it is made, and the answer may have several columns.
 pub(crate) fn is_answered(alloc: Global, line: &str) -> Result<bool, AllocError> {
     let Some((call, rest)) = line.split_once('\t') else {
         return Ok(false);

@@ -19,8 +19,8 @@ fn is_of_limits(index: usize) -> bool {
     7 <= index && index < 19
 }
 
-/// Returns the run of which `state` says that it is one: its format and whether warnings are told
-/// stand in its sixth and its seventh byte.
+/// Returns the run of which `state` says that it is one: its format and whether warnings are
+/// reported stand in its sixth and its seventh byte.
 fn asked_by<'a>(state: &[u8], asked: Request<'a>) -> Request<'a> {
     Request {
         format: if state.get(5) == Some(&1) {

@@ -368,7 +368,7 @@ const FILES: [(&str, Lines); 19] = [
     ("writes.tsv", Lines::Calls),
 ];
 
-/// Looks at the lines of a file after the first one, which is its head, and tells how many agree.
+/// Looks at the lines of a file after the first one, which is its head, and reports how many agree.
 fn check_file(rt: &HostRuntime, path: &str, lines: Lines) -> io::Result<()> {
     let text = fs::read_to_string(rt, path)?;
     let mut count = 0u32;
