@@ -11,6 +11,7 @@ pub mod PartMakes
 pub mod PartOnly
 pub mod PartOpens
 pub mod PartPushes
+pub mod PartSteps
 pub mod PlaceByBytes
 pub mod Preceded
 pub mod ReadAlone

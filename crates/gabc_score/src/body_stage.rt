@@ -1,28 +1,20 @@
 //! A machine over the texts and notes of a body, one part after the other.
 
-ghost use Rattle.std.specs.Prelude.{◌≡◌, ◌≢◌, ◌+◌, ◌∷◌, ◌<◌, ℕ, List, [], length, ◌≤◌, None, IfOk, true, false};
+ghost use Rattle.std.specs.Prelude.{◌≡◌, ◌≢◌, ℕ, List, [], length, ◌≤◌, IfOk, true, false};
 ghost use Rattle.gabc_places.specs.declared.place.Char.{Char};
-ghost use Rattle.gabc_notes.specs.declared.stage.NoteEvent.{NoteEvent};
-ghost use Rattle.gabc_score.specs.machine.PartPushes.{ClosesLast};
 ghost use Rattle.gabc_places.specs.declared.place.Place.{Place};
 ghost use Rattle.gabc_places.specs.BoundedList.{Fits, extended_by};
-ghost use Rattle.gabc_score.specs.machine.PartPushes.{Emits, EmitsLast};
-ghost use Rattle.gabc_score.specs.Events.{InComment, events_from, body_events, behind_mark, next_line as line_after, snippet_from, text_from, part_at};
-ghost use Rattle.gabc_text.specs.Events.{CountsFit};
-ghost use Rattle.gabc_score.specs.machine.Gatherer.{Gathered};
-ghost use Rattle.gabc_score.specs.machine.PartFronts.{PartLeavesFront};
-ghost use Rattle.gabc_score.specs.machine.PartCounts.{CountsInNotes, CountsHold, PartGoesOn};
-ghost use Rattle.gabc_score.specs.machine.PartKeeps.{in_text, BeginsSnippet, PartKeeps, PartKeepsOn, PartStandsOn};
-ghost use Rattle.gabc_score.specs.machine.PartMakes.{PartMakes};
-ghost use Rattle.gabc_score.specs.machine.PartOnly.{PartKeepsOnly};
-ghost use Rattle.gabc_score.specs.machine.PartOpens.{PartEndsLine, PartOpensOn};
-ghost use Rattle.gabc_score.specs.ScoreTells.{StandsAt, is_in_comment, openers_of};
-ghost use Rattle.gabc_score.specs.machine.ReadAgain.{ReadsAgain, OpensNotes};
-ghost use Rattle.gabc_score.specs.machine.SyllableBuilder.{OpenSyllable, nothing_open};
-ghost use Rattle.gabc_score.specs.machine.Slot.{FitEach};
-ghost use Rattle.gabc_score.specs.machine.BodyBuilder.{with_all, with_found};
 ghost use Rattle.gabc_places.specs.Place.{placed_characters_from};
-ghost use Rattle.gabc_score.specs.witness.BodyStage.{part_with, events_left, running_events_left, texts_by_stage};
+ghost use Rattle.gabc_text.specs.Events.{CountsFit};
+ghost use Rattle.gabc_text.specs.TextStage.{fresh_stage};
+ghost use Rattle.gabc_score.specs.Events.{InComment, events_from, body_events, behind_mark, next_line as line_after};
+ghost use Rattle.gabc_score.specs.machine.BodyBuilder.{with_all, with_found};
+ghost use Rattle.gabc_score.specs.machine.Gatherer.{Gathered};
+ghost use Rattle.gabc_score.specs.machine.PartCounts.{CountsHold};
+ghost use Rattle.gabc_score.specs.machine.PartPushes.{ClosesLast, EmitsLast};
+ghost use Rattle.gabc_score.specs.machine.PartSteps.{Begins, TakesChar};
+ghost use Rattle.gabc_score.specs.machine.Slot.{FitEach};
+ghost use Rattle.gabc_score.specs.witness.BodyStage.{events_left, running_events_left, texts_by_stage};
 
 use crate::BodyEvent;
 use crate::part_ends::{ends_at_close, ends_at_next, ends_text};
@@ -101,15 +93,9 @@ pub(crate) fn next_line(lines: u8, line: u8) -> u8
     if line < lines { line + 1 } else { 0 }
 }
 
-/// The text after the `)` that stands at `mark`.
-fn text_behind(mark: Place) -> BodyPart
-    ensures part { (xs : List Char) → part_with result xs
-        ≡ text_from texts_by_stage (behind_mark mark) xs }
-    ensures counts { CountsHold result nothing_open }
-    ensures keeps { (lines macros : ℕ) → PartKeeps lines macros result (in_text []) }
-    ensures stands { StandsAt (behind_mark mark) result }
-    ensures opens { openers_of result ≡ record { notes = None; inner = None } }
-    ensures outside { is_in_comment result ≡ false }
+/// Returns the text after the `)` that stands at `mark`.
+fn text_after(mark: Place) -> BodyPart
+    ensures { result ≡ BodyPart.Text (fresh_stage (behind_mark mark)) }
 {
     BodyPart::Text(TextStage::new(mark.saturating_after(')')))
 }
@@ -162,11 +148,7 @@ impl BodyStage {
 
     /// The snippet of that line, whose `(` stands there.
     fn snippet(&self, line: u8, opened: Place) -> BodyPart
-        ensures part { (xs : List Char) → part_with result xs
-            ≡ snippet_from self.now.nabc_lines self.now.macros line opened xs }
-        ensures counts { (o : OpenSyllable) → CountsInNotes o → CountsHold result o }
-        ensures keeps { BeginsSnippet self.now.nabc_lines self.now.macros line result }
-        ensures tells { OpensNotes opened result }
+        ensures { Begins self.now.nabc_lines self.now.macros line opened result }
     {
         gabc_notes::laws::what_is_emitted_is_computed();
         gabc_nabc::laws::what_is_emitted_is_computed();
@@ -186,44 +168,19 @@ impl BodyStage {
 
     /// The snippet after one of that line that ended at a `|`.
     fn next_snippet(&self, line: u8, opened: Place) -> BodyPart
-        ensures part { (xs : List Char) → part_with result xs
-            ≡ snippet_from self.now.nabc_lines self.now.macros
-            (line_after self.now.nabc_lines line) opened xs }
-        ensures counts { (o : OpenSyllable) → CountsInNotes o → CountsHold result o }
-        ensures keeps { BeginsSnippet self.now.nabc_lines self.now.macros
-            (line_after self.now.nabc_lines line) result }
-        ensures tells { OpensNotes opened result }
+        ensures { Begins self.now.nabc_lines self.now.macros
+            (line_after self.now.nabc_lines line) opened result }
     {
         self.snippet(next_line(self.nabc_lines, line), opened)
     }
 
     /// Pushes a character to the part that it stands in, which is no comment.
     fn push_part(&mut self, x: Char)
-        requires part { (xs : List Char) →
-            part_at texts_by_stage (part_with self.old.part (x ∷ xs)) x xs
-            ≡ part_with self.old.part (x ∷ xs) }
-        ensures events { Emits (running_events_left self.old)
-            (running_events_left self.new) x 8 self.new.events }
-        ensures once { ClosesLast self.new.events }
-        ensures bounds { PartGoesOn self.old.part self.new.part self.new.events }
-        ensures lines { self.new.nabc_lines ≡ self.old.nabc_lines }
-        ensures macros { self.new.macros ≡ self.old.macros }
-        ensures keeps { PartKeepsOn self.old.nabc_lines self.old.macros
-            self.old.part self.new.part self.new.events }
-        ensures makes { PartMakes self.old.nabc_lines self.old.macros
-            self.old.part self.new.events }
-        ensures stands { PartStandsOn self.old.nabc_lines self.old.macros
-            x self.old.part self.new.part }
-        ensures again { ReadsAgain self.old.nabc_lines self.old.macros
-            x self.old.part self.new.part self.new.events }
-        ensures opens { PartOpensOn self.old.nabc_lines self.old.macros
-            x self.old.part self.new.part }
-        ensures line { PartEndsLine self.old.nabc_lines self.old.macros
-            x self.old.part self.new.part }
-        ensures only { PartKeepsOnly self.old.nabc_lines self.old.macros
-            x self.old.part self.new.events }
-        ensures front { PartLeavesFront self.old.part self.new.part self.new.events }
-        ensures over { self.new.over ≡ self.old.over }
+        requires { self.old.part ≢ BodyPart.Comment }
+        ensures steps { TakesChar self.old.nabc_lines self.old.macros x
+            self.old.part self.new.events self.new.part }
+        ensures same { self.new
+            ≡ record self.old { part = self.new.part; events = self.new.events } }
     {
         match &mut self.part {
             BodyPart::Comment => self.emitter = Emitter::Nothing,
@@ -244,7 +201,7 @@ impl BodyStage {
                 if next {
                     self.part = self.next_snippet(0, opened);
                 } else if close {
-                    self.part = text_behind(x.place);
+                    self.part = text_after(x.place);
                 }
             }
             BodyPart::Nabc {
@@ -260,7 +217,7 @@ impl BodyStage {
                 if next {
                     self.part = self.next_snippet(line, opened);
                 } else if close {
-                    self.part = text_behind(x.place);
+                    self.part = text_after(x.place);
                 }
             }
         }
@@ -268,28 +225,10 @@ impl BodyStage {
 
     /// Takes a character. What it emits stands in the part's room until the next call.
     pub(crate) fn take(&mut self, x: Char)
-        ensures events { Emits (running_events_left self.old)
-            (running_events_left self.new) x 8 self.new.events }
-        ensures once { ClosesLast self.new.events }
-        ensures bounds { PartGoesOn self.old.part self.new.part self.new.events }
-        ensures lines { self.new.nabc_lines ≡ self.old.nabc_lines }
-        ensures macros { self.new.macros ≡ self.old.macros }
-        ensures keeps { PartKeepsOn self.old.nabc_lines self.old.macros
-            self.old.part self.new.part self.new.events }
-        ensures makes { PartMakes self.old.nabc_lines self.old.macros
-            self.old.part self.new.events }
-        ensures stands { PartStandsOn self.old.nabc_lines self.old.macros
-            x self.old.part self.new.part }
-        ensures again { ReadsAgain self.old.nabc_lines self.old.macros
-            x self.old.part self.new.part self.new.events }
-        ensures opens { PartOpensOn self.old.nabc_lines self.old.macros
-            x self.old.part self.new.part }
-        ensures line { PartEndsLine self.old.nabc_lines self.old.macros
-            x self.old.part self.new.part }
-        ensures only { PartKeepsOnly self.old.nabc_lines self.old.macros
-            x self.old.part self.new.events }
-        ensures front { PartLeavesFront self.old.part self.new.part self.new.events }
-        ensures over { self.new.over ≡ self.old.over }
+        ensures steps { TakesChar self.old.nabc_lines self.old.macros x
+            self.old.part self.new.events self.new.part }
+        ensures same { self.new
+            ≡ record self.old { part = self.new.part; events = self.new.events } }
     {
         if let BodyPart::Comment = self.part {
             if x.c != '\n' {

@@ -1,16 +1,9 @@
 //! How a part of a body takes a character, or the end of the input.
 
 ghost use Rattle.std.specs.Prelude.{◌≡◌, ◌≤◌};
-ghost use Rattle.gabc_text.specs.Events.{codes_of};
-ghost use Rattle.gabc_text.specs.witness.EventsLeft.{events_left as text_rest};
-ghost use Rattle.gabc_text.specs.witness.Keeps.{KeepsOn as TextKeepsOn};
-ghost use Rattle.gabc_text.specs.PiecesOwed.{PiecesArePaid};
-ghost use Rattle.gabc_notes.specs.witness.ItemMachine.{events_left as gabc_rest};
-ghost use Rattle.gabc_notes.specs.witness.Keeps.{KeepsOn as GabcKeepsOn};
-ghost use Rattle.gabc_nabc.specs.witness.DescriptorMachine.{events_left as nabc_rest};
-ghost use Rattle.gabc_nabc.specs.witness.Keeps.{KeepsOn as NabcKeepsOn};
-ghost use Rattle.gabc_score.specs.Events.{is_text_end as text_end, is_next as note_next, is_close as note_close};
-ghost use Rattle.gabc_score.specs.machine.PartPushes.{Emits, EmitsLast, EndsLast};
+ghost use Rattle.gabc_score.specs.Events.{is_text_end as text_end, is_next as note_next};
+ghost use Rattle.gabc_score.specs.machine.PartPushes.{EmitsLast, EndsLast};
+ghost use Rattle.gabc_score.specs.machine.PartSteps.{TextSteps, TextBounds, GabcSteps, NabcSteps, NoteBounds};
 
 use gabc_nabc::NabcStage;
 use gabc_notes::{NoteEvent, NoteStage};
@@ -22,10 +15,8 @@ pub(crate) fn push_text(stage: &mut TextStage, x: Char, events: &mut Room<TextEv
     requires events { 8 ≤ events.old.limit }
     ensures once { EndsLast text_end events.new.items }
     ensures events { events.new.limit ≡ events.old.limit }
-    ensures pushes { Emits (λ xs. text_rest stage.old (codes_of xs))
-        (λ xs. text_rest stage.new (codes_of xs)) x 8 events.new.items }
-    ensures pieces { PiecesArePaid stage.old events.new.items stage.new }
-    ensures keeps { TextKeepsOn stage.old x.c events.new.items stage.new }
+    ensures steps { TextSteps stage.old x events.new.items stage.new }
+    ensures bounds { TextBounds stage.old events.new.items stage.new }
 {
     events.clear();
     stage.push(x, events);
@@ -34,11 +25,10 @@ pub(crate) fn push_text(stage: &mut TextStage, x: Char, events: &mut Room<TextEv
 /// Pushes a character to a snippet of GABC, whose events are then in its room.
 pub(crate) fn push_gabc(stage: &mut NoteStage, x: Char, events: &mut Room<NoteEvent>)
     requires events { 3 ≤ events.old.limit }
-    ensures once { EndsLast note_close events.new.items }
     ensures next_once { EndsLast note_next events.new.items }
     ensures events { events.new.limit ≡ events.old.limit }
-    ensures pushes { Emits (gabc_rest stage.old) (gabc_rest stage.new) x 3 events.new.items }
-    ensures keeps { GabcKeepsOn stage.old x events.new.items stage.new }
+    ensures steps { GabcSteps stage.old x events.new.items stage.new }
+    ensures bounds { NoteBounds events.new.items }
 {
     events.clear();
     stage.push(x, events);
@@ -47,11 +37,10 @@ pub(crate) fn push_gabc(stage: &mut NoteStage, x: Char, events: &mut Room<NoteEv
 /// Pushes a character to a snippet of NABC, whose events are then in its room.
 pub(crate) fn push_nabc(stage: &mut NabcStage, x: Char, events: &mut Room<NoteEvent>)
     requires events { 3 ≤ events.old.limit }
-    ensures once { EndsLast note_close events.new.items }
     ensures next_once { EndsLast note_next events.new.items }
     ensures events { events.new.limit ≡ events.old.limit }
-    ensures pushes { Emits (nabc_rest stage.old) (nabc_rest stage.new) x 3 events.new.items }
-    ensures keeps { NabcKeepsOn stage.old x events.new.items stage.new }
+    ensures steps { NabcSteps stage.old x events.new.items stage.new }
+    ensures bounds { NoteBounds events.new.items }
 {
     events.clear();
     stage.push(x, events);

@@ -17,7 +17,7 @@ use Rattle.gabc_score.specs.declared.events.BodyEvent.{BodyEvent}
 use Rattle.gabc_score.specs.declared.events.BodyEvent.TheVariants as event
 use Rattle.gabc_score.specs.declared.body_stage.BodyPart.{BodyPart}
 use Rattle.gabc_score.specs.declared.body_stage.BodyPart.TheVariants as part
-use Rattle.gabc_score.specs.Events.{is_close, note_event}
+use Rattle.gabc_score.specs.Events.{behind_mark, is_close, note_event}
 use Rattle.gabc_score.specs.Syllable.{prefix_of, is_seam}
 use Rattle.gabc_score.specs.machine.BodyBuilder.{with_all}
 use Rattle.gabc_score.specs.machine.Gatherer.{Gathered, with_text, with_event, with_snippet}
@@ -25,6 +25,10 @@ use Rattle.gabc_score.specs.machine.PartCounts.{CountsInNotes, CountsHold, PartG
 use Rattle.gabc_score.specs.machine.PartPushes.{EndsLast}
 use Rattle.gabc_score.specs.machine.Slot.{FitsEvent, FitsText, FitEach}
 use Rattle.gabc_score.specs.machine.SyllableBuilder.{OpenSyllable, nothing_open, snippet_from}
+use Rattle.gabc_places.specs.declared.place.Char.{Char}
+use Rattle.gabc_text.specs.TextStage.{fresh_stage}
+use Rattle.gabc_score.specs.machine.PartSteps.{IsBounded, PartSteps, SnippetSteps}
+use Rattle.gabc_score.specs.machine.PartSteps as step
 
 -- a character has one to four bytes
 bytes_of : (c : ℕ) → (1 ≤ length (encode_utf8 c)) × (length (encode_utf8 c) ≤ 4)
@@ -231,3 +235,35 @@ module _ (line : ℕ) (opened : Place) where
 
     pub notes_close : (after : BodyPart) → CountsHold after nothing_open → EndsLast is_close es → list_any is_close es ≡ true → PartGoesOn before after (of_notes es)
     notes_close after h o e = record { counts = λ g k. subst (CountsHold after) (sym (nothing_left g es o e)) h; fit = all_fit }
+
+-- ---- a part takes a character
+
+fresh_counts : (at : Place) (o : OpenSyllable) → o ≡ nothing_open → CountsHold (part.Text (fresh_stage at)) o
+fresh_counts at o e = subst (CountsHold (part.Text (fresh_stage at))) (sym e) (omega arith, (omega arith, refl))
+
+begun_counts : {lines macros line : ℕ} {opened : Place} (after : BodyPart) → step.Begins lines macros line opened after → (o : OpenSyllable) → CountsInNotes o → CountsHold after o
+begun_counts part.Comment b o h = absurd (let e = b.reads [] in cc)
+begun_counts (part.Text s) b o h = absurd (let e = b.reads [] in cc)
+begun_counts (part.Notes p s) b o h = h
+begun_counts (part.Nabc l p s) b o h = h
+
+-- in the part of a snippet the same is counted before and after
+record CountsAlike (before after : BodyPart) : Type 0 where
+  out : (o : OpenSyllable) → CountsHold before o → CountsInNotes o
+  into : (o : OpenSyllable) → CountsInNotes o → CountsHold after o
+
+counts_alike : {x : Char} {line : ℕ} {opened : Place} {before after : BodyPart} {es : List NoteEvent} → SnippetSteps x line opened before es after → CountsAlike before after
+counts_alike (step.in_gabc h) = record { out = λ o c. c; into = λ o c. c }
+counts_alike (step.in_nabc h) = record { out = λ o c. c; into = λ o c. c }
+
+pub counts_go_on : {lines macros : ℕ} {x : Char} {before after : BodyPart} {now : List BodyEvent} (s : PartSteps lines macros x before now after) → IsBounded s → PartGoesOn before after now
+counts_go_on (step.in_front h) k = record { counts = λ g c. c; fit = λ g c k. tt }
+counts_go_on {x = x} (step.leaves_front h s) k =
+    let on = counts_go_on s k in
+    record { counts = λ g c. on.counts g (fresh_counts x.place g.builder c); fit = λ g c k. on.fit g (fresh_counts x.place g.builder c) k }
+counts_go_on (step.text_goes {s} {t} {es} h e) k = text_goes s t es k.few k.pieces
+counts_go_on (step.text_ends {s} {t} {es} {after} h e b) k = text_ends s t es k.few k.pieces after (begun_counts after b)
+counts_go_on (step.snippet_goes {line} {opened} {before} {after} {es} s n c) k = let l = counts_alike s in notes_go line opened before es k.few l.out after l.into
+counts_go_on (step.snippet_next {line} {opened} {before} {after = after} {es} s n b) k = notes_go line opened before es k.few (counts_alike s).out after (begun_counts after b)
+counts_go_on {x = x} (step.snippet_closes {line} {opened} {before} {es = es} s n c) k =
+    notes_close line opened before es k.few (counts_alike s).out (part.Text (fresh_stage (behind_mark x.place))) (fresh_counts (behind_mark x.place) nothing_open refl) k.once c

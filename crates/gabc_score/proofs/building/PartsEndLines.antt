@@ -1,5 +1,5 @@
 -- Behind an LF no comment is open in a part of the body.
-use Rattle.std.proofs.Common.{◌≡◌, ℕ, nat_lt, ◌==◌, Bool, true, false, List, [], ◌∷◌, refl, ap, subst, ◌∙◌, if◌then◌else◌}
+use Rattle.std.proofs.Common.{◌≡◌, ℕ, nat_lt, Bool, true, false, List, [], refl, ap, ◌∙◌}
 use Rattle.std.specs.List.{list_any}
 use Rattle.gabc_places.specs.declared.place.Char.{Char}
 use Rattle.gabc_places.specs.declared.place.Place.{Place}
@@ -16,23 +16,16 @@ use Rattle.gabc_nabc.specs.witness.DescriptorMachine.{comment_in}
 use Rattle.gabc_nabc.specs.witness.Keeps as nabc
 use Rattle.gabc_score.specs.declared.body_stage.BodyPart.{BodyPart}
 use Rattle.gabc_score.specs.declared.body_stage.BodyPart.TheVariants as part
-use Rattle.gabc_score.specs.Events.{InComment, is_close, is_next, is_text_end, part_at, text_from}
-use Rattle.gabc_score.specs.ScoreTells.{is_in_comment}
+use Rattle.gabc_score.specs.Events.{behind_mark, is_close, is_next, is_text_end}
 use Rattle.gabc_score.specs.machine.PartKeeps.{in_text, in_notes}
 use Rattle.gabc_score.specs.machine.PartOpens.{PartEndsLine}
-use Rattle.gabc_score.specs.witness.BodyStage.{part_with, texts_by_stage}
 use Rattle.gabc_score.proofs.building.PartsKeepOn.{one_ends}
 use Rattle.gabc_score.proofs.building.PartsOfKeptText.{text_goes_on}
-
--- where no comment is open at all
-pub ends_outside : (lines macros : ℕ) (x : Char) (before after : BodyPart) → is_in_comment after ≡ false → PartEndsLine lines macros x before after
-ends_outside lines macros x before after outside p keeps lf = outside
-
--- the comment behind the `%%` does not go on at an LF
-pub no_open_comment : (x : Char) (b : BodyPart) → b ≡ part.Comment → part_at texts_by_stage (part_with b (x ∷ [])) x [] ≡ part_with b (x ∷ []) → x.c ≡ 10 → ⊥
-no_open_comment x b is at lf =
-    let stays = subst (λ (k : BodyPart). part_at texts_by_stage (part_with k (x ∷ [])) x [] ≡ part_with k (x ∷ [])) is at in
-    cc (subst (λ (n : ℕ). (if n == 10 then text_from texts_by_stage x.place (x ∷ []) else InComment) ≡ InComment) lf stays)
+use Rattle.gabc_score.specs.declared.events.BodyEvent.{BodyEvent}
+use Rattle.gabc_text.proofs.resuming.StagesKeep.{fresh_keeps}
+use Rattle.gabc_text.proofs.resuming.ToldByEvents.{comment_fresh}
+use Rattle.gabc_score.specs.machine.PartSteps.{PartSteps}
+use Rattle.gabc_score.specs.machine.PartSteps as step
 
 module _ (lines macros : ℕ) (x : Char) where
   text_comment : (k : List ℕ) (comment : Bool) → text.comment_with k comment 10 ≡ false
@@ -65,3 +58,15 @@ module _ (lines macros : ℕ) (x : Char) where
       by : (b : Bool) → nabc.is_end_behind (nabc.comment_of s) x.c ≡ b → nabc.comment_of t ≡ false
       by true e = absurd (one_ends es x.c _ (on.ends k h.1.1 e).end next close)
       by false e = (on.goes k h.1.1 e).comment ∙ ap (comment_in (nabc.comment_of s)) lf ∙ nabc_comment (nabc.comment_of s)
+
+-- ---- a part takes a character
+
+pub ends_line : {lines macros : ℕ} {x : Char} {before after : BodyPart} {now : List BodyEvent} → PartSteps lines macros x before now after → PartEndsLine lines macros x before after
+ends_line (step.in_front h) = λ p keeps lf. absurd (h lf)
+ends_line {x = x} (step.leaves_front h s) = λ p keeps lf. ends_line s (in_text []) (fresh_keeps x.place) lf
+ends_line {lines} {macros} {x} (step.text_goes {s} {t} {es} h e) = text_ends_line lines macros x s t es h.keeps e
+ends_line (step.text_ends h e b) = λ p keeps lf. b.tells.1
+ends_line {lines} {macros} {x} (step.snippet_goes (step.in_gabc {opened} {s} {t} {es} h) n c) = gabc_ends_line lines macros x opened s t es h.keeps n c
+ends_line {lines} {macros} {x} (step.snippet_goes (step.in_nabc {line} {opened} {s} {t} {es} h) n c) = nabc_ends_line lines macros x line opened s t es h.keeps n c
+ends_line (step.snippet_next s n b) = λ p keeps lf. b.tells.1
+ends_line {x = x} (step.snippet_closes s n c) = λ p keeps lf. comment_fresh (behind_mark x.place)

@@ -23,14 +23,19 @@ use Rattle.gabc_nabc.specs.witness.Keeps as nabc
 use Rattle.gabc_nabc.specs.declared.stage.NabcStage.{NabcStage}
 use Rattle.gabc_score.specs.declared.body_stage.BodyPart.{BodyPart}
 use Rattle.gabc_score.specs.declared.body_stage.BodyPart.TheVariants as part
-use Rattle.gabc_score.specs.Events.{is_close, is_next, next_line}
+use Rattle.gabc_score.specs.Events.{behind_mark, is_close, is_next, next_line}
 use Rattle.gabc_score.specs.machine.PartKeeps.{KeptParts, in_text, in_notes, IsEnded, IsEndedOn, AreBehind, PartKeeps, PartKeepsOn}
 use Rattle.gabc_score.specs.machine.PartMakes.{PartMakes}
 use Rattle.gabc_score.specs.Holding.{IsSnippetOf}
-use Rattle.gabc_score.proofs.building.PartsMakeSyllables.{ClosesWhole, notes_make, notes_make_none}
+use Rattle.gabc_score.proofs.building.PartsMakeSyllables.{ClosesWhole, notes_make, notes_make_none, reading_begins, text_makes}
 use Rattle.gabc_score.proofs.building.PartsOfKeptNotes.{InNotes, EndsSnippet, ClosesSnippet, notes_keep_on, notes_end_on, notes_close_on}
-use Rattle.gabc_score.proofs.building.PartsOfKeptText.{of_notes}
+use Rattle.gabc_score.proofs.building.PartsOfKeptText.{of_notes, read_on, text_ends_on, text_keeps_on}
 use Rattle.gabc_score.proofs.texts_of_body.SeamsOfCharacters.{size_is_sum}
+use Rattle.gabc_text.specs.TextStage.{fresh_stage}
+use Rattle.gabc_text.proofs.resuming.StagesKeep.{fresh_keeps}
+use Rattle.gabc_score.specs.declared.events.BodyEvent.{BodyEvent}
+use Rattle.gabc_score.specs.machine.PartSteps.{PartSteps}
+use Rattle.gabc_score.specs.machine.PartSteps as step
 
 -- ---- how a snippet ended
 
@@ -296,3 +301,34 @@ module _ (lines macros line : ℕ) (opened : Place) (s t : NabcStage) (x : Char)
           let e : nabc.EndsBehind k x.c es = ended_nabc k h (λ none. true≢false (sym close ∙ none_close es x.c 0 none)) in
           let cut : Trims nabc_table k (trim nabc_table k) = trim_trims nabc_table refl k in
           record { s = trim nabc_table k; rest = cut.rest; cut = cut.cut; is = of_line line (trim nabc_table k) h.0 cut.longest.has; none_kept = e.none_kept; end = close_ends es x.c _ e.end close }
+
+-- ---- a part takes a character
+
+pub keeps_on : {lines macros : ℕ} {x : Char} {before after : BodyPart} {now : List BodyEvent} → PartSteps lines macros x before now after → PartKeepsOn lines macros before after now
+keeps_on {lines} {macros} (step.in_front h) = λ spans g fits r. read_on lines macros part.Comment part.Comment spans g g refl r
+keeps_on {x = x} (step.leaves_front h s) = λ spans g fits r. keeps_on s spans g fits (reading_begins x.place r)
+keeps_on {lines} {macros} {x} (step.text_goes {s} {t} {es} h e) = text_keeps_on lines macros s t x.c es h.keeps e
+keeps_on {lines} {macros} {x} (step.text_ends {s} {t} {es} {after} h e b) = text_ends_on lines macros s t x.c es after h.keeps e (λ u behind. b.keeps u [] behind)
+keeps_on {lines} {macros} {x} (step.snippet_goes (step.in_gabc {opened} {s} {t} {es} h) n c) = gabc_keeps_on lines macros opened s t x es h.keeps n c
+keeps_on {lines} {macros} {x} (step.snippet_goes (step.in_nabc {line} {opened} {s} {t} {es} h) n c) = nabc_keeps_on lines macros line opened s t x es h.keeps n c
+keeps_on {lines} {macros} {x} (step.snippet_next {after = after} (step.in_gabc {opened} {s} {t} {es} h) n b) = gabc_ends_on lines macros opened s t x es h.keeps after n b.keeps
+keeps_on {lines} {macros} {x} (step.snippet_next {after = after} (step.in_nabc {line} {opened} {s} {t} {es} h) n b) = nabc_ends_on lines macros line opened s t x es h.keeps after n b.keeps
+keeps_on {lines} {macros} {x} (step.snippet_closes (step.in_gabc {opened} {s} {t} {es} h) n c) =
+    gabc_closes_on lines macros opened s t x es h.keeps (part.Text (fresh_stage (behind_mark x.place))) c (fresh_keeps (behind_mark x.place))
+keeps_on {lines} {macros} {x} (step.snippet_closes (step.in_nabc {line} {opened} {s} {t} {es} h) n c) =
+    nabc_closes_on lines macros line opened s t x es h.keeps (part.Text (fresh_stage (behind_mark x.place))) c (fresh_keeps (behind_mark x.place))
+
+first_makes : (lines macros : ℕ) (at : Place) (now : List BodyEvent) → PartMakes lines macros (part.Text (fresh_stage at)) now → PartMakes lines macros part.Comment now
+unfolding PartMakes
+first_makes lines macros at now m p g fits r = m p g fits (reading_begins at r)
+
+pub makes : {lines macros : ℕ} {x : Char} {before after : BodyPart} {now : List BodyEvent} → PartSteps lines macros x before now after → PartMakes lines macros before now
+makes {lines} {macros} (step.in_front h) = text_makes lines macros part.Comment []
+makes {lines} {macros} {x} {now = now} (step.leaves_front h s) = first_makes lines macros x.place now (makes s)
+makes {lines} {macros} (step.text_goes {s} {es = es} h e) = text_makes lines macros (part.Text s) es
+makes {lines} {macros} (step.text_ends {s} {es = es} h e b) = text_makes lines macros (part.Text s) es
+makes {lines} {macros} (step.snippet_goes {line} {opened} {before} {es = es} s n c) = notes_make_none lines macros line opened before es c
+makes {lines} {macros} {x} (step.snippet_next (step.in_gabc {opened} {s} {t} {es} h) n b) = gabc_next_makes lines macros opened s t x es h.keeps n
+makes {lines} {macros} {x} (step.snippet_next (step.in_nabc {line} {opened} {s} {t} {es} h) n b) = nabc_next_makes lines macros line opened s t x es h.keeps n
+makes {lines} {macros} {x} (step.snippet_closes (step.in_gabc {opened} {s} {t} {es} h) n c) = gabc_makes lines macros opened s t x es h.keeps c
+makes {lines} {macros} {x} (step.snippet_closes (step.in_nabc {line} {opened} {s} {t} {es} h) n c) = nabc_makes lines macros line opened s t x es h.keeps c

@@ -22,6 +22,11 @@ use Rattle.gabc_score.specs.declared.body_stage.BodyPart.TheVariants as part
 use Rattle.gabc_score.specs.Events.{note_event}
 use Rattle.gabc_score.specs.machine.PartKeeps.{in_text, in_notes, text_events}
 use Rattle.gabc_score.specs.machine.PartOnly.{IsKeptOf, PartKeepsOnly, kept_codes}
+use Rattle.gabc_score.specs.declared.body_stage.BodyPart.{BodyPart}
+use Rattle.gabc_score.specs.declared.events.BodyEvent.{BodyEvent}
+use Rattle.gabc_text.proofs.resuming.StagesKeep.{fresh_keeps}
+use Rattle.gabc_score.specs.machine.PartSteps.{PartSteps, SnippetSteps}
+use Rattle.gabc_score.specs.machine.PartSteps as step
 
 text_codes : (es : List TextEvent) → kept_codes (text_events es) ≡ kept_in es
 text_codes [] = refl
@@ -65,3 +70,19 @@ module _ (lines macros : ℕ) (x : Char) where
       by : (b : Bool) → nabc.is_end_behind (nabc.comment_of s) x.c ≡ b → All (IsKeptOf x.c) (kept_of es)
       by true e = subst (All (IsKeptOf x.c)) (sym (on.ends k h.1.1 e).none_kept) (All-nil (IsKeptOf x.c))
       by false e = kept _ _ (kept_of es) (on.goes k h.1.1 e).kept
+
+-- ---- a part takes a character
+
+snippet_keeps_only : (lines macros : ℕ) {x : Char} {line : ℕ} {opened : Place} {before after : BodyPart} {es : List NoteEvent} → SnippetSteps x line opened before es after
+    → PartKeepsOnly lines macros x before (map (note_event line opened) es)
+snippet_keeps_only lines macros {x} (step.in_gabc {opened} {s} {t} {es} h) = gabc_keeps_only lines macros x opened s t es h.keeps
+snippet_keeps_only lines macros {x} (step.in_nabc {line} {opened} {s} {t} {es} h) = nabc_keeps_only lines macros x line opened s t es h.keeps
+
+pub keeps_only : {lines macros : ℕ} {x : Char} {before after : BodyPart} {now : List BodyEvent} → PartSteps lines macros x before now after → PartKeepsOnly lines macros x before now
+keeps_only {x = x} (step.in_front h) = λ p keeps. All-nil (IsKeptOf x.c)
+keeps_only {x = x} (step.leaves_front h s) = λ p keeps. keeps_only s (in_text []) (fresh_keeps x.place)
+keeps_only {lines} {macros} {x} (step.text_goes {s} {t} {es} h e) = text_keeps_only lines macros x s t es h.keeps
+keeps_only {lines} {macros} {x} (step.text_ends {s} {t} {es} h e b) = text_keeps_only lines macros x s t es h.keeps
+keeps_only {lines} {macros} (step.snippet_goes s n c) = snippet_keeps_only lines macros s
+keeps_only {lines} {macros} (step.snippet_next s n b) = snippet_keeps_only lines macros s
+keeps_only {lines} {macros} (step.snippet_closes s n c) = snippet_keeps_only lines macros s

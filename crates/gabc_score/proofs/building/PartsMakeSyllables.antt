@@ -10,7 +10,8 @@ use Rattle.gabc_text.specs.declared.text_event.TextEnd.TheVariants as text_end
 use Rattle.gabc_text.specs.declared.text_event.TextEvent.{TextEvent}
 use Rattle.gabc_text.specs.declared.text_event.TextEvent.TheVariants as text_out
 use Rattle.gabc_text.specs.declared.text_event.TextPart.TheVariants as text_part
-use Rattle.gabc_text.specs.declared.stage.TextStage.{TextStage}
+use Rattle.gabc_text.specs.TextStage.{fresh_stage}
+use Rattle.gabc_text.proofs.resuming.StagesKeep.{fresh_keeps}
 use Rattle.gabc_text.specs.witness.Keeps as text
 use Rattle.gabc_text.specs.witness.SaidInFull.{IsSaidInFull}
 use Rattle.gabc_notes.specs.SnippetRead.{kept_of, ends_of}
@@ -32,7 +33,7 @@ use Rattle.gabc_score.specs.SyllablesOfUnits.{span_tags}
 use Rattle.gabc_score.specs.UnitRead.{HoldsSomeUnit}
 use Rattle.gabc_score.specs.machine.BodyBuilder.{with_all}
 use Rattle.gabc_score.specs.machine.Gatherer.{Gathered, with_event}
-use Rattle.gabc_score.specs.machine.PartKeeps.{KeptParts, in_text, barred, text_before, joined, line_behind, text_events, snippet_events, earlier_events, events_before, said_by, AreEnded, PartKeeps, begun, ReadAlike}
+use Rattle.gabc_score.specs.machine.PartKeeps.{KeptParts, in_text, barred, text_before, joined, line_behind, text_events, snippet_events, earlier_events, events_before, said_by, AreEnded, PartKeeps, begun, ReadAlike, IsReading}
 use Rattle.gabc_score.specs.machine.PartMakes.{FollowEach, AreHeld, HoldUnits, PartMakes}
 use Rattle.gabc_score.specs.machine.SyllableBuilder.{OpenSyllable, made_from, past_snippet}
 use Rattle.gabc_score.proofs.building.EventsOfOnePoint.{with_all_append}
@@ -84,24 +85,16 @@ text_makes lines macros before es = none_makes lines macros before (text_events 
 pub notes_make_none : (lines macros line : ℕ) (opened : Place) (before : BodyPart) (es : List NoteEvent) → list_any is_close es ≡ false → PartMakes lines macros before (of_notes line opened es)
 notes_make_none lines macros line opened before es e = none_makes lines macros before (of_notes line opened es) (notes_close_alike line opened es ∙ e)
 
--- the text that begins behind a comment, in which nothing is kept
-pub first_text_makes : (lines macros l m : ℕ) (s : TextStage) (before mid : BodyPart) (now : List BodyEvent) → before ≡ part.Comment → mid ≡ part.Text s → text.Keeps s [] → l ≡ lines → m ≡ macros
-    → PartMakes l m mid now → PartMakes lines macros before now
-unfolding PartMakes
-first_text_makes lines macros l m s before mid now comment is keeps same_lines same_macros makes =
-    subst (λ (b : BodyPart). PartMakes lines macros b now) (sym comment)
-    (subst (λ (k : ℕ). PartMakes k macros part.Comment now) same_lines
-    (subst (λ (k : ℕ). PartMakes l k part.Comment now) same_macros on))
-  where
-    on : PartMakes l m part.Comment now
-    on p g fits r = makes p g fits (record {
-      parts = in_text [];
-      keeps = subst (λ (b : BodyPart). PartKeeps l m b (in_text [])) (sym is) keeps;
-      said = subst (λ (k : KeptParts). ReadAlike g (with_all (begun (with_each p g.made).spans) (said_by l k))) r.keeps r.said;
-      kept = subst (λ (k : KeptParts). g.builder.kept ≡ encode_utf8_all (joined k)) r.keeps r.kept;
-      from = subst (λ (k : KeptParts). g.builder.from ≡ length (encode_utf8_all (text_before k))) r.keeps r.from;
-      uncut = r.uncut;
-    })
+-- before the text that begins after the comment in front nothing was gathered
+pub reading_begins : {lines macros : ℕ} {spans : Spans} {g : Gathered} (at : Place) → IsReading lines macros part.Comment spans g → IsReading lines macros (part.Text (fresh_stage at)) spans g
+reading_begins {lines} {macros} {spans} {g} at r = record {
+  parts = in_text [];
+  keeps = fresh_keeps at;
+  said = subst (λ (k : KeptParts). ReadAlike g (with_all (begun spans) (said_by lines k))) r.keeps r.said;
+  kept = subst (λ (k : KeptParts). g.builder.kept ≡ encode_utf8_all (joined k)) r.keeps r.kept;
+  from = subst (λ (k : KeptParts). g.builder.from ≡ length (encode_utf8_all (text_before k))) r.keeps r.from;
+  uncut = r.uncut;
+}
 
 -- ---- a syllable is made
 

@@ -1,7 +1,6 @@
 -- What is open in a part of the body, behind each character.
 use Rattle.std.proofs.Common.{◌≡◌, ◌⊎◌, inl, inr, ℕ, nat_lt, Bool, true, false, List, [], ◌++◌, Option, Some, None, refl, sym, ap, subst, ◌∙◌}
 use Rattle.std.specs.List.{list_any}
-use Rattle.gabc_text.specs.witness.EventsLeft as fresh_events
 use Rattle.gabc_places.specs.declared.place.Char.{Char}
 use Rattle.gabc_places.specs.declared.place.Place.{Place}
 use Rattle.gabc_text.specs.StageTells as text_tells
@@ -19,12 +18,17 @@ use Rattle.gabc_notes.specs.witness.Keeps as notes
 use Rattle.gabc_score.specs.declared.body_stage.BodyPart.{BodyPart}
 use Rattle.gabc_score.specs.declared.body_stage.BodyPart.TheVariants as part
 use Rattle.gabc_score.specs.declared.body_tells.Openers.{Openers}
-use Rattle.gabc_score.specs.Events.{is_close, is_next, is_text_end}
-use Rattle.gabc_score.specs.ScoreTells.{StandsAt, openers_of}
-use Rattle.gabc_score.specs.machine.PartKeeps.{in_text, in_notes, PartKeeps}
+use Rattle.gabc_score.specs.Events.{behind_mark, is_close, is_next, is_text_end}
+use Rattle.gabc_score.specs.ScoreTells.{openers_of}
+use Rattle.gabc_score.specs.machine.PartKeeps.{in_text, in_notes}
 use Rattle.gabc_score.specs.machine.PartOpens.{OpensOn, PartOpensOn}
 use Rattle.gabc_score.proofs.building.PartsKeepOn.{one_ends}
 use Rattle.gabc_score.proofs.building.PartsOfKeptText.{text_goes_on}
+use Rattle.gabc_score.specs.declared.events.BodyEvent.{BodyEvent}
+use Rattle.gabc_text.proofs.resuming.StagesKeep.{fresh_keeps}
+use Rattle.gabc_text.proofs.resuming.ToldByEvents.{opener_fresh}
+use Rattle.gabc_score.specs.machine.PartSteps.{PartSteps, SnippetSteps}
+use Rattle.gabc_score.specs.machine.PartSteps as step
 
 -- what is open stays
 pub same_open : (at : Place) (o : Openers) → OpensOn at o o
@@ -81,10 +85,24 @@ module _ (lines macros : ℕ) (x : Char) where
           subst (λ (o : Option Place). (o ≡ None) ⊎ ((o ≡ note_tells.opener_of s) ⊎ (o ≡ Some x.place))) (sym (on.goes (nat_lt 0 lines) macros k h.1 e).opener)
           (behind (in_raw (k ++ kept_of es)) (note_tells.opener_of s))
 
--- the text that begins at the LF behind a comment
-pub first_text_opens : (lines macros : ℕ) (x : Char) (s : TextStage) (before mid after : BodyPart) → before ≡ part.Comment → mid ≡ part.Text s → text.Keeps s [] → s ≡ fresh_stage x.place → PartOpensOn lines macros x mid after
-    → OpensOn x.place (openers_of before) (openers_of after)
-unfolding fresh_events.events_left
-first_text_opens lines macros x s before mid after was is keeps fresh on =
-    subst (λ (o : Openers). OpensOn x.place o (openers_of after)) (ap openers_of is ∙ ap (λ (t : TextStage). openers_of (part.Text t)) fresh ∙ sym (ap openers_of was))
-    (on (in_text []) (subst (λ (b : BodyPart). PartKeeps lines macros b (in_text [])) (sym is) keeps) (subst (λ (b : BodyPart). StandsAt x.place b) (sym is) (ap (λ (t : TextStage). text_reports.next_of t) fresh)))
+-- ---- a part takes a character
+
+-- no notes, and this in a text
+abbrev opened_inside : Option Place → Openers
+opened_inside o = record { notes = None; inner = o }
+
+opened_before : {x : Char} {line : ℕ} {opened : Place} {before after : BodyPart} {es : List NoteEvent} → SnippetSteps x line opened before es after → (openers_of before).notes ≡ Some opened
+opened_before (step.in_gabc h) = refl
+opened_before (step.in_nabc h) = refl
+
+pub opens_on : {lines macros : ℕ} {x : Char} {before after : BodyPart} {now : List BodyEvent} → PartSteps lines macros x before now after → PartOpensOn lines macros x before after
+opens_on {x = x} (step.in_front h) = λ p keeps at. same_open x.place (opened_at None)
+opens_on {x = x} {after = after} (step.leaves_front h s) = λ p keeps at.
+    subst (λ (o : Option Place). OpensOn x.place (opened_inside o) (openers_of after)) (opener_fresh x.place) (opens_on s (in_text []) (fresh_keeps x.place) refl)
+opens_on {lines} {macros} {x} (step.text_goes {s} {t} {es} h e) = text_opens_on lines macros x s t es h.keeps e
+opens_on {lines} {macros} {x} (step.text_ends {s} {after = after} h e b) = notes_open lines macros x (part.Text s) after b.tells.0
+opens_on {lines} {macros} {x} (step.snippet_goes (step.in_gabc {opened} {s} {t} {es} h) n c) = gabc_opens_on lines macros x opened s t es h.keeps n c
+opens_on {x = x} (step.snippet_goes (step.in_nabc {opened = opened} h) n c) = λ p keeps at. same_open x.place (opened_at (Some opened))
+opens_on {lines} {macros} {x} (step.snippet_next {opened = opened} {before} {after = after} s n b) = next_opens lines macros x opened before after (opened_before s) b.tells.0
+opens_on {lines} {macros} {x} (step.snippet_closes {before = before} s n c) =
+    none_open lines macros x before (part.Text (fresh_stage (behind_mark x.place))) (ap opened_inside (opener_fresh (behind_mark x.place)))

@@ -1,10 +1,9 @@
 -- A part stands behind each character with the place that it has counted.
-use Rattle.std.proofs.Common.{◌≡◌, ℕ, true, false, List, [], sym, ap, subst, ◌∙◌}
+use Rattle.std.proofs.Common.{◌≡◌, ℕ, true, false, List, [], refl, sym, ap, subst, ◌∙◌}
 use Rattle.std.specs.List.{list_any}
 use Rattle.gabc_places.specs.Place.{saturating_next_place}
 use Rattle.gabc_places.specs.declared.place.Char.{Char}
 use Rattle.gabc_places.specs.declared.place.Place.{Place}
-use Rattle.gabc_text.specs.witness.StageReports as text_reports
 use Rattle.gabc_text.specs.TextStage.{fresh_stage}
 use Rattle.gabc_text.specs.declared.stage.TextStage.{TextStage}
 use Rattle.gabc_text.specs.declared.text_event.TextEvent.{TextEvent}
@@ -16,19 +15,22 @@ use Rattle.gabc_nabc.specs.declared.stage.NabcStage.{NabcStage}
 use Rattle.gabc_nabc.specs.witness.Keeps as nabc
 use Rattle.gabc_score.specs.declared.body_stage.BodyPart.{BodyPart}
 use Rattle.gabc_score.specs.declared.body_stage.BodyPart.TheVariants as part
-use Rattle.gabc_score.specs.Events.{behind_mark, is_close, is_text_end, snippet_from}
+use Rattle.gabc_score.specs.Events.{behind_mark, is_close, is_text_end}
 use Rattle.gabc_score.specs.ScoreTells.{StandsAt}
-use Rattle.gabc_score.specs.machine.PartKeeps.{in_text, in_notes, PartKeeps, PartStandsOn}
-use Rattle.gabc_score.specs.witness.BodyStage.{part_with}
+use Rattle.gabc_score.specs.machine.PartKeeps.{in_text, in_notes, PartStandsOn}
 use Rattle.gabc_score.proofs.building.PartsKeepOn.{close_mark, nabc_close_mark}
 use Rattle.gabc_score.proofs.building.PartsOfKeptText.{text_goes_on}
+use Rattle.gabc_score.specs.declared.events.BodyEvent.{BodyEvent}
+use Rattle.gabc_text.proofs.resuming.StagesKeep.{fresh_keeps}
+use Rattle.gabc_score.specs.machine.PartSteps.{PartSteps, SnippetSteps, Begins}
+use Rattle.gabc_score.specs.machine.PartSteps as step
 
 -- a part that reads a snippet counts no place
-pub snippet_stands : (lines macros line : ℕ) (opened at : Place) (after : BodyPart) → ((xs : List Char) → part_with after xs ≡ snippet_from lines macros line opened xs) → StandsAt at after
-snippet_stands lines macros line opened at part.Comment h = tt
-snippet_stands lines macros line opened at (part.Text s) h = absurd (let e = h [] in cc)
-snippet_stands lines macros line opened at (part.Notes o s) h = tt
-snippet_stands lines macros line opened at (part.Nabc l o s) h = tt
+snippet_stands : {lines macros line : ℕ} {opened : Place} (at : Place) (after : BodyPart) → Begins lines macros line opened after → StandsAt at after
+snippet_stands at part.Comment b = tt
+snippet_stands at (part.Text s) b = absurd (let e = b.reads [] in cc)
+snippet_stands at (part.Notes o s) b = tt
+snippet_stands at (part.Nabc l o s) b = tt
 
 module _ (lines macros : ℕ) (x : Char) where
   pub text_stands_on : (s t : TextStage) (es : List TextEvent) → text.KeepsOn s x.c es t → list_any is_text_end es ≡ false → PartStandsOn lines macros x (part.Text s) (part.Text t)
@@ -49,8 +51,15 @@ module _ (lines macros : ℕ) (x : Char) where
   nabc_closes_at line opened s t es after on close stands (in_notes u earlier k) h at =
       subst (λ (c : ℕ). StandsAt (saturating_next_place x.place c) after) (sym (nabc_close_mark lines macros line opened s t x es on k h.1 close)) stands
 
--- the text that begins at the LF behind a comment
-pub first_text_stands : (lines macros : ℕ) (x : Char) (s : TextStage) (mid after : BodyPart) → mid ≡ part.Text s → text.Keeps s [] → s ≡ fresh_stage x.place → PartStandsOn lines macros x mid after
-    → StandsAt (saturating_next_place x.place x.c) after
-first_text_stands lines macros x s mid after is keeps fresh on =
-    on (in_text []) (subst (λ (b : BodyPart). PartKeeps lines macros b (in_text [])) (sym is) keeps) (subst (λ (b : BodyPart). StandsAt x.place b) (sym is) (ap (λ (t : TextStage). text_reports.next_of t) fresh))
+-- ---- a part takes a character
+
+pub stands_on : {lines macros : ℕ} {x : Char} {before after : BodyPart} {now : List BodyEvent} → PartSteps lines macros x before now after → PartStandsOn lines macros x before after
+stands_on (step.in_front h) = λ p keeps at. tt
+stands_on {x = x} (step.leaves_front h s) = λ p keeps at. stands_on s (in_text []) (fresh_keeps x.place) refl
+stands_on {lines} {macros} {x} (step.text_goes {s} {t} {es} h e) = text_stands_on lines macros x s t es h.keeps e
+stands_on (step.text_ends {after = after} h e b) = λ p keeps at. snippet_stands _ after b
+stands_on (step.snippet_goes (step.in_gabc h) n c) = λ p keeps at. tt
+stands_on (step.snippet_goes (step.in_nabc h) n c) = λ p keeps at. tt
+stands_on (step.snippet_next {after = after} s n b) = λ p keeps at. snippet_stands _ after b
+stands_on {lines} {macros} {x} (step.snippet_closes (step.in_gabc {opened} {s} {t} {es} h) n c) = gabc_closes_at lines macros x opened s t es (part.Text (fresh_stage (behind_mark x.place))) h.keeps c refl
+stands_on {lines} {macros} {x} (step.snippet_closes (step.in_nabc {line} {opened} {s} {t} {es} h) n c) = nabc_closes_at lines macros x line opened s t es (part.Text (fresh_stage (behind_mark x.place))) h.keeps c refl

@@ -17,6 +17,11 @@ use Rattle.gabc_text.specs.End.{is_end}
 use Rattle.gabc_score.specs.Events.{is_text_end, is_close, is_next, note_event}
 use Rattle.gabc_score.specs.Syllable.{closes}
 use Rattle.gabc_score.specs.machine.PartPushes.{EndsLast, ClosesLast}
+use Rattle.gabc_places.specs.declared.place.Char.{Char}
+use Rattle.gabc_score.specs.declared.body_stage.BodyPart.{BodyPart}
+use Rattle.gabc_score.specs.declared.events.BodyEvent.{BodyEvent}
+use Rattle.gabc_score.specs.machine.PartSteps.{IsBounded, PartSteps}
+use Rattle.gabc_score.specs.machine.PartSteps as step
 
 pub ends_last : {O : Type 0} (ends : O → Bool) (es : List O) → ((before behind : List O) (x : O) → es ≡ before ++ x ∷ behind → ends x ≡ true → behind ≡ []) → EndsLast ends es
 ends_last ends [] h = tt
@@ -70,3 +75,12 @@ notes_close_last line opened (e ∷ es) h = (λ c. ap (map (note_event line open
 pub texts_close_last : (es : List TextEvent) → ClosesLast (map (λ (o : TextEvent). Text o) es)
 texts_close_last [] = tt
 texts_close_last (e ∷ es) = (λ c. absurd (cc), texts_close_last es)
+
+pub closes_last : {lines macros : ℕ} {x : Char} {before after : BodyPart} {now : List BodyEvent} (s : PartSteps lines macros x before now after) → IsBounded s → ClosesLast now
+closes_last (step.in_front h) k = tt
+closes_last (step.leaves_front h s) k = closes_last s k
+closes_last (step.text_goes {es = es} h e) k = texts_close_last es
+closes_last (step.text_ends {es = es} h e b) k = texts_close_last es
+closes_last (step.snippet_goes {line} {opened} {es = es} s n c) k = notes_close_last line opened es k.once
+closes_last (step.snippet_next {line} {opened} {es = es} s n b) k = notes_close_last line opened es k.once
+closes_last (step.snippet_closes {line} {opened} {es = es} s n c) k = notes_close_last line opened es k.once

@@ -30,7 +30,7 @@ use Rattle.gabc_nabc.specs.declared.stage.NabcStage.{NabcStage}
 use Rattle.gabc_score.specs.declared.body_stage.BodyPart.{BodyPart}
 use Rattle.gabc_score.specs.declared.body_stage.BodyPart.TheVariants as part
 use Rattle.gabc_score.specs.declared.body_tells.Openers.{Openers}
-use Rattle.gabc_score.specs.Events.{is_close, is_next, is_text_end}
+use Rattle.gabc_score.specs.Events.{behind_mark, is_close, is_next, is_text_end}
 use Rattle.gabc_score.specs.ScoreTells.{is_in_comment, is_in_front, openers_of}
 use Rattle.gabc_score.specs.Syllable.{prefix_of}
 use Rattle.gabc_score.specs.machine.BodyBuilder.{with_all}
@@ -41,6 +41,10 @@ use Rattle.gabc_score.proofs.building.PartsKeepOn.{next_ends, none_close, none_n
 use Rattle.gabc_score.proofs.building.PartsOfKeptText.{Grows, IsMarked, cut_is, end_marks, ends_text, notes_ended, notes_said, of_notes, said_gathered, snippet_grows, text_goes_on, text_grows}
 use Rattle.gabc_score.proofs.resuming.PartsAreOne.{outside}
 use Rattle.gabc_score.proofs.texts_of_body.SeamsOfCharacters.{size, size_append, size_is_sum}
+use Rattle.gabc_score.specs.declared.events.BodyEvent.{BodyEvent}
+use Rattle.gabc_text.specs.TextStage.{fresh_stage}
+use Rattle.gabc_score.specs.machine.PartSteps.{PartSteps}
+use Rattle.gabc_score.specs.machine.PartSteps as step
 
 -- ---- where what is open began
 
@@ -379,3 +383,20 @@ module _ (lines macros line : ℕ) (opened : Place) (s t : NabcStage) (x : Char)
   nabc_close_reads after close = nabc_by after
       (λ u earlier k more comment h. absurd (true≢false (sym close ∙ none_close es x.c 0 h.no_end)))
       (λ u earlier k is snippet e. absurd (true≢false (sym (ap (λ (c : ℕ). c == 124) is) ∙ not_next es x.c _ e.end close)))
+
+-- ---- a part takes a character
+
+in_comment_reads : {lines macros : ℕ} {x : Char} {after : BodyPart} {now : List BodyEvent} → ReadsAgain lines macros x part.Comment after now
+in_comment_reads = record { next = λ p keeps closed. absurd (true≢false closed); comment = λ p keeps closed. absurd (true≢false closed) }
+
+pub reads_again : {lines macros : ℕ} {x : Char} {before after : BodyPart} {now : List BodyEvent} → PartSteps lines macros x before now after → ReadsAgain lines macros x before after now
+reads_again (step.in_front h) = in_comment_reads
+reads_again (step.leaves_front h s) = in_comment_reads
+reads_again {lines} {macros} {x} (step.text_goes {s} {t} {es} h e) = text_reads lines macros x s t es h.keeps e
+reads_again {lines} {macros} {x} (step.text_ends {s} {t} {es} {after} h e b) = text_end_reads lines macros x s t es h.keeps after e b.tells.0 b.tells.1
+reads_again {lines} {macros} {x} (step.snippet_goes (step.in_gabc {opened} {s} {t} {es} h) n c) = gabc_reads lines macros opened s t x es h.keeps n c
+reads_again {lines} {macros} {x} (step.snippet_goes (step.in_nabc {line} {opened} {s} {t} {es} h) n c) = nabc_reads lines macros line opened s t x es h.keeps n c
+reads_again {lines} {macros} {x} (step.snippet_next {after = after} (step.in_gabc {opened} {s} {t} {es} h) n b) = gabc_end_reads lines macros opened s t x es h.keeps after n b.tells.0 b.tells.1
+reads_again {lines} {macros} {x} (step.snippet_next {after = after} (step.in_nabc {line} {opened} {s} {t} {es} h) n b) = nabc_end_reads lines macros line opened s t x es h.keeps after n b.tells.0 b.tells.1
+reads_again {lines} {macros} {x} (step.snippet_closes (step.in_gabc {opened} {s} {t} {es} h) n c) = gabc_close_reads lines macros opened s t x es h.keeps (part.Text (fresh_stage (behind_mark x.place))) c
+reads_again {lines} {macros} {x} (step.snippet_closes (step.in_nabc {line} {opened} {s} {t} {es} h) n c) = nabc_close_reads lines macros line opened s t x es h.keeps (part.Text (fresh_stage (behind_mark x.place))) c

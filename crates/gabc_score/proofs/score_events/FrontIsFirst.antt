@@ -1,5 +1,5 @@
 -- In front of the first text no syllable is whole.
-use Rattle.std.proofs.Common.{◌≡◌, ◌-◌, List, [], true, false, length, take, drop, refl, sym, ap, ◌∙◌}
+use Rattle.std.proofs.Common.{◌≡◌, ℕ, ◌-◌, List, [], true, false, length, take, drop, refl, sym, ap, ◌∙◌}
 use Rattle.std.proofs.lemmas.Bool.{true≢false}
 use Rattle.gabc_places.specs.declared.place.Place.{Place}
 use Rattle.gabc_score.specs.declared.before.Preceding.{Preceding}
@@ -19,6 +19,10 @@ use Rattle.gabc_score.specs.machine.ScoreMachine.{shown, IsInBody, NoneIsWhole}
 use Rattle.gabc_score.specs.machine.ScoreStage.{placed_behind, with_held}
 use Rattle.gabc_score.specs.machine.SyllableBuilder.{OpenSyllable}
 use Rattle.gabc_score.proofs.resuming.BeginsAnywhere.{front_reads}
+use Rattle.gabc_places.specs.declared.place.Char.{Char}
+use Rattle.gabc_notes.specs.declared.stage.NoteEvent.{NoteEvent}
+use Rattle.gabc_score.specs.machine.PartSteps.{PartSteps, SnippetSteps}
+use Rattle.gabc_score.specs.machine.PartSteps as step
 
 -- a part in which no comment is open is not in front
 pub no_comment_no_front : {A : Type 0} (b : BodyPart) → is_in_comment b ≡ false → is_in_front b ≡ true → A
@@ -55,3 +59,18 @@ stands_there m body h front =
       none_held = ap (λ (p : ScorePart). held_in_body p m.pair.gathered.made) body ∙ ap (held_in_body score_part.Body) none.none_made;
       nothing_read = ap (λ (p : ScorePart). reading_in_body p m.pair.gathered.builder.kept) body ∙ ap (λ (o : OpenSyllable). o.kept) (front_reads m.body.part m.pair.gathered.builder front h.counts);
     }
+
+-- ---- a part takes a character
+
+snippet_front : {x : Char} {line : ℕ} {opened : Place} {before after : BodyPart} {es : List NoteEvent} → SnippetSteps x line opened before es after → is_in_front after ≡ false
+snippet_front (step.in_gabc h) = refl
+snippet_front (step.in_nabc h) = refl
+
+pub leaves_front : {lines macros : ℕ} {x : Char} {before after : BodyPart} {now : List BodyEvent} → PartSteps lines macros x before now after → PartLeavesFront before after now
+leaves_front (step.in_front h) = λ front. (refl, refl)
+leaves_front (step.leaves_front h s) = λ front. absurd (true≢false (sym (leaves_front s front).0))
+leaves_front (step.text_goes h e) = λ front. absurd (true≢false (sym front))
+leaves_front (step.text_ends {after = after} h e b) = no_comment_no_front after b.tells.1
+leaves_front (step.snippet_goes s n c) = λ front. absurd (true≢false (sym front ∙ snippet_front s))
+leaves_front (step.snippet_next {after = after} s n b) = no_comment_no_front after b.tells.1
+leaves_front (step.snippet_closes s n c) = λ front. absurd (true≢false (sym front))

@@ -1,4 +1,4 @@
-use Rattle.std.proofs.Common.{◌≡◌, ℕ, [], ◌∷◌, List, true, false, Bool, length, nat_lt, refl, sym, ap, subst, ◌∙◌, arith}
+use Rattle.std.proofs.Common.{rules, ◌≡◌, ℕ, [], ◌∷◌, List, true, false, Bool, length, nat_lt, refl, sym, ap, subst, ◌∙◌, arith}
 use Rattle.gabc_places.specs.BoundedList.{BoundedList}
 use Rattle.gabc_places.specs.declared.code.Finding.{Finding}
 use Rattle.gabc_score.specs.Syllable.{UnplacedSyllable}
@@ -10,9 +10,29 @@ use Rattle.gabc_score.specs.machine.ScoreMachine.{IsScoreAt}
 use Rattle.gabc_score.proofs.resuming.MachinesPassAgain.{PassesBy, comment_passes, goes_by, in_body_past, next_passes, no_code_by, none_coded, none_made, none_whole}
 use Rattle.gabc_places.specs.BoundedList.{BoundedList}
 use Rattle.gabc_places.specs.declared.code.Finding.{Finding}
+use Rattle.gabc_score.specs.witness.BodyStage.{BodyStageState}
+use Rattle.gabc_score.proofs.building.CountsOfParts.{counts_go_on}
+use Rattle.gabc_score.proofs.building.EventsOfSnippets.{few_events}
+use Rattle.gabc_score.proofs.building.PartsKeepOn.{keeps_on}
+use Rattle.gabc_score.proofs.building.SyllableEndsLast.{closes_last}
+use Rattle.gabc_score.proofs.resuming.PartsReadAgain.{reads_again}
+use Rattle.gabc_score.proofs.score_events.FrontIsFirst.{leaves_front}
 use Rattle.gabc_score.proofs.score_events.MemoryIsKept.{limit_past, room_past}
 use Rattle.gabc_score.proofs.score_machine.ScoreMachine.pass_again.Goals.{then-is_whole-via-then-is_whole, then-is_whole-via-else-is_whole+then-is_some}
 use Rattle.gabc_score.proofs.score_machine.ScoreMachine.pass_again.Goals as goal
+
+pub hold-requires-clause-fits : goal.hold-requires-clause-fits
+hold-requires-clause-fits c = let fit = (counts_go_on c.take.ensures.steps.0 c.take.ensures.steps.1).fit in search (rules, fit)
+
+pub hold-requires-clause-once : goal.hold-requires-clause-once
+hold-requires-clause-once c = closes_last c.take.ensures.steps.0 c.take.ensures.steps.1
+
+pub hold-requires-clause-found : goal.hold-requires-clause-found
+hold-requires-clause-found c =
+    let few = few_events c.take.ensures.steps.0 c.take.ensures.steps.1 in
+    let none = ap length c.requires.rests.rests.none in
+    let room = c.requires.rests.rests.room in
+    omega (arith, few, none, room)
 
 pub returns-then-is_whole-clause-again : goal.returns-then-is_whole-clause-again
 returns-then-is_whole-clause-again c =
@@ -23,9 +43,9 @@ returns-then-is_whole-clause-again c =
     let is : c.hold.new.pair.gathered ≡ with_all old now = c.hold.ensures.gathered ∙ ap (λ (k : Gathered). with_all k now) c.free.ensures.gathered in
     record {
       next = λ told kept rest t outside e. absurd (impossible (c.args.x.c ∷ []) false is
-          (next_passes text.characters text.comments text.ends c.a_kept_character_is_kept_again-2.ensures c.what_is_open_follows_from_the_kept_text.ensures.comment m c.requires.rests c.args.x c.take.new.self.part now c.take.ensures.again told kept rest t outside e));
+          (next_passes text.characters text.comments text.ends c.a_kept_character_is_kept_again-2.ensures c.what_is_open_follows_from_the_kept_text.ensures.comment m c.requires.rests c.args.x c.take.new.self.part now (reads_again c.take.ensures.steps.0) told kept rest t outside e));
       comment = λ told kept t front comment_open outside e percent. absurd (impossible [] true is
-          (comment_passes text.characters text.comments text.ends c.a_kept_character_is_kept_again-2.ensures c.what_is_open_follows_from_the_kept_text.ensures.comment m c.requires.rests c.args.x c.take.new.self.part now c.take.ensures.again told kept t front comment_open outside e percent));
+          (comment_passes text.characters text.comments text.ends c.a_kept_character_is_kept_again-2.ensures c.what_is_open_follows_from_the_kept_text.ensures.comment m c.requires.rests c.args.x c.take.new.self.part now (reads_again c.take.ensures.steps.0) told kept t front comment_open outside e percent));
     }
   where
     impossible : (more : List ℕ) (comment : Bool) → c.hold.new.pair.gathered ≡ with_all c.args.self.now.pair.gathered c.take.new.self.events
@@ -52,7 +72,7 @@ returns-else-is_some-clause-rests c =
     (sym c.is_whole.ensures.used ∙ c.if-is_whole.false)
     (ap (λ (ms : List UnplacedSyllable). nat_lt (length ms) (length c.hold.new.pair.gathered.made)) (sym (c.hold.ensures.held ∙ c.free.ensures.held)) ∙ sym c.is_whole.ensures.made ∙ c.if-is_whole.false)
     (sym c.code.ensures.code ∙ no_code_by c.code.result (sym c.is_some.ensures ∙ c.if-is_some.false))
-    (ap (λ (r : BoundedList Finding). r.items) c.clear.ensures) (omega (arith, cleared, held, room)) c.take.ensures.lines c.take.ensures.macros c.take.ensures.bounds c.take.ensures.keeps c.take.ensures.front)
+    (ap (λ (r : BoundedList Finding). r.items) c.clear.ensures) (omega (arith, cleared, held, room)) (ap (λ (b : BodyStageState). b.nabc_lines) c.take.ensures.same) (ap (λ (b : BodyStageState). b.macros) c.take.ensures.same) (counts_go_on c.take.ensures.steps.0 c.take.ensures.steps.1) (keeps_on c.take.ensures.steps.0) (leaves_front c.take.ensures.steps.0))
 
 pub returns-else-is_some-clause-same : goal.returns-else-is_some-clause-same
 returns-else-is_some-clause-same c = λ body.
@@ -75,9 +95,9 @@ returns-else-is_some-clause-again c =
     let is : c.hold.new.pair.gathered ≡ with_all old now = c.hold.ensures.gathered ∙ ap (λ (k : Gathered). with_all k now) c.free.ensures.gathered in
     record {
       next = λ told kept rest t outside e. goes_by m n c.args.x (c.args.x.c ∷ []) false (with_all old now) c.requires.part is
-          (next_passes text.characters text.comments text.ends c.a_kept_character_is_kept_again-2.ensures c.what_is_open_follows_from_the_kept_text.ensures.comment m c.requires.rests c.args.x c.take.new.self.part now c.take.ensures.again told kept rest t outside e);
+          (next_passes text.characters text.comments text.ends c.a_kept_character_is_kept_again-2.ensures c.what_is_open_follows_from_the_kept_text.ensures.comment m c.requires.rests c.args.x c.take.new.self.part now (reads_again c.take.ensures.steps.0) told kept rest t outside e);
       comment = λ told kept t front comment_open outside e percent. goes_by m n c.args.x [] true (with_all old now) c.requires.part is
-          (comment_passes text.characters text.comments text.ends c.a_kept_character_is_kept_again-2.ensures c.what_is_open_follows_from_the_kept_text.ensures.comment m c.requires.rests c.args.x c.take.new.self.part now c.take.ensures.again told kept t front comment_open outside e percent);
+          (comment_passes text.characters text.comments text.ends c.a_kept_character_is_kept_again-2.ensures c.what_is_open_follows_from_the_kept_text.ensures.comment m c.requires.rests c.args.x c.take.new.self.part now (reads_again c.take.ensures.steps.0) told kept t front comment_open outside e percent);
     }
 
 pub returns-then-is_whole-clause-rests : goal.returns-then-is_whole-clause-rests

@@ -24,7 +24,16 @@ use Rattle.gabc_score.specs.machine.BodyBuilder.{code_in, with_all}
 use Rattle.gabc_score.specs.machine.Gatherer.{Gathered}
 use Rattle.gabc_score.specs.machine.PartCounts.{CountsHold}
 use Rattle.gabc_score.specs.Syllable.{UnplacedSyllable}
-use Rattle.gabc_score.proofs.score_events.FrontIsFirst.{front_past}
+use Rattle.gabc_score.specs.witness.BodyStage.{BodyStageState}
+use Rattle.gabc_score.proofs.building.CountsOfParts.{counts_go_on}
+use Rattle.gabc_score.proofs.building.EventsOfSnippets.{few_events, stage_emits}
+use Rattle.gabc_score.proofs.building.PartsEndLines.{ends_line}
+use Rattle.gabc_score.proofs.building.PartsKeepOn.{keeps_on, makes}
+use Rattle.gabc_score.proofs.building.PartsKeepOnly.{keeps_only}
+use Rattle.gabc_score.proofs.building.PartsOpenOn.{opens_on}
+use Rattle.gabc_score.proofs.building.PartsStandOn.{stands_on}
+use Rattle.gabc_score.proofs.building.SyllableEndsLast.{closes_last}
+use Rattle.gabc_score.proofs.score_events.FrontIsFirst.{front_past, leaves_front}
 use Rattle.gabc_score.proofs.score_events.UnitsAreHeld.{units_past}
 use Rattle.gabc_score.proofs.score_events.CountsGoOn.{counts_past, none_past}
 use Rattle.gabc_score.proofs.score_events.OpenersInOrder.{opens_in_order, place_behind}
@@ -42,9 +51,22 @@ use Rattle.gabc_score.specs.machine.ScoreMachine.{IsScoreAt}
 use Rattle.gabc_score.proofs.score_events.MemoryIsKept.{limit_past, room_past}
 use Rattle.gabc_score.proofs.score_machine.ScoreMachine.read.Goals as goal
 
+pub hold-requires-clause-fits : goal.hold-requires-clause-fits
+hold-requires-clause-fits c = let fit = (counts_go_on c.take.ensures.steps.0 c.take.ensures.steps.1).fit in search (rules, fit)
+
+pub hold-requires-clause-once : goal.hold-requires-clause-once
+hold-requires-clause-once c = closes_last c.take.ensures.steps.0 c.take.ensures.steps.1
+
+pub hold-requires-clause-found : goal.hold-requires-clause-found
+hold-requires-clause-found c =
+    let few = few_events c.take.ensures.steps.0 c.take.ensures.steps.1 in
+    let none = ap length c.requires.rests.rests.none in
+    let room = c.requires.rests.rests.room in
+    omega (arith, few, none, room)
+
 pub find_first-requires : goal.find_first-requires
 find_first-requires c =
-    let few = few_found c.args.self.now.found c.hold.new.found c.take.new.self.events c.requires.rests.rests.none c.hold.ensures.found c.take.ensures.events.few in
+    let few = few_found c.args.self.now.found c.hold.new.found c.take.new.self.events c.requires.rests.rests.none c.hold.ensures.found (few_events c.take.ensures.steps.0 c.take.ensures.steps.1) in
     let same = ap (λ (r : BoundedList Finding). r.limit) c.hold.ensures.found in
     let room = c.requires.rests.rests.room in
     omega (arith, few, same, room)
@@ -52,7 +74,7 @@ find_first-requires c =
 pub give_point-gave-requires-clause-few : goal.give_point-gave-requires-clause-few
 give_point-gave-requires-clause-few c =
     few_with_first c.hold.new.found c.find_first.new.found c.first_kind-was.result c.first_kind.result c.args.x.place c.find_first.ensures
-    (few_found c.args.self.now.found c.hold.new.found c.take.new.self.events c.requires.rests.rests.none c.hold.ensures.found c.take.ensures.events.few)
+    (few_found c.args.self.now.found c.hold.new.found c.take.new.self.events c.requires.rests.rests.none c.hold.ensures.found (few_events c.take.ensures.steps.0 c.take.ensures.steps.1))
 
 pub returns-in-Some-clause-step : goal.returns-in-Some-clause-step
 returns-in-Some-clause-step c =
@@ -75,7 +97,7 @@ returns-in-Some-clause-step c =
       whole = λ body. absurd (cc (body, c.stop.ensures.part));
       told = λ may here was body. absurd (cc (body, c.stop.ensures.part));
       holds = λ was body. absurd (cc (body, c.stop.ensures.part));
-      law = search rules;
+      law = (let emits = (stage_emits c.args.self.now.body c.take.ensures.same c.take.ensures.steps).law in search (rules, emits));
       emitted = c.stop.ensures.emitted;
       front = λ heads. absurd (cc (heads, c.requires.part));
     }
@@ -84,7 +106,7 @@ pub returns-after-self-clause-step : goal.returns-after-self-clause-step
 returns-after-self-clause-step c =
     let b = c.args.self.now.bounds in
     let turns = turned b c.args.self.now.pair.gathered c.free.new.self.gathered c.hold.new.pair.gathered c.take.new.self.events c.hold.new.pair.held c.free.new.self.held c.args.self.now.has_lent c.is_whole-is_whole.result c.give_point-gave.result
-    c.free.ensures.gathered c.free.ensures.one c.hold.ensures.gathered c.hold.ensures.held c.free.ensures.held c.requires.rests.preceded c.requires.rests.behind c.take.ensures.once c.is_whole-is_whole.ensures.made c.give_point-gave.ensures.gave in
+    c.free.ensures.gathered c.free.ensures.one c.hold.ensures.gathered c.hold.ensures.held c.free.ensures.held c.requires.rests.preceded c.requires.rests.behind (closes_last c.take.ensures.steps.0 c.take.ensures.steps.1) c.is_whole-is_whole.ensures.made c.give_point-gave.ensures.gave in
     let passed : c.pass.new.self ≡ past_point c.is_whole-is_whole.result c.give_point-gave.result b c.hold.new.pair.gathered =
     c.pass.ensures ∙ ap (past_point c.is_whole-is_whole.result c.give_point-gave.result b) c.give_point-gave.ensures.gathered in
     let made = c.hold.new.pair.gathered.made in
@@ -100,7 +122,7 @@ returns-after-self-clause-step c =
     let within : All (IsWithin limits) lent = All-take (IsWithin limits) (length made - 1) (placed_behind c.args.self.now.has_lent made) (placed_within limits (not c.args.self.now.has_lent) made short) in
     let texts : MayCome limits c.args.self.now.next (head_event.Body c.args.x) → IsToldOfText (shown c.args.self.now) → HoldsTexts c.give_point-gave.new.pair.gathered =
     λ may t. subst HoldsTexts (sym c.give_point-gave.ensures.gathered) (plain_held c.hold.new.pair.gathered (subst HoldsTexts (sym is)
-    (plain_all old now (of_character c.args.x.c (kept_codes now) may.1.1 (c.take.ensures.only c.requires.rests.reading.parts c.requires.rests.reading.keeps)) (t.reading, t.held)))) in
+    (plain_all old now (of_character c.args.x.c (kept_codes now) may.1.1 (keeps_only c.take.ensures.steps.0 c.requires.rests.reading.parts c.requires.rests.reading.keeps)) (t.reading, t.held)))) in
     let few : length old.made ≤ 1 = subst (λ (k : Gathered). length k.made ≤ 1) c.free.ensures.gathered c.free.ensures.one in
     let there : c.pass.new.self.before ≡ with_placed b.before (take (length (with_all old now).made - 1) (placed_behind c.args.self.now.has_lent (with_all old now).made)) =
     subst (λ (k : Gathered). c.pass.new.self.before ≡ with_placed b.before (take (length k.made - 1) (placed_behind c.args.self.now.has_lent k.made))) is (ap (λ (k : Bounds). k.before) passed ∙ turns.given) in
@@ -114,15 +136,15 @@ returns-after-self-clause-step c =
       part = stays_inside c.args.self.now.part c.args.self.now.part (head_event.Body c.args.x) fs lent c.requires.part c.requires.part;
       last = λ other final. absurd (cc final);
       passes = λ other. tt;
-      line = λ lf body. c.take.ensures.line c.requires.rests.reading.parts c.requires.rests.reading.keeps lf;
-      counts = λ place here was body. c.take.ensures.stands c.requires.rests.reading.parts c.requires.rests.reading.keeps
+      line = λ lf body. ends_line c.take.ensures.steps.0 c.requires.rests.reading.parts c.requires.rests.reading.keeps lf;
+      counts = λ place here was body. stands_on c.take.ensures.steps.0 c.requires.rests.reading.parts c.requires.rests.reading.keeps
           (subst (λ p. StandsAt p c.args.self.now.body.part) (sym here) (was c.requires.part));
       before_held = λ body. past_in_body c.args.self.now.part (head_event.Body c.args.x) fs lent c.args.self.now.bounds.before c.pass.new.self.before c.requires.part
           (ap (λ (k : Bounds). k.before) passed ∙ turns.given);
       next = search rules;
-      whole = λ body. rw c.requires.part (whole_past b.before c.pass.new.self.before c.args.self.now.has_lent old c.hold.new.pair.gathered c.give_point-gave.new.pair.gathered now c.take.ensures.once is (ap (λ (k : Bounds). k.before) passed ∙ turns.given) c.give_point-gave.ensures.gathered);
+      whole = λ body. rw c.requires.part (whole_past b.before c.pass.new.self.before c.args.self.now.has_lent old c.hold.new.pair.gathered c.give_point-gave.new.pair.gathered now (closes_last c.take.ensures.steps.0 c.take.ensures.steps.1) is (ap (λ (k : Bounds). k.before) passed ∙ turns.given) c.give_point-gave.ensures.gathered);
       told = λ may here was body. record {
-        counts = rw (c.take.ensures.lines, c.take.ensures.macros)
+        counts = rw ((ap (λ (b : BodyStageState). b.nabc_lines) c.take.ensures.same), (ap (λ (b : BodyStageState). b.macros) c.take.ensures.same))
             (counts_past limits c.args.self.now.body.nabc_lines c.args.self.now.body.macros b.before c.pass.new.self.before c.args.self.now.has_lent c.hold.new.pair.gathered c.give_point-gave.new.pair.gathered
             (ap (λ (k : Bounds). k.before) passed ∙ turns.given) c.give_point-gave.ensures.gathered
             (subst (λ (k : Gathered). IsPreceded c.pass.new.self.before k) (sym c.give_point-gave.ensures.gathered) (subst (λ (k : Bounds). IsPreceded k.before (with_held c.hold.new.pair.gathered)) (sym passed) turns.preceded))
@@ -134,14 +156,14 @@ returns-after-self-clause-step c =
         next = subst IsPlace (sym c.saturating_after-self.ensures) (behind may (was c.requires.part).next).0;
         openers = subst (λ p. AreOpenersBefore p (openers_of c.take.new.self.part)) (sym c.saturating_after-self.ensures)
             (opens_in_order c.args.x.place (saturating_next_place c.args.x.place c.args.x.c) (behind may (was c.requires.part).next).1 (subst IsPlace (sym may.0) (was c.requires.part).next) (openers_of c.args.self.now.body.part) (openers_of c.take.new.self.part)
-            (c.take.ensures.opens c.requires.rests.reading.parts c.requires.rests.reading.keeps (subst (λ p. StandsAt p c.args.self.now.body.part) (sym may.0) (here c.requires.part)))
+            (opens_on c.take.ensures.steps.0 c.requires.rests.reading.parts c.requires.rests.reading.keeps (subst (λ p. StandsAt p c.args.self.now.body.part) (sym may.0) (here c.requires.part)))
             (subst (λ p. AreOpenersBefore p (openers_of c.args.self.now.body.part)) (sym may.0) (was c.requires.part).openers));
       };
-      holds = λ was body none. none_past b.before c.pass.new.self.before c.args.self.now.has_lent old c.hold.new.pair.gathered c.give_point-gave.new.pair.gathered now c.take.ensures.once (ap (λ (k : Bounds). k.before) passed ∙ turns.given) c.give_point-gave.ensures.gathered is
+      holds = λ was body none. none_past b.before c.pass.new.self.before c.args.self.now.has_lent old c.hold.new.pair.gathered c.give_point-gave.new.pair.gathered now (closes_last c.take.ensures.steps.0 c.take.ensures.steps.1) (ap (λ (k : Bounds). k.before) passed ∙ turns.given) c.give_point-gave.ensures.gathered is
           (λ e. was c.requires.part (ap (λ (k : ScorePart). held_in_body k old.made) c.requires.part ∙ e)) (ap (λ (k : ScorePart). held_in_body k c.give_point-gave.new.pair.gathered.made) (sym c.requires.part) ∙ none);
-      stands = λ here was body. subst (λ p. StandsAt p c.take.new.self.part) (sym c.saturating_after-self.ensures) (c.take.ensures.stands c.requires.rests.reading.parts c.requires.rests.reading.keeps
+      stands = λ here was body. subst (λ p. StandsAt p c.take.new.self.part) (sym c.saturating_after-self.ensures) (stands_on c.take.ensures.steps.0 c.requires.rests.reading.parts c.requires.rests.reading.keeps
           (subst (λ p. StandsAt p c.args.self.now.body.part) (sym here) (was c.requires.part)));
-      law = search rules;
+      law = (let emits = (stage_emits c.args.self.now.body c.take.ensures.same c.take.ensures.steps).law in search (rules, emits));
       emitted = c.give_point-gave.ensures.emitted;
       front = λ heads. absurd (cc (heads, c.requires.part));
     }
@@ -150,7 +172,7 @@ pub returns-after-self-clause-rests : goal.returns-after-self-clause-rests
 returns-after-self-clause-rests c =
     let b = c.args.self.now.bounds in
     let turns = turned b c.args.self.now.pair.gathered c.free.new.self.gathered c.hold.new.pair.gathered c.take.new.self.events c.hold.new.pair.held c.free.new.self.held c.args.self.now.has_lent c.is_whole-is_whole.result c.give_point-gave.result
-    c.free.ensures.gathered c.free.ensures.one c.hold.ensures.gathered c.hold.ensures.held c.free.ensures.held c.requires.rests.preceded c.requires.rests.behind c.take.ensures.once c.is_whole-is_whole.ensures.made c.give_point-gave.ensures.gave in
+    c.free.ensures.gathered c.free.ensures.one c.hold.ensures.gathered c.hold.ensures.held c.free.ensures.held c.requires.rests.preceded c.requires.rests.behind (closes_last c.take.ensures.steps.0 c.take.ensures.steps.1) c.is_whole-is_whole.ensures.made c.give_point-gave.ensures.gave in
     let passed : c.pass.new.self ≡ past_point c.is_whole-is_whole.result c.give_point-gave.result b c.hold.new.pair.gathered =
     c.pass.ensures ∙ ap (past_point c.is_whole-is_whole.result c.give_point-gave.result b) c.give_point-gave.ensures.gathered in
     let old = c.requires.rests in
@@ -179,7 +201,7 @@ returns-after-self-clause-rests c =
       };
       counts = subst (CountsHold c.take.new.self.part)
           (sym (ap (λ (k : Gathered). k.builder) t.gathered ∙ ap (λ (k : Gathered). k.builder) h.gathered ∙ ap (λ (k : Gathered). (with_all k now).builder) c.free.ensures.gathered))
-          (c.take.ensures.bounds.counts c.args.self.now.pair.gathered old.counts);
+          ((counts_go_on c.take.ensures.steps.0 c.take.ensures.steps.1).counts c.args.self.now.pair.gathered old.counts);
       kept = rw (ap (λ (k : Gathered). k.builder.kept) t.gathered) (omega (arith, kept, limit));
       preceded = subst (λ (k : Gathered). IsPreceded c.pass.new.self.before k) (sym t.gathered) (subst (λ (k : Bounds). IsPreceded k.before (with_held g)) (sym passed) turns.preceded);
       behind =
@@ -192,13 +214,13 @@ returns-after-self-clause-rests c =
       reading = reading_past c.args.self.now.body.nabc_lines c.args.self.now.body.macros c.take.new.self.nabc_lines c.take.new.self.macros c.args.self.now.body.part c.take.new.self.part b c.pass.new.self was g c.give_point-gave.new.pair.gathered now
           c.is_whole-is_whole.result c.give_point-gave.result (let few = old.kept in let most = c.args.self.now.limits.in_range.syllable_most in omega (arith, few, most)) is t.gathered
           (c.is_whole-is_whole.ensures.made ∙ ap (λ (ms : List UnplacedSyllable). nat_lt (length ms) (length g.made)) (c.hold.ensures.held ∙ c.free.ensures.held))
-          passed c.take.ensures.lines c.take.ensures.macros c.take.ensures.keeps old.reading;
+          passed (ap (λ (b : BodyStageState). b.nabc_lines) c.take.ensures.same) (ap (λ (b : BodyStageState). b.macros) c.take.ensures.same) (keeps_on c.take.ensures.steps.0) old.reading;
       units = units_past c.args.self.now.body.nabc_lines c.args.self.now.body.macros c.take.new.self.nabc_lines c.args.self.now.body.part b.before c.pass.new.self.before b.behind.spans c.args.self.now.has_lent was g
-          c.give_point-gave.new.pair.gathered now (let few = old.kept in let most = c.args.self.now.limits.in_range.syllable_most in omega (arith, few, most)) is t.gathered c.take.ensures.lines
-          (ap (λ (p : Preceding). p.spans) old.behind) (ap (λ (k : Bounds). k.before) passed ∙ turns.given) c.take.ensures.makes old.reading old.units;
+          c.give_point-gave.new.pair.gathered now (let few = old.kept in let most = c.args.self.now.limits.in_range.syllable_most in omega (arith, few, most)) is t.gathered (ap (λ (b : BodyStageState). b.nabc_lines) c.take.ensures.same)
+          (ap (λ (p : Preceding). p.spans) old.behind) (ap (λ (k : Bounds). k.before) passed ∙ turns.given) (makes c.take.ensures.steps.0) old.reading old.units;
       within = within_past c.args.self.now.limits b.before c.pass.new.self.before c.args.self.now.has_lent was g c.give_point-gave.new.pair.gathered now old.rests.limit old.rests.over old.preceded.follows old.within is none
           (ap (λ (k : Bounds). k.before) passed ∙ turns.given) t.gathered;
-      front = front_past c.args.self.now.body.part c.take.new.self.part b.before c.pass.new.self.before c.args.self.now.has_lent was g c.give_point-gave.new.pair.gathered now c.take.ensures.front old.front is
+      front = front_past c.args.self.now.body.part c.take.new.self.part b.before c.pass.new.self.before c.args.self.now.has_lent was g c.give_point-gave.new.pair.gathered now (leaves_front c.take.ensures.steps.0) old.front is
           (ap (λ (k : Bounds). k.before) passed ∙ turns.given) t.gathered;
     })
 
@@ -209,9 +231,9 @@ returns-in-Some-clause-reads c =
     record {
       now = now;
       after = c.take.new.self;
-      law = c.take.ensures.events.law;
-      last = c.take.ensures.once;
-      only = c.take.ensures.only c.requires.rests.reading.parts c.requires.rests.reading.keeps;
+      law = (stage_emits c.args.self.now.body c.take.ensures.same c.take.ensures.steps).law;
+      last = closes_last c.take.ensures.steps.0 c.take.ensures.steps.1;
+      only = keeps_only c.take.ensures.steps.0 c.requires.rests.reading.parts c.requires.rests.reading.keeps;
       limits = c.stop.ensures.limits;
       gathers = λ none. absurd (cc (sym c.in-Some.is ∙ (c.code.ensures.code ∙ (ap (code_in c.args.self.now.limits) is ∙ none))));
       stops = λ some. c.stop.ensures.part;
@@ -229,16 +251,16 @@ returns-after-self-clause-reads c =
     record {
       now = now;
       after = c.take.new.self;
-      law = c.take.ensures.events.law;
-      last = c.take.ensures.once;
-      only = c.take.ensures.only c.requires.rests.reading.parts c.requires.rests.reading.keeps;
+      law = (stage_emits c.args.self.now.body c.take.ensures.same c.take.ensures.steps).law;
+      last = closes_last c.take.ensures.steps.0 c.take.ensures.steps.1;
+      only = keeps_only c.take.ensures.steps.0 c.requires.rests.reading.parts c.requires.rests.reading.keeps;
       limits = refl;
       gathers = λ fine. record {
         part = c.requires.part;
         body = refl;
         gathered = c.give_point-gave.ensures.gathered ∙ ap with_held is;
-        lines = c.take.ensures.lines;
-        macros = c.take.ensures.macros;
+        lines = ap (λ (b : BodyStageState). b.nabc_lines) c.take.ensures.same;
+        macros = ap (λ (b : BodyStageState). b.macros) c.take.ensures.same;
         before = λ few. ap (λ (k : Bounds). k.before) passed ∙ none_given c.is_whole-is_whole.result c.give_point-gave.result b c.hold.new.pair.gathered (c.give_point-gave.ensures.gave ∙ ap (λ (k : Gathered). nat_lt 1 (length k.made)) is) few;
         found = λ few. given_only c.args.self.now.found c.hold.new.found c.find_first.new.found now c.args.out.now c.give_point-gave.new.out c.args.self.now.has_lent old (with_all old now) c.hold.new.pair.gathered c.args.x.place is few
             c.requires.rests.rests.none c.hold.ensures.found (c.find_first.ensures ∙ ap (λ k. extended_by c.hold.new.found (found_first k c.first_kind.result c.args.x.place)) (c.first_kind-was.ensures ∙ ap (λ (k : Gathered). k.first_kind) c.free.ensures.gathered)
