@@ -34,3 +34,4 @@ pub mod WhatOutputsSay
 pub mod WhatPrecedes
 pub mod UnitsAreHeld
 pub mod WholeSyllables
+pub mod GivesOutside

@@ -12,8 +12,8 @@ ghost use Rattle.gabc_score.specs.witness.ScoreStage.{ScoreStageState};
 
 use crate::stage_laws;
 
-/// Calls the laws of the stages of texts and snippets on which the laws below stand.
-fn laws_of_stages()
+/// Law: the laws of the stages of texts and snippets on which the reading of a kept text stands.
+pub(crate) fn laws_of_stages()
     ensures { StageLaws }
 {
     gabc_text::laws::a_stage_takes_each_character();

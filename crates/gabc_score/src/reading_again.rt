@@ -1,17 +1,19 @@
 //! A kept text that is read again.
 
-ghost use Rattle.std.specs.Prelude.{◌≡◌, [], true, false, None, is_some};
+ghost use Rattle.std.specs.Prelude.{◌≡◌, [], ◌∷◌, ◌++◌, true, false, cond, None, is_some};
+ghost use Rattle.std.specs.Str.{chars};
 ghost use Rattle.gabc_score.specs.ReadAgain.{StandsBefore, TellsOfReading, TellsTheSameBut};
-ghost use Rattle.gabc_score.specs.ScoreTells.{before_of, is_in_comment, is_in_front, openers_of, reading_of};
+ghost use Rattle.gabc_score.specs.ScoreTells.{before_of, openers_of, reading_of};
 ghost use Rattle.gabc_places.specs.TextOfAnInput.{IsText};
 ghost use Rattle.gabc_score.specs.ToldWithin.{AreOpenersBefore, IsPlace, TellsOfText};
 ghost use Rattle.gabc_score.specs.witness.ReadAgain.{CanBeReadAgain};
 ghost use Rattle.gabc_score.specs.witness.ScoreStage.{ScoreStageState};
-ghost use Rattle.gabc_score.specs.machine.ReadAgain.{outer_of, inner_of, place_in, IsRunAlike, IsSameBut, IsToldBy, PassesAgain, StandsSo, TakesAgain};
+ghost use Rattle.gabc_score.specs.machine.ReadAgain.{outer_of, inner_of, place_in, PassesAgain, ReadsKept, ReadsThrough, TakesAgain};
 ghost use Rattle.gabc_score.specs.machine.ScoreMachine.{shown, IsInBody, IsScore};
 
 use crate::body_stage::{BodyPart, BodyStage};
 use crate::body_tells::Openers;
+use crate::kept_laws::laws_of_stages;
 use crate::score_machine::{ScoreMachine, ScorePart};
 use crate::score_stage::ScoreStage;
 use gabc_places::{Char, Place};
@@ -37,13 +39,8 @@ impl ScoreMachine {
         requires part { self.old.part ≡ ScorePart.Body }
         requires rests { IsInBody self.old }
         ensures rests { IsScore self.new }
-        ensures run { IsRunAlike self.old self.new }
-        ensures same { self.new.part ≡ ScorePart.Body → IsSameBut self.old self.new }
-        ensures again { PassesAgain self.old x self.new }
+        ensures step { PassesAgain self.old x self.new }
     {
-        gabc_text::laws::a_kept_character_is_kept_again();
-        gabc_text::laws::what_is_open_follows_from_the_kept_text();
-        gabc_notes::laws::a_kept_character_is_kept_again();
         self.pair.free();
         self.body.take(x);
         self.body.hold(&mut self.pair, &mut self.found);
@@ -58,11 +55,8 @@ impl ScoreMachine {
     fn take_again(&mut self, c: char, openers: Openers)
         requires rests { IsScore self.old }
         ensures rests { IsScore self.new }
-        ensures run { IsRunAlike self.old self.new }
-        ensures same { self.new.part ≡ ScorePart.Body → IsSameBut self.old self.new }
-        ensures again { TakesAgain self.old c openers self.new }
+        ensures step { TakesAgain self.old c openers self.new }
     {
-        gabc_text::laws::what_is_open_stays_open_elsewhere();
         let ScorePart::Body = self.part else {
             return;
         };
@@ -72,33 +66,17 @@ impl ScoreMachine {
         self.pass_again(Char { c, place });
     }
 
-    /// Reads each character of `kept` again, a kept text after which this is open at `openers`.
-    fn read_kept(&mut self, kept: &str, openers: Openers)
+    /// Reads each character of `kept` again, a kept text after which this is open at `openers`, and
+    /// the `%` of a comment after it if `in_comment`.
+    fn read_told(&mut self, kept: &str, openers: Openers, in_comment: bool)
         requires rests { IsScore self.old }
         ensures rests { IsScore self.new }
-        ensures run { IsRunAlike self.old self.new }
-        ensures same { self.new.part ≡ ScorePart.Body → IsSameBut self.old self.new }
-        ensures again { (told : BodyPart) → IsToldBy self.old.body.nabc_lines self.old.body.macros
-            self.old.limits.syllable told kept.now → StandsSo self.old openers [] false
-            → StandsSo self.new openers kept.now false }
+        ensures steps { ReadsThrough self.old openers
+            (chars kept.now ++ cond in_comment (37 ∷ []) []) self.new }
     {
         for c in kept.chars() {
             self.take_again(c, openers);
         }
-    }
-
-    /// Reads each character of `kept` again, and the `%` of a comment after it if `in_comment`.
-    fn read_told(&mut self, kept: &str, openers: Openers, in_comment: bool)
-        requires rests { IsScore self.old }
-        ensures rests { IsScore self.new }
-        ensures run { IsRunAlike self.old self.new }
-        ensures same { self.new.part ≡ ScorePart.Body → IsSameBut self.old self.new }
-        ensures again { (told : BodyPart) → IsToldBy self.old.body.nabc_lines self.old.body.macros
-            self.old.limits.syllable told kept.now → is_in_front told ≡ false →
-            is_in_comment told ≡ in_comment → StandsSo self.old openers [] false →
-            StandsSo self.new openers kept.now in_comment }
-    {
-        self.read_kept(kept, openers);
         if in_comment {
             self.take_again('%', openers);
         }
@@ -117,26 +95,8 @@ impl ScoreMachine {
     ) -> bool
         requires rests { IsScore self.old }
         ensures rests { IsScore self.new }
-        ensures limits { self.new.limits ≡ self.old.limits }
-        ensures same { result ≡ true → TellsTheSameBut (shown self.old) (shown self.new) next }
-        ensures over { result ≡ false → before_of (shown self.new) ≡ None }
-        ensures ends { result ≡ false → self.old.part ≡ ScorePart.Body →
-            self.new.part ≡ ScorePart.Over }
-        ensures outside { (self.old.part ≡ ScorePart.Body → ⊥) →
-            (result ≡ false) × (self.new ≡ self.old) }
-        ensures told { result ≡ true → IsPlace next →
-            AreOpenersBefore next (openers_of self.new.body.part) →
-            IsText (reading_of (shown self.new)) →
-            TellsOfText (shown self.old) → TellsOfText (shown self.new) }
-        ensures again { (told : ScoreStageState) → CanBeReadAgain told →
-            told.limits ≡ self.old.limits → before_of told ≡ before_of (shown self.old) →
-            TellsOfReading told kept.now openers in_comment → StandsBefore (shown self.old) →
-            (result ≡ true) × TellsOfReading (shown self.new) kept.now openers in_comment }
+        ensures reads { ReadsKept self.old kept.now openers in_comment next result self.new }
     {
-        gabc_text::laws::what_is_open_follows_from_the_kept_text();
-        gabc_text::laws::what_is_open_stays_open_elsewhere();
-        gabc_text::laws::a_kept_character_is_kept_again();
-        gabc_notes::laws::a_kept_character_is_kept_again();
         let ScorePart::Body = self.part else {
             return false;
         };
@@ -189,6 +149,8 @@ impl ScoreStage {
             TellsOfReading told kept.now openers in_comment → StandsBefore self.old →
             (result ≡ true) × TellsOfReading self.new kept.now openers in_comment }
     {
+        laws_of_stages();
+        gabc_text::laws::what_is_open_stays_open_elsewhere();
         self.machine.read_again(kept, openers, in_comment, next)
     }
 

@@ -39,6 +39,7 @@ ghost use Rattle.gabc_places.specs.TextOfAnInput.{IsText};
 ghost use Rattle.gabc_score.specs.ToldWithin.{AreCountsWithin, IsPlace, IsToldWithin, TellsOfText, whole_syllables, written_behind};
 ghost use Rattle.gabc_score.specs.witness.ScoreStage.{ScoreStageState, left_of};
 
+use crate::kept_laws::laws_of_stages;
 use crate::score_event::ScoreEvent;
 use crate::score_stage::ScoreStage;
 use gabc_headers::HeadEvent;
@@ -233,9 +234,8 @@ pub fn stages_that_tell_the_same_agree()
         (xs : List HeadEvent) →
         GiveTheSame (held_of one) (held_of other) (left_of one xs) (left_of other xs) }
 {
-    gabc_text::laws::a_kept_character_is_kept_again();
+    laws_of_stages();
     gabc_text::laws::stages_behind_one_text_agree();
-    gabc_notes::laws::a_kept_character_is_kept_again();
     gabc_notes::laws::stages_behind_one_text_agree();
     gabc_nabc::laws::stages_behind_one_text_agree();
 }
@@ -248,10 +248,9 @@ pub fn stages_that_tell_the_same_agree_in_line()
         (xs : List HeadEvent) → StandInLine one.held.next xs →
         GiveTheSame (held_of one) (held_of other) (left_of one xs) (left_of other xs) }
 {
-    gabc_text::laws::a_kept_character_is_kept_again();
+    laws_of_stages();
     gabc_text::laws::a_comment_before_a_text_counts_for_nothing();
     gabc_text::laws::what_is_open_stays_open_elsewhere();
-    gabc_notes::laws::a_kept_character_is_kept_again();
     in_front_nothing_is_read();
     stages_that_tell_the_same_agree();
 }

@@ -52,7 +52,7 @@ module _ (laws : StageLaws) (reads : FromBeginning) (lines macros : ℕ) where
 
     same : r.stands.reading.parts ≡ p
     same =
-        parts_are_one laws.again.text_kept laws.again.text_ends laws.again.gabc_kept lines macros r.read.after told r.stands.reading.parts p r.stands.reading.keeps keeps
+        parts_are_one laws.again lines macros r.read.after told r.stands.reading.parts p r.stands.reading.keeps keeps
         (encodes_same (joined r.stands.reading.parts) (joined p) (sym r.stands.reading.kept ∙ r.stands.kept ∙ ap encode_utf8_all (sym is)))
 
     keeps_same : PartKeeps lines macros r.read.after p
@@ -71,7 +71,7 @@ module _ (laws : StageLaws) (reads : FromBeginning) (lines macros : ℕ) where
     adds open_comment =
         let reads : Reads r.read.after r.stands.reading.parts (record { c = 37; place = place_past first_place t }) [] true one.after one.now =
         one.again.comment r.stands.reading.parts r.stands.reading.keeps r.stands.outside refl
-        (subst (BeginsComment lines) (sym same) (begins laws.again.text_comments laws.ends.text_comment lines macros told p keeps front open_comment)) in
+        (subst (BeginsComment lines) (sym same) (begins laws.again laws.ends lines macros told p keeps front open_comment)) in
         adds_after laws.steps lines macros (events_onto (concat_of r.read.lists) []) one.now []
         (reads.adds (gathered_of (events_onto (concat_of r.read.lists) [])) r.stands.reading.kept r.stands.reading.from (let e = ap length r.stands.kept in omega (arith, e, few)))
 

@@ -190,7 +190,7 @@ module _ (steps : Steps) (lines macros : ℕ) where
     -- the next character of the text that is told
     next_told : (b : BodyPart) (before : List BodyEvent) (done rest : List ℕ) (at : Place) (c : ℕ) → (h : StandsAfter lines macros at b before done) → done ++ c ∷ rest ≡ joined p → IsNext lines h.reading.parts c
     next_told b before done rest at c h is =
-        next_is again.text_kept again.text_comments again.text_ends again.gabc_kept lines macros b told h.reading.parts p c rest h.reading.keeps keeps
+        next_is again lines macros b told h.reading.parts p c rest h.reading.keeps keeps
         (ap (λ (k : List ℕ). k ++ c ∷ rest) (encodes_same (joined h.reading.parts) done (sym h.reading.kept ∙ h.kept)) ∙ is)
 
     few_done : (done rest : List ℕ) → done ++ rest ≡ joined p → length (encode_utf8_all done) < 2 ^ 64

@@ -30,7 +30,8 @@ use Rattle.gabc_score.specs.declared.score_machine.ScoreMachine.{ScoreMachine}
 use Rattle.gabc_score.specs.declared.score_machine.ScorePart.TheVariants as score_part
 use Rattle.gabc_score.specs.Before.{with_each}
 use Rattle.gabc_score.specs.Body.{is_longer, is_none}
-use Rattle.gabc_score.specs.ScoreTells.{StandsAt, is_in_comment, is_in_front}
+use Rattle.gabc_score.specs.declared.body_tells.Openers.{Openers}
+use Rattle.gabc_score.specs.ScoreTells.{is_in_comment, is_in_front, moved_part}
 use Rattle.gabc_score.specs.Syllable.{UnplacedSyllable}
 use Rattle.gabc_score.specs.machine.HeldWithin.{AreWritten}
 use Rattle.gabc_score.specs.machine.PartMakes.{HoldUnits}
@@ -41,11 +42,13 @@ use Rattle.gabc_score.specs.machine.PartCounts.{CountsHold, PartGoesOn}
 use Rattle.gabc_score.specs.machine.PartFronts.{PartLeavesFront}
 use Rattle.gabc_score.specs.machine.PartKeeps.{KeptParts, in_text, in_notes, joined, IsReading, PartKeeps, PartKeepsOn}
 use Rattle.gabc_score.specs.machine.Preceded.{IsPreceded}
-use Rattle.gabc_score.specs.machine.ReadAgain.{Adds, BeginsComment, BeginsIn, GoesBy, IsNext, IsToldBy, OpenAt, Reads, ReadsAgain, place_in}
+use Rattle.gabc_score.specs.machine.ReadAgain.{Adds, BeginsComment, BeginsIn, HasPassed, IsNext, IsToldBy, PassesAgain, Reads, StandsSo, TakesAgain, inner_of, moved, outer_of, place_in}
 use Rattle.gabc_score.specs.machine.ScoreMachine.{IsInBody, IsShort}
 use Rattle.gabc_score.specs.machine.SlotPair.{SlotPairState, is_made}
+use Rattle.gabc_score.specs.machine.StageLaws.{Again, Ends}
 use Rattle.gabc_score.specs.witness.BodyStage.{BodyStageState}
 use Rattle.gabc_score.proofs.building.PartsOfKeptText.{stays}
+use Rattle.gabc_score.proofs.resuming.StagesMove.{TextStays, comment_moved, open_moved, place_moved, stands_moved}
 use Rattle.gabc_score.proofs.resuming.NextIsKept.{next_is}
 use Rattle.gabc_score.proofs.resuming.PartsAreOne.{parts_are_one}
 use Rattle.gabc_score.proofs.score_events.EventsStayWithinBounds.{limit_stays, within}
@@ -59,23 +62,13 @@ abbrev CountAlike : Gathered → Gathered → Type 0
 CountAlike g h = ((h.made ≡ g.made) × (h.total ≡ g.total) × (h.over ≡ g.over)) ⊎ (length g.made < length h.made)
 
 event_counts : (g : Gathered) (t : BodyEvent) → CountAlike g (with_event g t)
-event_counts g (event.Text (text_out.Kept c)) = inl (refl, refl, refl)
 event_counts g (event.Text (text_out.Part text_part.WordStart)) = inl (refl, refl, refl)
-event_counts g (event.Text (text_out.Part (text_part.Piece p))) = inl (refl, refl, refl)
-event_counts g (event.Text (text_out.Part (text_part.Centre s))) = inl (refl, refl, refl)
-event_counts g (event.Text (text_out.Part (text_part.Translation s))) = inl (refl, refl, refl)
-event_counts g (event.Text (text_out.Found f)) = inl (refl, refl, refl)
 event_counts g (event.Text (text_out.Ended text_end.Notes)) = inl (refl, refl, refl)
-event_counts g (event.Text (text_out.Ended text_end.Finished)) = inl (refl, refl, refl)
-event_counts g (event.Text (text_out.Ended (text_end.Cut p))) = inl (refl, refl, refl)
-event_counts g (event.Notes line (note.Kept c)) = inl (refl, refl, refl)
-event_counts g (event.Notes line (note.Found f)) = inl (refl, refl, refl)
-event_counts g (event.Notes line (note.Ended note_end.Next n)) = inl (refl, refl, refl)
 event_counts g (event.Notes line (note.Ended note_end.Close n)) = inr (longer g.made _)
   where
     longer : (ms : List UnplacedSyllable) (m : UnplacedSyllable) → length ms < length (ms ++ m ∷ [])
     longer ms m = let l = length-append ms (m ∷ []) in omega (arith, l)
-event_counts g (event.Notes line (note.Ended (note_end.Cut p) n)) = inl (refl, refl, refl)
+event_counts g _ = inl (refl, refl, refl)
 
 through : (g h i : Gathered) → CountAlike g h → CountAlike h i → CountAlike g i
 through g h i (inl a) (inl b) = inl (b.0 ∙ a.0, b.1 ∙ a.1, b.2 ∙ a.2)
@@ -175,21 +168,11 @@ past_prefix (d ∷ q) cs rest c e =
     let h = past_prefix q k.0 rest c k.2 in
     (h.0, k.1 ∙ ap (λ (l : List ℕ). d ∷ l) h.1)
 
--- With a character that is read again the body stands so, and no limit is passed.
-pub record PassesBy (m : ScoreMachine) (x : Char) (more : List ℕ) (comment : Bool) (b : BodyPart) (h : Gathered) : Type 0 where
-  pub made : h.made ≡ m.pair.gathered.made
-  pub code : code_in m.limits h ≡ None
-  pub kept_is : h.builder.kept ≡ m.pair.gathered.builder.kept ++ encode_utf8_all more
-  pub comment_is : is_in_comment b ≡ comment
-  pub front : is_in_front b ≡ false
-  pub openers : (outer inner : Place) → x.place ≡ place_in outer inner m.body.part → StandsAt x.place m.body.part → OpenAt outer inner m.body.part → OpenAt outer inner b
-
 -- where a comment is told, a `%` begins one
-module _ (text_comments : (k : List ℕ) → text.begins_comment k ≡ true → text.kept_with k 37 ≡ [])
-    (text_open : (s : TextStage) (k : List ℕ) → text.Keeps s k → text_tells.is_in_comment s ≡ true → text.begins_comment k ≡ true) (lines macros : ℕ) where
+module _ (again : Again) (ends : Ends) (lines macros : ℕ) where
   pub begins : (told : BodyPart) (p : KeptParts) → PartKeeps lines macros told p → is_in_front told ≡ false → is_in_comment told ≡ true → BeginsComment lines p
   begins part.Comment p keeps front comment_open = absurd (true≢false front)
-  begins (part.Text s) (in_text k) keeps front comment_open = let e = text_open s k keeps comment_open in (e, text_comments k e)
+  begins (part.Text s) (in_text k) keeps front comment_open = let e = ends.text_comment s k keeps comment_open in (e, again.text_comments k e)
   begins (part.Text s) (in_notes u earlier k) keeps front comment_open = absurd keeps
   begins (part.Notes opened s) (in_text k) keeps front comment_open = absurd keeps
   begins (part.Notes opened s) (in_notes u earlier k) keeps front comment_open = subst (λ (l : ℕ). BeginsIn l k) (sym keeps.0.line_is) (keeps.1.outside comment_open)
@@ -200,92 +183,99 @@ module _ (text_comments : (k : List ℕ) → text.begins_comment k ≡ true → 
       by zero some = absurd (some refl)
       by (suc l) some = tt
 
-module _ (text_kept : (s : TextStage) (a b : List ℕ) (c : ℕ) → text.Keeps s (a ++ c ∷ b) → text.kept_with a c ≡ c ∷ [])
-    (text_comments : (k : List ℕ) → text.begins_comment k ≡ true → text.kept_with k 37 ≡ [])
-    (text_ends : (k : List ℕ) → text.ends_behind k ≡ true → text.kept_with k 40 ≡ [])
-    (gabc_kept : (split : Bool) (macros : ℕ) (s : NoteStage) (k more : List ℕ) (c : ℕ) → notes.Keeps split macros s (k ++ c ∷ more) → notes.IsKeptAgain split k c)
-    (text_open : (s : TextStage) (k : List ℕ) → text.Keeps s k → text_tells.is_in_comment s ≡ true → text.begins_comment k ≡ true)
-    (m : ScoreMachine) (h : IsInBody m) (x : Char) (b : BodyPart) (now : List BodyEvent) (reads : ReadsAgain m.body.nabc_lines m.body.macros x m.body.part b now) where
-  abbrev old : Gathered
-  old = m.pair.gathered
+-- ---- a machine that takes a character where what is open begins
 
-  abbrev lines : ℕ
-  lines = m.body.nabc_lines
+module _ (again : Again) (ends : Ends) (stays : TextStays) (m : ScoreMachine) (c : ℕ) (openers : Openers) (n : ScoreMachine) (t : TakesAgain m c openers n) where
+  abbrev place : Place
+  place = place_in (outer_of openers) (inner_of openers) m.body.part
 
-  abbrev macros : ℕ
-  macros = m.body.macros
+  abbrev x : Char
+  x = record { c = c; place = place }
 
-  fits : length old.builder.kept < 2 ^ 64
-  fits = let few = h.kept in let most = m.limits.in_range.syllable_most in omega (arith, few, most)
+  abbrev IsTold : BodyPart → List ℕ → Type 0
+  IsTold told kept = IsToldBy m.body.nabc_lines m.body.macros m.limits.syllable told kept
 
-  passes_by : (more : List ℕ) (comment : Bool) → Reads m.body.part h.reading.parts x more comment b now → length (old.builder.kept ++ encode_utf8_all more) ≤ m.limits.syllable → PassesBy m x more comment b (with_all old now)
-  passes_by more comment r few = record {
-    made = adds.made;
-    code = no_code m.limits old (with_all old now) h.code adds.made counts.1 counts.2 short;
-    kept_is = adds.kept;
-    comment_is = r.comment_is;
-    front = r.front;
-    openers = r.openers;
-  }
-    where
-      adds : Adds old (with_all old now) more
-      adds = r.adds old h.reading.kept h.reading.from fits
+  module _ (done : List ℕ) (h : StandsSo m openers done false) where
+    abbrev p : PassesAgain (moved place m) x n
+    p = t.passes h.body
 
-      counts : ((with_all old now).made ≡ old.made) × ((with_all old now).total ≡ old.total) × ((with_all old now).over ≡ old.over)
-      counts = counted old now (let e = ap length adds.made in omega (arith, e))
+    abbrev before : BodyPart
+    before = moved_part place m.body.part
 
-      short : length (with_all old now).builder.kept ≤ (with_all old now).limit
-      short = let e = ap length adds.kept in let l = limit_stays old now in let was = h.rests.limit in omega (arith, e, l, was, few)
+    abbrev old : Gathered
+    old = m.pair.gathered
 
-  pub next_passes : (told : BodyPart) (kept rest : List ℕ) → IsToldBy lines macros m.limits.syllable told kept → is_in_comment m.body.part ≡ false → kept ≡ old.builder.kept ++ (encode_utf8 x.c ++ rest)
-      → PassesBy m x (x.c ∷ []) false b (with_all old now)
-  next_passes told kept rest t comment_open is = passes_by (x.c ∷ []) false (reads.next h.reading.parts h.reading.keeps comment_open next) few
-    where
-      past : (r : List ℕ) × (joined t.parts ≡ joined h.reading.parts ++ x.c ∷ r)
-      past = past_prefix (joined h.reading.parts) (joined t.parts) rest x.c (sym t.is ∙ is ∙ ap (λ (k : List ℕ). k ++ (encode_utf8 x.c ++ rest)) h.reading.kept)
+    abbrev parts : KeptParts
+    parts = p.rests.reading.parts
 
-      next : IsNext lines h.reading.parts x.c
-      next = next_is text_kept text_comments text_ends gabc_kept lines macros m.body.part told h.reading.parts t.parts x.c past.0 h.reading.keeps t.keeps (sym past.1)
+    outside : is_in_comment before ≡ false
+    outside = comment_moved stays place m.body.part ∙ h.comment_is
 
-      few : length (old.builder.kept ++ encode_utf8_all (x.c ∷ [])) ≤ m.limits.syllable
-      few =
-          let all = ap length is ∙ length-append old.builder.kept (encode_utf8 x.c ++ rest) in
-          let one = length-append (encode_utf8 x.c) rest in
-          let mine = length-append old.builder.kept (encode_utf8_all (x.c ∷ [])) in
-          let char = length-append (encode_utf8 x.c) [] in
-          let short = t.short in
-          omega (arith, all, one, mine, char, short)
+    -- with this kept more no limit is passed
+    stands_so : (more : List ℕ) (comment : Bool) → Reads before parts x more comment p.part p.now → length (done ++ encode_utf8_all more) ≤ m.limits.syllable → StandsSo n openers (done ++ encode_utf8_all more) comment
+    stands_so more comment r few = record {
+      body = body;
+      kept_is = ap (λ (k : Gathered). k.builder.kept) g.gathered ∙ kept;
+      comment_is = rw g.part_is r.comment_is;
+      front = rw g.part_is r.front;
+      opens = rw g.part_is (r.openers (outer_of openers) (inner_of openers) (sym (place_moved place (outer_of openers) (inner_of openers) m.body.part)) (stands_moved place m.body.part) (open_moved stays place (outer_of openers) (inner_of openers) m.body.part h.opens));
+    }
+      where
+        adds : Adds old (with_all old p.now) more
+        adds = r.adds old p.rests.reading.kept p.rests.reading.from (let few = p.rests.kept in let most = m.limits.in_range.syllable_most in omega (arith, few, most))
 
-  pub comment_passes : (told : BodyPart) (kept : List ℕ) → IsToldBy lines macros m.limits.syllable told kept → is_in_front told ≡ false → is_in_comment told ≡ true → is_in_comment m.body.part ≡ false
-      → old.builder.kept ≡ kept → x.c ≡ 37 → PassesBy m x [] true b (with_all old now)
-  comment_passes told kept t front comment_open outside is percent =
-      passes_by [] true (reads.comment h.reading.parts h.reading.keeps outside percent (subst (BeginsComment lines) (sym same) (begins text_comments text_open lines macros told t.parts t.keeps front comment_open))) few
-    where
-      same : h.reading.parts ≡ t.parts
-      same =
-          parts_are_one text_kept text_ends gabc_kept lines macros m.body.part told h.reading.parts t.parts h.reading.keeps t.keeps
-          (encodes_same (joined h.reading.parts) (joined t.parts) (sym h.reading.kept ∙ is ∙ t.is))
+        counts : ((with_all old p.now).made ≡ old.made) × ((with_all old p.now).total ≡ old.total) × ((with_all old p.now).over ≡ old.over)
+        counts = counted old p.now (let e = ap length adds.made in omega (arith, e))
 
-      few : length (old.builder.kept ++ encode_utf8_all []) ≤ m.limits.syllable
-      few = let e = ap length (append-nil old.builder.kept) in let mine = h.kept in omega (arith, e, mine)
+        kept : (with_all old p.now).builder.kept ≡ done ++ encode_utf8_all more
+        kept = adds.kept ∙ ap (λ (k : List ℕ). k ++ encode_utf8_all more) h.kept_is
 
--- so the machine goes on
-pub goes_by : (m n : ScoreMachine) (x : Char) (more : List ℕ) (comment : Bool) (h : Gathered) → n.part ≡ score_part.Body → n.pair.gathered ≡ h → PassesBy m x more comment n.body.part h → GoesBy m x more comment n
-goes_by m n x more comment h body is p = record {
-  body = body;
-  kept_is = ap (λ (k : Gathered). k.builder.kept) is ∙ p.kept_is;
-  comment_is = p.comment_is;
-  front = p.front;
-  openers = p.openers;
-}
+        body : n.part ≡ score_part.Body
+        body = p.fits (no_code m.limits old (with_all old p.now) p.rests.code adds.made counts.1 counts.2
+            (let e = ap length kept in let l = limit_stays old p.now in let was = p.rests.rests.limit in omega (arith, e, l, was, few))) adds.made
 
--- and no syllable is whole, nor is there a code
+        g : HasPassed (moved place m) p.part p.now n
+        g = p.goes body
+
+    -- the next character of a kept text
+    pub takes_next : (told : BodyPart) (kept rest : List ℕ) → IsTold told kept → kept ≡ done ++ (encode_utf8 c ++ rest) → StandsSo n openers (done ++ encode_utf8 c) false
+    takes_next told kept rest k is = subst (λ (l : List ℕ). StandsSo n openers (done ++ l) false) (append-nil (encode_utf8 c)) (stands_so (c ∷ []) false (p.again.next parts p.rests.reading.keeps outside next) few)
+      where
+        past : (r : List ℕ) × (joined k.parts ≡ joined parts ++ c ∷ r)
+        past = past_prefix (joined parts) (joined k.parts) rest c (sym k.is ∙ is ∙ ap (λ (l : List ℕ). l ++ (encode_utf8 c ++ rest)) (sym h.kept_is ∙ p.rests.reading.kept))
+
+        next : IsNext m.body.nabc_lines parts c
+        next = next_is again m.body.nabc_lines m.body.macros before told parts k.parts c past.0 p.rests.reading.keeps k.keeps (sym past.1)
+
+        few : length (done ++ encode_utf8_all (c ∷ [])) ≤ m.limits.syllable
+        few =
+            let all = ap length is ∙ length-append done (encode_utf8 c ++ rest) in
+            let one = length-append (encode_utf8 c) rest in
+            let mine = length-append done (encode_utf8_all (c ∷ [])) in
+            let char = length-append (encode_utf8 c) [] in
+            let short = k.short in
+            omega (arith, all, one, mine, char, short)
+
+    -- the `%` of a comment after all of it
+    pub takes_percent : (told : BodyPart) → IsTold told done → is_in_front told ≡ false → is_in_comment told ≡ true → c ≡ 37 → StandsSo n openers done true
+    takes_percent told k front comment_open percent =
+        subst (λ (l : List ℕ). StandsSo n openers l true) (append-nil done)
+        (stands_so [] true
+        (p.again.comment parts p.rests.reading.keeps outside percent (subst (BeginsComment m.body.nabc_lines) (sym same) (begins again ends m.body.nabc_lines m.body.macros told k.parts k.keeps front comment_open)))
+        (let e = ap length (append-nil done) in let short = k.short in omega (arith, e, short)))
+      where
+        same : parts ≡ k.parts
+        same =
+            parts_are_one again m.body.nabc_lines m.body.macros before told parts k.parts p.rests.reading.keeps k.keeps
+            (encodes_same (joined parts) (joined k.parts) (sym p.rests.reading.kept ∙ h.kept_is ∙ k.is))
+
+-- ---- what ends the reading
+
 pub none_whole : (held : List UnplacedSyllable) (g h old : Gathered) → g ≡ h → held ≡ old.made → h.made ≡ old.made → nat_lt (length held) (length g.made) ≡ true → ⊥
 none_whole held g h old is held_is made e = let a = ap length held_is in let b = ap (λ (k : Gathered). length k.made) is in let d = ap length made in grind (arith, nat_tests, e, a, b, d)
 
 pub none_coded : (code : Option Code) → code ≡ None → is_some code ≡ true → ⊥
-none_coded None e f = true≢false (sym f)
-none_coded (Some k) e f = true≢false (ap (λ (o : Option Code). is_some o) e)
+none_coded code e f = true≢false (sym f ∙ ap (λ (o : Option Code). is_some o) e)
 
 pub no_code_by : (code : Option Code) → is_some code ≡ false → code ≡ None
 no_code_by None e = refl

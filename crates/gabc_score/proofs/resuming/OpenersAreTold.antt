@@ -16,6 +16,7 @@ use Rattle.gabc_score.specs.ScoreEvents.{first_place}
 use Rattle.gabc_score.specs.ScoreTells.{is_in_comment, is_in_front, openers_of}
 use Rattle.gabc_score.specs.machine.PartKeeps.{KeptParts, in_text, in_notes, barred, joined, PartKeeps}
 use Rattle.gabc_score.specs.machine.ReadAgain.{OpenAt, inner_of, outer_of}
+use Rattle.gabc_score.specs.machine.StageLaws.{Ends}
 use Rattle.gabc_score.proofs.resuming.PartsAreOne.{nothing_marked}
 
 -- both or none, and at one place
@@ -36,31 +37,24 @@ some_raw false p = refl
 raw_same : (s t : NoteStage) → s.state ≡ t.state → is_some (tells.opener_of s) ≡ is_some (tells.opener_of t)
 raw_same s t e = some_raw (in_raw (example s.state)) s.before.place ∙ ap (λ st. in_raw (example st)) e ∙ sym (some_raw (in_raw (example t.state)) t.before.place)
 
-module _ (text_opener : (s : TextStage) (k : List ℕ) → text.Keeps s k → is_some (text_tells.opener_of s) ≡ text.is_open_behind k) (lines macros : ℕ) where
+module _ (ends : Ends) (lines macros : ℕ) where
   -- A part that keeps what another keeps, where all that is open began as that one tells, tells the same openers.
   pub openers_told : (a b : BodyPart) (p : KeptParts) → PartKeeps lines macros a p → PartKeeps lines macros b p → is_in_front a ≡ false → is_in_front b ≡ false
       → OpenAt (outer_of (openers_of b)) (inner_of (openers_of b)) a → openers_of a ≡ openers_of b
-  openers_told part.Comment b p ha hb front other began = absurd (true≢false front)
-  openers_told (part.Text s) part.Comment p ha hb front other began = absurd (true≢false other)
-  openers_told (part.Notes o s) part.Comment p ha hb front other began = absurd (true≢false other)
-  openers_told (part.Nabc line o s) part.Comment p ha hb front other began = absurd (true≢false other)
   openers_told (part.Text s) (part.Text t) (in_text k) ha hb front other began =
-      ap (openers_by None) (same_option (text_tells.opener_of s) (text_tells.opener_of t) (text_opener s k ha ∙ sym (text_opener t k hb)) began.inner_at)
-  openers_told (part.Text s) (part.Text t) (in_notes u earlier k) ha hb front other began = absurd ha
-  openers_told (part.Text s) (part.Notes q t) (in_text k) ha hb front other began = absurd hb
-  openers_told (part.Text s) (part.Notes q t) (in_notes u earlier k) ha hb front other began = absurd ha
-  openers_told (part.Text s) (part.Nabc l q t) (in_text k) ha hb front other began = absurd hb
-  openers_told (part.Text s) (part.Nabc l q t) (in_notes u earlier k) ha hb front other began = absurd ha
-  openers_told (part.Notes o s) b (in_text k) ha hb front other began = absurd ha
-  openers_told (part.Notes o s) (part.Text t) (in_notes u earlier k) ha hb front other began = absurd hb
+      ap (openers_by None) (same_option (text_tells.opener_of s) (text_tells.opener_of t) (ends.text_opener s k ha ∙ sym (ends.text_opener t k hb)) began.inner_at)
   openers_told (part.Notes o s) (part.Notes q t) (in_notes u earlier k) ha hb front other began =
       ap (λ (x : Place). openers_by (Some x) (tells.opener_of s)) (began.notes_at o refl)
       ∙ ap (openers_by (Some q)) (same_option (tells.opener_of s) (tells.opener_of t) (raw_same s t (ap (λ (n : NoteStage). n.state) (ha.1.alike ∙ sym hb.1.alike))) began.inner_at)
   openers_told (part.Notes o s) (part.Nabc l q t) (in_notes u earlier k) ha hb front other began = absurd (hb.1.0 (sym hb.0.line_is ∙ ha.0.line_is))
-  openers_told (part.Nabc line o s) b (in_text k) ha hb front other began = absurd ha
-  openers_told (part.Nabc line o s) (part.Text t) (in_notes u earlier k) ha hb front other began = absurd hb
   openers_told (part.Nabc line o s) (part.Notes q t) (in_notes u earlier k) ha hb front other began = absurd (ha.1.0 (sym ha.0.line_is ∙ hb.0.line_is))
   openers_told (part.Nabc line o s) (part.Nabc l q t) (in_notes u earlier k) ha hb front other began = ap (λ (x : Place). openers_by (Some x) None) (began.notes_at o refl)
+  openers_told part.Comment b p ha hb front other began = absurd (true≢false front)
+  openers_told _ part.Comment p ha hb front other began = absurd (true≢false other)
+  openers_told (part.Text s) _ (in_notes u earlier k) ha hb front other began = absurd ha
+  openers_told (part.Notes o s) _ (in_text k) ha hb front other began = absurd ha
+  openers_told (part.Nabc line o s) _ (in_text k) ha hb front other began = absurd ha
+  openers_told _ _ _ ha hb front other began = absurd hb
 
   nothing_open : text.is_open_behind [] ≡ false
   unfolding text.is_open_behind
@@ -72,16 +66,14 @@ module _ (text_opener : (s : TextStage) (k : List ℕ) → text.Keeps s k → is
 
   -- Before a syllable nothing is open.
   pub nothing_is_open : (outer inner : Place) (a : BodyPart) (p : KeptParts) → PartKeeps lines macros a p → [] ≡ joined p → is_in_comment a ≡ false → (is_in_front a ≡ false) × OpenAt outer inner a
-  nothing_is_open outer inner part.Comment p ha none outside = absurd (true≢false outside)
   nothing_is_open outer inner (part.Text s) (in_text k) ha none outside = (
     refl,
     record {
       notes_at = λ o e. absurd (none_open None refl o e);
-      inner_at = λ o e. absurd (none_open (text_tells.opener_of s) (text_opener s k ha ∙ ap text.is_open_behind (sym none) ∙ nothing_open) o e);
+      inner_at = λ o e. absurd (none_open (text_tells.opener_of s) (ends.text_opener s k ha ∙ ap text.is_open_behind (sym none) ∙ nothing_open) o e);
     },
   )
+  nothing_is_open outer inner part.Comment p ha none outside = absurd (true≢false outside)
   nothing_is_open outer inner (part.Text s) (in_notes u earlier k) ha none outside = absurd ha
-  nothing_is_open outer inner (part.Notes o s) (in_text k) ha none outside = absurd ha
-  nothing_is_open outer inner (part.Notes o s) (in_notes u earlier k) ha none outside = absurd (nothing_marked u (barred earlier ++ k) 40 (none ∙ append_assoc u (40 ∷ barred earlier) k))
-  nothing_is_open outer inner (part.Nabc line o s) (in_text k) ha none outside = absurd ha
-  nothing_is_open outer inner (part.Nabc line o s) (in_notes u earlier k) ha none outside = absurd (nothing_marked u (barred earlier ++ k) 40 (none ∙ append_assoc u (40 ∷ barred earlier) k))
+  nothing_is_open outer inner _ (in_text k) ha none outside = absurd ha
+  nothing_is_open outer inner _ (in_notes u earlier k) ha none outside = absurd (nothing_marked u (barred earlier ++ k) 40 (none ∙ append_assoc u (40 ∷ barred earlier) k))

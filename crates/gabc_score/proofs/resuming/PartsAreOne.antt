@@ -15,6 +15,7 @@ use Rattle.gabc_nabc.specs.witness.Keeps as nabc
 use Rattle.gabc_score.specs.declared.body_stage.BodyPart.{BodyPart}
 use Rattle.gabc_score.specs.declared.body_stage.BodyPart.TheVariants as part
 use Rattle.gabc_score.specs.Events.{next_line}
+use Rattle.gabc_score.specs.machine.StageLaws.{Again}
 use Rattle.gabc_score.specs.machine.PartKeeps.{KeptParts, in_text, in_notes, barred, joined, line_behind, IsEndedText, IsEndedOn, AreEnded, PartKeeps}
 
 -- ---- two texts with a mark in them
@@ -59,10 +60,7 @@ outside t h = ap (λ (b : Bool). is_snippet gabc (t ++ codes "]") && not b) ((sn
     and_false false = refl
 
 -- What stages keep is kept again: of a text, and of a snippet of GABC. A `(` that ends a text is not.
-module _ (text_kept : (s : TextStage) (a b : List ℕ) (c : ℕ) → text.Keeps s (a ++ c ∷ b) → text.kept_with a c ≡ c ∷ [])
-    (text_ends : (k : List ℕ) → text.ends_behind k ≡ true → text.kept_with k 40 ≡ [])
-    (gabc_kept : (split : Bool) (macros : ℕ) (s : NoteStage) (k more : List ℕ) (c : ℕ) → notes.Keeps split macros s (k ++ c ∷ more) → notes.IsKeptAgain split k c)
-    (lines macros : ℕ) where
+module _ (again : Again) (lines macros : ℕ) where
   -- some stage keeps a snippet of that line
   abbrev pub IsKeptOn : ℕ → List ℕ → Type 0
   IsKeptOn zero k = (s : NoteStage) × notes.Keeps (nat_lt 0 lines) macros s k
@@ -70,7 +68,7 @@ module _ (text_kept : (s : TextStage) (a b : List ℕ) (c : ℕ) → text.Keeps 
 
   -- no stage keeps a `|` behind a snippet that ends there
   pub no_bar : (line : ℕ) (s v : List ℕ) → IsEndedOn lines macros line s → IsKeptOn line (s ++ 124 ∷ v) → ⊥
-  no_bar zero s v ended kept = true≢false (sym (ends (nat_lt 0 lines) ended.0 (in_raw s) (outside s ended.1.whole)) ∙ (gabc_kept (nat_lt 0 lines) macros kept.0 s v 124 kept.1).goes_on)
+  no_bar zero s v ended kept = true≢false (sym (ends (nat_lt 0 lines) ended.0 (in_raw s) (outside s ended.1.whole)) ∙ (again.gabc_kept (nat_lt 0 lines) macros kept.0 s v 124 kept.1).goes_on)
     where
       ends : (split : Bool) → split ≡ true → (r : Bool) → r ≡ false
           → (not (not (124 == 10) && (false || (not r && (124 == 37)))) && (not r && ((124 == 41) || (split && (124 == 124))))) ≡ true
@@ -108,7 +106,7 @@ module _ (text_kept : (s : TextStage) (a b : List ℕ) (c : ℕ) → text.Keeps 
 
   -- no stage keeps a `(` behind a text that ends there
   pub no_notes : (s : TextStage) (t v : List ℕ) → text.ends_behind t ≡ true → text.Keeps s (t ++ 40 ∷ v) → ⊥
-  no_notes s t v ends keeps = absurd (let e : 40 ∷ [] ≡ [] = sym (text_kept s t v 40 keeps) ∙ text_ends t ends in cc)
+  no_notes s t v ends keeps = absurd (let e : 40 ∷ [] ≡ [] = sym (again.text_kept s t v 40 keeps) ∙ again.text_ends t ends in cc)
 
   -- parts that stand
   abbrev pub AreKept : KeptParts → Type 0

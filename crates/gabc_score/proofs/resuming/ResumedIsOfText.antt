@@ -1,5 +1,5 @@
 -- What a stage tells that goes on behind syllables is that of a text, where what it went on with is.
-use Rattle.std.proofs.Common.{◌≡◌, Some, sym, ap, subst, ◌∙◌, arith}
+use Rattle.std.proofs.Common.{◌≡◌, refl, sym, ap, subst, ◌∙◌, arith}
 use Rattle.std.specs.List.{All}
 use Rattle.std.proofs.lemmas.List.Elements.{All-nil}
 use Rattle.gabc_text.specs.witness.EventsLeft as fresh_events
@@ -7,16 +7,19 @@ use Rattle.gabc_places.specs.declared.limits.Limits.{Limits}
 use Rattle.gabc_places.specs.declared.place.Place.{Place}
 use Rattle.gabc_score.specs.declared.before.Before.{Before}
 use Rattle.gabc_score.specs.declared.body_stage.BodyPart.{BodyPart}
-use Rattle.gabc_score.specs.declared.score_machine.ScorePart.{ScorePart}
+use Rattle.gabc_score.specs.declared.score_machine.ScoreMachine.{ScoreMachine}
 use Rattle.gabc_score.specs.declared.score_machine.ScorePart.TheVariants as score_part
 use Rattle.gabc_score.specs.Resumed.{StandsBehind}
 use Rattle.gabc_score.specs.ScoreEvents.{first_place}
-use Rattle.gabc_score.specs.ScoreTells.{before_with, in_body, openers_of, reading_in_body, reading_of}
+use Rattle.gabc_score.specs.ScoreTells.{before_with, moved_to, openers_of, reading_of}
 use Rattle.gabc_places.specs.TextOfAnInput.{IsText}
 use Rattle.gabc_score.specs.ToldWithin.{AreCountsWithin, AreOpenersBefore, IsPlace, TellsOfText}
 use Rattle.gabc_score.specs.machine.PartOnly.{HasText}
+use Rattle.gabc_score.specs.machine.ReadAgain.{IsRunAlike, IsSameBut}
+use Rattle.gabc_score.specs.machine.ScoreMachine.{shown}
 use Rattle.gabc_score.specs.witness.ScoreStage.{ScoreStageState}
 use Rattle.gabc_score.proofs.resuming.HeldIsHeld.{none_in_body, nothing_in_body}
+use Rattle.gabc_score.proofs.resuming.ScoresAgree.{before_is_told}
 use Rattle.gabc_score.proofs.score_events.TextsArePlain.{nothing_plain}
 
 -- a text that begins at the first place
@@ -24,24 +27,18 @@ pub first_is_place : IsPlace first_place
 first_is_place = record { line = omega arith; column = omega arith; in_64_bits = omega arith }
 
 -- a kept text that was read again is a text
-pub told_again : (old new : ScoreStageState) (next : Place) → old.part ≡ score_part.Body → new.limits ≡ old.limits → new.body.nabc_lines ≡ old.body.nabc_lines → new.body.macros ≡ old.body.macros → new.before ≡ old.before
-    → new.held.gathered.made ≡ old.held.gathered.made → new.held.next ≡ next → IsPlace next → AreOpenersBefore next (openers_of new.body.part) → IsText (reading_of new) → TellsOfText old → TellsOfText new
-told_again old new next was limits lines macros before made there is openers text told body =
-    let t = told was in
-    record {
-      counts = rw (limits, lines, macros, before) t.counts;
-      next = subst IsPlace (sym there) is;
-      openers = subst (λ (p : Place). AreOpenersBefore p (openers_of new.body.part)) (sym there) openers;
-      reading = subst (λ (k : ScorePart). IsText (reading_in_body k new.held.gathered.builder.kept)) body text;
-      held = subst (All HasText) (sym made) t.held;
-    }
+pub told_again : (old m : ScoreMachine) (next : Place) → IsSameBut old m → IsRunAlike old m → m.part ≡ score_part.Body → (let new = moved_to next (shown m) in IsPlace next → AreOpenersBefore next (openers_of new.body.part)
+    → IsText (reading_of new) → TellsOfText (shown old) → TellsOfText new)
+told_again old m next same run now is openers text told body =
+    let t = told same.body in
+    record { counts = rw (run.limits, run.lines, run.macros, same.bounds) t.counts; next = is; openers = openers; reading = rw now at text; held = rw same.made t.held }
 
 -- so it is where nothing was read yet
 pub told_behind : (limits : Limits) (before : Before) (s : ScoreStageState) → StandsBehind limits before s → AreCountsWithin limits before.nabc_lines before.macros before.canonical → TellsOfText s
 unfolding fresh_events.events_left
 told_behind limits before s stands counts body =
     let b = stands.begins in
-    let is : before_with s.body s.before ≡ before = some_is (before_with s.body s.before) before (ap (λ (k : ScorePart). in_body k (before_with s.body s.before)) (sym body) ∙ stands.before_is) in
+    let is : before_with s.body s.before ≡ before = before_is_told s.part score_part.Body (before_with s.body s.before) before body refl stands.before_is in
     record {
       counts = subst (λ (l : Limits). AreCountsWithin l s.body.nabc_lines s.body.macros s.before.canonical) (sym stands.limits_are) (subst (λ (k : Before). AreCountsWithin limits k.nabc_lines k.macros k.canonical) (sym is) counts);
       next = subst IsPlace (sym b.next) first_is_place;
@@ -49,6 +46,3 @@ told_behind limits before s stands counts body =
       reading = subst IsText (sym (nothing_in_body s.part s.held.gathered.builder.kept body b.nothing_read)) nothing_plain;
       held = subst (All HasText) (sym (none_in_body s.part s.held.gathered.made body stands.none_held)) (All-nil HasText);
     }
-  where
-    some_is : (a b : Before) → Some a ≡ Some b → a ≡ b
-    some_is a b e = cc e

@@ -1,5 +1,5 @@
 -- Two stages over a body whose parts keep the same and tell the same emit the same.
-use Rattle.std.proofs.Common.{◌≡◌, ℕ, nat_lt, List, Bool, true, false, Option, Some, None, refl, sym, ap, ◌∙◌}
+use Rattle.std.proofs.Common.{◌≡◌, ℕ, nat_lt, List, Bool, true, false, not, ◌&&◌, Option, Some, None, is_some, refl, sym, ap, ◌∙◌}
 use Rattle.std.proofs.lemmas.Bool.{true≢false}
 use Rattle.gabc_places.specs.declared.place.Char.{Char}
 use Rattle.gabc_places.specs.declared.place.Place.{Place}
@@ -44,14 +44,20 @@ pub record TellTheSame (a b : BodyPart) : Type 0 where
   pub front : is_in_front a ≡ is_in_front b
   pub next : next_in a ≡ next_in b
 
-not_both : {A : Type 0} → true ≡ false → A
-not_both e = absurd (true≢false e)
+abbrev same : Bool → Bool → Bool
+same true b = b
+same false b = not b
+
+-- one of two tests tells them apart
+differ : {A : Type 0} {a b x y : Bool} → a ≡ b → x ≡ y → (same a b && same x y) ≡ false → A
+differ {a = true} {b = true} {x = true} {y = true} e f g = absurd (true≢false g)
+differ {a = true} {b = true} {x = false} {y = false} e f g = absurd (true≢false g)
+differ {a = false} {b = false} {x = true} {y = true} e f g = absurd (true≢false g)
+differ {a = false} {b = false} {x = false} {y = false} e f g = absurd (true≢false g)
+differ e f g = absurd (cc)
 
 some_is : (p q : Place) → Some p ≡ Some q → p ≡ q
 some_is p q e = cc e
-
-none_is_some : {A : Type 0} (p : Place) → None ≡ Some p → A
-none_is_some p e = absurd (cc e)
 
 -- GABC and NABC are not read in one line
 two_lines : {A : Type 0} (lines macros line : ℕ) (t : List ℕ) (earlier : List (List ℕ)) → AreBehind lines macros 0 t earlier → AreBehind lines macros line t earlier → (line ≡ 0 → ⊥) → A
@@ -68,32 +74,21 @@ pub record StagesAgree : Type 0 where
 -- what is left of the parts is the same
 ahead_agree : StagesAgree → (lines macros : ℕ) (p q : BodyPart) (parts : KeptParts) → PartKeeps lines macros p parts → PartKeeps lines macros q parts → TellTheSame p q → (xs : List Char) → part_with p xs ≡ part_with q xs
 ahead_agree law lines macros part.Comment part.Comment parts h g told xs = refl
-ahead_agree law lines macros part.Comment (part.Text t) parts h g told xs = not_both told.front
-ahead_agree law lines macros part.Comment (part.Notes opened t) parts h g told xs = not_both told.front
-ahead_agree law lines macros part.Comment (part.Nabc line opened t) parts h g told xs = not_both told.front
-ahead_agree law lines macros (part.Text s) part.Comment parts h g told xs = not_both (sym told.front)
 ahead_agree law lines macros (part.Text s) (part.Text t) (in_text k) h g told xs =
     ap (λ (lists : List (List TextEvent)). InText lists) (law.texts s t k h g (ap (λ (o : Openers). o.inner) told.openers) told.comment (some_is _ _ told.next) (codes_of xs))
-ahead_agree law lines macros (part.Text s) (part.Text t) (in_notes u earlier k) h g told xs = absurd h
-ahead_agree law lines macros (part.Text s) (part.Notes opened t) parts h g told xs = none_is_some opened (ap (λ (o : Openers). o.notes) told.openers)
-ahead_agree law lines macros (part.Text s) (part.Nabc line opened t) parts h g told xs = none_is_some opened (ap (λ (o : Openers). o.notes) told.openers)
-ahead_agree law lines macros (part.Notes opened s) part.Comment parts h g told xs = not_both (sym told.front)
-ahead_agree law lines macros (part.Notes opened s) (part.Text t) parts h g told xs = none_is_some opened (sym (ap (λ (o : Openers). o.notes) told.openers))
-ahead_agree law lines macros (part.Notes opened s) (part.Notes other t) (in_text k) h g told xs = absurd h
 ahead_agree law lines macros (part.Notes opened s) (part.Notes other t) (in_notes u earlier k) h g told xs =
     ap (λ (o : Place). InNotes 0 o (note_events.events_left s xs)) (some_is _ _ (ap (λ (o : Openers). o.notes) told.openers))
     ∙ ap (λ (lists : List (List NoteEvent)). InNotes 0 other lists) (law.gabc (nat_lt 0 lines) macros s t k h.1 g.1 (ap (λ (o : Openers). o.inner) told.openers) told.comment xs)
-ahead_agree law lines macros (part.Notes opened s) (part.Nabc line other t) (in_text k) h g told xs = absurd h
 ahead_agree law lines macros (part.Notes opened s) (part.Nabc line other t) (in_notes u earlier k) h g told xs = two_lines lines macros line u earlier h.0 g.0 g.1.0
-ahead_agree law lines macros (part.Nabc line opened s) part.Comment parts h g told xs = not_both (sym told.front)
-ahead_agree law lines macros (part.Nabc line opened s) (part.Text t) parts h g told xs = none_is_some opened (sym (ap (λ (o : Openers). o.notes) told.openers))
-ahead_agree law lines macros (part.Nabc line opened s) (part.Notes other t) (in_text k) h g told xs = absurd h
 ahead_agree law lines macros (part.Nabc line opened s) (part.Notes other t) (in_notes u earlier k) h g told xs = two_lines lines macros line u earlier g.0 h.0 h.1.0
-ahead_agree law lines macros (part.Nabc line opened s) (part.Nabc beside other t) (in_text k) h g told xs = absurd h
 ahead_agree law lines macros (part.Nabc line opened s) (part.Nabc beside other t) (in_notes u earlier k) h g told xs =
     ap (λ (l : ℕ). InNotes l opened (nabc_events.events_left s xs)) (sym h.0.line_is ∙ g.0.line_is)
     ∙ ap (λ (o : Place). InNotes beside o (nabc_events.events_left s xs)) (some_is _ _ (ap (λ (o : Openers). o.notes) told.openers))
     ∙ ap (λ (lists : List (List NoteEvent)). InNotes beside other lists) (law.nabc_lines s t k h.1.1 g.1.1 told.comment xs)
+ahead_agree law lines macros (part.Text s) _ (in_notes u earlier k) h g told xs = absurd h
+ahead_agree law lines macros (part.Notes opened s) _ (in_text k) h g told xs = absurd h
+ahead_agree law lines macros (part.Nabc line opened s) _ (in_text k) h g told xs = absurd h
+ahead_agree law lines macros _ _ _ h g told xs = differ told.front (ap (λ (o : Openers). is_some o.notes) told.openers) refl
 
 pub bodies_agree : StagesAgree → (a b : BodyStageState) → a.nabc_lines ≡ b.nabc_lines → a.macros ≡ b.macros → KeepTheSame a.nabc_lines a.macros a.part b.part → TellTheSame a.part b.part
     → (xs : List Char) → running_events_left a xs ≡ running_events_left b xs
@@ -104,19 +99,7 @@ bodies_agree law a b same_lines same_macros keep told xs =
 
 -- The place of the next character is the same, where both texts have counted it.
 pub next_is_told : (p q : BodyPart) (at place : Place) → at ≡ place → StandsAt at p → StandsAt place q → openers_of p ≡ openers_of q → is_in_front p ≡ is_in_front q → next_in p ≡ next_in q
-next_is_told part.Comment part.Comment at place e h g openers front = refl
-next_is_told part.Comment (part.Text t) at place e h g openers front = not_both front
-next_is_told part.Comment (part.Notes opened t) at place e h g openers front = refl
-next_is_told part.Comment (part.Nabc line opened t) at place e h g openers front = refl
-next_is_told (part.Text s) part.Comment at place e h g openers front = not_both (sym front)
 next_is_told (part.Text s) (part.Text t) at place e h g openers front = ap (λ (p : Place). Some p) (h ∙ (e ∙ sym g))
-next_is_told (part.Text s) (part.Notes opened t) at place e h g openers front = none_is_some opened (ap (λ (o : Openers). o.notes) openers)
-next_is_told (part.Text s) (part.Nabc line opened t) at place e h g openers front = none_is_some opened (ap (λ (o : Openers). o.notes) openers)
-next_is_told (part.Notes opened s) part.Comment at place e h g openers front = refl
-next_is_told (part.Notes opened s) (part.Text t) at place e h g openers front = none_is_some opened (sym (ap (λ (o : Openers). o.notes) openers))
-next_is_told (part.Notes opened s) (part.Notes other t) at place e h g openers front = refl
-next_is_told (part.Notes opened s) (part.Nabc line other t) at place e h g openers front = refl
-next_is_told (part.Nabc line opened s) part.Comment at place e h g openers front = refl
-next_is_told (part.Nabc line opened s) (part.Text t) at place e h g openers front = none_is_some opened (sym (ap (λ (o : Openers). o.notes) openers))
-next_is_told (part.Nabc line opened s) (part.Notes other t) at place e h g openers front = refl
-next_is_told (part.Nabc line opened s) (part.Nabc beside other t) at place e h g openers front = refl
+next_is_told (part.Text s) _ at place e h g openers front = differ front (ap (λ (o : Openers). is_some o.notes) openers) refl
+next_is_told _ (part.Text t) at place e h g openers front = differ front (ap (λ (o : Openers). is_some o.notes) openers) refl
+next_is_told _ _ at place e h g openers front = refl

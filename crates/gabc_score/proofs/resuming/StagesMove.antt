@@ -1,26 +1,60 @@
--- A machine stays what it is where its next character is said to stand elsewhere.
-use Rattle.std.proofs.Common.{◌≡◌, ℕ, sym, ap, subst, ◌∙◌}
+-- A part and a machine stay what they are where the next character is said to stand elsewhere.
+use Rattle.std.proofs.Common.{◌≡◌, ℕ, Option, None, refl, sym, ap, subst, ◌∙◌}
 use Rattle.gabc_places.specs.declared.place.Place.{Place}
+use Rattle.gabc_text.specs.StageTells as text_tells
+use Rattle.gabc_text.specs.witness.StageReports as text_reports
+use Rattle.gabc_text.specs.declared.stage.TextStage.{TextStage}
 use Rattle.gabc_score.specs.declared.body_stage.BodyPart.{BodyPart}
 use Rattle.gabc_score.specs.declared.body_stage.BodyPart.TheVariants as part
+use Rattle.gabc_score.specs.declared.body_tells.Openers.{Openers}
 use Rattle.gabc_score.specs.declared.score_machine.ScoreMachine.{ScoreMachine}
 use Rattle.gabc_score.specs.declared.score_machine.ScorePart.{ScorePart}
 use Rattle.gabc_score.specs.declared.score_machine.ScorePart.TheVariants as score_part
-use Rattle.gabc_score.specs.ScoreTells.{is_in_front, moved_part}
+use Rattle.gabc_score.specs.ScoreTells.{StandsAt, is_in_comment, is_in_front, moved_part, openers_of}
 use Rattle.gabc_score.specs.machine.BodyBuilder.{with_all}
 use Rattle.gabc_score.specs.machine.PartCounts.{CountsHold}
 use Rattle.gabc_score.specs.machine.PartKeeps.{KeptParts, PartKeeps, ReadAlike, begun, said_by}
 use Rattle.gabc_score.specs.machine.PartMakes.{HoldUnits}
+use Rattle.gabc_score.specs.machine.ReadAgain.{OpenAt, place_in}
 use Rattle.gabc_score.specs.machine.ScoreMachine.{IsAtRest, IsScoreAt}
 use Rattle.gabc_score.specs.machine.SyllableBuilder.{OpenSyllable}
 use Rattle.gabc_score.specs.witness.BodyStage.{BodyStageState}
 use Rattle.gabc_score.proofs.score_events.FrontIsFirst.{front_moved}
 
+-- ---- a part
+
+-- what is open in a text stays open
+pub record TextStays : Type 0 where
+  pub opener : (s : TextStage) (at : Place) → text_tells.opener_of (text_reports.moved_to at s) ≡ text_tells.opener_of s
+  pub comment : (s : TextStage) (at : Place) → text_tells.is_in_comment (text_reports.moved_to at s) ≡ text_tells.is_in_comment s
+
+pub openers_moved : TextStays → (at : Place) (b : BodyPart) → openers_of (moved_part at b) ≡ openers_of b
+openers_moved stays at (part.Text s) = ap (λ (x : Option Place). record { notes = None; inner = x }) (stays.opener s at)
+openers_moved stays at _ = refl
+
+pub comment_moved : TextStays → (at : Place) (b : BodyPart) → is_in_comment (moved_part at b) ≡ is_in_comment b
+comment_moved stays at (part.Text s) = stays.comment s at
+comment_moved stays at _ = refl
+
+pub place_moved : (at outer inner : Place) (b : BodyPart) → place_in outer inner (moved_part at b) ≡ place_in outer inner b
+place_moved at outer inner part.Comment = refl
+place_moved at outer inner _ = refl
+
+pub stands_moved : (at : Place) (b : BodyPart) → StandsAt at (moved_part at b)
+stands_moved at (part.Text s) = refl
+stands_moved at _ = tt
+
+pub open_moved : TextStays → (at outer inner : Place) (b : BodyPart) → OpenAt outer inner b → OpenAt outer inner (moved_part at b)
+open_moved stays at outer inner b h = record {
+  notes_at = λ o e. h.notes_at o (ap (λ (k : Openers). k.notes) (sym (openers_moved stays at b)) ∙ e);
+  inner_at = λ o e. h.inner_at o (ap (λ (k : Openers). k.inner) (sym (openers_moved stays at b)) ∙ e) ∙ sym (place_moved at outer inner b);
+}
+
 counts_moved : (at : Place) (b : BodyPart) (o : OpenSyllable) → CountsHold b o → CountsHold (moved_part at b) o
 counts_moved at part.Comment o h = h
-counts_moved at (part.Text s) o h = h
-counts_moved at (part.Notes opened s) o h = h
-counts_moved at (part.Nabc line opened s) o h = h
+counts_moved at _ o h = h
+
+-- ---- a machine
 
 module _ (m : ScoreMachine) (at : Place) (b : BodyStageState) (is : b ≡ record m.body { part = moved_part at m.body.part }) (keeps : (lines macros : ℕ) (p : KeptParts) → PartKeeps lines macros m.body.part p → PartKeeps lines macros b.part p) where
   abbrev there : ScoreMachine

@@ -18,6 +18,7 @@ use Rattle.gabc_score.specs.ScoreTells.{before_of, before_with, held_of, in_body
 use Rattle.gabc_score.specs.StandAlike.{StandAlike}
 use Rattle.gabc_score.specs.Syllable.{UnplacedSyllable}
 use Rattle.gabc_score.specs.machine.ScoreMachine.{shown}
+use Rattle.gabc_score.specs.machine.StageLaws.{Again}
 use Rattle.gabc_score.specs.machine.SyllableBuilder.{OpenSyllable}
 use Rattle.gabc_score.specs.witness.BodyStage.{running_events_left}
 use Rattle.gabc_score.specs.witness.MayStand.{MayStand}
@@ -25,7 +26,7 @@ use Rattle.gabc_score.specs.witness.ScoreStage.{ScoreStageState, left_of}
 use Rattle.gabc_score.proofs.resuming.BeginsAnywhere.{front_is, front_reads}
 use Rattle.gabc_score.proofs.resuming.FrontsAgree.{CommentsCountForNothing, fronts_emit}
 use Rattle.gabc_score.proofs.resuming.NothingIsRead.{nothing_kept}
-use Rattle.gabc_score.proofs.resuming.ScoresAgree.{HeldAlike, bodies_give, bodies_keep, held_in_bodies, reads_in_body}
+use Rattle.gabc_score.proofs.resuming.ScoresAgree.{HeldAlike, before_is_told, bodies_give, bodies_keep}
 use Rattle.gabc_score.proofs.resuming.StagesAgree.{StagesAgree, bodies_agree, next_is_told}
 use Rattle.gabc_score.proofs.resuming.StatesStand.{IsRunning, both_in_body}
 
@@ -33,15 +34,13 @@ use Rattle.gabc_score.proofs.resuming.StatesStand.{IsRunning, both_in_body}
 
 hold_back : (first before : Bool) (o p : Option UnplacedSyllable) → p ≡ None → HoldTheSame first o p → HoldTheSame before p o
 hold_back first before None None e h = tt
-hold_back first before None (Some n) e h = absurd h
-hold_back first before (Some m) None e h = absurd h
-hold_back first before (Some m) (Some n) e h = absurd (cc e)
+hold_back first before _ None e h = absurd h
+hold_back first before _ (Some n) e h = absurd (cc e)
 
 give_back : (first : Bool) (o p : Option UnplacedSyllable) (lists others : List (List ScoreOutput)) → p ≡ None → HoldTheSame first o p → GiveTheSame p o others lists → GiveTheSame o p lists others
 give_back first None None lists others e h given = sym given
-give_back first None (Some n) lists others e h given = absurd h
-give_back first (Some m) None lists others e h given = absurd h
-give_back first (Some m) (Some n) lists others e h given = absurd (cc e)
+give_back first _ None lists others e h given = absurd h
+give_back first _ (Some n) lists others e h given = absurd (cc e)
 
 -- the other way round, but for what is held
 turned : (one other : ScoreStageState) → held_of other ≡ None → StandAlike one other → StandAlike other one
@@ -60,30 +59,22 @@ turned one other none alike = record {
 
 -- ---- two machines
 
-before_told : (p q : ScorePart) (b c : Before) → p ≡ score_part.Body → q ≡ score_part.Body → in_body p b ≡ in_body q c → b ≡ c
-before_told p q b c e f same = some_is (sym (ap (λ (k : ScorePart). in_body k b) e) ∙ (same ∙ ap (λ (k : ScorePart). in_body k c) f))
-  where
-    some_is : Some b ≡ Some c → b ≡ c
-    some_is h = cc h
-
-module _ (text_kept : (s : TextStage) (a b : List ℕ) (c : ℕ) → text.Keeps s (a ++ c ∷ b) → text.kept_with a c ≡ c ∷ [])
-    (text_ends : (k : List ℕ) → text.ends_behind k ≡ true → text.kept_with k 40 ≡ [])
-    (gabc_kept : (split : Bool) (macros : ℕ) (s : NoteStage) (k more : List ℕ) (c : ℕ) → notes.Keeps split macros s (k ++ c ∷ more) → notes.IsKeptAgain split k c) where
+module _ (again : Again) where
   module _ (a b : ScoreMachine) (ra : IsRunning a) (rb : IsRunning b) (alike : StandAlike (shown a) (shown b)) where
     before : before_with a.body a.bounds.before ≡ before_with b.body b.bounds.before
-    before = before_told a.part b.part (before_with a.body a.bounds.before) (before_with b.body b.bounds.before) ra.part rb.part alike.before
+    before = before_is_told a.part b.part (before_with a.body a.bounds.before) (before_with b.body b.bounds.before) ra.part rb.part alike.before
 
     reading : a.pair.gathered.builder.kept ≡ b.pair.gathered.builder.kept
-    reading = sym (reads_in_body a.part a.pair.gathered.builder.kept ra.part) ∙ (alike.reading ∙ reads_in_body b.part b.pair.gathered.builder.kept rb.part)
+    reading = rw (ra.part, rb.part) at alike.reading
 
     held : HeldAlike (a.bounds.before.syllables == 0) a.pair.gathered.made b.pair.gathered.made
-    held = held_in_bodies (a.bounds.before.syllables == 0) a.part b.part a.pair.gathered.made b.pair.gathered.made ra.part rb.part ra.few rb.few alike.held
+    held = (ra.few, (rb.few, rw (ra.part, rb.part) at alike.held))
 
     -- they give the same where their bodies emit the same
     given_alike : (xs : List HeadEvent) → running_events_left a.body (characters_in xs) ≡ running_events_left b.body (characters_in xs)
         → GiveTheSame (held_of (shown a)) (held_of (shown b)) (left_of (shown a) xs) (left_of (shown b) xs)
     given_alike xs same =
-        let given = bodies_give text_kept text_ends gabc_kept a b ra.body rb.body alike.limits before reading alike.next held xs same in
+        let given = bodies_give again a b ra.body rb.body alike.limits before reading alike.next held xs same in
         rw (ra.part, rb.part) given
 
     module _ (front : is_in_front a.body.part ≡ true) (comment : is_in_comment b.body.part ≡ true) (law : CommentsCountForNothing) where
@@ -103,7 +94,7 @@ module _ (text_kept : (s : TextStage) (a b : List ℕ) (c : ℕ) → text.Keeps 
     machines_give law front xs =
         given_alike xs
         (bodies_agree law a.body b.body (ap (λ (k : Before). k.nabc_lines) before) (ap (λ (k : Before). k.macros) before)
-        (bodies_keep text_kept text_ends gabc_kept a b ra.body rb.body alike.limits before reading)
+        (bodies_keep again a b ra.body rb.body alike.limits before reading)
         (record { openers = alike.openers; comment = alike.comment; front = front; next = next_is_told a.body.part b.body.part a.next b.next alike.next alike.stands alike.other_stands alike.openers front })
         (characters_in xs))
 

@@ -8,22 +8,21 @@ use Rattle.gabc_score.specs.machine.Gatherer.{Gathered}
 abbrev pub ComeAlike : Option ItemKind → Option ItemKind → Type 0
 ComeAlike a b = (a ≡ b) ⊎ ((is_some a ≡ true) × (is_some b ≡ true))
 
--- the same is held
-pub record IsKindred (a b : Gathered) : Type 0 where
-  pub kind : Option ItemKind
-  pub same : b ≡ record a { first_kind = kind }
-
 module _ (m n : UnplacedSyllable) where
-  -- b has gathered what a has, with n in place of m as the first that is not given
-  pub record IsSwapped (a b : Gathered) : Type 0 where
+  -- n stands in place of m as the first that is not given, and begins a word as m does where it
+  -- counts
+  pub record IsSwapped (has_lent : Bool) (ms ns : List UnplacedSyllable) : Type 0 where
     pub rest : List UnplacedSyllable
-    pub kind : Option ItemKind
-    pub made : a.made ≡ m ∷ rest
-    pub same : b ≡ record a { made = n ∷ rest; first_kind = kind }
+    pub one : ms ≡ m ∷ rest
+    pub other : ns ≡ n ∷ rest
+    pub twins : (not has_lent || m.text.word_start) ≡ (not has_lent || n.text.word_start)
 
-  -- they begin a word alike where it counts
-  abbrev pub AreTwins : Bool → Type 0
-  AreTwins has_lent = (not has_lent || m.text.word_start) ≡ (not has_lent || n.text.word_start)
+  -- the same was made, or n in place of m
+  abbrev pub AreMadeAlike : Bool → List UnplacedSyllable → List UnplacedSyllable → Type 0
+  AreMadeAlike has_lent ms ns = (ns ≡ ms) ⊎ IsSwapped has_lent ms ns
 
-  abbrev pub IsAside : Bool → Gathered → Gathered → Type 0
-  IsAside has_lent a b = ComeAlike a.first_kind b.first_kind × (IsKindred a b ⊎ (IsSwapped a b × AreTwins has_lent))
+  -- else b has gathered what a has
+  pub record IsAside (has_lent : Bool) (a b : Gathered) : Type 0 where
+    pub comes : ComeAlike a.first_kind b.first_kind
+    pub made : AreMadeAlike has_lent a.made b.made
+    pub same : b ≡ record a { made = b.made; first_kind = b.first_kind }

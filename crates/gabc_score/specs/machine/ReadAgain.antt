@@ -1,6 +1,7 @@
 -- What a part does with the next character of a kept text that is read again.
-use Rattle.std.specs.Prelude.{◌≡◌, ◌⊎◌, ◌<◌, ◌≤◌, ◌^◌, ◌&&◌, ◌==◌, ℕ, zero, suc, nat_lt, List, [], ◌∷◌, ◌++◌, length, Bool, true, false, Some, None, unwrap_or, encode_utf8, encode_utf8_all}
+use Rattle.std.specs.Prelude.{◌≡◌, ◌⊎◌, ◌<◌, ◌≤◌, ◌^◌, ◌&&◌, ◌==◌, ℕ, zero, suc, nat_lt, List, [], ◌∷◌, ◌++◌, length, Bool, true, false, cond, Some, None, unwrap_or, encode_utf8, encode_utf8_all}
 use Rattle.std.specs.Option.{option_or}
+use Rattle.std.specs.Str.{chars}
 use Rattle.gabc_places.specs.declared.place.Char.{Char}
 use Rattle.gabc_places.specs.declared.place.Place.{Place}
 use Rattle.gabc_patterns.specs.LongestItems.{IsSnippet}
@@ -17,10 +18,11 @@ use Rattle.gabc_score.specs.declared.events.BodyEvent.{BodyEvent}
 use Rattle.gabc_score.specs.declared.score_machine.ScoreMachine.{ScoreMachine}
 use Rattle.gabc_score.specs.declared.score_machine.ScorePart.TheVariants as score_part
 use Rattle.gabc_score.specs.ScoreEvents.{first_place}
-use Rattle.gabc_score.specs.ScoreTells.{StandsAt, is_in_comment, is_in_front, openers_of}
-use Rattle.gabc_score.specs.machine.BodyBuilder.{with_all}
+use Rattle.gabc_score.specs.ScoreTells.{StandsAt, before_of, is_in_comment, is_in_front, moved_part, moved_to, openers_of}
+use Rattle.gabc_score.specs.machine.BodyBuilder.{with_all, code_in}
 use Rattle.gabc_score.specs.machine.Gatherer.{Gathered}
 use Rattle.gabc_score.specs.machine.PartKeeps.{KeptParts, in_text, in_notes, text_before, joined, line_behind, PartKeeps}
+use Rattle.gabc_score.specs.machine.ScoreMachine.{IsInBody, IsScore, shown}
 
 -- ---- the next character
 
@@ -108,7 +110,7 @@ pub record StandsSo (m : ScoreMachine) (openers : Openers) (kept : List ℕ) (co
   pub front : is_in_front m.body.part ≡ false
   pub opens : OpenAt (outer_of openers) (inner_of openers) m.body.part
 
--- But for the syllable that is read, nothing has changed in the body.
+-- Nothing has changed in the body but what is read of a syllable.
 pub record IsSameBut (before after : ScoreMachine) : Type 0 where
   pub body : before.part ≡ score_part.Body
   pub bounds : after.bounds ≡ before.bounds
@@ -121,25 +123,53 @@ pub record IsRunAlike (before after : ScoreMachine) : Type 0 where
   pub lines : after.body.nabc_lines ≡ before.body.nabc_lines
   pub macros : after.body.macros ≡ before.body.macros
 
--- The machine goes on after a character: this is kept more, and a comment is open or not.
-pub record GoesBy (before : ScoreMachine) (x : Char) (more : List ℕ) (comment : Bool) (after : ScoreMachine) : Type 0 where
-  pub body : after.part ≡ score_part.Body
-  pub kept_is : after.pair.gathered.builder.kept ≡ before.pair.gathered.builder.kept ++ encode_utf8_all more
-  pub comment_is : is_in_comment after.body.part ≡ comment
-  pub front : is_in_front after.body.part ≡ false
-  pub openers : (outer inner : Place) → x.place ≡ place_in outer inner before.body.part → StandsAt x.place before.body.part → OpenAt outer inner before.body.part → OpenAt outer inner after.body.part
+-- With these events it has come to this part.
+pub record HasPassed (before : ScoreMachine) (part : BodyPart) (now : List BodyEvent) (after : ScoreMachine) : Type 0 where
+  pub part_is : after.body.part ≡ part
+  pub gathered : after.pair.gathered ≡ with_all before.pair.gathered now
+  pub same : IsSameBut before after
 
--- Outside a comment it keeps the next character of a text that is told, and a comment begins at the
--- `%` after one in which a comment is told.
+-- At the character x the body emits this. The reading goes on where no limit is passed and no
+-- syllable becomes whole.
 pub record PassesAgain (before : ScoreMachine) (x : Char) (after : ScoreMachine) : Type 0 where
-  pub next : (told : BodyPart) (kept rest : List ℕ) → IsToldBy before.body.nabc_lines before.body.macros before.limits.syllable told kept → is_in_comment before.body.part ≡ false
-      → kept ≡ before.pair.gathered.builder.kept ++ (encode_utf8 x.c ++ rest) → GoesBy before x (x.c ∷ []) false after
-  pub comment : (told : BodyPart) (kept : List ℕ) → IsToldBy before.body.nabc_lines before.body.macros before.limits.syllable told kept → is_in_front told ≡ false → is_in_comment told ≡ true
-      → is_in_comment before.body.part ≡ false → before.pair.gathered.builder.kept ≡ kept → x.c ≡ 37 → GoesBy before x [] true after
+  pub rests : IsInBody before
+  pub now : List BodyEvent
+  pub part : BodyPart
+  pub again : ReadsAgain before.body.nabc_lines before.body.macros x before.body.part part now
+  pub run : IsRunAlike before after
+  pub goes : after.part ≡ score_part.Body → HasPassed before part now after
+  pub fits : code_in before.limits (with_all before.pair.gathered now) ≡ None → (with_all before.pair.gathered now).made ≡ before.pair.gathered.made → after.part ≡ score_part.Body
 
--- The same for the character c, which stands where what is open begins.
+-- the next character stands there
+abbrev pub moved : Place → ScoreMachine → ScoreMachine
+moved place m = record m { next = place; body = record m.body { part = moved_part place m.body.part } }
+
+-- In the body the character c is read, which stands where what is open begins.
 pub record TakesAgain (before : ScoreMachine) (c : ℕ) (openers : Openers) (after : ScoreMachine) : Type 0 where
-  pub next : (told : BodyPart) (kept done rest : List ℕ) → IsToldBy before.body.nabc_lines before.body.macros before.limits.syllable told kept → StandsSo before openers done false
-      → kept ≡ done ++ (encode_utf8 c ++ rest) → StandsSo after openers (done ++ encode_utf8 c) false
-  pub comment : (told : BodyPart) (kept : List ℕ) → IsToldBy before.body.nabc_lines before.body.macros before.limits.syllable told kept → is_in_front told ≡ false → is_in_comment told ≡ true
-      → StandsSo before openers kept false → c ≡ 37 → StandsSo after openers kept true
+  pub run : IsRunAlike before after
+  pub was : after.part ≡ score_part.Body → before.part ≡ score_part.Body
+  pub passes : before.part ≡ score_part.Body → (let place = place_in (outer_of openers) (inner_of openers) before.body.part in PassesAgain (moved place before) (record { c = c; place = place }) after)
+
+-- these characters are read so, one after the other
+abbrev pub ReadsThrough : ScoreMachine → Openers → List ℕ → ScoreMachine → Type 0
+ReadsThrough before openers [] after = before ≡ after
+ReadsThrough before openers (c ∷ cs) after = (m : ScoreMachine) × (TakesAgain before c openers m × ReadsThrough m openers cs after)
+
+-- In the body a kept text is read, and the `%` of a comment after it where one is open. Then the
+-- next character is said to stand at `next`. The result tells whether the reading is not over.
+pub record HasReadKept (before : ScoreMachine) (kept : List ℕ) (openers : Openers) (comment : Bool) (next : Place) (result : Bool) (after : ScoreMachine) : Type 0 where
+  pub m : ScoreMachine
+  pub rests : IsScore m
+  pub steps : ReadsThrough before openers (chars kept ++ cond comment (37 ∷ []) []) m
+  pub good : m.part ≡ score_part.Body → result ≡ true
+  pub body : result ≡ true → m.part ≡ score_part.Body
+  pub there : result ≡ true → shown after ≡ moved_to next (shown m)
+
+pub record ReadsKept (before : ScoreMachine) (kept : List ℕ) (openers : Openers) (comment : Bool) (next : Place) (result : Bool) (after : ScoreMachine) : Type 0 where
+  pub rests : IsScore before
+  pub limits : after.limits ≡ before.limits
+  pub was : result ≡ true → before.part ≡ score_part.Body
+  pub none : result ≡ false → before_of (shown after) ≡ None
+  pub over : result ≡ false → before.part ≡ score_part.Body → after.part ≡ score_part.Over
+  pub outside : (before.part ≡ score_part.Body → ⊥) → (result ≡ false) × (after ≡ before)
+  pub read : before.part ≡ score_part.Body → HasReadKept before kept openers comment next result after

@@ -3,6 +3,5 @@ use Rattle.gabc_score.proofs.stage_laws.stages_that_tell_the_same_agree.Goals as
 
 pub returns : goal.returns
 returns c =
-    let text = c.a_kept_character_is_kept_again.ensures in
-    states_agree text.characters text.ends c.a_kept_character_is_kept_again-2.ensures
+    states_agree c.laws_of_stages.ensures.again
     (record { texts = c.stages_behind_one_text_agree.ensures; gabc = c.stages_behind_one_text_agree-2.ensures; nabc_lines = c.stages_behind_one_text_agree-3.ensures })

@@ -1,15 +1,12 @@
-use Rattle.std.proofs.Common.{rules, ◌≡◌, ℕ, [], ◌∷◌, List, true, false, Bool, length, nat_lt, refl, sym, ap, subst, ◌∙◌, arith}
+use Rattle.std.proofs.Common.{rules, ◌≡◌, List, length, nat_lt, refl, sym, ap, subst, ◌∙◌, arith}
 use Rattle.gabc_places.specs.BoundedList.{BoundedList}
 use Rattle.gabc_places.specs.declared.code.Finding.{Finding}
 use Rattle.gabc_score.specs.Syllable.{UnplacedSyllable}
-use Rattle.gabc_score.specs.declared.score_machine.ScoreMachine.{ScoreMachine}
 use Rattle.gabc_score.specs.declared.score_machine.ScorePart.{ScorePart}
 use Rattle.gabc_score.specs.machine.BodyBuilder.{code_in, with_all}
 use Rattle.gabc_score.specs.machine.Gatherer.{Gathered}
 use Rattle.gabc_score.specs.machine.ScoreMachine.{IsScoreAt}
-use Rattle.gabc_score.proofs.resuming.MachinesPassAgain.{PassesBy, comment_passes, goes_by, in_body_past, next_passes, no_code_by, none_coded, none_made, none_whole}
-use Rattle.gabc_places.specs.BoundedList.{BoundedList}
-use Rattle.gabc_places.specs.declared.code.Finding.{Finding}
+use Rattle.gabc_score.proofs.resuming.MachinesPassAgain.{in_body_past, no_code_by, none_coded, none_made, none_whole}
 use Rattle.gabc_score.specs.witness.BodyStage.{BodyStageState}
 use Rattle.gabc_score.proofs.building.CountsOfParts.{counts_go_on}
 use Rattle.gabc_score.proofs.building.EventsOfSnippets.{few_events}
@@ -34,29 +31,48 @@ hold-requires-clause-found c =
     let room = c.requires.rests.rests.room in
     omega (arith, few, none, room)
 
-pub returns-then-is_whole-clause-again : goal.returns-then-is_whole-clause-again
-returns-then-is_whole-clause-again c =
-    let text = c.a_kept_character_is_kept_again.ensures in
-    let m = c.args.self.now in
-    let old = m.pair.gathered in
+pub returns-then-is_whole-clause-step : goal.returns-then-is_whole-clause-step
+returns-then-is_whole-clause-step c = record {
+  rests = c.requires.rests;
+  now = c.take.new.self.events;
+  part = c.take.new.self.part;
+  again = reads_again c.take.ensures.steps.0;
+  run = record { limits = refl; lines = ap (λ (b : BodyStageState). b.nabc_lines) c.take.ensures.same; macros = ap (λ (b : BodyStageState). b.macros) c.take.ensures.same };
+  goes = λ body. absurd (cc body);
+  fits = λ none made.
+      let is : c.hold.new.pair.gathered ≡ with_all c.args.self.now.pair.gathered c.take.new.self.events = c.hold.ensures.gathered ∙ ap (λ (k : Gathered). with_all k c.take.new.self.events) c.free.ensures.gathered in
+      absurd (elim c.then-is_whole.branch [
+        | then-is_whole-via-then-is_whole w ↦
+            none_whole c.hold.new.pair.held c.hold.new.pair.gathered (with_all c.args.self.now.pair.gathered c.take.new.self.events) c.args.self.now.pair.gathered is (c.hold.ensures.held ∙ c.free.ensures.held) made
+            (sym c.is_whole.ensures.made ∙ w.if-is_whole.true)
+        | then-is_whole-via-else-is_whole+then-is_some w ↦
+            none_coded w.code.result (w.code.ensures.code ∙ ap (code_in c.args.self.now.limits) is ∙ none) (sym w.is_some.ensures ∙ w.if-is_some.true)
+      ]);
+}
+
+pub returns-else-is_some-clause-step : goal.returns-else-is_some-clause-step
+returns-else-is_some-clause-step c =
     let now = c.take.new.self.events in
-    let is : c.hold.new.pair.gathered ≡ with_all old now = c.hold.ensures.gathered ∙ ap (λ (k : Gathered). with_all k now) c.free.ensures.gathered in
+    let is : c.hold.new.pair.gathered ≡ with_all c.args.self.now.pair.gathered now = c.hold.ensures.gathered ∙ ap (λ (k : Gathered). with_all k now) c.free.ensures.gathered in
     record {
-      next = λ told kept rest t outside e. absurd (impossible (c.args.x.c ∷ []) false is
-          (next_passes text.characters text.comments text.ends c.a_kept_character_is_kept_again-2.ensures c.what_is_open_follows_from_the_kept_text.ensures.comment m c.requires.rests c.args.x c.take.new.self.part now (reads_again c.take.ensures.steps.0) told kept rest t outside e));
-      comment = λ told kept t front comment_open outside e percent. absurd (impossible [] true is
-          (comment_passes text.characters text.comments text.ends c.a_kept_character_is_kept_again-2.ensures c.what_is_open_follows_from_the_kept_text.ensures.comment m c.requires.rests c.args.x c.take.new.self.part now (reads_again c.take.ensures.steps.0) told kept t front comment_open outside e percent));
+      rests = c.requires.rests;
+      now = now;
+      part = c.take.new.self.part;
+      again = reads_again c.take.ensures.steps.0;
+      run = record { limits = refl; lines = ap (λ (b : BodyStageState). b.nabc_lines) c.take.ensures.same; macros = ap (λ (b : BodyStageState). b.macros) c.take.ensures.same };
+      goes = λ body. record {
+        part_is = refl;
+        gathered = is;
+        same = record {
+          body = c.requires.part;
+          bounds = refl;
+          has_lent = refl;
+          made = none_made c.args.self.now.pair.gathered c.hold.new.pair.gathered now is
+              (ap (λ (ms : List UnplacedSyllable). nat_lt (length ms) (length c.hold.new.pair.gathered.made)) (sym (c.hold.ensures.held ∙ c.free.ensures.held)) ∙ sym c.is_whole.ensures.made ∙ c.if-is_whole.false);
+        };
+      };
+      fits = λ none made. c.requires.part;
     }
-  where
-    impossible : (more : List ℕ) (comment : Bool) → c.hold.new.pair.gathered ≡ with_all c.args.self.now.pair.gathered c.take.new.self.events
-        → PassesBy c.args.self.now c.args.x more comment c.take.new.self.part (with_all c.args.self.now.pair.gathered c.take.new.self.events) → ⊥
-    impossible more comment is p = elim c.then-is_whole.branch [
-      | then-is_whole-via-then-is_whole w ↦
-          none_whole c.hold.new.pair.held c.hold.new.pair.gathered (with_all c.args.self.now.pair.gathered c.take.new.self.events) c.args.self.now.pair.gathered is (c.hold.ensures.held ∙ c.free.ensures.held) p.made
-          (sym c.is_whole.ensures.made ∙ w.if-is_whole.true)
-      | then-is_whole-via-else-is_whole+then-is_some w ↦
-          none_coded w.code.result (w.code.ensures.code ∙ ap (code_in c.args.self.now.limits) is ∙ p.code) (sym w.is_some.ensures ∙ w.if-is_some.true)
-    ]
 
 pub returns-else-is_some-clause-rests : goal.returns-else-is_some-clause-rests
 returns-else-is_some-clause-rests c =
@@ -73,32 +89,6 @@ returns-else-is_some-clause-rests c =
     (ap (λ (ms : List UnplacedSyllable). nat_lt (length ms) (length c.hold.new.pair.gathered.made)) (sym (c.hold.ensures.held ∙ c.free.ensures.held)) ∙ sym c.is_whole.ensures.made ∙ c.if-is_whole.false)
     (sym c.code.ensures.code ∙ no_code_by c.code.result (sym c.is_some.ensures ∙ c.if-is_some.false))
     (ap (λ (r : BoundedList Finding). r.items) c.clear.ensures) (omega (arith, cleared, held, room)) (ap (λ (b : BodyStageState). b.nabc_lines) c.take.ensures.same) (ap (λ (b : BodyStageState). b.macros) c.take.ensures.same) (counts_go_on c.take.ensures.steps.0 c.take.ensures.steps.1) (keeps_on c.take.ensures.steps.0) (leaves_front c.take.ensures.steps.0))
-
-pub returns-else-is_some-clause-same : goal.returns-else-is_some-clause-same
-returns-else-is_some-clause-same c = λ body.
-    let now = c.take.new.self.events in
-    record {
-      body = c.requires.part;
-      bounds = refl;
-      has_lent = refl;
-      made = none_made c.args.self.now.pair.gathered c.hold.new.pair.gathered now (c.hold.ensures.gathered ∙ ap (λ (k : Gathered). with_all k now) c.free.ensures.gathered)
-          (ap (λ (ms : List UnplacedSyllable). nat_lt (length ms) (length c.hold.new.pair.gathered.made)) (sym (c.hold.ensures.held ∙ c.free.ensures.held)) ∙ sym c.is_whole.ensures.made ∙ c.if-is_whole.false);
-    }
-
-pub returns-else-is_some-clause-again : goal.returns-else-is_some-clause-again
-returns-else-is_some-clause-again c =
-    let text = c.a_kept_character_is_kept_again.ensures in
-    let m = c.args.self.now in
-    let old = m.pair.gathered in
-    let now = c.take.new.self.events in
-    let n : ScoreMachine = record m { body = c.take.new.self; pair = c.hold.new.pair; found = c.clear.new.self } in
-    let is : c.hold.new.pair.gathered ≡ with_all old now = c.hold.ensures.gathered ∙ ap (λ (k : Gathered). with_all k now) c.free.ensures.gathered in
-    record {
-      next = λ told kept rest t outside e. goes_by m n c.args.x (c.args.x.c ∷ []) false (with_all old now) c.requires.part is
-          (next_passes text.characters text.comments text.ends c.a_kept_character_is_kept_again-2.ensures c.what_is_open_follows_from_the_kept_text.ensures.comment m c.requires.rests c.args.x c.take.new.self.part now (reads_again c.take.ensures.steps.0) told kept rest t outside e);
-      comment = λ told kept t front comment_open outside e percent. goes_by m n c.args.x [] true (with_all old now) c.requires.part is
-          (comment_passes text.characters text.comments text.ends c.a_kept_character_is_kept_again-2.ensures c.what_is_open_follows_from_the_kept_text.ensures.comment m c.requires.rests c.args.x c.take.new.self.part now (reads_again c.take.ensures.steps.0) told kept t front comment_open outside e percent);
-    }
 
 pub returns-then-is_whole-clause-rests : goal.returns-then-is_whole-clause-rests
 returns-then-is_whole-clause-rests c =

@@ -2,6 +2,7 @@ use Rattle.std.proofs.Common.{rules, ◌++◌, [], ◌∷◌, refl, arith}
 use Rattle.gabc_score.specs.ScoreEvents.{Found, Stop, outputs_of}
 use Rattle.gabc_score.specs.machine.ScoreStage.{placed_behind}
 use Rattle.gabc_score.proofs.score_events.FewAndShortAreLent.{held_lends, lends_none}
+use Rattle.gabc_score.proofs.score_events.GivesOutside.{gives_outside}
 use Rattle.gabc_score.proofs.score_events.PartsFollow.{last_behind, leads_out}
 use Rattle.gabc_score.proofs.score_machine.ScoreMachine.push_in_body.Goals as goal
 
@@ -30,26 +31,16 @@ returns-in-Found-clause-step c =
 pub returns-in-Stop-clause-step : goal.returns-in-Stop-clause-step
 returns-in-Stop-clause-step c =
     let held = c.free.new.self.held in
-    let rests = c.requires.rests.rests in
-    record {
-      outputs = outputs_of [] (placed_behind c.args.self.now.has_lent held) ++ Stop c.in-Stop.fault ∷ [];
-      lends = rw c.in-Stop.is (held_lends c.args.self.now.limits 1 c.args.self.now.has_lent held c.args.self.now.pair.gathered.made (Stop c.in-Stop.fault ∷ []) refl c.free.ensures.held rests.short c.stop.ensures.few (omega arith));
+    let given = outputs_of [] (placed_behind c.args.self.now.has_lent held) in
+    gives_outside (given ++ Stop c.in-Stop.fault ∷ []) (λ body. absurd (cc (body, c.stop.ensures.part))) (λ heads. absurd (cc (heads, c.requires.part))) (record {
+      lends = rw c.in-Stop.is (held_lends c.args.self.now.limits 1 c.args.self.now.has_lent held c.args.self.now.pair.gathered.made (Stop c.in-Stop.fault ∷ []) refl c.free.ensures.held c.requires.rests.rests.short c.stop.ensures.few (omega arith));
       limits = c.stop.ensures.limits;
-      part = leads_out c.args.self.now.part c.stop.new.self.part _ (outputs_of [] (placed_behind c.args.self.now.has_lent held)) (Stop c.in-Stop.fault) c.requires.part c.stop.ensures.part refl;
-      last = λ other final. last_behind (outputs_of [] (placed_behind c.args.self.now.has_lent held)) (Stop c.in-Stop.fault) refl;
+      part = leads_out c.args.self.now.part c.stop.new.self.part _ given (Stop c.in-Stop.fault) c.requires.part c.stop.ensures.part refl;
+      last = λ other final. last_behind given (Stop c.in-Stop.fault) refl;
       passes = λ other. rw c.in-Stop.is tt;
-      line = λ lf body. absurd (cc (body, c.stop.ensures.part));
-      counts = λ place here was body. absurd (cc (body, c.stop.ensures.part));
-      before_held = λ body. absurd (cc (body, c.stop.ensures.part));
-      next = λ body. absurd (cc (body, c.stop.ensures.part));
-      stands = λ here was body. absurd (cc (body, c.stop.ensures.part));
-      whole = λ body. absurd (cc (body, c.stop.ensures.part));
-      told = λ may here was body. absurd (cc (body, c.stop.ensures.part));
-      holds = λ was body. absurd (cc (body, c.stop.ensures.part));
       law = search rules;
       emitted = c.stop.ensures.emitted;
-      front = λ heads. absurd (cc (heads, c.requires.part));
-    }
+    })
 
 pub returns-in-Heads-clause-step : goal.returns-in-Heads-clause-step
 returns-in-Heads-clause-step c =

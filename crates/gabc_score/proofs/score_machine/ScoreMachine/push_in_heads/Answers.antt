@@ -12,95 +12,32 @@ use Rattle.gabc_score.proofs.score_events.WholeSyllables.{none_whole}
 use Rattle.gabc_score.proofs.score_events.HeldWithinLimits.{within_begun}
 use Rattle.gabc_score.proofs.score_events.WhatIsRead.{comment_reads}
 use Rattle.gabc_score.proofs.score_events.FewAndShortAreLent.{lends_none}
+use Rattle.gabc_score.proofs.score_events.GivesOutside.{gives_outside}
 use Rattle.gabc_score.proofs.score_machine.ScoreMachine.push_in_heads.Goals as goal
 
 pub returns-in-Found-clause-step : goal.returns-in-Found-clause-step
 returns-in-Found-clause-step c =
-    rw (c.requires.part, c.in-Found.is) (record {
-      outputs = Found c.in-Found.finding ∷ [];
-      lends = lends_none c.args.self.now.limits _ (Found c.in-Found.finding ∷ []) refl;
-      limits = refl;
-      part = refl;
-      last = λ other final. absurd (cc final);
-      passes = λ other. refl;
-      line = λ lf. absurd lf;
-      counts = λ place here was body. absurd (cc body);
-      before_held = λ body. absurd (cc body);
-      next = λ body. absurd (cc body);
-      stands = λ here was body. absurd (cc body);
-      whole = λ body. absurd (cc body);
-      told = λ may here was body. absurd (cc body);
-      holds = λ was body. absurd (cc body);
-      law = λ xs. refl;
-      emitted = record { events = c.push.ensures; few = omega arith; lent = refl };
-      front = λ heads lines macros canonical is. absurd (cc is);
-    })
+    rw (c.requires.part, c.in-Found.is)
+    (gives_outside (Found c.in-Found.finding ∷ []) (λ body. absurd (cc body)) (λ heads lines macros canonical is. absurd (cc is))
+    (record { lends = lends_none c.args.self.now.limits _ (Found c.in-Found.finding ∷ []) refl; limits = refl; part = refl; last = λ other final. absurd (cc final); passes = λ other. refl; law = λ xs. refl; emitted = record { events = c.push.ensures; few = omega arith; lent = refl } }))
 
 pub returns-in-Stop-clause-step : goal.returns-in-Stop-clause-step
 returns-in-Stop-clause-step c =
-    rw (c.requires.part, c.in-Stop.is) (record {
-      outputs = Stop c.in-Stop.fault ∷ [];
-      lends = lends_none c.args.self.now.limits _ (Stop c.in-Stop.fault ∷ []) refl;
-      limits = refl;
-      part = refl;
-      last = λ other final. refl;
-      passes = λ other. tt;
-      line = λ lf. absurd lf;
-      counts = λ place here was body. absurd (cc body);
-      before_held = λ body. absurd (cc body);
-      next = λ body. absurd (cc body);
-      stands = λ here was body. absurd (cc body);
-      whole = λ body. absurd (cc body);
-      told = λ may here was body. absurd (cc body);
-      holds = λ was body. absurd (cc body);
-      law = λ xs. refl;
-      emitted = record { events = c.push-in-Stop.ensures; few = omega arith; lent = refl };
-      front = λ heads lines macros canonical is. absurd (cc is);
-    })
+    rw (c.requires.part, c.in-Stop.is)
+    (gives_outside (Stop c.in-Stop.fault ∷ []) (λ body. absurd (cc body)) (λ heads lines macros canonical is. absurd (cc is))
+    (record { lends = lends_none c.args.self.now.limits _ (Stop c.in-Stop.fault ∷ []) refl; limits = refl; part = refl; last = λ other final. refl; passes = λ other. tt; law = λ xs. refl; emitted = record { events = c.push-in-Stop.ensures; few = omega arith; lent = refl } }))
 
 pub returns-in-End-clause-step : goal.returns-in-End-clause-step
 returns-in-End-clause-step c =
-    rw (c.requires.part, c.in-End.is) (record {
-      outputs = End ∷ [];
-      lends = lends_none c.args.self.now.limits _ (End ∷ []) refl;
-      limits = refl;
-      part = refl;
-      last = λ other final. refl;
-      passes = λ other. tt;
-      line = λ lf. absurd lf;
-      counts = λ place here was body. absurd (cc body);
-      before_held = λ body. absurd (cc body);
-      next = λ body. absurd (cc body);
-      stands = λ here was body. absurd (cc body);
-      whole = λ body. absurd (cc body);
-      told = λ may here was body. absurd (cc body);
-      holds = λ was body. absurd (cc body);
-      law = λ xs. refl;
-      emitted = record { events = c.push-in-End.ensures; few = omega arith; lent = refl };
-      front = λ heads lines macros canonical is. absurd (cc is);
-    })
+    rw (c.requires.part, c.in-End.is)
+    (gives_outside (End ∷ []) (λ body. absurd (cc body)) (λ heads lines macros canonical is. absurd (cc is))
+    (record { lends = lends_none c.args.self.now.limits _ (End ∷ []) refl; limits = refl; part = refl; last = λ other final. refl; passes = λ other. tt; law = λ xs. refl; emitted = record { events = c.push-in-End.ensures; few = omega arith; lent = refl } }))
 
 pub returns-in-Body-clause-step : goal.returns-in-Body-clause-step
 returns-in-Body-clause-step c =
-    rw (c.requires.part, c.in-Body.is) (record {
-      outputs = [];
-      lends = lends_none c.args.self.now.limits _ [] refl;
-      limits = refl;
-      part = refl;
-      last = λ other final. absurd (cc final);
-      passes = λ other. tt;
-      line = λ lf body. absurd (cc body);
-      counts = λ place here was body. absurd (cc body);
-      before_held = λ body. absurd (cc body);
-      next = λ body. absurd (cc body);
-      stands = λ here was body. absurd (cc body);
-      whole = λ body. absurd (cc body);
-      told = λ may here was body. absurd (cc body);
-      holds = λ was body. absurd (cc body);
-      law = λ xs. refl;
-      emitted = search rules;
-      front = λ heads lines macros canonical is. absurd (cc is);
-    })
+    rw (c.requires.part, c.in-Body.is)
+    (gives_outside ([]) (λ body. absurd (cc body)) (λ heads lines macros canonical is. absurd (cc is))
+    (record { lends = lends_none c.args.self.now.limits _ ([]) refl; limits = refl; part = refl; last = λ other final. absurd (cc final); passes = λ other. tt; law = λ xs. refl; emitted = search rules }))
 
 pub returns-in-Heads-clause-step : goal.returns-in-Heads-clause-step
 returns-in-Heads-clause-step c = record {
