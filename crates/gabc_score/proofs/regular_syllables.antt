@@ -1,4 +1,5 @@
 pub mod BytesOfRegularSyllables
+pub mod ClearBytes
 pub mod GapsAreRead
 pub mod MarkedSyllables
 pub mod OneMore

@@ -7,13 +7,17 @@ ghost use Rattle.std.specs.String.Boundary.{IsSplitPoint};
 ghost use Rattle.gabc_patterns.specs.LongestPrefix.{IsLongestPrefix};
 ghost use Rattle.gabc_text.specs.Token.{is_blank};
 ghost use Rattle.gabc_score.specs.RegularSyllable.{IsRegularOn};
-ghost use Rattle.gabc_score.specs.machine.RegularLen.{begins_mark, begins_other, mark_at, past_mark, tag_of, HasOnly, IsMarked, IsUnmarked, IsPlainByte, BeginsWithSnippets, BeginsRegularly, IsPlainGap, is_printable};
+ghost use Rattle.gabc_score.specs.machine.RegularLen.{begins_mark, begins_other, mark_at, past_mark, tag_of, HasOnly, IsMarked, IsUnmarked, IsPlainByte, BeginsWithSnippets, BeginsRegularly, IsClearByte, IsPlainGap, is_printable};
 
 use crate::before::Spans;
 use crate::body_stage::next_line;
 use gabc_nabc::regular_nabc;
 use gabc_notes::regular_notes;
 use gabc_text::regular_text;
+use memchr::memchr3;
+
+/// How many bytes are looked at together for whether they are clear.
+const MOST_LOOKED_AT: usize = 256;
 
 /// A tag that opens or closes a span of several syllables.
 #[derive(Clone, Copy)]
@@ -172,6 +176,7 @@ fn is_refused_at(bytes: &[u8], index: usize) -> bool
 }
 
 /// Returns whether no span mark, no CR and no first byte of U+FEFF stand among `bytes`.
+#[inline(never)]
 fn is_plain(bytes: &[u8]) -> bool
     ensures plain { IsTrue result → All IsPlainByte bytes.now }
     ensures unmarked { IsTrue result → IsUnmarked bytes.now }
@@ -257,13 +262,30 @@ fn has_only_first(bytes: &[u8]) -> bool
     }
 }
 
+/// Returns how many of the first of `bytes` are clear, as far as it looks: neither a `<`, nor a CR,
+/// nor the first byte of U+FEFF.
+#[inline(never)]
+pub(crate) fn clear_len(bytes: &[u8]) -> usize
+    ensures { All IsClearByte (take result bytes.now) }
+{
+    let most = bytes.len().min(MOST_LOOKED_AT);
+    match memchr3(b'<', b'\r', 0xEF, &bytes[..most]) {
+        Some(end) => end,
+        None => most,
+    }
+}
+
 /// Returns whether no CR and no first byte of U+FEFF stand among `bytes`, and no span mark but one
-/// that they begin with.
+/// that they begin with. The first `clear` bytes are known to be clear.
 #[inline(always)]
-fn may_be_kept(bytes: &[u8]) -> bool
+fn may_be_kept(bytes: &[u8], clear: usize) -> bool
+    requires { All IsClearByte (take clear bytes.now) }
     ensures plain { IsTrue result → All IsPlainByte bytes.now }
     ensures marked { IsTrue result → IsMarked (mark_at bytes.now) bytes.now }
 {
+    if bytes.len() <= clear {
+        return true;
+    }
     is_plain(bytes) || has_only_first(bytes)
 }
 
@@ -306,7 +328,9 @@ fn snippets_len(lines: u8, text: &str) -> usize
 /// begins with one that has no span mark but one at the beginning of its text. Nothing is found in
 /// it, and but for the blanks before its text it is its own canonical text
 /// (`regular_laws::a_regular_syllable_makes_its_spelling`). There may be one where it returns none.
-pub(crate) fn regular_syllable(lines: u8, text: &str) -> Option<RegularLen>
+/// The first `clear` bytes of `text` are known to be clear.
+pub(crate) fn regular_syllable(lines: u8, text: &str, clear: usize) -> Option<RegularLen>
+    requires { All IsClearByte (take clear text.now) }
     ensures { IfSome result (BeginsRegularly lines text.now) }
 {
     let bytes = text.as_bytes();
@@ -318,7 +342,7 @@ pub(crate) fn regular_syllable(lines: u8, text: &str) -> Option<RegularLen>
     let begun = opening + 1;
     let notes = snippets_len(lines, &text[begun..]);
     let len = begun + notes;
-    if notes == 0 || !may_be_kept(&bytes[gap..len]) {
+    if notes == 0 || !may_be_kept(&bytes[gap..len], clear.saturating_sub(gap)) {
         return None;
     }
     Some(RegularLen { gap, opening, len })

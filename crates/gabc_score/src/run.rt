@@ -10,7 +10,7 @@ ghost use Rattle.gabc_text.specs.TextStage.{fresh_stage};
 ghost use Rattle.gabc_score.specs.Canonical.{position_by};
 ghost use Rattle.gabc_score.specs.GivesSyllables.{GivesSyllables, Runs};
 ghost use Rattle.gabc_score.specs.SpelledSyllable.{IsSpelling, Spells};
-ghost use Rattle.gabc_score.specs.machine.RegularLen.{BeginsRegularly};
+ghost use Rattle.gabc_score.specs.machine.RegularLen.{BeginsRegularly, IsClearByte};
 ghost use Rattle.gabc_score.specs.Syllable.{PlacedSyllable, UnplacedSyllable};
 ghost use Rattle.gabc_score.specs.machine.PartCounts.{CountsHold};
 ghost use Rattle.gabc_score.specs.machine.PartKeeps.{in_text, PartKeeps};
@@ -23,7 +23,7 @@ use crate::before::{Preceding, Spans};
 use crate::body_stage::BodyPart;
 use crate::bounds::Bounds;
 use crate::give::{Give, Run};
-use crate::regular::{SpanMark, mark_at, regular_syllable, spans_past};
+use crate::regular::{SpanMark, clear_len, mark_at, regular_syllable, spans_past};
 use crate::regular_laws;
 use crate::score_event::ScoreEvent;
 use crate::score_machine::{ScoreMachine, ScorePart};
@@ -44,15 +44,32 @@ pub(crate) struct Found<'a> {
     gap: usize,
     /// The bytes before its `(`.
     opening: usize,
+    /// How many of the first bytes of `rest` are known to be clear.
+    clear: usize,
+}
+
+/// Returns how many of the first bytes of `rest` are known to be clear, where the first `left` are:
+/// looks further if none is.
+fn clear_after(rest: &str, left: usize) -> usize
+    requires { All IsClearByte (take left rest.now) }
+    ensures { All IsClearByte (take result rest.now) }
+{
+    if left > 0 {
+        left
+    } else {
+        clear_len(rest.as_bytes())
+    }
 }
 
 /// Returns the regular syllable that `text` begins with, if it begins with one under `lines` NABC
-/// lines, and no limit is passed with it after `total` canonical bytes.
-fn find(lines: u8, limits: Limits, text: &str, total: usize) -> Option<Found<'_>>
+/// lines, and no limit is passed with it after `total` canonical bytes. The first `clear` bytes of
+/// `text` are known to be clear.
+fn find(lines: u8, limits: Limits, text: &str, clear: usize, total: usize) -> Option<Found<'_>>
+    requires { All IsClearByte (take clear text.now) }
     ensures found { IfSome result (λ f. IsFound lines limits total f) }
     ensures text { IfSome result (λ f. text.now ≡ f.spelled.now ++ f.rest.now) }
 {
-    let Some(found) = regular_syllable(lines, text) else {
+    let Some(found) = regular_syllable(lines, text, clear) else {
         return None;
     };
     let left = (limits.input as usize).saturating_sub(total);
@@ -65,6 +82,7 @@ fn find(lines: u8, limits: Limits, text: &str, total: usize) -> Option<Found<'_>
         rest,
         gap: found.gap,
         opening: found.opening,
+        clear: clear_after(rest, clear.saturating_sub(found.len)),
     })
 }
 
@@ -278,7 +296,8 @@ impl ScoreMachine {
         loop {
             let last = reached.last;
             let before = last.past(reached.before);
-            let Some(next) = find(lines, self.limits, last.rest, before.canonical) else {
+            let Some(next) = find(lines, self.limits, last.rest, last.clear, before.canonical)
+            else {
                 return reached;
             };
             if self.is_first_with(lines, &next) {
@@ -387,7 +406,7 @@ impl ScoreMachine {
         }
         let before = self.bounds.behind;
         let lines = self.body.nabc_lines();
-        let Some(first) = find(lines, self.limits, text, before.canonical) else {
+        let Some(first) = find(lines, self.limits, text, 0, before.canonical) else {
             return none;
         };
         if self.is_first_with(lines, &first) {

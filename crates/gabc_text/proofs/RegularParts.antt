@@ -223,6 +223,10 @@ no_text b e f = record {
   no_middle = λ g. refl;
 }
 
+-- nothing is begun
+pub nothing_begun : (l : List ℕ) → IsBegun (record { styles = no_styles; word = false; centre = false }) (take 0 l)
+nothing_begun l = no_text (record { styles = no_styles; word = false; centre = false }) refl refl
+
 -- a run is a text
 pub run_begun : (l : List ℕ) (n : ℕ) → n ≤ length l → IsRun (take n l) → IsBegun (record { styles = no_styles; word = nat_lt 0 n; centre = false }) (take n l)
 run_begun l zero within run = no_text (record { styles = no_styles; word = false; centre = false }) refl refl

@@ -105,18 +105,16 @@ fn styled_part(bytes: &[u8], last: Styles) -> Option<Part>
     })
 }
 
-/// Returns the span mark with which `bytes` begin, if they begin with one.
-fn mark_by(bytes: &[u8]) -> &'static str
-    ensures { IsMark result.now }
+/// Returns the span mark that has these bytes after its `<`, if there is one.
+fn mark_by(second: u8, third: u8) -> Option<&'static str>
+    ensures { IfSome result (λ mark. IsMark mark.now) }
 {
-    if bytes.starts_with(b"<e") {
-        "<eu>"
-    } else if bytes.starts_with(b"</e") {
-        "</eu>"
-    } else if bytes.starts_with(b"<n") {
-        "<nlba>"
-    } else {
-        "</nlba>"
+    match (second, third) {
+        (b'e', b'u') => Some("<eu>"),
+        (b'/', b'e') => Some("</eu>"),
+        (b'n', b'l') => Some("<nlba>"),
+        (b'/', b'n') => Some("</nlba>"),
+        _ => None,
     }
 }
 
@@ -125,11 +123,12 @@ fn mark_len(bytes: &[u8]) -> usize
     ensures within { result ≤ length bytes.now }
     ensures part { 0 < result → IsPart no_styles false (take result bytes.now) }
 {
-    let mark = mark_by(bytes).as_bytes();
-    if bytes.starts_with(mark) {
-        mark.len()
-    } else {
-        0
+    if bytes.len() < 3 {
+        return 0;
+    }
+    match mark_by(bytes[1], bytes[2]) {
+        Some(mark) if bytes.starts_with(mark.as_bytes()) => mark.len(),
+        _ => 0,
     }
 }
 
@@ -241,11 +240,8 @@ fn untranslated_len(bytes: &[u8]) -> usize
     ensures begun { (before : Before) × IsBegun before (take result bytes.now) }
     ensures stops { result < length bytes.now → has_letter_at bytes.now result ≡ false }
 {
-    let mut end = run_len(bytes);
-    let mut before = Before {
-        word: end > 0,
-        ..Before::NOTHING
-    };
+    let mut end = 0;
+    let mut before = Before::NOTHING;
     while end < bytes.len() && bytes[end] != b'(' {
         match next_step(bytes, end, before) {
             None => return end,

@@ -150,12 +150,13 @@ fn raw_tags(raw: RawKind) -> (&'static str, &'static str)
     }
 }
 
-/// Returns the kind of raw part whose name begins with `byte`; `Alt`, if none does.
-fn raw_by(byte: u8) -> RawKind {
+/// Returns the kind of raw part whose name begins with `byte`, if there is one.
+fn raw_by(byte: u8) -> Option<RawKind> {
     match byte {
-        b'v' => RawKind::V,
-        b's' => RawKind::Sp,
-        _ => RawKind::Alt,
+        b'v' => Some(RawKind::V),
+        b's' => Some(RawKind::Sp),
+        b'a' => Some(RawKind::Alt),
+        _ => None,
     }
 }
 
@@ -165,10 +166,13 @@ fn raw_len(bytes: &[u8]) -> usize
     ensures within { result ≤ length bytes.now }
     ensures word { 0 < result → IsWord (take result bytes.now) }
 {
-    if bytes.len() < 2 {
+    if bytes.len() < 2 || bytes[0] != b'<' {
         return 0;
     }
-    let (opening, closing) = raw_tags(raw_by(bytes[1]));
+    let Some(raw) = raw_by(bytes[1]) else {
+        return 0;
+    };
+    let (opening, closing) = raw_tags(raw);
     bracketed_len(bytes, opening.as_bytes(), b'<', closing.as_bytes())
 }
 

@@ -29,6 +29,10 @@ IsUnmarked bytes = (k : ℕ) → begins_mark (drop k bytes) ≡ false
 abbrev pub IsPlainByte : ℕ → Type 0
 IsPlainByte b = (b ≢ 13) × (b ≢ 0xEF)
 
+-- such a byte, with which no tag begins either
+abbrev pub IsClearByte : ℕ → Type 0
+IsClearByte b = IsPlainByte b × (b ≢ 60)
+
 -- ---- a span mark
 
 abbrev pub tag_of : SpanMark → List ℕ

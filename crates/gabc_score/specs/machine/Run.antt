@@ -1,5 +1,5 @@
 -- A run of regular syllables that a machine over a score takes from a text.
-use Rattle.std.specs.Prelude.{◌≡◌, ℕ, ◌+◌, ◌≤◌, ◌<◌, ◌^◌, ◌||◌, ◌&&◌, ◌==◌, not, nat_lt, min, List, [], ◌∷◌, ◌++◌, Bool, length, drop, encode_utf8_all, if◌then◌else◌, Option, is_some}
+use Rattle.std.specs.Prelude.{◌≡◌, ℕ, ◌+◌, ◌≤◌, ◌<◌, ◌^◌, ◌||◌, ◌&&◌, ◌==◌, not, nat_lt, min, List, [], ◌∷◌, ◌++◌, Bool, length, take, drop, encode_utf8_all, if◌then◌else◌, Option, is_some}
 use Rattle.std.specs.List.{All, list_any}
 use Rattle.std.specs.Str.{IsUtf8, chars}
 use Rattle.gabc_places.specs.declared.limits.Limits.{Limits}
@@ -29,7 +29,7 @@ use Rattle.gabc_score.specs.SpelledSyllable.{IsSpelling}
 use Rattle.gabc_score.specs.ScoreStage.{IsWithin}
 use Rattle.gabc_score.specs.Syllable.{UnplacedSyllable, PlacedSyllable}
 use Rattle.gabc_score.specs.machine.Between.{IsBetween, GoesThrough, SoundsNoMore}
-use Rattle.gabc_score.specs.machine.RegularLen.{BeginsRegularly, mark_at, past_mark}
+use Rattle.gabc_score.specs.machine.RegularLen.{BeginsRegularly, IsClearByte, mark_at, past_mark}
 use Rattle.gabc_score.specs.machine.ScoreMachine.{held_score, IsInBody}
 use Rattle.gabc_score.specs.machine.ScoreStage.{HeldScore}
 
@@ -44,6 +44,7 @@ pub record IsFound (lines : ℕ) (limits : Limits) (total : ℕ) (f : Found) : T
   pub is : BeginsRegularly lines (f.spelled.now ++ f.rest.now) (len_of f)
   pub syllable : length f.spelled.now ≤ limits.syllable
   pub input : total + length f.spelled.now + 1 ≤ limits.input
+  pub clear : All IsClearByte (take f.clear f.rest.now)
 
 -- a snippet of GABC in these texts has a note or a clef
 abbrev pub sounds_on_line : ℕ × List ℕ → Bool

@@ -1,6 +1,7 @@
 use Rattle.std.proofs.Common.{◌<◌, ◌∙◌, sym, arith}
 use Rattle.std.proofs.lemmas.List.{take_rest}
 use Rattle.gabc_score.proofs.regular_syllables.BytesOfRegularSyllables.{notes_cut, syllable_here}
+use Rattle.gabc_score.proofs.regular_syllables.ClearBytes.{clear_slice}
 use Rattle.gabc_score.proofs.regular.regular_syllable.Goals as goal
 
 pub range_from-requires : goal.range_from-requires
@@ -12,6 +13,10 @@ range_from-requires c = λ some.
     (rw (c.as_bytes-bytes.ensures.value, take_rest) at c.regular_text.ensures.text)
     (rw (c.as_bytes-bytes.ensures.value, take_rest) at c.regular_text.ensures.regular)
     found.3.0 (sym (found.3.1 0) ∙ c.in-Some-eq40.field-0-test)
+
+pub may_be_kept-requires : goal.may_be_kept-requires
+may_be_kept-requires c =
+    let kept = clear_slice c.args.text.now c.args.clear c.gap_len-gap.result _ c.requires in rw (c.as_bytes-bytes.ensures.value, c.saturating_sub.ensures) kept
 
 pub returns : goal.returns
 returns c =

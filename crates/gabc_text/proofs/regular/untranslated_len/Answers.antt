@@ -1,8 +1,9 @@
-use Rattle.gabc_text.proofs.RegularParts.{run_begun}
+use Rattle.std.proofs.Common.{arith}
+use Rattle.gabc_text.proofs.RegularParts.{nothing_begun}
 use Rattle.gabc_text.proofs.regular.untranslated_len.Goals as goal
 
 pub loop-end-init : goal.loop-end-init
-loop-end-init c = record { within = c.run_len-end.ensures.within; begun = run_begun c.args.bytes.now c.run_len-end.result c.run_len-end.ensures.within c.run_len-end.ensures.run }
+loop-end-init c = record { within = omega arith; begun = nothing_begun c.args.bytes.now }
 
 pub returns-in-None-clause-begun : goal.returns-in-None-clause-begun
 returns-in-None-clause-begun c = (c.loop-end.before, c.loop-end.invariant.begun)
