@@ -17,6 +17,7 @@ pub mod PartsOfKeptText
 pub mod PartsOpenOn
 pub mod PartsStandOn
 pub mod SnippetsAsKept
+pub mod SnippetsTakeCharacters
 pub mod SnippetsWithBars
 pub mod SpansOfParts
 pub mod StopIsFirst

@@ -1,8 +1,9 @@
 -- What a part of a body makes with its events: a syllable that holds a unit, where a snippet closes, and else none.
-use Rattle.std.proofs.Common.{◌≡◌, ℕ, ◌+◌, ◌-◌, ◌^◌, min, Bool, false, List, [], ◌∷◌, ◌++◌, length, nat_lt, codes, encode_utf8_all, refl, sym, ap, subst, ◌∙◌, arith, append_assoc}
+use Rattle.std.proofs.Common.{◌≡◌, ℕ, ◌+◌, ◌-◌, ◌^◌, min, Bool, true, false, List, [], ◌∷◌, ◌++◌, length, nat_lt, codes, encode_utf8_all, refl, sym, ap, subst, ◌∙◌, arith, append_assoc}
 use Rattle.std.proofs.lemmas.Bool.{true≢false}
 use Rattle.std.proofs.lemmas.List.Elements.{All-push}
 use Rattle.std.specs.List.{list_any}
+use Rattle.gabc_places.specs.declared.place.Char.{Char}
 use Rattle.gabc_places.specs.declared.place.Place.{Place}
 use Rattle.gabc_text.specs.TextRead.{view_in}
 use Rattle.gabc_text.specs.TextView.{ViewContent}
@@ -14,7 +15,6 @@ use Rattle.gabc_text.specs.TextStage.{fresh_stage}
 use Rattle.gabc_text.proofs.resuming.StagesKeep.{fresh_keeps}
 use Rattle.gabc_text.specs.witness.Keeps as text
 use Rattle.gabc_text.specs.witness.SaidInFull.{IsSaidInFull}
-use Rattle.gabc_notes.specs.SnippetRead.{kept_of, ends_of}
 use Rattle.gabc_notes.specs.declared.stage.NoteEnd.TheVariants as note_end
 use Rattle.gabc_notes.specs.declared.stage.NoteEvent.{NoteEvent}
 use Rattle.gabc_notes.specs.declared.stage.NoteEvent.TheVariants as note
@@ -25,20 +25,20 @@ use Rattle.gabc_score.specs.declared.body_stage.BodyPart.TheVariants as part
 use Rattle.gabc_score.specs.declared.events.BodyEvent.{BodyEvent}
 use Rattle.gabc_score.specs.declared.events.BodyEvent.TheVariants as event
 use Rattle.gabc_score.specs.Before.{with_one, with_each}
-use Rattle.gabc_score.specs.Events.{is_close}
-use Rattle.gabc_score.specs.Holding.{IsSnippetOf}
+use Rattle.gabc_score.specs.Events.{is_close, is_next}
 use Rattle.gabc_score.specs.SpansPast.{open_past, FollowsSpans}
 use Rattle.gabc_score.specs.Syllable.{UnplacedSyllable, closes}
 use Rattle.gabc_score.specs.SyllablesOfUnits.{span_tags}
 use Rattle.gabc_score.specs.UnitRead.{HoldsSomeUnit}
 use Rattle.gabc_score.specs.machine.BodyBuilder.{with_all}
 use Rattle.gabc_score.specs.machine.Gatherer.{Gathered, with_event}
-use Rattle.gabc_score.specs.machine.PartKeeps.{KeptParts, in_text, barred, text_before, joined, line_behind, text_events, snippet_events, earlier_events, events_before, said_by, AreEnded, PartKeeps, begun, ReadAlike, IsReading}
+use Rattle.gabc_score.specs.machine.PartKeeps.{KeptParts, in_text, barred, text_before, joined, line_behind, text_events, snippet_events, earlier_events, events_before, said_by, AreEnded, begun, ReadAlike, IsReading}
 use Rattle.gabc_score.specs.machine.PartMakes.{FollowEach, AreHeld, HoldUnits, PartMakes}
+use Rattle.gabc_score.specs.machine.PartSteps.{SnippetSteps}
 use Rattle.gabc_score.specs.machine.SyllableBuilder.{OpenSyllable, made_from, past_snippet}
 use Rattle.gabc_score.proofs.building.EventsOfOnePoint.{with_all_append}
 use Rattle.gabc_score.proofs.building.PartsMakeUnits.{HasRead, with_more, text_read, earlier_read, close_holds, close_opens}
-use Rattle.gabc_score.proofs.building.PartsOfKeptNotes.{InNotes}
+use Rattle.gabc_score.proofs.building.SnippetsTakeCharacters.{Ending, InSnippet, close_ends, ending_close, ending_next, next_alone}
 use Rattle.gabc_score.proofs.building.PartsOfKeptText.{of_notes, notes_ended, snippet_is}
 use Rattle.gabc_score.proofs.building.SpansOfParts.{eu_open, nlba_open}
 use Rattle.gabc_score.proofs.syllables_of_units.LastTagOpensTheSpan.{behind_tags}
@@ -98,15 +98,6 @@ reading_begins {lines} {macros} {spans} {g} at r = record {
 
 -- ---- a syllable is made
 
--- events that end a snippet at a `)`: what it kept is cut to a snippet that is whole
-pub record ClosesWhole (line : ℕ) (es : List NoteEvent) (k : List ℕ) : Type 0 where
-  pub s : List ℕ
-  pub rest : List ℕ
-  pub cut : k ≡ s ++ rest
-  pub is : IsSnippetOf line s
-  pub none_kept : kept_of es ≡ []
-  pub end : ends_of es ≡ (note_end.Close, min (size s) (2 ^ 64 - 1)) ∷ []
-
 -- behind the others one more follows
 follow_push : (p : Preceding) (ms : List UnplacedSyllable) (m : UnplacedSyllable) → FollowEach p ms → FollowsSpans (with_each p ms).spans m → FollowEach p (ms ++ m ∷ [])
 unfolding FollowEach
@@ -118,14 +109,21 @@ none_ended : (lines macros : ℕ) (ss : List (List ℕ)) → AreEnded lines macr
 none_ended lines macros [] h e = refl
 none_ended lines macros (s ∷ ss) h e = absurd (true≢false (sym h.0.0 ∙ ap (nat_lt 0) e))
 
-module _ (lines macros line : ℕ) (opened : Place) (before : BodyPart) (Keep : List ℕ → Type 0) (found : (p : KeptParts) → PartKeeps lines macros before p → InNotes lines macros line Keep p) where
-  pub notes_make : (es : List NoteEvent) → ((k : List ℕ) → Keep k → ClosesWhole line es k) → PartMakes lines macros before (of_notes line opened es)
+module _ (lines macros : ℕ) {x : Char} {line : ℕ} {opened : Place} {before same : BodyPart} {es : List NoteEvent} (steps : SnippetSteps x line opened before es same) where
+  -- what ends at a `|` does not close
+  pub next_makes : list_any is_next es ≡ true → PartMakes lines macros before (of_notes line opened es)
+  unfolding PartMakes
+  next_makes next p g fits r =
+      let e = ending_next lines macros steps r.parts r.keeps next in
+      notes_make_none lines macros line opened before es (next_alone es x.c _ e.end next) p g fits r
+
+  pub close_makes : list_any is_close es ≡ true → PartMakes lines macros before (of_notes line opened es)
   unfolding PartMakes HoldUnits
-  notes_make es closes_whole p g fits r h laws =
-      subst (λ (i : Gathered). AreHeld lines p i.made) (sym (notes_ended line opened es g note_end.Close n closed.none_kept closed.end)) (record {
+  close_makes close p g fits r h laws =
+      subst (λ (i : Gathered). AreHeld lines p i.made) (sym (notes_ended line opened es g note_end.Close n closed.none_kept (close_ends es x.c n closed.end close))) (record {
         units = All-push (HoldsSomeUnit lines) g.made made (h laws).units
             (subst (λ (o : OpenSyllable). HoldsSomeUnit lines (made_from (past_snippet o line n 41) g.eu g.nlba)) (sym builder_is)
-            (close_holds laws lines t view line (length here.earlier) base.builder has_read closed.s closed.rest closed.is n count_is full refl (none_ended lines macros here.earlier here.behind.snippets_ended) g.eu g.nlba));
+            (close_holds laws lines t view line (length here.earlier) base.builder has_read closed.s closed.rest closed.whole n count_is full refl (none_ended lines macros here.earlier here.behind.snippets_ended) g.eu g.nlba));
         follow = follow_push p g.made made (h laws).follow (record {
           eu = r.said.eu ∙ ap (λ (k : KeptParts). (with_all (begun spans) (said_by lines k)).eu) here.is ∙ eu_open lines t here.earlier here.k spans full ∙ sym (opens (codes "<eu>") (codes "</eu>") spans.eu);
           nlba = r.said.nlba ∙ ap (λ (k : KeptParts). (with_all (begun spans) (said_by lines k)).nlba) here.is ∙ nlba_open lines t here.earlier here.k spans full ∙ sym (opens (codes "<nlba>") (codes "</nlba>") spans.nlba);
@@ -135,14 +133,14 @@ module _ (lines macros line : ℕ) (opened : Place) (before : BodyPart) (Keep : 
       spans : Spans
       spans = (with_each p g.made).spans
 
-      here : InNotes lines macros line Keep r.parts
-      here = found r.parts r.keeps
+      closed : Ending lines macros line x es r.parts
+      closed = ending_close lines macros steps r.parts r.keeps close
+
+      here : InSnippet lines macros line r.parts
+      here = closed.here
 
       t : List ℕ
       t = here.t
-
-      closed : ClosesWhole line es here.k
-      closed = closes_whole here.k here.keeps
 
       n : ℕ
       n = min (size closed.s) (2 ^ 64 - 1)

@@ -1,53 +1,33 @@
 -- What was gathered stays what the parts of the kept text say, with the events of a snippet.
-use Rattle.std.proofs.Common.{◌≡◌, ℕ, ◌+◌, ◌-◌, ◌^◌, min, nat_lt, Bool, true, cond, List, [], ◌∷◌, ◌++◌, length, encode_utf8, encode_utf8_all, refl, sym, ap, subst, ◌∙◌, arith, append-nil, append_assoc, length-append}
+use Rattle.std.proofs.Common.{◌≡◌, ℕ, ◌+◌, ◌-◌, ◌^◌, min, nat_lt, Bool, true, false, cond, List, [], ◌∷◌, ◌++◌, length, encode_utf8, encode_utf8_all, refl, sym, ap, subst, ◌∙◌, arith, append-nil, append_assoc, length-append}
 use Rattle.std.proofs.lemmas.Bool.Decides.{nat_tests}
 use Rattle.std.proofs.lemmas.List.{append_cancel_right, map-append}
 use Rattle.std.proofs.lemmas.Str.{encodes-append}
+use Rattle.std.specs.List.{list_any}
+use Rattle.gabc_places.specs.declared.place.Char.{Char}
 use Rattle.gabc_places.specs.declared.place.Place.{Place}
 use Rattle.gabc_text.specs.witness.Keeps as text
-use Rattle.gabc_notes.specs.SnippetRead.{kept_of, ends_of}
+use Rattle.gabc_notes.specs.SnippetRead.{kept_of}
 use Rattle.gabc_notes.specs.declared.stage.NoteEnd.TheVariants as note_end
 use Rattle.gabc_notes.specs.declared.stage.NoteEvent.{NoteEvent}
 use Rattle.gabc_notes.specs.declared.stage.NoteEvent.TheVariants as note
 use Rattle.gabc_score.specs.declared.body_stage.BodyPart.{BodyPart}
 use Rattle.gabc_score.specs.declared.events.BodyEvent.{BodyEvent}
 use Rattle.gabc_score.specs.declared.events.BodyEvent.TheVariants as event
-use Rattle.gabc_score.specs.Events.{next_line, note_event}
+use Rattle.gabc_score.specs.Events.{is_close, is_next, next_line, note_event}
 use Rattle.gabc_score.specs.Syllable.{prefix_of}
 use Rattle.gabc_score.specs.machine.BodyBuilder.{with_all}
 use Rattle.gabc_score.specs.machine.Gatherer.{Gathered, with_event, with_snippet}
-use Rattle.gabc_score.specs.machine.PartKeeps.{KeptParts, in_text, in_notes, barred, text_before, joined, line_behind, kept_char, text_events, snippet_events, ended_events, earlier_events, events_before, said_by, IsEndedOn, AreEnded, AreBehind, PartKeeps, begun, ReadAlike, IsReading, spans_past, PartKeepsOn}
+use Rattle.gabc_score.specs.machine.PartKeeps.{KeptParts, in_text, in_notes, barred, text_before, joined, line_behind, kept_char, text_events, snippet_events, ended_events, earlier_events, events_before, said_by, IsEndedOn, AreEnded, BeginsSnippet, PartKeeps, begun, ReadAlike, IsReading, spans_past, PartKeepsOn}
+use Rattle.gabc_score.specs.machine.PartSteps.{SnippetSteps}
 use Rattle.gabc_score.specs.machine.Preceded.{spans_of}
 use Rattle.gabc_score.specs.machine.SyllableBuilder.{OpenSyllable, made_from, past_mark, past_snippet, snippet_from}
 use Rattle.gabc_score.proofs.building.EventsOfOnePoint.{with_all_append}
+use Rattle.gabc_score.proofs.building.SnippetsTakeCharacters.{Ending, Going, InSnippet, close_ends, ending_close, ending_next, going, next_ends, next_mark}
 use Rattle.gabc_score.proofs.texts_of_body.SeamsOfCharacters.{size, size_append}
 use Rattle.gabc_score.proofs.building.PartsOfKeptText.{Grows, all_alike, of_notes, notes_said, notes_ended, snippet_grows, snippet_is, cut_is, read_on}
 
 module _ (lines macros : ℕ) where
-  -- a snippet of that line keeps a text, behind a text and snippets that have ended
-  pub record InNotes (line : ℕ) (Keep : List ℕ → Type 0) (p : KeptParts) : Type 0 where
-    pub t : List ℕ
-    pub earlier : List (List ℕ)
-    pub k : List ℕ
-    pub is : p ≡ in_notes t earlier k
-    pub behind : AreBehind lines macros line t earlier
-    pub keeps : Keep k
-
-  -- events that end a snippet at a `|`: what it kept is cut to the kept text of one that has ended
-  pub record EndsSnippet (line : ℕ) (es : List NoteEvent) (k : List ℕ) : Type 0 where
-    pub s : List ℕ
-    pub rest : List ℕ
-    pub cut : k ≡ s ++ rest
-    pub ended : IsEndedOn lines macros line s
-    pub none_kept : kept_of es ≡ []
-    pub end : ends_of es ≡ (note_end.Next, min (size s) (2 ^ 64 - 1)) ∷ []
-
-  -- and at a `)`
-  pub record ClosesSnippet (es : List NoteEvent) : Type 0 where
-    pub count : ℕ
-    pub none_kept : kept_of es ≡ []
-    pub end : ends_of es ≡ (note_end.Close, count) ∷ []
-
   line_more : (line : ℕ) (earlier : List (List ℕ)) (s : List ℕ) → line_behind lines line (earlier ++ s ∷ []) ≡ next_line lines (line_behind lines line earlier)
   line_more line [] s = refl
   line_more line (u ∷ earlier) s = line_more (next_line lines line) earlier s
@@ -62,14 +42,12 @@ module _ (lines macros : ℕ) where
       ap (λ (es : List BodyEvent). ended_events line u ++ es) (earlier_more (next_line lines line) earlier s)
       ∙ sym (append_assoc (ended_events line u) (earlier_events lines (next_line lines line) earlier) (ended_events (line_behind lines (next_line lines line) earlier) s))
 
-  module _ (line : ℕ) (opened : Place) (before : BodyPart) (Keep : List ℕ → Type 0) (found : (p : KeptParts) → PartKeeps lines macros before p → InNotes line Keep p) where
-    pub notes_keep_on : (es : List NoteEvent) (after : BodyPart) (More : List ℕ → Type 0) → ((k : List ℕ) → Keep k → (ends_of es ≡ []) × More (k ++ kept_of es))
-        → ((t : List ℕ) (earlier : List (List ℕ)) (k : List ℕ) → AreBehind lines macros line t earlier → More k → PartKeeps lines macros after (in_notes t earlier k))
-        → PartKeepsOn lines macros before after (of_notes line opened es)
-    notes_keep_on es after More goes into spans g fits r =
-        read_on lines macros before after spans g (with_all g (of_notes line opened es)) (ap (λ (i : Gathered). i.made) gathered_is ∙ grown.made) (record {
+  module _ {x : Char} {line : ℕ} {opened : Place} {before same : BodyPart} {es : List NoteEvent} (s : SnippetSteps x line opened before es same) where
+    pub notes_keep_on : list_any is_next es ≡ false → list_any is_close es ≡ false → PartKeepsOn lines macros before same (of_notes line opened es)
+    notes_keep_on next close spans g fits r =
+        read_on lines macros before same spans g (with_all g (of_notes line opened es)) (ap (λ (i : Gathered). i.made) gathered_is ∙ grown.made) (record {
           parts = in_notes here.t here.earlier (here.k ++ kept_of es);
-          keeps = into here.t here.earlier (here.k ++ kept_of es) here.behind on.1;
+          keeps = goes.keeps;
           said = subst (ReadAlike (with_all g (of_notes line opened es))) (sym said_more)
               (subst (λ (i : Gathered). ReadAlike i (with_all (with_all (begun spans) (said_by lines (in_notes here.t here.earlier here.k))) (snippet_events line (kept_of es)))) (sym gathered_is)
               (all_alike (snippet_events line (kept_of es)) g (with_all (begun spans) (said_by lines (in_notes here.t here.earlier here.k)))
@@ -81,14 +59,14 @@ module _ (lines macros : ℕ) where
           uncut = ap (λ (i : Gathered). i.cut) gathered_is ∙ grown.cut ∙ r.uncut;
         })
       where
-        here : InNotes line Keep r.parts
-        here = found r.parts r.keeps
+        goes : Going lines macros line x before same es r.parts
+        goes = going lines macros s r.parts r.keeps next close
 
-        on : (ends_of es ≡ []) × More (here.k ++ kept_of es)
-        on = goes here.k here.keeps
+        here : InSnippet lines macros line r.parts
+        here = goes.here
 
         gathered_is : with_all g (of_notes line opened es) ≡ with_all g (snippet_events line (kept_of es))
-        gathered_is = notes_said line opened es g on.0
+        gathered_is = notes_said line opened es g goes.no_end
 
         grown : Grows g (with_all g (snippet_events line (kept_of es))) (kept_of es)
         grown = snippet_grows line (kept_of es) g
@@ -101,35 +79,34 @@ module _ (lines macros : ℕ) where
             ∙ ap (λ (l : ℕ). with_all (with_all (begun spans) (said_by lines (in_notes here.t here.earlier here.k))) (snippet_events l (kept_of es))) here.behind.line_is
 
     -- the `)`, behind which a text begins
-    pub notes_close_on : (es : List NoteEvent) (after : BodyPart) → ((k : List ℕ) → Keep k → ClosesSnippet es) → PartKeeps lines macros after (in_text []) → PartKeepsOn lines macros before after (of_notes line opened es)
+    pub notes_close_on : (after : BodyPart) → list_any is_close es ≡ true → PartKeeps lines macros after (in_text []) → PartKeepsOn lines macros before after (of_notes line opened es)
     unfolding text.said_of
-    notes_close_on es after closes begins spans g fits r =
-        subst (λ (i : Gathered). IsReading lines macros after (spans_past spans g i) i) (sym (notes_ended line opened es g note_end.Close closed.count closed.none_kept closed.end))
+    notes_close_on after close begins spans g fits r =
+        subst (λ (i : Gathered). IsReading lines macros after (spans_past spans g i) i) (sym (notes_ended line opened es g note_end.Close n closed.none_kept (close_ends es x.c n closed.end close)))
         (subst (λ (b : Bool). IsReading lines macros after (cond b (spans_of closing) spans) closing) (sym more)
         (record { parts = in_text []; keeps = begins; said = record { builder = refl; eu = refl; nlba = refl }; kept = refl; from = refl; uncut = r.uncut }))
       where
-        here : InNotes line Keep r.parts
-        here = found r.parts r.keeps
+        closed : Ending lines macros line x es r.parts
+        closed = ending_close lines macros s r.parts r.keeps close
 
-        closed : ClosesSnippet es
-        closed = closes here.k here.keeps
+        n : ℕ
+        n = min (size closed.s) (2 ^ 64 - 1)
 
         closing : Gathered
-        closing = with_event g (note_event line opened (note.Ended note_end.Close closed.count))
+        closing = with_event g (note_event line opened (note.Ended note_end.Close n))
 
         more : nat_lt (length g.made) (length closing.made) ≡ true
-        more = let l = length-append g.made (made_from (with_snippet g line closed.count 41).builder g.eu g.nlba ∷ []) in grind (arith, nat_tests, l)
+        more = let l = length-append g.made (made_from (with_snippet g line n 41).builder g.eu g.nlba ∷ []) in grind (arith, nat_tests, l)
 
     -- the `|`, behind which the next snippet begins
-    pub notes_end_on : (es : List NoteEvent) (after : BodyPart) → ((k : List ℕ) → Keep k → EndsSnippet line es k)
-        → ((t : List ℕ) (earlier : List (List ℕ)) → AreBehind lines macros (next_line lines line) t earlier → PartKeeps lines macros after (in_notes t earlier [])) → PartKeepsOn lines macros before after (of_notes line opened es)
-    notes_end_on es after ends begins spans g fits r =
-        subst (λ (i : Gathered). IsReading lines macros after (spans_past spans g i) i) (sym (notes_ended line opened es g note_end.Next n e.none_kept e.end))
+    pub notes_end_on : (after : BodyPart) → list_any is_next es ≡ true → BeginsSnippet lines macros (next_line lines line) after → PartKeepsOn lines macros before after (of_notes line opened es)
+    notes_end_on after next begins spans g fits r =
+        subst (λ (i : Gathered). IsReading lines macros after (spans_past spans g i) i) (sym (notes_ended line opened es g note_end.Next n e.none_kept (next_ends es x.c n e.end next)))
         (read_on lines macros before after spans g ended refl (record {
           parts = in_notes here.t earlier [];
           keeps = begins here.t earlier (record {
             text_ended = here.behind.text_ended;
-            snippets_ended = ended_more 0 here.earlier e.s here.behind.snippets_ended (subst (λ (l : ℕ). IsEndedOn lines macros l e.s) (sym here.behind.line_is) e.ended);
+            snippets_ended = ended_more 0 here.earlier e.s here.behind.snippets_ended (subst (λ (l : ℕ). IsEndedOn lines macros l e.s) (sym here.behind.line_is) (e.ended (next_mark es x.c n e.end next)));
             line_is = line_more 0 here.earlier e.s ∙ ap (next_line lines) here.behind.line_is;
           });
           said = subst (ReadAlike ended) (sym said_more) (record {
@@ -142,11 +119,11 @@ module _ (lines macros : ℕ) where
           uncut = r.uncut;
         }))
       where
-        here : InNotes line Keep r.parts
-        here = found r.parts r.keeps
+        e : Ending lines macros line x es r.parts
+        e = ending_next lines macros s r.parts r.keeps next
 
-        e : EndsSnippet line es here.k
-        e = ends here.k here.keeps
+        here : InSnippet lines macros line r.parts
+        here = e.here
 
         n : ℕ
         n = min (size e.s) (2 ^ 64 - 1)

@@ -1,5 +1,5 @@
 -- What is open in a part of the body, behind each character.
-use Rattle.std.proofs.Common.{◌≡◌, ◌⊎◌, inl, inr, ℕ, nat_lt, Bool, true, false, List, [], ◌++◌, Option, Some, None, refl, sym, ap, subst, ◌∙◌}
+use Rattle.std.proofs.Common.{◌≡◌, ◌⊎◌, inl, inr, ℕ, false, List, [], Option, Some, None, refl, sym, ap, subst, ◌∙◌}
 use Rattle.std.specs.List.{list_any}
 use Rattle.gabc_places.specs.declared.place.Char.{Char}
 use Rattle.gabc_places.specs.declared.place.Place.{Place}
@@ -9,20 +9,14 @@ use Rattle.gabc_text.specs.TextStage.{fresh_stage}
 use Rattle.gabc_text.specs.declared.stage.TextStage.{TextStage}
 use Rattle.gabc_text.specs.declared.text_event.TextEvent.{TextEvent}
 use Rattle.gabc_text.specs.witness.Keeps as text
-use Rattle.gabc_notes.specs.Events.{in_raw}
-use Rattle.gabc_notes.specs.SnippetRead.{kept_of}
-use Rattle.gabc_notes.specs.StageTells as note_tells
-use Rattle.gabc_notes.specs.declared.stage.NoteEvent.{NoteEvent}
-use Rattle.gabc_notes.specs.declared.stage.NoteStage.{NoteStage}
-use Rattle.gabc_notes.specs.witness.Keeps as notes
 use Rattle.gabc_score.specs.declared.body_stage.BodyPart.{BodyPart}
 use Rattle.gabc_score.specs.declared.body_stage.BodyPart.TheVariants as part
 use Rattle.gabc_score.specs.declared.body_tells.Openers.{Openers}
-use Rattle.gabc_score.specs.Events.{behind_mark, is_close, is_next, is_text_end}
+use Rattle.gabc_score.specs.Events.{behind_mark, is_text_end}
 use Rattle.gabc_score.specs.ScoreTells.{openers_of}
 use Rattle.gabc_score.specs.machine.PartKeeps.{in_text, in_notes}
 use Rattle.gabc_score.specs.machine.PartOpens.{OpensOn, PartOpensOn}
-use Rattle.gabc_score.proofs.building.PartsKeepOn.{one_ends}
+use Rattle.gabc_score.proofs.building.SnippetsTakeCharacters.{going, stays_in_notes}
 use Rattle.gabc_score.proofs.building.PartsOfKeptText.{text_goes_on}
 use Rattle.gabc_score.specs.declared.events.BodyEvent.{BodyEvent}
 use Rattle.gabc_text.proofs.resuming.StagesKeep.{fresh_keeps}
@@ -68,32 +62,11 @@ module _ (lines macros : ℕ) (x : Char) where
           from (inl was) = inr (inl (e ∙ sym was))
           from (inr here) = inr (inr (e ∙ ap (λ (q : Place). Some q) (sym here ∙ at)))
 
-  behind : (b : Bool) (before : Option Place) → (notes.opener_behind b before x.place ≡ None) ⊎ ((notes.opener_behind b before x.place ≡ before) ⊎ (notes.opener_behind b before x.place ≡ Some x.place))
-  behind false before = inl refl
-  behind true (Some q) = inr (inl refl)
-  behind true None = inr (inr refl)
-
-  pub gabc_opens_on : (opened : Place) (s t : NoteStage) (es : List NoteEvent) → notes.KeepsOn s x es t → list_any is_next es ≡ false → list_any is_close es ≡ false
-      → PartOpensOn lines macros x (part.Notes opened s) (part.Notes opened t)
-  gabc_opens_on opened s t es on next close (in_text k) h at = absurd h
-  gabc_opens_on opened s t es on next close (in_notes u earlier k) h at = record { notes = inl refl; inner = by (notes.is_end_behind (nat_lt 0 lines) k (note_tells.comment_of s) x.c) refl }
-    where
-      by : (b : Bool) → notes.is_end_behind (nat_lt 0 lines) k (note_tells.comment_of s) x.c ≡ b
-          → (note_tells.opener_of t ≡ None) ⊎ ((note_tells.opener_of t ≡ note_tells.opener_of s) ⊎ (note_tells.opener_of t ≡ Some x.place))
-      by true e = absurd (one_ends es x.c _ (on.ends (nat_lt 0 lines) macros k h.1 e).end next close)
-      by false e =
-          subst (λ (o : Option Place). (o ≡ None) ⊎ ((o ≡ note_tells.opener_of s) ⊎ (o ≡ Some x.place))) (sym (on.goes (nat_lt 0 lines) macros k h.1 e).opener)
-          (behind (in_raw (k ++ kept_of es)) (note_tells.opener_of s))
-
 -- ---- a part takes a character
 
 -- no notes, and this in a text
 abbrev opened_inside : Option Place → Openers
 opened_inside o = record { notes = None; inner = o }
-
-opened_before : {x : Char} {line : ℕ} {opened : Place} {before after : BodyPart} {es : List NoteEvent} → SnippetSteps x line opened before es after → (openers_of before).notes ≡ Some opened
-opened_before (step.in_gabc h) = refl
-opened_before (step.in_nabc h) = refl
 
 pub opens_on : {lines macros : ℕ} {x : Char} {before after : BodyPart} {now : List BodyEvent} → PartSteps lines macros x before now after → PartOpensOn lines macros x before after
 opens_on {x = x} (step.in_front h) = λ p keeps at. same_open x.place (opened_at None)
@@ -101,8 +74,7 @@ opens_on {x = x} {after = after} (step.leaves_front h s) = λ p keeps at.
     subst (λ (o : Option Place). OpensOn x.place (opened_inside o) (openers_of after)) (opener_fresh x.place) (opens_on s (in_text []) (fresh_keeps x.place) refl)
 opens_on {lines} {macros} {x} (step.text_goes {s} {t} {es} h e) = text_opens_on lines macros x s t es h.keeps e
 opens_on {lines} {macros} {x} (step.text_ends {s} {after = after} h e b) = notes_open lines macros x (part.Text s) after b.tells.0
-opens_on {lines} {macros} {x} (step.snippet_goes (step.in_gabc {opened} {s} {t} {es} h) n c) = gabc_opens_on lines macros x opened s t es h.keeps n c
-opens_on {x = x} (step.snippet_goes (step.in_nabc {opened = opened} h) n c) = λ p keeps at. same_open x.place (opened_at (Some opened))
-opens_on {lines} {macros} {x} (step.snippet_next {opened = opened} {before} {after = after} s n b) = next_opens lines macros x opened before after (opened_before s) b.tells.0
+opens_on {lines} {macros} (step.snippet_goes s n c) = λ p keeps at. let h = stays_in_notes s in record { notes = inl (h.is ∙ sym h.was); inner = (going lines macros s p keeps n c).opener }
+opens_on {lines} {macros} {x} (step.snippet_next {opened = opened} {before} {after = after} s n b) = next_opens lines macros x opened before after (stays_in_notes s).was b.tells.0
 opens_on {lines} {macros} {x} (step.snippet_closes {before = before} s n c) =
     none_open lines macros x before (part.Text (fresh_stage (behind_mark x.place))) (ap opened_inside (opener_fresh (behind_mark x.place)))

@@ -39,7 +39,7 @@ use Rattle.gabc_score.specs.Syllable.{prefix_of}
 use Rattle.gabc_score.specs.machine.BodyBuilder.{with_all}
 use Rattle.gabc_score.specs.machine.Gatherer.{Gathered, with_event}
 use Rattle.gabc_score.specs.machine.PartKeeps.{KeptParts, in_text, in_notes, text_events, PartKeeps}
-use Rattle.gabc_score.proofs.building.PartsKeepOn.{close_ends, next_ends, none_close, none_next, one_ends}
+use Rattle.gabc_score.proofs.building.SnippetsTakeCharacters.{close_ends, next_ends, none_close, none_next, one_ends}
 use Rattle.gabc_score.proofs.building.PartsOfKeptText.{Grows, IsMarked, end_marks, ends_text, notes_ended, notes_said, of_notes, said_gathered, snippet_grows, text_goes_on, text_grows}
 use Rattle.gabc_score.proofs.within_limits.KeptSoFar.{prefix_few}
 

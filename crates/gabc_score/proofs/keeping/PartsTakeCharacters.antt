@@ -42,6 +42,7 @@ use Rattle.gabc_score.proofs.building.PartsKeepOn.{keeps_on}
 use Rattle.gabc_score.proofs.building.PartsOfKeptText.{of_notes}
 use Rattle.gabc_score.proofs.building.PartsOpenOn.{opens_on}
 use Rattle.gabc_score.proofs.building.PartsStandOn.{stands_on}
+use Rattle.gabc_score.proofs.building.SnippetsTakeCharacters.{stays_in_notes}
 use Rattle.gabc_score.proofs.keeping.PartsKeepOne.{KeepsOne, text_one, text_end_one, gabc_one, gabc_next_one, gabc_close_one, nabc_one, nabc_next_one, nabc_close_one}
 use Rattle.gabc_score.proofs.resuming.PartsReadAgain.{reads_again}
 use Rattle.gabc_score.proofs.score_events.FrontIsFirst.{leaves_front}
@@ -96,22 +97,14 @@ never : (b : Bool) → (b ≡ true → ⊥) → b ≡ false
 never true h = absurd (h refl)
 never false h = refl
 
-notes_stay : {x : Char} {line : ℕ} {opened : Place} {before after : BodyPart} {es : List NoteEvent} → SnippetSteps x line opened before es after → (openers_of before).notes ≡ Some opened
-notes_stay (step.in_gabc h) = refl
-notes_stay (step.in_nabc h) = refl
-
-notes_still : {x : Char} {line : ℕ} {opened : Place} {before after : BodyPart} {es : List NoteEvent} → SnippetSteps x line opened before es after → (openers_of after).notes ≡ Some opened
-notes_still (step.in_gabc h) = refl
-notes_still (step.in_nabc h) = refl
-
 module _ {lines macros : ℕ} {x : Char} where
   notes_are : {before after : BodyPart} {now : List BodyEvent} → PartSteps lines macros x before now after → close_count now ≡ 0 → (openers_of after).notes ≡ (if list_any opens now then Some x.place else (openers_of before).notes)
   notes_are (step.in_front h) none = refl
   notes_are (step.leaves_front h s) none = notes_are s none
   notes_are (step.text_goes {es = es} h e) none = ap (λ (b : Bool). if b then Some x.place else None) (sym (text_opens es ∙ e))
   notes_are (step.text_ends {es = es} h e b) none = ap (λ (o : Openers). o.notes) b.tells.0 ∙ ap (λ (b : Bool). if b then Some x.place else None) (sym (text_opens es ∙ e))
-  notes_are (step.snippet_goes {line} {opened} {es = es} s n c) none = rw (none_opens line opened es) (notes_still s ∙ sym (notes_stay s))
-  notes_are (step.snippet_next {line} {opened} {es = es} s n b) none = rw (none_opens line opened es) (ap (λ (o : Openers). o.notes) b.tells.0 ∙ sym (notes_stay s))
+  notes_are (step.snippet_goes {line} {opened} {es = es} s n c) none = rw (none_opens line opened es) ((stays_in_notes s).is ∙ sym (stays_in_notes s).was)
+  notes_are (step.snippet_next {line} {opened} {es = es} s n b) none = rw (none_opens line opened es) (ap (λ (o : Openers). o.notes) b.tells.0 ∙ sym (stays_in_notes s).was)
   notes_are (step.snippet_closes {line} {opened} {es = es} s n c) none = let one = one_closes line opened es c in absurd (omega (arith, one, none))
 
   opens_once : {before after : BodyPart} {now : List BodyEvent} → PartSteps lines macros x before now after → is_some (openers_of before).notes ≡ true → list_any opens now ≡ false

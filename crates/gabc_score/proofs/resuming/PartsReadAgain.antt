@@ -1,5 +1,5 @@
 -- A part reads the next character of a kept text again, by what its stage does.
-use Rattle.std.proofs.Common.{◌≡◌, ◌⊎◌, inl, inr, ◌==◌, ◌&&◌, ◌||◌, not, ℕ, zero, suc, ◌+◌, ◌-◌, ◌^◌, ◌<◌, min, nat_lt, Bool, true, false, List, [], ◌∷◌, ◌++◌, length, Option, Some, None, encode_utf8, encode_utf8_all, refl, sym, ap, subst, ◌∙◌, append-nil, arith, if◌then◌else◌}
+use Rattle.std.proofs.Common.{◌≡◌, ◌≢◌, ◌⊎◌, inl, inr, ◌==◌, ◌&&◌, ◌||◌, not, ℕ, zero, suc, ◌+◌, ◌-◌, ◌^◌, ◌<◌, min, nat_lt, Bool, true, false, List, [], ◌∷◌, ◌++◌, length, Option, Some, None, encode_utf8, encode_utf8_all, refl, sym, ap, subst, ◌∙◌, append-nil, arith, if◌then◌else◌}
 use Rattle.std.proofs.lemmas.Bool.{true≢false}
 use Rattle.std.proofs.lemmas.List.{append_cancel_left}
 use Rattle.std.specs.List.{list_any}
@@ -15,7 +15,7 @@ use Rattle.gabc_text.specs.witness.StageReports as text_reports
 use Rattle.gabc_text.specs.witness.Keeps as text
 use Rattle.gabc_text.specs.declared.stage.TextStage.{TextStage}
 use Rattle.gabc_text.specs.declared.text_event.TextEvent.{TextEvent}
-use Rattle.gabc_notes.specs.Events.{in_raw}
+use Rattle.gabc_notes.specs.Events.{end_by_mark, in_raw}
 use Rattle.gabc_notes.specs.SnippetRead.{kept_of, ends_of}
 use Rattle.gabc_notes.specs.StageTells as tells
 use Rattle.gabc_notes.specs.Table.{gabc}
@@ -36,14 +36,14 @@ use Rattle.gabc_score.specs.Syllable.{prefix_of}
 use Rattle.gabc_score.specs.machine.BodyBuilder.{with_all}
 use Rattle.gabc_score.specs.machine.Gatherer.{Gathered}
 use Rattle.gabc_score.specs.machine.PartKeeps.{KeptParts, in_text, in_notes, text_before, text_events, snippet_events, PartKeeps}
-use Rattle.gabc_score.specs.machine.ReadAgain.{Adds, BeginsComment, BeginsIn, IsNext, IsNextIn, OpenAt, Reads, ReadsAgain, place_in}
-use Rattle.gabc_score.proofs.building.PartsKeepOn.{next_ends, none_close, none_next, not_next, one_ends}
+use Rattle.gabc_score.specs.machine.ReadAgain.{Adds, BeginsComment, BeginsIn, IsNext, IsNextIn, OpenAt, OpensNotes, Reads, ReadsAgain, place_in}
+use Rattle.gabc_score.proofs.building.SnippetsTakeCharacters.{StaysInNotes, in_snippet, next_ends, none_close, none_next, not_next, one_ends, stays_in_notes}
 use Rattle.gabc_score.proofs.building.PartsOfKeptText.{Grows, IsMarked, cut_is, end_marks, ends_text, notes_ended, notes_said, of_notes, said_gathered, snippet_grows, text_goes_on, text_grows}
 use Rattle.gabc_score.proofs.resuming.PartsAreOne.{outside}
 use Rattle.gabc_score.proofs.texts_of_body.SeamsOfCharacters.{size, size_append, size_is_sum}
 use Rattle.gabc_score.specs.declared.events.BodyEvent.{BodyEvent}
 use Rattle.gabc_text.specs.TextStage.{fresh_stage}
-use Rattle.gabc_score.specs.machine.PartSteps.{PartSteps}
+use Rattle.gabc_score.specs.machine.PartSteps.{PartSteps, SnippetSteps}
 use Rattle.gabc_score.specs.machine.PartSteps as step
 
 -- ---- where what is open began
@@ -161,10 +161,16 @@ record GoesWith (es : List NoteEvent) (before after : BodyPart) (at : Place) (mo
   comment_is : is_in_comment after ≡ comment
   opener : (o : Place) → (openers_of after).inner ≡ Some o → ((openers_of before).inner ≡ Some o) ⊎ (at ≡ o)
 
--- It ends at a `|`, and all of it stays kept.
-record EndsWhole (es : List NoteEvent) (k : List ℕ) : Type 0 where
+-- It ends at its mark c, and all of it stays kept.
+record EndsWhole (es : List NoteEvent) (c : ℕ) (k : List ℕ) : Type 0 where
   none_kept : kept_of es ≡ []
-  end : ends_of es ≡ (note_end.Next, min (size k) (2 ^ 64 - 1)) ∷ []
+  end : ends_of es ≡ (end_by_mark c, min (size k) (2 ^ 64 - 1)) ∷ []
+
+-- It goes on with the next character of a kept text, or ends whole at its `|`; and a `%` begins a
+-- comment.
+record ReadsNext (lines line : ℕ) (x : Char) (before after : BodyPart) (es : List NoteEvent) (k : List ℕ) : Type 0 where
+  next : IsNextIn lines line k x.c → GoesWith es before after x.place (x.c ∷ []) false ⊎ ((x.c ≡ 124) × EndsWhole es x.c k)
+  comment : x.c ≡ 37 → BeginsIn line k → GoesWith es before after x.place [] true
 
 module _ (line : ℕ) (opened : Place) (es : List NoteEvent) where
   goes_adds : (more : List ℕ) → ends_of es ≡ [] → kept_of es ≡ more → (g : Gathered) → Adds g (with_all g (of_notes line opened es)) more
@@ -175,10 +181,10 @@ module _ (line : ℕ) (opened : Place) (es : List NoteEvent) where
       grown : Grows g (with_all g (snippet_events line (kept_of es))) (kept_of es)
       grown = snippet_grows line (kept_of es) g
 
-  ends_adds : (before k : List ℕ) → EndsWhole es k → (g : Gathered) → g.builder.kept ≡ encode_utf8_all (before ++ k) → g.builder.from ≡ size before → length g.builder.kept < 2 ^ 64
+  ends_adds : (c : ℕ) (before k : List ℕ) → EndsWhole es c k → list_any is_next es ≡ true → (g : Gathered) → g.builder.kept ≡ encode_utf8_all (before ++ k) → g.builder.from ≡ size before → length g.builder.kept < 2 ^ 64
       → Adds g (with_all g (of_notes line opened es)) (124 ∷ [])
-  ends_adds before k h g here from fits =
-      subst (λ (i : Gathered). Adds g i (124 ∷ [])) (sym (notes_ended line opened es g note_end.Next n h.none_kept h.end))
+  ends_adds c before k h next g here from fits =
+      subst (λ (i : Gathered). Adds g i (124 ∷ [])) (sym (notes_ended line opened es g note_end.Next n h.none_kept (next_ends es c n h.end next)))
       (record { kept = ap (λ (b : List ℕ). b ++ encode_utf8 124) cut ∙ one_more g.builder.kept 124; made = refl })
     where
       n : ℕ
@@ -191,33 +197,6 @@ module _ (line : ℕ) (opened : Place) (es : List NoteEvent) where
       cut =
           cut_is g.builder.from n g.builder.kept before k [] (here ∙ ap (λ (t : List ℕ). encode_utf8_all (before ++ t)) (sym (append-nil k))) from count
           ∙ sym here
-
-  module _ (x : Char) (before after : BodyPart) (u : List ℕ) (earlier : List (List ℕ)) (k : List ℕ) where
-    snippet_goes : (more : List ℕ) (comment : Bool) → (openers_of after).notes ≡ (openers_of before).notes → ((outer inner : Place) → place_in outer inner after ≡ place_in outer inner before)
-        → is_in_front after ≡ false → GoesWith es before after x.place more comment → Reads before (in_notes u earlier k) x more comment after (of_notes line opened es)
-    snippet_goes more comment same_notes same_place front h = record {
-      adds = λ g here from fits. goes_adds more h.no_end h.kept g;
-      comment_is = h.comment_is;
-      front = front;
-      openers = λ outer inner at stands began. record {
-        notes_at = λ o e. began.notes_at o (sym same_notes ∙ e);
-        inner_at = λ o e. by outer inner o at began.inner_at (h.opener o e);
-      };
-    }
-      where
-        by : (outer inner o : Place) → x.place ≡ place_in outer inner before → ((o : Place) → (openers_of before).inner ≡ Some o → o ≡ place_in outer inner before)
-            → ((openers_of before).inner ≡ Some o) ⊎ (x.place ≡ o) → o ≡ place_in outer inner after
-        by outer inner o at began (inl e) = began o e ∙ sym (same_place outer inner)
-        by outer inner o at began (inr e) = sym e ∙ at ∙ sym (same_place outer inner)
-
-    snippet_ends : x.c ≡ 124 → (openers_of before).notes ≡ Some opened → openers_of after ≡ record { notes = Some opened; inner = None } → is_in_comment after ≡ false → EndsWhole es k
-        → Reads before (in_notes u earlier k) x (x.c ∷ []) false after (of_notes line opened es)
-    snippet_ends is was openers closed h = record {
-      adds = λ g here from fits. subst (λ (c : ℕ). Adds g (with_all g (of_notes line opened es)) (c ∷ [])) (sym is) (ends_adds (text_before (in_notes u earlier k)) k h g here from fits);
-      comment_is = closed;
-      front = not_in_front opened after openers;
-      openers = λ outer inner at stands began. begins_at outer inner opened after openers (began.notes_at opened was);
-    }
 
 -- ---- a snippet of GABC
 
@@ -271,46 +250,20 @@ module _ (lines macros : ℕ) (opened : Place) (s t : NoteStage) (x : Char) (es 
       ∙ ap (λ (r : Bool). not (not (124 == 10) && (false || (not r && (124 == 37)))) && (not r && ((124 == 41) || (split && (124 == 124))))) (outside k snippet)
       ∙ ap (λ (b : Bool). (124 == 41) || (b && (124 == 124))) splits)
 
-  abbrev ReadsIn : BodyPart → Type 0
-  ReadsIn after = ReadsAgain lines macros x (part.Notes opened s) after (of_notes 0 opened es)
-
-  -- by which of the two comes next
-  gabc_by : (after : BodyPart)
-      → ((u : List ℕ) (earlier : List (List ℕ)) (k more : List ℕ) (comment : Bool) → GoesOn more comment → Reads (part.Notes opened s) (in_notes u earlier k) x more comment after (of_notes 0 opened es))
-      → ((u : List ℕ) (earlier : List (List ℕ)) (k : List ℕ) → x.c ≡ 124 → IsSnippet gabc k → notes.EndsBehind k x.c es → Reads (part.Notes opened s) (in_notes u earlier k) x (x.c ∷ []) false after (of_notes 0 opened es))
-      → ReadsIn after
-  gabc_by after goes ends = record { next = next; comment = comment }
+  gabc_next : (k : List ℕ) → Keep k → tells.comment_of s ≡ false → ReadsNext lines 0 x (part.Notes opened s) (part.Notes opened t) es k
+  gabc_next k keeps plain = record { next = next; comment = gabc_percent k keeps plain }
     where
-      by : (u : List ℕ) (earlier : List (List ℕ)) (k : List ℕ) → Keep k → tells.comment_of s ≡ false → IsNextIn lines 0 k x.c → Reads (part.Notes opened s) (in_notes u earlier k) x (x.c ∷ []) false after (of_notes 0 opened es)
-      by u earlier k keeps plain (inl is) = goes u earlier k (x.c ∷ []) false (gabc_again k keeps plain is)
-      by u earlier k keeps plain (inr is) = ends u earlier k is.0 is.1.1 (gabc_bar k keeps plain is.0 is.1.0 is.1.1)
-
-      next : (p : KeptParts) → PartKeeps lines macros (part.Notes opened s) p → tells.comment_of s ≡ false → IsNext lines p x.c → Reads (part.Notes opened s) p x (x.c ∷ []) false after (of_notes 0 opened es)
-      next (in_text k) h plain is = absurd h
-      next (in_notes u earlier k) h plain is = by u earlier k h.1 plain (subst (λ (l : ℕ). IsNextIn lines l k x.c) h.0.line_is is)
-
-      comment : (p : KeptParts) → PartKeeps lines macros (part.Notes opened s) p → tells.comment_of s ≡ false → x.c ≡ 37 → BeginsComment lines p → Reads (part.Notes opened s) p x [] true after (of_notes 0 opened es)
-      comment (in_text k) h plain is begins = absurd h
-      comment (in_notes u earlier k) h plain is begins = goes u earlier k [] true (gabc_percent k h.1 plain is (subst (λ (l : ℕ). BeginsIn l k) h.0.line_is begins))
-
-  pub gabc_reads : list_any is_next es ≡ false → list_any is_close es ≡ false → ReadsIn (part.Notes opened t)
-  gabc_reads next close = gabc_by (part.Notes opened t)
-      (λ u earlier k more comment h. snippet_goes 0 opened es x (part.Notes opened s) (part.Notes opened t) u earlier k more comment refl (λ outer inner. refl) refl h)
-      (λ u earlier k is snippet e. absurd (one_ends es x.c _ e.end next close))
-
-  pub gabc_end_reads : (after : BodyPart) → list_any is_next es ≡ true → openers_of after ≡ record { notes = Some opened; inner = None } → is_in_comment after ≡ false → ReadsIn after
-  gabc_end_reads after next openers closed = gabc_by after
-      (λ u earlier k more comment h. absurd (true≢false (sym next ∙ none_next es x.c 0 h.no_end)))
-      (λ u earlier k is snippet e. snippet_ends 0 opened es x (part.Notes opened s) after u earlier k is refl openers closed (record {
-        none_kept = e.none_kept;
-        end = next_ends es x.c _ e.end next
-            ∙ ap (λ (n : ℕ). (note_end.Next, min n (2 ^ 64 - 1)) ∷ []) (size_is_sum (trim gabc k) ∙ ap size (trim_snippet gabc refl k snippet));
-      }))
-
-  pub gabc_close_reads : (after : BodyPart) → list_any is_close es ≡ true → ReadsIn after
-  gabc_close_reads after close = gabc_by after
-      (λ u earlier k more comment h. absurd (true≢false (sym close ∙ none_close es x.c 0 h.no_end)))
-      (λ u earlier k is snippet e. absurd (true≢false (sym (ap (λ (c : ℕ). c == 124) is) ∙ not_next es x.c _ e.end close)))
+      next : IsNextIn lines 0 k x.c → GoesOn (x.c ∷ []) false ⊎ ((x.c ≡ 124) × EndsWhole es x.c k)
+      next (inl is) = inl (gabc_again k keeps plain is)
+      next (inr is) =
+          let e = gabc_bar k keeps plain is.0 is.1.0 is.1.1 in
+          inr (
+            is.0,
+            record {
+              none_kept = e.none_kept;
+              end = e.end ∙ ap (λ (n : ℕ). (end_by_mark x.c, min n (2 ^ 64 - 1)) ∷ []) (size_is_sum (trim gabc k) ∙ ap size (trim_snippet gabc refl k is.1.1));
+            },
+          )
 
 -- ---- a snippet of NABC
 
@@ -343,46 +296,76 @@ module _ (lines macros line : ℕ) (opened : Place) (s t : NabcStage) (x : Char)
   nabc_bar : (k : List ℕ) → nabc.Keeps s k → nabc.comment_of s ≡ false → x.c ≡ 124 → nabc.EndsBehind k x.c es
   nabc_bar k keeps plain is = on.ends k keeps (ap (λ (b : Bool). nabc.is_end_behind b x.c) plain ∙ ap (λ (c : ℕ). nabc.is_end_behind false c) is)
 
-  abbrev NabcReadsIn : BodyPart → Type 0
-  NabcReadsIn after = ReadsAgain lines macros x (part.Nabc line opened s) after (of_notes line opened es)
-
-  nabc_by : (after : BodyPart)
-      → ((u : List ℕ) (earlier : List (List ℕ)) (k more : List ℕ) (comment : Bool) → NabcGoesOn more comment → Reads (part.Nabc line opened s) (in_notes u earlier k) x more comment after (of_notes line opened es))
-      → ((u : List ℕ) (earlier : List (List ℕ)) (k : List ℕ) → x.c ≡ 124 → IsSnippet nabc_table k → nabc.EndsBehind k x.c es → Reads (part.Nabc line opened s) (in_notes u earlier k) x (x.c ∷ []) false after (of_notes line opened es))
-      → NabcReadsIn after
-  nabc_by after goes ends = record { next = next; comment = comment }
+  nabc_next : (l : ℕ) (k : List ℕ) → l ≢ 0 → nabc.Keeps s k → nabc.comment_of s ≡ false → ReadsNext lines l x (part.Nabc line opened s) (part.Nabc line opened t) es k
+  nabc_next zero k some keeps plain = absurd (some refl)
+  nabc_next (suc l) k some keeps plain = record { next = next; comment = λ is begins. nabc_percent k keeps plain is }
     where
-      by : (l : ℕ) (u : List ℕ) (earlier : List (List ℕ)) (k : List ℕ) → (l ≡ 0 → ⊥) → nabc.Keeps s k → nabc.comment_of s ≡ false → IsNextIn lines l k x.c
-          → Reads (part.Nabc line opened s) (in_notes u earlier k) x (x.c ∷ []) false after (of_notes line opened es)
-      by zero u earlier k some keeps plain is = absurd (some refl)
-      by (suc l) u earlier k some keeps plain (inl is) = goes u earlier k (x.c ∷ []) false (nabc_again k keeps plain is)
-      by (suc l) u earlier k some keeps plain (inr is) = ends u earlier k is.0 is.1 (nabc_bar k keeps plain is.0)
+      next : IsNextIn lines (suc l) k x.c → NabcGoesOn (x.c ∷ []) false ⊎ ((x.c ≡ 124) × EndsWhole es x.c k)
+      next (inl is) = inl (nabc_again k keeps plain is)
+      next (inr is) =
+          let e = nabc_bar k keeps plain is.0 in
+          inr (is.0, record { none_kept = e.none_kept; end = e.end ∙ ap (λ (n : ℕ). (end_by_mark x.c, min n (2 ^ 64 - 1)) ∷ []) (ap size (trim_snippet nabc_table refl k is.1)) })
 
-      next : (p : KeptParts) → PartKeeps lines macros (part.Nabc line opened s) p → nabc.comment_of s ≡ false → IsNext lines p x.c → Reads (part.Nabc line opened s) p x (x.c ∷ []) false after (of_notes line opened es)
-      next (in_text k) h plain is = absurd h
-      next (in_notes u earlier k) h plain is = by line u earlier k h.1.0 h.1.1 plain (subst (λ (l : ℕ). IsNextIn lines l k x.c) h.0.line_is is)
+-- ---- either
 
-      comment : (p : KeptParts) → PartKeeps lines macros (part.Nabc line opened s) p → nabc.comment_of s ≡ false → x.c ≡ 37 → BeginsComment lines p → Reads (part.Nabc line opened s) p x [] true after (of_notes line opened es)
-      comment (in_text k) h plain is begins = absurd h
-      comment (in_notes u earlier k) h plain is begins = goes u earlier k [] true (nabc_percent k h.1.1 plain is)
+reads_next : (lines macros : ℕ) {x : Char} {line : ℕ} {opened : Place} {before after : BodyPart} {es : List NoteEvent} → SnippetSteps x line opened before es after → (u : List ℕ) (earlier : List (List ℕ)) (k : List ℕ)
+    → PartKeeps lines macros before (in_notes u earlier k) → is_in_comment before ≡ false → ReadsNext lines line x before after es k
+reads_next lines macros {x} (step.in_gabc {opened} {s} {t} {es} h) u earlier k keeps plain = gabc_next lines macros opened s t x es h.keeps k keeps.1 plain
+reads_next lines macros {x} (step.in_nabc {line} {opened} {s} {t} {es} h) u earlier k keeps plain = nabc_next lines macros line opened s t x es h.keeps line k keeps.1.0 keeps.1.1 plain
 
-  pub nabc_reads : list_any is_next es ≡ false → list_any is_close es ≡ false → NabcReadsIn (part.Nabc line opened t)
-  nabc_reads next close = nabc_by (part.Nabc line opened t)
-      (λ u earlier k more comment h. snippet_goes line opened es x (part.Nabc line opened s) (part.Nabc line opened t) u earlier k more comment refl (λ outer inner. refl) refl h)
-      (λ u earlier k is snippet e. absurd (one_ends es x.c _ e.end next close))
+module _ (lines macros : ℕ) {x : Char} {line : ℕ} {opened : Place} {before same : BodyPart} {es : List NoteEvent} (s : SnippetSteps x line opened before es same) where
+  abbrev ReadsIn : BodyPart → KeptParts → List ℕ → Bool → Type 0
+  ReadsIn after p more comment = Reads before p x more comment after (of_notes line opened es)
 
-  pub nabc_end_reads : (after : BodyPart) → list_any is_next es ≡ true → openers_of after ≡ record { notes = Some opened; inner = None } → is_in_comment after ≡ false → NabcReadsIn after
-  nabc_end_reads after next openers closed = nabc_by after
+  -- by which of the two comes next
+  snippet_reads : (after : BodyPart) → ((u : List ℕ) (earlier : List (List ℕ)) (k more : List ℕ) (comment : Bool) → GoesWith es before same x.place more comment → ReadsIn after (in_notes u earlier k) more comment)
+      → ((u : List ℕ) (earlier : List (List ℕ)) (k : List ℕ) → x.c ≡ 124 → EndsWhole es x.c k → ReadsIn after (in_notes u earlier k) (x.c ∷ []) false) → ReadsAgain lines macros x before after (of_notes line opened es)
+  snippet_reads after goes ends = record {
+    next = λ p keeps plain is. in_snippet lines macros s (λ (p : KeptParts). IsNext lines p x.c → ReadsIn after p (x.c ∷ []) false)
+        (λ u earlier k behind here is. by u earlier k ((reads_next lines macros s u earlier k here plain).next (subst (λ (l : ℕ). IsNextIn lines l k x.c) behind.line_is is))) p keeps is;
+    comment = λ p keeps plain is begins. in_snippet lines macros s (λ (p : KeptParts). BeginsComment lines p → ReadsIn after p [] true)
+        (λ u earlier k behind here begins. goes u earlier k [] true ((reads_next lines macros s u earlier k here plain).comment is (subst (λ (l : ℕ). BeginsIn l k) behind.line_is begins))) p keeps begins;
+  }
+    where
+      by : (u : List ℕ) (earlier : List (List ℕ)) (k : List ℕ) → GoesWith es before same x.place (x.c ∷ []) false ⊎ ((x.c ≡ 124) × EndsWhole es x.c k) → ReadsIn after (in_notes u earlier k) (x.c ∷ []) false
+      by u earlier k (inl h) = goes u earlier k (x.c ∷ []) false h
+      by u earlier k (inr h) = ends u earlier k h.0 h.1
+
+  goes_reads : list_any is_next es ≡ false → list_any is_close es ≡ false → ReadsAgain lines macros x before same (of_notes line opened es)
+  goes_reads next close = snippet_reads same
+      (λ u earlier k more comment h. record {
+        adds = λ g here from fits. goes_adds line opened es more h.no_end h.kept g;
+        comment_is = h.comment_is;
+        front = still.front;
+        openers = λ outer inner at stands began. record {
+          notes_at = λ o e. began.notes_at o (still.was ∙ sym still.is ∙ e);
+          inner_at = λ o e. by outer inner o at began.inner_at (h.opener o e);
+        };
+      })
+      (λ u earlier k is e. absurd (one_ends es x.c _ e.end next close))
+    where
+      still : StaysInNotes opened before same
+      still = stays_in_notes s
+
+      by : (outer inner o : Place) → x.place ≡ place_in outer inner before → ((o : Place) → (openers_of before).inner ≡ Some o → o ≡ place_in outer inner before)
+          → ((openers_of before).inner ≡ Some o) ⊎ (x.place ≡ o) → o ≡ place_in outer inner same
+      by outer inner o at began (inl e) = began o e ∙ sym (still.place outer inner)
+      by outer inner o at began (inr e) = sym e ∙ at ∙ sym (still.place outer inner)
+
+  next_reads : (after : BodyPart) → list_any is_next es ≡ true → OpensNotes opened after → ReadsAgain lines macros x before after (of_notes line opened es)
+  next_reads after next opens = snippet_reads after
       (λ u earlier k more comment h. absurd (true≢false (sym next ∙ none_next es x.c 0 h.no_end)))
-      (λ u earlier k is snippet e. snippet_ends line opened es x (part.Nabc line opened s) after u earlier k is refl openers closed (record {
-        none_kept = e.none_kept;
-        end = next_ends es x.c _ e.end next ∙ ap (λ (n : ℕ). (note_end.Next, min n (2 ^ 64 - 1)) ∷ []) (ap size (trim_snippet nabc_table refl k snippet));
-      }))
+      (λ u earlier k is h. record {
+        adds = λ g here from fits. subst (λ (c : ℕ). Adds g (with_all g (of_notes line opened es)) (c ∷ [])) (sym is) (ends_adds line opened es x.c (text_before (in_notes u earlier k)) k h next g here from fits);
+        comment_is = opens.1;
+        front = not_in_front opened after opens.0;
+        openers = λ outer inner at stands began. begins_at outer inner opened after opens.0 (began.notes_at opened (stays_in_notes s).was);
+      })
 
-  pub nabc_close_reads : (after : BodyPart) → list_any is_close es ≡ true → NabcReadsIn after
-  nabc_close_reads after close = nabc_by after
+  close_reads : (after : BodyPart) → list_any is_close es ≡ true → ReadsAgain lines macros x before after (of_notes line opened es)
+  close_reads after close = snippet_reads after
       (λ u earlier k more comment h. absurd (true≢false (sym close ∙ none_close es x.c 0 h.no_end)))
-      (λ u earlier k is snippet e. absurd (true≢false (sym (ap (λ (c : ℕ). c == 124) is) ∙ not_next es x.c _ e.end close)))
+      (λ u earlier k is e. absurd (true≢false (sym (ap (λ (c : ℕ). c == 124) is) ∙ not_next es x.c _ e.end close)))
 
 -- ---- a part takes a character
 
@@ -394,9 +377,6 @@ reads_again (step.in_front h) = in_comment_reads
 reads_again (step.leaves_front h s) = in_comment_reads
 reads_again {lines} {macros} {x} (step.text_goes {s} {t} {es} h e) = text_reads lines macros x s t es h.keeps e
 reads_again {lines} {macros} {x} (step.text_ends {s} {t} {es} {after} h e b) = text_end_reads lines macros x s t es h.keeps after e b.tells.0 b.tells.1
-reads_again {lines} {macros} {x} (step.snippet_goes (step.in_gabc {opened} {s} {t} {es} h) n c) = gabc_reads lines macros opened s t x es h.keeps n c
-reads_again {lines} {macros} {x} (step.snippet_goes (step.in_nabc {line} {opened} {s} {t} {es} h) n c) = nabc_reads lines macros line opened s t x es h.keeps n c
-reads_again {lines} {macros} {x} (step.snippet_next {after = after} (step.in_gabc {opened} {s} {t} {es} h) n b) = gabc_end_reads lines macros opened s t x es h.keeps after n b.tells.0 b.tells.1
-reads_again {lines} {macros} {x} (step.snippet_next {after = after} (step.in_nabc {line} {opened} {s} {t} {es} h) n b) = nabc_end_reads lines macros line opened s t x es h.keeps after n b.tells.0 b.tells.1
-reads_again {lines} {macros} {x} (step.snippet_closes (step.in_gabc {opened} {s} {t} {es} h) n c) = gabc_close_reads lines macros opened s t x es h.keeps (part.Text (fresh_stage (behind_mark x.place))) c
-reads_again {lines} {macros} {x} (step.snippet_closes (step.in_nabc {line} {opened} {s} {t} {es} h) n c) = nabc_close_reads lines macros line opened s t x es h.keeps (part.Text (fresh_stage (behind_mark x.place))) c
+reads_again {lines} {macros} (step.snippet_goes s n c) = goes_reads lines macros s n c
+reads_again {lines} {macros} (step.snippet_next {after = after} s n b) = next_reads lines macros s after n b.tells
+reads_again {lines} {macros} {x} (step.snippet_closes s n c) = close_reads lines macros s (part.Text (fresh_stage (behind_mark x.place))) c
