@@ -1,10 +1,9 @@
 -- A writer of scores writes an event and the end of what comes, by what its stage gave.
-use Rattle.std.proofs.Common.{◌≡◌, ℕ, ◌+◌, ◌*◌, ◌≤◌, List, [], ◌∷◌, ◌++◌, drop, Bool, true, false, Some, IsSome, length, refl, sym, ap, ◌∙◌, subst, append-nil, arith}
+use Rattle.std.proofs.Common.{◌≡◌, ℕ, ◌+◌, ◌*◌, ◌≤◌, List, [], ◌∷◌, ◌++◌, Bool, true, false, Some, IsSome, length, refl, sym, ap, ◌∙◌, subst, append-nil, arith}
 use Rattle.gabc_places.specs.BoundedList.{BoundedList, Fits}
 use Rattle.gabc_places.specs.StageLaw.{concat_of, StopsAtEnd}
 use Rattle.gabc_places.specs.declared.limits.Limits.{Limits}
 use Rattle.gabc_headers.specs.declared.head_event.HeadEvent.{HeadEvent}
-use Rattle.gabc_headers.specs.declared.head_event.HeadEvent.TheVariants as head_event
 use Rattle.gabc_score.specs.declared.score_event.LentSyllable.TheVariants.{First}
 use Rattle.gabc_score.specs.declared.score_event.ScoreEvent.{ScoreEvent}
 use Rattle.gabc_score.specs.declared.score_machine.ScorePart.TheVariants as score_part
@@ -12,16 +11,16 @@ use Rattle.gabc_score.specs.ScoreEvents.{ScoreOutput, Found, Stop, Syllable, End
 use Rattle.gabc_score.specs.ScoreStage.{GivesAt, GivesLast, GivesOutputs, events_left, events_of, is_last_event}
 use Rattle.gabc_score.specs.witness.ScoreStage.{ScoreStageState, left_of}
 use Rattle.gregorio.specs.declared.run_ending.RunEnding.{RunEnding}
-use Rattle.gregorio.specs.Streams.{Streams, behind_bytes}
-use Rattle.gregorio.specs.witness.Engine.{Written, behind_output, behind_outputs, ceased_ending, ceased_text, ended_by, first_list, is_before_heads, lines_of_outputs, streams_from, streams_in, text_of_heads, texts_of_outputs, writes_heads}
-use Rattle.gregorio.specs.machine.InStep.{PassesOn}
-use Rattle.gregorio.specs.machine.RunWriter.{RunWriterState, HasRoomFor, IsInRoom, IsSteadyWriter, last_room, line_room, lines_room, past_end, past_outputs, syllable_room, texts_room, with_heads}
-use Rattle.gregorio.specs.machine.ScoreWriter.{ScoreWriterState, FitsEvents, IsSilent, WritesAt, WritesLast, event_room, needed_in, outputs_of_events, streams_of}
+use Rattle.gregorio.specs.witness.Engine.{Written, behind_output, behind_outputs, ceased_ending, ceased_text, ended_by, lines_of_outputs, streams_in, texts_of_outputs}
+use Rattle.gregorio.specs.machine.InStep.{TakesEvent}
+use Rattle.gregorio.specs.machine.RunWriter.{RunWriterState, HasRoomFor, IsInRoom, last_room, line_room, lines_room, past_end, past_outputs, syllable_room, texts_room}
+use Rattle.gregorio.specs.machine.ScoreWriter.{ScoreWriterState, FitsEvents, IsSilent, IsSteady, WritesLast, event_room, needed_in, outputs_of_events}
 use Rattle.gregorio.proofs.PassedInHeads.{passed_in_heads}
 use Rattle.gregorio.proofs.OutputsOfEvents.{as_many_emitted, emitted_is, ends_at_last, nothing_left}
 use Rattle.gregorio.proofs.RoomForAnEvent.{event_has_room, event_in_room, lines_within, needed_for, nothing_over, one_within, room_behind}
-use Rattle.gregorio.proofs.StreamsOfOutputs.{EndsAtLast, headed_stays, heads_come_first, no_heads_at, second_empty}
-use Rattle.gregorio.proofs.pieces.BytesAreJoined.{behind_both, extended_by_both}
+use Rattle.gregorio.proofs.StreamsOfOutputs.{EndsAtLast, headed_stays, job_stays, second_empty}
+use Rattle.gregorio.proofs.pieces.BytesAreJoined.{extended_by_both}
+use Rattle.gregorio.proofs.pieces.WrittenGoesOn.{steady_past}
 
 -- ---- the outputs
 
@@ -78,33 +77,22 @@ module _ (score mid : ScoreStageState) (writer : RunWriterState) (now : ScoreWri
     new_is : new ≡ past_outputs writer step.outputs
     new_is = writes ∙ ap (past_outputs writer) emitted
 
-    pub event_writes : writes_heads now.writer.written x ≡ false → (read : List (List ℕ × List ℕ)) → WritesAt now x read (record { score = mid; writer = new })
-    event_writes no_heads read =
-        let w = writer.written in
-        subst (λ (s : ScoreWriterState). WritesAt s x read (record { score = mid; writer = new })) view
-        (subst (λ (v : RunWriterState). WritesAt old x read (record { score = mid; writer = v })) (sym new_is) (record {
-          output = texts_of_outputs w step.outputs;
-          lines = lines_of_outputs w step.outputs;
-          out = refl;
-          messages = refl;
-          law = λ book from_heads h.
-              no_heads_at w book x from_heads (left_of score (x ∷ from_heads)) (ap (λ (s : ScoreWriterState). writes_heads s.writer.written x) view ∙ no_heads)
-              ∙ ap (λ (lists : List (List ScoreOutput)).
-              behind_bytes (texts_of_outputs w (first_list lists)) (lines_of_outputs w (first_list lists)) (streams_from (behind_outputs w (first_list lists)) book from_heads (drop 1 lists))) (step.law from_heads);
-        }))
-
-    pub passes_on : PassesOn now.score now.writer.written x (record { score = mid; writer = new })
-    passes_on = subst (λ (s : ScoreWriterState). PassesOn s.score s.writer.written x (record { score = mid; writer = new })) view (record {
-      outputs = step.outputs;
-      few = step.lends.few;
-      part = step.part;
-      last = step.last;
-      before_held = step.before_held;
-      counts = step.counts;
-      whole = step.whole;
-      written = ap (λ (v : RunWriterState). v.written) new_is;
-      in_heads = λ heads. passed_in_heads score x step.outputs (left_of mid []) heads (step.law []);
-      tells = record { limits = step.limits; next = step.next; told = step.told; holds = step.holds; line = step.line; front = step.front };
+    pub event_is_taken : TakesEvent now.score now.writer x (record { score = mid; writer = new })
+    event_is_taken = subst (λ (s : ScoreWriterState). TakesEvent s.score s.writer x (record { score = mid; writer = new })) view (record {
+      passes = record {
+        outputs = step.outputs;
+        few = step.lends.few;
+        part = step.part;
+        last = step.last;
+        before_held = step.before_held;
+        counts = step.counts;
+        whole = step.whole;
+        written = ap (λ (v : RunWriterState). v.written) new_is;
+        in_heads = λ heads. passed_in_heads score x step.outputs (left_of mid []) heads (step.law []);
+        tells = record { limits = step.limits; next = step.next; told = step.told; holds = step.holds; line = step.line; front = step.front };
+      };
+      law = step.law;
+      writer = new_is;
     })
 
     -- where the run is over, the stage gives nothing more
@@ -114,39 +102,17 @@ module _ (score mid : ScoreStageState) (writer : RunWriterState) (now : ScoreWri
         (λ some xs. second_empty step.outputs (concat_of (left_of mid xs)) (sym (ap (λ (lists : List (List ScoreOutput)). concat_of lists) (step.law xs)) ∙ before some (x ∷ xs)))
         (subst (λ (v : RunWriterState). IsSome v.written.ended) new_is over)
 
-    pub event_keeps_room : IsSteadyWriter writer new → ((lines texts : ℕ) → IsInRoom mid.limits lines texts writer (outputs_of_events mid events) → IsInRoom mid.limits lines texts new [])
+    pub event_keeps_room : ((lines texts : ℕ) → IsInRoom mid.limits lines texts writer (outputs_of_events mid events) → IsInRoom mid.limits lines texts new [])
         → (last : Bool) (more : List HeadEvent) → FitsEvents now last (x ∷ more) → FitsEvents (record { score = mid; writer = new }) last more
-    event_keeps_room steady kept last more room =
+    event_keeps_room kept last more room =
         let lines = length writer.messages.items + 16 * line_room writer.written.name in
         let texts = length writer.out.items + needed_in score.part (event_room writer.written.format score.limits.syllable x) in
         let fits = subst (λ (s : ScoreWriterState). FitsEvents s last (x ∷ more)) (sym view) room in
         let before = of_events (λ limits outputs. IsInRoom limits lines texts writer outputs) (event_in_room (IsSilent mid) old x step.outputs step.lends few ends none) in
         let after = subst (λ (limits : Limits). IsInRoom limits lines texts new []) step.limits (kept lines texts before) in
         room_behind old (record { score = mid; writer = new }) x step.outputs last more
-        (record { limits = step.limits; format = steady.format; name = steady.name; all_warnings = steady.all_warnings; out = steady.out; messages = steady.messages })
+        (steady_past old (record { score = mid; writer = new }) writer step.outputs (record { limits = step.limits; format = refl; name = refl; all_warnings = refl; out = refl; messages = refl }) new_is)
         (ap (λ (v : RunWriterState). v.written.headed) new_is ∙ headed_stays writer.written step.outputs) step.part step.last after fits
-
--- ---- the headers
-
--- they are written before the event is passed on
-pub heads_are_written : (old : ScoreWriterState) (lines macros canonical : ℕ) (read : List (List ℕ × List ℕ)) (new : ScoreWriterState)
-    → WritesAt (record old { writer = with_heads old.writer read }) (head_event.Heads lines macros canonical) read new → WritesAt old (head_event.Heads lines macros canonical) read new
-heads_are_written old lines macros canonical read new a =
-    let w = old.writer.written in
-    let x = head_event.Heads lines macros canonical in
-    let mid : ScoreWriterState = record old { writer = with_heads old.writer read } in
-    let text = text_of_heads w read (is_before_heads w) in
-    record {
-      output = text ++ a.output;
-      lines = a.lines;
-      out = extended_by_both old.writer.out mid.writer.out new.writer.out text a.output refl a.out;
-      messages = a.messages;
-      law = λ book from_heads h.
-          heads_come_first w book x from_heads (left_of old.score (x ∷ from_heads)) refl
-          ∙ (ap (λ (b : List (List ℕ × List ℕ)). behind_bytes (text_of_heads w b (is_before_heads w)) [] (streams_of mid book (x ∷ from_heads))) h
-          ∙ (ap (λ (s : Streams). behind_bytes text [] s) (a.law book from_heads h)
-          ∙ sym (behind_both text [] a.output a.lines (streams_of new book from_heads))));
-    }
 
 -- ---- the end of what comes
 
@@ -187,10 +153,11 @@ module _ (score mid : ScoreStageState) (writer : RunWriterState) (now : ScoreWri
       let few : length step.outputs ≤ 16 = omega (arith, step.emitted.few, as_many_emitted First step.outputs) in
       in_room writer.messages.limit writer.out.limit (omega (arith, fits_last.lines, lines_within writer.written.name step.outputs few)) (omega (arith, texts))
 
-  pub room_for_end : (new : RunWriterState) → new.out.limit ≡ writer.out.limit
+  pub room_for_end : (new : RunWriterState) → new ≡ past_outputs writer (outputs_of_events mid events)
       → ((lines texts : ℕ) → IsInRoom mid.limits lines texts writer (outputs_of_events mid events) → IsInRoom mid.limits lines texts new []) → Fits new.out last_room
-  room_for_end new limit kept =
+  room_for_end new writes kept =
       let texts = texts_fit in
+      let limit = ap (λ (v : RunWriterState). v.out.limit) writes in
       let after = (kept most_lines most_texts (in_room most_lines most_texts (omega arith) (omega arith))).texts in
       omega (arith, after, texts, limit)
 
@@ -214,4 +181,16 @@ module _ (score mid : ScoreStageState) (writer : RunWriterState) (now : ScoreWri
             ∙ (ap (λ (outputs : List ScoreOutput). streams_in w outputs) (append-nil step.outputs)
             ∙ (ap (λ (h : RunEnding). record (ended_by h) { output = texts ++ last; messages = lines ++ [] }) (cc ending_is)
             ∙ ap (λ (text : List ℕ). record (ended_by how) { output = text; messages = lines ++ [] }) (sym (append-nil (texts ++ last)))));
+      })
+
+  pub last_is_steady : (new : RunWriterState) → new ≡ past_end (past_outputs writer (outputs_of_events mid events)) → IsSteady now (record { score = mid; writer = new })
+  last_is_steady new writes =
+      let job = job_stays writer.written (outputs_of_events mid events) in
+      subst (λ (s : ScoreWriterState). IsSteady s (record { score = mid; writer = new })) view (record {
+        limits = step.limits;
+        format = ap (λ (v : RunWriterState). v.written.format) writes ∙ job.0;
+        name = ap (λ (v : RunWriterState). v.written.name) writes ∙ job.1.0;
+        all_warnings = ap (λ (v : RunWriterState). v.written.all_warnings) writes ∙ job.1.1.0;
+        out = ap (λ (v : RunWriterState). v.out.limit) writes;
+        messages = ap (λ (v : RunWriterState). v.messages.limit) writes;
       })

@@ -18,7 +18,6 @@ use Rattle.gabc_headers.specs.declared.head_event.HeadEvent.{HeadEvent}
 use Rattle.gabc_headers.specs.witness.HeadEvents.{HeaderStageState, reading, behind}
 use Rattle.gabc_score.specs.Syllable.{UnplacedSyllable}
 use Rattle.gabc_score.specs.ScoreTells.{StandsAt, held_of}
-use Rattle.gabc_score.specs.declared.score_machine.ScorePart.{ScorePart}
 use Rattle.gabc_score.specs.declared.score_machine.ScorePart.TheVariants as score_part
 use Rattle.gabc_score.specs.witness.ScoreStage.{ScoreStageState}
 use Rattle.gregorio_jobs.specs.declared.job.Format.{Format}
@@ -101,7 +100,7 @@ module _ (job : Job) (s : StateFields) (limits : Limits) (is_job : IsOfJob job l
       unheaded = ap (λ (v : Written). v.headed) is_w
 
       parts : AreInOnePart (reading (chars text)) w.score.part w.writer.written.headed
-      parts = subst (λ (p : ScorePart). AreInOnePart (reading (chars text)) p w.writer.written.headed) (sym part) unheaded
+      parts = record { in_part = part; written_so = unheaded }
 
       pub engine_in_headers : IsEngine decoder (holding limits hasher (chars text)) from_heads w
       engine_in_headers = record {
@@ -142,7 +141,7 @@ module _ (job : Job) (s : StateFields) (limits : Limits) (is_job : IsOfJob job l
       headed = ap (λ (v : Written). v.headed) is_w
 
       body_parts : AreInOnePart (behind []) w.score.part w.writer.written.headed
-      body_parts = subst (λ (p : ScorePart). AreInOnePart (behind []) p w.writer.written.headed) (sym d.body) headed
+      body_parts = record { in_part = d.body; written_so = headed }
 
       pub engine_in_score : IsEngine decoder (behind_mark limits hasher) from_heads w
       engine_in_score = record {

@@ -104,12 +104,19 @@ outputs_are_said P w outputs goes_on ends =
 
 -- ---- the headers
 
+-- of the same job, and the headers are written or not
+abbrev pub IsSameJob : Written → Written → Type 0
+IsSameJob w v = (v.format ≡ w.format) × ((v.name ≡ w.name) × ((v.all_warnings ≡ w.all_warnings) × (v.headed ≡ w.headed)))
+
+pub job_stays : (w : Written) (outputs : List ScoreOutput) → IsSameJob w (behind_outputs w outputs)
+job_stays w [] = (refl, (refl, (refl, refl)))
+job_stays w (Found f ∷ outputs) = job_stays (behind_output w (Found f)) outputs
+job_stays w (Stop fault ∷ outputs) = job_stays (behind_output w (Stop fault)) outputs
+job_stays w (Syllable s ∷ outputs) = job_stays (behind_output w (Syllable s)) outputs
+job_stays w (End ∷ outputs) = job_stays (behind_output w End) outputs
+
 pub headed_stays : (w : Written) (outputs : List ScoreOutput) → (behind_outputs w outputs).headed ≡ w.headed
-headed_stays w [] = refl
-headed_stays w (Found f ∷ outputs) = headed_stays (behind_output w (Found f)) outputs
-headed_stays w (Stop fault ∷ outputs) = headed_stays (behind_output w (Stop fault)) outputs
-headed_stays w (Syllable s ∷ outputs) = headed_stays (behind_output w (Syllable s)) outputs
-headed_stays w (End ∷ outputs) = headed_stays (behind_output w End) outputs
+headed_stays w outputs = (job_stays w outputs).1.1.1
 
 not_before : (headed : Bool) → not (headed || true) ≡ false
 not_before true = refl
@@ -136,26 +143,6 @@ no_heads_at w book x from_heads lists none =
 and-false : (b : Bool) → (b && false) ≡ false
 and-false true = refl
 and-false false = refl
-
-pub never_again : (headed over : Bool) → not ((headed || not (headed || over)) || over) ≡ false
-never_again true over = refl
-never_again false true = refl
-never_again false false = refl
-
--- The headers are written first, if they are.
-pub heads_come_first : (w : Written) (book : List (List ℕ × List ℕ)) (x : HeadEvent) (from_heads : List HeadEvent) (lists : List (List ScoreOutput)) → is_heads x ≡ true
-    → streams_from w book (x ∷ from_heads) lists
-    ≡ behind_bytes (text_of_heads w book (is_before_heads w)) [] (streams_from (behind_heads w (is_before_heads w)) book (x ∷ from_heads) lists)
-heads_come_first w book x from_heads lists is =
-    let outputs = first_list lists in
-    let v = behind_heads w (is_before_heads w) in
-    let text = text_of_heads w book (is_before_heads w) in
-    let rest = streams_from (behind_outputs v outputs) book from_heads (drop 1 lists) in
-    let none : writes_heads v x ≡ false = ap (λ (b : Bool). b && is_before_heads v) is ∙ never_again w.headed (is_some w.ended) in
-    ap (λ (b : Bool). let u = behind_heads w (b && is_before_heads w) in
-    behind_bytes (text_of_heads w book (b && is_before_heads w) ++ texts_of_outputs u outputs) (lines_of_outputs u outputs) (streams_from (behind_outputs u outputs) book from_heads (drop 1 lists))) is
-    ∙ (behind_both text [] (texts_of_outputs v outputs) (lines_of_outputs v outputs) rest
-    ∙ ap (λ (s : Streams). behind_bytes text [] s) (sym (no_heads_at v book x from_heads lists none)))
 
 -- none come that are to be written
 abbrev pub NoHeadsCome : Written → List HeadEvent → Type 0

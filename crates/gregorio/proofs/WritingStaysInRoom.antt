@@ -1,5 +1,5 @@
 -- What is written of an output stays in the room that is counted for it.
-use Rattle.std.proofs.Common.{◌≡◌, ℕ, ◌+◌, ◌≤◌, Bool, true, false, List, [], ◌∷◌, length, length-append, arith, ap, ◌∙◌}
+use Rattle.std.proofs.Common.{◌≡◌, ℕ, ◌+◌, ◌≤◌, Bool, true, false, List, [], ◌∷◌, length, length-append, arith, ap}
 use Rattle.std.specs.List.{All}
 use Rattle.std.proofs.lemmas.List.Elements.{All-cons, All-head, All-nil, All-tail}
 use Rattle.gabc_places.specs.declared.limits.Limits.{Limits}
@@ -11,7 +11,7 @@ use Rattle.gregorio_jobs.specs.declared.job.Format.{Format}
 use Rattle.gregorio_jobs.specs.declared.job.Format.TheVariants.{Gabc, Dump}
 use Rattle.gabc_score.specs.ScoreStage.{IsWithin}
 use Rattle.gregorio.specs.witness.Engine.{Written, lines_of_output, text_of_output}
-use Rattle.gregorio.specs.machine.RunWriter.{RunWriterState, with_bytes, line_room, lines_room, syllable_len, text_room, texts_room, IsInRoom, IsSteadyWriter}
+use Rattle.gregorio.specs.machine.RunWriter.{RunWriterState, with_bytes, line_room, lines_room, syllable_len, text_room, texts_room, IsInRoom}
 
 -- a shorter canonical text takes no more room
 longer : (format : Format) (no_notes : Bool) (n limit : ℕ) → n ≤ limit + 1 → syllable_len format no_notes n ≤ syllable_len format no_notes (limit + 1)
@@ -60,13 +60,4 @@ first_in_room limits a b w o outputs h = record {
   lines = omega (arith, h.lines);
   texts = omega (arith, h.texts);
   within = first_within limits o outputs h.within;
-}
-
-pub steady_both : (one two three : RunWriterState) → IsSteadyWriter one two → IsSteadyWriter two three → IsSteadyWriter one three
-steady_both one two three a b = record {
-  format = b.format ∙ a.format;
-  name = b.name ∙ a.name;
-  all_warnings = b.all_warnings ∙ a.all_warnings;
-  out = b.out ∙ a.out;
-  messages = b.messages ∙ a.messages;
 }

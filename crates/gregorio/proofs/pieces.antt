@@ -15,15 +15,10 @@ pub mod PartsStayInStep
 pub mod HeadersStayInStep
 pub mod StatesAreWhole
 pub mod StatesAreRead
-pub mod StatesBeforeHeld
-pub mod StatesOfHeaders
-pub mod StatesOfInputs
 pub mod WritesAlike
 pub mod TextOfHeaders
 pub mod BodiesBegin
-pub mod HeadersEnd
 pub mod TellsInStepOn
-pub mod StatesOfScores
 pub mod StreamsAgree
 pub mod SavedInHeaders
 pub mod SavedInBodies

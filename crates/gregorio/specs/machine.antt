@@ -8,7 +8,6 @@ pub mod InMemory
 pub mod InStep
 pub mod Judging
 pub mod OutputsOfARun
-pub mod PartsOfStates
 pub mod ReadsHeaders
 pub mod Restored
 pub mod Restoring

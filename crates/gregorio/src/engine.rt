@@ -12,11 +12,9 @@ ghost use Rattle.gregorio.specs.Outcome.{outcome_of};
 ghost use Rattle.gregorio.specs.Engine.{Brings, IsPrompt, NothingWaits, RunsJob, StillRuns, TakesFront, fault_of, is_running, with_waiting};
 ghost use Rattle.gregorio.specs.witness.Engine.{streams_left};
 ghost use Rattle.gregorio.specs.Streams.{streams_of_outcome, ended_with};
-ghost use Rattle.gregorio.specs.machine.Engine.{GoTogether, IsNoCharacter, LeavesRoom, WritesAll, WritesItems, event_of_item, headed_past};
-ghost use Rattle.gregorio.specs.machine.InStep.{PassesAll, StayInStep};
-ghost use Rattle.gregorio.specs.machine.ReadsHeaders.{ReadsOn};
-ghost use Rattle.gregorio.specs.machine.TellsInStep.{IsInHeads, StayTelling};
-ghost use Rattle.gregorio.specs.machine.ScoreWriter.{FitsEnd, FitsEvents, HasRoom, IsShortBook, IsSteady};
+ghost use Rattle.gregorio.specs.machine.Engine.{LeavesRoom, MayRead, ReadsItems, event_of_item};
+ghost use Rattle.gregorio.specs.machine.InStep.{TakesEvents};
+ghost use Rattle.gregorio.specs.machine.ScoreWriter.{FitsEvents, IsShortBook};
 
 use crate::beginning::what_begins_is_written_whole;
 use crate::rooms::memory_for;
@@ -72,14 +70,10 @@ impl Model for Engine {
 fn pass_on(from_heads: &[HeadEvent], heads: &HeaderStage, writer: &mut ScoreWriter)
     requires room { FitsEvents writer.old false from_heads.now }
     requires book { IsShortBook writer.old.score.limits heads.now.book }
-    ensures writes { WritesAll writer.old from_heads.now heads.now.book writer.new }
+    ensures takes { TakesEvents writer.old from_heads.now heads.now.book writer.new }
     ensures room { (ends : Bool) (events : List HeadItem) →
         FitsEvents writer.old ends (from_heads.now ++ events) →
         FitsEvents writer.new ends events }
-    ensures passes { PassesAll writer.old from_heads.now writer.new }
-    ensures steady { IsSteady writer.old writer.new }
-    ensures headed { headed_past writer.old.writer.written.headed from_heads.now ≡ false →
-        writer.new.writer.written.headed ≡ false }
 {
     for event in from_heads {
         writer.push(*event, heads);
@@ -105,18 +99,9 @@ fn read(
     from_heads: &mut Room<HeadEvent>,
     writer: &mut ScoreWriter,
 )
-    requires together { GoTogether heads.old writer.old }
-    requires few { 2 ≤ from_heads.old.limit }
-    requires room { HasRoom writer.old }
-    requires part { IsInHeads writer.old }
-    ensures together { GoTogether heads.new writer.new }
+    requires { MayRead heads.old from_heads.old writer.old }
     ensures few { from_heads.new.limit ≡ from_heads.old.limit }
-    ensures writes { WritesItems heads.old writer.old (item ∷ []) heads.new writer.new }
-    ensures step { StayInStep heads.old writer.old (item ∷ []) heads.new writer.new }
-    ensures reads { ReadsOn heads.old writer.old (item ∷ []) heads.new writer.new }
-    ensures tells { StayTelling heads.old writer.old (item ∷ []) writer.new }
-    ensures room { IsNoCharacter (Some item) → FitsEnd writer.new }
-    ensures steady { IsSteady writer.old writer.new }
+    ensures reads { ReadsItems heads.old writer.old (item ∷ []) heads.new writer.new }
 {
     if !writer.headed() {
         return read_in_heads(item, heads, from_heads, writer);
@@ -134,18 +119,9 @@ fn read_in_heads(
     writer: &mut ScoreWriter,
 )
     requires heads { writer.old.writer.written.headed ≡ false }
-    requires together { GoTogether heads.old writer.old }
-    requires few { 2 ≤ from_heads.old.limit }
-    requires room { HasRoom writer.old }
-    requires part { IsInHeads writer.old }
-    ensures together { GoTogether heads.new writer.new }
+    requires may { MayRead heads.old from_heads.old writer.old }
     ensures few { from_heads.new.limit ≡ from_heads.old.limit }
-    ensures writes { WritesItems heads.old writer.old (item ∷ []) heads.new writer.new }
-    ensures step { StayInStep heads.old writer.old (item ∷ []) heads.new writer.new }
-    ensures reads { ReadsOn heads.old writer.old (item ∷ []) heads.new writer.new }
-    ensures tells { StayTelling heads.old writer.old (item ∷ []) writer.new }
-    ensures room { IsNoCharacter (Some item) → FitsEnd writer.new }
-    ensures steady { IsSteady writer.old writer.new }
+    ensures reads { ReadsItems heads.old writer.old (item ∷ []) heads.new writer.new }
 {
     gabc_headers::laws::canonical_lines_are_within_the_limits();
     gabc_headers::stage_laws::a_held_text_grows();
@@ -165,18 +141,9 @@ fn read_decoded(
     from_heads: &mut Room<HeadEvent>,
     writer: &mut ScoreWriter,
 )
-    requires together { GoTogether heads.old writer.old }
-    requires few { 2 ≤ from_heads.old.limit }
-    requires room { HasRoom writer.old }
-    requires part { IsInHeads writer.old }
-    ensures together { GoTogether heads.new writer.new }
+    requires { MayRead heads.old from_heads.old writer.old }
     ensures few { from_heads.new.limit ≡ from_heads.old.limit }
-    ensures writes { WritesItems heads.old writer.old (option_to_list item) heads.new writer.new }
-    ensures step { StayInStep heads.old writer.old (option_to_list item) heads.new writer.new }
-    ensures reads { ReadsOn heads.old writer.old (option_to_list item) heads.new writer.new }
-    ensures tells { StayTelling heads.old writer.old (option_to_list item) writer.new }
-    ensures room { IsNoCharacter item → FitsEnd writer.new }
-    ensures steady { IsSteady writer.old writer.new }
+    ensures reads { ReadsItems heads.old writer.old (option_to_list item) heads.new writer.new }
 {
     if let Some(item) = item {
         read(item, heads, from_heads, writer);

@@ -1,27 +1,24 @@
 //! What a run does with what a stage of headers emits.
 
-ghost use Rattle.std.specs.Prelude.{◌≡◌, ◌≤◌, ◌||◌, ℕ, Bool, List, [], ◌∷◌, length, take, true, false, is_some, None, IfOk, IfSome, IsSome};
+ghost use Rattle.std.specs.Prelude.{◌≡◌, ◌≤◌, ℕ, Bool, List, [], ◌∷◌, length, take, true, false, None, IfOk, IfSome, IsSome};
 ghost use Rattle.std.specs.List.{All};
 ghost use Rattle.std.specs.Str.{chars};
 ghost use Rattle.std.specs.String.Boundary.{IsSplitPoint};
 ghost use Rattle.gabc_places.specs.Place.{place_past};
-ghost use Rattle.gabc_places.specs.TextOfAnInput.{IsPlain, IsText};
+ghost use Rattle.gabc_places.specs.TextOfAnInput.{IsPlain};
 ghost use Rattle.gabc_headers.specs.declared.head_event.HeadEvent.{HeadEvent as HeadItem};
 ghost use Rattle.gabc_score.specs.witness.BodyStage.{texts_by_stage};
 ghost use Rattle.gabc_places.specs.StageLaw.{concat_of};
 ghost use Rattle.gabc_score.specs.ScoreEvents.{ScoreOutput, score_outputs, syllables_in};
 ghost use Rattle.gabc_score.specs.ScoreStage.{AreCountsBelow};
 ghost use Rattle.gabc_score.specs.witness.ScoreStage.{left_of};
-ghost use Rattle.gregorio.specs.witness.Engine.{is_heads, writes_heads};
 ghost use Rattle.gabc_score.specs.declared.score_machine.ScorePart.{ScorePart};
-ghost use Rattle.gabc_score.specs.ToldWithin.{IsAtOutset};
 ghost use Rattle.gregorio.specs.machine.ClefInForce.{HasClefOfSounds};
-ghost use Rattle.gregorio.specs.machine.InStep.{HasForce, PassesOn, written_at};
+ghost use Rattle.gregorio.specs.machine.InStep.{HasForce, TakesEvent};
 ghost use Rattle.gregorio.specs.machine.TellsInStep.{BeginsBody};
-ghost use Rattle.gabc_score.specs.ScoreTells.{StandsInFront, before_of, held_of};
-ghost use Rattle.gabc_score.specs.ToldWithin.{IsToldWithin, TellsOfText, written_behind};
-ghost use Rattle.gregorio.specs.machine.RunWriter.{HasRoomFor, IsInRoom, IsSteadyWriter, TakesRuns, past_output, past_outputs};
-ghost use Rattle.gregorio.specs.machine.ScoreWriter.{output_of_event, outputs_of_events, IsOver, IsShortBook, IsSilent, begun_again, emptied, fresh_writer, IsReserved, IsSteady, FitsEvents, WritesAt, WritesLast, WritesRun};
+ghost use Rattle.gabc_score.specs.ScoreTells.{StandsInFront};
+ghost use Rattle.gregorio.specs.machine.RunWriter.{HasRoomFor, IsInRoom, TakesRuns, heads_at, past_output, past_outputs};
+ghost use Rattle.gregorio.specs.machine.ScoreWriter.{output_of_event, outputs_of_events, IsOver, IsShortBook, IsSilent, begun_again, emptied, fresh_writer, IsReserved, IsSteady, FitsEvents, WritesLast, WritesRun};
 
 use crate::run_ending::RunEnding;
 use crate::run_writer::RunWriter;
@@ -58,7 +55,6 @@ fn write_event(writer: &mut RunWriter, score: &ScoreStage, event: &ScoreEvent)
     ensures room { (lines texts : ℕ) (outputs : List ScoreOutput) →
         IsInRoom score.now.limits lines texts writer.old (output_of_event score.now event.now ∷ outputs) →
         IsInRoom score.now.limits lines texts writer.new outputs }
-    ensures steady { IsSteadyWriter writer.old writer.new }
 {
     match event {
         ScoreEvent::Found(finding) => writer.found(*finding),
@@ -76,7 +72,6 @@ fn write_events(writer: &mut RunWriter, score: &ScoreStage, events: &[ScoreEvent
     ensures room { (lines texts : ℕ) →
         IsInRoom score.now.limits lines texts writer.old (outputs_of_events score.now events.now) →
         IsInRoom score.now.limits lines texts writer.new [] }
-    ensures steady { IsSteadyWriter writer.old writer.new }
 {
     for event in events {
         write_event(writer, score, event);
@@ -158,14 +153,10 @@ impl ScoreWriter {
     pub(crate) fn push(&mut self, event: HeadEvent, heads: &HeaderStage)
         requires room { FitsEvents self.old false (event ∷ []) }
         requires book { IsShortBook self.old.score.limits heads.now.book }
-        ensures writes { WritesAt self.old event heads.now.book self.new }
-        ensures passes { PassesOn self.old.score (written_at self.old.writer.written event)
+        ensures takes { TakesEvent self.old.score (heads_at self.old.writer event heads.now.book)
             event self.new }
         ensures room { (ends : Bool) (events : List HeadItem) →
             FitsEvents self.old ends (event ∷ events) → FitsEvents self.new ends events }
-        ensures steady { IsSteady self.old self.new }
-        ensures headed { (self.old.writer.written.headed || is_heads event) ≡ false →
-            self.new.writer.written.headed ≡ false }
     {
         if let HeadEvent::Heads { .. } = event {
             self.writer.heads(heads.book());
@@ -173,17 +164,12 @@ impl ScoreWriter {
         self.pass(event);
     }
 
-    /// Passes `event` on to the score, and writes what that gives. No headers are to be written at
-    /// it.
+    /// Passes `event` on to the score, and writes what that gives.
     pub(crate) fn pass(&mut self, event: HeadEvent)
-        requires room { FitsEvents self.old false (event ∷ []) }
-        requires heads { writes_heads self.old.writer.written event ≡ false }
-        ensures writes { (read : List (List ℕ × List ℕ)) → WritesAt self.old event read self.new }
-        ensures passes { PassesOn self.old.score self.old.writer.written event self.new }
+        requires { FitsEvents self.old false (event ∷ []) }
+        ensures takes { TakesEvent self.old.score self.old.writer event self.new }
         ensures room { (ends : Bool) (events : List HeadItem) →
             FitsEvents self.old ends (event ∷ events) → FitsEvents self.new ends events }
-        ensures steady { IsSteady self.old self.new }
-        ensures headed { self.new.writer.written.headed ≡ self.old.writer.written.headed }
     {
         gabc_write::laws::where_nothing_sounds_the_clef_stays();
         self.events.clear();
@@ -267,31 +253,6 @@ impl ScoreWriter {
         ensures clef { HasClefOfSounds self.now.score self.now.writer.written }
     {
         self.writer.tells_what_is_in_force();
-    }
-
-    /// Does nothing but call a law. Its contract is one: in the body nothing stands before the
-    /// first syllable.
-    pub(crate) fn begins_with_nothing(&self)
-        ensures { self.now.score.part ≡ ScorePart.Body → IsAtOutset self.now.score.before }
-    {
-        if self.score.before().is_some() {
-            gabc_score::stage_laws::a_stage_may_stand(&self.score);
-            gabc_score::stage_laws::what_is_told_is_within_the_limits();
-        }
-    }
-
-    /// Does nothing but call laws. Its contract is one: what its stage tells in the body is within
-    /// the limits, and the syllable that it holds is a text.
-    pub(crate) fn tells_of_a_text(&self)
-        requires body { is_some (before_of self.now.score) ≡ true }
-        requires told { TellsOfText self.now.score }
-        ensures within { IsToldWithin self.now.score }
-        ensures held { IfSome (held_of self.now.score)
-            (λ m. IsText (written_behind self.now.score.before m)) }
-    {
-        gabc_score::stage_laws::a_stage_may_stand(&self.score);
-        gabc_score::stage_laws::what_is_told_is_within_the_limits();
-        gabc_score::stage_laws::what_is_held_is_a_text();
     }
 
     /// Returns the stage over the score.

@@ -21,16 +21,10 @@ use Rattle.gregorio.specs.machine.ScoreWriter.{ScoreWriterState}
 use Rattle.gregorio.specs.witness.Engine.{EngineState, head_events_left, items_left, streams_left}
 use Rattle.gregorio.specs.witness.MayRun.{MayRun}
 use Rattle.gabc_write.specs.SavedAlike.{AreSavedAlike}
-use Rattle.gregorio.proofs.pieces.SavedInBodies.{Runs, bodies_agree, come_in_line, one_behind, other_behind, other_headed, saved_in_body, written_in_body}
-use Rattle.gregorio.proofs.pieces.SavedInHeaders.{RunsInHeads, decoders_alike, heads_agree, saved_in_heads, shown}
-use Rattle.gregorio.proofs.pieces.StatesOfScores.{score_in_body}
+use Rattle.gregorio.proofs.pieces.SavedInBodies.{bodies_agree, come_in_line, here, saved_in_body, there, written_in_body}
+use Rattle.gregorio.proofs.pieces.SavedInHeaders.{decoders_alike, heads_agree, saved_in_heads, shown}
+use Rattle.gregorio.proofs.pieces.StatesAreWhole.{score_in_body}
 use Rattle.gregorio.proofs.pieces.WritesAlike.{given_is_written_alike}
-
-runs_in_heads : (e : EngineState) → MayRun e → RunsInHeads e
-runs_in_heads e may = record { runs = may.runs; step = may.step; force = may.force; read = may.read; limits = may.limits }
-
-runs : (e : EngineState) → MayRun e → Runs e
-runs e may = record { runs = may.runs; step = may.step; tells = may.tells; decoder = may.decoder }
 
 -- the laws of the parts
 pub record PartsAgree : Type 0 where
@@ -50,29 +44,28 @@ module _ (parts : PartsAgree) (one other : EngineState) (may : MayRun one) (may_
 
   in_heads : one.written.headed ≡ false → Agree
   in_heads headed =
-      let alike = saved_in_heads one other (runs_in_heads one may) (runs_in_heads other may_too) headed name same in
+      let alike = saved_in_heads one other may may_too headed name same in
       let d = alike.decoders in
       heads_agree one other alike (parts.decoders one.decoder other.decoder d.runs d.other_runs d.limit may.decoder.partial d.told)
       (parts.heads one.heads other.heads alike.limits alike.reads alike.other_reads alike.text)
 
   in_body : one.written.headed ≡ true → Agree
   in_body headed =
-      let run = runs one may in
-      let other_run = runs other may_too in
-      let within = parts.within one.score may.score (score_in_body one.decoder one.heads one.score one.written run.step headed) in
-      let headed_too = other_headed one other run other_run headed same in
-      let other_within = parts.within other.score may_too.score (score_in_body other.decoder other.heads other.score other.written other_run.step headed_too) in
-      let saved = saved_in_body one other run other_run headed same within other_within in
+      let inside = (here one other may may_too headed same).inside in
+      let other_inside = (there one other may may_too headed same).inside in
+      let within = parts.within one.score may.score (score_in_body one.score inside.body) in
+      let other_within = parts.within other.score may_too.score (score_in_body other.score other_inside.body) in
+      let saved = saved_in_body one other may may_too headed same within other_within in
       let on = parts.scores one.score other.score may.score may_too.score saved in
       let alike = parts.written one.score other.score may.score may_too.score on in
-      let d = decoders_alike one other run.step other_run.step same in
-      bodies_agree one other (written_in_body one other run other_run headed same within other_within name) headed
+      let d = decoders_alike one other may.step may_too.step same in
+      bodies_agree one other (written_in_body one other may may_too headed same within other_within name) headed
       (parts.decoders one.decoder other.decoder d.runs d.other_runs d.limit may.decoder.partial d.told)
-      (parts.behind one.heads other.heads (one_behind one other run other_run headed same) (other_behind one other run other_run headed same))
+      (parts.behind one.heads other.heads inside.behind_them other_inside.behind_them)
       (λ ending bytes w book.
       let from_heads = head_events_left one.heads ending (items_left one ending bytes) in
       given_is_written_alike (held_of one.score) (held_of other.score) alike w book from_heads (left_of one.score from_heads) (left_of other.score from_heads)
-      (on.gives from_heads (come_in_line one other run other_run headed same ending bytes)))
+      (on.gives from_heads (come_in_line one other may may_too headed same ending bytes)))
 
   by_headed : (headed : Bool) → one.written.headed ≡ headed → Agree
   by_headed true is = in_body is

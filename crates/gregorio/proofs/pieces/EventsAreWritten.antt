@@ -1,45 +1,59 @@
--- Events that are taken one after the other are written one after the other.
-use Rattle.std.proofs.Common.{◌≡◌, ℕ, List, [], ◌∷◌, ◌++◌, length, drop, slice_index_or, ◌+◌, ◌<◌, Bool, true, false, ◌||◌, refl, ap, sym, subst, ◌∙◌, add-one, drop-cons}
-use Rattle.std.specs.List.{list_any}
+-- What follows for a writer that takes events one after the other.
+use Rattle.std.proofs.Common.{◌≡◌, ℕ, List, [], ◌∷◌, ◌++◌, length, drop, slice_index_or, ◌+◌, ◌<◌, Bool, true, false, ◌||◌, ◌&&◌, refl, ap, sym, subst, ◌∙◌, add-one, drop-cons}
+use Rattle.std.proofs.Math.Bool.{or-false}
 use Rattle.gabc_headers.specs.declared.head_event.HeadEvent.{HeadEvent}
+use Rattle.gabc_headers.specs.declared.head_event.HeadEvent.TheVariants as head_event
+use Rattle.gabc_score.specs.ScoreEvents.{ScoreOutput}
+use Rattle.gabc_score.specs.witness.ScoreStage.{left_of}
 use Rattle.gregorio.specs.Streams.{Streams, behind_bytes}
-use Rattle.gregorio.specs.witness.Engine.{is_heads}
-use Rattle.gregorio.specs.machine.InStep.{PassesAll, PassesOn, written_at}
-use Rattle.gregorio.specs.machine.ScoreWriter.{ScoreWriterState, FitsEvents, IsSteady, WritesAt, streams_of}
+use Rattle.gregorio.specs.witness.Engine.{Written, behind_outputs, is_before_heads, is_heads, lines_of_outputs, streams_from, text_of_heads, texts_of_outputs, writes_heads}
+use Rattle.gregorio.specs.machine.InStep.{PassesAll, TakesEvent, TakesEvents, written_at}
+use Rattle.gregorio.specs.machine.RunWriter.{RunWriterState, heads_at}
+use Rattle.gregorio.specs.machine.ScoreWriter.{ScoreWriterState, FitsEvents, IsBookAt, IsSteady, WritesAt, streams_of}
 use Rattle.gregorio.specs.machine.Engine.{WritesAll, headed_past}
+use Rattle.gregorio.proofs.StreamsOfOutputs.{headed_stays}
 use Rattle.gregorio.proofs.pieces.RoomIsLeft.{room_for_first}
 use Rattle.gregorio.proofs.pieces.BytesAreJoined.{behind_both, extended_by_none, extended_by_both}
+use Rattle.gregorio.proofs.pieces.WrittenGoesOn.{not_written, steady_past}
 
-pub writes_none : (w : ScoreWriterState) (read : List (List ℕ × List ℕ)) → WritesAll w [] read w
-writes_none w read = record {
-  output = [];
-  lines = [];
-  out = extended_by_none w.writer.out;
-  messages = extended_by_none w.writer.messages;
-  law = λ book from_heads same. refl;
-}
+-- ---- an event
 
-pub writes_next : (x : HeadEvent) (events : List HeadEvent) (read : List (List ℕ × List ℕ)) (old mid new : ScoreWriterState) → WritesAt old x read mid → WritesAll mid events read new
-    → WritesAll old (x ∷ events) read new
-writes_next x events read old mid new a b = record {
-  output = a.output ++ b.output;
-  lines = a.lines ++ b.lines;
-  out = extended_by_both old.writer.out mid.writer.out new.writer.out a.output b.output a.out b.out;
-  messages = extended_by_both old.writer.messages mid.writer.messages new.writer.messages a.lines b.lines a.messages b.messages;
-  law = λ book from_heads same. a.law book (events ++ from_heads) same.0
-      ∙ (ap (λ (s : Streams). behind_bytes a.output a.lines s) (b.law book from_heads same.1)
-      ∙ sym (behind_both a.output a.lines b.output b.lines (streams_of new book from_heads)));
-}
+-- no headers are written at an event that is not theirs
+pub takes_other : (old new : ScoreWriterState) (x : HeadEvent) → is_heads x ≡ false → TakesEvent old.score old.writer x new → TakesEvent old.score (heads_at old.writer x []) x new
+takes_other old new x none takes = subst (λ (w : RunWriterState). TakesEvent old.score w x new) (sym (not_written old.writer x [] none)) takes
 
--- ---- the line `%%`
+same_text : (x : HeadEvent) (w : Written) (book read : List (List ℕ × List ℕ)) → IsBookAt x book read → text_of_heads w book (writes_heads w x) ≡ text_of_heads w read (writes_heads w x)
+same_text (head_event.Heads lines macros canonical) w book read same = ap (λ (b : List (List ℕ × List ℕ)). text_of_heads w b (is_before_heads w)) same
+same_text (head_event.Found f) w book read same = refl
+same_text (head_event.Body x) w book read same = refl
+same_text (head_event.Stop fault) w book read same = refl
+same_text head_event.End w book read same = refl
 
--- where the headers are not written at an event, and none come behind it
-pub unheaded_later : (headed now heads later : Bool) → ((headed || heads) ≡ false → now ≡ false) → (headed || (heads || later)) ≡ false → (now || later) ≡ false
-unheaded_later false now false later at h = ap (λ (b : Bool). b || later) (at refl) ∙ h
-unheaded_later false now true later at h = absurd (cc h)
-unheaded_later true now heads later at h = absurd (cc h)
+module _ (x : HeadEvent) (read : List (List ℕ × List ℕ)) (old new : ScoreWriterState) (t : TakesEvent old.score (heads_at old.writer x read) x new) where
+  pub steady_event : IsSteady old new
+  steady_event =
+      steady_past old new (heads_at old.writer x read) t.passes.outputs (record { limits = t.passes.tells.limits; format = refl; name = refl; all_warnings = refl; out = refl; messages = refl }) t.writer
 
--- ---- what no call changes
+  pub writes_event : WritesAt old x read new
+  writes_event =
+      let w = old.writer.written in
+      let v = written_at w x in
+      let outputs = t.passes.outputs in
+      let heads = text_of_heads w read (writes_heads w x) in
+      let texts = texts_of_outputs v outputs in
+      let lines = lines_of_outputs v outputs in
+      record {
+        output = heads ++ texts;
+        lines = lines;
+        out = extended_by_both old.writer.out (heads_at old.writer x read).out new.writer.out heads texts refl (ap (λ (u : RunWriterState). u.out) t.writer);
+        messages = ap (λ (u : RunWriterState). u.messages) t.writer;
+        law = λ book from_heads same.
+            ap (λ (lists : List (List ScoreOutput)). streams_from w book (x ∷ from_heads) lists) (t.law from_heads)
+            ∙ (ap (λ (text : List ℕ). behind_bytes (text ++ texts) lines (streams_from (behind_outputs v outputs) book from_heads (left_of new.score from_heads))) (same_text x w book read same)
+            ∙ ap (λ (u : Written). behind_bytes (heads ++ texts) lines (streams_from u book from_heads (left_of new.score from_heads))) (sym t.passes.written));
+      }
+
+-- ---- events
 
 pub steady_both : (old mid new : ScoreWriterState) → IsSteady old mid → IsSteady mid new → IsSteady old new
 steady_both old mid new a b = record {
@@ -51,7 +65,53 @@ steady_both old mid new a b = record {
   messages = b.messages ∙ a.messages;
 }
 
--- ---- one of a list of events, and those behind it
+pub steady_all : (events : List HeadEvent) (read : List (List ℕ × List ℕ)) (old new : ScoreWriterState) → TakesEvents old events read new → IsSteady old new
+steady_all [] read old new all = subst (λ (s : ScoreWriterState). IsSteady old s) all (record { limits = refl; format = refl; name = refl; all_warnings = refl; out = refl; messages = refl })
+steady_all (x ∷ events) read old new all = steady_both old all.0 new (steady_event x read old all.0 all.1.0) (steady_all events read all.0 new all.1.1)
+
+pub passes_all : (events : List HeadEvent) (read : List (List ℕ × List ℕ)) (old new : ScoreWriterState) → TakesEvents old events read new → PassesAll old events new
+passes_all [] read old new all = all
+passes_all (x ∷ events) read old new all = (all.0, (all.1.0.passes, passes_all events read all.0 new all.1.1))
+
+writes_none : (w : ScoreWriterState) (read : List (List ℕ × List ℕ)) → WritesAll w [] read w
+writes_none w read = record {
+  output = [];
+  lines = [];
+  out = extended_by_none w.writer.out;
+  messages = extended_by_none w.writer.messages;
+  law = λ book from_heads same. refl;
+}
+
+writes_next : (x : HeadEvent) (events : List HeadEvent) (read : List (List ℕ × List ℕ)) (old mid new : ScoreWriterState) → WritesAt old x read mid → WritesAll mid events read new → WritesAll old (x ∷ events) read new
+writes_next x events read old mid new a b = record {
+  output = a.output ++ b.output;
+  lines = a.lines ++ b.lines;
+  out = extended_by_both old.writer.out mid.writer.out new.writer.out a.output b.output a.out b.out;
+  messages = extended_by_both old.writer.messages mid.writer.messages new.writer.messages a.lines b.lines a.messages b.messages;
+  law = λ book from_heads same. a.law book (events ++ from_heads) same.0
+      ∙ (ap (λ (s : Streams). behind_bytes a.output a.lines s) (b.law book from_heads same.1)
+      ∙ sym (behind_both a.output a.lines b.output b.lines (streams_of new book from_heads)));
+}
+
+pub writes_all : (events : List HeadEvent) (read : List (List ℕ × List ℕ)) (old new : ScoreWriterState) → TakesEvents old events read new → WritesAll old events read new
+writes_all [] read old new all = subst (λ (s : ScoreWriterState). WritesAll old [] read s) all (writes_none old read)
+writes_all (x ∷ events) read old new all = writes_next x events read old all.0 new (writes_event x read old all.0 all.1.0) (writes_all events read all.0 new all.1.1)
+
+-- where the headers are not written at an event, and none come behind it
+unheaded_later : (headed before heads later now : Bool) → now ≡ (headed || (heads && before)) → (headed || (heads || later)) ≡ false → (now || later) ≡ false
+unheaded_later false before false later now is h = ap (λ (b : Bool). b || later) is ∙ h
+unheaded_later false before true later now is h = absurd (cc h)
+unheaded_later true before heads later now is h = absurd (cc h)
+
+pub unheaded_all : (events : List HeadEvent) (old new : ScoreWriterState) → PassesAll old events new → headed_past old.writer.written.headed events ≡ false → new.writer.written.headed ≡ false
+unheaded_all [] old new all none = ap (λ (s : ScoreWriterState). s.writer.written.headed) (sym all) ∙ (sym (or-false old.writer.written.headed) ∙ none)
+unheaded_all (x ∷ events) old new all none =
+    let w = old.writer.written in
+    let p = all.1.0 in
+    unheaded_all events all.0 new all.1.1
+    (unheaded_later w.headed (is_before_heads w) (is_heads x) _ all.0.writer.written.headed (ap (λ (v : Written). v.headed) p.written ∙ headed_stays (written_at w x) p.outputs) none)
+
+-- ---- one of a list of events, and those after it
 
 module _ (from_heads : List HeadEvent) (i : ℕ) (d : HeadEvent) (within : i < length from_heads) where
   abbrev now : HeadEvent
@@ -63,15 +123,9 @@ module _ (from_heads : List HeadEvent) (i : ℕ) (d : HeadEvent) (within : i < l
   pub room_now : (w : ScoreWriterState) → FitsEvents w false (drop i from_heads) → FitsEvents w false (now ∷ [])
   room_now w room = room_for_first w false now (drop (i + 1) from_heads) (subst (λ (left : List HeadEvent). FitsEvents w false left) left_is room)
 
-  pub writes_left : (read : List (List ℕ × List ℕ)) (old mid new : ScoreWriterState) → WritesAt old now read mid → WritesAll mid (drop (i + 1) from_heads) read new → WritesAll old (drop i from_heads) read new
-  writes_left read old mid new a b = subst (λ (left : List HeadEvent). WritesAll old left read new) (sym left_is) (writes_next now (drop (i + 1) from_heads) read old mid new a b)
-
   pub room_left : (w : ScoreWriterState) (ends : Bool) (events : List HeadEvent) → FitsEvents w ends (drop i from_heads ++ events) → FitsEvents w ends (now ∷ (drop (i + 1) from_heads ++ events))
   room_left w ends events room = subst (λ (left : List HeadEvent). FitsEvents w ends (left ++ events)) left_is room
 
-  pub unheaded_left : (headed behind : Bool) → ((headed || is_heads now) ≡ false → behind ≡ false) → headed_past headed (drop i from_heads) ≡ false → headed_past behind (drop (i + 1) from_heads) ≡ false
-  unheaded_left headed behind at h =
-      unheaded_later headed behind (is_heads now) (list_any is_heads (drop (i + 1) from_heads)) at (sym (ap (headed_past headed) left_is) ∙ h)
-
-  pub passes_left : (old mid new : ScoreWriterState) → PassesOn old.score (written_at old.writer.written now) now mid → PassesAll mid (drop (i + 1) from_heads) new → PassesAll old (drop i from_heads) new
-  passes_left old mid new p all = subst (λ (left : List HeadEvent). PassesAll old left new) (sym left_is) (mid, (p, all))
+  pub takes_left : (read : List (List ℕ × List ℕ)) (old mid new : ScoreWriterState) → TakesEvent old.score (heads_at old.writer now read) now mid → TakesEvents mid (drop (i + 1) from_heads) read new
+      → TakesEvents old (drop i from_heads) read new
+  takes_left read old mid new t all = subst (λ (left : List HeadEvent). TakesEvents old left read new) (sym left_is) (mid, (t, all))

@@ -1,5 +1,5 @@
 -- What the stage of headers gives of an item has room, and is passed on.
-use Rattle.std.proofs.Common.{◌≡◌, ℕ, ◌+◌, ◌≤◌, List, [], ◌∷◌, ◌++◌, length, codes, true, false, Some, Result, Ok, refl, ap, sym, ◌∙◌, subst, arith}
+use Rattle.std.proofs.Common.{◌≡◌, ℕ, ◌+◌, ◌≤◌, List, [], ◌∷◌, ◌++◌, length, codes, true, false, Result, Ok, refl, ap, sym, ◌∙◌, subst, arith}
 use Rattle.std.specs.Char.{len_utf8}
 use Rattle.std.proofs.lemmas.List.Sums.{sum_by-append}
 use Rattle.gabc_places.specs.BoundedList.{BoundedList}
@@ -12,11 +12,11 @@ use Rattle.gabc_headers.specs.Lines.{bytes_len}
 use Rattle.gabc_headers.specs.Heads.{heads_of}
 use Rattle.gabc_headers.specs.declared.heads.Heads.{Heads}
 use Rattle.gabc_headers.specs.declared.head_event.HeadEvent.{HeadEvent}
-use Rattle.gabc_headers.specs.witness.HeadEvents.{HeadProgress, HeaderStageState, events_left, events_of_end, events_of_input, stage_after}
+use Rattle.gabc_headers.specs.witness.HeadEvents.{HeadProgress, HeaderStageState, events_left, events_of_end, events_of_input}
 use Rattle.gabc_headers.proofs.entries.TextsAsBytes.{length-encodes}
-use Rattle.gregorio.specs.machine.ScoreWriter.{ScoreWriterState, FitsEvents, HasRoom, IsShortBook, IsSteady}
-use Rattle.gregorio.specs.machine.Engine.{GoTogether, IsNoCharacter, WritesAll, WritesItems, headed_past}
-use Rattle.gregorio.proofs.pieces.ItemsAreRead.{AreHeadsShort, items_by_heads, short_stage_after, together_by_heads}
+use Rattle.gregorio.specs.machine.ScoreWriter.{ScoreWriterState, FitsEvents, HasRoom, IsShortBook}
+use Rattle.gregorio.specs.machine.Engine.{IsNoCharacter}
+use Rattle.gregorio.proofs.pieces.ItemsAreRead.{AreHeadsShort}
 use Rattle.gregorio.proofs.pieces.RoomIsLeft.{input_is_few, room_for_fault, room_for_few}
 
 -- ---- the canonical headers in bytes
@@ -69,26 +69,7 @@ module _ (h : HeaderStageState) (w : ScoreWriterState) (item : Result Char Fault
       (room_for_few w false (events_of_input h.limits h.progress item) room
       (input_is_few w.writer.written.format w.score.limits.syllable h.limits h.progress item step.few))
 
-  pub room_with_end : HasRoom w → IsNoCharacter (Some item) → (limits : Limits) (progress : HeadProgress) → FitsEvents w true (from_heads ++ events_of_end limits progress)
+  pub room_with_end : HasRoom w → IsNoCharacter (item ∷ []) → (limits : Limits) (progress : HeadProgress) → FitsEvents w true (from_heads ++ events_of_end limits progress)
   room_with_end room none limits progress =
       subst (λ (events : List HeadEvent). FitsEvents w true (events ++ events_of_end limits progress)) (sym step.is)
       (room_for_fault w h.limits h.progress item room none limits progress)
-
-  module _ (now : HeaderStageState) (is_now : now ≡ stage_after h item) (book : List (List ℕ × List ℕ)) (is_book : book ≡ now.book) where
-    book_after : book ≡ (stage_after h item).book
-    book_after = is_book ∙ ap (λ (s : HeaderStageState). s.book) is_now
-
-    pub short_book_given : AreHeadsShort → GoTogether h w → IsShortBook w.score.limits book
-    short_book_given heads_short together = subst (λ (b : List (List ℕ × List ℕ)). IsShortBook w.score.limits b) (sym book_after) (short_stage_after h w item heads_short together)
-
-    pub together_given : (new : ScoreWriterState) → AreHeadsShort → GoTogether h w → w.writer.written.headed ≡ false
-        → (headed_past w.writer.written.headed from_heads ≡ false → new.writer.written.headed ≡ false) → IsSteady w new → GoTogether now new
-    together_given new heads_short together unheaded past steady =
-        subst (λ (s : HeaderStageState). GoTogether s new) (sym is_now)
-        (together_by_heads h w new item heads_short together unheaded (λ none. past (ap (headed_past w.writer.written.headed) step.is ∙ none)) steady)
-
-    pub writes_given : (new : ScoreWriterState) → WritesAll w from_heads book new → WritesItems h w (item ∷ []) now new
-    writes_given new writes =
-        subst (λ (s : HeaderStageState). WritesItems h w (item ∷ []) s new) (sym is_now)
-        (items_by_heads h w new item (subst (λ (events : List HeadEvent). WritesAll w events (stage_after h item).book new) step.is
-        (subst (λ (b : List (List ℕ × List ℕ)). WritesAll w from_heads b new) book_after writes)))

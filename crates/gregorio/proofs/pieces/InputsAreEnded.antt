@@ -1,6 +1,7 @@
 -- The end of an input, or the failure of its source, brings what was still to come.
-use Rattle.std.proofs.Common.{◌≡◌, ◌&&◌, ℕ, inr, Bool, true, false, if◌then◌else◌, List, [], ◌∷◌, ◌++◌, Option, Some, None, option_to_list, Result, Ok, Err, ap, sym, ◌∙◌, subst}
-use Rattle.gabc_places.specs.BoundedList.{extended_by}
+use Rattle.std.proofs.Common.{◌≡◌, ◌≤◌, ◌&&◌, ℕ, inr, Bool, true, false, if◌then◌else◌, List, [], ◌∷◌, ◌++◌, Option, Some, None, is_none, option_to_list, Result, Ok, Err, ap, sym, ◌∙◌, subst}
+use Rattle.std.proofs.lemmas.Bool.{false≢true}
+use Rattle.gabc_places.specs.BoundedList.{BoundedList, extended_by}
 use Rattle.gabc_places.specs.StageLaw.{concat_of}
 use Rattle.gabc_places.specs.declared.code.Code.TheVariants.{F1}
 use Rattle.gabc_places.specs.declared.code.Fault.{Fault}
@@ -17,10 +18,13 @@ use Rattle.gregorio.specs.declared.source_ending.SourceEnding.{SourceEnding}
 use Rattle.gregorio.specs.declared.source_ending.SourceEnding.TheVariants.{Whole as Ended}
 use Rattle.gregorio.specs.declared.run_ending.RunEnding.{RunEnding}
 use Rattle.gregorio.specs.Streams.{Streams, behind_bytes, ended_with}
-use Rattle.gregorio.specs.witness.Engine.{book_behind, ceased_ending, ended_by, fault_of_ending, head_events_left, status_of_ending}
-use Rattle.gregorio.specs.machine.ScoreWriter.{ScoreWriterState, IsOver, IsSteady, WritesLast, streams_of}
-use Rattle.gregorio.specs.machine.Engine.{AreBooksAt, GoTogether, IsEmpty, IsNoCharacter, IsSettled, WritesAll, WritesItems, streams_of_items}
+use Rattle.gregorio.specs.Engine.{fault_of}
+use Rattle.gregorio.specs.witness.Engine.{EngineState, ceased_ending, ended_by, fault_of_ending, status_of_ending, streams_left}
+use Rattle.gregorio.specs.machine.ScoreWriter.{ScoreWriterState, IsOver, IsReserved, IsSteady, WritesLast, streams_of}
+use Rattle.gregorio.specs.machine.Engine.{AreBooksAt, GoTogether, IsEngine, IsNoCharacter, IsSettled, WritesAll, WritesItems, streams_of_items}
 use Rattle.gregorio.proofs.StreamsOfOutputs.{over_is_last}
+use Rattle.gregorio.specs.machine.InStep.{HasForce}
+use Rattle.gregorio.proofs.pieces.BytesAreTaken.{over_left}
 use Rattle.gregorio.proofs.pieces.BytesAreJoined.{behind_both, extended_by_both, waits_now}
 use Rattle.gregorio_jobs.specs.declared.job.Status.{Status}
 
@@ -45,11 +49,12 @@ ends_behind s t old mid new how output lines out messages law e = record {
 pub ends_last : (w new : ScoreWriterState) (how : RunEnding) (book : List (List ℕ × List ℕ)) → WritesLast w new how → EndsWith (streams_of w book []) w new how
 ends_last w new how book a = record { output = a.output; lines = a.lines; out = a.out; messages = a.messages; law = a.law book }
 
-pub ends_now : (s : Streams) (w new : ScoreWriterState) (how : RunEnding) → EndsWith s w new how → IsEmpty w → s ≡ behind_bytes new.writer.out.items new.writer.messages.items (ended_by how)
-ends_now s w new how e empty =
+pub ends_now : (s : Streams) (w new : ScoreWriterState) (how : RunEnding) → EndsWith s w new how → w.writer.out.items ≡ [] → w.writer.messages.items ≡ []
+    → s ≡ behind_bytes new.writer.out.items new.writer.messages.items (ended_by how)
+ends_now s w new how e output messages =
     e.law
-    ∙ (ap (λ (o : List ℕ). behind_bytes o e.lines (ended_by how)) (sym (waits_now w.writer.out new.writer.out e.output empty.output e.out))
-    ∙ ap (λ (l : List ℕ). behind_bytes new.writer.out.items l (ended_by how)) (sym (waits_now w.writer.messages new.writer.messages e.lines empty.messages e.messages)))
+    ∙ (ap (λ (o : List ℕ). behind_bytes o e.lines (ended_by how)) (sym (waits_now w.writer.out new.writer.out e.output output e.out))
+    ∙ ap (λ (l : List ℕ). behind_bytes new.writer.out.items l (ended_by how)) (sym (waits_now w.writer.messages new.writer.messages e.lines messages e.messages)))
 
 -- ---- behind the end
 
@@ -58,11 +63,12 @@ pub ended_as : (how : RunEnding) (status : Status) (ended : Option RunEnding) �
 ended_as how status ended told is =
     ap (λ (s : Status). ended_with s (fault_of_ending how)) (sym told) ∙ ap (λ (o : Option RunEnding). ended_with status (fault_of_ending (ceased_ending o))) (sym is)
 
-pub over_of_items : (h : HeaderStageState) (w : ScoreWriterState) (how : RunEnding) → IsOver w.writer.written w.score how → (ending : SourceEnding) (items : List (Result Char Fault))
-    → streams_of_items h w ending items ≡ ended_by how
-over_of_items h w how o ending items = over_is_last w.writer.written w.score how o (book_behind h items) (head_events_left h ending items)
+-- so does an engine that is over, whatever comes
+pub over_says : (s : EngineState) (how : RunEnding) (status : Status) → IsOver s.written s.score how → status ≡ status_of_ending how → (bytes : List ℕ) (ending : SourceEnding)
+    → streams_left s ending bytes ≡ ended_with status (fault_of s)
+over_says s how status is told bytes ending = over_left s how is ending bytes ∙ ended_as how status s.written.ended told is.ended
 
-pub over_is_settled : (w : ScoreWriterState) (how : RunEnding) → IsOver w.writer.written w.score how → IsSettled w
+over_is_settled : (w : ScoreWriterState) (how : RunEnding) → IsOver w.writer.written w.score how → IsSettled w
 over_is_settled w how o book other from_heads more = over_is_last w.writer.written w.score how o book from_heads ∙ sym (over_is_last w.writer.written w.score how o other more)
 
 -- a writer that is over goes together with a stage that has the same limits
@@ -75,8 +81,23 @@ over_together h old new how together steady o = record {
 }
 
 -- with that stage behind its last event too
-pub over_stage : (h : HeaderStageState) (w : ScoreWriterState) → IsSettled w → GoTogether h w → GoTogether (stage_at h over) w
-over_stage h w settled together = record { limits = together.limits; headed = λ e. inr settled; book = tt; short = together.short }
+pub over_stage : (h : HeaderStageState) (old new : ScoreWriterState) (how : RunEnding) → GoTogether h old → IsSteady old new → IsOver new.writer.written new.score how → GoTogether (stage_at h over) new
+over_stage h old new how together steady o = record { limits = together.limits ∙ sym steady.limits; headed = λ e. inr (over_is_settled new how o); book = tt; short = together.short }
+
+-- an engine that is over need not be in step
+pub over_is_engine : (d : DecoderState) (h : HeaderStageState) (from_heads : BoundedList HeadEvent) (w : ScoreWriterState) (how : RunEnding) → 2 ≤ from_heads.limit → GoTogether h w → IsReserved w
+    → HasForce w.writer.written → IsOver w.writer.written w.score how → IsEngine d h from_heads w
+over_is_engine d h from_heads w how few together reserved force o = record {
+  few = few;
+  together = together;
+  reserved = reserved;
+  step = record { force = force; runs = λ running. absurd (stopped running) };
+  headers = λ running. absurd (stopped running);
+  tells = λ running. absurd (stopped running);
+}
+  where
+    stopped : is_none w.writer.written.ended ≡ true → ⊥
+    stopped running = false≢true (sym (ap (λ (o : Option RunEnding). is_none o) o.ended) ∙ running)
 
 -- ---- the end of the input
 
@@ -108,14 +129,14 @@ ends_items d h now w mid new how items law a e =
 -- ---- the decoder
 
 -- at the end of the input it gives a fault or nothing
-pub no_character_at_end : (d : DecoderState) (item : Option (Result Char Fault)) → decoder.events_left d [] ≡ option_to_list item ∷ [] → IsNoCharacter item
+pub no_character_at_end : (d : DecoderState) (item : Option (Result Char Fault)) → decoder.events_left d [] ≡ option_to_list item ∷ [] → IsNoCharacter (option_to_list item)
 no_character_at_end d item law = by (d.running && is_unfinished d.pending) item (ap first_items law)
   where
     first_items : List (List (Result Char Fault)) → List (Result Char Fault)
     first_items [] = []
     first_items (items ∷ lists) = items
 
-    by : (b : Bool) (item : Option (Result Char Fault)) → (if b then decoder.stop_with F1 d else record { events = []; state = record d { running = false } }).events ≡ option_to_list item → IsNoCharacter item
+    by : (b : Bool) (item : Option (Result Char Fault)) → (if b then decoder.stop_with F1 d else record { events = []; state = record d { running = false } }).events ≡ option_to_list item → IsNoCharacter (option_to_list item)
     by b None e = tt
     by b (Some (Err fault)) e = tt
     by true (Some (Ok x)) e = absurd (cc e)

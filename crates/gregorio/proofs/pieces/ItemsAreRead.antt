@@ -91,7 +91,7 @@ items_by_heads h w new item a = record {
 
 -- ---- what holds of it then
 
-just_found : (fs : List Finding) → list_any is_heads (map (λ f. head_event.Found f) fs) ≡ false
+pub just_found : (fs : List Finding) → list_any is_heads (map (λ f. head_event.Found f) fs) ≡ false
 just_found [] = refl
 just_found (f ∷ fs) = just_found fs
 

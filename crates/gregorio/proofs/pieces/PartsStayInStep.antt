@@ -1,5 +1,5 @@
 -- The parts of an engine stay in step in its body, and where it begins and ends.
-use Rattle.std.proofs.Common.{◌≡◌, ℕ, ◌+◌, ◌-◌, ◌^◌, ◌≤◌, ◌<◌, min, List, [], ◌∷◌, Bool, true, false, Option, Some, is_none, Result, Ok, Err, if◌then◌else◌, refl, ap, sym, subst, ◌∙◌, arith}
+use Rattle.std.proofs.Common.{◌≡◌, ℕ, ◌+◌, ◌-◌, ◌^◌, ◌≤◌, ◌<◌, min, List, [], ◌∷◌, Bool, true, false, is_none, Result, Ok, Err, if◌then◌else◌, refl, ap, sym, subst, ◌∙◌, arith}
 use Rattle.std.proofs.lemmas.Bool.{false≢true}
 use Rattle.std.specs.List.{list_any}
 use Rattle.gabc_places.specs.DecoderMachine.{DecoderState, fresh_decoder}
@@ -20,7 +20,6 @@ use Rattle.gabc_score.specs.ScoreEvents.{ScoreOutput, is_last, syllables_in}
 use Rattle.gabc_score.specs.ScoreStage.{Counts, most_whole, part_past, preceding_past}
 use Rattle.gabc_score.specs.ToldWithin.{whole_syllables}
 use Rattle.gabc_score.specs.witness.ScoreStage.{ScoreStageState}
-use Rattle.gregorio.specs.declared.run_ending.RunEnding.{RunEnding}
 use Rattle.gregorio.specs.witness.Engine.{Written}
 use Rattle.gregorio.specs.machine.Engine.{event_of_item}
 use Rattle.gregorio.specs.machine.InStep.{AreInOnePart, HasForce, IsInStep, PassesOn, RunsInStep, StayInStep}
@@ -35,17 +34,13 @@ pub record IsInBody (progress : HeadProgress) (part : ScorePart) : Type 0 where
   pub body : part ≡ score_part.Body
 
 pub in_body : (progress : HeadProgress) (part : ScorePart) (headed : Bool) → headed ≡ true → AreInOnePart progress part headed → IsInBody progress part
-in_body (reading t) score_part.Heads headed is parts = absurd (false≢true (sym parts ∙ is))
-in_body (reading t) score_part.Body headed is parts = absurd parts
-in_body (reading t) score_part.Over headed is parts = absurd parts
-in_body (behind book) score_part.Heads headed is parts = absurd parts
-in_body (behind book) score_part.Body headed is parts = record { behind_them = tt; body = refl }
-in_body (behind book) score_part.Over headed is parts = absurd parts
+in_body (reading t) part headed is parts = absurd (false≢true (sym parts.written_so ∙ is))
+in_body (behind book) part headed is parts = record { behind_them = tt; body = parts.in_part }
 in_body over part headed is parts = absurd parts
 
 pub one_part : (progress : HeadProgress) (part : ScorePart) (headed : Bool) → headed ≡ true → IsBehind progress → part ≡ score_part.Body → AreInOnePart progress part headed
 one_part (reading t) part headed is past body = absurd past
-one_part (behind book) part headed is past body = rw body is
+one_part (behind book) part headed is past body = record { in_part = body; written_so = is }
 one_part over part headed is past body = absurd past
 
 abbrev place_at : ℕ → ℕ → Place
@@ -161,14 +156,6 @@ nothing_in_step h s = record {
   runs = λ d e moves ran running. nothing_runs d e h s.score s.writer.written moves (ran running);
 }
 
--- ---- a run that is over
-
-pub over_in_step : (d : DecoderState) (h : HeaderStageState) (s : ScoreWriterState) (how : RunEnding) → HasForce s.writer.written → s.writer.written.ended ≡ Some how → IsInStep d h s.score s.writer.written
-over_in_step d h s how force over_is = record {
-  force = force;
-  runs = λ running. absurd (false≢true (sym (ap (λ (o : Option RunEnding). is_none o) over_is) ∙ running));
-}
-
 -- ---- before the first byte
 
 fresh_force : (v : Written) → HasForce (begun_again v)
@@ -181,7 +168,7 @@ fresh_in_step v limits d h s is_d is_h is_w is_limits heads = record {
   runs = λ running. record {
     runs = ap (λ (x : DecoderState). x.running) is_d;
     limit = limit ∙ ap (λ (l : Limits). l.input) (sym is_limits);
-    parts = parts s.score.part heads;
+    parts = subst (λ (x : HeaderStageState). AreInOnePart x.progress s.score.part s.writer.written.headed) (sym is_h) (record { in_part = heads; written_so = unheaded });
     none = λ un. ap (λ (w : Written). w.count) is_w;
     count = λ is. absurd (false≢true (sym unheaded ∙ is));
     taken = λ is. absurd (false≢true (sym unheaded ∙ is));
@@ -196,6 +183,3 @@ fresh_in_step v limits d h s is_d is_h is_w is_limits heads = record {
 
     unheaded : s.writer.written.headed ≡ false
     unheaded = ap (λ (w : Written). w.headed) is_w
-
-    parts : (part : ScorePart) → part ≡ score_part.Heads → AreInOnePart h.progress part s.writer.written.headed
-    parts part e = rw (is_h, e) unheaded

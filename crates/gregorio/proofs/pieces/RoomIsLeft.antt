@@ -1,5 +1,5 @@
 -- Where no more waits than may there is room for what an item and the end bring.
-use Rattle.std.proofs.Common.{◌≡◌, ℕ, ◌+◌, ◌*◌, ◌≤◌, List, [], ◌∷◌, ◌++◌, length, map, Bool, true, false, if◌then◌else◌, cond, Some, Result, Ok, Err, ap, append-nil, arith}
+use Rattle.std.proofs.Common.{◌≡◌, ℕ, ◌+◌, ◌*◌, ◌≤◌, List, [], ◌∷◌, ◌++◌, length, map, Bool, true, false, if◌then◌else◌, cond, Result, Ok, Err, ap, append-nil, arith}
 use Rattle.std.proofs.Math.Nat.{mul-le-mul_right}
 use Rattle.gabc_places.specs.declared.code.Fault.{Fault}
 use Rattle.gabc_places.specs.declared.code.Finding.{Finding}
@@ -15,7 +15,7 @@ use Rattle.gabc_headers.specs.HeadEvents.{event_of_book}
 use Rattle.gabc_headers.specs.witness.HeadEvents.{HeadProgress, reading, behind, over, events_by, events_at_end, events_of_end, events_of_input, new_findings}
 use Rattle.gregorio.specs.machine.RunWriter.{heads_room, line_room, most_waiting, room_without_notes, syllable_room}
 use Rattle.gregorio.specs.machine.ScoreWriter.{ScoreWriterState, FitsEnd, FitsEvents, HasRoom, IsReserved, event_room, events_room}
-use Rattle.gregorio.specs.machine.Engine.{IsEmpty, IsNoCharacter, LeavesRoom, event_of_item}
+use Rattle.gregorio.specs.machine.Engine.{IsNoCharacter, LeavesRoom, event_of_item}
 use Rattle.gregorio.specs.Engine.{NothingWaits}
 use Rattle.gregorio.specs.witness.Engine.{EngineState}
 use Rattle.gregorio.proofs.RoomForAnEvent.{needed_more, needed_within}
@@ -77,9 +77,9 @@ heads_within false most = omega arith
 pub room_where_few_wait : (w : ScoreWriterState) → IsReserved w → length w.writer.out.items ≤ most_waiting w.score.limits → length w.writer.messages.items ≤ most_waiting w.score.limits → HasRoom w
 room_where_few_wait w reserved few few_lines = record { out = omega (arith, reserved.out, few); messages = omega (arith, reserved.messages, few_lines) }
 
-pub room_where_none_waits : (w : ScoreWriterState) → IsReserved w → IsEmpty w → HasRoom w
-room_where_none_waits w reserved empty =
-    room_where_few_wait w reserved (omega (arith, ap (λ (xs : List ℕ). length xs) empty.output)) (omega (arith, ap (λ (xs : List ℕ). length xs) empty.messages))
+pub room_where_none_waits : (w : ScoreWriterState) → IsReserved w → w.writer.out.items ≡ [] → w.writer.messages.items ≡ [] → HasRoom w
+room_where_none_waits w reserved output messages =
+    room_where_few_wait w reserved (omega (arith, ap (λ (xs : List ℕ). length xs) output)) (omega (arith, ap (λ (xs : List ℕ). length xs) messages))
 
 pub leaves_room : (s : EngineState) → NothingWaits s → LeavesRoom s
 leaves_room s waits = record { output = omega (arith, ap (λ (xs : List ℕ). length xs) waits.output); messages = omega (arith, ap (λ (xs : List ℕ). length xs) waits.messages) }
@@ -189,7 +189,7 @@ pub room_for_last : (w : ScoreWriterState) → HasRoom w → FitsEvents w true [
 room_for_last w room = room_for_few w true [] room (none_are_few w.writer.written.format w.score.limits.syllable true)
 
 -- a fault behind the headers, and the end
-pub room_for_stop : (w : ScoreWriterState) (item : Result Char Fault) → HasRoom w → IsNoCharacter (Some item) → (limits : Limits) (progress : HeadProgress)
+pub room_for_stop : (w : ScoreWriterState) (item : Result Char Fault) → HasRoom w → IsNoCharacter (item ∷ []) → (limits : Limits) (progress : HeadProgress)
     → FitsEvents w true (event_of_item item ∷ events_of_end limits progress)
 room_for_stop w (Ok x) room none limits progress = absurd none
 room_for_stop w (Err fault) room none limits progress =
@@ -198,7 +198,7 @@ room_for_stop w (Err fault) room none limits progress =
     (stop_is_few w.writer.written.format w.score.limits.syllable true fault (events_of_end limits progress) (omega (arith, one)))
 
 -- a fault in the headers, and the end
-pub room_for_fault : (w : ScoreWriterState) (limits : Limits) (progress : HeadProgress) (item : Result Char Fault) → HasRoom w → IsNoCharacter (Some item) → (later : Limits) (last : HeadProgress)
+pub room_for_fault : (w : ScoreWriterState) (limits : Limits) (progress : HeadProgress) (item : Result Char Fault) → HasRoom w → IsNoCharacter (item ∷ []) → (later : Limits) (last : HeadProgress)
     → FitsEvents w true (events_of_input limits progress item ++ events_of_end later last)
 room_for_fault w limits progress (Ok x) room none later last = absurd none
 room_for_fault w limits progress (Err fault) room none later last =

@@ -24,6 +24,7 @@ use Rattle.gregorio.specs.machine.ClefInForce.{HasClefOfSounds, IsClefIn}
 use Rattle.gregorio.specs.machine.RunWriter.{RunWriterState, TakesRuns, outputs_of_syllables}
 use Rattle.gregorio.specs.machine.ScoreWriter.{IsSilent, IsSteady, ScoreWriterState, WritesRun, streams_of}
 use Rattle.gregorio.specs.witness.Engine.{Written, behind_output, behind_outputs, lines_of_outputs, streams_in, texts_of_outputs}
+use Rattle.gregorio.proofs.pieces.WrittenGoesOn.{steady_past}
 use Rattle.gregorio.proofs.StreamsOfOutputs.{headed_stays, in_body, some_and_rest}
 
 -- ---- what is written
@@ -84,16 +85,7 @@ module _ (old : ScoreWriterState) (at : Place) (t : List ℕ) (new : ScoreWriter
       record { count = c.count; force = c.force; is = ap (λ (w : RunWriterState). w.written) r.taken ∙ c.is }
 
   pub run_steady : IsSteady old new
-  run_steady =
-      let c = run_counted in
-      record {
-        limits = r.gives.limits;
-        format = ap (λ (v : Written). v.format) c.is;
-        name = ap (λ (v : Written). v.name) c.is;
-        all_warnings = ap (λ (v : Written). v.all_warnings) c.is;
-        out = ap (λ (w : RunWriterState). w.out.limit) r.taken;
-        messages = ap (λ (w : RunWriterState). w.messages.limit) r.taken;
-      }
+  run_steady = steady_past old new old.writer outputs (record { limits = r.gives.limits; format = refl; name = refl; all_warnings = refl; out = refl; messages = refl }) r.taken
 
   -- ---- between two calls
 

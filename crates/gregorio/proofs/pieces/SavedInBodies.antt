@@ -1,8 +1,7 @@
 -- Two engines that save the same in the body.
-use Rattle.std.proofs.Common.{◌≡◌, ℕ, ◌+◌, ◌≤◌, List, length, Bool, true, false, Option, None, Some, IfSome, is_none, Result, refl, ap, sym, subst, ◌∙◌, arith}
+use Rattle.std.proofs.Common.{◌≡◌, ℕ, ◌+◌, ◌≤◌, List, length, Bool, true, false, Option, None, Some, IfSome, Result, refl, ap, sym, subst, ◌∙◌, arith}
 use Rattle.std.proofs.lemmas.Bool.{false≢true}
 use Rattle.std.specs.Option.{option_map}
-use Rattle.gabc_places.specs.DecoderTells.{MayBeTold, is_after_cr}
 use Rattle.gabc_places.specs.declared.code.Fault.{Fault}
 use Rattle.gabc_places.specs.declared.place.Char.{Char}
 use Rattle.gabc_places.specs.witness.DecoderEvents as decoder
@@ -17,20 +16,20 @@ use Rattle.gabc_score.specs.ToldWithin.{IsHeldWithin, IsToldWithin, written_behi
 use Rattle.gabc_score.specs.declared.before.Before.{Before}
 use Rattle.gabc_score.specs.declared.before.Preceding.{Preceding}
 use Rattle.gabc_score.specs.declared.score_machine.ScorePart.{ScorePart}
-use Rattle.gabc_score.specs.declared.score_machine.ScorePart.TheVariants as score_part
 use Rattle.gabc_score.specs.witness.ScoreStage.{ScoreStageState, left_of}
 use Rattle.gregorio_state.specs.Fields.{PhaseFields, ScoreFields, StateFields, InHeaders, InScore}
 use Rattle.gregorio.specs.declared.source_ending.SourceEnding.{SourceEnding}
 use Rattle.gregorio.specs.Saved.{held_count, held_text, phase_fields, score_fields, state_of}
+use Rattle.gregorio.specs.witness.MayRun.{MayRun}
 use Rattle.gregorio.specs.witness.Engine.{EngineState, book_behind, head_events_left, items_left, streams_left}
-use Rattle.gregorio.specs.machine.InStep.{AreInOnePart, RunsInStep}
+use Rattle.gregorio.specs.machine.InStep.{AreInOnePart}
 use Rattle.gabc_write.specs.SavedAlike.{AreSavedAlike}
 use Rattle.gregorio.specs.machine.SavedAlike.{WriteTheSame}
-use Rattle.gregorio.specs.machine.TellsInStep.{TellsInBody, TellsInStep}
+use Rattle.gregorio.specs.machine.TellsInStep.{TellsInBody}
 use Rattle.gregorio.proofs.pieces.ItemsStandInLine.{left_in_line}
 use Rattle.gregorio.proofs.pieces.PartsStayInStep.{IsInBody, in_body}
 use Rattle.gregorio.proofs.pieces.SavedInHeaders.{limits_saved, written_saved}
-use Rattle.gregorio.proofs.pieces.StatesOfScores.{score_in_body}
+use Rattle.gregorio.proofs.pieces.StatesAreWhole.{score_in_body}
 use Rattle.gregorio.proofs.pieces.StreamsAgree.{no_matter_which_book_behind, streams_agree}
 
 -- ---- the syllable that is held
@@ -81,26 +80,17 @@ record IsBehindHeads (progress : HeadProgress) (part : ScorePart) (headed : Bool
 body_by_phase : (progress : HeadProgress) (part : ScorePart) (headed : Bool) (force : InForce) (s : ScoreStageState) (f : ScoreFields) → phase_fields progress force s ≡ InScore f → AreInOnePart progress part headed
     → IsBehindHeads progress part headed
 body_by_phase (reading t) part headed force s f is parts = absurd (false≢true (ap is_in_score is))
-body_by_phase (behind book) score_part.Heads headed force s f is parts = absurd parts
-body_by_phase (behind book) score_part.Body headed force s f is parts = record { inside = record { behind_them = tt; body = refl }; written = parts }
-body_by_phase (behind book) score_part.Over headed force s f is parts = absurd parts
+body_by_phase (behind book) part headed force s f is parts = record { inside = record { behind_them = tt; body = parts.in_part }; written = parts.written_so }
 body_by_phase over part headed force s f is parts = absurd parts
 
--- An engine that runs, and whose decoder may be told.
-pub record Runs (e : EngineState) : Type 0 where
-  pub runs : is_none e.written.ended ≡ true
-  pub step : RunsInStep e.decoder e.heads e.score e.written
-  pub tells : TellsInStep e.decoder e.score e.written
-  pub decoder : MayBeTold e.decoder.limit e.decoder.taken e.decoder.place e.decoder.pending (is_after_cr e.decoder)
-
 -- In the body it tells of a text.
-record TellsThere (e : EngineState) : Type 0 where
+pub record TellsThere (e : EngineState) : Type 0 where
   pub inside : IsInBody e.heads.progress e.score.part
   pub headed : e.written.headed ≡ true
   pub tells : TellsInBody e.decoder e.score
   pub stands : StandsAt e.score.held.next e.score.body.part
 
-tells_there : (e : EngineState) → Runs e → IsBehindHeads e.heads.progress e.score.part e.written.headed → TellsThere e
+tells_there : (e : EngineState) → MayRun e → IsBehindHeads e.heads.progress e.score.part e.written.headed → TellsThere e
 tells_there e run is =
     let tells = run.tells.body is.written run.decoder.within in
     record {
@@ -110,27 +100,18 @@ tells_there e run is =
       stands = subst (λ (at : Place). StandsAt at e.score.body.part) (sym tells.next) (run.step.counts run.decoder.within is.inside.body);
     }
 
-module _ (one other : EngineState) (run : Runs one) (other_run : Runs other) (headed : one.written.headed ≡ true) (same : state_of one ≡ state_of other) where
+module _ (one other : EngineState) (run : MayRun one) (other_run : MayRun other) (headed : one.written.headed ≡ true) (same : state_of one ≡ state_of other) where
   abbrev fields : ScoreFields
   fields = score_fields one.written.force one.score
 
-  here : TellsThere one
+  pub here : TellsThere one
   here = tells_there one run (record { inside = in_body one.heads.progress one.score.part one.written.headed headed run.step.parts; written = headed })
 
   phase : phase_fields other.heads.progress other.written.force other.score ≡ InScore fields
   phase = sym (ap (λ (s : StateFields). s.phase) same) ∙ phase_in_body one.heads.progress one.written.force one.score here.inside.behind_them
 
-  there : TellsThere other
+  pub there : TellsThere other
   there = tells_there other other_run (body_by_phase other.heads.progress other.score.part other.written.headed other.written.force other.score fields phase other_run.step.parts)
-
-  pub one_behind : IsBehind one.heads.progress
-  one_behind = here.inside.behind_them
-
-  pub other_behind : IsBehind other.heads.progress
-  other_behind = there.inside.behind_them
-
-  pub other_headed : other.written.headed ≡ true
-  other_headed = there.headed
 
   -- the characters that come stand one behind the other
   pub come_in_line : (ending : SourceEnding) (bytes : List ℕ) → StandInLine one.score.held.next (head_events_left one.heads ending (items_left one ending bytes))
@@ -138,10 +119,10 @@ module _ (one other : EngineState) (run : Runs one) (other_run : Runs other) (he
       let limit = run.step.limit in
       let most = one.score.limits.in_range.input_most in
       subst (λ (at : Place). StandInLine at (head_events_left one.heads ending (items_left one ending bytes))) (sym here.tells.next)
-      (left_in_line one (record { column = run.step.column; near = run.step.near }) run.decoder.within (omega (arith, limit, most)) one_behind ending bytes)
+      (left_in_line one (record { column = run.step.column; near = run.step.near }) run.decoder.within (omega (arith, limit, most)) here.inside.behind_them ending bytes)
 
   same_fields : fields ≡ score_fields other.written.force other.score
-  same_fields = sym (ap (fields_in fields) phase) ∙ ap (fields_in fields) (phase_in_body other.heads.progress other.written.force other.score other_behind)
+  same_fields = sym (ap (fields_in fields) phase) ∙ ap (fields_in fields) (phase_in_body other.heads.progress other.written.force other.score there.inside.behind_them)
 
   module _ (within : IsToldWithin one.score) (other_within : IsToldWithin other.score) where
     abbrev held : Option UnplacedSyllable
@@ -196,7 +177,7 @@ module _ (one other : EngineState) (run : Runs one) (other_run : Runs other) (he
 
     pub saved_in_body : AreSavedAlike one.score other.score
     saved_in_body = record {
-      runs = score_in_body one.decoder one.heads one.score one.written run.step headed;
+      runs = score_in_body one.score here.inside.body;
       limits = limits_saved one other same;
       before = same_before;
       told = here.tells.told;

@@ -6,7 +6,6 @@ use Rattle.std.proofs.lemmas.Str.{IsUtf8-encode, chars-append, chars-nil}
 use Rattle.std.specs.List.{All}
 use Rattle.std.specs.Str.{chars}
 use Rattle.gabc_places.proofs.texts.CharactersOfStrings.{chars-encode}
-use Rattle.gabc_places.specs.BoundedList.{BoundedList}
 use Rattle.gabc_places.specs.DecoderMachine.{DecoderState}
 use Rattle.gabc_places.specs.DecoderTells.{TellTheSame}
 use Rattle.gabc_places.specs.witness.DecoderEvents as decoder
@@ -25,11 +24,13 @@ use Rattle.gregorio.specs.declared.run_ending.RunEnding.{RunEnding}
 use Rattle.gregorio_state.specs.Fields.{PhaseFields, StateFields, InHeaders, InScore}
 use Rattle.gregorio.specs.declared.source_ending.SourceEnding.{SourceEnding}
 use Rattle.gregorio.specs.Saved.{phase_fields, state_of}
+use Rattle.gregorio.specs.Engine.{StillRuns}
+use Rattle.gregorio.specs.witness.MayRun.{MayRun}
 use Rattle.gregorio.specs.witness.Engine.{EngineState, book_behind, head_events_left, items_left, streams_from, streams_left}
-use Rattle.gregorio.specs.machine.InStep.{AreInOnePart, HasForce, RunsInStep}
+use Rattle.gregorio.specs.machine.InStep.{AreInOnePart, RunsInStep}
 use Rattle.gregorio.specs.machine.ReadsHeaders.{IsReadSoFar}
 use Rattle.gregorio.specs.machine.SavedAlike.{WriteTheSame}
-use Rattle.gregorio.specs.machine.ScoreWriter.{ScoreWriterState}
+use Rattle.gregorio.specs.machine.ScoreWriter.{IsSteady, ScoreWriterState}
 use Rattle.gabc_places.proofs.LimitsAreNumbers.{same_limits}
 use Rattle.gregorio.proofs.pieces.StreamsAgree.{no_matter_which_book, streams_agree}
 
@@ -74,12 +75,8 @@ record IsInHeads (progress : HeadProgress) (part : ScorePart) (headed : Bool) (t
   pub bytes : encode_utf8_all (text_held progress) ≡ text
 
 heads_by_written : (progress : HeadProgress) (part : ScorePart) (headed : Bool) → headed ≡ false → AreInOnePart progress part headed → IsInHeads progress part headed (encode_utf8_all (text_held progress))
-heads_by_written (reading t) score_part.Heads headed is parts = record { reads = refl; in_heads = refl; unheaded = is; bytes = refl }
-heads_by_written (reading t) score_part.Body headed is parts = absurd parts
-heads_by_written (reading t) score_part.Over headed is parts = absurd parts
-heads_by_written (behind book) score_part.Heads headed is parts = absurd parts
-heads_by_written (behind book) score_part.Body headed is parts = absurd (false≢true (sym is ∙ parts))
-heads_by_written (behind book) score_part.Over headed is parts = absurd parts
+heads_by_written (reading t) part headed is parts = record { reads = refl; in_heads = parts.in_part; unheaded = is; bytes = refl }
+heads_by_written (behind book) part headed is parts = absurd (false≢true (sym is ∙ parts.written_so))
 heads_by_written over part headed is parts = absurd parts
 
 abbrev is_in_headers : PhaseFields → Bool
@@ -95,9 +92,7 @@ phase_by_progress progress force s reads = ap (λ (p : HeadProgress). phase_fiel
 
 heads_by_phase : (progress : HeadProgress) (part : ScorePart) (headed : Bool) (force : InForce) (s : ScoreStageState) (text : List ℕ) → phase_fields progress force s ≡ InHeaders text → AreInOnePart progress part headed
     → IsInHeads progress part headed text
-heads_by_phase (reading t) score_part.Heads headed force s text is parts = record { reads = refl; in_heads = refl; unheaded = parts; bytes = ap text_in is }
-heads_by_phase (reading t) score_part.Body headed force s text is parts = absurd parts
-heads_by_phase (reading t) score_part.Over headed force s text is parts = absurd parts
+heads_by_phase (reading t) part headed force s text is parts = record { reads = refl; in_heads = parts.in_part; unheaded = parts.written_so; bytes = ap text_in is }
 heads_by_phase (behind book) part headed force s text is parts = absurd (false≢true (ap is_in_headers is))
 heads_by_phase over part headed force s text is parts = absurd parts
 
@@ -118,14 +113,6 @@ same_heads one other limits part other_part from_heads =
     ap (λ (p : ScorePart). left_of (record one { part = p }) from_heads) part
     ∙ (ap (λ (l : Limits). left_of (record one { part = score_part.Heads; limits = l }) from_heads) limits
     ∙ ap (λ (p : ScorePart). left_of (record other { part = p }) from_heads) (sym other_part))
-
--- An engine that runs in its headers.
-pub record RunsInHeads (e : EngineState) : Type 0 where
-  pub runs : is_none e.written.ended ≡ true
-  pub step : RunsInStep e.decoder e.heads e.score e.written
-  pub force : HasForce e.written
-  pub read : IsReadSoFar e.heads.limits e.heads.progress e.decoder.place e.written.errors
-  pub limits : e.heads.limits ≡ e.score.limits
 
 -- Two decoders run under one limit, and tell the same.
 pub record AreDecodersAlike (one other : DecoderState) : Type 0 where
@@ -153,7 +140,7 @@ pub record AreAlikeInHeads (one other : EngineState) : Type 0 where
   pub text : text_held one.heads.progress ≡ text_held other.heads.progress
   pub gives : (from_heads : List HeadEvent) → WriteTheSame one.score other.score from_heads
 
-pub saved_in_heads : (one other : EngineState) → RunsInHeads one → RunsInHeads other → one.written.headed ≡ false → one.written.name ≡ other.written.name → state_of one ≡ state_of other → AreAlikeInHeads one other
+pub saved_in_heads : (one other : EngineState) → MayRun one → MayRun other → one.written.headed ≡ false → one.written.name ≡ other.written.name → state_of one ≡ state_of other → AreAlikeInHeads one other
 saved_in_heads one other run other_run headed name same =
     let first = heads_by_written one.heads.progress one.score.part one.written.headed headed run.step.parts in
     let phase : phase_fields other.heads.progress other.written.force other.score ≡ InHeaders (encode_utf8_all (text_held one.heads.progress)) =
@@ -195,3 +182,7 @@ heads_agree one other alike decoded given ending bytes =
 
 abbrev pub shown : DecoderState → HeaderStageState → ScoreWriterState → EngineState
 shown d h w = record { decoder = d; heads = h; score = w.score; written = w.writer.written; output = w.writer.out.items; messages = w.writer.messages.items }
+
+-- what no call changes is enough for it to run the same job
+pub still_runs : (d e : DecoderState) (h k : HeaderStageState) (w new : ScoreWriterState) → IsSteady w new → StillRuns (shown d h w) (shown e k new)
+still_runs d e h k w new s job limits runs = record { limits_are = s.limits ∙ runs.limits_are; format = s.format ∙ runs.format; name = s.name ∙ runs.name; all_warnings = s.all_warnings ∙ runs.all_warnings }

@@ -1,46 +1,220 @@
--- What an engine that runs saves is a state, by its parts.
-use Rattle.std.proofs.Common.{◌≡◌, ◌+◌, Option, None, ap, arith}
-use Rattle.gabc_headers.specs.witness.HeadEvents.{HeadProgress, reading, behind, over}
-use Rattle.gabc_score.specs.ScoreTells.{held_of}
+-- What an engine that runs saves are fields that may be those of a state.
+use Rattle.std.proofs.Common.{◌≡◌, ℕ, ◌+◌, ◌<◌, ◌≤◌, ◌==◌, ◌||◌, List, [], ◌∷◌, ◌++◌, length, encode_utf8, encode_utf8_all, Bool, true, is_some, Option, Some, None, IfSome, refl, ap, sym, subst, ◌∙◌, arith}
+use Rattle.std.specs.List.{All}
+use Rattle.std.specs.Str.{chars}
+use Rattle.std.proofs.lemmas.Bool.Decides.{nat_tests}
+use Rattle.std.proofs.lemmas.List.Elements.{All-cons, All-head, All-nil, All-tail}
+use Rattle.std.proofs.lemmas.Str.{IsUtf8-append, IsUtf8-encode, IsUtf8-nil, chars-append, chars-nil}
+use Rattle.gabc_places.specs.DecoderTells.{MayBeTold, is_after_cr}
+use Rattle.gabc_places.specs.TextOfAnInput.{IsPlain, IsText, IsTextCharacter}
+use Rattle.gabc_places.specs.declared.limits.Limits.{Limits}
+use Rattle.gabc_places.specs.declared.place.Place.{Place}
+use Rattle.gabc_places.proofs.texts.CharactersOfStrings.{chars-encode}
+use Rattle.gabc_headers.specs.HeldText.{IsHeld, IsWithinHeaders}
+use Rattle.gabc_headers.specs.witness.HeadEvents.{HeadProgress, reading, behind, over, IsInHeaders}
+use Rattle.gabc_score.specs.Canonical.{canonical}
+use Rattle.gabc_score.specs.ScoreTells.{before_of, before_with, held_in_body, held_of, in_body as in_body_of, openers_of}
 use Rattle.gabc_score.specs.Syllable.{UnplacedSyllable}
-use Rattle.gregorio_state.specs.Conditions.{AreBeforeHeld, ArePhaseFields, AreScoreFields, AreStateFields}
-use Rattle.gregorio_state.specs.Fields.{PhaseFields, ScoreFields}
+use Rattle.gabc_score.specs.ToldWithin as told
+use Rattle.gabc_score.specs.ToldWithin.{IsToldWithin, TellsOfText, whole_syllables, written_behind}
+use Rattle.gabc_score.specs.declared.before.Preceding.{Preceding}
+use Rattle.gabc_score.specs.declared.body_tells.Openers.{Openers}
+use Rattle.gabc_score.specs.declared.score_machine.ScorePart.{ScorePart}
+use Rattle.gabc_score.specs.declared.score_machine.ScorePart.TheVariants as score_part
+use Rattle.gabc_score.specs.witness.BodyStage.{BodyStageState}
+use Rattle.gabc_score.specs.witness.MayStand.{MayStand}
+use Rattle.gabc_score.specs.witness.ScoreStage.{ScoreStageState}
+use Rattle.gregorio_state.specs.Conditions.{AreBeforeHeld, AreCounts, AreOpeners, ArePhaseFields, AreScoreFields, AreStateFields, BeginsWithLf, IsHeldWithin}
+use Rattle.gregorio_state.specs.Fields.{ScoreFields}
 use Rattle.gregorio.specs.Saved.{held_count, held_text, phase_fields, score_fields, state_of}
-use Rattle.gregorio.specs.machine.PartsOfStates.{AreBeforeHeldIn, AreHeaderFieldsIn, IsPhaseTold, IsScoreTold, IsStateOfInput}
+use Rattle.gregorio.specs.machine.ClefInForce.{HasClefOfSounds, IsClefIn}
+use Rattle.gregorio.specs.machine.InStep.{AreInOnePart}
+use Rattle.gregorio.specs.machine.ReadsHeaders.{IsReadSoFar}
+use Rattle.gregorio.specs.machine.TellsInStep.{TellsInBody}
 use Rattle.gregorio.specs.witness.Engine.{EngineState}
+use Rattle.gregorio.specs.witness.MayRun.{MayRun}
+use Rattle.gregorio.proofs.setting_down.KeptAsReported.{kept_told}
 
-module _ (e : EngineState) where
-  -- none is held only where none is whole
-  abbrev HoldsSome : Type 0
-  HoldsSome = held_of e.score ≡ None → e.score.before.syllables ≡ 0
+-- ---- the bytes of a text
 
-  abbrev fields : ScoreFields
-  fields = score_fields e.written.force e.score
+no_text : IsText []
+no_text = record { utf8 = IsUtf8-nil; plain = subst (All IsPlain) (sym chars-nil) (All-nil IsPlain) }
 
-  holds_some : IsScoreTold (state_of e) fields → HoldsSome
-  holds_some told none =
-      let whole : e.score.before.syllables + held_count (held_of e.score) ≡ 0 = told.held.none.0 (ap (λ (held : Option UnplacedSyllable). held_text e.score.before held) none) in
-      omega (arith, whole)
+text_bytes : (t : List ℕ) → All IsTextCharacter t → IsText (encode_utf8_all t)
+text_bytes [] text = no_text
+text_bytes (c ∷ t) text =
+    let here = All-head IsTextCharacter c t text in
+    let rest = text_bytes t (All-tail IsTextCharacter c t text) in
+    let first = IsUtf8-encode c here.scalar in
+    let spelled : chars (encode_utf8 c ++ encode_utf8_all t) ≡ c ∷ chars (encode_utf8_all t) =
+    chars-append (encode_utf8 c) (encode_utf8_all t) first ∙ ap (λ (cs : List ℕ). cs ++ chars (encode_utf8_all t)) (chars-encode c here.scalar) in
+    record {
+      utf8 = IsUtf8-append (encode_utf8 c) (encode_utf8_all t) first rest.utf8;
+      plain = subst (All IsPlain) (sym spelled) (All-cons IsPlain c (chars (encode_utf8_all t)) here.plain rest.plain);
+    }
 
-  score_is_whole : IsScoreTold (state_of e) fields → (HoldsSome → AreBeforeHeld e.written.format fields) → AreScoreFields (state_of e) fields
-  score_is_whole told before = record {
-    counts = told.counts;
-    before = before (holds_some told);
-    held = told.held;
-    openers = told.openers;
-    comment = told.comment;
-    kept = told.kept;
-    kept_short = told.kept_short;
+-- ---- the syllable that is held
+
+-- a syllable that is held is whole
+held_is_whole : (part : ScorePart) (made : List UnplacedSyllable) → held_count (held_in_body part made) ≤ length made
+held_is_whole score_part.Body [] = omega arith
+held_is_whole score_part.Body (m ∷ ms) = omega arith
+held_is_whole score_part.Heads made = omega arith
+held_is_whole score_part.Over made = omega arith
+
+-- so those before it and it are among the whole ones
+held_among_whole : (s : ScoreStageState) → s.before.syllables + held_count (held_of s) ≤ whole_syllables s
+held_among_whole s = let few = held_is_whole s.part s.held.gathered.made in omega (arith, few)
+
+module _ (limits : Limits) (p : Preceding) where
+  abbrev Within : Option UnplacedSyllable → Type 0
+  Within held = IfSome held (told.IsHeldWithin limits p)
+
+  held_is_text : (held : Option UnplacedSyllable) → IfSome held (λ m. IsText (written_behind p m)) → IsText (held_text p held)
+  held_is_text None t = no_text
+  held_is_text (Some m) t = t
+
+  held_is_short : (held : Option UnplacedSyllable) → Within held → length (held_text p held) ≤ limits.syllable
+  held_is_short None within = omega arith
+  held_is_short (Some m) within = within.short
+
+  file_is_below : (held : Option UnplacedSyllable) → Within held → p.canonical < limits.input → p.canonical + length (held_text p held) < limits.input
+  file_is_below None within below = omega (arith, below)
+  file_is_below (Some m) within below = within.file
+
+  none_whole : (held : Option UnplacedSyllable) → Within held → held_text p held ≡ [] → (held ≡ None → p.syllables ≡ 0) → p.syllables + held_count held ≡ 0
+  none_whole None within none any = let n = any refl in omega (arith, n)
+  none_whole (Some m) within none any = let some = within.some in let l = ap (λ (bytes : List ℕ). length bytes) none in absurd (omega (arith, some, l))
+
+  nothing_held : (held : Option UnplacedSyllable) → p.syllables + held_count held ≡ 0 → held_text p held ≡ []
+  nothing_held None none = refl
+  nothing_held (Some m) none = absurd (omega (arith, none))
+
+  first_begins : (held : Option UnplacedSyllable) → (held ≡ None → p.syllables ≡ 0) → p.syllables + held_count held ≡ 1 → BeginsWithLf (held_text p held)
+  first_begins None any one = let none = any refl in absurd (omega (arith, none, one))
+  first_begins (Some m) any one = subst (λ (first : Bool). BeginsWithLf (canonical (first || m.text.word_start) m)) (sym first_one) refl
+    where
+      first_one : (p.syllables == 0) ≡ true
+      first_one = let none : p.syllables ≡ 0 = omega (arith, one) in grind (arith, nat_tests, none)
+
+-- where at most one syllable is whole, none stands before the one that is held
+none_before : (n : ℕ) (held : Option UnplacedSyllable) → (held ≡ None → n ≡ 0) → n + held_count held ≤ 1 → n ≡ 0
+none_before n None none few = none refl
+none_before n (Some m) none few = omega (arith, few)
+
+-- ---- the fields
+
+openers_are : (next place : Place) (o : Openers) → next ≡ place → told.AreOpenersBefore next o → told.AreOpenersBefore place o
+openers_are next place o is h = subst (λ (at : Place). told.AreOpenersBefore at o) is h
+
+in_body_told : (part : ScorePart) (body : BodyStageState) (p : Preceding) → part ≡ score_part.Body → is_some (in_body_of part (before_with body p)) ≡ true
+in_body_told part body p here = rw here refl
+
+pub score_in_body : (s : ScoreStageState) → s.part ≡ score_part.Body → is_some (before_of s) ≡ true
+score_in_body s body = in_body_told s.part s.body s.before body
+
+-- the laws of the parts
+pub record PartsTell : Type 0 where
+  pub headers : (limits : Limits) (t : List ℕ) → 1 ≤ limits.header → IsHeld limits t → IsWithinHeaders limits.header (encode_utf8_all t)
+  pub within : (s : ScoreStageState) → MayStand s → is_some (before_of s) ≡ true → IsToldWithin s
+  pub held : (s : ScoreStageState) → MayStand s → TellsOfText s → IfSome (held_of s) (λ m. IsText (written_behind s.before m))
+
+module _ (parts : PartsTell) (e : EngineState) (may : MayRun e) (line : IfSome e.written.force.clef (λ clef. (1 ≤ clef.line) × (clef.line ≤ 5))) (heights : length e.written.force.alters ≡ 15)
+    (clef : HasClefOfSounds e.score e.written) where
+  module _ (body : e.score.part ≡ score_part.Body) (headed : e.written.headed ≡ true) where
+    abbrev f : ScoreFields
+    f = score_fields e.written.force e.score
+
+    abbrev held : Option UnplacedSyllable
+    held = held_of e.score
+
+    within : IsToldWithin e.score
+    within = parts.within e.score may.score (score_in_body e.score body)
+
+    in_step : TellsInBody e.decoder e.score
+    in_step = may.tells.body headed may.decoder.within
+
+    of_text : told.IsToldOfText e.score
+    of_text = in_step.told body
+
+    any : held ≡ None → e.score.before.syllables ≡ 0
+    any = in_step.holds body
+
+    score_counts : AreCounts (state_of e) f
+    score_counts =
+        let c = of_text.counts in
+        let least = c.headers in
+        let taken = may.step.taken headed in
+        let among = held_among_whole e.score in
+        record {
+          nabc_lines = c.few_lines;
+          macros = c.ten_macros;
+          syllables = omega (arith, taken, among);
+          canonical = omega (arith, least);
+          below = file_is_below e.score.limits e.score.before held within.held c.below;
+        }
+
+    score_before : AreBeforeHeld e.written.format f
+    score_before =
+        let none : e.score.before.syllables + held_count held ≤ 1 → e.score.before.syllables ≡ 0 = none_before e.score.before.syllables held any in
+        record {
+          line = line;
+          heights = heights;
+          sounded = subst (λ (part : ScorePart). IsClefIn part e.score.before.sounded e.written.force.clef) body (clef may.runs);
+          outset = λ few.
+              let first = within.outset (none few) in
+              record {
+                eu = ap (λ (p : Preceding). p.spans.eu) first;
+                nlba = ap (λ (p : Preceding). p.spans.nlba) first;
+                sounded = ap (λ (p : Preceding). p.sounded) first;
+                in_force = may.force.outset (may.step.count headed ∙ none few);
+              };
+          untracked = may.force.untracked;
+        }
+
+    score_held : IsHeldWithin e.score.limits.syllable f
+    score_held = record {
+      is_text = held_is_text e.score.limits e.score.before held (parts.held e.score may.score in_step.told);
+      short = held_is_short e.score.limits e.score.before held within.held;
+      none = (λ none. none_whole e.score.limits e.score.before held within.held none any, λ none. nothing_held e.score.limits e.score.before held none);
+      first = first_begins e.score.limits e.score.before held any;
+    }
+
+    score_openers : AreOpeners e.decoder.place f
+    score_openers =
+        let o = openers_of e.score.body.part in
+        let h = openers_are e.score.held.next e.decoder.place o in_step.next of_text.openers in
+        record { notes = h.notes; inner = h.inner; in_order = h.in_order }
+
+    score_is_whole : AreScoreFields (state_of e) f
+    score_is_whole = record {
+      counts = score_counts;
+      before = score_before;
+      held = score_held;
+      openers = score_openers;
+      comment = record { cr = in_step.comment; inner = within.comment };
+      kept = subst IsText (sym (kept_told e.score.part e.score.held.gathered.builder.kept body)) of_text.reading;
+      kept_short = within.reading;
+    }
+
+  phase_is_whole : (p : HeadProgress) → AreInOnePart p e.score.part e.written.headed → IsReadSoFar e.score.limits p e.decoder.place e.written.errors → ArePhaseFields (state_of e) (phase_fields p e.written.force e.score)
+  phase_is_whole (reading t) at read = record {
+    is_text = text_bytes t read.text;
+    within = parts.headers e.score.limits t (let least = e.score.limits.in_range.header_least in omega (arith, least)) read.gives.held;
+  }
+  phase_is_whole (behind book) at read = score_is_whole at.in_part at.written_so
+  phase_is_whole over at read = absurd at
+
+  pub state_is_whole : AreStateFields (state_of e)
+  state_is_whole = record {
+    limits = e.score.limits.in_range;
+    decoder = subst (λ (n : ℕ). MayBeTold n e.decoder.taken e.decoder.place e.decoder.pending (is_after_cr e.decoder)) may.step.limit may.decoder;
+    phase = phase_is_whole e.heads.progress may.step.parts (subst (λ (limits : Limits). IsReadSoFar limits e.heads.progress e.decoder.place e.written.errors) may.limits may.read);
   }
 
-  abbrev phase : HeadProgress → PhaseFields
-  phase p = phase_fields p e.written.force e.score
+-- ---- after the headers
 
-  phase_is_whole : (p : HeadProgress) → AreHeaderFieldsIn (state_of e) (phase p) → IsPhaseTold (state_of e) (phase p) → (HoldsSome → AreBeforeHeldIn e.written.format (phase p)) → ArePhaseFields (state_of e) (phase p)
-  phase_is_whole (reading t) headers told before = headers
-  phase_is_whole (behind book) headers told before = score_is_whole told before
-  phase_is_whole over headers told before = score_is_whole told before
-
-  pub state_is_whole : IsStateOfInput (state_of e) → AreHeaderFieldsIn (state_of e) (state_of e).phase → IsPhaseTold (state_of e) (state_of e).phase → (HoldsSome → AreBeforeHeldIn e.written.format (state_of e).phase)
-      → AreStateFields (state_of e)
-  state_is_whole input headers told before = record { limits = input.limits; decoder = input.decoder; phase = phase_is_whole e.heads.progress headers told before }
+pub is_in_the_body : (progress : HeadProgress) (part : ScorePart) (headed : Bool) → (IsInHeaders progress → ⊥) → AreInOnePart progress part headed → part ≡ score_part.Body
+is_in_the_body (reading t) part headed past parts = absurd (past tt)
+is_in_the_body (behind book) part headed past parts = parts.in_part
+is_in_the_body over part headed past parts = absurd parts

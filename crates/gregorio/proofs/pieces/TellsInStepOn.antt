@@ -1,5 +1,5 @@
 -- A score goes on telling of a text in step with its decoder.
-use Rattle.std.proofs.Common.{◌≡◌, ℕ, ◌+◌, ◌^◌, ◌<◌, ◌≤◌, List, [], ◌∷◌, ◌++◌, map, Bool, true, false, Option, Some, is_none, Result, Ok, Err, if◌then◌else◌, refl, ap, sym, subst, ◌∙◌, arith}
+use Rattle.std.proofs.Common.{◌≡◌, ℕ, ◌+◌, ◌^◌, ◌<◌, ◌≤◌, List, [], ◌∷◌, ◌++◌, map, Bool, true, false, is_none, Result, Ok, Err, if◌then◌else◌, refl, ap, sym, subst, ◌∙◌, arith}
 use Rattle.std.proofs.lemmas.Bool.{false≢true}
 use Rattle.std.proofs.lemmas.List.Elements.{All-head, All-tail}
 use Rattle.std.specs.List.{All}
@@ -26,13 +26,12 @@ use Rattle.gabc_score.specs.ScoreStage.{IsPlaceBelow, MayCome, next_past}
 use Rattle.gabc_score.specs.ScoreTells.{StandsAt, is_in_front, moved_part, moved_to, openers_of}
 use Rattle.gabc_score.specs.ToldWithin.{AreOpenersBefore, IsPlace, TellsOfText}
 use Rattle.gabc_score.specs.witness.ScoreStage.{ScoreStageState}
-use Rattle.gregorio.specs.declared.run_ending.RunEnding.{RunEnding}
 use Rattle.gregorio.specs.witness.Engine.{Written}
 use Rattle.gregorio.specs.machine.Engine.{event_of_item}
 use Rattle.gregorio.specs.machine.InStep.{AreInOnePart, PassesAll, PassesOn, RunsInStep, StayInStep}
 use Rattle.gregorio.specs.machine.ScoreWriter.{ScoreWriterState}
 use Rattle.gregorio.specs.machine.TellsInStep.{BeginsBody, IsInHeads, IsTelling, StayTelling, TellsInBody, begun}
-use Rattle.gregorio.proofs.pieces.HeadersEnd.{HeadersEnd, HeadersEndAt, stands_in_front}
+use Rattle.gregorio.proofs.pieces.HeadersStayInStep.{HeadersEndAt, HeadersEndSo, stands_in_front}
 use Rattle.gregorio.proofs.pieces.PartsStayInStep.{in_body, same_next}
 use Rattle.gregorio.proofs.pieces.WrittenGoesOn.{running_before, went_on_past}
 
@@ -173,7 +172,7 @@ begun_here : (item : Result Char Fault) (x : Char) (headed : Bool) (s : ScoreSta
 begun_here item x headed s is on = rw (is, on) refl
 
 module _ (h now : HeaderStageState) (old mid new : ScoreWriterState) (item : Result Char Fault) (come : HeadersMayCome) (percent : EndsWithPercent h) (all : PassesAll old (events_of_input h.limits h.progress item) mid)
-    (stay : StayInStep h old (item ∷ []) now mid) (ends : mid.writer.written.headed ≡ true → HeadersEnd h.limits h.progress item mid.score) (begins : BeginsBody item mid new) where
+    (stay : StayInStep h old (item ∷ []) now mid) (ends : HeadersEndSo h item mid) (begins : BeginsBody item mid new) where
   same_written : new.writer.written ≡ mid.writer.written
   same_written = ap (λ (s : ScoreWriterState). s.writer.written) begins.is
 
@@ -200,19 +199,12 @@ fresh_tells limits d s is unheaded = λ running.
     let line = ap (λ (x : DecoderState). x.place.line) is in
     record { line = omega (arith, line); body = λ headed. absurd (false≢true (sym unheaded ∙ headed)) }
 
-pub over_tells : (d : DecoderState) (s : ScoreWriterState) (how : RunEnding) → s.writer.written.ended ≡ Some how → IsTelling d s
-over_tells d s how over_now = λ running. absurd (false≢true (sym (ap (λ (o : Option RunEnding). is_none o) over_now) ∙ running))
-
 -- ---- the headers
 
 heads_part : (progress : HeadProgress) (part : ScorePart) (headed : Bool) → headed ≡ false → AreInOnePart progress part headed → part ≡ score_part.Heads
-heads_part (reading t) score_part.Heads headed un parts = refl
-heads_part (reading t) score_part.Body headed un parts = absurd parts
-heads_part (reading t) score_part.Over headed un parts = absurd parts
-heads_part (behind book) score_part.Heads headed un parts = absurd parts
-heads_part (behind book) score_part.Body headed un parts = absurd (false≢true (sym un ∙ parts))
-heads_part (behind book) score_part.Over headed un parts = absurd parts
+heads_part (reading t) part headed un parts = parts.in_part
+heads_part (behind book) part headed un parts = absurd (false≢true (sym un ∙ parts.written_so))
 heads_part over part headed un parts = absurd parts
 
 pub in_heads_yet : (d : DecoderState) (h : HeaderStageState) (w : ScoreWriterState) → (is_none w.writer.written.ended ≡ true → RunsInStep d h w.score w.writer.written) → IsInHeads w
-in_heads_yet d h w ran = λ running un. heads_part h.progress w.score.part w.writer.written.headed un (ran running).parts
+in_heads_yet d h w ran = λ running un. record { part = heads_part h.progress w.score.part w.writer.written.headed un (ran running).parts; none = (ran running).none un }

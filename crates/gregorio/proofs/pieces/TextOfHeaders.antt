@@ -1,5 +1,5 @@
 -- Of the text of headers that an engine reads the place and the errors are those that it gives.
-use Rattle.std.proofs.Common.{◌≡◌, ℕ, ◌||◌, List, [], ◌∷◌, ◌++◌, Bool, true, false, is_none, Option, Some, Result, Ok, Err, if◌then◌else◌, refl, ap, sym, subst, ◌∙◌}
+use Rattle.std.proofs.Common.{◌≡◌, ℕ, ◌||◌, List, [], ◌∷◌, ◌++◌, Bool, true, false, is_none, Result, Ok, Err, if◌then◌else◌, refl, ap, sym, subst, ◌∙◌}
 use Rattle.std.proofs.Math.Bool.{or-false, or_assoc}
 use Rattle.std.proofs.lemmas.Bool.{false≢true}
 use Rattle.std.specs.Char.{IsScalar}
@@ -24,7 +24,6 @@ use Rattle.gabc_headers.specs.HeldText.{IsHeld, findings_held}
 use Rattle.gabc_headers.specs.witness.HeadEvents.{HeaderStageState, HeadProgress, reading, behind, over, events_by, events_of_input, fresh_stage, new_findings, progress_after, progress_by, stage_after}
 use Rattle.gabc_score.specs.ScoreEvents.{ScoreOutput}
 use Rattle.gabc_score.specs.declared.score_machine.ScorePart.{ScorePart}
-use Rattle.gabc_score.specs.declared.score_machine.ScorePart.TheVariants as score_part
 use Rattle.gregorio.specs.Outcome.{is_error_finding}
 use Rattle.gregorio.specs.machine.InStep.{AreInOnePart, PassesAll, written_at}
 use Rattle.gregorio.specs.machine.ReadsHeaders.{IsReadAs, IsReadSoFar, ReadsHeaders, ReadsOn}
@@ -33,23 +32,22 @@ use Rattle.gregorio.specs.machine.ScoreWriter.{ScoreWriterState, begun_again}
 use Rattle.gregorio.specs.witness.Engine.{Written, behind_outputs}
 use Rattle.gregorio.proofs.pieces.HeadersStayInStep.{HeadsYet, found_events, found_passed, in_heads}
 use Rattle.gregorio.proofs.pieces.WrittenGoesOn.{running_before, went_on_past}
-use Rattle.gregorio.specs.declared.run_ending.RunEnding.{RunEnding}
 
 -- ---- what is found
 
 -- in the headers the errors among findings are told
-found_errors : (fs : List Finding) (old new : ScoreWriterState) → HeadsYet old → PassesAll old (found_events fs) new → is_none new.writer.written.ended ≡ true
+found_errors : (limits : Limits) (fs : List Finding) (old new : ScoreWriterState) → HeadsYet limits old → PassesAll old (found_events fs) new → is_none new.writer.written.ended ≡ true
     → new.writer.written.errors ≡ (old.writer.written.errors || list_any is_error_finding fs)
-found_errors [] old new yet all running = ap (λ (s : ScoreWriterState). s.writer.written.errors) (sym all) ∙ sym (or-false old.writer.written.errors)
-found_errors (f ∷ fs) old new yet all running =
+found_errors limits [] old new yet all running = ap (λ (s : ScoreWriterState). s.writer.written.errors) (sym all) ∙ sym (or-false old.writer.written.errors)
+found_errors limits (f ∷ fs) old new yet all running =
     let mid = all.0 in
     let passes = all.1.0 in
     let w = written_at old.writer.written (head_event.Found f) in
     let here = running_before (found_events fs) mid new all.1.1 running in
     let before = (went_on_past old.score w (head_event.Found f) mid passes here).before in
     let first : mid.writer.written.errors ≡ (old.writer.written.errors || is_error_finding f) =
-    ap (λ (v : Written). v.errors) passes.written ∙ ap (λ (outputs : List ScoreOutput). (behind_outputs w outputs).errors) (passes.in_heads (yet before).part) in
-    found_errors fs mid new (found_passed f old mid passes yet) all.1.1 running
+    ap (λ (v : Written). v.errors) passes.written ∙ ap (λ (outputs : List ScoreOutput). (behind_outputs w outputs).errors) (passes.in_heads (yet.yet before).part) in
+    found_errors limits fs mid new (found_passed limits f old mid passes yet) all.1.1 running
     ∙ (ap (λ (b : Bool). b || list_any is_error_finding fs) first
     ∙ or_assoc old.writer.written.errors (is_error_finding f) (list_any is_error_finding fs))
 
@@ -59,7 +57,7 @@ abbrev pub IsFoundBehind : Type 0
 IsFoundBehind = (limits : Limits) (t : List ℕ) (c : ℕ) → All IsScalar t → IsScalar c → IsHeld limits t → IsHeld limits (t ++ c ∷ [])
     → findings_held limits (t ++ c ∷ []) ≡ findings_held limits t ++ new_findings limits t (t ++ c ∷ [])
 
-module _ (law : IsFoundBehind) (limits : Limits) (t : List ℕ) (x : Char) (plain : IsTextCharacter x.c) (place : Place) (here : x.place ≡ place) (old new : ScoreWriterState) (yet : HeadsYet old)
+module _ (law : IsFoundBehind) (limits : Limits) (t : List ℕ) (x : Char) (plain : IsTextCharacter x.c) (place : Place) (here : x.place ≡ place) (old new : ScoreWriterState) (yet : HeadsYet old.score.limits old)
     (running : is_none new.writer.written.ended ≡ true) (read : IsReadAs limits t place old.writer.written.errors) where
   abbrev longer : List ℕ
   longer = t ++ x.c ∷ []
@@ -73,7 +71,7 @@ module _ (law : IsFoundBehind) (limits : Limits) (t : List ℕ) (x : Char) (plai
     gives = record {
       held = held;
       next = ap (λ (p : Place). next_place p x.c) (here ∙ read.gives.next) ∙ next_after t x.c;
-      errors = found_errors more old new yet all running
+      errors = found_errors old.score.limits more old new yet all running
           ∙ (ap (λ (b : Bool). b || list_any is_error_finding more) read.gives.errors
           ∙ sym (ap (λ (fs : List Finding). list_any is_error_finding fs) (law limits t x.c (All-weaker IsTextCharacter IsScalar (λ c is. is.scalar) t read.text) plain.scalar read.gives.held held)
           ∙ list_any-append is_error_finding (findings_held limits t) more));
@@ -93,7 +91,7 @@ module _ (law : IsFoundBehind) (limits : Limits) (t : List ℕ) (x : Char) (plai
 
 -- ---- an item
 
-module _ (law : IsFoundBehind) (limits : Limits) (t : List ℕ) (d e : DecoderState) (old new : ScoreWriterState) (yet : HeadsYet old) (running : is_none new.writer.written.ended ≡ true)
+module _ (law : IsFoundBehind) (limits : Limits) (t : List ℕ) (d e : DecoderState) (old new : ScoreWriterState) (yet : HeadsYet old.score.limits old) (running : is_none new.writer.written.ended ≡ true)
     (read : IsReadAs limits t d.place old.writer.written.errors) where
   read_item : (item : Result Char Fault) → MovesOn d (item ∷ []) e → PassesAll old (events_of_input limits (reading t) item) new
       → IsReadSoFar limits (progress_after limits (reading t) item) e.place new.writer.written.errors
@@ -110,7 +108,7 @@ heads_read_on law h old new item unheaded all d e moves ran reads running =
     let here = subst (λ (p : HeadProgress). PassesAll old (events_of_input h.limits p item) new) i.1.0 all in
     let read = subst (λ (p : HeadProgress). IsReadSoFar h.limits p d.place old.writer.written.errors) i.1.0 (reads before) in
     subst (λ (p : HeadProgress). IsReadSoFar h.limits (progress_after h.limits p item) e.place new.writer.written.errors) (sym i.1.0)
-    (read_item law h.limits i.0 d e old new (λ r. i.1.1) running read item moves here)
+    (read_item law h.limits i.0 d e old new i.1.1 running read item moves here)
 
 -- where the writer stays and its stage alone is changed
 pub reads_begun : (h : HeaderStageState) (old mid new : ScoreWriterState) (item : Result Char Fault) → new.writer ≡ mid.writer → ReadsOn h old (item ∷ []) (stage_after h item) mid
@@ -122,9 +120,7 @@ reads_begun h old mid new item same reads d e moves ran were =
 
 -- where they are written nothing of them is read any more
 pub headed_read : (limits : Limits) (progress : HeadProgress) (part : ScorePart) (headed : Bool) (place : Place) (error : Bool) → headed ≡ true → AreInOnePart progress part headed → IsReadSoFar limits progress place error
-headed_read limits (reading t) score_part.Heads headed place error is parts = absurd (false≢true (sym parts ∙ is))
-headed_read limits (reading t) score_part.Body headed place error is parts = absurd parts
-headed_read limits (reading t) score_part.Over headed place error is parts = absurd parts
+headed_read limits (reading t) part headed place error is parts = absurd (false≢true (sym parts.written_so ∙ is))
 headed_read limits (behind book) part headed place error is parts = tt
 headed_read limits over part headed place error is parts = tt
 
@@ -150,6 +146,3 @@ fresh_reads v limits d h w law is_d is_h is_w running =
         errors = ap (λ (v : Written). v.errors) is_w;
       };
     })
-
-pub over_reads : (d : DecoderState) (h : HeaderStageState) (w : Written) (how : RunEnding) → w.ended ≡ Some how → ReadsHeaders d h w
-over_reads d h w how over_is running = absurd (false≢true (sym (ap (λ (o : Option RunEnding). is_none o) over_is) ∙ running))

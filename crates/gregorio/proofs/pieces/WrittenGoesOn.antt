@@ -3,6 +3,7 @@ use Rattle.std.proofs.Common.{◌≡◌, ℕ, ◌+◌, ◌≤◌, ◌&&◌, List
 use Rattle.std.proofs.Math.Bool.{or-false}
 use Rattle.std.proofs.lemmas.Bool.{false≢true}
 use Rattle.std.specs.List.{list_any}
+use Rattle.gabc_places.specs.BoundedList.{BoundedList, extended_by}
 use Rattle.gabc_headers.specs.declared.head_event.HeadEvent.{HeadEvent}
 use Rattle.gabc_headers.specs.declared.head_event.HeadEvent.TheVariants as head_event
 use Rattle.gabc_score.specs.declared.before.Preceding.{Preceding}
@@ -12,10 +13,12 @@ use Rattle.gabc_score.specs.Syllable.{PlacedSyllable}
 use Rattle.gabc_score.specs.witness.ScoreStage.{ScoreStageState}
 use Rattle.gregorio_jobs.specs.declared.job.Format.{Format}
 use Rattle.gregorio.specs.Streams.{force_behind, next_number}
-use Rattle.gregorio.specs.witness.Engine.{Written, behind_heads, behind_output, behind_outputs, is_before_heads, is_heads}
+use Rattle.gregorio.specs.witness.Engine.{Written, behind_output, behind_outputs, is_before_heads, is_heads}
 use Rattle.gregorio.specs.machine.InStep.{HasForce, PassesAll, PassesOn, written_at}
-use Rattle.gregorio.specs.machine.RunWriter.{RunWriterState, past_end, past_outputs}
-use Rattle.gregorio.specs.machine.ScoreWriter.{ScoreWriterState}
+use Rattle.gregorio.specs.machine.RunWriter.{RunWriterState, heads_at, past_end, past_outputs, with_book}
+use Rattle.gregorio.specs.machine.ScoreWriter.{IsSteady, ScoreWriterState}
+use Rattle.gregorio.proofs.StreamsOfOutputs.{job_stays}
+use Rattle.gregorio.proofs.pieces.BytesAreJoined.{extended_by_none}
 
 -- ---- what is written
 
@@ -87,6 +90,19 @@ force_past_all [] old new all h = subst (λ (s : ScoreWriterState). HasForce s.w
 force_past_all (x ∷ events) old new all h =
     force_past_all events all.0 new all.1.1 (force_past old.score (written_at old.writer.written x) x all.0 all.1.0 (forced_at old.writer.written x h))
 
+-- what no call changes, where this was written of outputs
+pub steady_past : (old new : ScoreWriterState) (w : RunWriterState) (outputs : List ScoreOutput) → IsSteady old (record { score = new.score; writer = w }) → new.writer ≡ past_outputs w outputs → IsSteady old new
+steady_past old new w outputs s e =
+    let job = job_stays w.written outputs in
+    record {
+      limits = s.limits;
+      format = ap (λ (v : RunWriterState). v.written.format) e ∙ (job.0 ∙ s.format);
+      name = ap (λ (v : RunWriterState). v.written.name) e ∙ (job.1.0 ∙ s.name);
+      all_warnings = ap (λ (v : RunWriterState). v.written.all_warnings) e ∙ (job.1.1.0 ∙ s.all_warnings);
+      out = ap (λ (v : RunWriterState). v.out.limit) e ∙ s.out;
+      messages = ap (λ (v : RunWriterState). v.messages.limit) e ∙ s.messages;
+    }
+
 -- where an event is not that of the headers, they are not written
 pub no_heads : (x : HeadEvent) → ((lines macros canonical : ℕ) → x ≡ head_event.Heads lines macros canonical → ⊥) → is_heads x ≡ false
 no_heads (head_event.Heads lines macros canonical) other = absurd (other lines macros canonical refl)
@@ -95,8 +111,11 @@ no_heads (head_event.Body x) other = refl
 no_heads (head_event.Stop fault) other = refl
 no_heads head_event.End other = refl
 
-pub not_written : (w : Written) (x : HeadEvent) → is_heads x ≡ false → written_at w x ≡ w
-not_written w x none = ap (λ (b : Bool). behind_heads w (b && is_before_heads w)) none ∙ ap (λ (headed : Bool). record w { headed = headed }) (or-false w.headed)
+pub not_written : (w : RunWriterState) (x : HeadEvent) (book : List (List ℕ × List ℕ)) → is_heads x ≡ false → heads_at w x book ≡ w
+not_written w x book none =
+    ap (λ (b : Bool). with_book w book (b && is_before_heads w.written)) none
+    ∙ (ap (λ (headed : Bool). record w { written = record w.written { headed = headed }; out = extended_by w.out [] }) (or-false w.written.headed)
+    ∙ ap (λ (out : BoundedList ℕ). record w { out = out }) (sym (extended_by_none w.out)))
 
 pub went_on_past : (old : ScoreStageState) (w : Written) (x : HeadEvent) (new : ScoreWriterState) (p : PassesOn old w x new) → is_none new.writer.written.ended ≡ true → GoesOn w p.outputs
 went_on_past old w x new p running = went_on w p.outputs (subst (λ (v : Written). is_none v.ended ≡ true) p.written running)

@@ -1,16 +1,13 @@
 -- The kept text of a state is read as its fields say, or it is not.
-use Rattle.std.proofs.Common.{◌≡◌, ℕ, ◌+◌, ◌-◌, List, [], Bool, true, false, is_some, Option, Some, refl, ap, sym, subst, ◌∙◌}
-use Rattle.std.proofs.lemmas.Bool.{false≢true}
+use Rattle.std.proofs.Common.{◌≡◌, ◌+◌, ◌-◌, Bool, true, false, is_some, Option, Some, refl, ap, sym, subst, ◌∙◌}
 use Rattle.gabc_places.specs.declared.place.Place.{Place}
 use Rattle.gabc_places.specs.TextOfAnInput.{IsText}
-use Rattle.gabc_score.specs.Before.{no_syllable, preceding_of}
-use Rattle.gabc_score.specs.ReadAgain.{CanBeReadInText, StandsBefore, TellsOfReading, TellsTheSameBut, no_openers}
-use Rattle.gabc_score.specs.ScoreTells.{StandsInFront, before_of, before_with, in_body, is_in_comment, is_in_front, openers_of, reading_in_body}
+use Rattle.gabc_score.specs.Before.{preceding_of}
+use Rattle.gabc_score.specs.ReadAgain.{StandsBefore, TellsOfReading, TellsTheSameBut}
+use Rattle.gabc_score.specs.ScoreTells.{before_of, before_with, in_body, is_in_comment, is_in_front, openers_of, reading_in_body}
 use Rattle.gabc_score.specs.Syllable.{UnplacedSyllable}
 use Rattle.gabc_score.specs.ToldWithin.{AreOpenersBefore, IsPlace, TellsOfText}
 use Rattle.gabc_score.specs.declared.before.Before.{Before}
-use Rattle.gabc_score.specs.declared.body_stage.BodyPart.{BodyPart}
-use Rattle.gabc_score.specs.declared.body_stage.BodyPart.TheVariants as part
 use Rattle.gabc_score.specs.declared.body_tells.Openers.{Openers}
 use Rattle.gabc_score.specs.declared.score_machine.ScorePart.{ScorePart}
 use Rattle.gabc_score.specs.declared.score_machine.ScorePart.TheVariants as score_part
@@ -22,36 +19,7 @@ use Rattle.gregorio.specs.Saved.{held_count, held_text}
 use Rattle.gregorio.specs.SavedState.{before_held}
 use Rattle.gregorio.specs.machine.SettingDown.{HasRead, HoldsHeld, IsReportedSo, ReadsOn, openers_told}
 use Rattle.gregorio.proofs.setting_down.HeldIsRead.{before_told, told_in_body}
-
--- ---- in front of the first text
-
--- nothing else is in front
-in_front : (p : BodyPart) → is_in_front p ≡ true → p ≡ part.Comment
-in_front part.Comment is = refl
-in_front (part.Text stage) is = absurd (false≢true is)
-in_front (part.Notes opened stage) is = absurd (false≢true is)
-in_front (part.Nabc line opened stage) is = absurd (false≢true is)
-
--- nothing is kept there
-nothing_kept : (s : ScoreStageState) → CanBeReadAgain s → s.body.part ≡ part.Comment → s.held.gathered.builder.kept ≡ []
-nothing_kept s can is = let none = rw is at can.told.keeps in rw none at can.told.is
-
--- the same stage where it has read nothing
-abbrev at_outset : ScoreStageState → ScoreStageState
-at_outset s = record s {
-  part = score_part.Body;
-  before = no_syllable 0;
-  held = record s.held { gathered = record s.held.gathered { made = []; builder = record s.held.gathered.builder { kept = [] } } };
-}
-
-stands_in_front : (s : ScoreStageState) → is_in_front s.body.part ≡ true → StandsInFront (at_outset s)
-stands_in_front s front = record { front = front; none_before = refl; none_held = refl; nothing_read = refl }
-
--- ---- the kept text
-
--- what is kept in the body is told
-kept_told : (p : ScorePart) (kept : List ℕ) → p ≡ score_part.Body → reading_in_body p kept ≡ kept
-kept_told p kept body = rw body refl
+use Rattle.gregorio.proofs.setting_down.KeptAsReported.{ReadInText, is_reported_so}
 
 module _ (f : ScoreFields) (old : ScoreStageState) (holds : HoldsHeld f old) where
   stands_before : is_in_comment old.body.part ≡ false → StandsBefore old
@@ -114,50 +82,10 @@ module _ (f : ScoreFields) (old : ScoreStageState) (holds : HoldsHeld f old) whe
     pub new_body : new.part ≡ score_part.Body
     new_body = body_of new.part (before_with new.body new.before) (before_held f) new_before_of
 
-    -- where it is read so
-    module _ (read : HasRead f new) (can : CanBeReadAgain new) where
-      lines : new.body.nabc_lines ≡ f.nabc_lines
-      lines = ap (λ (b : Before). b.nabc_lines) new_before
-
-      macros : new.body.macros ≡ f.macros
-      macros = ap (λ (b : Before). b.macros) new_before
-
-      behind_front : is_in_front new.body.part ≡ false → IsReportedSo old.limits f
-      behind_front front = record {
-        stage = new;
-        keeps = can;
-        limits_are = limits;
-        lines = lines;
-        macros = macros;
-        tells = record { front = front; reading = read.kept; openers_are = read.openers_are; comment_is = read.comment };
-      }
-
-      module _ (law : (s : ScoreStageState) → is_some (before_of s) ≡ true → StandsInFront s → CanBeReadInText s) where
-        -- it stands in front, and what it tells is told in a text too
-        told_in_front : is_in_front new.body.part ≡ true → IsReportedSo old.limits f
-        told_in_front front =
-            let in_text : CanBeReadInText (at_outset new) = law (at_outset new) refl (stands_in_front new front) in
-            let comment : new.body.part ≡ part.Comment = in_front new.body.part front in
-            let kept : [] ≡ f.kept = sym (nothing_kept new can comment) ∙ sym (kept_told new.part new.held.gathered.builder.kept new_body) ∙ read.kept in
-            let openers : no_openers ≡ openers_told f = sym (ap openers_of comment) ∙ read.openers_are in
-            let comment_open : true ≡ f.in_comment = sym (ap is_in_comment comment) ∙ read.comment in
-            record {
-              stage = in_text.told;
-              keeps = in_text.again;
-              limits_are = in_text.limits ∙ limits;
-              lines = in_text.lines ∙ lines;
-              macros = in_text.macros ∙ macros;
-              tells =
-                  subst (λ (k : List ℕ). TellsOfReading in_text.told k (openers_told f) f.in_comment) kept
-                  (subst (λ (o : Openers). TellsOfReading in_text.told [] o f.in_comment) openers (subst (λ (b : Bool). TellsOfReading in_text.told [] no_openers b) comment_open in_text.tells));
-            }
-
-        by_front : (front : Bool) → is_in_front new.body.part ≡ front → IsReportedSo old.limits f
-        by_front true is = told_in_front is
-        by_front false is = behind_front is
-
-        pub is_reported_so : IsReportedSo old.limits f
-        is_reported_so = by_front (is_in_front new.body.part) refl
+    -- where it is read so, it reports so
+    pub reports : HasRead f new → CanBeReadAgain new → ReadInText → IsReportedSo old.limits f
+    reports read can law =
+        is_reported_so f new old.limits limits new_body (ap (λ (b : Before). b.nabc_lines) new_before) (ap (λ (b : Before). b.macros) new_before) read can law
 
     -- it goes on there
     module _ (read : HasRead f new) (open_there : AreOpeners place f) where

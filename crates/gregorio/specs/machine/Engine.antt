@@ -1,6 +1,6 @@
 -- What an engine does with items, which are characters or the fault that stops the text, and what
 -- holds of it between two calls.
-use Rattle.std.specs.Prelude.{◌≡◌, ◌≤◌, ◌⊎◌, ◌||◌, ℕ, List, [], ◌∷◌, ◌++◌, length, Bool, true, Option, Some, None, Result, Ok, Err}
+use Rattle.std.specs.Prelude.{◌≡◌, ◌≤◌, ◌⊎◌, ◌||◌, ℕ, List, [], ◌∷◌, ◌++◌, length, Bool, true, Result, Ok, Err}
 use Rattle.std.specs.List.{list_any}
 use Rattle.gabc_places.specs.BoundedList.{BoundedList, extended_by}
 use Rattle.gabc_places.specs.declared.code.Fault.{Fault}
@@ -12,11 +12,11 @@ use Rattle.gabc_headers.specs.witness.HeadEvents.{HeaderStageState, HeadProgress
 use Rattle.gregorio.specs.declared.source_ending.SourceEnding.{SourceEnding}
 use Rattle.gregorio.specs.Streams.{Streams, behind_bytes}
 use Rattle.gregorio.specs.witness.Engine.{EngineState, book_behind, head_events_left, is_heads}
-use Rattle.gregorio.specs.machine.InStep.{IsInStep}
-use Rattle.gregorio.specs.machine.ReadsHeaders.{ReadsHeaders}
+use Rattle.gregorio.specs.machine.InStep.{IsInStep, StayInStep}
+use Rattle.gregorio.specs.machine.ReadsHeaders.{ReadsHeaders, ReadsOn}
 use Rattle.gregorio.specs.machine.RunWriter.{most_waiting}
-use Rattle.gregorio.specs.machine.TellsInStep.{IsTelling}
-use Rattle.gregorio.specs.machine.ScoreWriter.{ScoreWriterState, streams_of, IsBookAt, IsShortBook, IsReserved}
+use Rattle.gregorio.specs.machine.TellsInStep.{IsInHeads, IsTelling, StayTelling}
+use Rattle.gregorio.specs.machine.ScoreWriter.{FitsEnd, HasRoom, ScoreWriterState, streams_of, IsBookAt, IsShortBook, IsReserved, IsSteady}
 
 -- ---- events of the headers, one after the other
 
@@ -49,11 +49,11 @@ abbrev pub event_of_item : Result Char Fault → HeadEvent
 event_of_item (Ok x) = head_event.Body x
 event_of_item (Err fault) = head_event.Stop fault
 
--- this is no character
-abbrev pub IsNoCharacter : Option (Result Char Fault) → Type 0
-IsNoCharacter None = Unit {0}
-IsNoCharacter (Some (Ok x)) = ⊥
-IsNoCharacter (Some (Err fault)) = Unit {0}
+-- the first of these is no character
+abbrev pub IsNoCharacter : List (Result Char Fault) → Type 0
+IsNoCharacter [] = Unit {0}
+IsNoCharacter (Ok x ∷ items) = ⊥
+IsNoCharacter (Err fault ∷ items) = Unit {0}
 
 -- At these items it wrote what was to come for them, and goes on with what follows.
 pub record WritesItems (h : HeaderStageState) (old : ScoreWriterState) (items : List (Result Char Fault)) (now : HeaderStageState) (new : ScoreWriterState) : Type 0 where
@@ -69,11 +69,6 @@ pub record WritesItems (h : HeaderStageState) (old : ScoreWriterState) (items : 
 pub record LeavesRoom (s : EngineState) : Type 0 where
   pub output : length s.output ≤ most_waiting s.score.limits
   pub messages : length s.messages ≤ most_waiting s.score.limits
-
--- nothing waits
-pub record IsEmpty (w : ScoreWriterState) : Type 0 where
-  pub output : w.writer.out.items ≡ []
-  pub messages : w.writer.messages.items ≡ []
 
 -- whatever comes, it will write the same
 abbrev pub IsSettled : ScoreWriterState → Type 0
@@ -92,6 +87,25 @@ pub record GoTogether (h : HeaderStageState) (w : ScoreWriterState) : Type 0 whe
   pub headed : w.writer.written.headed ≡ true → IsBehind h.progress ⊎ IsSettled w
   pub book : IsBookRead h.progress h.book
   pub short : IsShortBook h.limits h.book
+
+-- What is wanted of the parts before an item: they go together, there is room for what it brings,
+-- and where the headers are not written the score is in them.
+pub record MayRead (h : HeaderStageState) (from_heads : BoundedList HeadEvent) (w : ScoreWriterState) : Type 0 where
+  pub together : GoTogether h w
+  pub few : 2 ≤ from_heads.limit
+  pub room : HasRoom w
+  pub part : IsInHeads w
+
+-- At these items, at most one, the parts wrote what was to come for them and stay in step. After
+-- the end of an input there is room for what the end brings.
+pub record ReadsItems (h : HeaderStageState) (old : ScoreWriterState) (items : List (Result Char Fault)) (now : HeaderStageState) (new : ScoreWriterState) : Type 0 where
+  pub together : GoTogether now new
+  pub writes : WritesItems h old items now new
+  pub step : StayInStep h old items now new
+  pub reads : ReadsOn h old items now new
+  pub tells : StayTelling h old items new
+  pub room : IsNoCharacter items → FitsEnd new
+  pub steady : IsSteady old new
 
 -- There is room for the events of one call, the rooms of the writer are those of the limits, and
 -- all parts are in step.

@@ -1,5 +1,5 @@
 -- How the parts of an engine stand together while it runs.
-use Rattle.std.specs.Prelude.{◌≡◌, ◌+◌, ◌≤◌, List, [], ◌∷◌, length, Bool, true, false, is_none, Result}
+use Rattle.std.specs.Prelude.{◌≡◌, ℕ, ◌+◌, ◌≤◌, List, [], ◌∷◌, length, Bool, true, false, is_none, Result}
 use Rattle.std.specs.List.{list_any}
 use Rattle.gabc_places.specs.DecoderMachine.{DecoderState}
 use Rattle.gabc_places.specs.DecoderTells.{MovesOn}
@@ -8,15 +8,16 @@ use Rattle.gabc_places.specs.declared.place.Char.{Char}
 use Rattle.gabc_places.specs.declared.place.Place.{Place}
 use Rattle.gabc_headers.specs.declared.head_event.HeadEvent.{HeadEvent}
 use Rattle.gabc_headers.specs.declared.head_event.HeadEvent.TheVariants as head_event
-use Rattle.gabc_headers.specs.witness.HeadEvents.{HeaderStageState, HeadProgress, reading, behind}
+use Rattle.gabc_headers.specs.witness.HeadEvents.{HeaderStageState, HeadProgress, reading, behind, over}
 use Rattle.gabc_neumes.specs.InForce.{nothing_in_force}
 use Rattle.gabc_score.specs.declared.score_machine.ScorePart.{ScorePart}
 use Rattle.gabc_score.specs.declared.score_machine.ScorePart.TheVariants as score_part
 use Rattle.gabc_score.specs.ScoreEvents.{ScoreOutput, Found, Stop, End, is_last, syllables_in}
 use Rattle.gabc_score.specs.ScoreStage.{Counts, StandsHere, is_final, most_lent, most_whole, part_past, place_behind, preceding_past}
 use Rattle.gabc_score.specs.ToldWithin.{whole_syllables}
-use Rattle.gabc_score.specs.witness.ScoreStage.{ScoreStageState}
+use Rattle.gabc_score.specs.witness.ScoreStage.{ScoreStageState, left_of}
 use Rattle.gregorio.specs.witness.Engine.{Written, behind_heads, behind_outputs, writes_heads}
+use Rattle.gregorio.specs.machine.RunWriter.{RunWriterState, heads_at, past_outputs}
 use Rattle.gregorio.specs.machine.ScoreWriter.{ScoreWriterState}
 use Rattle.gregorio.specs.machine.Telling.{TellsOn}
 use Rattle.gregorio_jobs.specs.declared.job.Format.TheVariants.{Gabc}
@@ -48,18 +49,37 @@ pub record PassesOn (old : ScoreStageState) (w : Written) (x : HeadEvent) (new :
 abbrev pub written_at : Written → HeadEvent → Written
 written_at w x = behind_heads w (writes_heads w x)
 
--- it does so at each of these
+-- After what this writer has written it wrote what the score gave of an event, and the score goes
+-- on with what follows.
+pub record TakesEvent (old : ScoreStageState) (w : RunWriterState) (x : HeadEvent) (new : ScoreWriterState) : Type 0 where
+  pub passes : PassesOn old w.written x new
+  pub law : (from_heads : List HeadEvent) → left_of old (x ∷ from_heads) ≡ passes.outputs ∷ left_of new.score from_heads
+  pub writer : new.writer ≡ past_outputs w passes.outputs
+
+-- At each of these it wrote the headers that were read, if they are whole there, and then what the
+-- score gave.
+abbrev pub TakesEvents : ScoreWriterState → List HeadEvent → List (List ℕ × List ℕ) → ScoreWriterState → Type 0
+TakesEvents old [] read new = old ≡ new
+TakesEvents old (x ∷ events) read new =
+    (mid : ScoreWriterState) × (TakesEvent old.score (heads_at old.writer x read) x mid × TakesEvents mid events read new)
+
+-- it passes each of these on
 abbrev pub PassesAll : ScoreWriterState → List HeadEvent → ScoreWriterState → Type 0
 PassesAll old [] new = old ≡ new
 PassesAll old (x ∷ events) new = (mid : ScoreWriterState) × (PassesOn old.score (written_at old.writer.written x) x mid × PassesAll mid events new)
 
 -- ---- between two calls
 
+-- a score is in this part, and the headers are written or not
+pub record StandsIn (at : ScorePart) (written : Bool) (part : ScorePart) (headed : Bool) : Type 0 where
+  pub in_part : part ≡ at
+  pub written_so : headed ≡ written
+
 -- both are in the headers, which are not written, or both in the body, and they are
 abbrev pub AreInOnePart : HeadProgress → ScorePart → Bool → Type 0
-AreInOnePart (reading t) score_part.Heads headed = headed ≡ false
-AreInOnePart (behind book) score_part.Body headed = headed ≡ true
-AreInOnePart progress part headed = ⊥
+AreInOnePart (reading t) part headed = StandsIn score_part.Heads false part headed
+AreInOnePart (behind book) part headed = StandsIn score_part.Body true part headed
+AreInOnePart over part headed = ⊥
 
 -- An engine that runs: its decoder does, its stages are in one part, as many syllables are written
 -- as stand before the one that is held, and no more are whole than bytes were taken. In the body a

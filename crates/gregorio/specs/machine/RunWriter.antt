@@ -2,12 +2,13 @@
 use Rattle.std.specs.Prelude.{◌≡◌, ℕ, ◌+◌, ◌*◌, ◌≤◌, min, List, [], ◌∷◌, Bool, true, false, Some, is_none, length, map}
 use Rattle.std.specs.List.{All}
 use Rattle.gabc_places.specs.BoundedList.{BoundedList, Fits, extended_by}
+use Rattle.gabc_headers.specs.declared.head_event.HeadEvent.{HeadEvent}
 use Rattle.gabc_score.specs.NoNotes.{has_no_notes}
 use Rattle.gabc_score.specs.ScoreEvents.{ScoreOutput, Found, Stop, Syllable, End, syllables_in}
 use Rattle.gabc_places.specs.declared.limits.Limits.{Limits}
 use Rattle.gabc_score.specs.ScoreStage.{IsWithin}
 use Rattle.gabc_score.specs.Syllable.{PlacedSyllable}
-use Rattle.gregorio.specs.witness.Engine.{Written, behind_heads, behind_output, behind_outputs, ceased_ending, ceased_text, if_headed, is_before_heads, lines_of_output, lines_of_outputs, text_of_heads, text_of_output, texts_of_outputs}
+use Rattle.gregorio.specs.witness.Engine.{Written, behind_heads, behind_output, behind_outputs, ceased_ending, ceased_text, if_headed, is_before_heads, lines_of_output, lines_of_outputs, text_of_heads, text_of_output, texts_of_outputs, writes_heads}
 use Rattle.gregorio.specs.Streams.{last_text}
 use Rattle.gregorio_jobs.specs.declared.job.Format.{Format}
 use Rattle.gregorio_jobs.specs.declared.job.Format.TheVariants.{Gabc, Dump}
@@ -22,10 +23,16 @@ pub record RunWriterState : Type 0 where
 abbrev pub with_bytes : RunWriterState → List ℕ → List ℕ → RunWriterState
 with_bytes w text lines = record w { out = extended_by w.out text; messages = extended_by w.messages lines }
 
+-- where it has written this book, if it writes it
+abbrev pub with_book : RunWriterState → List (List ℕ × List ℕ) → Bool → RunWriterState
+with_book w book writes = record w { written = behind_heads w.written writes; out = extended_by w.out (text_of_heads w.written book writes) }
+
 abbrev pub with_heads : RunWriterState → List (List ℕ × List ℕ) → RunWriterState
-with_heads w book =
-    let writes = is_before_heads w.written in
-    record w { written = behind_heads w.written writes; out = extended_by w.out (text_of_heads w.written book writes) }
+with_heads w book = with_book w book (is_before_heads w.written)
+
+-- where it has written the headers, if they are at this event
+abbrev pub heads_at : RunWriterState → HeadEvent → List (List ℕ × List ℕ) → RunWriterState
+heads_at w x book = with_book w book (writes_heads w.written x)
 
 abbrev pub with_last : RunWriterState → Bool → RunWriterState
 with_last w whole = record w { out = extended_by w.out (if_headed w.written (last_text w.written.format whole w.written.count)) }
@@ -124,11 +131,3 @@ pub record IsInRoom (limits : Limits) (most_lines most_texts : ℕ) (w : RunWrit
 
 abbrev pub HasRoomFor : Limits → RunWriterState → List ScoreOutput → Type 0
 HasRoomFor limits w outputs = IsInRoom limits w.messages.limit w.out.limit w outputs
-
--- what no call changes
-pub record IsSteadyWriter (old new : RunWriterState) : Type 0 where
-  pub format : new.written.format ≡ old.written.format
-  pub name : new.written.name ≡ old.written.name
-  pub all_warnings : new.written.all_warnings ≡ old.written.all_warnings
-  pub out : new.out.limit ≡ old.out.limit
-  pub messages : new.messages.limit ≡ old.messages.limit

@@ -17,9 +17,14 @@ use Rattle.gregorio.specs.machine.ScoreWriter.{ScoreWriterState}
 
 -- ---- where the body begins
 
+-- the score is in the headers, and no syllable is written
+pub record InHeads (w : ScoreWriterState) : Type 0 where
+  pub part : w.score.part ≡ score_part.Heads
+  pub none : w.writer.written.count ≡ 0
+
 -- a run that goes on, and whose headers are not written, is in them
 abbrev pub IsInHeads : ScoreWriterState → Type 0
-IsInHeads w = is_none w.writer.written.ended ≡ true → w.writer.written.headed ≡ false → w.score.part ≡ score_part.Heads
+IsInHeads w = is_none w.writer.written.ended ≡ true → w.writer.written.headed ≡ false → InHeads w
 
 -- the score, where the body begins after this character if the headers are written
 abbrev pub begun : Result Char Fault → Bool → ScoreStageState → ScoreStageState

@@ -2,7 +2,7 @@ use Rattle.std.proofs.Common.{◌∙◌, sym}
 use Rattle.std.proofs.lemmas.Bool.{false≢true}
 use Rattle.gregorio_state.specs.Fields.{score_of}
 use Rattle.gregorio.proofs.setting_down.KeptAsReported.{kept_read, reported_so}
-use Rattle.gregorio.proofs.setting_down.KeptIsRead.{has_read, is_kept_again, is_reported_so, new_runs, reads_on}
+use Rattle.gregorio.proofs.setting_down.KeptIsRead.{has_read, is_kept_again, new_runs, reads_on, reports}
 use Rattle.gregorio.proofs.set_down.read_kept.Goals as goal
 
 pub returns-then-not-read_again-clause-read : goal.returns-then-not-read_again-clause-read
@@ -23,7 +23,7 @@ returns-clause-read c =
     let can = c.what_is_read_can_be_read_again.ensures (new_runs f old holds c.args.state.now.place new limits same) in
     let kept_again = is_kept_again f old holds c.openers.result c.openers.ensures new c.read_again.result (c.a_text_begins_outside_a_comment.ensures old holds.begins) c.read_again.ensures.again in (
       λ read. kept_read old.limits f c.requires.fields.kept.utf8 c.what_is_told_is_kept_again.ensures.again c.what_is_told_is_kept_again.ensures.short
-          (is_reported_so f old holds c.args.state.now.place new limits same (c.has_read.ensures.0 read) can c.a_comment_in_front_can_be_read_in_a_text.ensures),
+          (reports f old holds c.args.state.now.place new limits same (c.has_read.ensures.0 read) can c.a_comment_in_front_can_be_read_in_a_text.ensures),
       λ kept. c.has_read.ensures.1 (has_read f old holds new (kept_again (reported_so old.limits f c.requires.fields.kept.utf8 c.what_is_kept_again_is_told.ensures kept)).1),
     )
 

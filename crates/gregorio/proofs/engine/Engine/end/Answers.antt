@@ -6,36 +6,35 @@ use Rattle.gabc_places.specs.DecoderMachine.{DecoderState}
 use Rattle.gabc_places.specs.declared.code.Fault.{Fault}
 use Rattle.gabc_places.specs.declared.place.Char.{Char}
 use Rattle.gabc_places.specs.witness.DecoderEvents as decoder
-use Rattle.gregorio.specs.Engine.{NothingWaits, fault_of}
+use Rattle.gregorio.specs.Engine.{NothingWaits, StillRuns, fault_of}
 use Rattle.gregorio.specs.Streams.{behind_bytes, ended_with}
 use Rattle.gregorio.specs.declared.source_ending.SourceEnding.TheVariants.{Whole}
 use Rattle.gregorio.specs.witness.Engine.{EngineState, streams_left}
-use Rattle.gregorio.specs.machine.Engine.{GoTogether, IsEmpty, IsNoCharacter}
+use Rattle.gregorio.specs.machine.Engine.{GoTogether, IsNoCharacter}
 use Rattle.gregorio.specs.machine.ScoreWriter.{ScoreWriterState, FitsEnd, FitsEvents}
 use Rattle.gregorio.proofs.pieces.HeadersAreRead.{given_of_end}
 use Rattle.gregorio.proofs.pieces.RoomIsLeft.{room_before_end, room_where_none_waits}
-use Rattle.gregorio.proofs.pieces.InputsAreEnded.{no_character_at_end, ended_as, ends_given, ends_items, ends_now, over_is_settled, over_of_items, over_stage, over_together}
+use Rattle.gregorio.proofs.pieces.InputsAreEnded.{ended_as, ends_given, ends_items, ends_now, no_character_at_end, over_is_engine, over_says, over_stage}
 use Rattle.gregorio.proofs.pieces.BytesAreTaken.{none_wait, still_reserved}
-use Rattle.gregorio.proofs.pieces.EventsAreWritten.{steady_both}
-use Rattle.gregorio.proofs.pieces.PartsStayInStep.{over_in_step}
+use Rattle.gregorio.proofs.pieces.EventsAreWritten.{passes_all, steady_all, steady_both, writes_all}
+use Rattle.gregorio.proofs.pieces.SavedInHeaders.{shown, still_runs}
 use Rattle.gregorio.proofs.pieces.WrittenGoesOn.{force_past_all}
-use Rattle.gregorio.proofs.pieces.TextOfHeaders.{over_reads}
-use Rattle.gregorio.proofs.pieces.TellsInStepOn.{in_heads_yet, over_tells}
+use Rattle.gregorio.proofs.pieces.TellsInStepOn.{in_heads_yet}
 use Rattle.gregorio.proofs.engine.Engine.end.Goals as goal
 
-pub read_decoded-requires-clause-part : goal.read_decoded-requires-clause-part
-read_decoded-requires-clause-part c = in_heads_yet c.self.inside.decoder c.self.inside.heads c.self.inside.writer c.self.invariant.step.runs
-
-nothing_waits : (s : EngineState) (w : ScoreWriterState) → w.writer.out.items ≡ s.output → w.writer.messages.items ≡ s.messages → NothingWaits s → IsEmpty w
-nothing_waits s w output messages waits = record { output = output ∙ waits.output; messages = messages ∙ waits.messages }
-
-pub read_decoded-requires-clause-room : goal.read_decoded-requires-clause-room
-read_decoded-requires-clause-room c =
-    room_where_none_waits c.self.inside.writer c.self.invariant.reserved
-    (nothing_waits c.args.self.now c.self.inside.writer (ap (λ (s : EngineState). s.output) c.self.view_is) (ap (λ (s : EngineState). s.messages) c.self.view_is) c.requires.waits)
+pub read_decoded-requires : goal.read_decoded-requires
+read_decoded-requires c =
+    let w = c.self.inside.writer in
+    let none : NothingWaits (shown c.self.inside.decoder c.self.inside.heads w) = subst NothingWaits (sym c.self.view_is) c.requires.waits in
+    record {
+      together = c.self.invariant.together;
+      few = c.self.invariant.few;
+      room = room_where_none_waits w c.self.invariant.reserved none.output none.messages;
+      part = in_heads_yet c.self.inside.decoder c.self.inside.heads w c.self.invariant.step.runs;
+    }
 
 room_at_end : (d : DecoderState) (h : HeaderStageState) (w : ScoreWriterState) (item : Option (Result Char Fault)) (events : List HeadItem) → decoder.events_left d [] ≡ option_to_list item ∷ []
-    → (IsNoCharacter item → FitsEnd w) → events ≡ events_of_end h.limits h.progress → FitsEvents w true events
+    → (IsNoCharacter (option_to_list item) → FitsEnd w) → events ≡ events_of_end h.limits h.progress → FitsEvents w true events
 room_at_end d h w item events at_end room is = subst (λ (xs : List HeadItem). FitsEvents w true xs) (sym is) (room (no_character_at_end d item at_end) h.limits h.progress)
 
 pub pass_on-requires-clause-room : goal.pass_on-requires-clause-room
@@ -43,7 +42,7 @@ pass_on-requires-clause-room c =
     let h = c.read_decoded.new.heads in
     let from_heads = given_of_end h c.read_decoded.new.from_heads c.clear.new.self c.finish.new.out c.slice.result.now c.clear.ensures c.finish.ensures.ends c.slice.ensures in
     room_before_end c.read_decoded.new.writer c.slice.result.now
-    (room_at_end c.self.inside.decoder h c.read_decoded.new.writer c.end-item.result c.slice.result.now c.end-item.ensures.item c.read_decoded.ensures.room from_heads)
+    (room_at_end c.self.inside.decoder h c.read_decoded.new.writer c.end-item.result c.slice.result.now c.end-item.ensures.item c.read_decoded.ensures.reads.room from_heads)
 
 pub finish-requires-2 : goal.finish-requires-2
 finish-requires-2 c =
@@ -52,55 +51,63 @@ finish-requires-2 c =
     let from_heads = given_of_end h c.read_decoded.new.from_heads c.clear.new.self c.finish.new.out c.slice.result.now c.clear.ensures c.finish.ensures.ends c.slice.ensures in
     record {
       room = c.pass_on.ensures.room true [] (subst (λ (events : List HeadItem). FitsEvents w true events) (sym (append-nil c.slice.result.now))
-          (room_at_end c.self.inside.decoder h w c.end-item.result c.slice.result.now c.end-item.ensures.item c.read_decoded.ensures.room from_heads));
+          (room_at_end c.self.inside.decoder h w c.end-item.result c.slice.result.now c.end-item.ensures.item c.read_decoded.ensures.reads.room from_heads));
     }
 
 pub returns-clause-law : goal.returns-clause-law
 returns-clause-law c =
-    let empty = nothing_waits c.args.self.now c.self.inside.writer (ap (λ (s : EngineState). s.output) c.self.view_is) (ap (λ (s : EngineState). s.messages) c.self.view_is) c.requires.waits in
-    let from_heads = given_of_end c.read_decoded.new.heads c.read_decoded.new.from_heads c.clear.new.self c.finish.new.out c.slice.result.now c.clear.ensures c.finish.ensures.ends c.slice.ensures in
-    let ends = ends_items c.self.inside.decoder c.self.inside.heads c.read_decoded.new.heads c.self.inside.writer c.read_decoded.new.writer c.finish-2.new.self c.finish-2.result
-    (option_to_list c.end-item.result) c.end-item.ensures.item c.read_decoded.ensures.writes
-    (ends_given c.read_decoded.new.heads c.read_decoded.new.writer c.pass_on.new.writer c.finish-2.new.self c.finish-2.result c.slice.result.now c.finish.new.self.book from_heads c.pass_on.ensures.writes c.finish-2.ensures.writes) in
+    let d = c.self.inside.decoder in
+    let h = c.self.inside.heads in
+    let w = c.self.inside.writer in
+    let now = c.read_decoded.new.heads in
+    let mid = c.read_decoded.new.writer in
+    let new = c.finish-2.new.self in
+    let how = c.finish-2.result in
+    let none : NothingWaits (shown d h w) = subst NothingWaits (sym c.self.view_is) c.requires.waits in
+    let from_heads = given_of_end now c.read_decoded.new.from_heads c.clear.new.self c.finish.new.out c.slice.result.now c.clear.ensures c.finish.ensures.ends c.slice.ensures in
+    let writes = writes_all c.slice.result.now c.finish.new.self.book mid c.pass_on.new.writer c.pass_on.ensures.takes in
+    let ends = ends_items d h now w mid new how (option_to_list c.end-item.result) c.end-item.ensures.item c.read_decoded.ensures.reads.writes
+    (ends_given now mid c.pass_on.new.writer new how c.slice.result.now c.finish.new.self.book from_heads writes c.finish-2.ensures.writes) in
     ap (λ (s : EngineState). streams_left s Whole []) (sym c.self.view_is)
-    ∙ (ends_now _ c.self.inside.writer c.finish-2.new.self c.finish-2.result ends empty
-    ∙ ap (behind_bytes c.finish-2.new.self.writer.out.items c.finish-2.new.self.writer.messages.items)
-    (ended_as c.finish-2.result c.status-2.result c.finish-2.new.self.writer.written.ended c.status-2.ensures c.finish-2.ensures.over.ended))
+    ∙ (ends_now _ w new how ends none.output none.messages
+    ∙ ap (behind_bytes new.writer.out.items new.writer.messages.items) (ended_as how c.status-2.result new.writer.written.ended c.status-2.ensures c.finish-2.ensures.over.ended))
 
 pub returns-in-Some-clause-last : goal.returns-in-Some-clause-last
 returns-in-Some-clause-last c = λ bytes ending.
-    ap (λ (s : EngineState). streams_left s ending bytes) (sym c.self.view_is)
-    ∙ (over_of_items c.self.inside.heads c.self.inside.writer c.in-Some.ended c.in-Some.ensures.over ending _
-    ∙ (ended_as c.in-Some.ended c.status.result c.self.inside.writer.writer.written.ended c.status.ensures c.in-Some.ensures.over.ended
-    ∙ ap (λ (s : EngineState). ended_with c.status.result (fault_of s)) c.self.view_is))
+    subst (λ (s : EngineState). streams_left s ending bytes ≡ ended_with c.status.result (fault_of s)) c.self.view_is
+    (over_says (shown c.self.inside.decoder c.self.inside.heads c.self.inside.writer) c.in-Some.ended c.status.result c.in-Some.ensures.over c.status.ensures bytes ending)
 
 pub returns-in-Some-clause-law : goal.returns-in-Some-clause-law
 returns-in-Some-clause-law c =
-    ap (λ (s : EngineState). streams_left s Whole []) (sym c.self.view_is)
-    ∙ (over_of_items c.self.inside.heads c.self.inside.writer c.in-Some.ended c.in-Some.ensures.over Whole _
-    ∙ (ended_as c.in-Some.ended c.status.result c.self.inside.writer.writer.written.ended c.status.ensures c.in-Some.ensures.over.ended
-    ∙ (ap (λ (s : EngineState). ended_with c.status.result (fault_of s)) c.self.view_is
-    ∙ sym (none_wait c.args.self.now c.requires.waits (ended_with c.status.result (fault_of c.args.self.now))))))
+    subst (λ (s : EngineState). streams_left s Whole [] ≡ ended_with c.status.result (fault_of s)) c.self.view_is
+    (over_says (shown c.self.inside.decoder c.self.inside.heads c.self.inside.writer) c.in-Some.ended c.status.result c.in-Some.ensures.over c.status.ensures [] Whole)
+    ∙ sym (none_wait c.args.self.now c.requires.waits (ended_with c.status.result (fault_of c.args.self.now)))
 
 pub invariant_of-self : goal.invariant_of-self
 invariant_of-self c =
-    let h = c.read_decoded.new.heads in
-    let w = c.read_decoded.new.writer in
+    let w = c.self.inside.writer in
+    let mid = c.read_decoded.new.writer in
     let new = c.finish-2.new.self in
-    let steady = steady_both w c.pass_on.new.writer new c.pass_on.ensures.steady c.finish-2.ensures.steady in
+    let read = c.read_decoded.ensures.reads in
+    let over = c.finish-2.ensures.over in
+    let events = c.slice.result.now in
+    let takes = c.pass_on.ensures.takes in
+    let steady = steady_both mid c.pass_on.new.writer new (steady_all events _ mid c.pass_on.new.writer takes) c.finish-2.ensures.steady in
     let given = ap (λ (r : BoundedList HeadItem). r.limit) c.finish.ensures.ends.out in
     let cleared = ap (λ (r : BoundedList HeadItem). r.limit) c.clear.ensures in
-    record {
-      few = omega (arith, c.self.invariant.few, c.read_decoded.ensures.few, given, cleared);
-      together = subst (λ (s : HeaderStageState). GoTogether s new) (sym c.finish.ensures.state) (over_stage h new (over_is_settled new c.finish-2.result c.finish-2.ensures.over) (over_together h w new c.finish-2.result c.read_decoded.ensures.together steady c.finish-2.ensures.over));
-      reserved = still_reserved c.self.inside.writer new (steady_both c.self.inside.writer w new c.read_decoded.ensures.steady steady) c.self.invariant.reserved;
-      step = over_in_step c.end-item.new.self c.finish.new.self new c.finish-2.result
-          (c.finish-2.ensures.force (force_past_all c.slice.result.now w c.pass_on.new.writer c.pass_on.ensures.passes (c.read_decoded.ensures.step.force c.self.invariant.step.force))) c.finish-2.ensures.over.ended;
-      headers = over_reads c.end-item.new.self c.finish.new.self new.writer.written c.finish-2.result c.finish-2.ensures.over.ended;
-      tells = over_tells c.end-item.new.self new c.finish-2.result c.finish-2.ensures.over.ended;
-    }
+    over_is_engine c.end-item.new.self c.finish.new.self c.finish.new.out new c.finish-2.result (omega (arith, c.self.invariant.few, c.read_decoded.ensures.few, given, cleared))
+    (subst (λ (s : HeaderStageState). GoTogether s new) (sym c.finish.ensures.state) (over_stage c.read_decoded.new.heads mid new c.finish-2.result read.together steady over))
+    (still_reserved w new (steady_both w mid new read.steady steady) c.self.invariant.reserved)
+    (c.finish-2.ensures.force (force_past_all events mid c.pass_on.new.writer (passes_all events _ mid c.pass_on.new.writer takes) (read.step.force c.self.invariant.step.force))) over
+
+pub returns-clause-job : goal.returns-clause-job
+returns-clause-job c =
+    let mid = c.read_decoded.new.writer in
+    let new = c.finish-2.new.self in
+    let steady = steady_both mid c.pass_on.new.writer new (steady_all c.slice.result.now _ mid c.pass_on.new.writer c.pass_on.ensures.takes) c.finish-2.ensures.steady in
+    subst (λ (s : EngineState). StillRuns s (shown c.end-item.new.self c.finish.new.self new)) c.self.view_is
+    (still_runs c.self.inside.decoder c.end-item.new.self c.self.inside.heads c.finish.new.self c.self.inside.writer new (steady_both c.self.inside.writer mid new c.read_decoded.ensures.reads.steady steady))
 
 pub returns-clause-last : goal.returns-clause-last
-returns-clause-last c = λ bytes ending.
-    over_of_items c.finish.new.self c.finish-2.new.self c.finish-2.result c.finish-2.ensures.over ending _
-    ∙ ended_as c.finish-2.result c.status-2.result c.finish-2.new.self.writer.written.ended c.status-2.ensures c.finish-2.ensures.over.ended
+returns-clause-last c =
+    over_says (shown c.end-item.new.self c.finish.new.self c.finish-2.new.self) c.finish-2.result c.status-2.result c.finish-2.ensures.over c.status-2.ensures

@@ -1,45 +1,70 @@
-use Rattle.std.proofs.Common.{◌≡◌, ◌∙◌, ap, false, sym, subst}
+use Rattle.std.proofs.Common.{ℕ, ◌+◌, ◌≤◌, ◌||◌, not, Bool, true, false, List, [], ◌∷◌, length, encode_utf8_all, is_some, if◌then◌else◌, ◌∙◌, ap, sym, subst, length-append, arith}
+use Rattle.gabc_headers.specs.Canonical.{canonical_heads}
+use Rattle.gregorio_jobs.specs.declared.job.Format.{Format}
+use Rattle.gregorio_jobs.specs.declared.job.Format.TheVariants.{Gabc, Dump}
+use Rattle.gregorio.specs.Streams.{heads_text}
+use Rattle.gregorio.specs.witness.Engine.{is_before_heads, text_of_heads}
 use Rattle.gabc_headers.specs.declared.head_event.HeadEvent.{HeadEvent}
-use Rattle.gregorio.specs.machine.RunWriter.{RunWriterState, with_heads}
-use Rattle.gregorio.specs.machine.ScoreWriter.{ScoreWriterState, WritesAt}
-use Rattle.gregorio.specs.witness.Engine.{Written, is_heads}
+use Rattle.gregorio.specs.machine.InStep.{TakesEvent}
+use Rattle.gregorio.specs.machine.RunWriter.{RunWriterState, heads_at, heads_len, heads_room, with_heads}
+use Rattle.gregorio.specs.machine.ScoreWriter.{FitsEvents, IsShortBook, ScoreWriterState}
 use Rattle.gregorio.proofs.pieces.WrittenGoesOn.{no_heads, not_written}
-use Rattle.gregorio.specs.machine.InStep.{PassesOn, written_at}
-use Rattle.gregorio.proofs.AnEventIsWritten.{heads_are_written}
 use Rattle.gregorio.proofs.score_writer.ScoreWriter.push.Goals.{in-Heads, in_default}
 use Rattle.gregorio.proofs.score_writer.ScoreWriter.push.Goals as goal
 
-pub returns-clause-writes : goal.returns-clause-writes
-returns-clause-writes c =
+pub returns-clause-takes : goal.returns-clause-takes
+returns-clause-takes c =
     let i = c.self.inside in
-    let old : ScoreWriterState = record { score = i.score; writer = i.writer } in
+    let old = c.args.self.now in
+    let x = c.args.event in
     let read = c.args.heads.now.book in
     let new = c.pass.new.self in
     elim c.match-event.branch [
       | in-Heads w ↦
-          let passed = subst (λ (s : ScoreWriterState). WritesAt s c.args.event read new) w.self-is (c.pass.ensures.writes read) in
-          let behind = subst (λ (v : RunWriterState). WritesAt (record { score = i.score; writer = v }) c.args.event read new) (w.heads.ensures.writes ∙ ap (with_heads i.writer) w.book.ensures) passed in
-          subst (λ (s : ScoreWriterState). WritesAt s c.args.event read new) c.self.view_is
-          (subst (λ (x : HeadEvent). WritesAt old x read new) (sym w.in-Heads.is)
-          (heads_are_written old w.in-Heads.nabc_lines w.in-Heads.macros w.in-Heads.canonical read new
-          (subst (λ (x : HeadEvent). WritesAt (record { score = i.score; writer = with_heads i.writer read }) x read new) w.in-Heads.is behind)))
-      | in_default w ↦ subst (λ (s : ScoreWriterState). WritesAt s c.args.event read new) w.self-is (c.pass.ensures.writes read)
+          let passed = subst (λ (s : ScoreWriterState). TakesEvent s.score s.writer x new) w.self-is c.pass.ensures.takes in
+          let behind = subst (λ (v : RunWriterState). TakesEvent i.score v x new) (w.heads.ensures.writes ∙ ap (with_heads i.writer) w.book.ensures) passed in
+          subst (λ (s : ScoreWriterState). TakesEvent s.score (heads_at s.writer x read) x new) c.self.view_is
+          (subst (λ (y : HeadEvent). TakesEvent i.score (heads_at i.writer y read) y new) (sym w.in-Heads.is)
+          (subst (λ (y : HeadEvent). TakesEvent i.score (with_heads i.writer read) y new) w.in-Heads.is behind))
+      | in_default w ↦
+          subst (λ (v : RunWriterState). TakesEvent old.score v x new) (sym (not_written old.writer x read (no_heads x w.in_default.not-Heads)))
+          (subst (λ (s : ScoreWriterState). TakesEvent s.score s.writer x new) w.self-is c.pass.ensures.takes)
     ]
 
-pub returns-clause-passes : goal.returns-clause-passes
-returns-clause-passes c =
+-- what the headers take is kept for them
+heads_fit : (headed done : Bool) (text : List ℕ) (room : ℕ) → length (if not (headed || done) then text else []) ≤ room
+    → length (if not (headed || done) then text else []) + (if headed || not (headed || done) then 0 else room) ≤ (if headed then 0 else room)
+heads_fit true done text room short = omega arith
+heads_fit false true text room short = omega arith
+heads_fit false false text room short = omega (arith, short)
+
+longer : (format : Format) (n limit : ℕ) → n ≤ limit + 2 → heads_len format n ≤ heads_room format limit
+longer Gabc n limit h = omega (arith, h)
+longer Dump n limit h = omega (arith, h)
+
+room_with_heads : (old : ScoreWriterState) (book : List (List ℕ × List ℕ)) (ends : Bool) (events : List HeadEvent) → IsShortBook old.score.limits book
+    → length (text_of_heads old.writer.written book (is_before_heads old.writer.written)) ≤ heads_len old.writer.written.format (length (encode_utf8_all (canonical_heads book)))
+    → FitsEvents old ends events → FitsEvents (record old { writer = with_heads old.writer book }) ends events
+room_with_heads old book ends events few short room =
+    let w = old.writer.written in
+    let most = longer w.format (length (encode_utf8_all (canonical_heads book))) old.score.limits.header few in
+    let fit = heads_fit w.headed (is_some w.ended) (heads_text w.format book) (heads_room w.format old.score.limits.header) (omega (arith, short, most)) in
+    let texts = room.texts in
+    let both = length-append old.writer.out.items (text_of_heads w book (is_before_heads w)) in
+    record { lines = room.lines; texts = omega (arith, texts, fit, both) }
+
+pub returns-clause-room : goal.returns-clause-room
+returns-clause-room c = λ ends events room.
     let i = c.self.inside in
-    let old : ScoreWriterState = record { score = i.score; writer = i.writer } in
-    let new = c.pass.new.self in
-    elim c.match-event.branch [
+    let x = c.args.event in
+    let read = c.args.heads.now.book in
+    let here : FitsEvents (record { score = i.score; writer = i.writer }) ends (x ∷ events) = subst (λ (s : ScoreWriterState). FitsEvents s ends (x ∷ events)) (sym c.self.view_is) room in
+    c.pass.ensures.room ends events (elim c.match-event.branch [
       | in-Heads w ↦
-          let passed = subst (λ (s : ScoreWriterState). PassesOn s.score s.writer.written c.args.event new) w.self-is c.pass.ensures.passes in
-          let behind = subst (λ (v : RunWriterState). PassesOn i.score v.written c.args.event new) (w.heads.ensures.writes ∙ ap (with_heads i.writer) w.book.ensures) passed in
-          subst (λ (s : ScoreWriterState). PassesOn s.score (written_at s.writer.written c.args.event) c.args.event new) c.self.view_is
-          (subst (λ (x : HeadEvent). PassesOn i.score (written_at i.writer.written x) x new) (sym w.in-Heads.is)
-          (subst (λ (x : HeadEvent). PassesOn i.score (with_heads i.writer c.args.heads.now.book).written x new) w.in-Heads.is behind))
-      | in_default w ↦
-          let none : is_heads c.args.event ≡ false = no_heads c.args.event w.in_default.not-Heads in
-          subst (λ (v : Written). PassesOn c.args.self.now.score v c.args.event new) (sym (not_written c.args.self.now.writer.written c.args.event none))
-          (subst (λ (s : ScoreWriterState). PassesOn s.score s.writer.written c.args.event new) w.self-is c.pass.ensures.passes)
-    ]
+          let few : IsShortBook i.score.limits read = subst (λ (s : ScoreWriterState). IsShortBook s.score.limits read) (sym c.self.view_is) c.requires.book in
+          let short = subst (λ (b : List (List ℕ × List ℕ)). length (text_of_heads i.writer.written b (is_before_heads i.writer.written)) ≤ heads_len i.writer.written.format (length (encode_utf8_all (canonical_heads b)))) w.book.ensures w.heads.ensures.short in
+          subst (λ (s : ScoreWriterState). FitsEvents s ends (x ∷ events)) (sym w.self-is)
+          (subst (λ (v : RunWriterState). FitsEvents (record { score = i.score; writer = v }) ends (x ∷ events)) (sym (w.heads.ensures.writes ∙ ap (with_heads i.writer) w.book.ensures))
+          (room_with_heads (record { score = i.score; writer = i.writer }) read ends (x ∷ events) few short here))
+      | in_default w ↦ subst (λ (s : ScoreWriterState). FitsEvents s ends (x ∷ events)) (sym w.self-is) room
+    ])
