@@ -13,9 +13,8 @@ ghost use Rattle.gabc_places.specs.TextOfAnInput.{IsText};
 ghost use Rattle.gabc_score.specs.ToldWithin.{IsAtOutset, TellsOfText};
 ghost use Rattle.gabc_score.specs.machine.PartCounts.{CountsHold};
 ghost use Rattle.gabc_score.specs.machine.PartKeeps.{in_text, PartKeeps};
-ghost use Rattle.gabc_score.specs.machine.PartOnly.{HoldsTexts};
 ghost use Rattle.gabc_score.specs.machine.SyllableBuilder.{nothing_open};
-ghost use Rattle.gabc_score.specs.machine.ReadAlone.{is_error_event, is_alone, lists_from, HasRead, ReadsAlone};
+ghost use Rattle.gabc_score.specs.machine.ReadAlone.{is_error_event, BeginsAlone, HasRoomFor, HoldsAlone, IsFree, ReadsAll, ReadsAlone, StandsAlone};
 ghost use Rattle.gabc_score.specs.machine.Resumed.{first_sounded, gathered_behind};
 ghost use Rattle.gabc_score.specs.machine.ScoreMachine.{shown, IsInBody, IsScore};
 
@@ -147,11 +146,8 @@ impl ScoreMachine {
     /// Reads a character, where no syllable is held. Returns whether no limit is passed with it,
     /// and no error is found.
     fn read_alone(&mut self, x: Char, room: &mut Room<ScoreEvent>) -> bool
-        requires part { self.old.part ≡ ScorePart.Body }
-        requires rests { IsInBody self.old }
-        requires none { self.old.pair.gathered.made ≡ [] }
-        requires empty { room.old.items ≡ [] }
-        requires room { 16 ≤ room.old.limit }
+        requires alone { StandsAlone self.old }
+        requires room { IsFree room.old }
         ensures room { room.new ≡ room.old }
         ensures rests { IsScore self.new }
         ensures reads { ReadsAlone self.old self.new x result }
@@ -166,21 +162,12 @@ impl ScoreMachine {
     /// held. Returns whether one is whole with the last of them and none before, no limit is passed
     /// and no error is found.
     pub(crate) fn read_all(&mut self, at: Place, text: &str, room: &mut Room<ScoreEvent>) -> bool
-        requires part { self.old.part ≡ ScorePart.Body }
-        requires rests { IsInBody self.old }
-        requires none { self.old.pair.gathered.made ≡ [] }
-        requires line { at.line + length text.now < 2 ^ 64 }
-        requires column { at.column + length text.now < 2 ^ 64 }
-        requires empty { room.old.items ≡ [] }
-        requires room { 16 ≤ room.old.limit }
+        requires alone { StandsAlone self.old }
+        requires place { HasRoomFor at (length text.now) }
+        requires room { IsFree room.old }
         ensures room { room.new ≡ room.old }
         ensures rests { IsScore self.new }
-        ensures texts { result ≡ true → IsText text.now → HoldsTexts self.old.pair.gathered →
-            HoldsTexts self.new.pair.gathered }
-        ensures alone { result ≡ is_alone self.old.limits self.old.pair.gathered
-            (lists_from self.old at (chars text.now)) }
-        ensures goes { result ≡ true → HasRead self.old self.new
-            (lists_from self.old at (chars text.now)) }
+        ensures reads { ReadsAll self.old at text.now result self.new }
     {
         let mut place = at;
         for c in text.chars() {
@@ -199,23 +186,12 @@ impl ScoreMachine {
     /// whether it is one, with which no limit is passed and in which no error is found. Where it is
     /// none, nothing is read any more.
     fn hold_again(&mut self, text: &str, room: &mut Room<ScoreEvent>) -> bool
-        requires rests { IsScore self.old }
-        requires begins { BeginsText (shown self.old) }
-        requires none { held_of (shown self.old) ≡ None }
+        requires alone { BeginsAlone self.old }
         requires short { length text.now < 2 ^ 63 }
-        requires empty { room.old.items ≡ [] }
-        requires room { 16 ≤ room.old.limit }
+        requires room { IsFree room.old }
         ensures room { room.new ≡ room.old }
         ensures rests { IsScore self.new }
-        ensures held { result ≡ true →
-            HoldsAgain (chars text.now) (shown self.old) (shown self.new) }
-        ensures told { result ≡ true → IsText text.now → TellsOfText (shown self.old) →
-            TellsOfText (shown self.new) }
-        ensures refused { result ≡ false → (m : UnplacedSyllable) →
-            MayBeHeld self.old.limits (before_with self.old.body self.old.bounds.before)
-            (chars text.now) m → ⊥ }
-        ensures over { result ≡ false → before_of (shown self.new) ≡ None }
-        ensures ends { result ≡ false → self.new.part ≡ ScorePart.Over }
+        ensures holds { HoldsAlone self.old text.now result self.new }
     {
         stage_laws::a_text_is_read_from_its_beginning();
         if !self.read_all(Place::START, text, room) {

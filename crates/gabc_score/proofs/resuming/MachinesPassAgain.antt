@@ -1,5 +1,5 @@
 -- A machine in the body reads the next character of a kept text again: it passes no limit, and stays in the body.
-use Rattle.std.proofs.Common.{◌≡◌, ◌⊎◌, inl, inr, ◌&&◌, ◌||◌, ◌==◌, not, ℕ, zero, suc, ◌+◌, ◌≤◌, ◌<◌, ◌^◌, nat_lt, Bool, true, false, cond, List, [], ◌∷◌, ◌++◌, length, Option, Some, None, is_some, encode_utf8, encode_utf8_all, refl, sym, ap, subst, ◌∙◌, arith, append-nil, append_assoc, length-append}
+use Rattle.std.proofs.Common.{◌≡◌, ◌⊎◌, inl, inr, ◌&&◌, ◌||◌, ◌==◌, not, ℕ, zero, suc, ◌+◌, ◌≤◌, ◌<◌, nat_lt, Bool, true, false, cond, List, [], ◌∷◌, ◌++◌, length, Option, Some, None, is_some, encode_utf8, encode_utf8_all, refl, sym, ap, subst, ◌∙◌, arith, append-nil, append_assoc, length-append}
 use Rattle.std.specs.List.{All}
 use Rattle.std.proofs.lemmas.Bool.{true≢false}
 use Rattle.std.proofs.lemmas.Bool.Decides.{nat_tests}
@@ -11,16 +11,11 @@ use Rattle.gabc_places.specs.declared.code.Finding.{Finding}
 use Rattle.gabc_places.specs.declared.limits.Limits.{Limits}
 use Rattle.gabc_places.specs.declared.place.Char.{Char}
 use Rattle.gabc_places.specs.declared.place.Place.{Place}
-use Rattle.gabc_text.specs.StageTells as text_tells
-use Rattle.gabc_text.specs.declared.stage.TextStage.{TextStage}
 use Rattle.gabc_text.specs.declared.text_event.TextEnd.TheVariants as text_end
 use Rattle.gabc_text.specs.declared.text_event.TextEvent.TheVariants as text_out
 use Rattle.gabc_text.specs.declared.text_event.TextPart.TheVariants as text_part
-use Rattle.gabc_text.specs.witness.Keeps as text
 use Rattle.gabc_notes.specs.declared.stage.NoteEnd.TheVariants as note_end
 use Rattle.gabc_notes.specs.declared.stage.NoteEvent.TheVariants as note
-use Rattle.gabc_notes.specs.declared.stage.NoteStage.{NoteStage}
-use Rattle.gabc_notes.specs.witness.Keeps as notes
 use Rattle.gabc_score.specs.declared.before.Spans.{Spans}
 use Rattle.gabc_score.specs.declared.body_stage.BodyPart.{BodyPart}
 use Rattle.gabc_score.specs.declared.body_stage.BodyPart.TheVariants as part

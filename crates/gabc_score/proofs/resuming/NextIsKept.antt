@@ -4,9 +4,7 @@ use Rattle.std.proofs.lemmas.Bool.{eqb-true}
 use Rattle.gabc_patterns.specs.LongestItems.{IsSnippet}
 use Rattle.gabc_text.specs.declared.stage.TextStage.{TextStage}
 use Rattle.gabc_text.specs.witness.Keeps as text
-use Rattle.gabc_notes.specs.declared.stage.NoteStage.{NoteStage}
 use Rattle.gabc_notes.specs.Table.{gabc}
-use Rattle.gabc_notes.specs.witness.Keeps as notes
 use Rattle.gabc_nabc.specs.Table.{nabc as nabc_table}
 use Rattle.gabc_score.specs.declared.body_stage.BodyPart.{BodyPart}
 use Rattle.gabc_score.specs.Events.{next_line}

@@ -1,20 +1,16 @@
 -- Two stages over a score that hold and tell the same give the same, but for the syllable that is held.
-use Rattle.std.proofs.Common.{◌≡◌, ◌⊎◌, inl, inr, ℕ, ◌+◌, ◌≤◌, ◌==◌, ◌||◌, not, nat_lt, min, List, [], ◌∷◌, ◌++◌, length, Bool, true, false, Option, Some, None, is_some, refl, sym, ap, ◌∙◌, subst, arith}
+use Rattle.std.proofs.Common.{◌≡◌, inl, inr, ℕ, ◌≤◌, ◌==◌, ◌||◌, not, nat_lt, List, [], ◌∷◌, length, Bool, false, Option, Some, None, is_some, refl, sym, ap, ◌∙◌, arith}
 use Rattle.std.proofs.lemmas.Str.{encodes_same}
 use Rattle.gabc_places.specs.declared.limits.Limits.{Limits}
-use Rattle.gabc_places.specs.declared.place.Place.{Place}
 use Rattle.gabc_headers.specs.declared.head_event.HeadEvent.{HeadEvent}
 use Rattle.gabc_text.specs.BuiltText.{empty_view}
 use Rattle.gabc_notes.specs.declared.item.ItemKind.{ItemKind}
 use Rattle.gabc_score.specs.declared.before.Before.{Before}
 use Rattle.gabc_score.specs.declared.before.Preceding.{Preceding}
-use Rattle.gabc_score.specs.declared.before.Spans.{Spans}
-use Rattle.gabc_score.specs.declared.events.BodyEvent.{BodyEvent}
 use Rattle.gabc_score.specs.declared.score_machine.ScoreMachine.{ScoreMachine}
 use Rattle.gabc_score.specs.declared.score_machine.ScorePart.{ScorePart}
 use Rattle.gabc_score.specs.declared.score_machine.ScorePart.TheVariants as score_part
-use Rattle.gabc_score.specs.Before.{most, sounds_in, with_each, preceding_of}
-use Rattle.gabc_score.specs.Canonical.{canonical}
+use Rattle.gabc_score.specs.Before.{sounds_in, with_each, preceding_of}
 use Rattle.gabc_score.specs.HeldAside.{MayStandFor, IsSameOutput, AreSameOutputs, AreSameLists, HoldTheSame, GiveTheSame}
 use Rattle.gabc_score.specs.ScoreEvents.{ScoreOutput, Found, Stop, Syllable, End, characters_in}
 use Rattle.gabc_score.specs.ScoreTells.{before_with, held_in_body, in_body, reading_in_body}
@@ -22,12 +18,12 @@ use Rattle.gabc_score.specs.Syllable.{UnplacedSyllable}
 use Rattle.gabc_score.specs.machine.BodyBuilder.{with_all}
 use Rattle.gabc_score.specs.machine.Gatherer.{Gathered}
 use Rattle.gabc_score.specs.machine.HeldAside.{ComeAlike, AreMadeAlike, IsAside}
-use Rattle.gabc_score.specs.machine.PartKeeps.{KeptParts, joined, said_by, begun, PartKeeps, ReadAlike}
+use Rattle.gabc_score.specs.machine.PartKeeps.{joined, said_by, begun, PartKeeps, ReadAlike}
 use Rattle.gabc_score.specs.machine.ScoreMachine.{held_score, IsInBody}
-use Rattle.gabc_score.specs.machine.ScoreStage.{HeldScore, body_left}
+use Rattle.gabc_score.specs.machine.ScoreStage.{body_left}
 use Rattle.gabc_score.specs.machine.StageLaws.{Again}
 use Rattle.gabc_score.specs.machine.SyllableBuilder.{OpenSyllable}
-use Rattle.gabc_score.specs.witness.BodyStage.{BodyStageState, running_events_left}
+use Rattle.gabc_score.specs.witness.BodyStage.{running_events_left}
 use Rattle.gabc_score.proofs.resuming.PartsAreOne.{parts_are_one}
 use Rattle.gabc_score.proofs.resuming.SameButHeld.{left_same}
 use Rattle.gabc_score.proofs.resuming.StagesAgree.{KeepTheSame}

@@ -1,20 +1,14 @@
 -- Two stages over a score that stand alike give the same, but for the syllable that is held.
-use Rattle.std.proofs.Common.{◌≡◌, ◌==◌, ℕ, List, [], ◌∷◌, ◌++◌, Bool, true, false, Option, Some, None, is_some, refl, sym, ap, subst, ◌∙◌}
+use Rattle.std.proofs.Common.{◌≡◌, ◌==◌, List, [], Bool, true, false, Option, Some, None, is_some, refl, sym, ap, subst, ◌∙◌}
 use Rattle.gabc_places.specs.declared.place.Place.{Place}
 use Rattle.gabc_headers.specs.declared.head_event.HeadEvent.{HeadEvent}
-use Rattle.gabc_text.specs.declared.stage.TextStage.{TextStage}
-use Rattle.gabc_text.specs.witness.Keeps as text
-use Rattle.gabc_notes.specs.declared.stage.NoteStage.{NoteStage}
-use Rattle.gabc_notes.specs.witness.Keeps as notes
 use Rattle.gabc_score.specs.declared.before.Before.{Before}
 use Rattle.gabc_score.specs.declared.body_stage.BodyPart.{BodyPart}
 use Rattle.gabc_score.specs.declared.score_machine.ScoreMachine.{ScoreMachine}
-use Rattle.gabc_score.specs.declared.score_machine.ScorePart.{ScorePart}
-use Rattle.gabc_score.specs.declared.score_machine.ScorePart.TheVariants as score_part
 use Rattle.gabc_score.specs.HeldAside.{GiveTheSame, HoldTheSame}
 use Rattle.gabc_score.specs.ScoreEvents.{ScoreOutput, characters_in}
 use Rattle.gabc_score.specs.ScoreStage.{StandInLine}
-use Rattle.gabc_score.specs.ScoreTells.{before_of, before_with, held_of, in_body, is_in_comment, is_in_front}
+use Rattle.gabc_score.specs.ScoreTells.{before_of, before_with, held_of, is_in_comment, is_in_front}
 use Rattle.gabc_score.specs.StandAlike.{StandAlike}
 use Rattle.gabc_score.specs.Syllable.{UnplacedSyllable}
 use Rattle.gabc_score.specs.machine.ScoreMachine.{shown}

@@ -1,7 +1,8 @@
 -- What becomes of a text that is read by itself: whether it is one syllable, after which no limit
 -- is passed.
-use Rattle.std.specs.Prelude.{◌≡◌, ℕ, ◌&&◌, ◌≤◌, not, List, [], ◌∷◌, ◌++◌, Bool, true, false, None, is_some, length, take}
+use Rattle.std.specs.Prelude.{◌≡◌, ℕ, ◌+◌, ◌<◌, ◌^◌, ◌&&◌, ◌≤◌, not, List, [], ◌∷◌, ◌++◌, Bool, true, false, None, is_some, length, take}
 use Rattle.std.specs.List.{All, list_any}
+use Rattle.std.specs.Str.{chars}
 use Rattle.gabc_places.specs.BoundedList.{BoundedList, extended_by}
 use Rattle.gabc_places.specs.Place.{placed_characters_from}
 use Rattle.gabc_places.specs.StageLaw.{concat_of}
@@ -17,14 +18,21 @@ use Rattle.gabc_score.specs.declared.score_event.ScoreEvent.{ScoreEvent}
 use Rattle.gabc_score.specs.declared.score_event.ScoreEvent.TheVariants as event
 use Rattle.gabc_score.specs.declared.score_machine.ScoreMachine.{ScoreMachine}
 use Rattle.gabc_score.specs.declared.score_machine.ScorePart.TheVariants as score_part
+use Rattle.gabc_places.specs.TextOfAnInput.{IsText}
 use Rattle.gabc_score.specs.Body.{is_none}
+use Rattle.gabc_score.specs.HeldAgain.{MayBeHeld}
 use Rattle.gabc_score.specs.NoteBeforeClef.{found_first}
 use Rattle.gabc_score.specs.ScoreEvents.{findings_now, first_place, outputs_of}
+use Rattle.gabc_score.specs.Resumed.{BeginsText, HoldsAgain}
 use Rattle.gabc_score.specs.ScoreStage.{events_of}
+use Rattle.gabc_score.specs.ScoreTells.{before_of, before_with, held_of}
+use Rattle.gabc_score.specs.Syllable.{UnplacedSyllable}
+use Rattle.gabc_score.specs.ToldWithin.{TellsOfText}
 use Rattle.gabc_score.specs.machine.BodyBuilder.{with_all, code_in}
 use Rattle.gabc_score.specs.machine.Gatherer.{Gathered}
-use Rattle.gabc_score.specs.machine.PartOnly.{IsKeptOf, kept_codes}
+use Rattle.gabc_score.specs.machine.PartOnly.{HoldsTexts, IsKeptOf, kept_codes}
 use Rattle.gabc_score.specs.machine.PartPushes.{ClosesLast}
+use Rattle.gabc_score.specs.machine.ScoreMachine.{IsInBody, IsScore, shown}
 use Rattle.gabc_score.specs.machine.ScoreStage.{with_held}
 use Rattle.gabc_score.specs.machine.SyllableBuilder.{nothing_open}
 use Rattle.gabc_score.specs.witness.BodyStage.{BodyStageState, running_events_left}
@@ -108,3 +116,42 @@ lists_of m text = lists_from m first_place text
 
 abbrev pub HasRead : ScoreMachine → ScoreMachine → List (List BodyEvent) → Type 0
 HasRead old new lists = GoesOn old new (with_all old.pair.gathered (concat_of lists))
+
+-- ---- a text that is read by itself
+
+-- in the body no syllable is held
+pub record StandsAlone (m : ScoreMachine) : Type 0 where
+  pub part : m.part ≡ score_part.Body
+  pub rests : IsInBody m
+  pub none : m.pair.gathered.made ≡ []
+
+-- nothing stands in a room for what one character gives
+pub record IsFree (room : BoundedList ScoreEvent) : Type 0 where
+  pub empty : room.items ≡ []
+  pub holds : 16 ≤ room.limit
+
+-- no count of a place reaches its last value with n characters
+pub record HasRoomFor (at : Place) (n : ℕ) : Type 0 where
+  pub line : at.line + n < 2 ^ 64
+  pub column : at.column + n < 2 ^ 64
+
+-- A text was read whose first character stands there. The result tells whether it is one syllable.
+pub record ReadsAll (old : ScoreMachine) (at : Place) (text : List ℕ) (result : Bool) (new : ScoreMachine) : Type 0 where
+  pub texts : result ≡ true → IsText text → HoldsTexts old.pair.gathered → HoldsTexts new.pair.gathered
+  pub alone : result ≡ is_alone old.limits old.pair.gathered (lists_from old at (chars text))
+  pub goes : result ≡ true → HasRead old new (lists_from old at (chars text))
+
+-- it begins a text, and holds none
+pub record BeginsAlone (m : ScoreMachine) : Type 0 where
+  pub rests : IsScore m
+  pub begins : BeginsText (shown m)
+  pub none : held_of (shown m) ≡ None
+
+-- A text was read so, and is held if the result tells that it is one syllable. Else the reading is
+-- over.
+pub record HoldsAlone (old : ScoreMachine) (text : List ℕ) (result : Bool) (new : ScoreMachine) : Type 0 where
+  pub held : result ≡ true → HoldsAgain (chars text) (shown old) (shown new)
+  pub told : result ≡ true → IsText text → TellsOfText (shown old) → TellsOfText (shown new)
+  pub refused : result ≡ false → (m : UnplacedSyllable) → MayBeHeld old.limits (before_with old.body old.bounds.before) (chars text) m → ⊥
+  pub over : result ≡ false → before_of (shown new) ≡ None
+  pub ends : result ≡ false → new.part ≡ score_part.Over

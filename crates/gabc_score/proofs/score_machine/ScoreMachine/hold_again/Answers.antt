@@ -1,6 +1,7 @@
 use Rattle.std.proofs.Common.{◌≡◌, ℕ, ◌≤◌, ◌∷◌, [], List, length, Some, refl, sym, ap, subst, ◌∙◌, arith}
 use Rattle.std.proofs.lemmas.Bool.{true≢false}
 use Rattle.std.specs.Str.{chars}
+use Rattle.gabc_places.specs.TextOfAnInput.{IsText}
 use Rattle.gabc_text.specs.witness.EventsLeft as fresh_events
 use Rattle.gabc_score.specs.declared.before.Preceding.{Preceding}
 use Rattle.gabc_score.specs.declared.score_machine.ScorePart.{ScorePart}
@@ -11,6 +12,7 @@ use Rattle.gabc_score.specs.ScoreTells.{before_with, is_in_front, held_in_body, 
 use Rattle.gabc_score.specs.Syllable.{UnplacedSyllable}
 use Rattle.gabc_score.specs.machine.Gatherer.{Gathered}
 use Rattle.gabc_score.specs.machine.PartCounts.{CountsHold}
+use Rattle.gabc_score.specs.machine.PartOnly.{HoldsTexts}
 use Rattle.gabc_score.specs.machine.ScoreMachine.{IsInBody, IsScoreAt}
 use Rattle.gabc_score.specs.machine.SyllableBuilder.{OpenSyllable}
 use Rattle.gabc_score.specs.witness.BodyStage.{BodyStageState}
@@ -20,13 +22,19 @@ use Rattle.gabc_score.proofs.resuming.ResumedIsOfText.{first_is_place}
 use Rattle.gabc_score.proofs.texts_of_body.StageAndDefinitionAgree.{fits_behind_prefix}
 use Rattle.gabc_score.proofs.score_machine.ScoreMachine.hold_again.Goals as goal
 
-pub returns-then-not-read_all-clause-refused : goal.returns-then-not-read_all-clause-refused
-returns-then-not-read_all-clause-refused c given m may =
+pub returns-then-not-read_all-clause-holds : goal.returns-then-not-read_all-clause-holds
+returns-then-not-read_all-clause-holds c =
     let was = c.args.self.now in
     let short = c.requires.short in
-    let rests : IsInBody was = subst (λ (p : ScorePart). IsScoreAt p was) c.requires.begins.body c.requires.rests in
+    let rests : IsInBody was = subst (λ (p : ScorePart). IsScoreAt p was) c.requires.alone.begins.body c.requires.alone.rests in
     let fits = fits_behind_prefix first_place [] c.args.text.now c.utf8.text (omega arith) (omega arith) (omega (arith, short)) in
-    true≢false (sym (is_found was rests c.requires.begins c.requires.none (chars c.args.text.now) fits c.a_text_is_read_from_its_beginning.ensures m may) ∙ sym c.read_all.ensures.alone ∙ c.if-not-read_all.true)
+    record {
+      held = λ good. absurd (true≢false (sym good));
+      told = λ good. absurd (true≢false (sym good));
+      refused = λ bad m may. true≢false (sym (is_found was rests c.requires.alone.begins c.requires.alone.none (chars c.args.text.now) fits c.a_text_is_read_from_its_beginning.ensures m may) ∙ sym c.read_all.ensures.reads.alone ∙ c.if-not-read_all.true);
+      over = λ bad. refl;
+      ends = λ bad. refl;
+    }
 
 -- the syllable that is found is held
 held_there : (p : ScorePart) (ms : List UnplacedSyllable) (m : UnplacedSyllable) → p ≡ score_part.Body → ms ≡ m ∷ [] → held_in_body p ms ≡ Some m
@@ -44,40 +52,57 @@ before_there p q a b was is e f lines macros same =
 reads_there : (p : ScorePart) (kept : List ℕ) → p ≡ score_part.Body → kept ≡ [] → reading_in_body p kept ≡ []
 reads_there p kept e f = ap (λ (q : ScorePart). reading_in_body q kept) e ∙ f
 
-pub returns-clause-held : goal.returns-clause-held
-returns-clause-held c true-is =
+pub returns-clause-holds : goal.returns-clause-holds
+unfolding fresh_events.events_left
+returns-clause-holds c =
     let was = c.args.self.now in
     let short = c.requires.short in
-    let rests : IsInBody was = subst (λ (p : ScorePart). IsScoreAt p was) c.requires.begins.body c.requires.rests in
+    let rests : IsInBody was = subst (λ (p : ScorePart). IsScoreAt p was) c.requires.alone.begins.body c.requires.alone.rests in
     let fits = fits_behind_prefix first_place [] c.args.text.now c.utf8.text (omega arith) (omega arith) (omega (arith, short)) in
     let good = c.if-not-read_all.false in
-    let on = c.read_all.ensures.goes good in
+    let on = c.read_all.ensures.reads.goes good in
     let few = subst (λ (g : Gathered). length g.made ≤ 1) on.gathered c.at_most_one_is_held.ensures in
-    let found = found_alone was rests c.requires.begins c.requires.none (chars c.args.text.now) fits c.a_text_is_read_from_its_beginning.ensures (sym c.read_all.ensures.alone ∙ good) few in
+    let found = found_alone was rests c.requires.alone.begins c.requires.alone.none (chars c.args.text.now) fits c.a_text_is_read_from_its_beginning.ensures (sym c.read_all.ensures.reads.alone ∙ good) few in
     let made = ap (λ (g : Gathered). g.made) on.gathered ∙ found.made in
     let nothing = on.whole (ap is_none found.made) in
     let kept = ap (λ (g : Gathered). g.builder.kept) on.gathered ∙ ap (λ (o : OpenSyllable). o.kept) nothing in
     let body = ap (λ (b : BodyStageState). b.part) c.begin_text.ensures.text in
+    let texts = λ (text : IsText c.args.text.now) (t : HoldsTexts was.pair.gathered). c.read_all.ensures.reads.texts good text t in
     record {
-      m = found.syllable;
-      may = found.may;
-      held = held_there c.read_all.new.self.part c.read_all.new.self.pair.gathered.made found.syllable on.part made;
-      limits = on.limits;
-      before_is = before_there was.part c.read_all.new.self.part was.body c.begin_text.new.self was.bounds.before c.read_all.new.self.bounds.before c.requires.begins.body on.part
-          (ap (λ (b : BodyStageState). b.nabc_lines) c.begin_text.ensures.text ∙ on.lines) (ap (λ (b : BodyStageState). b.macros) c.begin_text.ensures.text ∙ on.macros) on.before;
-      begins = record { body = on.part; nothing_read = reads_there c.read_all.new.self.part c.read_all.new.self.pair.gathered.builder.kept on.part kept; begins = body; next = refl };
+      held = λ fine. record {
+        m = found.syllable;
+        may = found.may;
+        held = held_there c.read_all.new.self.part c.read_all.new.self.pair.gathered.made found.syllable on.part made;
+        limits = on.limits;
+        before_is = before_there was.part c.read_all.new.self.part was.body c.begin_text.new.self was.bounds.before c.read_all.new.self.bounds.before c.requires.alone.begins.body on.part
+            (ap (λ (b : BodyStageState). b.nabc_lines) c.begin_text.ensures.text ∙ on.lines) (ap (λ (b : BodyStageState). b.macros) c.begin_text.ensures.text ∙ on.macros) on.before;
+        begins = record { body = on.part; nothing_read = reads_there c.read_all.new.self.part c.read_all.new.self.pair.gathered.builder.kept on.part kept; begins = body; next = refl };
+      };
+      told = λ fine text told now.
+          let t = told c.requires.alone.begins.body in
+          let b = c.begin_text.ensures.text in
+          record {
+            counts = rw (on.limits, ap (λ (s : BodyStageState). s.nabc_lines) b ∙ on.lines, ap (λ (s : BodyStageState). s.macros) b ∙ on.macros, on.before) t.counts;
+            next = first_is_place;
+            openers = rw (ap (λ (s : BodyStageState). s.part) b) (record { notes = tt; inner = tt; in_order = tt });
+            reading = (texts text (t.reading, t.held)).0;
+            held = (texts text (t.reading, t.held)).1;
+          };
+      refused = λ bad. absurd (true≢false bad);
+      over = λ bad. absurd (true≢false bad);
+      ends = λ bad. absurd (true≢false bad);
     }
 
 pub returns-clause-rests : goal.returns-clause-rests
 returns-clause-rests c =
-    let on = c.read_all.ensures.goes c.if-not-read_all.false in
+    let on = c.read_all.ensures.reads.goes c.if-not-read_all.false in
     let was : IsInBody c.read_all.new.self = subst (λ (p : ScorePart). IsScoreAt p c.read_all.new.self) on.part c.read_all.ensures.rests in
     let short = c.requires.short in
-    let some = sym c.read_all.ensures.alone ∙ c.if-not-read_all.false in
-    let old : IsInBody c.args.self.now = subst (λ (p : ScorePart). IsScoreAt p c.args.self.now) c.requires.begins.body c.requires.rests in
+    let some = sym c.read_all.ensures.reads.alone ∙ c.if-not-read_all.false in
+    let old : IsInBody c.args.self.now = subst (λ (p : ScorePart). IsScoreAt p c.args.self.now) c.requires.alone.begins.body c.requires.alone.rests in
     let fits = fits_behind_prefix first_place [] c.args.text.now c.utf8.text (omega arith) (omega arith) (omega (arith, short)) in
     let few = subst (λ (g : Gathered). length g.made ≤ 1) on.gathered c.at_most_one_is_held.ensures in
-    let found = found_alone c.args.self.now old c.requires.begins c.requires.none (chars c.args.text.now) fits c.a_text_is_read_from_its_beginning.ensures some few in
+    let found = found_alone c.args.self.now old c.requires.alone.begins c.requires.alone.none (chars c.args.text.now) fits c.a_text_is_read_from_its_beginning.ensures some few in
     let nothing = ap (λ (g : Gathered). g.builder) on.gathered ∙ on.whole (ap is_none found.made) in
     rw on.part (record {
       rests = record { none = was.rests.none; room = was.rests.room; limit = was.rests.limit; used = was.rests.used; over = was.rests.over; short = was.rests.short };
@@ -93,19 +118,3 @@ returns-clause-rests c =
       within = was.within;
       front = λ e. absurd (true≢false (sym e ∙ ap (λ (b : BodyStageState). is_in_front b.part) c.begin_text.ensures.text));
     })
-
-pub returns-clause-told : goal.returns-clause-told
-unfolding fresh_events.events_left
-returns-clause-told c = λ held text told body.
-    let was = c.args.self.now in
-    let t = told c.requires.begins.body in
-    let on = c.read_all.ensures.goes c.if-not-read_all.false in
-    let b = c.begin_text.ensures.text in
-    let texts = c.read_all.ensures.texts c.if-not-read_all.false text (t.reading, t.held) in
-    record {
-      counts = rw (on.limits, ap (λ (s : BodyStageState). s.nabc_lines) b ∙ on.lines, ap (λ (s : BodyStageState). s.macros) b ∙ on.macros, on.before) t.counts;
-      next = first_is_place;
-      openers = rw (ap (λ (s : BodyStageState). s.part) b) (record { notes = tt; inner = tt; in_order = tt });
-      reading = texts.0;
-      held = texts.1;
-    }

@@ -1,5 +1,5 @@
 use Rattle.std.proofs.Common.{◌≡◌, true, ◌-◌, ◌^◌, length, sym, ap, subst, ◌∙◌, arith}
-use Rattle.std.proofs.lemmas.Bool.{and_parts}
+use Rattle.std.proofs.lemmas.Bool.{and_parts, true≢false}
 use Rattle.std.proofs.lemmas.List.Elements.{All-head, All-tail}
 use Rattle.std.specs.List.{All}
 use Rattle.std.specs.Str.{chars}
@@ -67,48 +67,50 @@ loop-c-preserved c =
       column = omega (arith, fits.1);
     }
 
-pub returns-then-has_held-clause-alone : goal.returns-then-has_held-clause-alone
-returns-then-has_held-clause-alone c =
+pub returns-then-has_held-clause-reads : goal.returns-then-has_held-clause-reads
+returns-then-has_held-clause-reads c =
     let i = c.loop-c.invariant in
     let step = c.in-Some.ensures.steps.0 in
     let rest = chars_rest c.loop-c.c-iterator in
     let next = chars_rest c.next.new.self in
     let past = chars_past_char rest next c.in-Some.c i.utf8 step in
-    sym (i.alone ∙ ap (λ cs. is_alone c.loop-c.self.limits c.loop-c.self.pair.gathered (lists_from c.loop-c.self c.loop-c.place cs)) past
-    ∙ held_then c.loop-c.self c.loop-c.place c.in-Some.c (chars next) (sym c.has_held.ensures ∙ c.if-has_held.true))
+    record {
+      texts = λ good. absurd (true≢false (sym good));
+      alone = sym (i.alone ∙ ap (λ cs. is_alone c.loop-c.self.limits c.loop-c.self.pair.gathered (lists_from c.loop-c.self c.loop-c.place cs)) past
+          ∙ held_then c.loop-c.self c.loop-c.place c.in-Some.c (chars next) (sym c.has_held.ensures ∙ c.if-has_held.true));
+      goes = λ good. absurd (true≢false (sym good));
+    }
 
-pub returns-then-not-read_alone-clause-alone : goal.returns-then-not-read_alone-clause-alone
-returns-then-not-read_alone-clause-alone c =
+pub returns-then-not-read_alone-clause-reads : goal.returns-then-not-read_alone-clause-reads
+returns-then-not-read_alone-clause-reads c =
     let i = c.loop-c.invariant in
     let step = c.in-Some.ensures.steps.0 in
     let rest = chars_rest c.loop-c.c-iterator in
     let next = chars_rest c.next.new.self in
     let past = chars_past_char rest next c.in-Some.c i.utf8 step in
-    sym (i.alone ∙ ap (λ cs. is_alone c.loop-c.self.limits c.loop-c.self.pair.gathered (lists_from c.loop-c.self c.loop-c.place cs)) past
-    ∙ not_alone c.loop-c.self c.read_alone.new.self c.loop-c.place c.in-Some.c (chars next) c.read_alone.result c.read_alone.ensures.reads c.if-not-read_alone.true)
+    record {
+      texts = λ good. absurd (true≢false (sym good));
+      alone = sym (i.alone ∙ ap (λ cs. is_alone c.loop-c.self.limits c.loop-c.self.pair.gathered (lists_from c.loop-c.self c.loop-c.place cs)) past
+          ∙ not_alone c.loop-c.self c.read_alone.new.self c.loop-c.place c.in-Some.c (chars next) c.read_alone.result c.read_alone.ensures.reads c.if-not-read_alone.true);
+      goes = λ good. absurd (true≢false (sym good));
+    }
 
-pub returns-clause-alone : goal.returns-clause-alone
-returns-clause-alone c =
-    let i = c.loop-c.invariant in
-    let rest = chars_rest c.loop-c.c-iterator in
-    let none = chars-none rest c.in-None.ensures.steps.0.0 in
-    c.has_held-2.ensures ∙ sym (i.alone ∙ ap (λ cs. is_alone c.loop-c.self.limits c.loop-c.self.pair.gathered (lists_from c.loop-c.self c.loop-c.place cs)) none)
-
-pub returns-clause-goes : goal.returns-clause-goes
-returns-clause-goes c held =
+pub returns-clause-reads : goal.returns-clause-reads
+returns-clause-reads c =
     let i = c.loop-c.invariant in
     let rest = chars_rest c.loop-c.c-iterator in
     let none = chars-none rest c.in-None.ensures.steps.0.0 in
     let all = i.gathered ∙ ap (λ cs. with_all c.loop-c.self.pair.gathered (concat_of (lists_from c.loop-c.self c.loop-c.place cs))) none in
     record {
-      part = i.part;
-      gathered = sym all;
-      lines = i.lines;
-      macros = i.macros;
-      before = i.before;
-      limits = i.limits;
-      whole = λ some. ap (λ g. g.builder) all ∙ i.whole (ap (λ g. is_none g.made) (sym all) ∙ some);
+      texts = λ held text was. (i.texts text was).1;
+      alone = c.has_held-2.ensures ∙ sym (i.alone ∙ ap (λ cs. is_alone c.loop-c.self.limits c.loop-c.self.pair.gathered (lists_from c.loop-c.self c.loop-c.place cs)) none);
+      goes = λ held. record {
+        part = i.part;
+        gathered = sym all;
+        lines = i.lines;
+        macros = i.macros;
+        before = i.before;
+        limits = i.limits;
+        whole = λ some. ap (λ g. g.builder) all ∙ i.whole (ap (λ g. is_none g.made) (sym all) ∙ some);
+      };
     }
-
-pub returns-clause-texts : goal.returns-clause-texts
-returns-clause-texts c = λ held text was. (c.loop-c.invariant.texts text was).1
