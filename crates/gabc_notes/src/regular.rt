@@ -1,11 +1,13 @@
 //! How far a text is a regular snippet: it is kept as it stands, and nothing is found in it.
 
-ghost use Rattle.std.specs.Prelude.{◌≡◌, ◌≤◌, ◌==◌, ◌||◌, length, take, true};
+ghost use Rattle.std.specs.Prelude.{◌≡◌, ◌≤◌, ◌==◌, ◌||◌, length, take, true, Some};
 ghost use Rattle.gabc_patterns.specs.LongestPrefix.{IsLongestPrefix};
 ghost use Rattle.gabc_notes.specs.Regular.{IsRegular};
+ghost use Rattle.gabc_notes.specs.machine.CharClass.{class_of_character};
+ghost use Rattle.gabc_notes.specs.machine.ItemMachine.{next_state, raw_state};
 ghost use Rattle.gabc_notes.specs.machine.Regular.{begins_front, ends_regularly, front_state, goes_on_front, is_front, item_at, regular_after, warns_at};
 
-use crate::class::class_of;
+use crate::class::{CharClass, class_of};
 use crate::macro_prefix::{MacroPrefix, digit_of_prefix, prefix_with};
 use crate::state::{ItemState, is_attribute, is_raw, is_whole, next_state, short_step};
 
@@ -17,6 +19,18 @@ pub(crate) struct RegularState {
     name: MacroPrefix,
     /// Whether an `@[` is open.
     fused: bool,
+}
+
+/// Returns whether an attribute or a spacing goes on with `c`.
+#[inline(always)]
+fn stays_inside(c: char) -> bool
+    ensures { result ≡ true → (s : ItemState) → raw_state s ≡ true →
+        next_state s (class_of_character c) ≡ Some s }
+{
+    match class_of(c) {
+        CharClass::Close => false,
+        _ => true,
+    }
 }
 
 impl RegularState {
@@ -33,7 +47,8 @@ impl RegularState {
     }
 
     /// Returns where the reading stands after `c`; `None` where `c` is not kept or something is
-    /// found at it. Most notes have their short way, and so have the marks that end them.
+    /// found at it. Most notes have their short way, and so have the marks that end them and what
+    /// stands in brackets.
     #[inline(always)]
     fn after(self, c: char) -> Option<RegularState>
         ensures { result ≡ regular_after self c }
@@ -43,6 +58,10 @@ impl RegularState {
                 item: next,
                 name: MacroPrefix::Closed,
                 fused: self.fused,
+            }),
+            None if is_raw(self.item) && stays_inside(c) => Some(RegularState {
+                name: prefix_with(self.name, c),
+                ..self
             }),
             None if (c == ')' || c == '|') && !is_raw(self.item) => None,
             None => self.after_any(c),
