@@ -17,9 +17,12 @@ use Rattle.gabc_notes.specs.declared.stage.NoteEnd.TheVariants as note_end
 use Rattle.gabc_notes.specs.declared.stage.NoteEvent.{NoteEvent}
 use Rattle.gabc_notes.specs.declared.stage.NoteEvent.TheVariants as note
 use Rattle.gabc_notes.specs.declared.stage.NoteStage.{NoteStage}
+use Rattle.gabc_notes.specs.SnippetRead.{kept_of}
+use Rattle.gabc_notes.specs.StageTells as note_tells
 use Rattle.gabc_notes.specs.witness.Keeps as notes
 use Rattle.gabc_nabc.specs.Events as nabc_events
 use Rattle.gabc_nabc.specs.declared.stage.NabcStage.{NabcStage}
+use Rattle.gabc_nabc.specs.witness.DescriptorMachine.{comment_in}
 use Rattle.gabc_nabc.specs.witness.Keeps as nabc
 use Rattle.gabc_score.specs.declared.body_stage.BodyPart.{BodyPart}
 use Rattle.gabc_score.specs.declared.body_stage.BodyPart.TheVariants as part
@@ -28,7 +31,7 @@ use Rattle.gabc_score.specs.declared.events.BodyEvent.{BodyEvent}
 use Rattle.gabc_score.specs.declared.events.BodyEvent.TheVariants as event
 use Rattle.gabc_score.specs.Events.{InNotes, behind_mark, events_from, is_close, is_next, is_text_end, next_line, note_event}
 use Rattle.gabc_score.specs.KeptAgain.{opens}
-use Rattle.gabc_score.specs.ScoreTells.{is_in_front, openers_of}
+use Rattle.gabc_score.specs.ScoreTells.{is_in_comment, is_in_front, openers_of}
 use Rattle.gabc_score.specs.machine.PartKeeps.{KeptParts, in_text, in_notes, text_events, PartKeeps, PartKeepsOn, PartStandsOn}
 use Rattle.gabc_score.specs.machine.PartOpens.{PartOpensOn}
 use Rattle.gabc_score.specs.machine.ReadAgain.{ReadsAgain}
@@ -43,7 +46,7 @@ use Rattle.gabc_score.proofs.building.PartsOfKeptText.{of_notes}
 use Rattle.gabc_score.proofs.building.PartsOpenOn.{opens_on}
 use Rattle.gabc_score.proofs.building.PartsStandOn.{stands_on}
 use Rattle.gabc_score.proofs.building.SnippetsTakeCharacters.{stays_in_notes}
-use Rattle.gabc_score.proofs.keeping.PartsKeepOne.{KeepsOne, text_one, text_end_one, gabc_one, gabc_next_one, gabc_close_one, nabc_one, nabc_next_one, nabc_close_one}
+use Rattle.gabc_score.proofs.keeping.PartsKeepOne.{KeepsOne, close_one, goes_one, next_one, text_one, text_end_one}
 use Rattle.gabc_score.proofs.resuming.PartsReadAgain.{reads_again}
 use Rattle.gabc_score.proofs.score_events.FrontIsFirst.{leaves_front}
 use Rattle.gabc_score.proofs.stopped_scores.ClosedWithin.{close_count, count_one}
@@ -168,23 +171,27 @@ module _ (laws : Steps) (lines macros : ℕ) where
       taken (step.text_ends (record { law = λ xs. t.emits (codes_of xs); keeps = t.keeps }) e n.begins) refl (text_end_one lines macros s x t e n.snippet n.begins.tells.1)
   text_takes s x t false e = taken (step.text_goes (record { law = λ xs. t.emits (codes_of xs); keeps = t.keeps }) e) refl (text_one lines macros s x t e)
 
-  gabc_takes : (opened : Place) (s : NoteStage) (x : Char) (t : notes.Takes s x) (next close : Bool) → list_any is_next t.events ≡ next → list_any is_close t.events ≡ close → TakesOne lines macros (part.Notes opened s) x
-  gabc_takes opened s x t true close e f =
-      let n = snippet_at (next_line lines 0) opened in
-      taken (step.snippet_next (step.in_gabc (record { law = t.emits; keeps = t.keeps })) e n.begins) refl (gabc_next_one lines macros opened s x t n.snippet n.begins.tells.1 e)
-  gabc_takes opened s x t false true e f =
-      taken (step.snippet_closes (step.in_gabc (record { law = t.emits; keeps = t.keeps })) e f) refl
-      (gabc_close_one lines macros opened s x t (part.Text (fresh_stage (behind_mark x.place))) (comment_fresh (behind_mark x.place)) f)
-  gabc_takes opened s x t false false e f = taken (step.snippet_goes (step.in_gabc (record { law = t.emits; keeps = t.keeps })) e f) refl (gabc_one lines macros opened s x t e f)
-
-  nabc_takes : (line : ℕ) (opened : Place) (s : NabcStage) (x : Char) (t : nabc.Takes s x) (next close : Bool) → list_any is_next t.events ≡ next → list_any is_close t.events ≡ close → TakesOne lines macros (part.Nabc line opened s) x
-  nabc_takes line opened s x t true close e f =
+  snippet_takes : {x : Char} {line : ℕ} {opened : Place} {before same : BodyPart} {es : List NoteEvent} → SnippetSteps x line opened before es same → is_in_front before ≡ false
+      → ((p : KeptParts) → PartKeeps lines macros before p → x.c ≡ 37 → kept_of es ≡ [] → is_in_comment same ≡ true) → (next close : Bool) → list_any is_next es ≡ next → list_any is_close es ≡ close → TakesOne lines macros before x
+  snippet_takes {line = line} {opened} s front percent true close e f =
       let n = snippet_at (next_line lines line) opened in
-      taken (step.snippet_next (step.in_nabc (record { law = t.emits; keeps = t.keeps })) e n.begins) refl (nabc_next_one lines macros line opened s x t n.snippet n.begins.tells.1 e)
-  nabc_takes line opened s x t false true e f =
-      taken (step.snippet_closes (step.in_nabc (record { law = t.emits; keeps = t.keeps })) e f) refl
-      (nabc_close_one lines macros line opened s x t (part.Text (fresh_stage (behind_mark x.place))) (comment_fresh (behind_mark x.place)) f)
-  nabc_takes line opened s x t false false e f = taken (step.snippet_goes (step.in_nabc (record { law = t.emits; keeps = t.keeps })) e f) refl (nabc_one lines macros line opened s x t e f)
+      taken (step.snippet_next s e n.begins) front (next_one lines macros s n.snippet n.begins.tells.1 e)
+  snippet_takes {x} s front percent false true e f =
+      taken (step.snippet_closes s e f) front (close_one lines macros s (part.Text (fresh_stage (behind_mark x.place))) (comment_fresh (behind_mark x.place)) f)
+  snippet_takes s front percent false false e f = taken (step.snippet_goes s e f) front (goes_one lines macros s e f percent)
+
+  gabc_percent : (opened : Place) (s : NoteStage) (x : Char) (t : notes.Takes s x) (p : KeptParts) → PartKeeps lines macros (part.Notes opened s) p → x.c ≡ 37 → kept_of t.events ≡ [] → note_tells.comment_of t.after ≡ true
+  gabc_percent opened s x t (in_text k) keeps is none = absurd keeps
+  gabc_percent opened s x t (in_notes u earlier k) keeps is none = t.percent (nat_lt 0 lines) macros k keeps.1 is none
+
+  nabc_percent : (line : ℕ) (opened : Place) (s : NabcStage) (x : Char) (t : nabc.Takes s x) (p : KeptParts) → PartKeeps lines macros (part.Nabc line opened s) p → x.c ≡ 37 → kept_of t.events ≡ [] → nabc.comment_of t.after ≡ true
+  nabc_percent line opened s x t (in_text k) keeps is none = absurd keeps
+  nabc_percent line opened s x t (in_notes u earlier k) keeps is none =
+      (t.keeps.goes k keeps.1.1 (ap (nabc.is_end_behind (nabc.comment_of s)) is ∙ goes_on (nabc.comment_of s))).comment ∙ ap (comment_in (nabc.comment_of s)) is
+    where
+      goes_on : (a : Bool) → nabc.is_end_behind a 37 ≡ false
+      goes_on true = refl
+      goes_on false = refl
 
   pub takes_one : (b : BodyPart) (p : KeptParts) → PartKeeps lines macros b p → is_in_front b ≡ false → (x : Char) → TakesOne lines macros b x
   takes_one part.Comment p keeps front x = absurd (false≢true (sym front))
@@ -193,8 +200,8 @@ module _ (laws : Steps) (lines macros : ℕ) where
   takes_one (part.Notes opened s) (in_text k) keeps front x = absurd keeps
   takes_one (part.Notes opened s) (in_notes u earlier k) keeps front x =
       let t = laws.gabc_takes s x keeps.1.goes_on in
-      gabc_takes opened s x t (list_any is_next t.events) (list_any is_close t.events) refl refl
+      snippet_takes (step.in_gabc {opened = opened} (record { law = t.emits; keeps = t.keeps })) refl (gabc_percent opened s x t) (list_any is_next t.events) (list_any is_close t.events) refl refl
   takes_one (part.Nabc line opened s) (in_text k) keeps front x = absurd keeps
   takes_one (part.Nabc line opened s) (in_notes u earlier k) keeps front x =
       let t = laws.nabc_takes s x in
-      nabc_takes line opened s x t (list_any is_next t.events) (list_any is_close t.events) refl refl
+      snippet_takes (step.in_nabc {line = line} {opened = opened} (record { law = t.emits; keeps = t.keeps })) refl (nabc_percent line opened s x t) (list_any is_next t.events) (list_any is_close t.events) refl refl
