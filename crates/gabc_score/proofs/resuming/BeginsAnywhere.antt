@@ -68,9 +68,7 @@ module _ (limits : Limits) (lines macros : ℕ) (limit : ℕ) (made : List Unpla
 
 pub front_is : (p : BodyPart) → is_in_front p ≡ true → p ≡ part.Comment
 front_is part.Comment e = refl
-front_is (part.Text stage) e = absurd (cc e)
-front_is (part.Notes opened stage) e = absurd (cc e)
-front_is (part.Nabc line opened stage) e = absurd (cc e)
+front_is _ e = absurd (cc e)
 
 pub front_reads : (p : BodyPart) (o : OpenSyllable) → is_in_front p ≡ true → CountsHold p o → o ≡ nothing_open
 front_reads p o front counts = subst (λ (b : BodyPart). CountsHold b o) (front_is p front) counts

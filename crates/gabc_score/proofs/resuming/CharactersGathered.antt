@@ -10,7 +10,7 @@ use Rattle.gabc_places.specs.declared.code.Finding.{Finding}
 use Rattle.gabc_places.specs.declared.place.Char.{Char}
 use Rattle.gabc_places.specs.declared.place.Place.{Place}
 use Rattle.gabc_notes.specs.declared.item.ItemKind.{ItemKind}
-use Rattle.gabc_notes.specs.declared.item.ItemKind.TheVariants.{Note, Alteration, Clef, Bar, Spacing, Custos, Break, Attribute, Fusion}
+use Rattle.gabc_notes.specs.declared.item.ItemKind.TheVariants.{Note}
 use Rattle.gabc_score.specs.declared.bounds.Bounds.{Bounds}
 use Rattle.gabc_score.specs.declared.events.BodyEvent.{BodyEvent}
 use Rattle.gabc_score.specs.declared.score_event.ScoreEvent.{ScoreEvent}
@@ -69,17 +69,8 @@ any_event (f ∷ fs) = ap (λ b. is_error f || b) (any_event fs)
 
 -- a note before any clef is no error
 first_warns : (was now : Option ItemKind) (p : Place) → list_any is_error (found_first was now p) ≡ false
-first_warns None None p = refl
 first_warns None (Some Note) p = refl
-first_warns None (Some Alteration) p = refl
-first_warns None (Some Clef) p = refl
-first_warns None (Some Bar) p = refl
-first_warns None (Some Spacing) p = refl
-first_warns None (Some Custos) p = refl
-first_warns None (Some Break) p = refl
-first_warns None (Some Attribute) p = refl
-first_warns None (Some Fusion) p = refl
-first_warns (Some k) now p = refl
+first_warns _ _ p = refl
 
 or_false : (a b : Bool) → b ≡ false → (a || b) ≡ a
 or_false true b e = refl

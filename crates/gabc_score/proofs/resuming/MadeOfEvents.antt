@@ -2,7 +2,6 @@
 use Rattle.std.proofs.Common.{◌≡◌, ℕ, ◌+◌, ◌-◌, ◌<◌, ◌^◌, ◌||◌, not, min, nat_lt, Bool, List, [], ◌∷◌, ◌++◌, length, refl, sym, ap, subst, ◌∙◌, append_assoc, append-nil}
 use Rattle.gabc_text.specs.declared.text_event.TextEnd.TheVariants as text_end
 use Rattle.gabc_text.specs.declared.text_event.TextEvent.TheVariants as text
-use Rattle.gabc_text.specs.declared.text_event.TextPart.{TextPart}
 use Rattle.gabc_text.specs.declared.text_event.TextPart.TheVariants as part
 use Rattle.gabc_notes.specs.declared.stage.NoteEnd.TheVariants as note_end
 use Rattle.gabc_notes.specs.declared.stage.NoteEvent.TheVariants as note
@@ -38,24 +37,11 @@ close_alike ps g h line n r =
     ∙ ap (λ b. ps ++ (g.made ++ made_from (with_snippet g line n 41).builder b h.nlba ∷ [])) (sym w.eu)
     ∙ ap (λ b. ps ++ (g.made ++ made_from (with_snippet g line n 41).builder g.eu b ∷ [])) (sym w.nlba)
 
-part_made : (ps : List UnplacedSyllable) (g h : Gathered) (p : TextPart) → MadeAlike ps g h → (with_event h (event.Text (text.Part p))).made ≡ ps ++ (with_event g (event.Text (text.Part p))).made
-part_made ps g h part.WordStart r = r.made
-part_made ps g h (part.Piece p) r = r.made
-part_made ps g h (part.Centre s) r = r.made
-part_made ps g h (part.Translation s) r = r.made
-
 event_made : (ps : List UnplacedSyllable) (g h : Gathered) (e : BodyEvent) → MadeAlike ps g h → (with_event h e).made ≡ ps ++ (with_event g e).made
-event_made ps g h (event.Text (text.Kept c)) r = r.made
-event_made ps g h (event.Text (text.Part p)) r = part_made ps g h p r
-event_made ps g h (event.Text (text.Found f)) r = r.made
+event_made ps g h (event.Text (text.Part part.WordStart)) r = r.made
 event_made ps g h (event.Text (text.Ended text_end.Notes)) r = r.made
-event_made ps g h (event.Text (text.Ended text_end.Finished)) r = r.made
-event_made ps g h (event.Text (text.Ended (text_end.Cut p))) r = r.made
-event_made ps g h (event.Notes line (note.Kept c)) r = r.made
-event_made ps g h (event.Notes line (note.Found f)) r = r.made
-event_made ps g h (event.Notes line (note.Ended note_end.Next n)) r = r.made
 event_made ps g h (event.Notes line (note.Ended note_end.Close n)) r = close_alike ps g h line n r
-event_made ps g h (event.Notes line (note.Ended (note_end.Cut p) n)) r = r.made
+event_made ps g h _ r = r.made
 
 pub all_made : (es : List BodyEvent) (ps : List UnplacedSyllable) (g h : Gathered) → MadeAlike ps g h → MadeAlike ps (with_all g es) (with_all h es)
 all_made [] ps g h r = r
@@ -111,24 +97,11 @@ made_counts g h m c = record { limit = c.limit; none = λ e. absurd (some h.made
         two [] e = cc e
         two (x ∷ ms) e = cc e
 
-part_counts : (g h : Gathered) (p : TextPart) → Counts g h → Counts g (with_event h (event.Text (text.Part p)))
-part_counts g h part.WordStart c = record { limit = c.limit; none = c.none; one = c.one }
-part_counts g h (part.Piece p) c = record { limit = c.limit; none = c.none; one = c.one }
-part_counts g h (part.Centre s) c = record { limit = c.limit; none = c.none; one = c.one }
-part_counts g h (part.Translation s) c = record { limit = c.limit; none = c.none; one = c.one }
-
 event_counts : (g h : Gathered) (e : BodyEvent) → Counts g h → Counts g (with_event h e)
-event_counts g h (event.Text (text.Kept x)) c = record { limit = c.limit; none = c.none; one = c.one }
-event_counts g h (event.Text (text.Part p)) c = part_counts g h p c
-event_counts g h (event.Text (text.Found f)) c = c
+event_counts g h (event.Text (text.Part part.WordStart)) c = record { limit = c.limit; none = c.none; one = c.one }
 event_counts g h (event.Text (text.Ended text_end.Notes)) c = record { limit = c.limit; none = c.none; one = c.one }
-event_counts g h (event.Text (text.Ended text_end.Finished)) c = c
-event_counts g h (event.Text (text.Ended (text_end.Cut p))) c = record { limit = c.limit; none = c.none; one = c.one }
-event_counts g h (event.Notes line (note.Kept x)) c = record { limit = c.limit; none = c.none; one = c.one }
-event_counts g h (event.Notes line (note.Found f)) c = c
-event_counts g h (event.Notes line (note.Ended note_end.Next n)) c = record { limit = c.limit; none = c.none; one = c.one }
 event_counts g h (event.Notes line (note.Ended note_end.Close n)) c = made_counts g (with_snippet h line n 41) (made_from (with_snippet h line n 41).builder h.eu h.nlba) (record { limit = c.limit; none = c.none; one = c.one })
-event_counts g h (event.Notes line (note.Ended (note_end.Cut p) n)) c = record { limit = c.limit; none = c.none; one = c.one }
+event_counts g h _ c = record { limit = c.limit; none = c.none; one = c.one }
 
 pub all_count : (es : List BodyEvent) (g h : Gathered) → Counts g h → Counts g (with_all h es)
 all_count [] g h c = c

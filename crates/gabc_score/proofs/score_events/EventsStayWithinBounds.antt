@@ -43,20 +43,10 @@ code_turned limits g none = ap (λ (b : Bool). cond (is_longer g.limit g.builder
 -- ---- what events leave as it was
 
 pub limit_with : (g : Gathered) (t : BodyEvent) → (with_event g t).limit ≡ g.limit
-limit_with g (event.Text (text.Kept c)) = refl
 limit_with g (event.Text (text.Part part.WordStart)) = refl
-limit_with g (event.Text (text.Part (part.Piece p))) = refl
-limit_with g (event.Text (text.Part (part.Centre s))) = refl
-limit_with g (event.Text (text.Part (part.Translation s))) = refl
-limit_with g (event.Text (text.Found f)) = refl
 limit_with g (event.Text (text.Ended text_end.Notes)) = refl
-limit_with g (event.Text (text.Ended text_end.Finished)) = refl
-limit_with g (event.Text (text.Ended (text_end.Cut p))) = refl
-limit_with g (event.Notes line (note.Kept c)) = refl
-limit_with g (event.Notes line (note.Found f)) = refl
-limit_with g (event.Notes line (note.Ended note_end.Next n)) = refl
 limit_with g (event.Notes line (note.Ended note_end.Close n)) = refl
-limit_with g (event.Notes line (note.Ended (note_end.Cut p) n)) = refl
+limit_with g _ = refl
 
 pub limit_stays : (g : Gathered) (now : List BodyEvent) → (with_all g now).limit ≡ g.limit
 limit_stays g [] = refl

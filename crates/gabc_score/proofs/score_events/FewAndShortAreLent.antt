@@ -63,20 +63,10 @@ short_made g m small h over =
     All-append (IsShort g.limit) g.made (m ∷ []) (h e.0) (All-cons (IsShort g.limit) m [] is_short (All-nil (IsShort g.limit)))
 
 short_with : (g : Gathered) (t : BodyEvent) → g.limit < 2 ^ 32 → AreShort g → AreShort (with_event g t)
-short_with g (event.Text (text.Kept c)) s h = h
 short_with g (event.Text (text.Part part.WordStart)) s h = h
-short_with g (event.Text (text.Part (part.Piece p))) s h = h
-short_with g (event.Text (text.Part (part.Centre x))) s h = h
-short_with g (event.Text (text.Part (part.Translation x))) s h = h
-short_with g (event.Text (text.Found f)) s h = h
 short_with g (event.Text (text.Ended text_end.Notes)) s h = h
-short_with g (event.Text (text.Ended text_end.Finished)) s h = h
-short_with g (event.Text (text.Ended (text_end.Cut p))) s h = h
-short_with g (event.Notes line (note.Kept c)) s h = h
-short_with g (event.Notes line (note.Found f)) s h = h
-short_with g (event.Notes line (note.Ended note_end.Next n)) s h = h
 short_with g (event.Notes line (note.Ended note_end.Close n)) s h = let unit = with_snippet g line n 41 in short_made unit (made_from unit.builder unit.eu unit.nlba) s h
-short_with g (event.Notes line (note.Ended (note_end.Cut p) n)) s h = h
+short_with g _ s h = h
 
 short_all : (g : Gathered) (now : List BodyEvent) → g.limit < 2 ^ 32 → AreShort g → AreShort (with_all g now)
 short_all g [] s h = h

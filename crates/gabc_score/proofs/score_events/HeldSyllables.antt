@@ -41,36 +41,16 @@ made_without : (k : ℕ) (g : Gathered) (m : UnplacedSyllable) → MayGo k g →
 made_without k g m h = rw (drop-append-le k g.made (m ∷ []) h.few) refl
 
 goes_on : (k : ℕ) (g : Gathered) (t : BodyEvent) → MayGo k g → MayGo k (with_event g t)
-goes_on k g (event.Text (text.Kept c)) h = record { few = h.few; some = h.some }
 goes_on k g (event.Text (text.Part part.WordStart)) h = record { few = h.few; some = h.some }
-goes_on k g (event.Text (text.Part (part.Piece p))) h = record { few = h.few; some = h.some }
-goes_on k g (event.Text (text.Part (part.Centre s))) h = record { few = h.few; some = h.some }
-goes_on k g (event.Text (text.Part (part.Translation s))) h = record { few = h.few; some = h.some }
-goes_on k g (event.Text (text.Found f)) h = h
 goes_on k g (event.Text (text.Ended text_end.Notes)) h = record { few = h.few; some = h.some }
-goes_on k g (event.Text (text.Ended text_end.Finished)) h = h
-goes_on k g (event.Text (text.Ended (text_end.Cut p))) h = record { few = h.few; some = h.some }
-goes_on k g (event.Notes line (note.Kept c)) h = record { few = h.few; some = h.some }
-goes_on k g (event.Notes line (note.Found f)) h = h
-goes_on k g (event.Notes line (note.Ended note_end.Next n)) h = record { few = h.few; some = h.some }
 goes_on k g (event.Notes line (note.Ended note_end.Close n)) h = made_goes k (with_snippet g line n 41) _ (record { few = h.few; some = h.some })
-goes_on k g (event.Notes line (note.Ended (note_end.Cut p) n)) h = record { few = h.few; some = h.some }
+goes_on k g _ h = record { few = h.few; some = h.some }
 
 event_without : (k : ℕ) (g : Gathered) (t : BodyEvent) → MayGo k g → with_event (without k g) t ≡ without k (with_event g t)
-event_without k g (event.Text (text.Kept c)) h = refl
 event_without k g (event.Text (text.Part part.WordStart)) h = refl
-event_without k g (event.Text (text.Part (part.Piece p))) h = refl
-event_without k g (event.Text (text.Part (part.Centre s))) h = refl
-event_without k g (event.Text (text.Part (part.Translation s))) h = refl
-event_without k g (event.Text (text.Found f)) h = refl
 event_without k g (event.Text (text.Ended text_end.Notes)) h = refl
-event_without k g (event.Text (text.Ended text_end.Finished)) h = refl
-event_without k g (event.Text (text.Ended (text_end.Cut p))) h = refl
-event_without k g (event.Notes line (note.Kept c)) h = refl
-event_without k g (event.Notes line (note.Found f)) h = refl
-event_without k g (event.Notes line (note.Ended note_end.Next n)) h = refl
 event_without k g (event.Notes line (note.Ended note_end.Close n)) h = made_without k (with_snippet g line n 41) _ (record { few = h.few; some = h.some })
-event_without k g (event.Notes line (note.Ended (note_end.Cut p) n)) h = refl
+event_without k g _ h = refl
 
 -- which limit is passed is the same
 pub code_without : (limits : Limits) (k : ℕ) (g : Gathered) → MayGo k g → code_in limits (without k g) ≡ code_in limits g

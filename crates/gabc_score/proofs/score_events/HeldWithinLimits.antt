@@ -53,20 +53,10 @@ module _ (first : Bool) where
           one_more g.limit first g.made m (not g.follows) h.0 (h.1 e.0) (counted g.limit (length (canonical (not g.follows || m.text.word_start) m)) (length m.kept) small e.1.0 e.1.1).1
 
   within_with : (g : Gathered) (t : BodyEvent) → g.limit < 2 ^ 32 → AreWithin g → AreWithin (with_event g t)
-  within_with g (event.Text (text.Kept c)) s h = h
   within_with g (event.Text (text.Part part.WordStart)) s h = h
-  within_with g (event.Text (text.Part (part.Piece p))) s h = h
-  within_with g (event.Text (text.Part (part.Centre x))) s h = h
-  within_with g (event.Text (text.Part (part.Translation x))) s h = h
-  within_with g (event.Text (text.Found f)) s h = h
   within_with g (event.Text (text.Ended text_end.Notes)) s h = h
-  within_with g (event.Text (text.Ended text_end.Finished)) s h = h
-  within_with g (event.Text (text.Ended (text_end.Cut p))) s h = h
-  within_with g (event.Notes line (note.Kept c)) s h = h
-  within_with g (event.Notes line (note.Found f)) s h = h
-  within_with g (event.Notes line (note.Ended note_end.Next n)) s h = h
   within_with g (event.Notes line (note.Ended note_end.Close n)) s h = let u = with_snippet g line n 41 in within_made u (made_from u.builder u.eu u.nlba) s h
-  within_with g (event.Notes line (note.Ended (note_end.Cut p) n)) s h = h
+  within_with g _ s h = h
 
   within_all : (g : Gathered) (now : List BodyEvent) → g.limit < 2 ^ 32 → AreWithin g → AreWithin (with_all g now)
   within_all g [] s h = h

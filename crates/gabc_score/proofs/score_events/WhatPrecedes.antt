@@ -237,18 +237,11 @@ closing = omega arith
 preceded_with : (before : Preceding) (g : Gathered) (t : BodyEvent) → IsPreceded before g → IsPreceded before (with_event g t)
 preceded_with before g (event.Text (text.Kept c)) h = preceded_kept before g (encode_utf8 c.c) h
 preceded_with before g (event.Text (text.Part part.WordStart)) h = record { follows = h.follows; total = h.total; sounded = h.sounded; snippets = h.snippets; from = h.from }
-preceded_with before g (event.Text (text.Part (part.Piece p))) h = record { follows = h.follows; total = h.total; sounded = h.sounded; snippets = h.snippets; from = h.from }
-preceded_with before g (event.Text (text.Part (part.Centre s))) h = record { follows = h.follows; total = h.total; sounded = h.sounded; snippets = h.snippets; from = h.from }
-preceded_with before g (event.Text (text.Part (part.Translation s))) h = record { follows = h.follows; total = h.total; sounded = h.sounded; snippets = h.snippets; from = h.from }
-preceded_with before g (event.Text (text.Found f)) h = h
 preceded_with before g (event.Text (text.Ended text_end.Notes)) h = preceded_text before g h
-preceded_with before g (event.Text (text.Ended text_end.Finished)) h = h
-preceded_with before g (event.Text (text.Ended (text_end.Cut p))) h = record { follows = h.follows; total = h.total; sounded = h.sounded; snippets = h.snippets; from = h.from }
 preceded_with before g (event.Notes line (note.Kept c)) h = preceded_kept before g (encode_utf8 c.c) h
-preceded_with before g (event.Notes line (note.Found f)) h = h
 preceded_with before g (event.Notes line (note.Ended note_end.Next n)) h = preceded_snippet before g h line n 124 bar
 preceded_with before g (event.Notes line (note.Ended note_end.Close n)) h = preceded_made before (with_snippet g line n 41) (preceded_snippet before g h line n 41 closing)
-preceded_with before g (event.Notes line (note.Ended (note_end.Cut p) n)) h = record { follows = h.follows; total = h.total; sounded = h.sounded; snippets = h.snippets; from = h.from }
+preceded_with before g _ h = record { follows = h.follows; total = h.total; sounded = h.sounded; snippets = h.snippets; from = h.from }
 
 pub preceded_all : (before : Preceding) (g : Gathered) (now : List BodyEvent) → IsPreceded before g → IsPreceded before (with_all g now)
 preceded_all before g [] h = h
