@@ -1,7 +1,7 @@
 -- Of a character a part of a body keeps no more bytes than it has, and none where a comment is open
 -- then.
-use Rattle.std.proofs.Common.{◌≡◌, ◌⊎◌, ◌≤◌, ◌+◌, ◌==◌, ◌&&◌, ◌||◌, not, ℕ, nat_lt, Bool, true, false, if◌then◌else◌, List, [], ◌∷◌, ◌++◌, length, encode_utf8, encode_utf8_all, inl, inr, refl, sym, ap, ◌∙◌, subst, arith, append-nil, length-append}
-use Rattle.std.proofs.lemmas.Bool.{eqb-true, false≢true, true≢false}
+use Rattle.std.proofs.Common.{◌≡◌, ◌⊎◌, ◌≤◌, ◌+◌, ◌==◌, ◌&&◌, not, ℕ, Bool, true, false, List, [], ◌∷◌, ◌++◌, length, encode_utf8, encode_utf8_all, inl, inr, refl, sym, ap, ◌∙◌, subst, arith, append-nil, length-append}
+use Rattle.std.proofs.lemmas.Bool.{false≢true, true≢false}
 use Rattle.std.proofs.lemmas.List.{append_cancel_left}
 use Rattle.std.proofs.lemmas.List.Elements.{All-head}
 use Rattle.std.proofs.lemmas.Str.{encodes_same, length-encode, len_utf8_bounds}
