@@ -86,7 +86,7 @@ impl Model for BodyStage {
     ghost invariant = { λ b. (8 ≤ b.texts.limit) × (3 ≤ b.notes.limit) };
 }
 
-/// The line after a line, of so many NABC lines: after the last comes GABC again.
+/// Returns the line after `line`: after the last of `lines` NABC lines comes GABC, 0.
 pub(crate) fn next_line(lines: u8, line: u8) -> u8
     ensures { result ≡ line_after lines line }
 {
@@ -103,7 +103,7 @@ fn text_after(mark: Place) -> BodyPart
 impl BodyStage {
     /// Returns a stage before the first character of a body, after the `%%` of the headers.
     /// `nabc_lines` is the number of NABC lines under each GABC snippet, and the bit `d` of
-    /// `macros` tells that the macro of the digit `d` is defined. It tells what the definition says
+    /// `macros` says that the macro of the digit `d` is defined. It emits what the definition says
     /// of each body in which no count reaches its last value. Its rooms lie in `memory`.
     pub fn new(memory: &Memory, nabc_lines: u8, macros: u16) -> Result<BodyStage, AllocError>
         ensures run { IfOk result (λ stage. (xs : List Char) →

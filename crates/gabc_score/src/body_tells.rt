@@ -1,4 +1,4 @@
-//! What a stage over a body tells of the part in which it stands.
+//! What a stage over a body reports of the part in which it stands.
 
 ghost use Rattle.std.specs.Prelude.{◌≡◌, ◌↔◌, ℕ, IsTrue};
 ghost use Rattle.gabc_text.specs.TextStage.{fresh_stage};

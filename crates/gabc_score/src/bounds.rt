@@ -36,7 +36,7 @@ impl Bounds {
     }
 
     /// Goes past a point at which a syllable has become whole, which is held from then on, or none
-    /// has. `gave` tells whether the one that was held before is given; `pair` has gathered what is
+    /// has. `gave` says whether the one that was held before is given; `pair` has gathered what is
     /// after this point.
     pub(crate) fn pass(&mut self, is_whole: bool, gave: bool, pair: &SlotPair)
         ensures { self.new ≡ past_point is_whole gave self.old pair.now.gathered }

@@ -90,9 +90,9 @@ pub(crate) fn canonical_len(syllable: &Syllable, starts: bool) -> usize
     counter.count()
 }
 
-/// Puts the canonical text of `syllable`, as many bytes as `canon_len` tells: an LF before a word,
-/// the text, the translation, and the notes. A room without that many bytes left gets as many of
-/// them as fit. Most syllables are put as they are kept.
+/// Puts the canonical text of `syllable`, as many bytes as `canon_len` returns: an LF before a
+/// word, the text, the translation, and the notes. A room without that many bytes left gets as many
+/// of them as fit. Most syllables are put as they are kept.
 pub fn canon_syllable<S: Put>(syllable: &Syllable, out: &mut S)
     ensures { out.new
         ≡ S.taken out.old (canonical (starts_word syllable.now.position)

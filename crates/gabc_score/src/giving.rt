@@ -70,7 +70,7 @@ fn give_code(is_found: bool, place: Place, code: Code, out: &mut Room<ScoreEvent
     }
 }
 
-/// Gives so many of the syllables that are lent.
+/// Gives the first `count` of the syllables that are lent.
 fn give_lent(count: usize, out: &mut Room<ScoreEvent>)
     requires most { count ≤ 2 }
     requires fits { Fits out.old count }
@@ -85,7 +85,7 @@ fn give_lent(count: usize, out: &mut Room<ScoreEvent>)
 }
 
 /// Gives what was found at a point, and the held syllable if another is whole, which is held then.
-/// `has_lent` tells whether one was lent before. Returns whether it gave one.
+/// `has_lent` says whether one was lent before. Returns whether it gave one.
 pub(crate) fn give_point(
     pair: &mut SlotPair,
     has_lent: bool,
@@ -145,7 +145,7 @@ pub(crate) fn give_broken(pair: &mut SlotPair, has_lent: bool, out: &mut Room<Sc
 }
 
 /// Gives what was found at the end, which is at this place, the syllables that are left, and the
-/// end. `has_last` tells whether a last text is a syllable.
+/// end. `has_last` says whether a last text is a syllable.
 pub(crate) fn give_end(
     pair: &mut SlotPair,
     has_lent: bool,

@@ -203,7 +203,7 @@ pub fn the_syllables_are_those_of_the_units()
 }
 
 /// Law: the prefix of a text through a unit of its body that ends at its `)`, or through the `%%`,
-/// is so many of its first characters.
+/// is a number of its first characters.
 pub fn whole_prefixes_are_first_characters()
     ensures { (book : List (List ℕ × List ℕ)) (t : List ℕ) (cut : BodyCutting) (n : ℕ)
         → IsBodyCut book t cut → (m : ℕ) × (whole_prefix t cut n ≡ take m t) }

@@ -80,7 +80,7 @@ impl BodyStage {
 }
 
 impl ScoreMachine {
-    /// Returns a machine in the body, after the syllables of which `before` tells, and reserves in
+    /// Returns a machine in the body, after the syllables that `before` reports, and reserves in
     /// `memory` what it ever takes.
     fn resume(memory: &Memory, limits: Limits, before: Before) -> Result<ScoreMachine, AllocError>
         requires { IsAtOutset (preceding_of before) }
@@ -131,7 +131,7 @@ fn has_error(events: &[ScoreEvent]) -> bool
 }
 
 impl ScoreMachine {
-    /// Returns whether it goes on in the body, where these events tell of no error.
+    /// Returns whether it goes on in the body, where these events report no error.
     fn is_fine(&self, events: &[ScoreEvent]) -> bool
         ensures body { self.now.part ≡ ScorePart.Body →
             result ≡ not (list_any is_error_event events.now) }
@@ -206,10 +206,10 @@ impl ScoreMachine {
 }
 
 impl ScoreStage {
-    /// Returns a stage in the body that stands after the syllables of which `before` tells, and
+    /// Returns a stage in the body that stands after the syllables that `before` reports, and
     /// reserves the memory that it ever takes, as `in_memory` does. It holds no syllable, and the
     /// next character is the first of a text. `before` is what another stage under the same limits
-    /// told of what stands before the syllable that it held: where no syllable does, no span is
+    /// reported of what stands before the syllable that it held: where no syllable does, no span is
     /// open and nothing has sounded. `go_to` says where the next character stands. It fails only
     /// for want of memory.
     pub fn resume(memory: &Memory, limits: Limits, before: Before) -> Result<ScoreStage, AllocError>

@@ -9,8 +9,8 @@ use gabc_text::{TextPart, TextView};
 use std::alloc::AllocError;
 use std::marker::Model;
 
-/// A syllable that is being read, or was read. Its memory is reserved: so many bytes as a syllable
-/// may have, and what one character can add.
+/// A syllable that is being read, or was read. Its memory is reserved: as many bytes as a
+/// syllable may have, and what one more character can add.
 #[derive(Drop)]
 pub(crate) struct Slot {
     syllable: Syllable,

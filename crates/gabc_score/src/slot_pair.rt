@@ -385,7 +385,7 @@ impl SlotPair {
     }
 
     /// Gives the held syllable where the one that was read is whole, which is held from then on.
-    /// `has_lent` tells whether one was lent before. Returns how many it gave, one or none.
+    /// `has_lent` says whether one was lent before. Returns how many it gave, one or none.
     pub(crate) fn turn(&mut self, has_lent: bool) -> usize
         ensures gathered { self.new.gathered ≡ with_held self.old.gathered }
         ensures lends { lent_syllables result self.new ≡ take (length self.old.gathered.made - 1)

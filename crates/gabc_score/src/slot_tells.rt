@@ -1,4 +1,4 @@
-//! What two slots tell of what was gathered.
+//! What two slots report of what was gathered.
 
 use crate::before::Spans;
 use crate::slot_pair::{SlotPair, SlotUse};

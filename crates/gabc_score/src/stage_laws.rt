@@ -92,17 +92,17 @@ pub fn at_most_one_syllable_is_held(stage: &ScoreStage)
 }
 
 /// Law: where a stage stands, whatever it has read, a stage may stand. The laws of stages that may
-/// stand so hold of it, and of what it told once it is gone.
+/// stand so hold of it, and of what it reported once it is gone.
 pub fn a_stage_may_stand(stage: &ScoreStage)
     ensures { MayStand stage.now }
 {
     stage.may_stand();
 }
 
-/// Law: in the body what a stage tells is within its limits, whatever it has read: the kept text of
-/// the syllable that is read, and of the one that is held the canonical text, also with what stands
-/// before it. Before the first syllable no span is open, and no comment is open inside an inner
-/// opener.
+/// Law: in the body what a stage reports is within its limits, whatever it has read: the kept text
+/// of the syllable that is read, and of the one that is held the canonical text, also with what
+/// stands before it. Before the first syllable no span is open, and no comment is open inside an
+/// inner opener.
 pub fn what_is_told_is_within_the_limits()
     ensures { (s : ScoreStageState) → MayStand s → is_some (before_of s) ≡ true → IsToldWithin s }
 {
@@ -130,8 +130,8 @@ pub fn headers_may_come()
     gabc_headers::laws::the_numbers_of_headers_are_in_range();
 }
 
-/// Law: what a stage tells is still that of a text where its next character is said to stand there,
-/// if that is no earlier.
+/// Law: what a stage reports is still that of a text where its next character is said to stand
+/// there, if that is no earlier.
 pub fn what_is_told_may_move(stage: &mut ScoreStage, at: Place)
     requires later { IsUpTo stage.old.held.next at }
     requires place { IsPlace at }
@@ -141,7 +141,7 @@ pub fn what_is_told_may_move(stage: &mut ScoreStage, at: Place)
     stage.go_to(at);
 }
 
-/// Law: what a stage tells that goes on after syllables, and has read nothing yet, is that of a
+/// Law: what a stage reports that goes on after syllables, and has read nothing yet, is that of a
 /// text, where the counts of what stands before it are in range.
 pub fn a_resumed_stage_tells_of_a_text()
     ensures { (limits : Limits) (before : Before) (s : ScoreStageState) →
@@ -224,7 +224,7 @@ pub fn a_fresh_stage_reads_texts(alloc: Global, limits: Limits) -> Result<ScoreS
     ScoreStage::with_limits(alloc, limits)
 }
 
-/// Law: two stages in the body that run under the same limits and tell the same give the same of
+/// Law: two stages in the body that run under the same limits and report the same give the same of
 /// whatever follows, if both or none of them stand in front of the first text. Only the syllable
 /// that the one holds stands where the other gives its own, which says the same. The next character
 /// stands where a text that is read has counted it.
@@ -290,7 +290,7 @@ pub fn spans_of_what_is_held_follow()
 }
 
 /// Law: the canonical text of the syllable that a stage holds is a text of an input, as long as
-/// what the stage tells is that of a text.
+/// what the stage reports is that of a text.
 pub fn what_is_held_is_a_text()
     ensures { (s : ScoreStageState) → MayStand s → TellsOfText s →
         IfSome (held_of s) (λ m. IsText (written_behind s.before m)) }
@@ -335,9 +335,10 @@ pub fn one_syllable_keeps_no_more_than_its_text()
         IsOneSyllable lines macros at text spans other m × (length m.kept ≤ other) }
 {}
 
-/// Reads again what `told` tells of the syllable that it reads, in a stage that stands before this
-/// syllable. Both stand after the same and under the same limits, and the syllables that they hold
-/// say the same. From then on `again` gives what `told` gives, but for the syllable that is held.
+/// Reads again what `told` reports of the syllable that it reads, in a stage that stands before
+/// this syllable. Both stand after the same and under the same limits, and the syllables that they
+/// hold say the same. From then on `again` gives what `told` gives, but for the syllable that is
+/// held.
 pub fn a_kept_text_gives_the_stage_back(told: &ScoreStage, again: &mut ScoreStage)
     requires runs { is_some (before_of told.now) ≡ true }
     requires front { is_in_front told.now.body.part ≡ false }

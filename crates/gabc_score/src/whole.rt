@@ -18,7 +18,7 @@ use gabc_places::{Fault, Limits, Memory, Place, Text};
 use std::alloc::{AllocError, Global};
 use std::hash::DefaultHasher;
 
-/// Reads the score of `text`, whose input ended as `ending` tells, under `limits`: its headers, its
+/// Reads the score of `text`, whose input ended as `ending` says, under `limits`: its headers, its
 /// syllables and what was found, up to the first fault (GregorioRef, "Headers" and "Syllable Text
 /// Syntax"). `gabc_places::text_of` gives the text, and the fault of an `InputEnding::At`. It fails
 /// only for want of memory. The names of headers are hashed with a fixed key: where strangers write

@@ -454,7 +454,7 @@ impl Engine {
     }
 
     /// Returns the fatal fault that stopped the run, with its place: from the byte or the end that
-    /// makes it known until `restart`. It is the one of which the last message tells. There is none
+    /// makes it known until `restart`. It is the one that the last message reports. There is none
     /// while the run goes on, nor after an input that was read to its end or whose source failed.
     pub fn fault(&self) -> Option<Fault>
         ensures fault { result ≡ fault_of self.now }

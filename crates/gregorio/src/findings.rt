@@ -19,7 +19,7 @@ pub(crate) fn input_name(input: &Input) -> &str
     }
 }
 
-/// Returns whether a message tells of `finding`: of a warning only if `all_warnings` are wanted.
+/// Returns whether a message reports `finding`: of a warning only if `all_warnings` are wanted.
 pub fn is_shown(all_warnings: bool, finding: Finding) -> bool
     ensures { result ≡ shown all_warnings finding }
 {

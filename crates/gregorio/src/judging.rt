@@ -123,7 +123,7 @@ fn is_read(
 }
 
 /// Returns why the fields of a state that is not one of the wanted job are not restored: `K2` where
-/// they are those of a state, else `K1`; or `K0`, where there is no memory to tell.
+/// they are those of a state, else `K1`; or `K0`, where there is no memory to judge them.
 pub(crate) fn judge(alloc: Global, state: &StateFields<'_>, hasher: DefaultHasher) -> StateFault
     requires fields { AreStateFields (fields_of state.now) }
     ensures none { result ≡ StateFault.K1 → AreOfState (fields_of state.now) → ⊥ }

@@ -43,7 +43,7 @@ fn is_cut_short(ending: SourceEnding, fault: Option<Fault>) -> bool
 
 impl Outcome {
     /// Reads the score of `bytes` under `limits`. The bytes are a whole input, or those that came
-    /// before its source failed, as `ending` tells. It fails only for want of memory. The names of
+    /// before its source failed, as `ending` says. It fails only for want of memory. The names of
     /// headers are hashed with a fixed key: where strangers write the bytes and `limits.header` is
     /// large, take `of_with_hasher`.
     pub fn of(

@@ -139,7 +139,7 @@ fn fresh_writer_of(memory: &Memory, job: &Job, limits: Limits) -> Result<RunWrit
     }
 }
 
-/// Returns what is in force of which `fields` tell.
+/// Returns what is in force, as `fields` report it.
 fn force_of(fields: &ScoreFields<'_>) -> Alterations
     requires { IfSome fields.now.clef (λ c. (1 ≤ c.line) × (c.line ≤ 5)) }
     ensures { result ≡ (score_of fields.now).in_force }
@@ -150,7 +150,7 @@ fn force_of(fields: &ScoreFields<'_>) -> Alterations
     alterations
 }
 
-/// Returns the writer of a run of `job` that has written what stands before what `state` tells.
+/// Returns the writer of a run of `job` that has written what stands before what `state` reports.
 fn writer_of(
     memory: &Memory,
     job: &Job,
@@ -174,7 +174,7 @@ fn writer_of(
     Ok(writer)
 }
 
-/// Returns the decoder of which `state` tells.
+/// Returns the decoder that `state` reports.
 fn decoder_of(state: &StateFields<'_>) -> Decoder
     requires { AreStateFields (fields_of state.now) }
     ensures made { result ≡ resumed state.now.limits.input state.now.taken state.now.place
@@ -193,7 +193,7 @@ fn decoder_of(state: &StateFields<'_>) -> Decoder
     decoder
 }
 
-/// Returns the writer of scores that goes on with `score` where `state` tells, a state of `job`.
+/// Returns the writer of scores that goes on with `score` where `state` reports, a state of `job`.
 fn score_writer_of(
     memory: &Memory,
     job: &Job,
@@ -224,7 +224,7 @@ fn score_writer_of(
 }
 
 /// Returns the engine of `job` under `limits` that goes on with `heads` and `score` where `state`
-/// tells, a state of `job`.
+/// reports, a state of `job`.
 fn engine_with(
     memory: &Memory,
     job: &Job,

@@ -166,7 +166,7 @@ impl RunWriter {
         self.format
     }
 
-    /// Returns whether warnings are told.
+    /// Returns whether warnings are reported.
     pub(crate) fn all_warnings(&self) -> bool
         ensures { result ≡ self.now.written.all_warnings }
     {

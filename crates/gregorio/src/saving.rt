@@ -84,7 +84,7 @@ impl Engine {
         }
     }
 
-    /// Returns what it tells of the score, without the held text, which has `held` bytes.
+    /// Returns what it reports of the score, without the held text, which has `held` bytes.
     fn score_fields(&self, held: usize) -> ScoreFields<'_>
         requires body { self.now.score.part ≡ Body }
         requires syllables { (score_fields self.now.written.force self.now.score).syllables

@@ -1,4 +1,4 @@
-//! A stage over a score that is set down again from the fields of a state.
+//! A stage over a score that is restored from the fields of a state.
 
 ghost use Rattle.std.specs.Prelude.{◌≡◌, ◌≢◌, ◌↔◌, ◌≤◌, [], length, true, false, Err, IfErr, IfOk, IsTrue};
 ghost use Rattle.gabc_score.specs.Resumed.{StandsBehind};
@@ -170,7 +170,7 @@ fn read_texts(
     true
 }
 
-/// Returns a stage over a score in `memory` that tells what `fields` say, the fields of the score
+/// Returns a stage over a score in `memory` that reports what `fields` say, the fields of the score
 /// of `state`. The error is `K1` where a text of them is not read as they say, under the limits of
 /// the state, and `K0` where there is no memory.
 pub(crate) fn set_down(

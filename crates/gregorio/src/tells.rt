@@ -1,4 +1,4 @@
-//! That what an engine tells is a saved state. Each function's contract is a law, and its body
+//! That what an engine reports is a saved state. Each function's contract is a law, and its body
 //! calls other laws or does nothing.
 
 ghost use Rattle.std.specs.Prelude.{◌≡◌, true, IsUtf8};
@@ -15,7 +15,7 @@ use crate::engine::Engine;
 use crate::saved_alike::an_engine_may_run;
 use gabc_score::ScoreStage;
 
-/// Law: the texts that a stage over a score tells in the body are read as it says.
+/// Law: the texts that a stage over a score reports in the body are read as it says.
 fn texts_of_a_score_are_read(score: &ScoreStage)
     requires body { score.now.part ≡ Body }
     requires texts { IsUtf8 (held_text score.now.before (held_of score.now))
