@@ -13,7 +13,7 @@ use Rattle.gabc_text.specs.RegularText.{IsRegularText}
 use Rattle.gabc_score.specs.declared.regular.SpanMark.{SpanMark}
 use Rattle.gabc_score.specs.Events.{next_line}
 use Rattle.gabc_score.specs.RegularSyllable.{SyllableParts, IsRegularOn, AreRegularFrom, spelled, notes_spelled, gap_kept}
-use Rattle.gabc_score.specs.machine.RegularLen.{begins_mark, begins_other, mark_at, BeginsWithTag, IsMarked, IsPlainByte, with_bars_after, SnippetsBefore, BeginsWithSnippets, BeginsRegularly, IsPlainGap}
+use Rattle.gabc_score.specs.machine.RegularLen.{begins_other, mark_at, BeginsWithTag, IsMarked, IsPlainByte, with_bars_after, SnippetsBefore, BeginsWithSnippets, BeginsRegularly, IsPlainGap}
 use Rattle.gabc_score.proofs.regular_syllables.RegularSyllableIsMade.{one_byte}
 use Rattle.gabc_score.proofs.regular_syllables.MarkedSyllables.{blank_only, blank_unmarked}
 use Rattle.gabc_score.proofs.regular_syllables.TagsOfTexts.{text_tagged}

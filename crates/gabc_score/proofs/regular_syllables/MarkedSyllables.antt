@@ -1,8 +1,8 @@
 -- Bytes among which one span mark stands, or none, and the spans that are open after a syllable of these.
-use Rattle.std.proofs.Common.{◌≡◌, ℕ, zero, suc, ◌-◌, List, [], ◌∷◌, ◌++◌, Bool, true, false, ◌||◌, nat_lt, cond, length, take, drop, codes, Some, subst, slice_index, ◌==◌, Option, None, refl, sym, ap, ◌∙◌, arith, take-append-drop}
+use Rattle.std.proofs.Common.{◌≡◌, ℕ, zero, suc, ◌-◌, List, [], ◌∷◌, ◌++◌, Bool, true, false, ◌||◌, nat_lt, cond, length, take, drop, codes, Some, refl, sym, ap, ◌∙◌, arith, take-append-drop}
 use Rattle.std.specs.Str.{bytes_eq}
 use Rattle.std.proofs.lemmas.Bool.{true≢false, lt-ltb}
-use Rattle.std.proofs.lemmas.Bool.Decides.{Decides-eqb, nat_tests}
+use Rattle.std.proofs.lemmas.Bool.Decides.{Decides-eqb}
 use Rattle.std.proofs.lemmas.Slice.Eq.{starts_is, bytes_eq-Decides}
 use lib.Utf8.{encode}
 use Rattle.gabc_places.specs.declared.place.Span.{Span}
@@ -14,7 +14,7 @@ use Rattle.gabc_score.specs.Syllable.{UnplacedSyllable, slice, is_mark, is_open_
 use Rattle.gabc_score.specs.SpansPast.{open_past, eu_past, nlba_past}
 use Rattle.gabc_score.specs.SyllablesOfUnits.{HoldsUnit, ScoreUnit, span_tags}
 use Rattle.gabc_score.specs.RegularSyllable.{SyllableParts, has_gap}
-use Rattle.gabc_score.specs.machine.RegularLen.{HasOnly, IsMarked, IsUnmarked, begins, begins_mark, mark_at, past_mark, tag_of}
+use Rattle.gabc_score.specs.machine.RegularLen.{HasOnly, IsUnmarked, begins, begins_mark, past_mark, tag_of}
 use Rattle.gabc_score.proofs.syllables_of_units.LastTagOpensTheSpan.{behind_tag, behind_tags}
 use Rattle.gabc_score.proofs.syllables_of_units.UnitGivesOneSyllable.{unit_past}
 

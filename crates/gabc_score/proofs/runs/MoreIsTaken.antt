@@ -1,6 +1,6 @@
 -- A taker takes one syllable more of a run.
-use Rattle.std.proofs.Common.{◌≡◌, ◌≤◌, ◌+◌, ℕ, nat_lt, List, [], ◌∷◌, ◌++◌, length, refl, sym, ap, subst, ◌∙◌, arith, append_assoc, length-append}
-use Rattle.std.specs.Str.{IsUtf8, chars}
+use Rattle.std.proofs.Common.{◌≡◌, ℕ, nat_lt, List, [], ◌∷◌, ◌++◌, refl, sym, ap, subst, ◌∙◌, append_assoc}
+use Rattle.std.specs.Str.{chars}
 use Rattle.std.proofs.lemmas.Str.{chars-append, IsUtf8-append}
 use Rattle.gabc_places.specs.Place.{place_past}
 use Rattle.gabc_places.specs.declared.place.Place.{Place}
@@ -12,7 +12,7 @@ use Rattle.gabc_score.specs.machine.RegularLen.{BeginsRegularly}
 use Rattle.gabc_score.specs.Syllable.{PlacedSyllable}
 use Rattle.gabc_score.specs.machine.Run.{IsFound, IsSteady, SpellsFound, RunsBefore, RunsTo, RunsMore, len_of, past_found}
 use Rattle.gabc_score.proofs.runs.FoundSyllable.{utf8_is}
-use Rattle.gabc_score.proofs.runs.RunGoesOn.{GoesOnWith, MakeSyllables, goes_on, few_characters, low_by, low_there}
+use Rattle.gabc_score.proofs.runs.RunGoesOn.{GoesOnWith, MakeSyllables, goes_on, low_there}
 
 module _ (m : ScoreMachine) (at : Place) (text : List ℕ) (reached : Reached) (before : Preceding) (next : Found) (before_is : before ≡ past_found reached.before reached.last)
     (found : IsFound m.body.nabc_lines m.limits before.canonical next) (rest : reached.last.rest.now ≡ next.spelled.now ++ next.rest.now)

@@ -1,5 +1,4 @@
-use Rattle.std.proofs.Common.{◌≡◌, ℕ, suc, ◌+◌, ◌-◌, ◌≤◌, ◌<◌, List, length, take, drop, sym, ap, ◌∙◌, arith, length-drop}
-use Rattle.gabc_places.specs.declared.place.Place.{Place}
+use Rattle.std.proofs.Common.{ℕ, suc, ◌+◌, List, length, drop, sym, ap, ◌∙◌, arith, length-drop}
 use Rattle.gabc_score.specs.machine.PlaceByBytes.{place_by_bytes}
 use Rattle.gabc_score.proofs.PlacesByBytes.{places_agree, past_line, past_last, from_there}
 use Rattle.gabc_score.proofs.text_places.place_past.Goals as goal

@@ -1,11 +1,9 @@
-use Rattle.std.proofs.Common.{◌≡◌, ℕ, Bool, List, [], ◌∷◌, ◌++◌, length, sym, ap, subst, arith, append-nil}
-use Rattle.gabc_places.specs.declared.place.Place.{Place}
+use Rattle.std.proofs.Common.{◌≡◌, ℕ, Bool, List, [], ◌∷◌, ◌++◌, sym, ap, subst, append-nil}
 use Rattle.gabc_score.specs.declared.before.Preceding.{Preceding}
 use Rattle.gabc_score.specs.declared.before.Spans.{Spans}
 use Rattle.gabc_score.specs.Syllable.{PlacedSyllable}
 use Rattle.gabc_score.specs.machine.RegularLen.{BeginsRegularly}
 use Rattle.gabc_score.specs.machine.Run.{IsFound, IsSteady, RunsTo, SpellsFound, len_of, past_found}
-use Rattle.gabc_score.proofs.runs.FoundSyllable.{utf8_is}
 use Rattle.gabc_score.proofs.runs.MoreIsTaken.{more_is_taken}
 use Rattle.gabc_score.proofs.score_machine.ScoreMachine.give_on.Goals as goal
 
