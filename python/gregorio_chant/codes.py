@@ -8,7 +8,7 @@ from dataclasses import dataclass
 
 from gregorio_chant.results import Kind
 
-# What stands before and behind a line of a score, and behind a line of headers.
+# What stands before and after a line of a score, and after a line of headers.
 _SCORE = "name: Kyrie;\n%%\n(c4) "
 _NABC = "name: Kyrie;\nnabc-lines: 1;\n%%\n(c4) "
 _HEADERS = "name: Kyrie;\n"
@@ -18,7 +18,7 @@ _LONGEST_SHOWN = 60
 
 @dataclass(frozen=True)
 class Code:
-    """A code. `wrong` is a line that gives it, and `right` one that does not, where `before` stands before and `after` behind it."""
+    """A code. `wrong` is a line that gives it, and `right` one that does not, where `before` stands before and `after` after it."""
 
     name: str
     text: str
@@ -49,7 +49,7 @@ def shown(line: str) -> str:
 _ERRORS = (
     Code(
         "E1", "character left out of the notes",
-        "A character of the notes fits nowhere and was left out. Look for a slip of the key, as a capital letter or a digit behind the wrong note.",
+        "A character of the notes fits nowhere and was left out. Look for a slip of the key, as a capital letter or a digit after the wrong note.",
         "Ky(g5)ri(g)", "Ky(g.)ri(g)",
     ),
     Code(

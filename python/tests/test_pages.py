@@ -63,7 +63,6 @@ class Scores(InFolder):
         self.assertEqual(made.messages_text, block("README.md", "test: message"))
 
     def test_dumps(self) -> None:
-        self.assertIn("\n" + block("docs/FORMATS.md", "test: syllable") + "syllable 3 ", compile("%%\n(c4) KY(f)ri(gfg)e(e.)", "dump").dump)
         self.assertEqual(compile("%%\n(c4) a(ixi) b(i)", "dump").dump, block("docs/FORMATS.md", "test: flat"))
 
     def test_lines_of_dumps(self) -> None:

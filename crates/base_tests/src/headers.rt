@@ -213,7 +213,7 @@ fn says_which_values_want_lines(rt: HostRuntime) {
 fn laws_are_called() {
     laws::lines_have_groups();
     laws::groups_are_unique();
-    laws::groups_tell_parts();
+    laws::groups_give_parts();
     laws::heads_are_of_groups();
     laws::last_value_at_first_place();
     laws::findings_in_order();

@@ -97,7 +97,7 @@ fn reads_texts(rt: HostRuntime) -> Result<(), Fail> {
     Ok(())
 }
 
-/// So many letters, and then these bytes.
+/// N letters, and then these bytes.
 fn padded(alloc: Global, letters: u32, tail: &[u8]) -> Result<Vec<u8>, AllocError> {
     let mut bytes = Vec::new(alloc);
     for _ in 0..letters {
@@ -205,8 +205,8 @@ fn laws_are_called() {
     laws::text_again();
     laws::a_prefix_of_a_text_is_read_of_a_prefix_of_its_bytes();
     laws::first_place();
-    laws::characters_stand_behind_the_text_before();
-    laws::places_need_nothing_behind();
+    laws::characters_come_after_the_text_before();
+    laws::places_need_nothing_after();
     laws::earliest_is_least();
 }
 

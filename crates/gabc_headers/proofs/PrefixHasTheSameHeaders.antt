@@ -1,4 +1,4 @@
--- What stands behind the line `%%` is no matter to the headers.
+-- What stands after the line `%%` is no matter to the headers.
 use Rattle.std.proofs.Common.{◌≡◌, ℕ, ◌+◌, ◌<◌, ◌≤◌, ◌==◌, ◌||◌, ◌&&◌, nat_lt, List, [], ◌∷◌, ◌++◌, Bool, true, false, cond, refl, sym, ap, ◌∙◌, arith, length, take, append_assoc, Option, Some, None, Ok}
 use Rattle.std.proofs.lemmas.Bool.{eqb-true, and_parts}
 use Rattle.std.proofs.lemmas.Bool.Decides.{nat_tests}
@@ -23,7 +23,7 @@ use Rattle.gabc_headers.proofs.groups.BookNeedsScoreLine.{score_behind, has_scor
 
 -- ---- the text before the line `%%`
 
--- behind it stands `%%`
+-- after it stands `%%`
 pub marked_at : (s : Bool) (r : List ℕ) → is_scored s r ≡ true → (rest : List ℕ) × (r ≡ head_text s r ++ 37 ∷ 37 ∷ rest)
 marked_at s [] h = absurd (cc)
 marked_at s (c ∷ r) h = by (s && is_score_line (c ∷ r)) refl h (λ k. marked_at (c == 10) r k)

@@ -5,10 +5,10 @@ use Rattle.std.specs.List.{All}
 use Rattle.gabc_places.specs.declared.limits.Limits.{Limits}
 use Rattle.gabc_places.specs.StageLaw.{concat_of}
 use Rattle.gabc_headers.specs.Heads.{heads_of}
-use Rattle.gabc_headers.specs.HeadEvents.{events_of_heads, inputs_behind}
+use Rattle.gabc_headers.specs.HeadEvents.{events_of_heads, inputs_after}
 use Rattle.gabc_headers.specs.witness.HeadEvents.{HeaderStageState, events_left}
 
 -- Of each text, given character by character, the stage emits what its headers say under these
 -- limits.
 abbrev pub EmitsHeaders : Limits → HeaderStageState → Type 0
-EmitsHeaders limits s = (t : List ℕ) → All IsScalar t → concat_of (events_left s.limits s.progress (inputs_behind [] t)) ≡ events_of_heads t (heads_of limits t)
+EmitsHeaders limits s = (t : List ℕ) → All IsScalar t → concat_of (events_left s.limits s.progress (inputs_after [] t)) ≡ events_of_heads t (heads_of limits t)

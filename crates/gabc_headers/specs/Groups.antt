@@ -73,7 +73,7 @@ abbrev pub mark_point : ℕ → List ℕ → List (List ℕ) → ℕ
 mark_point n l [] = n + (length (before_colon l) + (1 + mark_end 1 (after_colon l)))
 mark_point n l (m ∷ ms) = mark_below (n + (length l + 1)) (m ∷ ms)
 
--- what a group tells whose first line has the number k and begins at point n
+-- what a group reports whose first line has the number k and begins at point n
 abbrev pub parts_of_group : ℕ → ℕ → Group → List HeaderPart
 parts_of_group k n (skipped l) = []
 parts_of_group k n (colonless l) = left_out k (n + length l) ∷ []

@@ -10,7 +10,7 @@ use Rattle.gabc_headers.specs.declared.head_event.HeadEvent.TheVariants.{Found, 
 use Rattle.gabc_headers.specs.Book.{nabc_lines_of, macros_of}
 use Rattle.gabc_headers.specs.Canonical.{canonical_heads}
 use Rattle.gabc_headers.specs.Heads.{head_len}
-use Rattle.gabc_places.specs.Place.{placed_characters, placed_characters_behind}
+use Rattle.gabc_places.specs.Place.{placed_characters, placed_characters_after}
 use Rattle.gabc_places.specs.StageLaw.{concat_of}
 use Rattle.gabc_headers.specs.Lines.{bytes_len}
 
@@ -27,8 +27,8 @@ is_last_event event = false
 -- ---- a stage
 
 -- the characters of a text as they come in, after this prefix
-abbrev pub inputs_behind : List ℕ → List ℕ → List (Result Char Fault)
-inputs_behind prefix t = map (λ c. Ok c) (placed_characters_behind prefix t)
+abbrev pub inputs_after : List ℕ → List ℕ → List (Result Char Fault)
+inputs_after prefix t = map (λ c. Ok c) (placed_characters_after prefix t)
 
 -- the characters after the `%%`
 abbrev pub body_characters : List ℕ → List Char

@@ -48,9 +48,9 @@ names_after seen (left_out k p) = seen
 names_after seen (unended k) = seen
 names_after seen (header k name value p) = cond (is_kept name value) (name ∷ seen) seen
 
-abbrev pub findings_behind : List (List ℕ) → List HeaderPart → List Known
-findings_behind seen [] = []
-findings_behind seen (p ∷ ps) = findings_at seen p ++ findings_behind (names_after seen p) ps
+abbrev pub findings_after : List (List ℕ) → List HeaderPart → List Known
+findings_after seen [] = []
+findings_after seen (p ∷ ps) = findings_at seen p ++ findings_after (names_after seen p) ps
 
 -- no header `name`, known at the second `%` of the line `%%`
 abbrev pub findings_of_name : List ℕ → List HeaderPart → List Known
@@ -59,7 +59,7 @@ findings_of_name t ps = cond (has_score (lines t) && not (has_header (codes "nam
 
 -- all that is found in the headers of a text, whose lines make these parts
 abbrev pub findings_of_parts : List ℕ → List HeaderPart → List Known
-findings_of_parts t ps = findings_behind [] ps ++ findings_of_name t ps
+findings_of_parts t ps = findings_after [] ps ++ findings_of_name t ps
 
 -- ---- what stops them
 

@@ -7,7 +7,7 @@ use Rattle.gabc_headers.specs.Lines.{lines, head_of}
 use Rattle.gabc_headers.specs.Groups.{Group, AreGroups, parts_of_groups}
 use Rattle.gabc_headers.specs.Heads.{heads_of_parts}
 
--- What is read is what the groups of the lines before the line `%%`, or of all lines, tell.
+-- What is read is what the groups of the lines before the line `%%`, or of all lines, report.
 pub record AreHeads (limits : Limits) (t : List ℕ) (read : Result Heads HeadFault) : Type 0 where
   pub groups : List Group
   pub are : AreGroups (head_of (lines t)) groups

@@ -120,7 +120,7 @@ impl HeaderStage {
     /// Returns a stage under `limits` before the first character of a text, and reserves all the
     /// memory that it takes. It fails only for want of memory. Names are hashed with a fixed key,
     /// so names can be chosen that are slow to read: 1,872 of 8 bytes took 31 ms, where others take
-    /// 3. Where strangers write the text, take `with_hasher`.
+    /// 3. Where strangers write the text, take `with_hasher`. It emits at most two events a call.
     pub fn with_limits(alloc: Global, limits: Limits) -> Result<HeaderStage, AllocError>
         ensures fresh { IfOk result (λ stage. stage ≡ fresh_stage limits initial) }
         ensures events { IfOk result (EmitsHeaders limits) }
@@ -280,7 +280,8 @@ impl HeaderStage {
 
     /// Returns the text of the headers as far as it is read, with its comments. From the headers'
     /// end on it returns `None`. Pushed into a fresh stage under the same limits, wherever its
-    /// characters are said to stand, the text sets the stage down again.
+    /// characters are said to stand, the text sets the stage down again. The end of this text alone
+    /// stops its headers.
     pub fn text(&self) -> Option<&str>
         ensures in_headers { IsSome result ↔ IsInHeaders self.now.progress }
         ensures text { IfSome result (λ t. self.now.progress ≡ reading (chars t.now)) }

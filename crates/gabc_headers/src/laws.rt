@@ -22,7 +22,7 @@ ghost use Rattle.gabc_headers.specs.HeldText.{IsHeld};
 ghost use Rattle.gabc_headers.specs.TooLong.{is_too_long};
 ghost use Rattle.gabc_headers.specs.EntryMap.{put_all};
 ghost use Rattle.gabc_headers.specs.Groups.{Group, AreGroups, parts_of_groups};
-ghost use Rattle.gabc_headers.specs.HeadEvents.{emitted_by, events_of_broken, events_of_heads, events_of_stopped, inputs_behind};
+ghost use Rattle.gabc_headers.specs.HeadEvents.{emitted_by, events_of_broken, events_of_heads, events_of_stopped, inputs_after};
 ghost use Rattle.gabc_headers.specs.witness.HeadEvents.{events_left, fresh_stage, reading, stage_past};
 ghost use Rattle.gabc_places.specs.Decoder.{fault_items};
 ghost use Rattle.gabc_headers.specs.witness.Parts.{outside, parts};
@@ -42,7 +42,7 @@ pub fn groups_are_unique()
 
 /// Law: the parts of lines, the first of which has the number k and begins at point n, are what
 /// their groups say: of each header its name and its value, and what is left out.
-pub fn groups_tell_parts()
+pub fn groups_give_parts()
     ensures { (lines : List (List ℕ)) (groups : List Group) (k n : ℕ) → AreGroups lines groups →
         parts outside k n lines ≡ parts_of_groups k n groups }
 {}
@@ -95,7 +95,8 @@ pub fn the_headers_end_at_their_mark()
 
 /// Law: the canonical lines of a book, with whatever follows their `%%`, are read as that book
 /// under the same limits or larger ones: no header is left out, none comes twice, and nothing stops
-/// them. They end at this `%%`. All that can be found is that there is no header `name`.
+/// them. They end at this `%%`. All that can be found is that there is no header `name`. It would
+/// not hold if a value on lines of its own had no blank before it.
 pub fn book_again()
     ensures read { (limits larger : Limits) (t more : List ℕ) (heads : Heads)
         → AreNoLess limits larger → heads_of limits t ≡ Ok heads
@@ -149,7 +150,7 @@ pub fn the_numbers_of_headers_are_in_range()
 /// twice, and none is left out.
 pub fn events_make_the_headers()
     ensures { (limits : Limits) (t : List ℕ) → All IsScalar t →
-        concat_of (events_left limits (reading []) (inputs_behind [] t))
+        concat_of (events_left limits (reading []) (inputs_after [] t))
         ≡ events_of_heads t (heads_of limits t) }
 {}
 
@@ -158,11 +159,11 @@ pub fn events_make_the_headers()
 /// fault comes after them, unless the headers were stopped before. Then the end emits nothing more.
 pub fn events_need_no_end()
     ensures broken { (limits : Limits) (t : List ℕ) → All IsScalar t →
-        let xs = inputs_behind [] t in
+        let xs = inputs_after [] t in
         emitted_by false xs (events_left limits (reading []) xs)
         ≡ events_of_broken t (heads_of limits t) }
     ensures stopped { (limits : Limits) (t : List ℕ) (fault : Fault) (ended : Bool) →
-        All IsScalar t → let xs = inputs_behind [] t ++ Err fault ∷ [] in
+        All IsScalar t → let xs = inputs_after [] t ++ Err fault ∷ [] in
         emitted_by ended xs (events_left limits (reading []) xs)
         ≡ events_of_stopped fault t (heads_of limits t) }
 {}
@@ -172,6 +173,6 @@ pub fn events_need_no_end()
 pub fn the_book_is_read()
     ensures { (limits : Limits) (hasher : DefaultHasher) (t : List ℕ) (heads : Heads)
         (fault : Option Fault) → All IsScalar t → heads_of limits t ≡ Ok heads →
-        (stage_past (fresh_stage limits hasher) (inputs_behind [] t ++ fault_items fault)).book
+        (stage_past (fresh_stage limits hasher) (inputs_after [] t ++ fault_items fault)).book
         ≡ heads.book }
 {}

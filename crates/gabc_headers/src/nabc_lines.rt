@@ -8,8 +8,8 @@ ghost use Rattle.gabc_headers.specs.NabcLines.{values_in_range};
 /// number of NABC lines it says.
 pub const NABC_LINES: [&str; 5] = ["0", "1", "2", "3", "4"];
 
-/// The values that the header `nabc-lines` may have are the digits 0 to 4, each at the index that
-/// is its number.
+/// Law: the values that the header `nabc-lines` may have are the digits 0 to 4, each at the index
+/// that is its number.
 pub fn nabc_lines_are_these()
     ensures { nabc_values ≡ values_in_range }
 {}

@@ -78,7 +78,7 @@ pub fn the_body_is_passed_on(stage: &mut HeaderStage, c: Char, out: &mut Room<He
     stage.push(Ok(c), out);
 }
 
-/// Law: what an input does to a stage, and with it to the book that the stage lends: from the event
+/// Law: what an input does to a stage, and with it to the book that the stage shows: from the event
 /// `Heads` on it is that of the headers.
 pub fn an_input_is_taken(
     stage: &mut HeaderStage,
@@ -148,7 +148,7 @@ pub fn a_held_text_is_within_its_limit()
 
 /// Law: two stages after their headers emit the same of whatever follows, whatever the headers
 /// were.
-pub fn stages_behind_headers_agree()
+pub fn stages_after_headers_agree()
     ensures { (one other : HeaderStageState) → IsBehind one.progress → IsBehind other.progress →
         (xs : List (Result Char Fault)) → events_left one.limits one.progress xs
         ≡ events_left other.limits other.progress xs }

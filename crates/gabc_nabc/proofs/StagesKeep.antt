@@ -18,8 +18,8 @@ use Rattle.gabc_notes.specs.declared.stage.NoteEnd.TheVariants.{Cut}
 use Rattle.gabc_notes.specs.declared.stage.NoteEvent.{NoteEvent}
 use Rattle.gabc_notes.specs.declared.stage.NoteEvent.TheVariants.{Kept, Ended}
 use Rattle.gabc_nabc.specs.Table.{nabc}
-use Rattle.gabc_nabc.specs.Events.{in_comment, is_character, is_end, has_end, kept_of, is_missing, first_of, bytes_in, end_events, character_events, events_at, nabc_events_behind, nabc_events}
-use Rattle.gabc_nabc.specs.witness.Keeps.{comment_of, is_end_behind, kept_behind, IsKeptAgain, IsKeptWhole, with_comment, Keeps, GoesOn, EndsBehind, KeepsOn}
+use Rattle.gabc_nabc.specs.Events.{in_comment, is_character, is_end, has_end, kept_of, is_missing, first_of, bytes_in, end_events, character_events, events_at, nabc_events_after, nabc_events}
+use Rattle.gabc_nabc.specs.witness.Keeps.{comment_of, is_end_behind, kept_behind, IsKeptAgain, IsKeptWhole, with_comment, Keeps, GoesOn, EndsAfter, KeepsOn}
 use Rattle.gabc_nabc.specs.witness.DescriptorMachine.{comment_in, stage_events_at, stage_after, stage_moved_on, role_at, facts_at, next_at, events_left}
 use Rattle.gabc_nabc.specs.declared.stage.NabcRole.{NabcRole}
 use Rattle.gabc_nabc.specs.declared.stage.NabcRole.TheVariants.{Silent, Ends, Keep, LeaveOut}
@@ -27,7 +27,7 @@ use Rattle.gabc_nabc.specs.declared.stage.NabcStage.{NabcStage}
 use Rattle.gabc_nabc.specs.declared.state.DescriptorState.{DescriptorState}
 use Rattle.gabc_nabc.proofs.machine.TextWithACharacterMore.{comment_more, end_more, kept_more, kept_same}
 
--- ---- what is emitted behind a text, by its kept text and whether a comment is open
+-- ---- what is emitted after a text, by its kept text and whether a comment is open
 
 -- what is emitted of a character
 abbrev events_by : Bool → List ℕ → Char → List NoteEvent
@@ -46,12 +46,12 @@ record AreAlike (t u : List ℕ) : Type 0 where
   pub comment : in_comment t ≡ in_comment u
   pub kept : kept_of t ≡ kept_of u
 
-same_behind : (xs : List Char) (t u : List ℕ) → AreAlike t u → nabc_events_behind t xs ≡ nabc_events_behind u xs
+same_behind : (xs : List Char) (t u : List ℕ) → AreAlike t u → nabc_events_after t xs ≡ nabc_events_after u xs
 same_behind [] t u h =
     ap (λ (b : Bool). (if b then [] else Ended (Cut (record { line = 0; column = 0 })) (bytes_in (kept_of t)) ∷ []) ∷ []) h.ends
     ∙ ap (λ (k : List ℕ). (if has_end u then [] else Ended (Cut (record { line = 0; column = 0 })) (bytes_in k) ∷ []) ∷ []) h.kept
 same_behind (x ∷ xs) t u h =
-    ap (λ (events : List NoteEvent). events ∷ nabc_events_behind (t ++ x.c ∷ []) xs)
+    ap (λ (events : List NoteEvent). events ∷ nabc_events_after (t ++ x.c ∷ []) xs)
     (ap (λ (b : Bool). if b then [] else events_by (in_comment t) (kept_of t) x) h.ends
     ∙ ap (λ (b : Bool). if has_end u then [] else events_by b (kept_of t) x) h.comment
     ∙ ap (λ (k : List ℕ). if has_end u then [] else events_by (in_comment u) k x) h.kept)
@@ -66,7 +66,7 @@ same_behind (x ∷ xs) t u h =
 
 -- ---- a text that is kept whole
 
--- the text has no end, k is kept of it, and m tells whether a comment is open
+-- the text has no end, k is kept of it, and m says whether a comment is open
 record TextIs (k : List ℕ) (m : Bool) (t : List ℕ) : Type 0 where
   pub no_end : has_end t ≡ false
   pub comment : in_comment t ≡ m
@@ -88,7 +88,7 @@ text_whole t (c ∷ k) h w =
     subst (λ (u : List ℕ). TextIs u false u) (append_assoc t (c ∷ []) k)
     (text_whole (t ++ c ∷ []) k next (λ before more d e. w before more d (sym (append_assoc t (c ∷ []) k) ∙ e)))
 
--- the text that a stage stands behind
+-- the text that a stage stands after
 text_with : (k : List ℕ) (m : Bool) → IsKeptWhole k → TextIs k m (with_comment k m)
 text_with k false w = text_whole [] k (record { no_end = refl; comment = refl; kept = refl }) w
 text_with k true w = text_on k false k 37 (text_whole [] k (record { no_end = refl; comment = refl; kept = refl }) w) refl
@@ -138,12 +138,12 @@ module _ (m : Bool) (k : List ℕ) (x : Char) where
       by true true true = (refl, refl)
       by true true false = (refl, refl)
 
-  ending : is_end_behind m x.c ≡ true → EndsBehind k x.c (events_by m k x)
+  ending : is_end_behind m x.c ≡ true → EndsAfter k x.c (events_by m k x)
   ending e =
-      subst (λ (b : Bool). EndsBehind k x.c (if b then end_events k x else (if not m && not (is_in x.c (37 ∷ 32 ∷ 9 ∷ 10 ∷ [])) then character_events k x else []))) (sym e)
+      subst (λ (b : Bool). EndsAfter k x.c (if b then end_events k x else (if not m && not (is_in x.c (37 ∷ 32 ∷ 9 ∷ 10 ∷ [])) then character_events k x else []))) (sym e)
       (by (is_snippet nabc k))
     where
-      by : (b : Bool) → EndsBehind k x.c ((if b then [] else finding_event x.place E6 ∷ []) ++ Ended (end_by_mark x.c) (bytes_in (trim nabc k)) ∷ [])
+      by : (b : Bool) → EndsAfter k x.c ((if b then [] else finding_event x.place E6 ∷ []) ++ Ended (end_by_mark x.c) (bytes_in (trim nabc k)) ∷ [])
       by true = record { end = refl; none_kept = refl }
       by false = record { end = refl; none_kept = refl }
 
@@ -181,7 +181,7 @@ module _ (s : NabcStage) (x : Char) (k : List ℕ) (h : Keeps s k) where
 
   events_are : stage_events_at s x ≡ events_by (comment_of s) k x
   events_are =
-      let both : stage_events_at s x ∷ events_left (stage_after s x.c) [] ≡ events_at (with_comment k (comment_of s)) x ∷ nabc_events_behind (with_comment k (comment_of s) ++ x.c ∷ []) [] = h.emits (x ∷ []) in
+      let both : stage_events_at s x ∷ events_left (stage_after s x.c) [] ≡ events_at (with_comment k (comment_of s)) x ∷ nabc_events_after (with_comment k (comment_of s) ++ x.c ∷ []) [] = h.emits (x ∷ []) in
       let same : stage_events_at s x ≡ events_at (with_comment k (comment_of s)) x = cc both in
       same
       ∙ ap (λ (b : Bool). if b then [] else events_by (in_comment (with_comment k (comment_of s))) (kept_of (with_comment k (comment_of s))) x) text.no_end
@@ -205,10 +205,10 @@ module _ (s : NabcStage) (x : Char) (k : List ℕ) (h : Keeps s k) where
       whole : IsKeptWhole (kept_behind k (comment_of s) x.c)
       whole = whole_on k (comment_of s) x.c h.whole e
 
-      emits : (xs : List Char) → events_left (stage_after s x.c) xs ≡ nabc_events_behind (with_comment (kept_behind k (comment_of s) x.c) (comment_of (stage_after s x.c))) xs
+      emits : (xs : List Char) → events_left (stage_after s x.c) xs ≡ nabc_events_after (with_comment (kept_behind k (comment_of s) x.c) (comment_of (stage_after s x.c))) xs
       emits xs =
-          let both : stage_events_at s x ∷ events_left (stage_after s x.c) xs ≡ events_at (with_comment k (comment_of s)) x ∷ nabc_events_behind (with_comment k (comment_of s) ++ x.c ∷ []) xs = h.emits (x ∷ xs) in
-          let rest : events_left (stage_after s x.c) xs ≡ nabc_events_behind (with_comment k (comment_of s) ++ x.c ∷ []) xs = cc both in
+          let both : stage_events_at s x ∷ events_left (stage_after s x.c) xs ≡ events_at (with_comment k (comment_of s)) x ∷ nabc_events_after (with_comment k (comment_of s) ++ x.c ∷ []) xs = h.emits (x ∷ xs) in
+          let rest : events_left (stage_after s x.c) xs ≡ nabc_events_after (with_comment k (comment_of s) ++ x.c ∷ []) xs = cc both in
           let one = text_on k (comment_of s) (with_comment k (comment_of s)) x.c text e in
           let other = text_with (kept_behind k (comment_of s) x.c) (comment_of (stage_after s x.c)) whole in
           rest
@@ -218,7 +218,7 @@ module _ (s : NabcStage) (x : Char) (k : List ℕ) (h : Keeps s k) where
 pub push_keeps : (s : NabcStage) (x : Char) → KeepsOn s x (stage_events_at s x) (stage_after s x.c)
 push_keeps s x = record {
   goes = λ k h e. goes s x k h e;
-  ends = λ k h e. subst (EndsBehind k x.c) (sym (events_are s x k h)) (ending (comment_of s) k x e);
+  ends = λ k h e. subst (EndsAfter k x.c) (sym (events_are s x k h)) (ending (comment_of s) k x e);
 }
 
 -- the same of other values that are those
@@ -234,27 +234,27 @@ push_keeps_in s next x old new n o =
 pub fresh_keeps : (s : NabcStage) → comment_of s ≡ false → ((xs : List Char) → events_left s xs ≡ nabc_events xs) → Keeps s []
 fresh_keeps s m emits = record {
   whole = λ before more c e. absurd (nothing before more c e);
-  emits = λ xs. emits xs ∙ ap (λ (b : Bool). nabc_events_behind (with_comment [] b) xs) (sym m);
+  emits = λ xs. emits xs ∙ ap (λ (b : Bool). nabc_events_after (with_comment [] b) xs) (sym m);
 }
   where
     nothing : (before more : List ℕ) (c : ℕ) → [] ≡ before ++ c ∷ more → ⊥
     nothing [] more c e = cc
     nothing (b ∷ before) more c e = cc
 
--- ---- a stage set down again
+-- ---- a stage restored
 
 past_emits : (at : Place) (t k : List ℕ) (rest xs : List Char)
-    → drop (length (map (λ (c : ℕ). record { c = c; place = at }) k ++ rest)) (nabc_events_behind t ((map (λ (c : ℕ). record { c = c; place = at }) k ++ rest) ++ xs)) ≡ drop (length rest) (nabc_events_behind (t ++ k) (rest ++ xs))
-past_emits at t [] rest xs = ap (λ (u : List ℕ). drop (length rest) (nabc_events_behind u (rest ++ xs))) (sym (append-nil t))
-past_emits at t (c ∷ k) rest xs = past_emits at (t ++ c ∷ []) k rest xs ∙ ap (λ (u : List ℕ). drop (length rest) (nabc_events_behind u (rest ++ xs))) (append_assoc t (c ∷ []) k)
+    → drop (length (map (λ (c : ℕ). record { c = c; place = at }) k ++ rest)) (nabc_events_after t ((map (λ (c : ℕ). record { c = c; place = at }) k ++ rest) ++ xs)) ≡ drop (length rest) (nabc_events_after (t ++ k) (rest ++ xs))
+past_emits at t [] rest xs = ap (λ (u : List ℕ). drop (length rest) (nabc_events_after u (rest ++ xs))) (sym (append-nil t))
+past_emits at t (c ∷ k) rest xs = past_emits at (t ++ c ∷ []) k rest xs ∙ ap (λ (u : List ℕ). drop (length rest) (nabc_events_after u (rest ++ xs))) (append_assoc t (c ∷ []) k)
 
 pub gives_back : (s : NabcStage) (k : List ℕ) (at : Place) → Keeps s k → (xs : List Char)
     → drop (length (set_down at k (comment_of s))) (nabc_events (set_down at k (comment_of s) ++ xs)) ≡ events_left s xs
 gives_back s k at h xs = by (comment_of s) ∙ sym (h.emits xs)
   where
-    by : (m : Bool) → drop (length (set_down at k m)) (nabc_events (set_down at k m ++ xs)) ≡ nabc_events_behind (with_comment k m) xs
+    by : (m : Bool) → drop (length (set_down at k m)) (nabc_events (set_down at k m ++ xs)) ≡ nabc_events_after (with_comment k m) xs
     by true = past_emits at [] k (record { c = 37; place = at } ∷ []) xs
     by false = past_emits at [] k [] xs
 
 pub keeps_agree : (s r : NabcStage) (k : List ℕ) → Keeps s k → Keeps r k → comment_of s ≡ comment_of r → (xs : List Char) → events_left s xs ≡ events_left r xs
-keeps_agree s r k h g m xs = h.emits xs ∙ ap (λ (b : Bool). nabc_events_behind (with_comment k b) xs) m ∙ sym (g.emits xs)
+keeps_agree s r k h g m xs = h.emits xs ∙ ap (λ (b : Bool). nabc_events_after (with_comment k b) xs) m ∙ sym (g.emits xs)

@@ -1,4 +1,4 @@
--- Behind an end that a stage emits, it emits nothing.
+-- After an end that a stage emits, it emits nothing.
 use Rattle.std.proofs.Common.{◌≡◌, List, [], ◌∷◌, ◌++◌, Bool, true, false, cond, refl, ap, ◌∙◌, ℕ, Option, Some, None, option_to_list}
 use Rattle.std.specs.List.{list_any}
 use Rattle.gabc_places.specs.declared.code.Code.TheVariants.{E6, W7}
@@ -42,7 +42,7 @@ no_end Keep e w x n = go e.unknown
     go true = refl
     go false = refl
 
--- behind an end that a push gives, the stage is over
+-- after an end that a push gives, the stage is over
 pub push_stops : (st next : NabcStage) (x : Char) (old new : BoundedList NoteEvent) → next ≡ stage_after st x.c → new ≡ extended_by old (stage_events_at st x)
     → StopsAtEnd is_ended (events_left next) old new
 push_stops st next x old new n p = running st.ended refl
@@ -99,7 +99,7 @@ ended_as_before st next c n h = running st.ended refl
     running true e = n ∙ (rw e refl ∙ ap (λ (b : Bool). record st { ended = b }) e)
     running false e = at_role (role_at st c) refl e
 
--- and so is it behind the end
+-- and so is it after the end
 pub finish_stops : (st next : NabcStage) (old new : BoundedList NoteEvent) → next.ended ≡ true → new ≡ extended_by old (events_of_cut st)
     → StopsAtEnd is_ended (events_left next) old new
 finish_stops st next old new n p = go st.ended refl

@@ -29,22 +29,22 @@ abbrev pub is_end : List ℕ → ℕ → Bool
 is_end t c = not (in_comment t) && ((c == 41) || (c == 124))
 
 -- the characters of the snippet in cs, where the text stands before them
-abbrev pub characters_behind : List ℕ → List ℕ → List ℕ
-characters_behind t [] = []
-characters_behind t (c ∷ cs) = if is_character t c then c ∷ characters_behind (t ++ c ∷ []) cs else characters_behind (t ++ c ∷ []) cs
+abbrev pub characters_after : List ℕ → List ℕ → List ℕ
+characters_after t [] = []
+characters_after t (c ∷ cs) = if is_character t c then c ∷ characters_after (t ++ c ∷ []) cs else characters_after (t ++ c ∷ []) cs
 
 -- one of cs ends the snippet, where the text stands before them
-abbrev pub has_end_behind : List ℕ → List ℕ → Bool
-has_end_behind t [] = false
-has_end_behind t (c ∷ cs) = is_end t c || has_end_behind (t ++ c ∷ []) cs
+abbrev pub has_end_after : List ℕ → List ℕ → Bool
+has_end_after t [] = false
+has_end_after t (c ∷ cs) = is_end t c || has_end_after (t ++ c ∷ []) cs
 
 -- so of a whole text
 abbrev pub has_end : List ℕ → Bool
-has_end t = has_end_behind [] t
+has_end t = has_end_after [] t
 
 -- what is kept of a text: of its characters each one that leaves the kept text viable
 abbrev pub kept_of : List ℕ → List ℕ
-kept_of t = keep nabc (characters_behind [] t)
+kept_of t = keep nabc (characters_after [] t)
 
 -- ---- codes that have no name
 
@@ -77,13 +77,13 @@ abbrev pub takes_code : List ℕ → Bool
 takes_code t = is_snippet nabc t || joins t
 
 -- the first letter of a code, if it stands here
-abbrev pub first_behind : List ℕ → List ℕ → Option ℕ
-first_behind t (a ∷ []) = if takes_code t && begins_code a then Some a else None
-first_behind t _ = None
+abbrev pub first_after : List ℕ → List ℕ → Option ℕ
+first_after t (a ∷ []) = if takes_code t && begins_code a then Some a else None
+first_after t _ = None
 
 -- the first letter of a code, if the text ends with it
 abbrev pub first_of : List ℕ → Option ℕ
-first_of t = first_behind (before_last t) (last_of t)
+first_of t = first_after (before_last t) (last_of t)
 
 -- with the letter c it is a code, and the table of names lacks that
 abbrev pub is_missing : Option ℕ → ℕ → Bool
@@ -120,10 +120,10 @@ abbrev pub cut_events : List ℕ → List NoteEvent
 cut_events t = if has_end t then [] else Ended (Cut (record { line = 0; column = 0 })) (bytes_in (kept_of t)) ∷ []
 
 -- what is emitted of each of these characters after the text, and of their end
-abbrev pub nabc_events_behind : List ℕ → List Char → List (List NoteEvent)
-nabc_events_behind t [] = cut_events t ∷ []
-nabc_events_behind t (x ∷ xs) = events_at t x ∷ nabc_events_behind (t ++ x.c ∷ []) xs
+abbrev pub nabc_events_after : List ℕ → List Char → List (List NoteEvent)
+nabc_events_after t [] = cut_events t ∷ []
+nabc_events_after t (x ∷ xs) = events_at t x ∷ nabc_events_after (t ++ x.c ∷ []) xs
 
 -- what is emitted of these characters, a list for each, and of their end
 abbrev pub nabc_events : List Char → List (List NoteEvent)
-nabc_events xs = nabc_events_behind [] xs
+nabc_events xs = nabc_events_after [] xs

@@ -15,12 +15,12 @@ use Rattle.gabc_notes.specs.declared.snippet_read.SnippetEnding.TheVariants.{Nex
 use Rattle.gabc_notes.specs.declared.snippet_read.SnippetRead.{SnippetRead}
 use Rattle.gabc_nabc.specs.Table.{nabc, code}
 use Rattle.gabc_nabc.specs.Names.{is_known}
-use Rattle.gabc_nabc.specs.Events.{is_character, is_end, characters_behind}
+use Rattle.gabc_nabc.specs.Events.{is_character, is_end, characters_after}
 
 -- that is kept of the text: of its characters each one, exactly if what is kept before it, followed
 -- by it, is viable
 abbrev pub IsKeptOf : List ℕ → List ℕ → Type 0
-IsKeptOf t kept = Keeps nabc [] (characters_behind [] t) kept
+IsKeptOf t kept = Keeps nabc [] (characters_after [] t) kept
 
 -- the character c after the text is one of the snippet's, and kept
 abbrev pub IsKeptAfter : List ℕ → ℕ → Type 0

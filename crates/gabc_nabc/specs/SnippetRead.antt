@@ -22,13 +22,13 @@ abbrev pub AreAtMostOne : Place → List Finding → Type 0
 AreAtMostOne p fs = (fs ≡ []) ⊎ ((code : Code) × (fs ≡ record { place = p; code = code } ∷ []))
 
 -- the characters of cs before the one that ends the snippet, where the text stands before them
-abbrev pub before_end_behind : List ℕ → List ℕ → List ℕ
-before_end_behind t [] = []
-before_end_behind t (c ∷ cs) = if is_end t c then [] else c ∷ before_end_behind (t ++ c ∷ []) cs
+abbrev pub before_end_after : List ℕ → List ℕ → List ℕ
+before_end_after t [] = []
+before_end_after t (c ∷ cs) = if is_end t c then [] else c ∷ before_end_after (t ++ c ∷ []) cs
 
 -- the text before the character that ends the snippet, and from that one on
 abbrev pub before_end : List ℕ → List ℕ
-before_end t = before_end_behind [] t
+before_end t = before_end_after [] t
 
 abbrev pub from_end : List ℕ → List ℕ
 from_end t = drop (length (before_end t)) t
@@ -50,13 +50,13 @@ end_before [] = end.Cut (record { line = 0; column = 0 })
 end_before (c ∷ cs) = end_by_mark c
 
 -- how it ends: at the `|` or `)` with the byte where that stands, or the text ends before it
-abbrev pub ending_behind : List ℕ → List ℕ → SnippetEnding
-ending_behind prefix [] = Cut (record { line = 0; column = 0 })
-ending_behind prefix (c ∷ cs) = if c == 124 then Next (length (encode_utf8_all prefix)) else Close (length (encode_utf8_all prefix))
+abbrev pub ending_past : List ℕ → List ℕ → SnippetEnding
+ending_past prefix [] = Cut (record { line = 0; column = 0 })
+ending_past prefix (c ∷ cs) = if c == 124 then Next (length (encode_utf8_all prefix)) else Close (length (encode_utf8_all prefix))
 
 -- So what `nabc_whole` says of a text is computed. The findings are those that a stage emits of the
 -- characters, in order.
 pub record IsComputed (at : Place) (t : List ℕ) (r : SnippetRead) : Type 0 where
   pub kept_is : string_bytes r.kept ≡ encode_utf8_all (kept_before (before_end t) (from_end t))
   pub findings_are : r.findings ≡ findings_of (concat_of (nabc_events (placed_characters_from at t)))
-  pub how_is : r.how ≡ ending_behind (before_end t) (from_end t)
+  pub how_is : r.how ≡ ending_past (before_end t) (from_end t)

@@ -15,7 +15,7 @@ ghost use Rattle.gabc_nabc.specs.Codes.{HasCodesOfGlyphs};
 ghost use Rattle.gabc_nabc.specs.Names.{name_by};
 ghost use Rattle.gabc_nabc.specs.declared.descriptor.Descriptor.{Descriptor};
 ghost use Rattle.gabc_nabc.specs.Parts.{IsNabc, AreDescriptorsOf, MakeUp, AreWithin, parts_of};
-ghost use Rattle.gabc_nabc.specs.Events.{bytes_in, has_end, is_code, kept_of, nabc_events, events_at, nabc_events_behind, cut_events};
+ghost use Rattle.gabc_nabc.specs.Events.{bytes_in, has_end, is_code, kept_of, nabc_events, events_at, nabc_events_after, cut_events};
 ghost use Rattle.gabc_notes.specs.SnippetRead.{ends_of, findings_of, kept_of as kept_in};
 ghost use Rattle.gabc_notes.specs.Ends.{IsMarkOf, EndAtMost, AreCutAtMost};
 ghost use Rattle.gabc_notes.specs.declared.stage.NoteEnd.{NoteEnd};
@@ -111,7 +111,7 @@ pub fn what_follows_emits_nothing()
     ensures prefix { (xs ys zs : List Char) →
         take (length xs) (nabc_events (xs ++ ys)) ≡ take (length xs) (nabc_events (xs ++ zs)) }
     ensures end { (t : List ℕ) (xs : List Char) → has_end t ≡ true →
-        concat_of (nabc_events_behind t xs) ≡ [] }
+        concat_of (nabc_events_after t xs) ≡ [] }
 {}
 
 /// Law: the characters that are emitted as kept are what the table keeps of the text before the
@@ -169,7 +169,7 @@ pub fn a_snippet_ends_at_its_mark()
     ensures last { (t : List ℕ) → AreCutAtMost (cut_events t) }
 {}
 
-/// Law: a snippet of the table in front of its mark, whatever follows, is read again as exactly
+/// Law: a snippet of the table before its mark, whatever follows, is read again as exactly
 /// that snippet: it ends at that mark, each character is kept at its place, and no error is found.
 /// The kept text of each snippet that has ended is one.
 pub fn kept_again()
@@ -181,7 +181,7 @@ pub fn kept_again()
 
 /// Law: two stages after one kept text emit the same of whatever follows, if both report the same
 /// of whether a comment is open.
-pub fn stages_behind_one_text_agree()
+pub fn stages_after_one_text_agree()
     ensures { (one other : NabcStage) (k : List ℕ) → Keeps one k → Keeps other k →
         comment_of one ≡ comment_of other →
         (xs : List Char) → events_left one xs ≡ events_left other xs }

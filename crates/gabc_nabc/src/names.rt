@@ -39,7 +39,7 @@ pub(crate) const NAMES: [(char, char, &str); 31] = [
     ('n', 'i', "nihil"),
 ];
 
-/// The codes in the table of names are these, each with its name.
+/// Law: the codes in the table of names are these, each with its name.
 pub fn names_are_these()
     ensures { map (λ row. (row.0 ∷ row.1 ∷ [], row.2.now)) NAMES ≡ names_spelled }
 {}

@@ -59,6 +59,7 @@ impl RegularState {
 /// Returns how many bytes of `text` its longest prefix has that is a regular snippet of NABC: in
 /// front of the `)` or `|` that ends it, each of its characters is kept and nothing is found
 /// (GregorioRef, the NABC reference). The empty one is such a prefix.
+#[inline(never)]
 pub fn regular_nabc(text: &str) -> usize
     ensures { IsLongestPrefix IsRegular text.now result }
 {

@@ -7,7 +7,7 @@ ghost use Rattle.gabc_notes.specs.Ends.{is_ended};
 ghost use Rattle.gabc_notes.specs.declared.stage.NoteEvent.{NoteEvent};
 ghost use Rattle.gabc_notes.specs.declared.stage.NoteEnd.{NoteEnd};
 ghost use Rattle.gabc_notes.specs.declared.stage.NoteEvent.TheVariants.{Kept, Ended};
-ghost use Rattle.gabc_nabc.specs.witness.Keeps.{comment_of, Keeps, KeepsOn};
+ghost use Rattle.gabc_nabc.specs.witness.Keeps.{comment_of, Keeps, Steps};
 ghost use Rattle.gabc_nabc.specs.Events.{is_code, is_missing};
 ghost use Rattle.gabc_nabc.specs.NabcEmitted.{AreNabcEvents};
 ghost use Rattle.gabc_nabc.specs.witness.DescriptorMachine.{first_at, facts_by_states, role_in, events_in, event_list, stage_kept, stage_moved_on, stage_events_at, stage_after, events_of_cut, events_left};
@@ -283,7 +283,7 @@ impl Stage for NabcStage {
         requires { Fits out.old 3 }
         ensures events { Pushes (events_left self.old) (events_left self.new) x 3 out.old out.new }
         ensures end { StopsAtEnd is_ended (events_left self.new) out.old out.new }
-        ensures keeps { KeepsOn self.old x (drop (length out.old.items) out.new.items) self.new }
+        ensures steps { Steps self.old x (drop (length out.old.items) out.new.items) self.new }
         ensures stays { self.old.ended ≡ true → self.new ≡ self.old }
         ensures ended { self.new.ended ≡ true → self.new ≡ record self.old { ended = true } }
     {

@@ -79,16 +79,16 @@ abbrev pub heights : List ℕ
 heights = range_with_len 0 15
 
 -- after these steps; where there are none, the outset itself
-abbrev pub in_force_behind : InForce → List ScoreStep → InForce
-in_force_behind outset [] = outset
-in_force_behind outset (s ∷ before) = record {
+abbrev pub in_force_after : InForce → List ScoreStep → InForce
+in_force_after outset [] = outset
+in_force_after outset (s ∷ before) = record {
   clef = clef_in_force outset (s ∷ before);
   alters = map (alter_in_force outset (s ∷ before)) heights;
 }
 
 -- the same, where the steps are in the order of the score
 abbrev pub passed : InForce → List ScoreStep → InForce
-passed outset steps = in_force_behind outset (reverse steps)
+passed outset steps = in_force_after outset (reverse steps)
 
 -- the alteration of a height, without the `b` of the clef
 abbrev pub own_alter : InForce → ℕ → Alter

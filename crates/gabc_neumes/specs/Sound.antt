@@ -1,4 +1,4 @@
--- How a note sounds: its degree under a clef, and the alteration that is told of it.
+-- How a note sounds: its degree under a clef, and the alteration that is said of it.
 use Rattle.std.specs.Prelude.{ℕ, ◌+◌, ◌-◌, ◌*◌, ◌%◌, ◌==◌, ◌||◌, ◌&&◌, List, [], ◌∷◌, Bool, false, drop, codes, Option, Some, None, if◌then◌else◌}
 use Rattle.std.specs.Option.{option_map}
 use Rattle.gabc_patterns.specs.Pattern.{is_in}

@@ -3,7 +3,7 @@
 ghost use Rattle.std.specs.Prelude.{◌≡◌, ◌↔◌, ◌≤◌, [], ◌∷◌, length, IsSome, IfSome};
 ghost use Rattle.gabc_notes.specs.Notes.{height_at};
 ghost use Rattle.gabc_neumes.specs.Sound.{line_at, clef_at, sign_of, told};
-ghost use Rattle.gabc_neumes.specs.InForce.{WordStart, AnItem, step_of, nothing_in_force, is_virgula, in_force_behind, own_alter, sound_of};
+ghost use Rattle.gabc_neumes.specs.InForce.{WordStart, AnItem, step_of, nothing_in_force, is_virgula, in_force_after, own_alter, sound_of};
 
 use crate::sound::{Alter, Clef, Sound, degree};
 use gabc_notes::{Item, ItemKind, height_of};
@@ -131,14 +131,14 @@ impl Alterations {
 
     /// Passes the start of a word: no alteration is in force after it.
     pub fn start_word(&mut self)
-        ensures { self.new ≡ in_force_behind self.old (WordStart ∷ []) }
+        ensures { self.new ≡ in_force_after self.old (WordStart ∷ []) }
     {
         self.alters = [Alter::None; HEIGHTS];
     }
 
     /// Passes a clef of that text.
     fn pass_clef(&mut self, text: &[u8])
-        ensures { self.new ≡ in_force_behind self.old (AnItem ItemKind.Clef text.now ∷ []) }
+        ensures { self.new ≡ in_force_after self.old (AnItem ItemKind.Clef text.now ∷ []) }
     {
         if let Some(clef) = clef_at(text) {
             self.clef = Some(clef);
@@ -148,7 +148,7 @@ impl Alterations {
 
     /// Passes a bar of that text.
     fn pass_bar(&mut self, text: &[u8])
-        ensures { self.new ≡ in_force_behind self.old (AnItem ItemKind.Bar text.now ∷ []) }
+        ensures { self.new ≡ in_force_after self.old (AnItem ItemKind.Bar text.now ∷ []) }
     {
         // how many heights there are is known where a field is used
         let _ = &self.alters;
@@ -159,7 +159,7 @@ impl Alterations {
 
     /// Passes an alteration of that text.
     fn pass_alteration(&mut self, text: &[u8])
-        ensures { self.new ≡ in_force_behind self.old (AnItem ItemKind.Alteration text.now ∷ []) }
+        ensures { self.new ≡ in_force_after self.old (AnItem ItemKind.Alteration text.now ∷ []) }
     {
         let height = height_at(text);
         if (height as usize) < HEIGHTS {
@@ -174,7 +174,7 @@ impl Alterations {
     /// `item` has to lie within `kept`, as that of each item of `items_whole` does.
     pub fn pass(&mut self, kept: &str, item: Item)
         requires { (item.span.from ≤ item.span.to) × (item.span.to ≤ length kept.now) }
-        ensures { self.new ≡ in_force_behind self.old (step_of kept.now item ∷ []) }
+        ensures { self.new ≡ in_force_after self.old (step_of kept.now item ∷ []) }
     {
         // how many heights there are is known where a field is used
         let _ = &self.alters;

@@ -9,7 +9,7 @@ ghost use Rattle.gabc_notes.specs.declared.note.Note.{Note};
 ghost use Rattle.gabc_neumes.specs.Cut.{glyphs_of};
 ghost use Rattle.gabc_neumes.specs.Elements.{AreElementsOf, AreSegmentsOf, is_in_element, is_in_segment, divides, joins_segment};
 ghost use Rattle.gabc_neumes.specs.Glyphs.{HasKind, AreGlyphsOf};
-ghost use Rattle.gabc_neumes.specs.InForce.{InForce, ScoreStep, clef_in_force, alter_in_force, in_force_behind, passed, own_alter};
+ghost use Rattle.gabc_neumes.specs.InForce.{InForce, ScoreStep, clef_in_force, alter_in_force, in_force_after, passed, own_alter};
 ghost use Rattle.gabc_neumes.specs.Runs.{passes_at, IsRun};
 ghost use Rattle.gabc_neumes.specs.declared.glyph.Glyph.{Glyph};
 ghost use Rattle.gabc_neumes.specs.declared.glyph.GlyphKind.{GlyphKind};
@@ -64,9 +64,9 @@ pub fn segments_stand_in_elements()
 /// alterations comes first; where neither comes, it is that of the outset.
 pub fn positions_say_what_is_in_force()
     ensures clef { (outset : InForce) (before : List ScoreStep) →
-        (in_force_behind outset before).clef ≡ clef_in_force outset before }
+        (in_force_after outset before).clef ≡ clef_in_force outset before }
     ensures alter { (outset : InForce) (before : List ScoreStep) (height : ℕ) → height < 15 →
-        own_alter (in_force_behind outset before) height ≡ alter_in_force outset before height }
+        own_alter (in_force_after outset before) height ≡ alter_in_force outset before height }
 {}
 
 /// Law: what is in force after some steps, and then after more, is in force after all of them: so
@@ -74,8 +74,8 @@ pub fn positions_say_what_is_in_force()
 /// the order of the score.
 pub fn steps_are_passed_one_by_one()
     ensures back { (outset : InForce) (before more : List ScoreStep) →
-        in_force_behind (in_force_behind outset before) more
-        ≡ in_force_behind outset (more ++ before) }
+        in_force_after (in_force_after outset before) more
+        ≡ in_force_after outset (more ++ before) }
     ensures forth { (outset : InForce) (steps more : List ScoreStep) →
         passed (passed outset steps) more ≡ passed outset (steps ++ more) }
 {}

@@ -1,5 +1,6 @@
 //! The neumes of a snippet of notes: the elements and segments into which its items fall, and the
-//! glyphs into which the notes of a segment are cut; and how each note of a score sounds.
+//! glyphs into which the notes of a segment are cut; and how each note of a score sounds. No call
+//! asks for memory.
 //!
 //! - Dividers are blanks, `/`, `//`, `/[..]`, bars, clefs, custodes and breaks; `!`, `/0` and `/!`
 //!   are none. `elements` adds the elements of a snippet: as many items in a row as have no divider

@@ -23,7 +23,7 @@ kept_chars-kept (Kept x ∷ a) = ap (λ (l : List ℕ). x.c ∷ l) (kept_chars-k
 kept_chars-kept (Found f ∷ a) = kept_chars-kept a
 kept_chars-kept (Ended h n ∷ a) = kept_chars-kept a
 
--- a prefix of a prefix with more behind it
+-- a prefix of a prefix with more after it
 pub take_again : {X : Type 0} (n : ℕ) (a b : List X) → take n (take n a ++ b) ≡ take n (a ++ b)
 take_again {X} n a b = elim (dec_lt (length a) n) [
   | yes h ↦ ap (λ (l : List X). take n (l ++ b)) (take_all n a (omega (arith, h)))

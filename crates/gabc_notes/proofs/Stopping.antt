@@ -1,4 +1,4 @@
--- Behind an end that a stage emits, it emits nothing.
+-- After an end that a stage emits, it emits nothing.
 use Rattle.std.proofs.Common.{◌≡◌, List, [], ◌∷◌, ◌++◌, Bool, true, false, cond, not, ◌&&◌, ◌||◌, ◌==◌, ℕ, refl, sym, ap, ◌∙◌, Option, Some, None, append_assoc, option_to_list}
 use Rattle.std.specs.List.{list_any}
 use Rattle.std.proofs.lemmas.List.Folds.{list_any-append}
@@ -48,7 +48,7 @@ warned macros b e x = go e.raw (e.attribute && is_missing macros e.digit) (((x.c
     go false m true = refl
     go false m false = refl
 
--- behind an end that a push gives, the stage is over
+-- after an end that a push gives, the stage is over
 pub push_stops : (st next : NoteStage) (x : Char) (o : Option ItemState) (e : CharFacts) (r : CharRole) (g : CharEvents) (old new : BoundedList NoteEvent)
     → g ≡ events_in r st.macros st.before e x → next ≡ stage_after st r e o x → new ≡ extended_by old (event_list g)
     → StopsAtEnd is_ended (events_left next) old new

@@ -186,10 +186,10 @@ cut_events split back =
     Ended (Cut (if in_raw (kept back) then opener back else record { line = 0; column = 0 })) (bytes_of (kept back)) ∷ []
 
 -- what is emitted of these characters after those, a list for each, and of their end, a list more
-abbrev pub note_events_behind : Bool → ℕ → List Char → List Char → List (List NoteEvent)
-note_events_behind split macros back [] = cut_events split back ∷ []
-note_events_behind split macros back (x ∷ xs) = events_at split macros (record { back = back; here = x }) ∷ note_events_behind split macros (x ∷ back) xs
+abbrev pub note_events_after : Bool → ℕ → List Char → List Char → List (List NoteEvent)
+note_events_after split macros back [] = cut_events split back ∷ []
+note_events_after split macros back (x ∷ xs) = events_at split macros (record { back = back; here = x }) ∷ note_events_after split macros (x ∷ back) xs
 
 -- what is emitted of these characters and their end
 unfoldable pub note_events : Bool → ℕ → List Char → List (List NoteEvent)
-note_events split macros xs = note_events_behind split macros [] xs
+note_events split macros xs = note_events_after split macros [] xs

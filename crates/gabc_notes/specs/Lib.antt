@@ -12,5 +12,5 @@ pub mod Raw
 pub mod ReadAgain
 pub mod Regular
 pub mod SnippetRead
-pub mod StageTells
+pub mod StageReports
 pub mod Table

@@ -1,7 +1,8 @@
 //! The items of a kept text.
 
-ghost use Rattle.std.specs.Prelude.{◌≡◌, ◌≤◌, ◌<◌, length, IfOk, IfSome, IfNone, IsTrue, IsUtf8, None};
+ghost use Rattle.std.specs.Prelude.{◌≡◌, ◌≤◌, ◌<◌, codes, length, IfOk, IfSome, IfNone, IsTrue, IsUtf8, None};
 ghost use Rattle.std.specs.Str.{chars};
+ghost use Rattle.gabc_patterns.specs.Pattern.{is_in};
 ghost use Rattle.gabc_patterns.specs.Function.{longest_item};
 ghost use Rattle.gabc_places.specs.BoundedList.{Fits, extended_by};
 ghost use Rattle.gabc_notes.specs.FirstNoteOrClef.{is_note_or_clef as note_or_clef, first_note_or_clef as first_of};
@@ -36,8 +37,32 @@ fn begins_with_one_pitch(text: &[u8]) -> bool
     }
 }
 
+/// Returns whether `byte` is one of the frequent signs of a note.
+fn is_sign(byte: u8) -> bool
+    ensures { result ≡ is_in byte (codes "._'") }
+{
+    match byte {
+        b'.' | b'_' | b'\'' => true,
+        _ => false,
+    }
+}
+
+/// Returns whether `text` begins with a small pitch and a `.`, `_` or `'` that are sure to be an
+/// item: nothing stands after them, or one of the small pitches from `c` to `n`.
+fn begins_with_signed_pitch(text: &[u8]) -> bool
+    ensures { IsTrue result → IsUtf8 text.now → IsFirstItem text.now ItemKind.Note 2 }
+{
+    match text {
+        [pitch, sign] if is_sign(*sign) => is_pitch_from(b'a', *pitch),
+        [pitch, sign, next, ..] if is_sign(*sign) => {
+            is_pitch_from(b'a', *pitch) && is_pitch_from(b'c', *next)
+        }
+        _ => false,
+    }
+}
+
 /// Returns the longest item that begins `text`: its kind, and how many bytes it has. Many items are
-/// one pitch, so these are found first.
+/// one pitch, alone or with a sign, so these are found first.
 #[inline(always)]
 fn first_item(text: &str) -> Option<(ItemKind, usize)>
     ensures found { IfSome result (λ i. IsFirstItem text.now i.0 i.1) }
@@ -45,6 +70,9 @@ fn first_item(text: &str) -> Option<(ItemKind, usize)>
 {
     if begins_with_one_pitch(text.as_bytes()) {
         return Some((ItemKind::Note, 1));
+    }
+    if begins_with_signed_pitch(text.as_bytes()) {
+        return Some((ItemKind::Note, 2));
     }
     if text.is_empty() {
         return None;

@@ -28,7 +28,7 @@ ghost use Rattle.gabc_notes.specs.declared.stage.NoteEnd.{NoteEnd};
 ghost use Rattle.gabc_notes.specs.declared.stage.NoteEvent.{NoteEvent};
 ghost use Rattle.gabc_notes.specs.witness.ItemMachine.{events_left};
 ghost use Rattle.gabc_notes.specs.witness.Keeps.{Begins, IsCutAtOpener, Keeps, OpensThere, Takes, set_down, OpensAt, IsKeptAgain};
-ghost use Rattle.gabc_notes.specs.StageTells.{opener_of, comment_of, told};
+ghost use Rattle.gabc_notes.specs.StageReports.{opener_of, comment_of, told};
 
 use crate::stage::{NoteEvent, NoteStage};
 use gabc_places::{Char, Room, drive};
@@ -186,7 +186,7 @@ pub fn a_snippet_ends_at_its_mark()
     ensures last { (split : Bool) (back : List Char) → AreCutAtMost (cut_events split back) }
 {}
 
-/// Law: a snippet of the table in front of its mark, whatever follows, is read again as exactly
+/// Law: a snippet of the table before its mark, whatever follows, is read again as exactly
 /// that snippet: it ends at that mark, each character is kept at its place, and no error is found.
 /// The kept text of each snippet that has ended is one.
 pub fn kept_again()
@@ -196,16 +196,16 @@ pub fn kept_again()
     ensures kept { (mark : ℕ) (back : List Char) → IsSnippet gabc (kept_by (Some mark) back) }
 {}
 
-/// Law: two stages emit the same of whatever follows, if they stand alike, but for a place outside
-/// raw.
-pub fn stages_that_tell_the_same_agree(one: &NoteStage, other: &NoteStage)
+/// Law: two stages emit the same of whatever follows, if they report the same, but for a place
+/// outside raw.
+pub fn stages_that_report_the_same_agree(one: &NoteStage, other: &NoteStage)
     requires { told one.now ≡ told other.now }
     ensures { (xs : List Char) → events_left one.now xs ≡ events_left other.now xs }
 {}
 
 /// Law: two stages after one kept text that report the same emit the same of whatever follows: the
 /// place of the bracket that is open, and whether a comment is open.
-pub fn stages_behind_one_text_agree()
+pub fn stages_after_one_text_agree()
     ensures { (split : Bool) (macros : ℕ) (one other : NoteStage) (k : List ℕ) →
         Keeps split macros one k → Keeps split macros other k →
         opener_of one ≡ opener_of other → comment_of one ≡ comment_of other →
@@ -214,7 +214,7 @@ pub fn stages_behind_one_text_agree()
 
 /// Law: a stage that keeps a text reports an opener exactly if that text lies inside raw, and there
 /// no comment is open.
-pub fn an_opener_is_told_inside_raw()
+pub fn an_opener_is_reported_inside_raw()
     ensures opener { (split : Bool) (macros : ℕ) (s : NoteStage) (k : List ℕ) →
         Keeps split macros s k → is_some (opener_of s) ≡ in_raw k }
     ensures comment { (split : Bool) (macros : ℕ) (s : NoteStage) (k : List ℕ) →
@@ -238,7 +238,7 @@ pub fn a_stage_takes_each_character()
 
 /// Law: the bracket that is open in a stage may stand at any place, and the stage keeps the same
 /// text.
-pub fn an_opener_may_stand_anywhere()
+pub fn an_opener_may_be_anywhere()
     ensures { (split : Bool) (macros : ℕ) (s : NoteStage) (k : List ℕ) (at : Place) →
         Keeps split macros s k → is_some (opener_of s) ≡ true →
         OpensThere split macros s k at }

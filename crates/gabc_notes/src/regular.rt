@@ -118,12 +118,15 @@ fn begins_front(byte: u8) -> bool
 }
 
 /// Returns whether `byte` is a pitch but `b`, or a frequent suffix or sign. Most bytes of notes are
-/// known by one comparison.
+/// known by one comparison, and most fronts end at a `)`.
 fn goes_on_front(byte: u8) -> bool
     ensures { result ≡ goes_on_front byte }
 {
     if byte >= b'c' && byte <= b'p' {
         return true;
+    }
+    if byte == b')' {
+        return false;
     }
     match byte {
         b'a' | b'.' | b'_' | b'\'' | b'v' | b's' | b'w' => true,
@@ -144,6 +147,7 @@ fn item_at(byte: u8) -> ItemState
 
 /// Returns how many bytes the front has that `bytes` begin with: pitches but `b`, and after the
 /// first of them frequent suffixes and signs too. Each that it goes over ends a regular snippet.
+#[inline(always)]
 fn front_len(bytes: &[u8]) -> usize
     ensures within { result ≤ length bytes.now }
     ensures front { is_front (take result bytes.now) ≡ true }
@@ -197,9 +201,10 @@ fn regular_after_front(text: &str, front: usize) -> usize
     regular
 }
 
-/// Returns how many bytes of `text` its longest prefix has that is a regular snippet: in front of
+/// Returns how many bytes of `text` its longest prefix has that is a regular snippet: before
 /// the `)` or `|` that ends it, each of its characters is kept and nothing is found, whatever
 /// macros are defined (GregorioRef, "Notation — Note Syntax"). The empty one is such a prefix.
+#[inline(always)]
 pub fn regular_notes(text: &str) -> usize
     ensures { IsLongestPrefix IsRegular text.now result }
 {

@@ -8,8 +8,8 @@ ghost use Rattle.gabc_notes.specs.declared.stage.CharFacts.{CharFacts};
 ghost use Rattle.gabc_notes.specs.machine.ItemMachine.{IsShortStep, raw_state, facts_by_states, prefix_after, stage_after, stage_kept};
 ghost use Rattle.gabc_notes.specs.witness.ItemMachine.{events_left};
 ghost use Rattle.gabc_notes.specs.machine.StageBehind.{stage_behind};
-ghost use Rattle.gabc_notes.specs.StageTells.{opener_of, comment_of};
-ghost use Rattle.gabc_notes.specs.witness.Keeps.{Keeps, KeepsOn};
+ghost use Rattle.gabc_notes.specs.StageReports.{opener_of, comment_of};
+ghost use Rattle.gabc_notes.specs.witness.Keeps.{Keeps, Steps};
 ghost use Rattle.gabc_notes.specs.Ends.{is_ended};
 ghost use Rattle.gabc_notes.specs.witness.StageEvents.{role_in, warning_in, before_in, events_in, event_list};
 ghost use Rattle.gabc_notes.specs.Events.{end_by_mark, finding_event};
@@ -414,7 +414,7 @@ impl Stage for NoteStage {
         requires { Fits out.old 3 }
         ensures events { Pushes (events_left self.old) (events_left self.new) x 3 out.old out.new }
         ensures end { StopsAtEnd is_ended (events_left self.new) out.old out.new }
-        ensures keeps { KeepsOn self.old x (drop (length out.old.items) out.new.items) self.new }
+        ensures steps { Steps self.old x (drop (length out.old.items) out.new.items) self.new }
         ensures stays { self.old.ended ≡ true → self.new ≡ self.old }
         ensures ended { self.new.ended ≡ true → self.new ≡ record self.old { ended = true } }
     {

@@ -35,7 +35,7 @@ pub record BestByBytes {K : Type 0} (table : Table K) (text : List ℕ) (best : 
   pub bytes : best ≡ in_bytes (chars text) longest
   pub here : BestHere table (chars text) 0 longest
 
--- the character behind those that are done
+-- the character after those that are done
 seam : (done later : List ℕ) (c : ℕ) → (length done < length (done ++ c ∷ later)) × (c ≡ get_or (done ++ c ∷ later) (length done) c)
 seam done later c = (omega (arith, length-append done (c ∷ later)), sym (get_or-append_seam done c later c))
 

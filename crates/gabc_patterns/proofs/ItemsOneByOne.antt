@@ -70,7 +70,7 @@ module _ {K : Type 0} (table : Table K) where
           let some = b.0 in
           ap (λ (u : List (K × List ℕ)). (kind, take e t) ∷ u) (F (drop e t) (omega (arith, length-drop e t)) (omega (arith, length-drop e t)))
 
-  -- the first, and the items behind it
+  -- the first, and the items after it
   pub items_more : (t : List ℕ) (k : K) (e : ℕ) → longest_item table t ≡ Some (k, e) → items table t ≡ (k, take e t) ∷ items table (drop e t)
   items_more [] k e f = absurd (cc)
   items_more (c ∷ t) k e f =
@@ -87,7 +87,7 @@ module _ {K : Type 0} (table : Table K) where
       ∙ (ap (λ (u : List ℕ). (k, u) ∷ items table (drop (length x) (x ++ y))) (take_at x y (length x) refl)
       ∙ ap (λ (u : List ℕ). (k, x) ∷ items table u) (drop_at x y (length x) refl))
 
-  -- the items lie one behind the other at the head of the text
+  -- the items lie one after the other at the head of the text
   pub items_lie : (n : ℕ) (t : List ℕ) → (rest : List ℕ) × (t ≡ concat (map (λ (i : K × List ℕ). i.1) (items_within table n t)) ++ rest)
   items_lie zero t = (t, refl)
   items_lie (suc n) t = go (longest_item table t) (λ u. items_lie n u)

@@ -9,7 +9,7 @@ module _ {K S C : Type 0} (table : Table K) (a : Automaton K S C) (r : ReadsSnip
   pub stuck : (s : S) (done later all : List ℕ) (c : ℕ) → Stands table a s done → a.next s (a.class_of c) ≡ None → all ≡ done ++ c ∷ later → ¬ IsSnippet table all
   stuck s done later all c h n e i = left_out table a r s done c h n (later, subst (IsSnippet table) (e ∙ sym (append_assoc done (c ∷ []) later)) i)
 
-  -- at the end the state tells
+  -- at the end the state reports
   pub emitted_by : (s : S) (done all : List ℕ) → Stands table a s done → done ≡ all → IsTrue (a.whole s) ↔ IsSnippet table all
   emitted_by s done all h e = (λ w. subst (IsSnippet table) e (whole_at table a r s done h w), λ i. go (a.whole s) refl i)
     where

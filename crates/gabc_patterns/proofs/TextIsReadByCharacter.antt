@@ -9,7 +9,7 @@ pub one_read : (done bs rest all : List ℕ) (c : ℕ) → IsUtf8 bs → bs ≡ 
     → (done ++ c ∷ []) ++ chars rest ≡ all
 one_read done bs rest all c u e h = append_assoc done (c ∷ []) (chars rest) ∙ ap (λ t. done ++ t) (sym (chars_past_char bs rest c u e)) ∙ h
 
--- so it stands behind what was read
+-- so it stands after what was read
 pub one_next : (done bs rest all : List ℕ) (c : ℕ) → IsUtf8 bs → bs ≡ encode c ++ rest → done ++ chars bs ≡ all → all ≡ done ++ c ∷ chars rest
 one_next done bs rest all c u e h = sym h ∙ ap (λ t. done ++ t) (chars_past_char bs rest c u e)
 

@@ -1,8 +1,8 @@
--- Calls one behind the other: which are late, and whether an end goes on.
+-- Calls one after the other: which are late, and whether an end goes on.
 use Rattle.std.proofs.Common.{◌≡◌, Bool, true, false, if◌then◌else◌, ℕ, ◌+◌, ◌<◌, ◌==◌, ◌&&◌, not, arith, refl, ap, ◌∙◌}
 use Rattle.std.proofs.lemmas.Bool.Decides.{nat_tests}
 use Rattle.std.proofs.Math.Bool.{or-false}
-use Rattle.gabc_places.specs.Calls.{Calls, NoneLate, GoesOn, FailsOnce, is_end, behind_answer, behind_failure}
+use Rattle.gabc_places.specs.Calls.{Calls, NoneLate, GoesOn, FailsOnce, is_end, after_answer, after_failure}
 
 in_time : (b : Bool) (late : ℕ) → b ≡ false → (if b then late + 1 else late) ≡ late
 in_time true late h = cc
@@ -10,14 +10,14 @@ in_time false late h = refl
 
 -- ---- one call
 
-pub answered : (old new : Calls) → new ≡ behind_answer false old → GoesOn old new
+pub answered : (old new : Calls) → new ≡ after_answer false old → GoesOn old new
 answered old new h = record {
   failures = ap (λ (c : Calls). c.failures) h;
   is_stopped = ap (λ (c : Calls). c.is_stopped) h ∙ or-false old.is_stopped;
   none_late = λ runs. ap (λ (c : Calls). c.late) h ∙ in_time old.is_stopped old.late runs;
 }
 
-pub failed : (old new : Calls) → new ≡ behind_failure old → FailsOnce old new
+pub failed : (old new : Calls) → new ≡ after_failure old → FailsOnce old new
 failed old new h = record {
   failures = ap (λ (c : Calls). c.failures) h;
   is_stopped = ap (λ (c : Calls). c.is_stopped) h;
@@ -30,10 +30,10 @@ no_end count length some =
     ap (λ (b : Bool). b && not (length == 0)) differs
 
 -- a read that gave some bytes
-pub read_some : (count length : ℕ) (old new : Calls) → 0 < count → new ≡ behind_answer (is_end count length) old → GoesOn old new
-read_some count length old new some h = answered old new (h ∙ ap (λ (b : Bool). behind_answer b old) (no_end count length some))
+pub read_some : (count length : ℕ) (old new : Calls) → 0 < count → new ≡ after_answer (is_end count length) old → GoesOn old new
+read_some count length old new some h = answered old new (h ∙ ap (λ (b : Bool). after_answer b old) (no_end count length some))
 
--- ---- calls behind others
+-- ---- calls after others
 
 pub goes_on_here : (c : Calls) → GoesOn c c
 goes_on_here c = record { failures = refl; is_stopped = refl; none_late = λ runs. refl }

@@ -1,4 +1,4 @@
--- Behind an output that ends a stage, several calls give nothing, as each of them does.
+-- After an output that ends a stage, several calls give nothing, as each of them does.
 use Rattle.std.proofs.Common.{ℕ, List, [], ◌∷◌, ◌++◌, ◌≡◌, ◌||◌, ◌⊎◌, inl, inr, Bool, true, false, refl, ap, sym, ◌∙◌, append_assoc}
 use Rattle.std.proofs.lemmas.List.{append_cancel_left}
 use Rattle.std.proofs.Math.Bool.{or-true}

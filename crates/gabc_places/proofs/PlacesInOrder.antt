@@ -2,7 +2,7 @@
 use Rattle.std.proofs.Common.{ℕ, ◌+◌, ◌==◌, List, [], ◌∷◌, ◌++◌, Bool, true, false, cond, refl, arith, inl, inr}
 use Rattle.gabc_places.specs.declared.place.Place.{Place}
 use Rattle.gabc_places.specs.declared.code.Finding.{Finding}
-use Rattle.gabc_places.specs.Findings.{IsUpTo, LieBetween, StandsBefore}
+use Rattle.gabc_places.specs.Findings.{IsUpTo, LieBetween, ComesBefore}
 use Rattle.gabc_places.specs.Place.{next_place, place_past}
 use Rattle.gabc_places.specs.PlacesInOrder.{IsEarlier}
 
@@ -49,7 +49,7 @@ up_to_past p (c ∷ t) = up_to_then p (next_place p c) (place_past (next_place p
 
 -- ---- findings
 
-pub stands_before : (f g : Finding) → IsEarlier f.place g.place → StandsBefore f g
+pub stands_before : (f g : Finding) → IsEarlier f.place g.place → ComesBefore f g
 stands_before f g (inl h) = inl h
 stands_before f g (inr h) = inr (h.0, inl h.1)
 

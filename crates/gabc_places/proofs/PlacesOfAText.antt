@@ -4,12 +4,12 @@ use Rattle.std.proofs.lemmas.Grind.{common_steps}
 use Rattle.std.proofs.lemmas.Str.{length-encode, len_utf8_bounds}
 use Rattle.gabc_places.specs.declared.place.Place.{Place}
 use Rattle.gabc_places.specs.declared.place.Char.{Char}
-use Rattle.gabc_places.specs.Place.{next_place, is_line_feed, place_after, placed_characters_behind, place_past, placed_characters_from}
+use Rattle.gabc_places.specs.Place.{next_place, is_line_feed, place_after, placed_characters_after, place_past, placed_characters_from}
 
 pub next_after : (f : List ℕ) (c : ℕ) → next_place (place_after f) c ≡ place_after (f ++ c ∷ [])
 next_after f c = grind (arith, common_steps)
 
-pub placed_behind : (f cs : List ℕ) → placed_characters_from (place_after f) cs ≡ placed_characters_behind f cs
+pub placed_behind : (f cs : List ℕ) → placed_characters_from (place_after f) cs ≡ placed_characters_after f cs
 placed_behind f [] = refl
 placed_behind f (c ∷ cs) =
     ap (λ (l : List Char). record { c = c; place = place_after f } ∷ l) (ap (λ p. placed_characters_from p cs) (next_after f c) ∙ placed_behind (f ++ c ∷ []) cs)

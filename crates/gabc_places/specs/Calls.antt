@@ -1,8 +1,8 @@
 -- How the calls of a source or a sink went.
 use Rattle.std.specs.Prelude.{◌≡◌, ℕ, ◌+◌, ◌==◌, Bool, true, false, not, ◌&&◌, ◌||◌, if◌then◌else◌, Result, MatchResult}
 
--- How many calls came; how many of them failed; whether one of them failed or told the end, so that
--- this end is stopped; and how many were late: they came when it was stopped.
+-- How many calls came; how many of them failed; whether one of them failed or reported the end, so
+-- that this end is stopped; and how many were late: they came when it was stopped.
 pub record Calls : Type 0 where
   pub made : ℕ
   pub failures : ℕ
@@ -13,8 +13,8 @@ abbrev pub no_calls : Calls
 no_calls = record { made = 0; failures = 0; is_stopped = false; late = 0 }
 
 -- one call more that was answered, by the end or not
-abbrev pub behind_answer : Bool → Calls → Calls
-behind_answer is_end c = record {
+abbrev pub after_answer : Bool → Calls → Calls
+after_answer is_end c = record {
   made = c.made + 1;
   failures = c.failures;
   is_stopped = c.is_stopped || is_end;
@@ -22,31 +22,31 @@ behind_answer is_end c = record {
 }
 
 -- one call more that failed
-abbrev pub behind_failure : Calls → Calls
-behind_failure c = record {
+abbrev pub after_failure : Calls → Calls
+after_failure c = record {
   made = c.made + 1;
   failures = c.failures + 1;
   is_stopped = true;
   late = if c.is_stopped then c.late + 1 else c.late;
 }
 
--- whether a read of so many bytes tells the end: none, into a buffer of this length, which has some
+-- whether a read of n bytes reports the end: none, into a buffer of this length, which has some
 abbrev pub is_end : ℕ → ℕ → Bool
 is_end count length = (count == 0) && not (length == 0)
 
 -- one read more, into a buffer of this length, that answered r
 abbrev pub IsRead : {E : Type 0} → Result ℕ E → ℕ → Calls → Calls → Type 0
-IsRead r length old new = MatchResult r (λ n. new ≡ behind_answer (is_end n length) old) (λ _. new ≡ behind_failure old)
+IsRead r length old new = MatchResult r (λ n. new ≡ after_answer (is_end n length) old) (λ _. new ≡ after_failure old)
 
 -- one write more that answered r
 abbrev pub IsWrite : {E : Type 0} → Result ℕ E → Calls → Calls → Type 0
-IsWrite r old new = MatchResult r (λ _. new ≡ behind_answer false old) (λ _. new ≡ behind_failure old)
+IsWrite r old new = MatchResult r (λ _. new ≡ after_answer false old) (λ _. new ≡ after_failure old)
 
 -- If this end was not stopped before, none of the calls between was late.
 abbrev pub NoneLate : Calls → Calls → Type 0
 NoneLate old new = old.is_stopped ≡ false → new.late ≡ old.late
 
--- Of the calls between none failed or told the end.
+-- Of the calls between none failed or reported the end.
 pub record GoesOn (old new : Calls) : Type 0 where
   pub failures : new.failures ≡ old.failures
   pub is_stopped : new.is_stopped ≡ old.is_stopped

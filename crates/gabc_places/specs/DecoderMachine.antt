@@ -28,7 +28,7 @@ pub record IsWrong (bs : List ℕ) : Type 0 where
   pub size : ℕ
   pub fault : utf8_error_len bs ≡ Some size
 
--- Where the next character can stand after so many bytes, of which the last `pending` are a part of
+-- Where the next character can be after n bytes, of which the last `pending` are a part of
 -- it: each byte before brings it on by a line or a column, if at all.
 pub record IsReached (place : Place) (pending taken : ℕ) : Type 0 where
   pub line : 1 ≤ place.line

@@ -16,17 +16,17 @@ abbrev pub findings_before : ℕ → List Known → List Finding
 findings_before stop knowns = map (λ (k : Known). k.finding) (filter (λ (k : Known). nat_lt k.point stop) knowns)
 
 -- f stands before g: at an earlier place, or at the same place with a lower code
-abbrev pub StandsBefore : Finding → Finding → Type 0
-StandsBefore f g = (f.place.line < g.place.line) ⊎ ((f.place.line ≡ g.place.line) × ((f.place.column < g.place.column) ⊎ ((f.place.column ≡ g.place.column) × (rank_of f.code < rank_of g.code))))
+abbrev pub ComesBefore : Finding → Finding → Type 0
+ComesBefore f g = (f.place.line < g.place.line) ⊎ ((f.place.line ≡ g.place.line) × ((f.place.column < g.place.column) ⊎ ((f.place.column ≡ g.place.column) × (rank_of f.code < rank_of g.code))))
 
 -- each finding stands before the next one: sorted, and none twice
-abbrev pub StandBehind : Finding → List Finding → Type 0
-StandBehind f [] = Unit {0}
-StandBehind f (g ∷ gs) = StandsBefore f g × StandBehind g gs
+abbrev pub ComeAfter : Finding → List Finding → Type 0
+ComeAfter f [] = Unit {0}
+ComeAfter f (g ∷ gs) = ComesBefore f g × ComeAfter g gs
 
 abbrev pub AreInOrder : List Finding → Type 0
 AreInOrder [] = Unit {0}
-AreInOrder (f ∷ fs) = StandBehind f fs
+AreInOrder (f ∷ fs) = ComeAfter f fs
 
 -- p is no later than q
 abbrev pub IsUpTo : Place → Place → Type 0

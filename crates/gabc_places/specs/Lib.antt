@@ -8,7 +8,7 @@ pub mod Code
 pub mod CodesSpelled
 pub mod Decoder
 pub mod DecoderMachine
-pub mod DecoderTells
+pub mod DecoderReports
 pub mod FilledPieceByPiece
 pub mod Filling
 pub mod Findings

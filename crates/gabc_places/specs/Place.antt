@@ -22,13 +22,13 @@ saturating_next_place p c =
     if is_line_feed c then record { line = min (p.line + 1) (2 ^ 64 - 1); column = 1 } else record { line = p.line; column = min (p.column + 1) (2 ^ 64 - 1) }
 
 -- the characters that follow this prefix, each with its place
-abbrev pub placed_characters_behind : List ℕ → List ℕ → List Char
-placed_characters_behind prefix [] = []
-placed_characters_behind prefix (c ∷ cs) = record { c = c; place = place_after prefix } ∷ placed_characters_behind (prefix ++ c ∷ []) cs
+abbrev pub placed_characters_after : List ℕ → List ℕ → List Char
+placed_characters_after prefix [] = []
+placed_characters_after prefix (c ∷ cs) = record { c = c; place = place_after prefix } ∷ placed_characters_after (prefix ++ c ∷ []) cs
 
 -- the characters of a text with their places
 abbrev pub placed_characters : List ℕ → List Char
-placed_characters text = placed_characters_behind [] text
+placed_characters text = placed_characters_after [] text
 
 -- the place after a text that begins at p
 abbrev pub place_past : Place → List ℕ → Place

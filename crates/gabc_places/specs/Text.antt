@@ -60,7 +60,7 @@ stop_code_of over ended Wrong = Some F1
 stop_code_of over ended Nothing = if over then Some F7 else None
 stop_code_of over ended Part = if over then Some F7 else (if ended then Some F1 else None)
 
--- the text of an input and its fault; `ended` tells that the source ended and did not fail
+-- the text of an input and its fault; `ended` says that the source ended and did not fail
 abbrev pub decoded_of : Limits → Bool → List ℕ → Decoded
 decoded_of limits ended bytes =
     let text = text_of_bytes limits.input bytes in

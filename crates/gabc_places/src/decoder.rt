@@ -7,7 +7,7 @@ ghost use Rattle.gabc_places.specs.Decoder.{known_of, known_at_end};
 ghost use Rattle.gabc_places.specs.DecoderMachine.{fresh_decoder, is_fault_item};
 ghost use Rattle.gabc_places.specs.witness.DecoderEvents.{stop_with, take_character as taken_character, take_byte, events_left};
 ghost use Rattle.gabc_places.specs.DecoderMachine.{IsPartial, IsReached, BeginsLine};
-ghost use Rattle.gabc_places.specs.DecoderTells.{MayBeTold, MovesOn, MovesThrough, is_after_cr, resumed};
+ghost use Rattle.gabc_places.specs.DecoderReports.{MayBeReported, MovesOn, MovesThrough, is_after_cr, resumed};
 ghost use Rattle.gabc_places.specs.machine.Decoder.{take_part as taken_part};
 ghost use Rattle.gabc_places.specs.Skip.{most_skipped as most_skipped_by, text_events};
 ghost use Rattle.std.specs.Str.{chars};
@@ -101,7 +101,7 @@ fn begins_line(place: Place) -> bool
 
 /// Returns whether a decoder under `limit` may report this of where it stands.
 fn may_be_told(limit: u32, taken: u32, place: Place, pending: &[u8], after_cr: bool) -> bool
-    ensures { IsTrue result ↔ MayBeTold limit taken place pending.now after_cr }
+    ensures { IsTrue result ↔ MayBeReported limit taken place pending.now after_cr }
 {
     if !is_partial(pending) {
         return false;
@@ -144,7 +144,7 @@ impl Decoder {
         after_cr: bool,
     ) -> Option<Decoder>
         ensures some { IsSome result ↔
-            MayBeTold limits.input taken place pending.now after_cr }
+            MayBeReported limits.input taken place pending.now after_cr }
         ensures made { IfSome result (λ decoder. decoder
             ≡ resumed limits.input taken place pending.now after_cr) }
         ensures cr { IfSome result (λ decoder. is_after_cr decoder ≡ after_cr) }
@@ -167,7 +167,8 @@ impl Decoder {
     }
 
     /// Takes `byte`, and returns the character that is whole with it, or the fault known by it.
-    /// After a fault and after the end it returns nothing more, and the decoder stays as it is.
+    /// After a fault and after the end it returns nothing more, and the decoder stays as it is. The
+    /// character is a scalar value, no CR and no U+FEFF.
     pub fn take(&mut self, byte: u8) -> Option<Result<Char, Fault>>
         ensures item { (bytes : List ℕ) → events_left self.old (byte ∷ bytes)
             ≡ option_to_list result ∷ events_left self.new bytes }

@@ -1,7 +1,7 @@
 //! How the calls of a source or a sink went, for contracts.
 
 ghost use Rattle.std.specs.Prelude.{◌≡◌};
-ghost use Rattle.gabc_places.specs.Calls.{behind_answer, behind_failure, no_calls};
+ghost use Rattle.gabc_places.specs.Calls.{after_answer, after_failure, no_calls};
 
 use std::marker::Model;
 use std::snapshot::Snapshot;
@@ -39,7 +39,7 @@ impl Model for GhostCalls {
 }
 
 impl GhostCalls {
-    /// Returns that no call came.
+    /// Returns that no call came. For contracts alone.
     pub fn none() -> GhostCalls
         ensures { result ≡ no_calls }
     {
@@ -50,7 +50,7 @@ impl GhostCalls {
 
     /// Adds a call that was answered; `is_end` says whether it was the end.
     pub fn add_answer(&mut self, is_end: bool)
-        ensures { self.new ≡ behind_answer is_end self.old }
+        ensures { self.new ≡ after_answer is_end self.old }
     {
         let before: Snapshot<GhostCalls> = Snapshot::of(self);
         self.now = Snapshot::of(&Link::Answer(before, is_end));
@@ -58,7 +58,7 @@ impl GhostCalls {
 
     /// Adds a call that failed.
     pub fn add_failure(&mut self)
-        ensures { self.new ≡ behind_failure self.old }
+        ensures { self.new ≡ after_failure self.old }
     {
         let before: Snapshot<GhostCalls> = Snapshot::of(self);
         self.now = Snapshot::of(&Link::Failure(before));

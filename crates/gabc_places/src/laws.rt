@@ -4,7 +4,7 @@
 ghost use Rattle.std.specs.Prelude.{◌≡◌, ◌≢◌, ℕ, ◌<◌, List, [], ◌∷◌, ◌++◌, map, length, take, Bool, true, ◌≤◌, Some, None, IsSome, slice_index, encode_utf8_all};
 ghost use Rattle.std.specs.Char.{IsScalar};
 ghost use Rattle.std.specs.List.{slice_get, Contains, All};
-ghost use Rattle.gabc_places.specs.Place.{place_after, placed_characters, placed_characters_behind};
+ghost use Rattle.gabc_places.specs.Place.{place_after, placed_characters, placed_characters_after};
 ghost use Rattle.gabc_places.specs.Text.{text_of_bytes, decoded_of};
 ghost use Rattle.gabc_places.specs.Findings.{Stop, earliest, IsNoLater};
 ghost use Rattle.std.specs.Prelude.{◌+◌};
@@ -15,7 +15,7 @@ ghost use Rattle.gabc_places.specs.StageLaw.{concat_of};
 ghost use Rattle.gabc_places.specs.Chain.{chain_events};
 ghost use Rattle.gabc_places.specs.witness.DecoderEvents.{events_left};
 ghost use Rattle.gabc_places.specs.DecoderMachine.{DecoderState, IsPartial};
-ghost use Rattle.gabc_places.specs.DecoderTells.{TellTheSame, MayBeTold, is_after_cr};
+ghost use Rattle.gabc_places.specs.DecoderReports.{ReportTheSame, MayBeReported, is_after_cr};
 ghost use Rattle.gabc_places.specs.Code.{severity_of, severity_by_kind};
 ghost use Rattle.gabc_places.specs.declared.code.Code.{Code};
 ghost use Rattle.gabc_places.specs.declared.codes.TheConstants.{CODES};
@@ -67,7 +67,7 @@ pub fn first_place()
 {}
 
 /// Law: each character stands at the place that follows from the text before it.
-pub fn characters_stand_behind_the_text_before()
+pub fn characters_come_after_the_text_before()
     ensures len { (text : List ℕ) → length (placed_characters text) ≡ length text }
     ensures at { (text : List ℕ) (i : ℕ) → i < length text →
         slice_get (placed_characters text) i
@@ -75,9 +75,9 @@ pub fn characters_stand_behind_the_text_before()
 {}
 
 /// Law: the places of a text do not depend on what follows it.
-pub fn places_need_nothing_behind()
+pub fn places_need_nothing_after()
     ensures { (xs : List ℕ) (ys : List ℕ) →
-        placed_characters (xs ++ ys) ≡ placed_characters xs ++ placed_characters_behind xs ys }
+        placed_characters (xs ++ ys) ≡ placed_characters xs ++ placed_characters_after xs ys }
 {}
 
 /// Law: the earliest of some stops is one of them, and none of them is earlier. At one point the
@@ -128,15 +128,15 @@ pub fn a_decoder_emits_what_is_known(
 
 /// Law: two decoders that run, under one limit, and report the same emit the same of whatever
 /// follows. The bytes that they report of a character that is not whole are a part of one.
-pub fn decoders_that_tell_the_same_agree()
+pub fn decoders_that_report_the_same_agree()
     ensures { (one other : DecoderState) → one.running ≡ true → other.running ≡ true →
-        one.limit ≡ other.limit → IsPartial one.pending → TellTheSame one other →
+        one.limit ≡ other.limit → IsPartial one.pending → ReportTheSame one other →
         (bytes : List ℕ) → events_left one bytes ≡ events_left other bytes }
 {}
 
 /// Law: what a decoder reports may be reported: a decoder can be made from it.
-pub fn what_a_decoder_tells_may_be_told(decoder: &Decoder)
-    ensures { MayBeTold decoder.now.limit decoder.now.taken decoder.now.place
+pub fn what_a_decoder_reports_may_be_reported(decoder: &Decoder)
+    ensures { MayBeReported decoder.now.limit decoder.now.taken decoder.now.place
         decoder.now.pending (is_after_cr decoder.now) }
 {
     decoder.taken();

@@ -12,7 +12,8 @@ pub trait Put {
     // what it is once it has taken these bytes
     ghost taken: { Self → List ℕ → Self };
 
-    /// Takes `bytes`.
+    /// Takes `bytes`: a room or a buffer as many as fit, a counter their number. To take two pieces
+    /// is to take their join.
     fn put(&mut self, bytes: &[u8])
         ensures { self.new ≡ taken self.old bytes.now };
 

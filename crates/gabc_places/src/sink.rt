@@ -24,7 +24,7 @@ pub trait Sink {
     ghost calls: { Self → Calls };
 
     /// Takes a prefix of `bytes`, and returns how many bytes it has: at least 1, if there is one.
-    /// Where it fails, it took none.
+    /// Where it fails, it took none, and is stopped.
     fn write(&mut self, bytes: &[u8]) -> Result<usize, SinkFault>
         ensures bound { WritesAtMost result bytes.now }
         ensures bytes { WriteAppends (written self.old) (written self.new) result bytes.now }
@@ -41,7 +41,7 @@ pub struct Unsent {
 }
 
 /// Writes all `bytes` to `sink`. Where the sink fails, it took the first `sent` of them, fewer than
-/// all.
+/// all. It does not call the sink again after a failure.
 pub fn send_all<S: Sink>(sink: &mut S, bytes: &[u8]) -> Result<(), Unsent>
     ensures all { OnOk result (Appends (S.written sink.old) (S.written sink.new) bytes.now) }
     ensures prefix { IfErr result (λ u. Appends (S.written sink.old) (S.written sink.new)

@@ -24,7 +24,7 @@ pub trait Source {
     ghost calls: { Self → Calls };
 
     /// Reads at most as many bytes as `buf` has, into its start, and returns how many. A read of 0
-    /// bytes into a `buf` that has some is the end.
+    /// bytes into a `buf` that has some is the end, and stops the source, as a failure does.
     fn read(&mut self, buf: &mut [u8]) -> Result<usize, SourceFault>
         ensures bound { ReadsAtMost result buf.new }
         ensures bytes { ReadConsumes (remaining self.old) (remaining self.new) result buf.new }

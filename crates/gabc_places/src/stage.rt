@@ -30,7 +30,8 @@ pub trait Stage {
         ensures { result ≡ most_of self.now };
 
     /// Takes `input`, and adds to `out` the events that it emits for it. `out` has to take `most()`
-    /// events more.
+    /// events more. They are the first list of what it will still emit. After an event that ends
+    /// it, it emits nothing.
     fn push(&mut self, input: Self::Input, out: &mut Room<Self::Output>)
         requires { Fits out.old (most_of self.old) }
         ensures most { most_of self.new ≡ most_of self.old }

@@ -44,7 +44,7 @@ impl<'a> Model for TrialSource<'a> {
 
 impl<'a> TrialSource<'a> {
     /// Returns a source of `bytes`, at most `most` a read, whose reads fail once it gave
-    /// `fails_after` bytes; with `None` none fails. `most` is at least 1.
+    /// `fails_after` bytes, and go on failing; with `None` none fails. `most` is at least 1.
     pub fn new(bytes: &'a [u8], most: usize, fails_after: Option<usize>) -> TrialSource<'a>
         requires { 0 < most }
         ensures { result ≡ record {

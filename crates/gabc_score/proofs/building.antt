@@ -1,5 +1,5 @@
 pub mod CountsOfParts
-pub mod EachEventFits
+pub mod EventsAreHeld
 pub mod EndOfBody
 pub mod EventsOfOnePoint
 pub mod EventsOfSnippets

@@ -3,6 +3,7 @@ pub mod BodyIsCollected
 pub mod EventsStayWithinBounds
 pub mod MemoryIsKept
 pub mod BodyOutputs
+pub mod CharactersAreRead
 pub mod CountsGoOn
 pub mod FewAndShortAreLent
 pub mod FrontIsFirst
@@ -10,7 +11,7 @@ pub mod FirstNotes
 pub mod EmittedByHeaders
 pub mod GivenSyllables
 pub mod HeadersMayCome
-pub mod HeldHoldUnits
+pub mod GivenIsHeld
 pub mod HeldIsText
 pub mod HeldScoreIsDefinition
 pub mod HeldSyllables

@@ -10,11 +10,11 @@ use Rattle.gabc_score.specs.declared.snippets.Snippet.{Snippet}
 use Rattle.gabc_score.specs.Canonical.{canonical}
 use Rattle.gabc_score.specs.Syllable.{UnplacedSyllable, PlacedSyllable, text_at}
 
--- what is told of them beside what the headers gave
+-- what is reported of them beside what the headers gave
 abbrev pub preceding_of : Before → Preceding
 preceding_of b = record { syllables = b.syllables; canonical = b.canonical; spans = b.spans; sounded = b.sounded }
 
--- before the first syllable: the canonical headers have so many bytes
+-- before the first syllable: the canonical headers have n bytes
 abbrev pub no_syllable : ℕ → Preceding
 no_syllable head = record { syllables = 0; canonical = head; spans = record { eu = false; nlba = false }; sounded = false }
 

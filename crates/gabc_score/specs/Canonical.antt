@@ -28,7 +28,7 @@ canonical starts m =
     ++ (translation_text m.kept m.text.translation
     ++ (codes "(" ++ (with_bars m.kept m.snippets ++ codes ")"))))
 
--- The canonical texts of syllables. The first syllable of a score begins a word; `first` tells that
+-- The canonical texts of syllables. The first syllable of a score begins a word; `first` says that
 -- these begin with it.
 abbrev pub canonicals : Bool → List UnplacedSyllable → List (List ℕ)
 canonicals first [] = []

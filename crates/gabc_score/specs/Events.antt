@@ -92,8 +92,8 @@ abbrev pub next_line : ℕ → ℕ → ℕ
 next_line lines line = if nat_lt line lines then line + 1 else 0
 
 -- the place after a `)`
-abbrev pub behind_mark : Place → Place
-behind_mark place = saturating_next_place place 41
+abbrev pub after_mark : Place → Place
+after_mark place = saturating_next_place place 41
 
 -- the LF that ends the comment is the first character of a text
 abbrev pub part_at : Texts → PartAhead → Char → List Char → PartAhead
@@ -101,25 +101,25 @@ part_at texts InComment x xs = if x.c == 10 then text_from texts x.place (x ∷ 
 part_at texts part x xs = part
 
 -- the part in which the characters xs after x stand, where x stands in this part
-abbrev pub part_behind : Texts → ℕ → ℕ → PartAhead → Char → List Char → PartAhead
-part_behind texts lines macros InComment x xs = InComment
-part_behind texts lines macros (InText lists) x xs =
+abbrev pub part_after_character : Texts → ℕ → ℕ → PartAhead → Char → List Char → PartAhead
+part_after_character texts lines macros InComment x xs = InComment
+part_after_character texts lines macros (InText lists) x xs =
     if list_any is_text_end (first_list lists) then snippet_from lines macros 0 x.place xs else InText (other_lists lists)
-part_behind texts lines macros (InNotes line opened lists) x xs =
+part_after_character texts lines macros (InNotes line opened lists) x xs =
     if list_any is_next (first_list lists) then snippet_from lines macros (next_line lines line) opened xs else
-    if list_any is_close (first_list lists) then text_from texts (behind_mark x.place) xs else
+    if list_any is_close (first_list lists) then text_from texts (after_mark x.place) xs else
     InNotes line opened (other_lists lists)
 
 -- what the characters emit, the first of which stands in this part, and the end
 abbrev pub events_from : Texts → ℕ → ℕ → PartAhead → List Char → List (List BodyEvent)
 events_from texts lines macros part [] = events_at_end part ∷ []
 events_from texts lines macros part (x ∷ xs) =
-    events_in (part_at texts part x xs) ∷ events_from texts lines macros (part_behind texts lines macros (part_at texts part x xs) x xs) xs
+    events_in (part_at texts part x xs) ∷ events_from texts lines macros (part_after_character texts lines macros (part_at texts part x xs) x xs) xs
 
 -- the texts of a body by their definition
 abbrev pub texts_by_definition : Texts
 texts_by_definition at xs = events_by_point at (codes_of xs)
 
--- what the characters of a body emit, with so many NABC lines and the macros of these bits
+-- what the characters of a body emit, with n NABC lines and the macros of these bits
 abbrev pub body_events : ℕ → ℕ → List Char → List (List BodyEvent)
 body_events lines macros xs = events_from texts_by_definition lines macros InComment xs

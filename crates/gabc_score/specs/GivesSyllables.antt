@@ -10,9 +10,9 @@ use Rattle.gabc_headers.specs.declared.head_event.HeadEvent.TheVariants as head_
 use Rattle.gabc_score.specs.declared.score_machine.ScorePart.TheVariants as score_part
 use Rattle.gabc_score.specs.Before.{with_placed}
 use Rattle.gabc_score.specs.ScoreEvents.{ScoreOutput, Syllable}
-use Rattle.gabc_score.specs.ScoreStage.{Counts, IsWithin, StandsInLine}
+use Rattle.gabc_score.specs.ScoreStage.{Counts, IsWithin, IsInLine}
 use Rattle.gabc_score.specs.Syllable.{PlacedSyllable}
-use Rattle.gabc_score.specs.ToldWithin.{HoldsIfAny, TellsOfText, whole_syllables}
+use Rattle.gabc_score.specs.ReportedWithin.{HoldsIfAny, ReportsText, whole_syllables}
 use Rattle.gabc_score.specs.witness.ScoreStage.{ScoreStageState, left_of}
 
 -- these characters as inputs of the body: the first stands at this place
@@ -32,9 +32,9 @@ pub record GivesSyllables (before : ScoreStageState) (at : Place) (t : List ℕ)
   pub part : after.part ≡ before.part
   pub before_held : after.before ≡ with_placed before.before given
   pub next : after.held.next ≡ next_after at t before.held.next
-  pub stands : at ≡ before.held.next → StandsInLine before → StandsInLine after
+  pub stands : at ≡ before.held.next → IsInLine before → IsInLine after
   pub whole : whole_syllables after ≤ whole_syllables before + length t
-  pub told : at ≡ before.held.next → StandsInLine before → TellsOfText before → TellsOfText after
+  pub told : at ≡ before.held.next → IsInLine before → ReportsText before → ReportsText after
   pub holds : HoldsIfAny before → HoldsIfAny after
   pub counts : Counts at before → Counts (place_past at t) after
   pub within : All (IsWithin before.limits) given

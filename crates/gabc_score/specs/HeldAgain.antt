@@ -12,7 +12,7 @@ use Rattle.gabc_score.specs.Body.{events_onto, findings_of}
 use Rattle.gabc_score.specs.Before.{preceding_of}
 use Rattle.gabc_score.specs.ScoreEvents.{first_place}
 use Rattle.gabc_score.specs.Syllable.{UnplacedSyllable, since_close, kept_of, all_syllables, is_eu, is_nlba}
-use Rattle.gabc_score.specs.ToldWithin.{written_behind}
+use Rattle.gabc_score.specs.ReportedWithin.{written_after}
 use Rattle.gabc_score.specs.UnitRead.{first_events}
 
 -- after these events, the nearest first, nothing is read, and these spans are open
@@ -32,22 +32,29 @@ module _ (lines macros : ℕ) (at : Place) (text : List ℕ) where
   emitted_first n = first_events lines macros at (placed_characters_from at text) n
 
   -- the same, the nearest first, with this before it
-  abbrev pub emitted_behind : List BodyEvent → ℕ → List BodyEvent
-  emitted_behind before n = events_onto (emitted_first n) before
+  abbrev pub emitted_after : List BodyEvent → ℕ → List BodyEvent
+  emitted_after before n = events_onto (emitted_first n) before
 
   -- Where these spans are open, the text is this one syllable, whole with the last character and
-  -- not before, and no more than so many bytes are kept on the way. What is found are warnings.
+  -- not before, and no more than n bytes are kept on the way. What is found are warnings.
   pub record IsOneSyllable (spans : Spans) (limit : ℕ) (m : UnplacedSyllable) : Type 0 where
     pub before : List BodyEvent
     pub leaves : LeavesOpen spans before
-    pub none_earlier : (n : ℕ) → n < length text → all_syllables (emitted_behind before n) ≡ all_syllables before
-    pub one : all_syllables (emitted_behind before (length text)) ≡ all_syllables before ++ m ∷ []
-    pub few : (n : ℕ) → n ≤ length text → length (kept_of (since_close (emitted_behind before n))) ≤ limit
-    pub warnings : All IsWarning (findings_of (emitted_behind [] (length text)))
+    pub none_earlier : (n : ℕ) → n < length text → all_syllables (emitted_after before n) ≡ all_syllables before
+    pub one : all_syllables (emitted_after before (length text)) ≡ all_syllables before ++ m ∷ []
+    pub few : (n : ℕ) → n ≤ length text → length (kept_of (since_close (emitted_after before n))) ≤ limit
+    pub warnings : All IsWarning (findings_of (emitted_after [] (length text)))
 
--- After what `before` tells, the text is this syllable, and no limit is passed with it.
+  -- By itself, with nothing before it, the text is one syllable, whole with the last character and
+  -- not before.
+  pub record IsOneAlone : Type 0 where
+    pub syllable : UnplacedSyllable
+    pub none_earlier : (n : ℕ) → n < length text → all_syllables (emitted_after [] n) ≡ []
+    pub one : all_syllables (emitted_after [] (length text)) ≡ syllable ∷ []
+
+-- After what `before` reports, the text is this syllable, and no limit is passed with it.
 pub record MayBeHeld (limits : Limits) (before : Before) (text : List ℕ) (m : UnplacedSyllable) : Type 0 where
   pub read : IsOneSyllable before.nabc_lines before.macros first_place text before.spans limits.syllable m
   pub kept : length m.kept ≤ limits.syllable
-  pub short : length (written_behind (preceding_of before) m) ≤ limits.syllable
-  pub file : before.canonical + length (written_behind (preceding_of before) m) + 1 ≤ limits.input
+  pub short : length (written_after (preceding_of before) m) ≤ limits.syllable
+  pub file : before.canonical + length (written_after (preceding_of before) m) + 1 ≤ limits.input

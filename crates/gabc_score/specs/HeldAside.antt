@@ -6,9 +6,9 @@ use Rattle.gabc_score.specs.Canonical.{canonical}
 use Rattle.gabc_score.specs.ScoreEvents.{ScoreOutput, Found, Stop, Syllable, End}
 use Rattle.gabc_score.specs.Syllable.{UnplacedSyllable}
 
--- A held syllable may stand for another: they begin a word alike, have one canonical text, leave
--- the same spans open, and sound alike. `first` tells whether no syllable stands before them.
-pub record MayStandFor (first : Bool) (m n : UnplacedSyllable) : Type 0 where
+-- A held syllable may be equivalent to another: they begin a word alike, have one canonical text,
+-- leave the same spans open, and sound alike. `first` says whether no syllable stands before them.
+pub record IsEquivalentSyllable (first : Bool) (m n : UnplacedSyllable) : Type 0 where
   pub starts : (first || m.text.word_start) ≡ (first || n.text.word_start)
   pub canonical : canonical (first || m.text.word_start) m ≡ canonical (first || n.text.word_start) n
   pub eu : m.eu ≡ n.eu
@@ -34,13 +34,13 @@ module _ (m n : UnplacedSyllable) where
   AreSameLists (os ∷ lists) (ps ∷ others) = AreSameOutputs os ps × AreSameLists lists others
   AreSameLists _ _ = ⊥
 
--- of a syllable that is held or none: none is, or the one may stand for the other
+-- of a syllable that is held or none: none is, or the one is equivalent to the other
 abbrev pub HoldTheSame : Bool → Option UnplacedSyllable → Option UnplacedSyllable → Type 0
 HoldTheSame first None None = Unit {0}
-HoldTheSame first (Some m) (Some n) = MayStandFor first m n
+HoldTheSame first (Some m) (Some n) = IsEquivalentSyllable first m n
 HoldTheSame first _ _ = ⊥
 
--- the same is given, but that the syllable held by the one may stand in the place of that held by
+-- the same is given, but that the syllable held by the one may take the place of that held by
 -- the other
 abbrev pub GiveTheSame : Option UnplacedSyllable → Option UnplacedSyllable → List (List ScoreOutput) → List (List ScoreOutput) → Type 0
 GiveTheSame (Some m) (Some n) lists others = AreSameLists m n lists others

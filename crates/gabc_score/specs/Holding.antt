@@ -46,7 +46,7 @@ abbrev pub in_brackets : (ReadSnippet → List ℕ) → List ReadSnippet → Rea
 in_brackets part earlier last = bracket_with part earlier ++ (part last ++ codes ")")
 
 -- After this text and these snippets, a snippet stands for its kept text, which its characters keep
--- and which is a snippet of its line. That is the line whose turn it is, of GABC and so many NABC
+-- and which is a snippet of its line. That is the line whose turn it is, of GABC and n NABC
 -- lines.
 pub record IsHeld (lines : ℕ) (whole text : List ℕ) (before : List ReadSnippet) (s : ReadSnippet) : Type 0 where
   pub line_is : s.snippet.line ≡ length before % (lines + 1)

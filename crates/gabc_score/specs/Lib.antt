@@ -20,13 +20,13 @@ pub mod ReadAgain
 pub mod Score
 pub mod ScoreEvents
 pub mod ScoreStage
-pub mod ScoreTells
+pub mod ScoreReports
 pub mod SpansPast
-pub mod StandAlike
+pub mod AreEquivalent
 pub mod Stops
 pub mod Syllable
 pub mod SyllablesOfUnits
-pub mod ToldWithin
+pub mod ReportedWithin
 pub mod UnitRead
 pub mod Units
 pub mod WithinLimits

@@ -54,7 +54,7 @@ with_first_each before [] lists = lists
 with_first_each before (x ∷ xs) [] = []
 with_first_each before (x ∷ xs) (now ∷ lists) = with_first before x now ∷ with_first_each (events_onto (with_first before x now) before) xs lists
 
--- what a score emits of the characters of its body, with so many NABC lines and the macros of these
+-- what a score emits of the characters of its body, with n NABC lines and the macros of these
 -- bits
 abbrev pub score_events : ℕ → ℕ → List Char → List (List BodyEvent)
 score_events lines macros xs = with_first_each [] xs (body_events lines macros xs)

@@ -1,38 +1,39 @@
--- A kept text that is read again: what a stage tells before it, and after it.
+-- A kept text that is read again: what a stage reports before it, and after it.
 use Rattle.std.specs.Prelude.{◌≡◌, ℕ, List, [], Bool, true, false, Some, None, is_some, encode_utf8_all}
 use Rattle.gabc_places.specs.declared.place.Place.{Place}
 use Rattle.gabc_places.specs.declared.limits.Limits.{Limits}
 use Rattle.gabc_score.specs.declared.body_tells.Openers.{Openers}
-use Rattle.gabc_score.specs.ScoreTells.{StandsAt, before_of, held_of, is_in_comment, is_in_front, next_of, openers_of, reading_of}
+use Rattle.gabc_score.specs.ScoreReports.{IsAt, before_of, held_of, is_in_comment, is_in_front, next_of, openers_of, reading_of}
 use Rattle.gabc_score.specs.witness.ReadAgain.{CanBeReadAgain}
 use Rattle.gabc_score.specs.witness.ScoreStage.{ScoreStageState}
 
 -- A stage stands in the body before a syllable, in no comment.
-pub record StandsBefore (s : ScoreStageState) : Type 0 where
+pub record ComesBefore (s : ScoreStageState) : Type 0 where
   pub runs : is_some (before_of s) ≡ true
   pub nothing_read : reading_of s ≡ []
   pub outside : is_in_comment s.body.part ≡ false
 
--- After the comment in front it tells this of the syllable that it reads.
-pub record TellsOfReading (s : ScoreStageState) (kept : List ℕ) (openers : Openers) (comment : Bool) : Type 0 where
+-- After the comment in front it reports this of the syllable that it reads.
+pub record ReportsReading (s : ScoreStageState) (kept : List ℕ) (openers : Openers) (comment : Bool) : Type 0 where
   pub front : is_in_front s.body.part ≡ false
   pub reading : reading_of s ≡ kept
   pub openers_are : openers_of s.body.part ≡ openers
   pub comment_is : is_in_comment s.body.part ≡ comment
 
--- But for the syllable that is read it tells what it told, and the next character stands there.
-pub record TellsTheSameBut (before after : ScoreStageState) (next : Place) : Type 0 where
+-- But for the syllable that is read it reports what it reported, and the next character stands
+-- there.
+pub record ReportsTheSameBut (before after : ScoreStageState) (next : Place) : Type 0 where
   pub before_same : before_of after ≡ before_of before
   pub held_same : held_of after ≡ held_of before
   pub next_is : next_of after ≡ Some next
-  pub stands : StandsAt next after.body.part
+  pub stands : IsAt next after.body.part
 
 -- nothing is open
 abbrev pub no_openers : Openers
 no_openers = record { notes = None; inner = None }
 
--- What can be read again is told in a comment of a text of which nothing is kept, after the same
--- and under the same limits.
+-- What can be read again is reported in a comment of a text of which nothing is kept, after the
+-- same and under the same limits.
 pub record CanBeReadInText (s : ScoreStageState) : Type 0 where
   pub told : ScoreStageState
   pub again : CanBeReadAgain told
@@ -40,7 +41,7 @@ pub record CanBeReadInText (s : ScoreStageState) : Type 0 where
   pub lines : told.body.nabc_lines ≡ s.body.nabc_lines
   pub macros : told.body.macros ≡ s.body.macros
   pub before : before_of told ≡ before_of s
-  pub tells : TellsOfReading told [] no_openers true
+  pub tells : ReportsReading told [] no_openers true
 
 -- Some stage reports this of the syllable that it reads, under these limits, with these lines and
 -- macros.
@@ -50,4 +51,4 @@ pub record IsReported (limits : Limits) (lines macros : ℕ) (t : List ℕ) (ope
   pub limits_are : stage.limits ≡ limits
   pub lines_are : stage.body.nabc_lines ≡ lines
   pub macros_are : stage.body.macros ≡ macros
-  pub tells : TellsOfReading stage (encode_utf8_all t) openers comment
+  pub tells : ReportsReading stage (encode_utf8_all t) openers comment

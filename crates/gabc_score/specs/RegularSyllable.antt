@@ -13,7 +13,7 @@ use Rattle.gabc_score.specs.Body.{events_onto, findings_of}
 use Rattle.gabc_score.specs.Canonical.{canonical, translation_text}
 use Rattle.gabc_score.specs.Syllable.{UnplacedSyllable, text_at}
 use Rattle.gabc_score.specs.declared.snippets.Snippet.{Snippet}
-use Rattle.gabc_score.specs.Events.{texts_by_definition, text_from, next_line, behind_mark, events_from}
+use Rattle.gabc_score.specs.Events.{texts_by_definition, text_from, next_line, after_mark, events_from}
 use Rattle.gabc_score.specs.UnitRead.{GivesOneSyllable, emitted_through}
 use Rattle.gabc_score.specs.Units.{EndedPart, BodyUnit}
 
@@ -88,7 +88,7 @@ pub record IsReadAsItStands (lines macros : ℕ) (at : Place) (r : SyllableParts
   pub emitted : List (List BodyEvent)
   pub events_are : let all = placed_characters_from at (spelled r) ++ xs in
       events_from texts_by_definition lines macros (text_from texts_by_definition at all) all
-      ≡ emitted ++ events_from texts_by_definition lines macros (text_from texts_by_definition (behind_mark (unit_at at r).final.end.place) xs) xs
+      ≡ emitted ++ events_from texts_by_definition lines macros (text_from texts_by_definition (after_mark (unit_at at r).final.end.place) xs) xs
   pub one_each : length emitted ≡ length (spelled r)
   pub nothing : findings_of (events_onto (concat_of emitted) []) ≡ []
 

@@ -7,7 +7,7 @@ use Rattle.gabc_score.specs.declared.body_stage.BodyPart.TheVariants.{Text}
 use Rattle.gabc_score.specs.declared.score_machine.ScorePart.TheVariants.{Body}
 use Rattle.gabc_score.specs.HeldAgain.{MayBeHeld}
 use Rattle.gabc_score.specs.ScoreEvents.{first_place}
-use Rattle.gabc_score.specs.ScoreTells.{before_of, before_with, held_of, reading_of}
+use Rattle.gabc_score.specs.ScoreReports.{before_of, before_with, held_of, reading_of}
 use Rattle.gabc_score.specs.Syllable.{UnplacedSyllable}
 use Rattle.gabc_score.specs.witness.ScoreStage.{ScoreStageState}
 
@@ -18,8 +18,8 @@ pub record BeginsText (s : ScoreStageState) : Type 0 where
   pub begins : s.body.part ≡ Text (fresh_stage first_place)
   pub next : s.held.next ≡ first_place
 
--- It stands after the syllables of which `before` tells, holds none and begins to read a text.
-pub record StandsBehind (limits : Limits) (before : Before) (s : ScoreStageState) : Type 0 where
+-- It stands after the syllables that `before` reports, holds none and begins to read a text.
+pub record IsAfterSyllables (limits : Limits) (before : Before) (s : ScoreStageState) : Type 0 where
   pub limits_are : s.limits ≡ limits
   pub before_is : before_of s ≡ Some before
   pub none_held : held_of s ≡ None

@@ -2,7 +2,7 @@
 use Rattle.std.specs.Prelude.{ℕ, ◌+◌, List, [], Bool, true, false, take, drop, Option, Some, None, Result, Ok, Err}
 use Rattle.gabc_places.specs.declared.code.Fault.{Fault}
 use Rattle.gabc_places.specs.declared.limits.Limits.{Limits}
-use Rattle.gabc_places.specs.Place.{place_after, placed_characters_behind}
+use Rattle.gabc_places.specs.Place.{place_after, placed_characters_after}
 use Rattle.gabc_headers.specs.declared.heads.Heads.{Heads}
 use Rattle.gabc_headers.specs.declared.heads.HeadFault.{HeadFault}
 use Rattle.gabc_headers.specs.Book.{nabc_lines_of, macros_of}
@@ -20,13 +20,13 @@ use Rattle.gabc_score.specs.NoteBeforeClef.{score_events}
 abbrev pub heads_text : List ℕ → List ℕ
 heads_text t = take (head_len t + 2) t
 
-abbrev pub behind_heads : List ℕ → List ℕ
-behind_heads t = drop (head_len t + 2) t
+abbrev pub after_heads : List ℕ → List ℕ
+after_heads t = drop (head_len t + 2) t
 
 -- the body of a text with these headers, which ended so
 abbrev pub body_in : Limits → InputEnding → List ℕ → Heads → BodyResult
 body_in limits ending t heads =
-    let xs = placed_characters_behind (heads_text t) (behind_heads t) in
+    let xs = placed_characters_after (heads_text t) (after_heads t) in
     body_of limits (bytes_len (canonical_heads heads.book)) heads.findings (place_after t) ending xs (score_events (nabc_lines_of heads.book) (macros_of heads.book) xs)
 
 abbrev pub with_body : Heads → BodyResult → Score

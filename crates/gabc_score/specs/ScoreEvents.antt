@@ -42,7 +42,7 @@ pub data ScoreOutput : Type 0 where
 
 -- A syllable is given when the next one is made, for then it is known whether it ends its word; the
 -- last one is given at the stop or the end. Until then it is held. Of these syllables, those that
--- were not given when so many were made: from the held one on.
+-- were not given when n were made: from the held one on.
 abbrev pub not_given : ℕ → List UnplacedSyllable → List PlacedSyllable
 not_given count made = drop (count - 1) (with_positions made)
 

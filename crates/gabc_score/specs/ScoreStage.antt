@@ -8,16 +8,16 @@ use Rattle.gabc_places.specs.Place.{saturating_next_place}
 use Rattle.gabc_headers.specs.declared.head_event.HeadEvent.{HeadEvent}
 use Rattle.gabc_headers.specs.declared.head_event.HeadEvent.TheVariants as head_event
 use Rattle.gabc_score.specs.declared.before.Preceding.{Preceding}
-use Rattle.gabc_score.specs.declared.score_event.LentSyllable.{LentSyllable}
-use Rattle.gabc_score.specs.declared.score_event.LentSyllable.TheVariants.{First, Second}
+use Rattle.gabc_score.specs.declared.score_event.BorrowedSyllable.{BorrowedSyllable}
+use Rattle.gabc_score.specs.declared.score_event.BorrowedSyllable.TheVariants.{First, Second}
 use Rattle.gabc_score.specs.declared.score_event.ScoreEvent.{ScoreEvent}
 use Rattle.gabc_score.specs.declared.score_event.ScoreEvent.TheVariants as event
 use Rattle.gabc_score.specs.Before.{no_syllable, with_placed}
 use Rattle.gabc_score.specs.declared.score_machine.ScorePart.{ScorePart}
 use Rattle.gabc_score.specs.declared.score_machine.ScorePart.TheVariants as score_part
-use Rattle.gabc_score.specs.ScoreTells.{StandsAt, StandsInFront, is_in_comment}
+use Rattle.gabc_score.specs.ScoreReports.{IsAt, IsInFront, is_in_comment}
 use Rattle.gabc_places.specs.TextOfAnInput.{IsTextCharacter}
-use Rattle.gabc_score.specs.ToldWithin.{AreCountsWithin, HoldsIfAny, TellsOfText, whole_syllables}
+use Rattle.gabc_score.specs.ReportedWithin.{AreCountsWithin, HoldsIfAny, ReportsText, whole_syllables}
 use Rattle.gabc_score.specs.declared.syllable.Position.{Position}
 use Rattle.gabc_score.specs.ScoreEvents.{first_place, ScoreOutput, Found, Stop, Syllable, End, is_last, syllables_in}
 use Rattle.gabc_score.specs.Canonical.{canonical_in_place}
@@ -26,16 +26,16 @@ use Rattle.gabc_score.specs.Syllable.{UnplacedSyllable, PlacedSyllable}
 use Rattle.std.specs.List.{All, list_any}
 use Rattle.gabc_score.specs.witness.ScoreStage.{ScoreStageState, left_of}
 
--- outputs as events: the first syllable of a call is lent as this one
-abbrev pub events_lent : LentSyllable → List ScoreOutput → List ScoreEvent
-events_lent lent [] = []
-events_lent lent (Found f ∷ outputs) = event.Found f ∷ events_lent lent outputs
-events_lent lent (Stop fault ∷ outputs) = event.Stop fault ∷ events_lent lent outputs
-events_lent lent (Syllable s ∷ outputs) = event.Syllable lent ∷ events_lent Second outputs
-events_lent lent (End ∷ outputs) = event.End ∷ events_lent lent outputs
+-- outputs as events: the first syllable of a call is borrowed as this one
+abbrev pub events_borrowed : BorrowedSyllable → List ScoreOutput → List ScoreEvent
+events_borrowed lent [] = []
+events_borrowed lent (Found f ∷ outputs) = event.Found f ∷ events_borrowed lent outputs
+events_borrowed lent (Stop fault ∷ outputs) = event.Stop fault ∷ events_borrowed lent outputs
+events_borrowed lent (Syllable s ∷ outputs) = event.Syllable lent ∷ events_borrowed Second outputs
+events_borrowed lent (End ∷ outputs) = event.End ∷ events_borrowed lent outputs
 
 abbrev pub events_of : List ScoreOutput → List ScoreEvent
-events_of outputs = events_lent First outputs
+events_of outputs = events_borrowed First outputs
 
 -- a call gave these outputs as events, and lends their syllables
 pub record GivesOutputs (outputs : List ScoreOutput) (old new : BoundedList ScoreEvent) (first second : PlacedSyllable) : Type 0 where
@@ -53,7 +53,7 @@ pub record IsWithin (limits : Limits) (s : PlacedSyllable) : Type 0 where
 abbrev pub IsWithinAnywhere : Limits → UnplacedSyllable → Type 0
 IsWithinAnywhere limits m = (position : Position) → IsWithin limits (record { made = m; position = position })
 
--- So many syllables at most are lent, and they are within the limits. Those after the first have no
+-- At most n syllables are borrowed, and they are within the limits. Those after the first have no
 -- notes.
 pub record Lends (limits : Limits) (most : ℕ) (outputs : List ScoreOutput) : Type 0 where
   pub few : length (syllables_in outputs) ≤ most
@@ -61,12 +61,12 @@ pub record Lends (limits : Limits) (most : ℕ) (outputs : List ScoreOutput) : T
   pub within : All (IsWithin limits) (syllables_in outputs)
 
 -- how many syllables an input may bring
-abbrev pub most_lent : HeadEvent → ℕ
-most_lent (head_event.Body x) = 1
-most_lent (head_event.Stop fault) = 1
-most_lent head_event.End = 2
-most_lent (head_event.Found f) = 0
-most_lent (head_event.Heads lines macros canonical) = 0
+abbrev pub most_borrowed : HeadEvent → ℕ
+most_borrowed (head_event.Body x) = 1
+most_borrowed (head_event.Stop fault) = 1
+most_borrowed head_event.End = 2
+most_borrowed (head_event.Found f) = 0
+most_borrowed (head_event.Heads lines macros canonical) = 0
 
 -- What stands before the first syllable that was not given, after an input at which these were
 -- given: after the headers no syllable was.
@@ -80,7 +80,7 @@ next_past score_part.Heads (head_event.Heads lines macros canonical) next = firs
 next_past score_part.Body (head_event.Body x) next = saturating_next_place x.place x.c
 next_past part x next = next
 
--- How many syllables may be whole after an input, where so many were: none after the headers, one
+-- How many syllables may be whole after an input, where n were: none after the headers, one
 -- more after a character.
 abbrev pub most_whole : ScorePart → HeadEvent → ℕ → ℕ
 most_whole score_part.Heads (head_event.Heads lines macros canonical) n = 0
@@ -95,9 +95,9 @@ part_past score_part.Heads (head_event.Heads lines macros canonical) outputs = s
 part_past part x outputs = if list_any is_last outputs then score_part.Over else part
 
 -- an input that is a character stands at this place
-abbrev pub StandsHere : HeadEvent → Place → Type 0
-StandsHere (head_event.Body x) next = x.place ≡ next
-StandsHere x next = Unit {0}
+abbrev pub IsHere : HeadEvent → Place → Type 0
+IsHere (head_event.Body x) next = x.place ≡ next
+IsHere x next = Unit {0}
 
 -- neither the line of a character nor its column has reached its last value
 abbrev pub IsPlaceBelow : Char → Type 0
@@ -111,8 +111,8 @@ MayCome limits next (head_event.Body x) = (x.place ≡ next) × (IsPlaceBelow x 
 MayCome limits next x = Unit {0}
 
 -- in the body a text has counted the place of the next character
-abbrev pub StandsInLine : ScoreStageState → Type 0
-StandsInLine s = s.part ≡ score_part.Body → StandsAt s.held.next s.body.part
+abbrev pub IsInLine : ScoreStageState → Type 0
+IsInLine s = s.part ≡ score_part.Body → IsAt s.held.next s.body.part
 
 -- a stop and the end are the last inputs that count
 abbrev pub is_final : HeadEvent → Bool
@@ -134,37 +134,37 @@ PassesOn x outputs = Unit {0}
 
 -- in the body a text has counted this place for the next character
 abbrev pub Counts : Place → ScoreStageState → Type 0
-Counts place s = s.part ≡ score_part.Body → StandsAt place s.body.part
+Counts place s = s.part ≡ score_part.Body → IsAt place s.body.part
 
 -- the place of the next character after an input, where this one is that of the next before
-abbrev pub place_behind : HeadEvent → Place → Place
-place_behind (head_event.Body x) place = saturating_next_place x.place x.c
-place_behind x place = place
+abbrev pub place_after_input : HeadEvent → Place → Place
+place_after_input (head_event.Body x) place = saturating_next_place x.place x.c
+place_after_input x place = place
 
 -- the characters among these inputs stand one after the other, the first of them at this place
-abbrev pub StandInLine : Place → List HeadEvent → Type 0
-StandInLine place [] = Unit {0}
-StandInLine place (x ∷ xs) = StandsHere x place × StandInLine (place_behind x place) xs
+abbrev pub AreInLine : Place → List HeadEvent → Type 0
+AreInLine place [] = Unit {0}
+AreInLine place (x ∷ xs) = IsHere x place × AreInLine (place_after_input x place) xs
 
 -- At an input it gave what was to come for it, and goes on with what follows under the same limits.
 pub record GivesAt (before : ScoreStageState) (x : HeadEvent) (after : ScoreStageState) (old new : BoundedList ScoreEvent) : Type 0 where
   pub outputs : List ScoreOutput
-  pub lends : Lends before.limits (most_lent x) outputs
+  pub lends : Lends before.limits (most_borrowed x) outputs
   pub limits : after.limits ≡ before.limits
   pub part : after.part ≡ part_past before.part x outputs
   pub last : (before.part ≡ score_part.Over → ⊥) → is_final x ≡ true → list_any is_last outputs ≡ true
   pub passes : (before.part ≡ score_part.Over → ⊥) → PassesOn x outputs
   pub line : EndsLine x → after.part ≡ score_part.Body → is_in_comment after.body.part ≡ false
-  pub counts : (place : Place) → StandsHere x place → Counts place before → Counts (place_behind x place) after
+  pub counts : (place : Place) → IsHere x place → Counts place before → Counts (place_after_input x place) after
   pub before_held : after.part ≡ score_part.Body → after.before ≡ preceding_past before.part x outputs before.before
   pub next : after.part ≡ score_part.Body → after.held.next ≡ next_past before.part x before.held.next
-  pub stands : StandsHere x before.held.next → StandsInLine before → StandsInLine after
+  pub stands : IsHere x before.held.next → IsInLine before → IsInLine after
   pub whole : after.part ≡ score_part.Body → whole_syllables after ≤ most_whole before.part x (whole_syllables before)
-  pub told : MayCome before.limits before.held.next x → StandsInLine before → TellsOfText before → TellsOfText after
+  pub told : MayCome before.limits before.held.next x → IsInLine before → ReportsText before → ReportsText after
   pub holds : HoldsIfAny before → HoldsIfAny after
   pub law : (xs : List HeadEvent) → left_of before (x ∷ xs) ≡ outputs ∷ left_of after xs
   pub emitted : GivesOutputs outputs old new after.first after.second
-  pub front : before.part ≡ score_part.Heads → (lines macros canonical : ℕ) → x ≡ head_event.Heads lines macros canonical → StandsInFront after
+  pub front : before.part ≡ score_part.Heads → (lines macros canonical : ℕ) → x ≡ head_event.Heads lines macros canonical → IsInFront after
 
 -- At the end of the inputs it gave what was still to come.
 pub record GivesLast (before after : ScoreStageState) (old new : BoundedList ScoreEvent) : Type 0 where
@@ -199,6 +199,6 @@ is_last_event (event.Syllable lent) = false
 is_last_event event.End = true
 
 -- the syllable of this name
-abbrev pub lent_in : LentSyllable → ScoreStageState → PlacedSyllable
-lent_in First s = s.first
-lent_in Second s = s.second
+abbrev pub borrowed_in : BorrowedSyllable → ScoreStageState → PlacedSyllable
+borrowed_in First s = s.first
+borrowed_in Second s = s.second

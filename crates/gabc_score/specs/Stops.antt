@@ -11,7 +11,7 @@ use Rattle.gabc_score.specs.Body.{events_onto, code_at, fault_at, EventsToStop}
 -- In these definitions lists holds what is emitted of each character and of the end, and `first`
 -- was emitted before them, the nearest first. A point is an index of a character.
 
--- what was emitted through so many points
+-- what was emitted through n points
 abbrev pub events_in_points : List BodyEvent → List (List BodyEvent) → ℕ → List BodyEvent
 events_in_points first lists n = events_onto (concat_of (take n lists)) first
 

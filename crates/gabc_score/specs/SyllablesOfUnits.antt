@@ -11,7 +11,7 @@ use Rattle.gabc_score.specs.Body.{has_text, events_to_stop}
 use Rattle.gabc_score.specs.Canonical.{position_by}
 use Rattle.gabc_score.specs.Holding.{HoldsNotes, HoldsNoNotes}
 use Rattle.gabc_score.specs.Syllable.{UnplacedSyllable, PlacedSyllable, is_mark}
-use Rattle.gabc_places.specs.Place.{placed_characters_behind}
+use Rattle.gabc_places.specs.Place.{placed_characters_after}
 use Rattle.gabc_headers.specs.Book.{nabc_lines_of, macros_of}
 use Rattle.gabc_score.specs.Events.{texts_by_definition, body_events}
 use Rattle.gabc_headers.specs.Canonical.{canonical_heads}
@@ -19,7 +19,7 @@ use Rattle.gabc_headers.specs.Lines.{bytes_len}
 use Rattle.gabc_places.specs.declared.limits.Limits.{Limits}
 use Rattle.gabc_score.specs.declared.events.BodyEvent.{BodyEvent}
 use Rattle.gabc_score.specs.Stops.{StopsAt, NeverStops}
-use Rattle.gabc_score.specs.Score.{heads_text, behind_heads}
+use Rattle.gabc_score.specs.Score.{heads_text, after_heads}
 use Rattle.gabc_score.specs.Units.{EndedPart, BodyUnit, LastUnit, JustText, OpenNotes, Units, BodyCutting, IsCut}
 
 -- ---- the units of a score
@@ -150,7 +150,7 @@ pub record AreSyllablesOf (lines : ℕ) (units : List ScoreUnit) (syllables : Li
 
 -- the characters of the body after the headers
 abbrev pub body_characters : List ℕ → List Char
-body_characters t = placed_characters_behind (heads_text t) (behind_heads t)
+body_characters t = placed_characters_after (heads_text t) (after_heads t)
 
 -- the body of a text with this book is cut so
 abbrev pub IsBodyCut : List (List ℕ × List ℕ) → List ℕ → BodyCutting → Type 0
@@ -158,33 +158,33 @@ IsBodyCut book t cut = IsCut texts_by_definition (nabc_lines_of book) (macros_of
 
 -- ---- a stopped score
 
--- how many of these units end within so many characters
+-- how many of these units end within n characters
 abbrev pub count_within : ℕ → List BodyUnit → ℕ
 count_within n [] = 0
 count_within n (u ∷ units) =
     if nat_lt n (length (characters_in u)) then 0 else suc (count_within (n - length (characters_in u)) units)
 
--- the units whose `)` is one of so many characters after the comment
+-- the units whose `)` is one of n characters after the comment
 abbrev pub units_within : ℕ → Option Units → List ScoreUnit
 units_within n None = []
 units_within n (Some u) = take (count_within n u.closed) (closed_units u.closed u.last)
 
--- So many characters of a body stand before its stop, the first point at which a limit is passed.
--- Where none is passed at a character, all do.
-abbrev pub StandBeforeStop : Limits → ℕ → List Char → List (List BodyEvent) → ℕ → Type 0
-StandBeforeStop limits head xs lists n =
+-- The first n characters of a body come before its stop, the first point at which a limit is
+-- passed. Where none is passed at a character, all do.
+abbrev pub AreBeforeStop : Limits → ℕ → List Char → List (List BodyEvent) → ℕ → Type 0
+AreBeforeStop limits head xs lists n =
     let r = events_to_stop limits head [] xs lists in
     (NeverStops limits head [] xs lists r × (n ≡ length xs)) ⊎ ((s : StopsAt limits head [] xs lists r) × (n ≡ length s.prefix))
 
--- so many characters of the body of a text with this book do
-abbrev pub StandBeforeBodyStop : Limits → List (List ℕ × List ℕ) → List ℕ → ℕ → Type 0
-StandBeforeBodyStop limits book t n =
+-- the first n characters of the body of a text with this book do
+abbrev pub AreBeforeBodyStop : Limits → List (List ℕ × List ℕ) → List ℕ → ℕ → Type 0
+AreBeforeBodyStop limits book t n =
     let xs = body_characters t in
-    StandBeforeStop limits (bytes_len (canonical_heads book)) xs (body_events (nabc_lines_of book) (macros_of book) xs) n
+    AreBeforeStop limits (bytes_len (canonical_heads book)) xs (body_events (nabc_lines_of book) (macros_of book) xs) n
 
 -- ---- the prefix of a stopped score
 
--- how many units end within so many characters after the comment, and within so many of the body
+-- how many units end within n characters after the comment, and within n of the body
 abbrev pub count_in : ℕ → Option Units → ℕ
 count_in n None = 0
 count_in n (Some u) = count_within n u.closed
@@ -202,7 +202,7 @@ abbrev pub through_unit : ℕ → BodyCutting → List Char
 through_unit zero cut = []
 through_unit (suc k) cut = cut.comment ++ first_characters (suc k) cut.units
 
--- A text through the `)` of the last unit that ends within so many characters of its body, or
+-- A text through the `)` of the last unit that ends within n characters of its body, or
 -- through its `%%`, if none does.
 abbrev pub whole_prefix : List ℕ → BodyCutting → ℕ → List ℕ
 whole_prefix t cut n = heads_text t ++ codes_of (through_unit (whole_count n cut) cut)

@@ -10,7 +10,7 @@ use Rattle.std.specs.Option.{option_map}
 use Rattle.gabc_places.specs.declared.place.Place.{Place}
 use Rattle.gabc_places.specs.declared.place.Char.{Char}
 use Rattle.gabc_score.specs.declared.events.BodyEvent.{BodyEvent}
-use Rattle.gabc_score.specs.Events.{PartAhead, InComment, InText, InNotes, is_text_end, is_next, is_close, first_list, other_lists, events_in, events_at_end, Texts, text_from, snippet_from, next_line, behind_mark}
+use Rattle.gabc_score.specs.Events.{PartAhead, InComment, InText, InNotes, is_text_end, is_next, is_close, first_list, other_lists, events_in, events_at_end, Texts, text_from, snippet_from, next_line, after_mark}
 
 -- ---- parts
 
@@ -65,21 +65,21 @@ module _ (lines : ℕ) where
   Endless part (x ∷ xs) = (mark_in part ≡ None) × Endless (part_onward part) xs
 
   -- the character after these is the first that ends the part
-  abbrev pub EndsBehind : PartAhead → List Char → Mark → Type 0
-  EndsBehind part [] mark = mark_in part ≡ Some mark
-  EndsBehind part (x ∷ xs) mark = (mark_in part ≡ None) × EndsBehind (part_onward part) xs mark
+  abbrev pub EndsAfter : PartAhead → List Char → Mark → Type 0
+  EndsAfter part [] mark = mark_in part ≡ Some mark
+  EndsAfter part (x ∷ xs) mark = (mark_in part ≡ None) × EndsAfter (part_onward part) xs mark
 
 module _ (texts : Texts) (lines macros : ℕ) where
   -- the part that begins with the characters xs, after a part that ended so at x
   abbrev pub part_following : Mark → Char → List Char → PartAhead
   part_following Opens x xs = snippet_from lines macros 0 x.place xs
   part_following (Next line opened) x xs = snippet_from lines macros line opened xs
-  part_following Closes x xs = text_from texts (behind_mark x.place) xs
+  part_following Closes x xs = text_from texts (after_mark x.place) xs
 
   -- the parts are cut where they end, the first of them this one
   abbrev pub Cuts : PartAhead → List CutPart → List Char → Type 0
   Cuts part [] last = Endless lines part last
-  Cuts part (p ∷ pieces) last = EndsBehind lines part p.characters p.mark × Cuts (part_following p.mark p.end (whole pieces last)) pieces last
+  Cuts part (p ∷ pieces) last = EndsAfter lines part p.characters p.mark × Cuts (part_following p.mark p.end (whole pieces last)) pieces last
 
   -- what parts emit that are cut so, one after the other
   abbrev pub events_of_cutting : PartAhead → List CutPart → List Char → List (List BodyEvent)

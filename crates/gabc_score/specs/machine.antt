@@ -1,7 +1,9 @@
 pub mod Between
 pub mod BodyBuilder
 pub mod Collected
+pub mod FirstSound
 pub mod Gatherer
+pub mod HoldsEvents
 pub mod HeldAside
 pub mod HeldWithin
 pub mod PartCounts
@@ -15,6 +17,7 @@ pub mod PartSteps
 pub mod PlaceByBytes
 pub mod Preceded
 pub mod ReadAlone
+pub mod ReadsChar
 pub mod RegularLen
 pub mod Resumed
 pub mod Run

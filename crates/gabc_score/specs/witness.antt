@@ -1,4 +1,4 @@
 pub mod BodyStage
-pub mod MayStand
+pub mod IsReachable
 pub mod ReadAgain
 pub mod ScoreStage

@@ -5,7 +5,7 @@ ghost use Rattle.gabc_score.specs.ScoreEvents.{ScoreOutput, syllables_in};
 ghost use Rattle.gabc_score.specs.ScoreStage.{events_of};
 ghost use Rattle.gabc_score.specs.machine.Collected.{result_past, result_with};
 
-use crate::score_event::{LentSyllable, ScoreEvent};
+use crate::score_event::{BorrowedSyllable, ScoreEvent};
 use crate::slot_pair::SlotPair;
 use crate::syllables::Syllables;
 use gabc_places::{Fault, Findings, Memory, Room};
@@ -33,10 +33,10 @@ impl BodyResult {
                     self.fault = Some(fault);
                 }
             }
-            ScoreEvent::Syllable(LentSyllable::First) => {
+            ScoreEvent::Syllable(BorrowedSyllable::First) => {
                 self.syllables.push(pair.first().copy(memory)?)?
             }
-            ScoreEvent::Syllable(LentSyllable::Second) => {
+            ScoreEvent::Syllable(BorrowedSyllable::Second) => {
                 self.syllables.push(pair.second().copy(memory)?)?
             }
             ScoreEvent::End => {}

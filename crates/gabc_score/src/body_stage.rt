@@ -7,9 +7,9 @@ ghost use Rattle.gabc_places.specs.BoundedList.{Fits, extended_by};
 ghost use Rattle.gabc_places.specs.Place.{placed_characters_from};
 ghost use Rattle.gabc_text.specs.Events.{CountsFit};
 ghost use Rattle.gabc_text.specs.TextStage.{fresh_stage};
-ghost use Rattle.gabc_score.specs.Events.{InComment, events_from, body_events, behind_mark, next_line as line_after};
-ghost use Rattle.gabc_score.specs.machine.BodyBuilder.{with_all, with_found};
+ghost use Rattle.gabc_score.specs.Events.{InComment, events_from, body_events, after_mark, next_line as line_after};
 ghost use Rattle.gabc_score.specs.machine.Gatherer.{Gathered};
+ghost use Rattle.gabc_score.specs.machine.HoldsEvents.{CanHold, HoldsEvents};
 ghost use Rattle.gabc_score.specs.machine.PartCounts.{CountsHold};
 ghost use Rattle.gabc_score.specs.machine.PartPushes.{ClosesLast, EmitsLast};
 ghost use Rattle.gabc_score.specs.machine.PartSteps.{Begins, TakesChar};
@@ -20,7 +20,7 @@ use crate::BodyEvent;
 use crate::part_ends::{ends_at_close, ends_at_next, ends_text};
 use crate::part_events::{emit_notes, emit_text, hold_notes, hold_text};
 use crate::part_pushes::{finish_part, push_gabc, push_nabc, push_text};
-use crate::slot_pair::{SlotPair, SlotUse};
+use crate::slot_pair::SlotPair;
 use gabc_nabc::NabcStage;
 use gabc_notes::{NoteEvent, NoteStage};
 use gabc_places::{Char, Finding, Memory, Place, Room, Stage};
@@ -95,7 +95,7 @@ pub(crate) fn next_line(lines: u8, line: u8) -> u8
 
 /// Returns the text after the `)` that stands at `mark`.
 fn text_after(mark: Place) -> BodyPart
-    ensures { result ≡ BodyPart.Text (fresh_stage (behind_mark mark)) }
+    ensures { result ≡ BodyPart.Text (fresh_stage (after_mark mark)) }
 {
     BodyPart::Text(TextStage::new(mark.saturating_after(')')))
 }
@@ -292,14 +292,8 @@ impl BodyStage {
     /// `found`.
     #[inline(always)]
     pub(crate) fn hold(&self, pair: &mut SlotPair, found: &mut Room<Finding>)
-        requires reads { pair.old.used ≡ SlotUse.Filling }
-        requires fits { FitEach pair.old.gathered self.now.events }
-        requires once { ClosesLast self.now.events }
-        requires found { Fits found.old (length self.now.events) }
-        ensures gathered { pair.new.gathered ≡ with_all pair.old.gathered self.now.events }
-        ensures held { pair.new.held ≡ pair.old.held }
-        ensures used { pair.new.used ≢ SlotUse.Lent }
-        ensures found { found.new ≡ with_found found.old self.now.events }
+        requires { CanHold self.now.events pair.old found.old }
+        ensures { HoldsEvents self.now.events pair.old found.old pair.new found.new }
     {
         match self.emitter {
             Emitter::Nothing => {}

@@ -2,7 +2,7 @@
 
 ghost use Rattle.std.specs.Prelude.{◌≡◌, ◌↔◌, ℕ, IsTrue};
 ghost use Rattle.gabc_text.specs.TextStage.{fresh_stage};
-ghost use Rattle.gabc_score.specs.ScoreTells.{is_in_comment, moved_part, openers_of};
+ghost use Rattle.gabc_score.specs.ScoreReports.{is_in_comment, moved_part, openers_of};
 ghost use Rattle.gabc_score.specs.machine.PartKeeps.{KeptParts, PartKeeps};
 
 use crate::body_stage::{BodyPart, BodyStage};

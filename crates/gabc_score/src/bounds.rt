@@ -50,6 +50,6 @@ impl Bounds {
         self.behind.syllables = self.before.syllables.saturating_add(1);
         self.behind.canonical = pair.canonical();
         self.behind.spans = pair.spans();
-        self.behind.sounded = pair.first_kind().is_some();
+        self.behind.sounded = pair.has_sounded();
     }
 }

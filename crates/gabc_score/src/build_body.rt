@@ -58,7 +58,7 @@ pub(crate) fn build_body(
     Ok(result)
 }
 
-/// Tells a machine how the input ended.
+/// Reports a machine how the input ended.
 fn end_machine(machine: &mut ScoreMachine, ending: InputEnding, out: &mut Room<ScoreEvent>)
     requires rests { IsScore machine.old }
     requires fits { Fits out.old 16 }

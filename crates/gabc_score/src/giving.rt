@@ -1,30 +1,31 @@
 //! What a stage over a score gives at a point.
 
-ghost use Rattle.std.specs.Prelude.{◌≡◌, ◌≢◌, ◌+◌, ◌-◌, ◌≤◌, ◌||◌, nat_lt, [], ◌∷◌, ◌++◌, map, take, length, cond, false, None};
+ghost use Rattle.std.specs.Prelude.{◌≡◌, ◌≢◌, ◌≤◌, ◌||◌, [], ◌∷◌, ◌++◌, map, length, cond, None};
 ghost use Rattle.gabc_places.specs.BoundedList.{Fits, extended_by};
 ghost use Rattle.gabc_score.specs.NoteBeforeClef.{found_first};
 ghost use Rattle.gabc_score.specs.ScoreEvents.{outputs_of, Stop, End};
-ghost use Rattle.gabc_score.specs.ScoreStage.{GivesOutputs};
 ghost use Rattle.gabc_score.specs.machine.BodyBuilder.{end_findings};
-ghost use Rattle.gabc_score.specs.machine.ScoreStage.{placed_behind, with_held};
-ghost use Rattle.gabc_score.specs.machine.SlotPair.{is_made, lent_of};
+ghost use Rattle.gabc_score.specs.machine.FirstSound.{kind_of};
+ghost use Rattle.gabc_score.specs.machine.ReadsChar.{GivesAsLast, GivesPoint};
+ghost use Rattle.gabc_score.specs.machine.ScoreStage.{placed_behind};
+ghost use Rattle.gabc_score.specs.machine.SlotPair.{lent_of};
 
-use crate::score_event::{LentSyllable, ScoreEvent};
+use crate::first_sound::FirstSound;
+use crate::score_event::{BorrowedSyllable, ScoreEvent};
 use crate::slot_pair::{SlotPair, SlotUse};
-use gabc_notes::ItemKind;
 use gabc_places::{Code, Fault, Finding, Place, Room};
 
 /// Finds a note before any clef at `place`: which of the two came first in GABC was not known
 /// before, and is a note now.
 #[inline(always)]
 pub(crate) fn find_first(
-    was: Option<ItemKind>,
-    now: Option<ItemKind>,
+    was: Option<FirstSound>,
+    now: Option<FirstSound>,
     place: Place,
     found: &mut Room<Finding>,
 )
     requires { Fits found.old 1 }
-    ensures { found.new ≡ extended_by found.old (found_first was now place) }
+    ensures { found.new ≡ extended_by found.old (found_first (kind_of was) (kind_of now) place) }
 {
     if was.is_some() {
         return;
@@ -36,11 +37,11 @@ pub(crate) fn find_first(
 
 /// Finds a note before any clef at `place`, where what came first in GABC is a note.
 #[inline(never)]
-fn find_note(now: Option<ItemKind>, place: Place, found: &mut Room<Finding>)
+fn find_note(now: Option<FirstSound>, place: Place, found: &mut Room<Finding>)
     requires { Fits found.old 1 }
-    ensures { found.new ≡ extended_by found.old (found_first None now place) }
+    ensures { found.new ≡ extended_by found.old (found_first None (kind_of now) place) }
 {
-    if let Some(ItemKind::Note) = now {
+    if let Some(FirstSound::Note) = now {
         found.push(Finding {
             place,
             code: Code::W12,
@@ -70,22 +71,22 @@ fn give_code(is_found: bool, place: Place, code: Code, out: &mut Room<ScoreEvent
     }
 }
 
-/// Gives the first `count` of the syllables that are lent.
+/// Gives the first `count` of the syllables that are borrowed.
 fn give_lent(count: usize, out: &mut Room<ScoreEvent>)
     requires most { count ≤ 2 }
     requires fits { Fits out.old count }
     ensures { out.new ≡ extended_by out.old (lent_of count) }
 {
     if count > 0 {
-        out.push(ScoreEvent::Syllable(LentSyllable::First));
+        out.push(ScoreEvent::Syllable(BorrowedSyllable::First));
     }
     if count > 1 {
-        out.push(ScoreEvent::Syllable(LentSyllable::Second));
+        out.push(ScoreEvent::Syllable(BorrowedSyllable::Second));
     }
 }
 
 /// Gives what was found at a point, and the held syllable if another is whole, which is held then.
-/// `has_lent` says whether one was lent before. Returns whether it gave one.
+/// `has_lent` says whether one was borrowed before. Returns whether it gave one.
 pub(crate) fn give_point(
     pair: &mut SlotPair,
     has_lent: bool,
@@ -94,15 +95,7 @@ pub(crate) fn give_point(
 ) -> bool
     requires few { length found.old.items ≤ 9 }
     requires fits { Fits out.old 16 }
-    ensures gathered { pair.new.gathered ≡ with_held pair.old.gathered }
-    ensures used { is_made pair.new.used ≡ false }
-    ensures gave { result ≡ nat_lt 1 (length pair.old.gathered.made) }
-    ensures emitted { let made = pair.old.gathered.made in
-        GivesOutputs (outputs_of found.old.items (take (length made - 1) (placed_behind has_lent made)))
-        out.old out.new pair.new.first pair.new.second }
-    ensures few { length (take (length pair.old.gathered.made - 1)
-        (placed_behind has_lent pair.old.gathered.made)) ≤ 1 }
-    ensures found { found.new ≡ record found.old { items = [] } }
+    ensures { GivesPoint has_lent pair.old found.old result pair.new found.new out.old out.new }
 {
     give_found(found.slice(), out);
     found.clear();
@@ -120,11 +113,9 @@ pub(crate) fn give_stop(
 )
     requires used { pair.old.used ≢ SlotUse.Lent }
     requires fits { Fits out.old 16 }
-    ensures limit { pair.new.gathered.limit ≡ pair.old.gathered.limit }
-    ensures emitted { GivesOutputs
-        (outputs_of [] (placed_behind has_lent pair.old.held) ++ Stop fault ∷ [])
-        out.old out.new pair.new.first pair.new.second }
-    ensures few { length (placed_behind has_lent pair.old.held) ≤ 1 }
+    ensures { let held = placed_behind has_lent pair.old.held in
+        GivesAsLast pair.old (outputs_of [] held ++ Stop fault ∷ []) held 1
+        out.old out.new pair.new }
 {
     let count = pair.give_held(has_lent);
     give_lent(count, out);
@@ -135,10 +126,8 @@ pub(crate) fn give_stop(
 pub(crate) fn give_broken(pair: &mut SlotPair, has_lent: bool, out: &mut Room<ScoreEvent>)
     requires used { pair.old.used ≢ SlotUse.Lent }
     requires fits { Fits out.old 16 }
-    ensures limit { pair.new.gathered.limit ≡ pair.old.gathered.limit }
-    ensures emitted { GivesOutputs (outputs_of [] (placed_behind has_lent pair.old.held))
-        out.old out.new pair.new.first pair.new.second }
-    ensures few { length (placed_behind has_lent pair.old.held) ≤ 1 }
+    ensures { let held = placed_behind has_lent pair.old.held in
+        GivesAsLast pair.old (outputs_of [] held) held 1 out.old out.new pair.new }
 {
     let count = pair.give_held(has_lent);
     give_lent(count, out);
@@ -157,11 +146,11 @@ pub(crate) fn give_end(
     requires used { pair.old.used ≢ SlotUse.Lent }
     requires few { length found.now ≤ 8 }
     requires fits { Fits out.old 16 }
-    ensures limit { pair.new.gathered.limit ≡ pair.old.gathered.limit }
-    ensures emitted { let g = pair.old.gathered in
-        GivesOutputs (outputs_of (found.now ++ end_findings at has_last (g.eu || g.nlba)) (placed_behind has_lent g.made) ++ End ∷ [])
-        out.old out.new pair.new.first pair.new.second }
-    ensures few { length (placed_behind has_lent pair.old.gathered.made) ≤ 2 }
+    ensures { let g = pair.old.gathered in
+        let made = placed_behind has_lent g.made in
+        GivesAsLast pair.old
+        (outputs_of (found.now ++ end_findings at has_last (g.eu || g.nlba)) made ++ End ∷ [])
+        made 2 out.old out.new pair.new }
 {
     give_found(found, out);
     give_code(has_last, at, Code::W9, out);

@@ -5,7 +5,7 @@ ghost use Rattle.std.specs.Prelude.{◌≤◌, ℕ, List, Bool, length, encode_u
 ghost use Rattle.gabc_places.specs.declared.limits.Limits.{Limits};
 ghost use Rattle.gabc_score.specs.declared.body_tells.Openers.{Openers};
 ghost use Rattle.gabc_score.specs.KeptAgain.{IsKeptAgain};
-ghost use Rattle.gabc_score.specs.ReadAgain.{IsReported, TellsOfReading};
+ghost use Rattle.gabc_score.specs.ReadAgain.{IsReported, ReportsReading};
 ghost use Rattle.gabc_score.specs.machine.StageLaws.{StageLaws};
 ghost use Rattle.gabc_score.specs.witness.ReadAgain.{CanBeReadAgain};
 ghost use Rattle.gabc_score.specs.witness.ScoreStage.{ScoreStageState};
@@ -17,26 +17,26 @@ pub(crate) fn laws_of_stages()
     ensures { StageLaws }
 {
     gabc_text::laws::a_stage_takes_each_character();
-    gabc_text::laws::an_opener_may_stand_anywhere();
+    gabc_text::laws::an_opener_may_be_anywhere();
     gabc_text::laws::a_kept_character_is_kept_again();
     gabc_text::laws::what_is_open_follows_from_the_kept_text();
-    gabc_text::laws::events_need_nothing_behind();
+    gabc_text::laws::events_need_nothing_after();
     gabc_notes::laws::a_stage_takes_each_character();
-    gabc_notes::laws::an_opener_may_stand_anywhere();
+    gabc_notes::laws::an_opener_may_be_anywhere();
     gabc_notes::laws::a_kept_character_is_kept_again();
-    gabc_notes::laws::an_opener_is_told_inside_raw();
+    gabc_notes::laws::an_opener_is_reported_inside_raw();
     gabc_nabc::laws::a_stage_takes_each_character();
 }
 
 /// Law: what a stage reports of the syllable that it reads is kept again where it is read by
 /// itself, and what is open after it is what the stage reports. It is no longer than a syllable may
 /// be.
-pub fn what_is_told_is_kept_again()
+pub fn what_is_reported_is_kept_again()
     ensures again { (s : ScoreStageState) (t : List ℕ) (openers : Openers) (comment : Bool) →
-        CanBeReadAgain s → TellsOfReading s (encode_utf8_all t) openers comment →
+        CanBeReadAgain s → ReportsReading s (encode_utf8_all t) openers comment →
         IsKeptAgain s.body.nabc_lines s.body.macros t openers comment }
     ensures short { (s : ScoreStageState) (t : List ℕ) (openers : Openers) (comment : Bool) →
-        CanBeReadAgain s → TellsOfReading s (encode_utf8_all t) openers comment →
+        CanBeReadAgain s → ReportsReading s (encode_utf8_all t) openers comment →
         length (encode_utf8_all t) ≤ s.limits.syllable }
 {
     laws_of_stages();
@@ -45,7 +45,7 @@ pub fn what_is_told_is_kept_again()
 
 /// Law: a text that is kept again where it is read by itself, no longer than a syllable may be, is
 /// what some stage reports of the syllable that it reads.
-pub fn what_is_kept_again_is_told()
+pub fn what_is_kept_again_is_reported()
     ensures { (limits : Limits) (lines macros : ℕ) (t : List ℕ) (openers : Openers)
         (comment : Bool) → IsKeptAgain lines macros t openers comment →
         length (encode_utf8_all t) ≤ limits.syllable →

@@ -27,7 +27,7 @@ ghost use Rattle.gabc_headers.specs.Canonical.{canonical_heads};
 ghost use Rattle.gabc_text.specs.Events.{codes_of};
 ghost use Rattle.gabc_score.specs.declared.ending.InputEnding.TheVariants.{Whole, Broken, At};
 ghost use Rattle.gabc_score.specs.Score.{score_of};
-ghost use Rattle.gabc_score.specs.SyllablesOfUnits.{ScoreUnit, unit_characters, closed_units, score_units, units_within, whole_prefix, AreSyllablesOf, IsBodyCut, StandBeforeBodyStop};
+ghost use Rattle.gabc_score.specs.SyllablesOfUnits.{ScoreUnit, unit_characters, closed_units, score_units, units_within, whole_prefix, AreSyllablesOf, IsBodyCut, AreBeforeBodyStop};
 ghost use Rattle.gabc_score.specs.Body.{events_to_stop, events_onto, code_at};
 ghost use Rattle.gabc_score.specs.Stops.{StopsAt, NeverStops};
 ghost use Rattle.gabc_score.specs.declared.events.BodyEvent.{BodyEvent};
@@ -37,7 +37,7 @@ ghost use Rattle.gabc_score.specs.Units.{BodyUnit, JustText, BodyCutting, IsCut,
 ghost use Rattle.gabc_score.specs.WithinLimits.{CanonicalWithin, AreWithin, KeepsWithin};
 ghost use Rattle.gabc_score.specs.ScoreEvents.{ScoreOutput, score_outputs, head_events, outputs_of_text, findings_in, syllables_in, fault_in, has_end, is_whole, is_last};
 ghost use Rattle.gabc_headers.specs.declared.head_event.HeadEvent.{HeadEvent};
-ghost use Rattle.gabc_headers.specs.HeadEvents.{emitted_by, inputs_behind};
+ghost use Rattle.gabc_headers.specs.HeadEvents.{emitted_by, inputs_after};
 ghost use Rattle.gabc_headers.specs.witness.HeadEvents.{events_left, reading};
 ghost use Rattle.gabc_places.specs.StageLaw.{concat_of};
 
@@ -189,12 +189,12 @@ pub fn the_syllables_are_those_of_the_units()
         (book : List (List ℕ × List ℕ)) (cut : BodyCutting) (n : ℕ)
         → length (encode_utf8_all t) < 2 ^ 63
         → (let score = score_of limits ending t in
-        score.book ≡ Some book → IsBodyCut book t cut → StandBeforeBodyStop limits book t n
+        score.book ≡ Some book → IsBodyCut book t cut → AreBeforeBodyStop limits book t n
         → ¬ ((ending ≡ Whole) × (score.fault ≡ None))
         → AreSyllablesOf (nabc_lines_of book)
         (units_within (n - length cut.comment) cut.units) score.syllables) }
     ensures stop { (limits : Limits) (book : List (List ℕ × List ℕ)) (t : List ℕ)
-        → (n : ℕ) × StandBeforeBodyStop limits book t n }
+        → (n : ℕ) × AreBeforeBodyStop limits book t n }
 {
     gabc_text::laws::a_text_ends_once();
     gabc_text::laws::events_build_the_text();
@@ -221,7 +221,7 @@ pub fn a_stopped_score_is_that_of_its_prefix()
         → length (encode_utf8_all t) < 2 ^ 63
         → (let score = score_of limits ending t in
         let again = score_of limits Whole (whole_prefix t cut n) in
-        score.book ≡ Some book → IsBodyCut book t cut → StandBeforeBodyStop limits book t n
+        score.book ≡ Some book → IsBodyCut book t cut → AreBeforeBodyStop limits book t n
         → ¬ ((ending ≡ Whole) × (score.fault ≡ None))
         → (again.book ≡ score.book)
         × ((again.syllables ≡ score.syllables) × (again.fault ≡ None))) }
@@ -233,7 +233,7 @@ pub fn a_stopped_score_is_that_of_its_prefix()
     gabc_text::laws::events_by_point_are_the_events();
     gabc_text::laws::spans_stand_for_the_view();
     gabc_text::laws::a_fresh_stage_emits_the_events_by_point();
-    gabc_text::laws::events_need_nothing_behind();
+    gabc_text::laws::events_need_nothing_after();
     gabc_notes::laws::what_follows_emits_nothing();
     gabc_nabc::laws::what_follows_emits_nothing();
 }
@@ -315,13 +315,13 @@ pub fn a_score_says_what_it_emits()
 /// matter whether the end has come.
 pub fn a_stage_of_headers_emits_the_events()
     ensures whole { (limits : Limits) (t : List ℕ) → All IsScalar t →
-        let xs = inputs_behind [] t in
+        let xs = inputs_after [] t in
         head_events limits Whole t ≡ emitted_by true xs (events_left limits (reading []) xs) }
     ensures broken { (limits : Limits) (t : List ℕ) → All IsScalar t →
-        let xs = inputs_behind [] t in
+        let xs = inputs_after [] t in
         head_events limits Broken t ≡ emitted_by false xs (events_left limits (reading []) xs) }
     ensures stopped { (limits : Limits) (t : List ℕ) (fault : Fault) (ended : Bool) →
-        All IsScalar t → let xs = inputs_behind [] t ++ Err fault ∷ [] in
+        All IsScalar t → let xs = inputs_after [] t ++ Err fault ∷ [] in
         head_events limits (At fault) t
         ≡ emitted_by ended xs (events_left limits (reading []) xs) }
 {

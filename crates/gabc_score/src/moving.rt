@@ -1,7 +1,7 @@
 //! Where the next character of a body stands.
 
 ghost use Rattle.std.specs.Prelude.{◌≡◌};
-ghost use Rattle.gabc_score.specs.ScoreTells.{moved_to};
+ghost use Rattle.gabc_score.specs.ScoreReports.{moved_to};
 ghost use Rattle.gabc_score.specs.machine.ScoreMachine.{shown, IsScore};
 
 use crate::score_machine::ScoreMachine;

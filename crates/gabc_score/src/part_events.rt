@@ -1,18 +1,13 @@
 //! The events of a text or a snippet as those of a body.
 
-ghost use Rattle.std.specs.Prelude.{◌≡◌, ◌≢◌, ◌+◌, ◌≤◌, [], ◌∷◌, map, length};
+ghost use Rattle.std.specs.Prelude.{◌≡◌, [], ◌∷◌, map, length};
 ghost use Rattle.gabc_places.specs.BoundedList.{Fits, extended_by};
 ghost use Rattle.gabc_score.specs.Events.{innermost as with_innermost, note_event as event_of_notes};
 ghost use Rattle.gabc_score.specs.declared.events.BodyEvent.TheVariants.{Text as of_text};
-ghost use Rattle.gabc_score.specs.machine.BodyBuilder.{with_all, with_found};
-ghost use Rattle.gabc_score.specs.Syllable.{closes};
-ghost use Rattle.gabc_score.specs.machine.Gatherer.{with_event};
-ghost use Rattle.gabc_score.specs.machine.PartPushes.{ClosesLast};
-ghost use Rattle.gabc_score.specs.machine.Slot.{FitsEvent, FitEach};
-ghost use Rattle.gabc_score.specs.machine.SlotPair.{used_by};
+ghost use Rattle.gabc_score.specs.machine.HoldsEvents.{CanHold, HoldsEvents};
 
 use crate::events::BodyEvent;
-use crate::slot_pair::{SlotPair, SlotUse};
+use crate::slot_pair::SlotPair;
 use gabc_notes::{NoteEnd, NoteEvent};
 use gabc_places::{Finding, Place, Room};
 use gabc_text::TextEvent;
@@ -65,14 +60,8 @@ pub(crate) fn emit_notes(line: u8, opened: Place, events: &[NoteEvent], out: &mu
 /// Adds an event of a text to what was gathered, and what is found with it to `found`.
 #[inline(always)]
 fn hold_in_text(event: TextEvent, pair: &mut SlotPair, found: &mut Room<Finding>)
-    requires reads { pair.old.used ≡ SlotUse.Filling }
-    requires fits { FitsEvent pair.old.gathered.limit pair.old.gathered.builder (of_text event) }
-    requires found { Fits found.old 1 }
-    ensures gathered { pair.new.gathered ≡ with_event pair.old.gathered (of_text event) }
-    ensures held { pair.new.held ≡ pair.old.held }
-    ensures used { pair.new.used ≡ used_by (closes (of_text event)) }
-    ensures found { found.new ≡ with_found found.old (of_text event ∷ []) }
-    ensures few { length found.new.items ≤ length found.old.items + 1 }
+    requires { CanHold (of_text event ∷ []) pair.old found.old }
+    ensures { HoldsEvents (of_text event ∷ []) pair.old found.old pair.new found.new }
 {
     match event {
         TextEvent::Found(finding) => found.push(finding),
@@ -90,16 +79,9 @@ fn hold_in_notes(
     pair: &mut SlotPair,
     found: &mut Room<Finding>,
 )
-    requires reads { pair.old.used ≡ SlotUse.Filling }
-    requires fits { FitsEvent pair.old.gathered.limit pair.old.gathered.builder
-        (event_of_notes line opened event) }
-    requires found { Fits found.old 1 }
-    ensures gathered { pair.new.gathered
-        ≡ with_event pair.old.gathered (event_of_notes line opened event) }
-    ensures held { pair.new.held ≡ pair.old.held }
-    ensures used { pair.new.used ≡ used_by (closes (event_of_notes line opened event)) }
-    ensures found { found.new ≡ with_found found.old (event_of_notes line opened event ∷ []) }
-    ensures few { length found.new.items ≤ length found.old.items + 1 }
+    requires { CanHold (event_of_notes line opened event ∷ []) pair.old found.old }
+    ensures { HoldsEvents (event_of_notes line opened event ∷ []) pair.old found.old
+        pair.new found.new }
 {
     match event {
         NoteEvent::Found(finding) => found.push(finding),
@@ -114,15 +96,8 @@ fn hold_in_notes(
 /// Adds the events of a text to what was gathered, and what is found among them to `found`.
 #[inline(always)]
 pub(crate) fn hold_text(events: &[TextEvent], pair: &mut SlotPair, found: &mut Room<Finding>)
-    requires reads { pair.old.used ≡ SlotUse.Filling }
-    requires fits { FitEach pair.old.gathered (map (λ o. of_text o) events.now) }
-    requires once { ClosesLast (map (λ o. of_text o) events.now) }
-    requires found { Fits found.old (length events.now) }
-    ensures gathered { pair.new.gathered
-        ≡ with_all pair.old.gathered (map (λ o. of_text o) events.now) }
-    ensures held { pair.new.held ≡ pair.old.held }
-    ensures used { pair.new.used ≢ SlotUse.Lent }
-    ensures found { found.new ≡ with_found found.old (map (λ o. of_text o) events.now) }
+    requires { CanHold (map (λ o. of_text o) events.now) pair.old found.old }
+    ensures { HoldsEvents (map (λ o. of_text o) events.now) pair.old found.old pair.new found.new }
 {
     for event in events {
         hold_in_text(*event, pair, found);
@@ -139,16 +114,9 @@ pub(crate) fn hold_notes(
     pair: &mut SlotPair,
     found: &mut Room<Finding>,
 )
-    requires reads { pair.old.used ≡ SlotUse.Filling }
-    requires fits { FitEach pair.old.gathered (map (event_of_notes line opened) events.now) }
-    requires once { ClosesLast (map (event_of_notes line opened) events.now) }
-    requires found { Fits found.old (length events.now) }
-    ensures gathered { pair.new.gathered
-        ≡ with_all pair.old.gathered (map (event_of_notes line opened) events.now) }
-    ensures held { pair.new.held ≡ pair.old.held }
-    ensures used { pair.new.used ≢ SlotUse.Lent }
-    ensures found { found.new
-        ≡ with_found found.old (map (event_of_notes line opened) events.now) }
+    requires { CanHold (map (event_of_notes line opened) events.now) pair.old found.old }
+    ensures { HoldsEvents (map (event_of_notes line opened) events.now) pair.old found.old
+        pair.new found.new }
 {
     for event in events {
         hold_in_notes(line, opened, *event, pair, found);

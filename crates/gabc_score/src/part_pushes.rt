@@ -1,9 +1,12 @@
 //! How a part of a body takes a character, or the end of the input.
 
 ghost use Rattle.std.specs.Prelude.{◌≡◌, ◌≤◌};
+ghost use Rattle.gabc_text.specs.witness.Steps as text;
+ghost use Rattle.gabc_notes.specs.witness.Keeps as gabc;
+ghost use Rattle.gabc_nabc.specs.witness.Keeps as nabc;
 ghost use Rattle.gabc_score.specs.Events.{is_text_end as text_end, is_next as note_next};
 ghost use Rattle.gabc_score.specs.machine.PartPushes.{EmitsLast, EndsLast};
-ghost use Rattle.gabc_score.specs.machine.PartSteps.{TextSteps, TextBounds, GabcSteps, NabcSteps, NoteBounds};
+ghost use Rattle.gabc_score.specs.machine.PartSteps.{TextBounds, NoteBounds};
 
 use gabc_nabc::NabcStage;
 use gabc_notes::{NoteEvent, NoteStage};
@@ -15,7 +18,7 @@ pub(crate) fn push_text(stage: &mut TextStage, x: Char, events: &mut Room<TextEv
     requires events { 8 ≤ events.old.limit }
     ensures once { EndsLast text_end events.new.items }
     ensures events { events.new.limit ≡ events.old.limit }
-    ensures steps { TextSteps stage.old x events.new.items stage.new }
+    ensures steps { text.Steps stage.old x events.new.items stage.new }
     ensures bounds { TextBounds stage.old events.new.items stage.new }
 {
     events.clear();
@@ -27,7 +30,7 @@ pub(crate) fn push_gabc(stage: &mut NoteStage, x: Char, events: &mut Room<NoteEv
     requires events { 3 ≤ events.old.limit }
     ensures next_once { EndsLast note_next events.new.items }
     ensures events { events.new.limit ≡ events.old.limit }
-    ensures steps { GabcSteps stage.old x events.new.items stage.new }
+    ensures steps { gabc.Steps stage.old x events.new.items stage.new }
     ensures bounds { NoteBounds events.new.items }
 {
     events.clear();
@@ -39,7 +42,7 @@ pub(crate) fn push_nabc(stage: &mut NabcStage, x: Char, events: &mut Room<NoteEv
     requires events { 3 ≤ events.old.limit }
     ensures next_once { EndsLast note_next events.new.items }
     ensures events { events.new.limit ≡ events.old.limit }
-    ensures steps { NabcSteps stage.old x events.new.items stage.new }
+    ensures steps { nabc.Steps stage.old x events.new.items stage.new }
     ensures bounds { NoteBounds events.new.items }
 {
     events.clear();

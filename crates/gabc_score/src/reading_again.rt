@@ -2,18 +2,19 @@
 
 ghost use Rattle.std.specs.Prelude.{◌≡◌, [], ◌∷◌, ◌++◌, true, false, cond, None, is_some};
 ghost use Rattle.std.specs.Str.{chars};
-ghost use Rattle.gabc_score.specs.ReadAgain.{StandsBefore, TellsOfReading, TellsTheSameBut};
-ghost use Rattle.gabc_score.specs.ScoreTells.{before_of, openers_of, reading_of};
+ghost use Rattle.gabc_score.specs.ReadAgain.{ComesBefore, ReportsReading, ReportsTheSameBut};
+ghost use Rattle.gabc_score.specs.ScoreReports.{before_of, openers_of, reading_of};
 ghost use Rattle.gabc_places.specs.TextOfAnInput.{IsText};
-ghost use Rattle.gabc_score.specs.ToldWithin.{AreOpenersBefore, IsPlace, TellsOfText};
+ghost use Rattle.gabc_score.specs.ReportedWithin.{AreOpenersBefore, IsPlace, ReportsText};
 ghost use Rattle.gabc_score.specs.witness.ReadAgain.{CanBeReadAgain};
 ghost use Rattle.gabc_score.specs.witness.ScoreStage.{ScoreStageState};
 ghost use Rattle.gabc_score.specs.machine.ReadAgain.{outer_of, inner_of, place_in, PassesAgain, ReadsKept, ReadsThrough, TakesAgain};
-ghost use Rattle.gabc_score.specs.machine.ScoreMachine.{shown, IsInBody, IsScore};
+ghost use Rattle.gabc_score.specs.machine.ReadsChar.{StandsInBody};
+ghost use Rattle.gabc_score.specs.machine.ScoreMachine.{shown, IsScore};
 
 use crate::body_stage::{BodyPart, BodyStage};
 use crate::body_tells::Openers;
-use crate::kept_laws::laws_of_stages;
+use crate::kept_laws;
 use crate::score_machine::{ScoreMachine, ScorePart};
 use crate::score_stage::ScoreStage;
 use gabc_places::{Char, Place};
@@ -36,14 +37,11 @@ impl ScoreMachine {
     /// Reads a character of the body, and gives nothing. Where a syllable becomes whole or a limit
     /// is passed, the reading is over.
     fn pass_again(&mut self, x: Char)
-        requires part { self.old.part ≡ ScorePart.Body }
-        requires rests { IsInBody self.old }
+        requires { StandsInBody self.old }
         ensures rests { IsScore self.new }
         ensures step { PassesAgain self.old x self.new }
     {
-        self.pair.free();
-        self.body.take(x);
-        self.body.hold(&mut self.pair, &mut self.found);
+        self.gather(x);
         self.found.clear();
         if self.pair.is_whole() || self.pair.code(self.limits).is_some() {
             self.part = ScorePart::Over;
@@ -110,13 +108,6 @@ impl ScoreMachine {
             }
         }
     }
-
-    /// Does nothing. Its contract is a law: in the body the kept text of the syllable that is read
-    /// can be read again.
-    pub(crate) fn can_be_read_again(&self)
-        requires rests { IsScore self.now }
-        ensures { is_some (before_of (shown self.now)) ≡ true → CanBeReadAgain (shown self.now) }
-    {}
 }
 
 impl ScoreStage {
@@ -135,7 +126,7 @@ impl ScoreStage {
         next: Place,
     ) -> bool
         ensures limits { self.new.limits ≡ self.old.limits }
-        ensures same { result ≡ true → TellsTheSameBut self.old self.new next }
+        ensures same { result ≡ true → ReportsTheSameBut self.old self.new next }
         ensures over { result ≡ false → before_of self.new ≡ None }
         ensures ends { result ≡ false → self.old.part ≡ ScorePart.Body →
             self.new.part ≡ ScorePart.Over }
@@ -143,22 +134,14 @@ impl ScoreStage {
             (result ≡ false) × (self.new ≡ self.old) }
         ensures told { result ≡ true → IsPlace next →
             AreOpenersBefore next (openers_of self.new.body.part) →
-            IsText (reading_of self.new) → TellsOfText self.old → TellsOfText self.new }
+            IsText (reading_of self.new) → ReportsText self.old → ReportsText self.new }
         ensures again { (told : ScoreStageState) → CanBeReadAgain told →
             told.limits ≡ self.old.limits → before_of told ≡ before_of self.old →
-            TellsOfReading told kept.now openers in_comment → StandsBefore self.old →
-            (result ≡ true) × TellsOfReading self.new kept.now openers in_comment }
+            ReportsReading told kept.now openers in_comment → ComesBefore self.old →
+            (result ≡ true) × ReportsReading self.new kept.now openers in_comment }
     {
-        laws_of_stages();
+        kept_laws::laws_of_stages();
         gabc_text::laws::what_is_open_stays_open_elsewhere();
         self.machine.read_again(kept, openers, in_comment, next)
-    }
-
-    /// Does nothing. Its contract is a law: in the body the kept text of the syllable that is read
-    /// can be read again.
-    pub(crate) fn can_be_read_again(&self)
-        ensures { is_some (before_of self.now) ≡ true → CanBeReadAgain self.now }
-    {
-        self.machine.can_be_read_again();
     }
 }

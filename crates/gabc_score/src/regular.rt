@@ -7,7 +7,7 @@ ghost use Rattle.std.specs.String.Boundary.{IsSplitPoint};
 ghost use Rattle.gabc_patterns.specs.LongestPrefix.{IsLongestPrefix};
 ghost use Rattle.gabc_text.specs.Token.{is_blank};
 ghost use Rattle.gabc_score.specs.RegularSyllable.{IsRegularOn};
-ghost use Rattle.gabc_score.specs.machine.RegularLen.{begins_mark, begins_other, mark_at, past_mark, tag_of, HasOnly, IsMarked, IsUnmarked, IsPlainByte, BeginsWithSnippets, BeginsRegularly, IsClearByte, IsPlainGap, is_printable};
+ghost use Rattle.gabc_score.specs.machine.RegularLen.{begins_mark, begins_other, mark_at, name_of_tag, past_mark, tag_of, HasOnly, IsMarked, IsUnmarked, IsPlainByte, BeginsWithSnippets, BeginsRegularly, IsClearByte, IsPlainGap, is_printable};
 
 use crate::before::Spans;
 use crate::body_stage::next_line;
@@ -136,14 +136,46 @@ fn gap_len(bytes: &[u8]) -> usize
     end
 }
 
-/// Returns whether `bytes` begin with a span mark.
-fn begins_mark(bytes: &[u8]) -> bool
-    ensures { result ≡ begins_mark bytes.now }
+/// Returns the first byte of the name of the tag that `bytes` begin with, where they begin with a
+/// tag: a `/` may stand before it.
+#[inline(always)]
+fn name_of_tag(bytes: &[u8]) -> u8
+    requires { 3 ≤ length bytes.now }
+    ensures { result ≡ name_of_tag bytes.now }
 {
-    bytes.starts_with(b"<eu>")
-        || bytes.starts_with(b"</eu>")
-        || bytes.starts_with(b"<nlba>")
-        || bytes.starts_with(b"</nlba>")
+    if bytes[1] == b'/' { bytes[2] } else { bytes[1] }
+}
+
+/// Returns the span mark that `bytes` begin with, if they begin with one. Few tags are one.
+#[inline(always)]
+pub(crate) fn mark_at(bytes: &[u8]) -> Option<SpanMark>
+    ensures { result ≡ mark_at bytes.now }
+{
+    if bytes.len() < 3 || bytes[0] != b'<' {
+        return None;
+    }
+    match name_of_tag(bytes) {
+        b'e' | b'n' => tag_at(bytes),
+        _ => None,
+    }
+}
+
+/// Returns the span mark that `bytes` begin with, if they begin with one.
+#[inline(never)]
+fn tag_at(bytes: &[u8]) -> Option<SpanMark>
+    ensures { result ≡ mark_at bytes.now }
+{
+    if bytes.starts_with(b"<eu>") {
+        Some(SpanMark::OpensEu)
+    } else if bytes.starts_with(b"</eu>") {
+        Some(SpanMark::ClosesEu)
+    } else if bytes.starts_with(b"<nlba>") {
+        Some(SpanMark::OpensNlba)
+    } else if bytes.starts_with(b"</nlba>") {
+        Some(SpanMark::ClosesNlba)
+    } else {
+        None
+    }
 }
 
 /// Returns whether `bytes` begin with what is refused in a regular syllable: a span mark, a CR, or
@@ -158,7 +190,7 @@ fn begins_refused(bytes: &[u8]) -> bool
     if first > b'<' && first < 0xEF {
         return false;
     }
-    first == b'\r' || first == 0xEF || (first == b'<' && begins_mark(bytes))
+    first == b'\r' || first == 0xEF || mark_at(bytes).is_some()
 }
 
 /// Returns whether what is refused in a regular syllable begins at `index` in `bytes`.
@@ -189,36 +221,6 @@ fn is_plain(bytes: &[u8]) -> bool
         read += 1;
     }
     true
-}
-
-/// Returns the span mark that `bytes` begin with, if they begin with one.
-#[inline(always)]
-pub(crate) fn mark_at(bytes: &[u8]) -> Option<SpanMark>
-    ensures { result ≡ mark_at bytes.now }
-{
-    if bytes.is_empty() || bytes[0] != b'<' {
-        None
-    } else {
-        tag_at(bytes)
-    }
-}
-
-/// Returns the span mark that `bytes` begin with, if they begin with one.
-#[inline(never)]
-fn tag_at(bytes: &[u8]) -> Option<SpanMark>
-    ensures { result ≡ mark_at bytes.now }
-{
-    if bytes.starts_with(b"<eu>") {
-        Some(SpanMark::OpensEu)
-    } else if bytes.starts_with(b"</eu>") {
-        Some(SpanMark::ClosesEu)
-    } else if bytes.starts_with(b"<nlba>") {
-        Some(SpanMark::OpensNlba)
-    } else if bytes.starts_with(b"</nlba>") {
-        Some(SpanMark::ClosesNlba)
-    } else {
-        None
-    }
 }
 
 /// Returns whether `bytes` begin with what is refused in a regular syllable beside `mark`: another
@@ -291,6 +293,7 @@ fn may_be_kept(bytes: &[u8], clear: usize) -> bool
 
 /// Returns how many bytes of `text` its longest prefix has that is a regular snippet of line
 /// `line`: of GABC on line 0, of NABC on each other.
+#[inline(always)]
 pub(crate) fn snippet_len(line: u8, text: &str) -> usize
     ensures { IsLongestPrefix (IsRegularOn line) text.now result }
 {
@@ -303,7 +306,7 @@ pub(crate) fn snippet_len(line: u8, text: &str) -> usize
 
 /// Returns how many bytes the snippets of a regular syllable have that `text` begins with under
 /// `lines` NABC lines, with the marks that end them; 0, if it begins with none.
-#[inline(never)]
+#[inline(always)]
 fn snippets_len(lines: u8, text: &str) -> usize
     ensures { 0 < result → BeginsWithSnippets lines text.now result }
 {

@@ -6,7 +6,7 @@ ghost use Rattle.gabc_places.specs.declared.place.Char.{Char};
 ghost use Rattle.gabc_places.specs.declared.place.Place.{Place};
 ghost use Rattle.gabc_places.specs.Place.{placed_characters_from};
 ghost use Rattle.gabc_text.specs.Events.{CountsFit};
-ghost use Rattle.gabc_score.specs.Events.{texts_by_definition, text_from, behind_mark, events_from};
+ghost use Rattle.gabc_score.specs.Events.{texts_by_definition, text_from, after_mark, events_from};
 ghost use Rattle.gabc_score.specs.witness.BodyStage.{texts_by_stage};
 ghost use Rattle.gabc_score.specs.RegularSyllable.{SyllableParts, IsRegularSyllable, IsReadAsItStands, MakesItsSpelling, spelled, unit_at};
 ghost use Rattle.gabc_score.specs.Syllable.{UnplacedSyllable, since_close};
@@ -44,10 +44,10 @@ pub fn a_stage_reads_a_regular_syllable_as_it_stands()
         ≡ take (length us) (events_from texts_by_definition lines macros
         (text_from texts_by_definition at us) us)
         ++ events_from texts_by_stage lines macros
-        (text_from texts_by_stage (behind_mark (unit_at at r).final.end.place) xs) xs }
+        (text_from texts_by_stage (after_mark (unit_at at r).final.end.place) xs) xs }
 {
     gabc_text::laws::a_fresh_stage_emits_the_events_by_point();
-    gabc_text::laws::events_need_nothing_behind();
+    gabc_text::laws::events_need_nothing_after();
     gabc_text::laws::a_text_ends_once();
     gabc_text::laws::findings_lie_within();
     gabc_text::laws::a_regular_text_is_printed_as_it_stands();

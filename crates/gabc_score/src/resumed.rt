@@ -6,38 +6,30 @@ ghost use Rattle.std.specs.Str.{chars};
 ghost use Rattle.gabc_text.specs.TextStage.{fresh_stage};
 ghost use Rattle.gabc_score.specs.Before.{preceding_of};
 ghost use Rattle.gabc_score.specs.HeldAgain.{MayBeHeld};
-ghost use Rattle.gabc_score.specs.Resumed.{BeginsText, HoldsAgain, StandsBehind};
-ghost use Rattle.gabc_score.specs.ScoreTells.{before_of, before_with, held_of};
+ghost use Rattle.gabc_score.specs.Resumed.{BeginsText, HoldsAgain, IsAfterSyllables};
+ghost use Rattle.gabc_score.specs.ScoreReports.{before_of, before_with, held_of};
 ghost use Rattle.gabc_score.specs.Syllable.{UnplacedSyllable};
 ghost use Rattle.gabc_places.specs.TextOfAnInput.{IsText};
-ghost use Rattle.gabc_score.specs.ToldWithin.{IsAtOutset, TellsOfText};
+ghost use Rattle.gabc_score.specs.ReportedWithin.{IsAtOutset, ReportsText};
 ghost use Rattle.gabc_score.specs.machine.PartCounts.{CountsHold};
 ghost use Rattle.gabc_score.specs.machine.PartKeeps.{in_text, PartKeeps};
 ghost use Rattle.gabc_score.specs.machine.SyllableBuilder.{nothing_open};
 ghost use Rattle.gabc_score.specs.machine.ReadAlone.{is_error_event, BeginsAlone, HasRoomFor, HoldsAlone, IsFree, ReadsAll, ReadsAlone, StandsAlone};
-ghost use Rattle.gabc_score.specs.machine.Resumed.{first_sounded, gathered_behind};
+ghost use Rattle.gabc_score.specs.machine.Resumed.{gathered_behind};
 ghost use Rattle.gabc_score.specs.machine.ScoreMachine.{shown, IsInBody, IsScore};
 
 use crate::before::{Before, Preceding};
 use crate::body_stage::{BodyPart, BodyStage};
 use crate::bounds::Bounds;
+use crate::first_sound::FirstSound;
 use crate::score_event::ScoreEvent;
 use crate::score_machine::{ScoreMachine, ScorePart};
 use crate::score_stage::ScoreStage;
 use crate::slot_pair::SlotPair;
-use crate::stage_laws;
-use gabc_notes::ItemKind;
+use crate::{machine_laws, stage_laws};
 use gabc_places::{Char, Limits, Memory, Place, Room, Severity};
 use gabc_text::TextStage;
 use std::alloc::AllocError;
-
-/// Returns which came first, a note or a clef, where one has come: what was found of it counts no
-/// more.
-fn first_sounded(sounded: bool) -> Option<ItemKind>
-    ensures { result ≡ first_sounded sounded }
-{
-    if sounded { Some(ItemKind::Clef) } else { None }
-}
 
 impl Before {
     /// Returns what the syllables before come to.
@@ -64,7 +56,11 @@ impl SlotPair {
         self.nlba = before.spans.nlba;
         self.follows = 0 < before.syllables;
         self.total = before.canonical;
-        self.first_kind = first_sounded(before.sounded);
+        self.sounded = if before.sounded {
+            Some(FirstSound::Either)
+        } else {
+            None
+        };
     }
 }
 
@@ -84,7 +80,7 @@ impl ScoreMachine {
     /// `memory` what it ever takes.
     fn resume(memory: &Memory, limits: Limits, before: Before) -> Result<ScoreMachine, AllocError>
         requires { IsAtOutset (preceding_of before) }
-        ensures stands { IfOk result (λ m. StandsBehind limits before (shown m)) }
+        ensures stands { IfOk result (λ m. IsAfterSyllables limits before (shown m)) }
         ensures rests { IfOk result (λ m. IsScore m) }
     {
         let mut body = BodyStage::new(memory, 0, 0)?;
@@ -198,7 +194,7 @@ impl ScoreMachine {
             self.part = ScorePart::Over;
             return false;
         }
-        self.pair.at_most_one_is_held();
+        machine_laws::at_most_one_is_held(&self.pair);
         self.body.begin_text(Place::START);
         self.next = Place::START;
         true
@@ -214,7 +210,7 @@ impl ScoreStage {
     /// for want of memory.
     pub fn resume(memory: &Memory, limits: Limits, before: Before) -> Result<ScoreStage, AllocError>
         requires { IsAtOutset (preceding_of before) }
-        ensures { IfOk result (λ stage. StandsBehind limits before stage) }
+        ensures { IfOk result (λ stage. IsAfterSyllables limits before stage) }
     {
         Ok(ScoreStage {
             machine: ScoreMachine::resume(memory, limits, before)?,
@@ -234,8 +230,8 @@ impl ScoreStage {
         requires room { 16 ≤ room.old.limit }
         ensures room { room.new ≡ room.old }
         ensures held { result ≡ true → HoldsAgain (chars text.now) self.old self.new }
-        ensures told { result ≡ true → IsText text.now → TellsOfText self.old →
-            TellsOfText self.new }
+        ensures told { result ≡ true → IsText text.now → ReportsText self.old →
+            ReportsText self.new }
         ensures refused { result ≡ false → (m : UnplacedSyllable) →
             MayBeHeld self.old.limits (before_with self.old.body self.old.before)
             (chars text.now) m → ⊥ }

@@ -15,7 +15,7 @@ ghost use Rattle.gabc_score.specs.Syllable.{PlacedSyllable, UnplacedSyllable};
 ghost use Rattle.gabc_score.specs.machine.PartCounts.{CountsHold};
 ghost use Rattle.gabc_score.specs.machine.PartKeeps.{in_text, PartKeeps};
 ghost use Rattle.gabc_score.specs.RegularSyllable.{with_lines};
-ghost use Rattle.gabc_score.specs.machine.Run.{IsFound, IsSamePair, IsSpelledBy, IsSteady, SpellsFound, StandsBetween, RunsTo, RunsMore, len_of, mark_of, past_found, sounds_among};
+ghost use Rattle.gabc_score.specs.machine.Run.{EndsRun, GoesBefore, IsFound, IsSamePair, IsSpelledBy, IsSteady, SpellsFound, StandsBetween, RunsTo, RunsMore, TakesRun, len_of, mark_of, past_found, sounds_among};
 ghost use Rattle.gabc_score.specs.machine.SyllableBuilder.{nothing_open};
 ghost use Rattle.gabc_score.specs.machine.ScoreMachine.{shown, IsScore, IsShort};
 
@@ -64,6 +64,7 @@ fn clear_after(rest: &str, left: usize) -> usize
 /// Returns the regular syllable that `text` begins with, if it begins with one under `lines` NABC
 /// lines, and no limit is passed with it after `total` canonical bytes. The first `clear` bytes of
 /// `text` are known to be clear.
+#[inline(always)]
 fn find(lines: u8, limits: Limits, text: &str, clear: usize, total: usize) -> Option<Found<'_>>
     requires { All IsClearByte (take clear text.now) }
     ensures found { IfSome result (λ f. IsFound lines limits total f) }
@@ -252,10 +253,10 @@ impl ScoreMachine {
             (found.now.spelled.now ++ found.now.rest.now) (len_of found.now)) →
             IsSteady lines self.now.pair.gathered.first_kind is.syllable }
     {
-        if self.pair.first_kind().is_none() {
-            return found.sounds(lines);
+        if self.pair.has_sounded() {
+            return false;
         }
-        false
+        found.sounds(lines)
     }
 
     /// Gives the syllable that is held to `out`, before one that begins a word or not. Returns
@@ -265,7 +266,6 @@ impl ScoreMachine {
         requires short { All (IsShort self.old.limits.syllable) self.old.pair.gathered.made }
         requires one { length self.old.pair.gathered.made ≡ 1 }
         ensures same { IsSamePair self.old self.new }
-        ensures used { self.new.pair.used ≡ SlotUse.Filling }
         ensures given { result ≡ true → (m : UnplacedSyllable) → self.old.pair.gathered.made ≡ m ∷ [] →
             out.new ≡ G.given out.old (record {
               made = m;
@@ -283,6 +283,7 @@ impl ScoreMachine {
 
     /// Gives the syllables of a run to `out`, from the one that `reached` has found on, as long as
     /// one follows and `out` takes them. Returns where it stands then.
+    #[inline(never)]
     fn give_on<'a, G: Give>(&self, begun: Reached<'a>, out: &mut G) -> Reached<'a>
         requires found { IsFound self.now.body.nabc_lines self.now.limits begun.before.canonical
             begun.last }
@@ -314,25 +315,7 @@ impl ScoreMachine {
     /// those before it are given, none is held.
     fn go_before(&mut self, reached: Reached<'_>, at: Place)
         requires { self.old.pair.used ≡ SlotUse.Filling }
-        ensures gathered { self.new.pair.gathered ≡ record self.old.pair.gathered {
-          made = [];
-          total = reached.entry.before.canonical;
-          eu = reached.entry.before.spans.eu;
-          nlba = reached.entry.before.spans.nlba;
-        } }
-        ensures used { self.new.pair.used ≡ SlotUse.Filling }
-        ensures body { self.new.body ≡ record self.old.body {
-          part = BodyPart.Text (fresh_stage at);
-        } }
-        ensures counts { CountsHold self.new.body.part nothing_open }
-        ensures keeps { (lines macros : ℕ) → PartKeeps lines macros self.new.body.part (in_text []) }
-        ensures is { self.new ≡ record self.old {
-          pair = self.new.pair;
-          has_lent = true;
-          bounds = record { before = reached.entry.before; behind = reached.entry.before };
-          body = self.new.body;
-          next = at;
-        } }
+        ensures { GoesBefore self.old reached.entry.before at self.new }
     {
         self.pair
             .forget_held(reached.before.canonical, reached.before.spans);
@@ -359,14 +342,7 @@ impl ScoreMachine {
         requires empty { room.old.items ≡ [] }
         requires room { 16 ≤ room.old.limit }
         ensures room { room.new ≡ room.old }
-        ensures within { IsSplitPoint text.now result.bytes }
-        ensures plain { All IsPlain (chars (take result.bytes text.now)) }
-        ensures next { result.next ≡ place_past at (chars (take result.bytes text.now)) }
-        ensures gives { (given : List PlacedSyllable) →
-            RunsTo self.old at text.now given reached.entry →
-            GivesSyllables (shown self.old) at (chars (take result.bytes text.now)) given
-            (shown self.new) }
-        ensures rests { IsScore self.new }
+        ensures ends { EndsRun self.old at text.now reached.entry result self.new }
     {
         regular_laws::a_regular_syllable_goes_through();
         let last = reached.last;
@@ -393,12 +369,8 @@ impl ScoreMachine {
         requires empty { room.old.items ≡ [] }
         requires room { 16 ≤ room.old.limit }
         ensures room { room.new ≡ room.old }
-        ensures within { IsSplitPoint text.now result.bytes }
-        ensures plain { All IsPlain (chars (take result.bytes text.now)) }
-        ensures next { result.next ≡ place_past at (chars (take result.bytes text.now)) }
-        ensures runs { Runs G.given (shown self.old) at (chars (take result.bytes text.now))
-            (shown self.new) out.old out.new }
-        ensures rests { IsScore self.new }
+        ensures takes { TakesRun G.given self.old at text.now result self.new
+            out.old out.new }
     {
         let none = Run { bytes: 0, next: at };
         if !is_low(at, text) || !self.is_between(at) {

@@ -4,7 +4,7 @@ use gabc_places::{Fault, Finding};
 
 /// Which of the syllables that a stage gave with one call.
 #[derive(Clone, Copy, Debug, PartialEq, Eq)]
-pub enum LentSyllable {
+pub enum BorrowedSyllable {
     /// The first of them.
     First,
     /// The one after it.
@@ -19,7 +19,7 @@ pub enum ScoreEvent {
     /// The score is stopped here. Nothing follows.
     Stop(Fault),
     /// A whole syllable with its position, which the stage lends until its next call.
-    Syllable(LentSyllable),
+    Syllable(BorrowedSyllable),
     /// The score has ended. Nothing follows.
     End,
 }

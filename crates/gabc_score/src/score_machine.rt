@@ -5,15 +5,14 @@ ghost use Rattle.gabc_headers.specs.declared.head_event.HeadEvent.{HeadEvent as 
 ghost use Rattle.gabc_score.specs.declared.body_stage.BodyPart.{BodyPart};
 ghost use Rattle.gabc_score.specs.witness.BodyStage.{running_events_left};
 ghost use Rattle.gabc_places.specs.BoundedList.{Fits};
-ghost use Rattle.gabc_places.specs.StageLaw.{concat_of};
-ghost use Rattle.gabc_score.specs.ScoreEvents.{outputs_of, Stop, characters_in, syllables_in};
+ghost use Rattle.gabc_score.specs.ScoreEvents.{outputs_of, Stop, characters_in};
 ghost use Rattle.gabc_score.specs.ScoreStage.{GivesOutputs, GivesAt, GivesLast};
-ghost use Rattle.gabc_score.specs.ScoreTells.{before_with, held_of, reading_of};
+ghost use Rattle.gabc_score.specs.ScoreReports.{before_with, held_of, reading_of};
 ghost use Rattle.gabc_score.specs.Syllable.{unplaced_of};
 ghost use Rattle.gabc_score.specs.witness.ScoreStage.{left_of};
 ghost use Rattle.gabc_score.specs.machine.ScoreStage.{placed_behind, begun_score, body_left};
 ghost use Rattle.gabc_score.specs.machine.ScoreMachine.{shown, IsInBody, IsBeforeBody, IsScore, KeepsMemory};
-ghost use Rattle.gabc_score.specs.machine.ReadAlone.{Reads};
+ghost use Rattle.gabc_score.specs.machine.ReadsChar.{EndsInputs, Gathers, ReadsChar, StandsInBody, StopsWith, TakesInput};
 
 use crate::before::Before;
 use crate::body_stage::{BodyPart, BodyStage};
@@ -45,7 +44,7 @@ pub(crate) struct ScoreMachine {
     pub(crate) found: Room<Finding>,
     /// The place after the last character of the body.
     pub(crate) next: Place,
-    /// Whether a syllable was lent.
+    /// Whether a syllable was borrowed.
     pub(crate) has_lent: bool,
     /// What stands before and after what is held.
     pub(crate) bounds: Bounds,
@@ -104,33 +103,37 @@ impl ScoreMachine {
     fn stop(&mut self, fault: Fault, out: &mut Room<ScoreEvent>)
         requires used { self.old.pair.used ≢ SlotUse.Lent }
         requires fits { Fits out.old 16 }
-        ensures part { self.new.part ≡ ScorePart.Over }
-        ensures limits { self.new.limits ≡ self.old.limits }
-        ensures keeps { KeepsMemory self.old → KeepsMemory self.new }
-        ensures emitted { GivesOutputs
-            (outputs_of [] (placed_behind self.old.has_lent self.old.pair.held) ++ Stop fault ∷ [])
-            out.old out.new self.new.pair.first self.new.pair.second }
-        ensures few { length (placed_behind self.old.has_lent self.old.pair.held) ≤ 1 }
+        ensures { StopsWith self.old fault self.new out.old out.new }
     {
         give_stop(&mut self.pair, self.has_lent, fault, out);
         self.part = ScorePart::Over;
     }
 
-    /// Reads a character of the body.
-    pub(crate) fn read(&mut self, x: Char, out: &mut Room<ScoreEvent>)
-        requires part { self.old.part ≡ ScorePart.Body }
-        requires rests { IsInBody self.old }
-        requires fits { Fits out.old 16 }
-        ensures step { GivesAt (shown self.old) (HeadEvent.Body x)
-            (shown self.new) out.old out.new }
-        ensures rests { IsScore self.new }
-        ensures reads { Reads self.old self.new x out.old out.new }
+    /// Reads a character of the body, and adds what the body emits to what was gathered.
+    #[inline(always)]
+    pub(crate) fn gather(&mut self, x: Char)
+        requires { IsInBody self.old }
+        ensures gathers { Gathers self.old x self.new.body self.new.pair self.new.found }
+        ensures same { self.new ≡ record self.old {
+          body = self.new.body;
+          pair = self.new.pair;
+          found = self.new.found;
+        } }
     {
         self.pair.free();
-        let was = self.pair.first_kind();
         self.body.take(x);
         self.body.hold(&mut self.pair, &mut self.found);
-        find_first(was, self.pair.first_kind(), x.place, &mut self.found);
+    }
+
+    /// Reads a character of the body.
+    pub(crate) fn read(&mut self, x: Char, out: &mut Room<ScoreEvent>)
+        requires stands { StandsInBody self.old }
+        requires fits { Fits out.old 16 }
+        ensures { ReadsChar self.old x out.old out.new self.new }
+    {
+        let was = self.pair.sounded();
+        self.gather(x);
+        find_first(was, self.pair.sounded(), x.place, &mut self.found);
         match self.pair.code(self.limits) {
             Some(code) => self.stop(
                 Fault {
@@ -151,12 +154,9 @@ impl ScoreMachine {
 
     /// Reads the end of the body.
     fn end(&mut self, out: &mut Room<ScoreEvent>)
-        requires part { self.old.part ≡ ScorePart.Body }
-        requires rests { IsInBody self.old }
+        requires stands { StandsInBody self.old }
         requires fits { Fits out.old 16 }
-        ensures step { GivesAt (shown self.old) HeadEvent.End (shown self.new) out.old out.new }
-        ensures part { self.new.part ≡ ScorePart.Over }
-        ensures keeps { KeepsMemory self.new }
+        ensures { TakesInput self.old HeadEvent.End out.old out.new self.new }
     {
         self.pair.free();
         self.body.close();
@@ -181,11 +181,9 @@ impl ScoreMachine {
 
     /// Reads an input in the body.
     fn push_in_body(&mut self, input: HeadEvent, out: &mut Room<ScoreEvent>)
-        requires part { self.old.part ≡ ScorePart.Body }
-        requires rests { IsInBody self.old }
+        requires stands { StandsInBody self.old }
         requires fits { Fits out.old 16 }
-        ensures step { GivesAt (shown self.old) input (shown self.new) out.old out.new }
-        ensures rests { IsScore self.new }
+        ensures { TakesInput self.old input out.old out.new self.new }
     {
         match input {
             HeadEvent::Body(x) => self.read(x, out),
@@ -204,8 +202,7 @@ impl ScoreMachine {
         requires part { self.old.part ≡ ScorePart.Heads }
         requires rests { IsBeforeBody self.old }
         requires fits { Fits out.old 16 }
-        ensures step { GivesAt (shown self.old) input (shown self.new) out.old out.new }
-        ensures rests { IsScore self.new }
+        ensures { TakesInput self.old input out.old out.new self.new }
     {
         match input {
             HeadEvent::Found(finding) => out.push(ScoreEvent::Found(finding)),
@@ -236,8 +233,7 @@ impl ScoreMachine {
     pub(crate) fn push(&mut self, input: HeadEvent, out: &mut Room<ScoreEvent>)
         requires rests { IsScore self.old }
         requires fits { Fits out.old 16 }
-        ensures step { GivesAt (shown self.old) input (shown self.new) out.old out.new }
-        ensures rests { IsScore self.new }
+        ensures { TakesInput self.old input out.old out.new self.new }
     {
         match self.part {
             ScorePart::Heads => self.push_in_heads(input, out),
@@ -284,26 +280,11 @@ impl ScoreMachine {
         }
     }
 
-    /// Does nothing. Its contract is a law: where the inputs cease, at most one syllable is given.
-    #[inline(always)]
-    pub(crate) fn at_most_one_is_held(&self)
-        requires rests { IsScore self.now }
-        ensures { length (syllables_in (concat_of (left_of (shown self.now) []))) ≤ 1 }
-    {
-        match self.part {
-            ScorePart::Body => self.pair.at_most_one_is_held(),
-            ScorePart::Heads | ScorePart::Over => {}
-        }
-    }
-
     /// Breaks off in the body: the source has failed.
     fn break_off(&mut self, out: &mut Room<ScoreEvent>)
-        requires part { self.old.part ≡ ScorePart.Body }
-        requires rests { IsInBody self.old }
+        requires stands { StandsInBody self.old }
         requires fits { Fits out.old 16 }
-        ensures step { GivesLast (shown self.old) (shown self.new) out.old out.new }
-        ensures part { self.new.part ≡ ScorePart.Over }
-        ensures keeps { KeepsMemory self.new }
+        ensures { EndsInputs self.old out.old out.new self.new }
     {
         self.pair.free();
         give_broken(&mut self.pair, self.has_lent, out);
@@ -314,9 +295,7 @@ impl ScoreMachine {
     pub(crate) fn finish(&mut self, out: &mut Room<ScoreEvent>)
         requires rests { IsScore self.old }
         requires fits { Fits out.old 16 }
-        ensures step { GivesLast (shown self.old) (shown self.new) out.old out.new }
-        ensures part { self.new.part ≡ ScorePart.Over }
-        ensures keeps { KeepsMemory self.new }
+        ensures { EndsInputs self.old out.old out.new self.new }
     {
         match self.part {
             ScorePart::Body => self.break_off(out),

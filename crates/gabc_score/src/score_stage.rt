@@ -3,17 +3,16 @@
 ghost use Rattle.std.specs.Prelude.{◌≡◌, ◌≤◌, List, [], length, take, None, Some, IfOk, MatchOption};
 ghost use Rattle.gabc_headers.specs.declared.head_event.HeadEvent.{HeadEvent};
 ghost use Rattle.gabc_score.specs.witness.BodyStage.{texts_by_stage};
-ghost use Rattle.gabc_places.specs.StageLaw.{concat_of};
-ghost use Rattle.gabc_score.specs.ScoreEvents.{score_outputs, syllables_in};
+ghost use Rattle.gabc_score.specs.ScoreEvents.{score_outputs};
 ghost use Rattle.std.specs.List.{All};
 ghost use Rattle.std.specs.Str.{chars};
 ghost use Rattle.std.specs.String.Boundary.{IsSplitPoint};
 ghost use Rattle.gabc_places.specs.Place.{place_past};
 ghost use Rattle.gabc_places.specs.TextOfAnInput.{IsPlain};
 ghost use Rattle.gabc_score.specs.GivesSyllables.{Runs};
-ghost use Rattle.gabc_score.specs.ScoreStage.{AreCountsBelow, lent_in};
+ghost use Rattle.gabc_score.specs.ScoreStage.{AreCountsBelow, borrowed_in};
 ghost use Rattle.gabc_score.specs.witness.ScoreStage.{left_of};
-ghost use Rattle.gabc_score.specs.ScoreTells.{before_of, held_of, in_body, is_in_comment, moved_to, next_of, openers_of, reading_of};
+ghost use Rattle.gabc_score.specs.ScoreReports.{before_of, held_of, in_body, is_in_comment, moved_to, next_of, openers_of, reading_of};
 ghost use Rattle.gabc_score.specs.Syllable.{placed_of, unplaced_of};
 
 use crate::before::Before;
@@ -21,7 +20,7 @@ use crate::body_stage::BodyStage;
 use crate::body_tells::Openers;
 use crate::bounds::Bounds;
 use crate::give::{Give, Run};
-use crate::score_event::{LentSyllable, ScoreEvent};
+use crate::score_event::{BorrowedSyllable, ScoreEvent};
 use crate::score_machine::{ScoreMachine, ScorePart};
 use crate::slot_pair::SlotPair;
 use crate::syllable::Syllable;
@@ -87,8 +86,8 @@ impl ScoreStage {
         })
     }
 
-    /// Begins a score, as a new stage does, wherever the stage stands. What was lent is taken back.
-    /// It keeps its limits and its memory, and asks for none.
+    /// Begins a score, as a new stage does, wherever the stage stands. What was borrowed is taken
+    /// back. It keeps its limits and its memory, and asks for none.
     pub fn restart(&mut self)
         ensures outputs { (xs : List HeadEvent) → AreCountsBelow xs →
             left_of self.new xs ≡ score_outputs texts_by_stage self.old.limits xs }
@@ -120,14 +119,6 @@ impl ScoreStage {
             out.old out.new }
     {
         self.machine.take_run(at, text, room, out)
-    }
-
-    /// Does nothing. Its contract is a law: where the inputs cease, at most one syllable is given.
-    #[inline(always)]
-    pub(crate) fn at_most_one_is_held(&self)
-        ensures { length (syllables_in (concat_of (left_of self.now []))) ≤ 1 }
-    {
-        self.machine.at_most_one_is_held();
     }
 
     /// Returns how much it keeps.
@@ -205,12 +196,12 @@ impl ScoreStage {
 
     /// Returns the syllable that the last call gave as `lent`. What it returns where none was given
     /// is not said.
-    pub fn syllable(&self, lent: LentSyllable) -> &Syllable
-        ensures { placed_of result.now ≡ lent_in lent self.now }
+    pub fn syllable(&self, lent: BorrowedSyllable) -> &Syllable
+        ensures { placed_of result.now ≡ borrowed_in lent self.now }
     {
         match lent {
-            LentSyllable::First => self.machine.pair.first(),
-            LentSyllable::Second => self.machine.pair.second(),
+            BorrowedSyllable::First => self.machine.pair.first(),
+            BorrowedSyllable::Second => self.machine.pair.second(),
         }
     }
 }

@@ -1,9 +1,9 @@
 //! A syllable that is read in room reserved for it.
 
+use crate::first_sound::{FirstSound, first_sound};
 use crate::slice::slice_of;
 use crate::snippets::{Snippet, Snippets};
 use crate::syllable::{Position, Syllable};
-use gabc_notes::{ItemKind, first_note_or_clef};
 use gabc_places::{Memory, Span};
 use gabc_text::{TextPart, TextView};
 use std::alloc::AllocError;
@@ -37,6 +37,7 @@ impl Slot {
     ghost use Rattle.gabc_text.specs.BuiltText.{with_part};
     ghost use Rattle.gabc_score.specs.Body.{empty_snippet};
     ghost use Rattle.gabc_score.specs.Syllable.{slice, text_at, placed_of, unplaced_of};
+    ghost use Rattle.gabc_score.specs.machine.FirstSound.{kind_of};
     ghost use Rattle.gabc_score.specs.machine.Gatherer.{span_of};
     ghost use Rattle.gabc_score.specs.machine.Slot.{placed_in, made_in, FitsKept, FitsPiece, FitsSnippet};
     ghost use Rattle.gabc_score.specs.machine.SyllableBuilder.{nothing_open, with_kept, past_mark, past_text, past_snippet};
@@ -171,23 +172,23 @@ impl Slot {
 
     /// Returns which comes first in the snippet of this span, a note or a clef.
     #[inline(always)]
-    pub(crate) fn first_kind_in(&self, span: Span) -> Option<ItemKind>
-        ensures { result
+    pub(crate) fn first_sound_in(&self, span: Span) -> Option<FirstSound>
+        ensures { kind_of result
             ≡ first_note_or_clef (items_of (text_at span self.now.reading.kept)) }
     {
         if span.to <= span.from {
             return None;
         }
-        self.first_kind_read(span)
+        self.first_sound_read(span)
     }
 
     /// Returns which comes first in the snippet of this span, by reading its items.
     #[inline(never)]
-    fn first_kind_read(&self, span: Span) -> Option<ItemKind>
-        ensures { result
+    fn first_sound_read(&self, span: Span) -> Option<FirstSound>
+        ensures { kind_of result
             ≡ first_note_or_clef (items_of (text_at span self.now.reading.kept)) }
     {
-        first_note_or_clef(self.syllable.text_at(span))
+        first_sound(self.syllable.text_at(span))
     }
 
     /// Returns the syllable.

@@ -5,9 +5,10 @@ ghost use Rattle.std.specs.Prelude.{IfOk};
 ghost use Rattle.gabc_score.specs.machine.SyllableBuilder.{nothing_open};
 
 use crate::canonical::canonical_len;
+use crate::first_sound::FirstSound;
 use crate::slot::Slot;
 use crate::syllables::position_by;
-use gabc_notes::{ItemKind, NoteEnd, NoteEvent};
+use gabc_notes::{NoteEnd, NoteEvent};
 use gabc_places::{Code, Fault, Limits, Memory, Place, Span};
 use gabc_text::{Piece, PieceKind, TextEnd, TextEvent, TextPart, TextView};
 use std::alloc::AllocError;
@@ -47,8 +48,8 @@ pub(crate) struct SlotPair {
     over: bool,
     /// Where the bracket stands that the end of the input leaves open.
     cut: Option<Place>,
-    /// Which came first in the GABC snippets that have ended, a note or a clef.
-    pub(crate) first_kind: Option<ItemKind>,
+    /// What came first in the GABC snippets that have ended, if a note or a clef has come.
+    pub(crate) sounded: Option<FirstSound>,
 }
 
 /// Returns a slot with room for a syllable of `limit` bytes, in `memory`.
@@ -65,6 +66,7 @@ fn boxed(memory: &Memory, limit: usize) -> Result<Box<Slot, Memory>, AllocError>
 
 impl Model for SlotPair {
     ghost use Rattle.std.specs.Prelude.{◌≡◌, ◌++◌};
+    ghost use Rattle.gabc_score.specs.machine.FirstSound.{kind_of};
     ghost use Rattle.gabc_score.specs.machine.Slot.{placed_in};
     ghost use Rattle.gabc_score.specs.machine.SlotPair.{SlotPairState, reading_in, held_in, made_last, first_in};
 
@@ -81,7 +83,7 @@ impl Model for SlotPair {
         total = s.total;
         over = s.over;
         cut = s.cut;
-        first_kind = s.first_kind;
+        first_kind = kind_of s.sounded;
       };
       held = held_in s.held s.holder.value;
       used = s.used;
@@ -99,7 +101,7 @@ impl SlotPair {
     ghost use Rattle.gabc_score.specs.machine.Gatherer.{nothing_gathered, with_mark, with_mark_of, with_text_end, with_text, with_syllable, with_note_end, with_note, with_last, awaits, first_past};
     ghost use Rattle.gabc_score.specs.machine.ScoreStage.{placed_behind, with_held};
     ghost use Rattle.gabc_score.specs.machine.Slot.{FitsText, FitsNote, FitsKept, FitsSnippet};
-    ghost use Rattle.gabc_score.specs.machine.SlotPair.{is_made, used_past, lent_syllables};
+    ghost use Rattle.gabc_score.specs.machine.SlotPair.{HasGathered, LendsLast, is_made, used_past, lent_syllables};
 
     /// Returns two slots in which nothing was read, and reserves room for syllables of `limit`
     /// bytes in `memory`.
@@ -120,7 +122,7 @@ impl SlotPair {
             total: 0,
             over: false,
             cut: None,
-            first_kind: None,
+            sounded: None,
         })
     }
 
@@ -138,7 +140,7 @@ impl SlotPair {
         self.total = 0;
         self.over = false;
         self.cut = None;
-        self.first_kind = None;
+        self.sounded = None;
     }
 
     /// Begins the count of canonical bytes with `head`, those of the headers.
@@ -150,7 +152,7 @@ impl SlotPair {
         self.total = head;
     }
 
-    /// Takes back what was lent.
+    /// Takes back what was borrowed.
     pub(crate) fn free(&mut self)
         requires { is_made self.old.used ≡ false }
         ensures gathered { self.new.gathered ≡ self.old.gathered }
@@ -165,24 +167,13 @@ impl SlotPair {
         self.used = SlotUse::Filling;
     }
 
-    /// Does nothing. Its contract is a law: where no slot holds a syllable beside the one held, at
-    /// most one was gathered.
-    #[inline(always)]
-    pub(crate) fn at_most_one_is_held(&self)
-        requires { is_made self.now.used ≡ false }
-        ensures { length self.now.gathered.made ≤ 1 }
-    {
-        let _ = &self.held;
-    }
-
     /// Adds what a text emits next.
     #[inline(always)]
     pub(crate) fn add_text(&mut self, event: TextEvent)
         requires reads { self.old.used ≡ SlotUse.Filling }
         requires fits { FitsText self.old.gathered.limit self.old.gathered.builder event }
-        ensures gathered { self.new.gathered ≡ with_text self.old.gathered event }
-        ensures held { self.new.held ≡ self.old.held }
-        ensures used { self.new.used ≡ SlotUse.Filling }
+        ensures { HasGathered self.old (with_text self.old.gathered event)
+            SlotUse.Filling self.new }
     {
         match event {
             TextEvent::Kept(kept) => self.reader.keep(kept.c),
@@ -223,9 +214,8 @@ impl SlotPair {
     fn end_text(&mut self, end: TextEnd)
         requires reads { self.old.used ≡ SlotUse.Filling }
         requires fits { FitsKept self.old.gathered.limit self.old.gathered.builder 4 }
-        ensures gathered { self.new.gathered ≡ with_text_end self.old.gathered end }
-        ensures held { self.new.held ≡ self.old.held }
-        ensures used { self.new.used ≡ SlotUse.Filling }
+        ensures { HasGathered self.old (with_text_end self.old.gathered end)
+            SlotUse.Filling self.new }
     {
         match end {
             TextEnd::Notes => self.reader.end_text(),
@@ -239,9 +229,8 @@ impl SlotPair {
     pub(crate) fn add_note(&mut self, line: u8, event: NoteEvent)
         requires reads { self.old.used ≡ SlotUse.Filling }
         requires fits { FitsNote self.old.gathered.limit self.old.gathered.builder event }
-        ensures gathered { self.new.gathered ≡ with_note self.old.gathered line event }
-        ensures held { self.new.held ≡ self.old.held }
-        ensures used { self.new.used ≡ used_past event }
+        ensures { HasGathered self.old (with_note self.old.gathered line event)
+            (used_past event) self.new }
     {
         match event {
             NoteEvent::Kept(kept) => self.reader.keep(kept.c),
@@ -255,18 +244,17 @@ impl SlotPair {
         requires reads { self.old.used ≡ SlotUse.Filling }
         requires kept { FitsKept self.old.gathered.limit self.old.gathered.builder 4 }
         requires snippet { FitsSnippet self.old.gathered.limit self.old.gathered.builder }
-        ensures gathered { self.new.gathered ≡ with_note_end self.old.gathered line how count }
-        ensures held { self.new.held ≡ self.old.held }
-        ensures used { self.new.used ≡ used_past (NoteEvent.Ended how count) }
+        ensures { HasGathered self.old (with_note_end self.old.gathered line how count)
+            (used_past (NoteEvent.Ended how count)) self.new }
     {
         match how {
             NoteEnd::Next => {
                 let span = self.reader.end_snippet(line, count, '|');
-                self.add_first_kind(line, span);
+                self.add_first_sound(line, span);
             }
             NoteEnd::Close => {
                 let span = self.reader.end_snippet(line, count, ')');
-                self.add_first_kind(line, span);
+                self.add_first_sound(line, span);
                 self.close();
             }
             NoteEnd::Cut(place) => self.cut = Some(place),
@@ -278,29 +266,27 @@ impl SlotPair {
     fn awaits_on(&self, line: u8) -> bool
         ensures { result ≡ awaits self.now.gathered.first_kind line }
     {
-        line == 0 && self.first_kind.is_none()
+        line == 0 && self.sounded.is_none()
     }
 
     /// Finds the first note or clef in the snippet of `line` that has ended, which has this span,
     /// where neither came before.
     #[inline(always)]
-    fn add_first_kind(&mut self, line: u8, span: Span)
+    fn add_first_sound(&mut self, line: u8, span: Span)
         requires { self.old.used ≡ SlotUse.Filling }
         ensures { let g = self.old.gathered in self.new ≡ record self.old {
           gathered = record g { first_kind = first_past g.first_kind line span g.builder.kept };
         } }
     {
         if self.awaits_on(line) {
-            self.first_kind = self.reader.first_kind_in(span);
+            self.sounded = self.reader.first_sound_in(span);
         }
     }
 
     /// Makes the syllable that was read whole.
     fn close(&mut self)
         requires { self.old.used ≡ SlotUse.Filling }
-        ensures gathered { self.new.gathered ≡ with_syllable self.old.gathered }
-        ensures held { self.new.held ≡ self.old.held }
-        ensures used { self.new.used ≡ SlotUse.Made }
+        ensures { HasGathered self.old (with_syllable self.old.gathered) SlotUse.Made self.new }
     {
         self.reader.close(self.eu, self.nlba);
         let starts = !self.follows || self.reader.syllable().text.word_start;
@@ -385,7 +371,7 @@ impl SlotPair {
     }
 
     /// Gives the held syllable where the one that was read is whole, which is held from then on.
-    /// `has_lent` says whether one was lent before. Returns how many it gave, one or none.
+    /// `has_lent` says whether one was borrowed before. Returns how many it gave, one or none.
     pub(crate) fn turn(&mut self, has_lent: bool) -> usize
         ensures gathered { self.new.gathered ≡ with_held self.old.gathered }
         ensures lends { lent_syllables result self.new ≡ take (length self.old.gathered.made - 1)
@@ -415,9 +401,7 @@ impl SlotPair {
     /// Gives the held syllable as the last one. Returns how many it gave, one or none.
     pub(crate) fn give_held(&mut self, has_lent: bool) -> usize
         requires { self.old.used ≢ SlotUse.Lent }
-        ensures limit { self.new.gathered.limit ≡ self.old.gathered.limit }
-        ensures lends { lent_syllables result self.new ≡ placed_behind has_lent self.old.held }
-        ensures most { result ≤ 1 }
+        ensures { LendsLast self.old (placed_behind has_lent self.old.held) 1 result self.new }
     {
         let starts = !has_lent || self.holder.syllable().text.word_start;
         self.holder.place(position_by(starts, true));
@@ -427,9 +411,8 @@ impl SlotPair {
     /// Gives the held syllable, and after it the one that was made last. Returns how many it gave.
     pub(crate) fn give_all(&mut self, has_lent: bool) -> usize
         requires { self.old.used ≢ SlotUse.Lent }
-        ensures limit { self.new.gathered.limit ≡ self.old.gathered.limit }
-        ensures lends { lent_syllables result self.new ≡ placed_behind has_lent self.old.gathered.made }
-        ensures most { result ≤ 2 }
+        ensures { LendsLast self.old (placed_behind has_lent self.old.gathered.made) 2
+            result self.new }
     {
         let SlotUse::Made = self.used else {
             return self.give_held(has_lent);

@@ -1,14 +1,15 @@
 //! What two slots report of what was gathered.
 
 use crate::before::Spans;
+use crate::first_sound::FirstSound;
 use crate::slot_pair::{SlotPair, SlotUse};
 use crate::syllable::Syllable;
-use gabc_notes::ItemKind;
 
 impl SlotPair {
-    ghost use Rattle.std.specs.Prelude.{◌≡◌, ◌||◌, not, nat_lt, [], ◌∷◌, length, false, MatchOption};
+    ghost use Rattle.std.specs.Prelude.{◌≡◌, ◌||◌, not, nat_lt, [], ◌∷◌, length, is_some, false, MatchOption};
     ghost use Rattle.gabc_score.specs.Syllable.{placed_of, unplaced_of};
     ghost use Rattle.gabc_score.specs.Body.{is_none};
+    ghost use Rattle.gabc_score.specs.machine.FirstSound.{kind_of};
     ghost use Rattle.gabc_score.specs.machine.Preceded.{spans_of};
     ghost use Rattle.gabc_score.specs.machine.SlotPair.{is_made};
 
@@ -44,12 +45,20 @@ impl SlotPair {
         }
     }
 
-    /// Returns which came first in the GABC snippets that have ended, a note or a clef.
+    /// Returns what came first in the GABC snippets that have ended, if a note or a clef has come.
     #[inline(always)]
-    pub(crate) fn first_kind(&self) -> Option<ItemKind>
-        ensures { result ≡ self.now.gathered.first_kind }
+    pub(crate) fn sounded(&self) -> Option<FirstSound>
+        ensures { kind_of result ≡ self.now.gathered.first_kind }
     {
-        self.first_kind
+        self.sounded
+    }
+
+    /// Returns whether a note or a clef has come.
+    #[inline(always)]
+    pub(crate) fn has_sounded(&self) -> bool
+        ensures { result ≡ is_some self.now.gathered.first_kind }
+    {
+        self.sounded.is_some()
     }
 
     /// Returns whether a span is open.
@@ -90,7 +99,7 @@ impl SlotPair {
         }
     }
 
-    /// Returns the first syllable that may be lent.
+    /// Returns the first syllable that may be borrowed.
     pub(crate) fn first(&self) -> &Syllable
         ensures { placed_of result.now ≡ self.now.first }
     {
@@ -100,7 +109,7 @@ impl SlotPair {
         }
     }
 
-    /// Returns the second syllable that may be lent.
+    /// Returns the second syllable that may be borrowed.
     pub(crate) fn second(&self) -> &Syllable
         ensures { placed_of result.now ≡ self.now.second }
     {

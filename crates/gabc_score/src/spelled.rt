@@ -107,6 +107,7 @@ impl<'a> SpelledSnippet<'a> {
 
 impl<'a> SpelledSnippets<'a> {
     /// Returns how many bytes the next snippet has.
+    #[inline(never)]
     fn next_len(self) -> usize
         requires { (nexts : List (List ℕ)) × ((final : List ℕ) × AreToCome self nexts final) }
         ensures { (nexts : List (List ℕ)) (final : List ℕ) → AreToCome self.entry nexts final →

@@ -1,7 +1,7 @@
 //! Laws of a stage over a score. Each function's contract is a law. Its body drives a stage, gives
 //! it one input, calls other laws, or does nothing.
 
-ghost use Rattle.std.specs.Prelude.{◌≡◌, ◌==◌, ◌+◌, ◌*◌, ◌<◌, ◌≤◌, ◌^◌, ℕ, List, [], ◌∷◌, None, true, false, length, map, is_some, option_to_list, encode_utf8_all, IfOk, IfSome, OnErr, OnOk, Ok};
+ghost use Rattle.std.specs.Prelude.{◌≡◌, ◌==◌, ◌+◌, ◌*◌, ◌<◌, ◌≤◌, ◌^◌, ℕ, List, [], ◌∷◌, None, Some, true, false, length, map, is_some, option_to_list, encode_utf8_all, IfOk, IfSome, OnErr, OnOk, Ok};
 ghost use Rattle.gabc_headers.specs.declared.head_event.HeadEvent.{HeadEvent};
 ghost use Rattle.gabc_headers.specs.declared.head_event.HeadEvent.TheVariants.{Stop};
 ghost use Rattle.std.specs.List.{All};
@@ -22,26 +22,26 @@ ghost use Rattle.gabc_score.specs.declared.ending.InputEnding.{InputEnding};
 ghost use Rattle.gabc_score.specs.Events.{texts_by_definition, text_from, events_from};
 ghost use Rattle.gabc_score.specs.ScoreEvents.{HasNoEnd, ScoreOutput, fault_in, findings_in, has_end, head_events, outputs_of_text, score_outputs, syllables_in};
 ghost use Rattle.gabc_score.specs.HeldAside.{HoldTheSame, GiveTheSame};
-ghost use Rattle.gabc_score.specs.StandAlike.{StandAlike};
+ghost use Rattle.gabc_score.specs.AreEquivalent.{AreEquivalent};
 ghost use Rattle.gabc_score.specs.HeldAgain.{IsOneSyllable, MayBeHeld};
-ghost use Rattle.gabc_score.specs.ReadAgain.{CanBeReadInText, StandsBefore};
-ghost use Rattle.gabc_score.specs.Resumed.{BeginsText, StandsBehind};
+ghost use Rattle.gabc_score.specs.ReadAgain.{CanBeReadInText, ComesBefore};
+ghost use Rattle.gabc_score.specs.Resumed.{BeginsText, IsAfterSyllables};
 ghost use Rattle.gabc_score.specs.declared.before.Before.{Before};
 ghost use Rattle.gabc_score.specs.declared.before.Spans.{Spans};
-ghost use Rattle.gabc_score.specs.ScoreTells.{before_of, held_of, moved_to, reading_of, openers_of, is_in_comment, is_in_front, StandsAt, StandsInFront};
-ghost use Rattle.gabc_score.specs.ScoreStage.{AreCountsBelow, GivesAt, IsWithinAnywhere, MayCome, StandInLine, events_of};
+ghost use Rattle.gabc_score.specs.ScoreReports.{before_of, held_of, moved_to, reading_of, openers_of, is_in_comment, is_in_front, IsAt, IsInFront};
+ghost use Rattle.gabc_score.specs.ScoreStage.{AreCountsBelow, GivesAt, IsWithinAnywhere, MayCome, AreInLine, events_of};
 ghost use Rattle.gabc_score.specs.SpansPast.{FollowsSpans};
 ghost use Rattle.gabc_score.specs.Syllable.{UnplacedSyllable};
 ghost use Rattle.gabc_score.specs.UnitRead.{HoldsSomeUnit};
-ghost use Rattle.gabc_score.specs.witness.MayStand.{MayStand};
+ghost use Rattle.gabc_score.specs.witness.IsReachable.{IsReachable};
 ghost use Rattle.gabc_score.specs.witness.ReadAgain.{CanBeReadAgain};
 ghost use Rattle.gabc_places.specs.TextOfAnInput.{IsText};
-ghost use Rattle.gabc_score.specs.ToldWithin.{AreCountsWithin, IsPlace, IsToldWithin, TellsOfText, whole_syllables, written_behind};
+ghost use Rattle.gabc_score.specs.ReportedWithin.{AreCountsWithin, IsPlace, ReportsWithin, ReportsText, whole_syllables, written_after};
 ghost use Rattle.gabc_score.specs.witness.ScoreStage.{ScoreStageState, left_of};
 
-use crate::kept_laws::laws_of_stages;
 use crate::score_event::ScoreEvent;
 use crate::score_stage::ScoreStage;
+use crate::{kept_laws, machine_laws};
 use gabc_headers::HeadEvent;
 use gabc_places::{Limits, Place, Room, Stage, drive};
 use std::alloc::{AllocError, Global};
@@ -88,26 +88,26 @@ pub fn inputs_that_cease_give_no_stop()
 pub fn at_most_one_syllable_is_held(stage: &ScoreStage)
     ensures { length (syllables_in (concat_of (left_of stage.now []))) ≤ 1 }
 {
-    stage.at_most_one_is_held();
+    machine_laws::at_most_one_is_given(&stage.machine);
 }
 
 /// Law: where a stage stands, whatever it has read, a stage may stand. The laws of stages that may
 /// stand so hold of it, and of what it reported once it is gone.
-pub fn a_stage_may_stand(stage: &ScoreStage)
-    ensures { MayStand stage.now }
+pub fn a_stage_is_reachable(stage: &ScoreStage)
+    ensures { IsReachable stage.now }
 {
-    stage.may_stand();
+    machine_laws::a_stage_may_stand_so(&stage.machine);
 }
 
 /// Law: in the body what a stage reports is within its limits, whatever it has read: the kept text
 /// of the syllable that is read, and of the one that is held the canonical text, also with what
 /// stands before it. Before the first syllable no span is open, and no comment is open inside an
 /// inner opener.
-pub fn what_is_told_is_within_the_limits()
-    ensures { (s : ScoreStageState) → MayStand s → is_some (before_of s) ≡ true → IsToldWithin s }
+pub fn what_is_reported_is_within_the_limits()
+    ensures { (s : ScoreStageState) → IsReachable s → is_some (before_of s) ≡ true → ReportsWithin s }
 {
     gabc_text::laws::what_is_open_follows_from_the_kept_text();
-    gabc_notes::laws::an_opener_is_told_inside_raw();
+    gabc_notes::laws::an_opener_is_reported_inside_raw();
 }
 
 /// Law: in the body the whole syllables are those that were given, and the one that is held, if one
@@ -117,7 +117,7 @@ pub fn whole_syllables_are_given_or_held(stage: &ScoreStage)
     ensures { whole_syllables stage.now
         ≡ stage.now.before.syllables + length (option_to_list (held_of stage.now)) }
 {
-    stage.gave_or_holds();
+    machine_laws::whole_ones_are_given_or_held(&stage.machine);
 }
 
 /// Law: what a stage of headers gives before the body may come of a text, wherever the next
@@ -132,10 +132,10 @@ pub fn headers_may_come()
 
 /// Law: what a stage reports is still that of a text where its next character is said to stand
 /// there, if that is no earlier.
-pub fn what_is_told_may_move(stage: &mut ScoreStage, at: Place)
+pub fn what_is_reported_may_move(stage: &mut ScoreStage, at: Place)
     requires later { IsUpTo stage.old.held.next at }
     requires place { IsPlace at }
-    ensures { TellsOfText stage.old → TellsOfText stage.new }
+    ensures { ReportsText stage.old → ReportsText stage.new }
 {
     gabc_text::laws::what_is_open_stays_open_elsewhere();
     stage.go_to(at);
@@ -143,10 +143,10 @@ pub fn what_is_told_may_move(stage: &mut ScoreStage, at: Place)
 
 /// Law: what a stage reports that goes on after syllables, and has read nothing yet, is that of a
 /// text, where the counts of what stands before it are in range.
-pub fn a_resumed_stage_tells_of_a_text()
+pub fn a_resumed_stage_reports_a_text()
     ensures { (limits : Limits) (before : Before) (s : ScoreStageState) →
-        StandsBehind limits before s →
-        AreCountsWithin limits before.nabc_lines before.macros before.canonical → TellsOfText s }
+        IsAfterSyllables limits before s →
+        AreCountsWithin limits before.nabc_lines before.macros before.canonical → ReportsText s }
 {}
 
 /// Law: where a stage begins to read a text, no comment is open.
@@ -159,18 +159,18 @@ pub fn a_text_begins_outside_a_comment()
 /// Law: in the body, while the comment after the `%%` is open, a stage stands in front of the first
 /// text: no syllable is whole, and nothing is read of one.
 pub fn in_front_nothing_is_read()
-    ensures { (s : ScoreStageState) → MayStand s → is_some (before_of s) ≡ true →
-        is_in_front s.body.part ≡ true → StandsInFront s }
+    ensures { (s : ScoreStageState) → IsReachable s → is_some (before_of s) ≡ true →
+        is_in_front s.body.part ≡ true → IsInFront s }
 {}
 
 /// Law: in front of the first text a stage gives the same of whatever follows, wherever the next
 /// character is said to stand: its place counts only once the character has come.
 pub fn a_body_may_begin_anywhere(stage: &ScoreStage)
-    requires { StandsInFront stage.now }
+    requires { IsInFront stage.now }
     ensures { (place : Place) (xs : List HeadEvent) →
         left_of (moved_to place stage.now) xs ≡ left_of stage.now xs }
 {
-    stage.begins_anywhere();
+    machine_laws::a_body_begins_anywhere(&stage.machine);
 }
 
 /// Law: a stage gives the end only where the end is among its inputs, whatever it has read.
@@ -228,37 +228,37 @@ pub fn a_fresh_stage_reads_texts(alloc: Global, limits: Limits) -> Result<ScoreS
 /// whatever follows, if both or none of them stand in front of the first text. Only the syllable
 /// that the one holds stands where the other gives its own, which says the same. The next character
 /// stands where a text that is read has counted it.
-pub fn stages_that_tell_the_same_agree()
-    ensures { (one other : ScoreStageState) → MayStand one → MayStand other → StandAlike one other →
+pub fn stages_that_report_the_same_agree()
+    ensures { (one other : ScoreStageState) → IsReachable one → IsReachable other → AreEquivalent one other →
         is_in_front one.body.part ≡ is_in_front other.body.part →
         (xs : List HeadEvent) →
         GiveTheSame (held_of one) (held_of other) (left_of one xs) (left_of other xs) }
 {
-    laws_of_stages();
-    gabc_text::laws::stages_behind_one_text_agree();
-    gabc_notes::laws::stages_behind_one_text_agree();
-    gabc_nabc::laws::stages_behind_one_text_agree();
+    kept_laws::laws_of_stages();
+    gabc_text::laws::stages_after_one_text_agree();
+    gabc_notes::laws::stages_after_one_text_agree();
+    gabc_nabc::laws::stages_after_one_text_agree();
 }
 
 /// Law: so it is where only one of them stands in front of the first text, and the other in a
 /// comment of a text of which nothing is read, if the characters that follow stand one after the
 /// other, from the place of the next one on.
-pub fn stages_that_tell_the_same_agree_in_line()
-    ensures { (one other : ScoreStageState) → MayStand one → MayStand other → StandAlike one other →
-        (xs : List HeadEvent) → StandInLine one.held.next xs →
+pub fn stages_that_report_the_same_agree_in_line()
+    ensures { (one other : ScoreStageState) → IsReachable one → IsReachable other → AreEquivalent one other →
+        (xs : List HeadEvent) → AreInLine one.held.next xs →
         GiveTheSame (held_of one) (held_of other) (left_of one xs) (left_of other xs) }
 {
-    laws_of_stages();
+    kept_laws::laws_of_stages();
     gabc_text::laws::a_comment_before_a_text_counts_for_nothing();
     gabc_text::laws::what_is_open_stays_open_elsewhere();
     in_front_nothing_is_read();
-    stages_that_tell_the_same_agree();
+    stages_that_report_the_same_agree();
 }
 
 /// Law: the whole syllable that a stage holds, whatever it has read, holds some unit: a text and
 /// its notes, with one snippet where there are no NABC lines.
 pub fn what_is_held_holds_a_unit()
-    ensures { (s : ScoreStageState) → MayStand s →
+    ensures { (s : ScoreStageState) → IsReachable s →
         IfSome (held_of s) (HoldsSomeUnit s.body.nabc_lines) }
 {
     gabc_text::laws::a_kept_text_is_said_in_full();
@@ -268,19 +268,16 @@ pub fn what_is_held_holds_a_unit()
 }
 
 /// Law: where the inputs of a stage just cease, whatever it has read, each syllable that it gives
-/// then is the one that it holds, and holds some unit.
-pub fn what_breaks_off_holds_a_unit()
-    ensures { (s : ScoreStageState) → MayStand s →
-        All (λ p. HoldsSomeUnit s.body.nabc_lines p.made)
+/// then is the one that it holds.
+pub fn what_breaks_off_is_held()
+    ensures { (s : ScoreStageState) → IsReachable s → All (λ p. held_of s ≡ Some p.made)
         (syllables_in (concat_of (left_of s []))) }
-{
-    what_is_held_holds_a_unit();
-}
+{}
 
 /// Law: which spans are open after the whole syllable that a stage holds, whatever it has read,
 /// follows from its text and from those that are open before it.
 pub fn spans_of_what_is_held_follow()
-    ensures { (s : ScoreStageState) → MayStand s →
+    ensures { (s : ScoreStageState) → IsReachable s →
         IfSome (held_of s) (FollowsSpans s.before.spans) }
 {
     gabc_text::laws::a_kept_text_is_said_in_full();
@@ -292,8 +289,8 @@ pub fn spans_of_what_is_held_follow()
 /// Law: the canonical text of the syllable that a stage holds is a text of an input, as long as
 /// what the stage reports is that of a text.
 pub fn what_is_held_is_a_text()
-    ensures { (s : ScoreStageState) → MayStand s → TellsOfText s →
-        IfSome (held_of s) (λ m. IsText (written_behind s.before m)) }
+    ensures { (s : ScoreStageState) → IsReachable s → ReportsText s →
+        IfSome (held_of s) (λ m. IsText (written_after s.before m)) }
 {
     crate::unit_laws::the_canonical_text_of_a_unit_is_a_text();
     what_is_held_holds_a_unit();
@@ -302,7 +299,7 @@ pub fn what_is_held_is_a_text()
 /// Law: the whole syllable that a stage holds, whatever it has read, is within the stage's limits,
 /// wherever it stands in its word.
 pub fn what_is_held_is_within_the_limits()
-    ensures { (s : ScoreStageState) → MayStand s →
+    ensures { (s : ScoreStageState) → IsReachable s →
         IfSome (held_of s) (IsWithinAnywhere s.limits) }
 {}
 
@@ -310,13 +307,13 @@ pub fn what_is_held_is_within_the_limits()
 pub fn what_is_read_can_be_read_again(stage: &ScoreStage)
     ensures { is_some (before_of stage.now) ≡ true → CanBeReadAgain stage.now }
 {
-    stage.can_be_read_again();
+    machine_laws::what_is_read_can_be_read(&stage.machine);
 }
 
 /// Law: in front of the first text the comment that is open can be read again as one in a text of
 /// which nothing is kept.
 pub fn a_comment_in_front_can_be_read_in_a_text()
-    ensures { (s : ScoreStageState) → is_some (before_of s) ≡ true → StandsInFront s →
+    ensures { (s : ScoreStageState) → is_some (before_of s) ≡ true → IsInFront s →
         CanBeReadInText s }
 {}
 
@@ -342,16 +339,16 @@ pub fn one_syllable_keeps_no_more_than_its_text()
 pub fn a_kept_text_gives_the_stage_back(told: &ScoreStage, again: &mut ScoreStage)
     requires runs { is_some (before_of told.now) ≡ true }
     requires front { is_in_front told.now.body.part ≡ false }
-    requires stands { StandsAt told.now.held.next told.now.body.part }
+    requires stands { IsAt told.now.held.next told.now.body.part }
     requires limits { told.now.limits ≡ again.old.limits }
     requires before { before_of told.now ≡ before_of again.old }
     requires held { HoldTheSame (told.now.before.syllables == 0)
         (held_of told.now) (held_of again.old) }
-    requires first { StandsBefore again.old }
+    requires first { ComesBefore again.old }
     ensures { (xs : List HeadEvent) → GiveTheSame (held_of told.now) (held_of again.new)
         (left_of told.now xs) (left_of again.new xs) }
 {
-    told.can_be_read_again();
+    what_is_read_can_be_read_again(told);
     let Some(openers) = told.openers() else {
         return;
     };
@@ -362,7 +359,7 @@ pub fn a_kept_text_gives_the_stage_back(told: &ScoreStage, again: &mut ScoreStag
         return;
     };
     again.read_again(told.reading(), openers, in_comment, next);
-    a_stage_may_stand(told);
-    a_stage_may_stand(again);
-    stages_that_tell_the_same_agree();
+    a_stage_is_reachable(told);
+    a_stage_is_reachable(again);
+    stages_that_report_the_same_agree();
 }

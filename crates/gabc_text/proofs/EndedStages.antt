@@ -9,7 +9,7 @@ use Rattle.gabc_text.specs.declared.stage.TextStage.{TextStage}
 use Rattle.gabc_text.specs.declared.token.TokenKind.{TokenKind}
 use Rattle.gabc_text.specs.declared.token_state.Step.{Step}
 use Rattle.gabc_text.specs.declared.token_state.Step.TheVariants.{Stays, Ends}
-use Rattle.gabc_text.specs.StageTells.{EndedInPlace}
+use Rattle.gabc_text.specs.StageReports.{EndedInPlace}
 use Rattle.gabc_text.specs.declared.token.TagEffect.TheVariants.{Other}
 use Rattle.gabc_text.specs.machine.TextStage.{token_stage, settle_stage, settle_stage_by, end_stage, stage_past_char, stage_after_step, read_stage, settled_push_stage, push_stage, events_of_push, finish_stage, finish_stage_by}
 use Rattle.gabc_text.specs.witness.StageReports.{next_of}
@@ -33,7 +33,7 @@ step_runs : (t : TextStage) (s : Step) → (stage_after_step t s).done ≡ t.don
 step_runs t (Stays state) = refl
 step_runs t (Ends k s) = refl
 
--- at a character, behind the token that ended before it
+-- at a character, after the token that ended before it
 settled_ends : (t u next : TextStage) (c : ℕ) → u.done ≡ false → u.progress.next ≡ t.progress.next → next ≡ settled_push_stage u c → next.done ≡ true → EndedInPlace t next
 settled_ends t u next c runs place is d = go (c == 40 && is_plain u.state) refl
   where
@@ -76,7 +76,7 @@ push_ends_by t c false e = done_is t c e
 pub push_ends : (t next : TextStage) (c : ℕ) (events : List TextEvent) → next ≡ push_stage t c → events ≡ events_of_push t c → next.done ≡ (t.done || list_any is_end events)
 push_ends t next c events n e = rw (n, e) (push_ends_by t c t.done refl)
 
--- ---- the place of the next character, behind one that does not end the text
+-- ---- the place of the next character, after one that does not end the text
 
 pub push_next : (t next : TextStage) (c : ℕ) → next ≡ push_stage t c → next.done ≡ false → next_of next ≡ saturating_next_place (next_of t) c
 push_next t next c n goes =

@@ -1,4 +1,4 @@
--- Behind the event that ends a text its stage gives nothing.
+-- After the event that ends a text its stage gives nothing.
 use Rattle.std.proofs.Common.{◌≡◌, ◌==◌, ◌&&◌, ◌||◌, ℕ, List, [], ◌∷◌, ◌++◌, Bool, true, false, cond, Option, Some, None, refl, ap, sym, ◌∙◌, append_assoc, append-nil, map, Decides}
 use Rattle.std.specs.List.{list_any}
 use Rattle.std.proofs.lemmas.List.Folds.{list_any-append}
@@ -24,8 +24,8 @@ use Rattle.gabc_text.specs.declared.token.TokenKind.{TokenKind}
 use Rattle.gabc_text.specs.declared.token.TokenKind.TheVariants as kind
 use Rattle.gabc_text.specs.declared.token_state.TokenState.{TokenState}
 use Rattle.gabc_text.specs.declared.token_state.TokenState.TheVariants as state
-use Rattle.gabc_text.specs.StageTells.{opener_of, begins_silently, is_in_comment, cut_place}
-use Rattle.gabc_text.specs.machine.StageTells.{is_open, is_comment, opener_in, comment_in}
+use Rattle.gabc_text.specs.StageReports.{opener_of, begins_silently, is_in_comment, cut_place}
+use Rattle.gabc_text.specs.machine.StageReports.{is_open, is_comment, opener_in, comment_in}
 use Rattle.gabc_text.specs.declared.token.TagEffect.{TagEffect}
 use Rattle.gabc_text.specs.declared.token.TagEffect.TheVariants.{Other}
 use Rattle.gabc_text.specs.ExampleTexts.{stands_for}

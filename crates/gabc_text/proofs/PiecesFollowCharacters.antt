@@ -40,7 +40,7 @@ use Rattle.gabc_text.specs.machine.TextFacts.{early_at, facts_after}
 use Rattle.gabc_text.specs.machine.TokenState.{settled_kind, next_step, first_step, wanted_char, step_at_tag_end, keep, keep_first, kind_at_end, is_plain}
 use Rattle.gabc_text.specs.machine.TextStage.{char_event, token_stage, events_of_token, events_of_settling, events_of_settling_by, settle_stage, settle_stage_by, stage_after_step, events_of_step, stage_past_char, events_of_reading, events_of_end, end_stage, settled_push_stage, events_of_settled_push, read_stage, push_stage, events_of_push, events_of_finish, events_of_finish_by, progress_after, end_by, is_cut_end}
 
--- With these events, of so many pieces that were owed so many still are.
+-- With these events, of n pieces that were owed n still are.
 pub record Pays (before : ℕ) (events : List TextEvent) (after : ℕ) : Type 0 where
   pub paid : pieces_in events + after ≤ before + length (kept_in events)
 

@@ -10,7 +10,7 @@ pub mod PiecesOwed
 pub mod Printed
 pub mod PrintedView
 pub mod RegularText
-pub mod StageTells
+pub mod StageReports
 pub mod TagNames
 pub mod TextFacts
 pub mod TextRead

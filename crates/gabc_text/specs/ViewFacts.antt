@@ -84,7 +84,7 @@ IsTranslation kept None None = Unit {0}
 IsTranslation kept (Some s) (Some t) = StandsFor kept s t
 IsTranslation kept _ _ = ⊥
 
--- the centre lies among so many pieces
+-- the centre lies among n pieces
 abbrev pub LiesAmong : ℕ → Option Span → Type 0
 LiesAmong n None = Unit {0}
 LiesAmong n (Some c) = (c.from ≤ c.to) × (c.to ≤ n)

@@ -4,7 +4,7 @@ pub mod PrintedPieces
 pub mod RawPart
 pub mod RegularBytes
 pub mod Runs
-pub mod StageTells
+pub mod StageReports
 pub mod TagPrefix
 pub mod TextFacts
 pub mod TextStage

@@ -4,3 +4,4 @@ pub mod Keeps
 pub mod PiecesOwed
 pub mod SaidInFull
 pub mod StageReports
+pub mod Steps

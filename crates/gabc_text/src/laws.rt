@@ -25,8 +25,8 @@ ghost use Rattle.gabc_text.specs.BuiltText.{with_events, empty_text, text_built_
 ghost use Rattle.gabc_text.specs.Ends.{EndsOnce};
 ghost use Rattle.std.specs.Prelude.{◌*◌, ◌≤◌, ◌==◌, is_some};
 ghost use Rattle.gabc_places.specs.BoundedList.{Fits, extended_by};
-ghost use Rattle.gabc_text.specs.witness.Keeps.{Keeps, OpensThere, Takes, is_open_behind, begins_comment, ends_behind, kept_with};
-ghost use Rattle.gabc_text.specs.StageTells.{IsNext, opener_of, is_in_comment, cut_place};
+ghost use Rattle.gabc_text.specs.witness.Keeps.{Keeps, OpensThere, Takes, is_open_after_text, begins_comment, ends_after_it, kept_with};
+ghost use Rattle.gabc_text.specs.StageReports.{IsNext, opener_of, is_in_comment, cut_place};
 ghost use Rattle.gabc_text.specs.witness.PiecesOwed.{pieces_owed};
 ghost use Rattle.gabc_text.specs.witness.StageReports.{has_ended, next_of, moved_to, told};
 ghost use Rattle.gabc_text.specs.witness.SaidInFull.{IsSaidInFull};
@@ -98,7 +98,7 @@ pub fn findings_in_order()
 
 /// Law: a machine emits a list for each character and one for the end. What it emits for some
 /// characters does not depend on what follows them.
-pub fn events_need_nothing_behind()
+pub fn events_need_nothing_after()
     ensures each { (s : TextStage) (t : List ℕ) → length (events_left s t) ≡ length t + 1 }
     ensures prefix { (s : TextStage) (t u v : List ℕ) →
         take (length t) (events_left s (t ++ u)) ≡ take (length t) (events_left s (t ++ v)) }
@@ -157,7 +157,7 @@ pub fn view_again()
         ≡ printed_view (view_in t) (encode_utf8_all whole) }
 {}
 
-/// Law: a regular text says in front of a `(` what it says alone, whatever follows: it ends at that
+/// Law: a regular text says before a `(` what it says alone, whatever follows: it ends at that
 /// `(`, all of it is kept, and nothing is found in it, whatever place it begins at. What is printed
 /// of its view is the text itself, whatever whole text the spans count the bytes of. So is its
 /// canonical text, if it has no translation.
@@ -238,14 +238,14 @@ pub fn a_text_ends_once()
 
 /// Law: two stages emit the same of whatever follows, if they are the same but for the place of a
 /// `$` or of a comment.
-pub fn stages_that_tell_the_same_agree(one: &TextStage, other: &TextStage)
+pub fn stages_that_report_the_same_agree(one: &TextStage, other: &TextStage)
     requires { told one.now ≡ told other.now }
     ensures { (t : List ℕ) → events_left one.now t ≡ events_left other.now t }
 {}
 
 /// Law: two stages that keep one text emit the same of whatever follows, if they report the same:
 /// the place of the opener, whether a comment is open, and the place of the next character.
-pub fn stages_behind_one_text_agree()
+pub fn stages_after_one_text_agree()
     ensures { (one other : TextStage) (k : List ℕ) → Keeps one k → Keeps other k →
         opener_of one ≡ opener_of other → is_in_comment one ≡ is_in_comment other →
         next_of one ≡ next_of other →
@@ -256,10 +256,10 @@ pub fn stages_behind_one_text_agree()
 /// where a `%` begins one after this text, and there is no opener then.
 pub fn what_is_open_follows_from_the_kept_text()
     ensures opener { (s : TextStage) (k : List ℕ) → Keeps s k →
-        is_some (opener_of s) ≡ is_open_behind k }
+        is_some (opener_of s) ≡ is_open_after_text k }
     ensures comment { (s : TextStage) (k : List ℕ) → Keeps s k →
         is_in_comment s ≡ true → begins_comment k ≡ true }
-    ensures apart { (k : List ℕ) → begins_comment k ≡ true → is_open_behind k ≡ false }
+    ensures apart { (k : List ℕ) → begins_comment k ≡ true → is_open_after_text k ≡ false }
 {}
 
 /// Law: of a text that a stage keeps, each character is kept again after those before it. The `%`
@@ -268,7 +268,7 @@ pub fn a_kept_character_is_kept_again()
     ensures characters { (s : TextStage) (a b : List ℕ) (c : ℕ) → Keeps s (a ++ c ∷ b) →
         kept_with a c ≡ c ∷ [] }
     ensures comments { (k : List ℕ) → begins_comment k ≡ true → kept_with k 37 ≡ [] }
-    ensures ends { (k : List ℕ) → ends_behind k ≡ true → kept_with k 40 ≡ [] }
+    ensures ends { (k : List ℕ) → ends_after_it k ≡ true → kept_with k 40 ≡ [] }
 {}
 
 /// Law: a stage that has not ended takes each character, and a fresh one keeps nothing yet.
@@ -324,16 +324,16 @@ pub fn the_next_character_stands_at_one_place()
 {}
 
 /// Law: the opener of a stage may stand at any place, and the stage keeps the same text.
-pub fn an_opener_may_stand_anywhere()
+pub fn an_opener_may_be_anywhere()
     ensures { (s : TextStage) (k : List ℕ) (at : Place) → Keeps s k →
         is_some (opener_of s) ≡ true → OpensThere s k at }
 {}
 
 /// Law: what was said of a text that a stage keeps, and that a `(` after it ends, is all that is
-/// said of it in front of this `(`, whatever follows: its kept text is the text, and its view is
+/// said of it before this `(`, whatever follows: its kept text is the text, and its view is
 /// the one that was built.
 pub fn a_kept_text_is_said_in_full()
-    ensures { (s : TextStage) (k rest : List ℕ) → Keeps s k → ends_behind k ≡ true →
+    ensures { (s : TextStage) (k rest : List ℕ) → Keeps s k → ends_after_it k ≡ true →
         CountsFit (record { line = 0; column = 0 }) (k ++ 40 ∷ rest) → IsSaidInFull k rest }
 {}
 

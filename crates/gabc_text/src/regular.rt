@@ -284,7 +284,7 @@ fn any_text_len(bytes: &[u8]) -> usize
     end + translation_len(&bytes[end..])
 }
 
-/// Returns how many of the first of `bytes` are a text that is printed as it stands in front of a
+/// Returns how many of the first of `bytes` are a text that is printed as it stands before a
 /// `(`, and in which nothing is found (`laws::a_regular_text_is_printed_as_it_stands`): letters and
 /// raw parts, with single blanks between them, some of them within the tags of a style, some in one
 /// centre; span marks; and a translation, if a `(` follows. It goes past each letter of ASCII, of

@@ -22,7 +22,8 @@ fn is_special_byte(byte: u8) -> bool
 fn is_letter_byte(byte: u8) -> bool
     ensures { result ≡ is_letter_byte byte }
 {
-    byte.is_ascii_lowercase() || (!is_special_byte(byte) && byte > b' ' && byte < 0x7F)
+    byte.is_ascii_lowercase()
+        || (byte != b'(' && !is_special_byte(byte) && byte > b' ' && byte < 0x7F)
 }
 
 /// Returns whether `byte` goes on with a character of several bytes.
@@ -75,7 +76,7 @@ fn byte_at(bytes: &[u8], index: usize) -> u8
 }
 
 /// Returns how many bytes the letter has that `bytes` begin with, with its `$` if it has one; 0, if
-/// none is known to be there. Most letters are of ASCII.
+/// none is known to be there. Most letters are of ASCII, and most runs of them end at a `(`.
 #[inline(always)]
 fn letter_len(bytes: &[u8]) -> usize
     ensures within { result ≤ length bytes.now }
@@ -85,6 +86,9 @@ fn letter_len(bytes: &[u8]) -> usize
     let first = byte_at(bytes, 0);
     if is_letter_byte(first) {
         return 1;
+    }
+    if first == b'(' {
+        return 0;
     }
     let second = byte_at(bytes, 1);
     if is_escape(first, second) {

@@ -298,9 +298,9 @@ impl Stage for TextStage {
     ghost use Rattle.gabc_places.specs.Place.{saturating_next_place};
     ghost use Rattle.gabc_places.specs.StageLaw.{Pushes, Finishes, EmitsNothing, StopsAtEnd};
     ghost use Rattle.gabc_text.specs.BuiltText.{kept_in};
-    ghost use Rattle.gabc_text.specs.witness.Keeps.{KeepsOn};
     ghost use Rattle.gabc_text.specs.witness.StageReports.{has_ended, next_of};
-    ghost use Rattle.gabc_text.specs.StageTells.{EndedInPlace};
+    ghost use Rattle.gabc_text.specs.witness.Steps.{Steps};
+    ghost use Rattle.gabc_text.specs.StageReports.{EndedInPlace};
     ghost use Rattle.gabc_text.specs.PiecesOwed.{pieces_in, PiecesArePaid};
     ghost use Rattle.gabc_text.specs.witness.PiecesOwed.{pieces_owed};
 
@@ -321,7 +321,7 @@ impl Stage for TextStage {
         ensures end { StopsAtEnd is_end (λ cs. events_left self.new (codes_of cs)) out.old out.new }
         ensures pieces { PiecesArePaid self.old
             (drop (length out.old.items) out.new.items) self.new }
-        ensures keeps { KeepsOn self.old input.c (drop (length out.old.items) out.new.items) self.new }
+        ensures steps { Steps self.old input (drop (length out.old.items) out.new.items) self.new }
         ensures ends { let events = drop (length out.old.items) out.new.items in
             has_ended self.new ≡ (has_ended self.old || list_any is_end events) }
         ensures next { has_ended self.new ≡ false →

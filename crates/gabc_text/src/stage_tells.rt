@@ -2,8 +2,8 @@
 
 ghost use Rattle.std.specs.Prelude.{◌≡◌, ℕ, List};
 ghost use Rattle.gabc_text.specs.witness.Keeps.{Keeps};
-ghost use Rattle.gabc_text.specs.StageTells.{opener_of, is_in_comment, IsNext};
-ghost use Rattle.gabc_text.specs.machine.StageTells.{is_open};
+ghost use Rattle.gabc_text.specs.StageReports.{opener_of, is_in_comment, IsNext};
+ghost use Rattle.gabc_text.specs.machine.StageReports.{is_open};
 ghost use Rattle.gabc_text.specs.witness.StageReports.{next_of, moved_to};
 
 use crate::stage::TextStage;

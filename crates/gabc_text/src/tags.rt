@@ -37,7 +37,7 @@ pub(crate) const TAGS: [(&str, TagEffect); 21] = [
 /// How many characters of a tag's name are kept: more than any name in the table has.
 pub(crate) const KEPT: usize = 6;
 
-/// The names in the table are these, each with what its tag does.
+/// Law: the names in the table are these, each with what its tag does.
 pub fn tag_names_are_these()
     ensures { tag_names ≡ known_tags }
 {}

@@ -27,7 +27,7 @@ both_none (s ∷ steps) more none h = (none.0, both_none steps more none.1 h)
 
 -- ---- the steps of a syllable
 
--- an item that is no note and no clef, and those behind it
+-- an item that is no note and no clef, and those after it
 abbrev IsNoneFirst : ItemKind → List ℕ → Option ItemKind → Type 0
 IsNoneFirst k t later = (clef_of (AnItem k t) ≡ None) × (later ≡ None)
 

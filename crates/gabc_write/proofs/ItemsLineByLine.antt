@@ -12,18 +12,18 @@ use Rattle.gabc_notes.specs.declared.note.Note.{Note}
 use Rattle.gabc_neumes.specs.Cut.{kind_by, longest_glyph, glyphs_within, glyphs_of}
 use Rattle.gabc_neumes.specs.Elements.{is_in_element, is_in_segment, notes_in}
 use Rattle.gabc_neumes.specs.Glyphs.{HasKind, AreGlyphsOf, read_as}
-use Rattle.gabc_neumes.specs.InForce.{InForce, ScoreStep, step_of, in_force_behind, passed}
+use Rattle.gabc_neumes.specs.InForce.{InForce, ScoreStep, step_of, in_force_after, passed}
 use Rattle.gabc_neumes.specs.declared.glyph.Glyph.{Glyph}
 use Rattle.gabc_neumes.specs.declared.glyph.GlyphKind.{GlyphKind}
 use Rattle.gabc_patterns.specs.LongestItems.{IsReadingBy}
-use Rattle.gabc_write.specs.DumpOfNotes.{is_behind_element, element_line, line_of_glyph, line_of_glyph_at, notes_before, notes_behind, is_note, glyph_line, line_of_item, in_force_at, lines_behind}
-use Rattle.gabc_write.specs.machine.NoteLines.{glyph_at, line_of_next, left_after, lines_at, place_behind}
+use Rattle.gabc_write.specs.DumpOfNotes.{is_after_element, element_line, line_of_glyph, line_of_glyph_at, notes_before, notes_after, is_note, glyph_line, line_of_item, in_force_at, lines_after}
+use Rattle.gabc_write.specs.machine.NoteLines.{glyph_at, line_of_next, left_after, lines_at, place_after_input}
 use Rattle.gabc_write.specs.declared.dump_notes.ItemPlace.{ItemPlace}
 use Rattle.gabc_write.proofs.dump_is_short.LinesOfItems.{Kinds, kinds, outside, inside, a_note}
 
 -- ---- glyphs in their order
 
--- each begins at that index or later, and behind the one before it
+-- each begins at that index or later, and after the one before it
 abbrev pub Ascends : ℕ → List Glyph → Type 0
 Ascends low [] = Unit {0}
 Ascends low (g ∷ gs) = (low ≤ g.first) × Ascends (g.first + 1) gs
@@ -90,7 +90,7 @@ later_line index (g ∷ gs) rest h =
     let apart : (g.first == index) ≡ false = ne_eqb g.first index (λ e. omega arith) in
     ap (λ (x : Bool). (if x then line_of_glyph g else []) ++ line_of_glyph_at (gs ++ rest) index) apart ∙ later_line index gs rest h.1
 
--- Between notes of a segment: of its glyphs those are written that begin before, and of the last of them so many notes are to come.
+-- Between notes of a segment: of its glyphs those are written that begin before, and of the last of them n notes are to come.
 pub record Cut (done ahead : List Note) (left : ℕ) : Type 0 where
   pub written : List Glyph
   pub most : ℕ
@@ -103,7 +103,7 @@ pub record Cut (done ahead : List Note) (left : ℕ) : Type 0 where
 cut_first : (ahead : List Note) → Cut [] ahead 0
 cut_first ahead = record { written = []; most = length ahead; fits = omega arith; enough = omega arith; all = refl; below = tt }
 
--- What a note does: the line of the glyph that begins with it, and where the cut stands behind it.
+-- What a note does: the line of the glyph that begins with it, and where the cut stands after it.
 record AtNote (done ahead : List Note) (n : Note) (left : ℕ) : Type 0 where
   line : line_of_glyph_at (glyphs_of (done ++ n ∷ ahead)) (length done) ≡ line_of_next left (longest_glyph (length (n ∷ ahead)) (n ∷ ahead))
   behind : Cut (done ++ n ∷ []) ahead (left_after left (longest_glyph (length (n ∷ ahead)) (n ∷ ahead)))
@@ -185,7 +185,7 @@ at_note law done ahead n zero c = go (longest_glyph (length (n ∷ ahead)) (n �
           behind = subst (λ (o : Option (GlyphKind × ℕ)). Cut (done ++ n ∷ []) ahead (left_after zero o)) (sym e) b.1;
         }
 
--- ---- the notes before an item and behind it
+-- ---- the notes before an item and after it
 
 -- an item of a segment more before
 before_more : (kept : List ℕ) (before : List Item) (i : Item) → is_in_segment i ≡ true → notes_before kept (i ∷ before) ≡ notes_before kept before ++ notes_in kept (i ∷ [])
@@ -200,57 +200,57 @@ before_none : (kept : List ℕ) (before : List Item) (i : Item) → is_in_segmen
 before_none kept before i e =
     ap (λ (x : List Item). notes_in kept (reverse x)) (take_while-cons is_in_segment i before ∙ ap (λ (b : Bool). cond b (i ∷ take_while is_in_segment before) []) e)
 
-behind_more : (kept : List ℕ) (items : List Item) (i : Item) → is_in_segment i ≡ true → notes_behind kept (i ∷ items) ≡ notes_in kept (i ∷ []) ++ notes_behind kept items
+behind_more : (kept : List ℕ) (items : List Item) (i : Item) → is_in_segment i ≡ true → notes_after kept (i ∷ items) ≡ notes_in kept (i ∷ []) ++ notes_after kept items
 behind_more kept items i e =
     let run : List Item = take_while is_in_segment items in
     ap (notes_in kept) (take_while-cons is_in_segment i items ∙ ap (λ (b : Bool). cond b (i ∷ run) []) e) ∙ filter_map-append (note_in kept) (i ∷ []) run
 
-behind_none : (kept : List ℕ) (items : List Item) (i : Item) → is_in_segment i ≡ false → notes_behind kept (i ∷ items) ≡ []
+behind_none : (kept : List ℕ) (items : List Item) (i : Item) → is_in_segment i ≡ false → notes_after kept (i ∷ items) ≡ []
 behind_none kept items i e = ap (notes_in kept) (take_while-cons is_in_segment i items ∙ ap (λ (b : Bool). cond b (i ∷ take_while is_in_segment items) []) e)
 
 -- ---- where the writer stands
 
 -- Between what is before and the items.
 pub record Stands (kept : List ℕ) (before items : List Item) (place : ItemPlace) : Type 0 where
-  pub in_element : place.in_element ≡ is_behind_element kept before
-  pub cut : Cut (notes_before kept before) (notes_behind kept items) place.left
+  pub in_element : place.in_element ≡ is_after_element kept before
+  pub cut : Cut (notes_before kept before) (notes_after kept items) place.left
 
 -- before the first item
 pub stands_first : (kept : List ℕ) (items : List Item) → Stands kept [] items (record { in_element = false; left = 0 })
-stands_first kept items = record { in_element = refl; cut = cut_first (notes_behind kept items) }
+stands_first kept items = record { in_element = refl; cut = cut_first (notes_after kept items) }
 
 -- What an item does to the cut of its segment, and the line of the glyph that begins with it.
 record AtItem (kept : List ℕ) (before items : List Item) (i : Item) (left : ℕ) : Type 0 where
   line : (if is_note i.kind then line_of_next left (glyph_at kept (i ∷ items)) else []) ≡ glyph_line kept before i items
-  behind : Cut (notes_before kept (i ∷ before)) (notes_behind kept items) (if is_note i.kind then left_after left (glyph_at kept (i ∷ items)) else left)
+  behind : Cut (notes_before kept (i ∷ before)) (notes_after kept items) (if is_note i.kind then left_after left (glyph_at kept (i ∷ items)) else left)
 
 at_item : ((notes : List Note) → AreGlyphsOf notes (glyphs_of notes)) → (kept : List ℕ) (before items : List Item) (i : Item) (left : ℕ)
-    → Cut (notes_before kept before) (notes_behind kept (i ∷ items)) left → Kinds i.kind i.span (bytes_of kept i) → AtItem kept before items i left
+    → Cut (notes_before kept before) (notes_after kept (i ∷ items)) left → Kinds i.kind i.span (bytes_of kept i) → AtItem kept before items i left
 at_item law kept before items i left c (outside e f g) =
-    let none : notes_behind kept (i ∷ items) ≡ [] = behind_none kept items i e in
+    let none : notes_after kept (i ∷ items) ≡ [] = behind_none kept items i e in
     let size = ap (length {A = Note}) none in
     let fits = c.fits in
     let zero_left : left ≡ 0 = omega arith in
-    let fresh = cut_first (notes_behind kept items) in
+    let fresh = cut_first (notes_after kept items) in
     record {
       line = rw f refl;
-      behind = rw f (subst (Cut (notes_before kept (i ∷ before)) (notes_behind kept items)) (sym zero_left)
-          (subst (λ (ns : List Note). Cut ns (notes_behind kept items) 0) (sym (before_none kept before i e)) fresh));
+      behind = rw f (subst (Cut (notes_before kept (i ∷ before)) (notes_after kept items)) (sym zero_left)
+          (subst (λ (ns : List Note). Cut ns (notes_after kept items) 0) (sym (before_none kept before i e)) fresh));
     }
 at_item law kept before items i left c (inside e f g) =
     let one : notes_in kept (i ∷ []) ≡ [] = rw g refl in
-    let same_behind : notes_behind kept (i ∷ items) ≡ notes_behind kept items = behind_more kept items i e ∙ ap (λ (x : List Note). x ++ notes_behind kept items) one in
+    let same_behind : notes_after kept (i ∷ items) ≡ notes_after kept items = behind_more kept items i e ∙ ap (λ (x : List Note). x ++ notes_after kept items) one in
     let same_before : notes_before kept (i ∷ before) ≡ notes_before kept before =
     before_more kept before i e ∙ (ap (λ (x : List Note). notes_before kept before ++ x) one ∙ append-nil (notes_before kept before)) in
     record {
       line = rw f refl;
-      behind = rw f (subst (λ (ns : List Note). Cut ns (notes_behind kept items) left) (sym same_before) (subst (λ (ns : List Note). Cut (notes_before kept before) ns left) same_behind c));
+      behind = rw f (subst (λ (ns : List Note). Cut ns (notes_after kept items) left) (sym same_before) (subst (λ (ns : List Note). Cut (notes_before kept before) ns left) same_behind c));
     }
 at_item law kept before items i left c (a_note n e f g s l) =
     let one : notes_in kept (i ∷ []) ≡ n ∷ [] = rw g refl in
     let nb : List Note = notes_before kept before in
-    let na : List Note = notes_behind kept items in
-    let more_behind : notes_behind kept (i ∷ items) ≡ n ∷ na = behind_more kept items i e ∙ ap (λ (x : List Note). x ++ na) one in
+    let na : List Note = notes_after kept items in
+    let more_behind : notes_after kept (i ∷ items) ≡ n ∷ na = behind_more kept items i e ∙ ap (λ (x : List Note). x ++ na) one in
     let more_before : notes_before kept (i ∷ before) ≡ nb ++ n ∷ [] = before_more kept before i e ∙ ap (λ (x : List Note). nb ++ x) one in
     let at = at_note law nb na n left (subst (λ (ns : List Note). Cut nb ns left) more_behind c) in
     let found : longest_glyph (length (n ∷ na)) (n ∷ na) ≡ glyph_at kept (i ∷ items) = ap (λ (ns : List Note). longest_glyph (length ns) ns) (sym more_behind) in
@@ -260,12 +260,12 @@ at_item law kept before items i left c (a_note n e f g s l) =
           (subst (λ (o : Option (GlyphKind × ℕ)). Cut (nb ++ n ∷ []) na (left_after left o)) found at.behind));
     }
 
--- What an item's step does: its lines are those of the definition, and the writer stands behind it.
+-- What an item's step does: its lines are those of the definition, and the writer stands after it.
 pub record Step (outset : InForce) (kept : List ℕ) (before items : List Item) (i : Item) (place : ItemPlace) : Type 0 where
-  pub lines : lines_at (in_force_at outset kept before) kept place i items ++ lines_behind outset kept (i ∷ before) items ≡ lines_behind outset kept before (i ∷ items)
-  pub stands : Stands kept (i ∷ before) items (place_behind kept place i items)
+  pub lines : lines_at (in_force_at outset kept before) kept place i items ++ lines_after outset kept (i ∷ before) items ≡ lines_after outset kept before (i ∷ items)
+  pub stands : Stands kept (i ∷ before) items (place_after_input kept place i items)
 
-element_same : (kept : List ℕ) (before : List Item) (i : Item) (b : Bool) (t : List ℕ) → b ≡ is_behind_element kept before
+element_same : (kept : List ℕ) (before : List Item) (i : Item) (b : Bool) (t : List ℕ) → b ≡ is_after_element kept before
     → (if is_in_element kept i && not b then codes "element\n" else []) ++ t ≡ element_line kept before i ++ t
 element_same kept before i b t e = ap (λ (x : Bool). (if is_in_element kept i && not x then codes "element\n" else []) ++ t) e
 
@@ -275,7 +275,7 @@ pub step : ((notes : List Note) → AreGlyphsOf notes (glyphs_of notes)) → (ou
 step law outset kept before items i place s =
     let at = at_item law kept before items i place.left s.cut (kinds i.kind i.span (bytes_of kept i)) in
     let line : List ℕ = line_of_item (in_force_at outset kept before) kept i in
-    let later : List ℕ = lines_behind outset kept (i ∷ before) items in
+    let later : List ℕ = lines_after outset kept (i ∷ before) items in
     let first : List ℕ = if is_in_element kept i && not place.in_element then codes "element\n" else [] in
     let glyph : List ℕ = if is_note i.kind then line_of_next place.left (glyph_at kept (i ∷ items)) else [] in
     record {
@@ -301,7 +301,7 @@ all_passed outset kept before items e =
     let back : reverse (map (step_of kept) items) ≡ map (step_of kept) before =
     ap (λ (l : List Item). reverse (map (step_of kept) l)) (e ∙ append-nil (reverse before))
     ∙ (ap reverse (steps_reversed kept before) ∙ reverse-reverse (map (step_of kept) before)) in
-    ap (in_force_behind outset) (sym back)
+    ap (in_force_after outset) (sym back)
 
 -- an item more is passed
 pub one_more : (before items : List Item) (i : Item) → reverse before ++ i ∷ items ≡ reverse (i ∷ before) ++ items

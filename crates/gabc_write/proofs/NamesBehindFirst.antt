@@ -1,4 +1,4 @@
--- The names of codes are that of the first, and those behind it.
+-- The names of codes are that of the first, and those after it.
 use Rattle.std.proofs.Common.{◌≡◌, ℕ, List, [], ◌∷◌, ◌++◌, ap, codes, sym, append-nil}
 use Rattle.gabc_nabc.specs.declared.code.GlyphCode.{GlyphCode}
 use Rattle.gabc_write.specs.DumpOfNabc.{name_of_code, names_of}

@@ -1,5 +1,5 @@
--- The lines of a snippet that is one small pitch with a sign behind it.
-use Rattle.std.proofs.Common.{◌≡◌, ℕ, ◌-◌, ◌≤◌, ◌==◌, List, [], ◌∷◌, ◌++◌, Bool, true, false, Option, codes, refl, sym, ap, ◌∙◌, subst, map, append-nil, eqb-true}
+-- The lines of a snippet that is one small pitch with a sign after it.
+use Rattle.std.proofs.Common.{◌≡◌, ℕ, ◌-◌, ◌≤◌, List, [], ◌∷◌, ◌++◌, true, Option, codes, refl, sym, ap, ◌∙◌, map, append-nil}
 use Rattle.std.specs.Fmt.{digits}
 use Rattle.std.specs.Str.{chars}
 use lib.Utf8.{encode}
@@ -7,28 +7,13 @@ use Rattle.gabc_patterns.specs.Pattern.{is_in}
 use Rattle.gabc_notes.specs.Items.{items_of}
 use Rattle.gabc_notes.specs.declared.item.Item.{Item}
 use Rattle.gabc_notes.specs.declared.item.ItemKind.TheVariants as kind
+use Rattle.gabc_notes.proofs.items_of_text.OnePitch.{by_sign}
 use Rattle.gabc_neumes.specs.InForce.{InForce, sound_of}
 use Rattle.gabc_neumes.specs.declared.sound.Alter.TheVariants as alter
 use Rattle.gabc_neumes.specs.declared.sound.Sound.{Sound}
 use Rattle.gabc_write.specs.DumpOfNotes.{degree_word, line_of_note, lines_of_notes}
 use Rattle.gabc_write.specs.machine.NoteLines.{lines_of_signed}
 use Rattle.gabc_write.proofs.SnippetOfPitch.{pitches, by_each}
-
--- what holds of each sign holds of any
-by_sign : (P : ℕ → Type 0) → P 46 → P 95 → P 39 → (s : ℕ) → is_in s (codes "._'") ≡ true → P s
-by_sign P dot line tick s h = first (46 == s) refl
-  where
-    third : (b : Bool) → (39 == s) ≡ b → (46 == s) ≡ false → (95 == s) ≡ false → P s
-    third true e f g = subst P (eqb-true 39 s e) tick
-    third false e f g = absurd (let bad : false ≡ true = rw (f, g, e) at h in cc)
-
-    second : (b : Bool) → (95 == s) ≡ b → (46 == s) ≡ false → P s
-    second true e f = subst P (eqb-true 95 s e) line
-    second false e f = third (39 == s) refl f e
-
-    first : (b : Bool) → (46 == s) ≡ b → P s
-    first true e = subst P (eqb-true 46 s e) dot
-    first false e = second (95 == s) refl e
 
 -- ---- its item
 

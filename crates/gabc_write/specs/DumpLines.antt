@@ -19,6 +19,6 @@ line_of_header e = codes "header " ++ (escaped (encode_utf8_all e.0) ++ (codes "
 abbrev pub dump_heads : List (List ℕ × List ℕ) → List ℕ
 dump_heads book = codes "dump 2\n" ++ flat_map line_of_header book
 
--- what stands after them, for so many syllables: `end COUNT`
+-- what stands after them, for n syllables: `end COUNT`
 abbrev pub end_line : ℕ → List ℕ
 end_line count = codes "end " ++ (decimal count ++ codes "\n")

@@ -11,7 +11,7 @@ use Rattle.gabc_notes.specs.declared.item.ItemKind.TheVariants as kind
 use Rattle.gabc_notes.specs.declared.note.Note.{Note}
 use Rattle.gabc_neumes.specs.Cut.{glyphs_of}
 use Rattle.gabc_neumes.specs.Elements.{is_in_element, is_in_segment, notes_in}
-use Rattle.gabc_neumes.specs.InForce.{InForce, step_of, is_virgula, in_force_behind, sound_of}
+use Rattle.gabc_neumes.specs.InForce.{InForce, step_of, is_virgula, in_force_after, sound_of}
 use Rattle.gabc_neumes.specs.Sound.{sign_of}
 use Rattle.gabc_neumes.specs.Words.{shape_word, kind_word, alter_word}
 use Rattle.gabc_neumes.specs.declared.glyph.Glyph.{Glyph}
@@ -99,13 +99,13 @@ line_of_item force kept i = line_by force i.kind (bytes_of kept i)
 -- ---- what stands before the line of an item
 
 -- the nearest item is part of an element
-abbrev pub is_behind_element : List ℕ → List Item → Bool
-is_behind_element kept [] = false
-is_behind_element kept (i ∷ before) = is_in_element kept i
+abbrev pub is_after_element : List ℕ → List Item → Bool
+is_after_element kept [] = false
+is_after_element kept (i ∷ before) = is_in_element kept i
 
 -- `element`, before the first item of an element
 abbrev pub element_line : List ℕ → List Item → Item → List ℕ
-element_line kept before i = if is_in_element kept i && not (is_behind_element kept before) then codes "element\n" else []
+element_line kept before i = if is_in_element kept i && not (is_after_element kept before) then codes "element\n" else []
 
 -- `glyph KIND COUNT`
 abbrev pub line_of_glyph : Glyph → List ℕ
@@ -119,14 +119,14 @@ line_of_glyph_at glyphs index = flat_map (λ (g : Glyph). if g.first == index th
 abbrev pub notes_before : List ℕ → List Item → List Note
 notes_before kept before = notes_in kept (reverse (take_while is_in_segment before))
 
-abbrev pub notes_behind : List ℕ → List Item → List Note
-notes_behind kept items = notes_in kept (take_while is_in_segment items)
+abbrev pub notes_after : List ℕ → List Item → List Note
+notes_after kept items = notes_in kept (take_while is_in_segment items)
 
 -- the line of the glyph, of the cut of its segment, that begins with the note at the head of the
 -- items
 abbrev pub line_of_first_glyph : List ℕ → List Item → List Item → List ℕ
 line_of_first_glyph kept before items =
-    line_of_glyph_at (glyphs_of (notes_before kept before ++ notes_behind kept items)) (length (notes_before kept before))
+    line_of_glyph_at (glyphs_of (notes_before kept before ++ notes_after kept items)) (length (notes_before kept before))
 
 abbrev pub is_note : ItemKind → Bool
 is_note kind.Note = true
@@ -140,14 +140,14 @@ glyph_line kept before i items = if is_note i.kind then line_of_first_glyph kept
 
 -- what is in force after the items before
 abbrev pub in_force_at : InForce → List ℕ → List Item → InForce
-in_force_at outset kept before = in_force_behind outset (map (step_of kept) before)
+in_force_at outset kept before = in_force_after outset (map (step_of kept) before)
 
-abbrev pub lines_behind : InForce → List ℕ → List Item → List Item → List ℕ
-lines_behind outset kept before [] = []
-lines_behind outset kept before (i ∷ items) =
+abbrev pub lines_after : InForce → List ℕ → List Item → List Item → List ℕ
+lines_after outset kept before [] = []
+lines_after outset kept before (i ∷ items) =
     element_line kept before i ++ (glyph_line kept before i items
-    ++ (line_of_item (in_force_at outset kept before) kept i ++ lines_behind outset kept (i ∷ before) items))
+    ++ (line_of_item (in_force_at outset kept before) kept i ++ lines_after outset kept (i ∷ before) items))
 
 -- `notes:S`, and the lines of its items
 abbrev pub lines_of_notes : InForce → List ℕ → List ℕ
-lines_of_notes outset kept = codes "notes:" ++ (last_text kept ++ lines_behind outset kept [] (items_of kept))
+lines_of_notes outset kept = codes "notes:" ++ (last_text kept ++ lines_after outset kept [] (items_of kept))

@@ -1,4 +1,4 @@
--- A stage over a score that is set down again from what another one tells.
+-- A stage over a score that is restored from what another one reports.
 use Rattle.std.specs.Prelude.{◌≡◌, ◌==◌, ℕ, Bool, List, Option, Some, None, encode_utf8_all}
 use Rattle.gabc_places.specs.declared.limits.Limits.{Limits}
 use Rattle.gabc_headers.specs.declared.head_event.HeadEvent.{HeadEvent}
@@ -8,44 +8,44 @@ use Rattle.gabc_score.specs.Before.{preceding_of}
 use Rattle.gabc_score.specs.Canonical.{canonical_in_place}
 use Rattle.gabc_score.specs.HeldAgain.{MayBeHeld}
 use Rattle.gabc_score.specs.HeldAside.{HoldTheSame, GiveTheSame}
-use Rattle.gabc_score.specs.ScoreStage.{StandInLine}
-use Rattle.gabc_score.specs.ScoreTells.{held_of}
+use Rattle.gabc_score.specs.ScoreStage.{AreInLine}
+use Rattle.gabc_score.specs.ScoreReports.{held_of}
 use Rattle.gabc_score.specs.Syllable.{UnplacedSyllable}
-use Rattle.gabc_score.specs.ToldWithin.{written_behind}
+use Rattle.gabc_score.specs.ReportedWithin.{written_after}
 use Rattle.gabc_score.specs.witness.ScoreStage.{ScoreStageState, left_of}
 use Rattle.gabc_write.specs.DumpOfSyllables.{HaveOneDump}
 use Rattle.gabc_write.specs.SyllableMeaning.{meaning_of}
 use Rattle.gabc_write.specs.SyllableRead.{as_it_stands}
 
 -- of two syllables that are held both say the same where they stand, wherever in their word.
--- `first` tells whether no syllable stands before them.
+-- `first` says whether no syllable stands before them.
 abbrev pub SayTheSame : Bool → Option UnplacedSyllable → Option UnplacedSyllable → Type 0
 SayTheSame first None None = Unit {0}
 SayTheSame first (Some m) (Some n) =
     (position : Position) → meaning_of (record { made = as_it_stands first m; position = position }) ≡ meaning_of (record { made = as_it_stands first n; position = position })
 SayTheSame first _ _ = ⊥
 
--- After what `before` tells, the canonical text of a syllable spells this text. Read by itself the
--- text is a syllable that may be held there, and has the same canonical text.
+-- After what `before` reports, the canonical text of a syllable spells this text. Read by itself
+-- the text is a syllable that may be held there, and has the same canonical text.
 pub record MayBeHeldByItsText (limits : Limits) (before : Before) (m : UnplacedSyllable) : Type 0 where
   pub text : List ℕ
-  pub bytes : written_behind (preceding_of before) m ≡ encode_utf8_all text
+  pub bytes : written_after (preceding_of before) m ≡ encode_utf8_all text
   pub again : UnplacedSyllable
   pub may : MayBeHeld limits before text again
-  pub same_text : written_behind (preceding_of before) again ≡ written_behind (preceding_of before) m
+  pub same_text : written_after (preceding_of before) again ≡ written_after (preceding_of before) m
 
 -- Whatever follows, the one gives what the other gives. Only the syllable that it holds stands
 -- where the other gives its own: it says the same, and has the same canonical text.
-pub record GoesOnAlike (told made : ScoreStageState) : Type 0 where
+pub record GoesOnEquivalently (told made : ScoreStageState) : Type 0 where
   pub held : HoldTheSame (told.before.syllables == 0) (held_of told) (held_of made)
   pub says : SayTheSame (told.before.syllables == 0) (held_of told) (held_of made)
   pub gives : (xs : List HeadEvent) → GiveTheSame (held_of told) (held_of made) (left_of told xs) (left_of made xs)
 
 -- So it is of characters that stand one after the other, from the place of the next one on.
-pub record GoesOnAlikeInLine (told made : ScoreStageState) : Type 0 where
+pub record GoesOnEquivalentlyInLine (told made : ScoreStageState) : Type 0 where
   pub held : HoldTheSame (told.before.syllables == 0) (held_of told) (held_of made)
   pub says : SayTheSame (told.before.syllables == 0) (held_of told) (held_of made)
-  pub gives : (xs : List HeadEvent) → StandInLine told.held.next xs → GiveTheSame (held_of told) (held_of made) (left_of told xs) (left_of made xs)
+  pub gives : (xs : List HeadEvent) → AreInLine told.held.next xs → GiveTheSame (held_of told) (held_of made) (left_of told xs) (left_of made xs)
 
 -- Two syllables are written alike where both stand there in their word: they have one canonical
 -- text and one dump.

@@ -14,7 +14,7 @@ use Rattle.gabc_notes.specs.ReadAgain.{IsWarning}
 use Rattle.gabc_score.specs.declared.snippets.Snippet.{Snippet}
 use Rattle.gabc_score.specs.Syllable.{UnplacedSyllable, slice}
 use Rattle.gabc_score.specs.Canonical.{canonical}
-use Rattle.gabc_score.specs.Events.{texts_by_definition, text_from, next_line, behind_mark}
+use Rattle.gabc_score.specs.Events.{texts_by_definition, text_from, next_line, after_mark}
 use Rattle.gabc_score.specs.Units.{EndedPart, BodyUnit, LastUnit, last_characters, units_pieces, Cuts}
 use Rattle.gabc_score.specs.FoundInParts.{snippet_events}
 use Rattle.gabc_score.specs.Holding.{IsSnippetOf, kept_on_line}
@@ -100,6 +100,6 @@ pub record IsOneUnit (lines macros : ℕ) (at : Place) (v : ViewFacts) (ss : Lis
   pub behind : List Char
   pub behind_is : behind ≡ placed_characters_from (place_past at (printed_syllable v ss)) rest
   pub characters : placed_characters_from at (printed_syllable v ss ++ rest) ≡ characters_in unit ++ behind
-  pub one_more : (begins : Place) (units : List BodyUnit) (last : LastUnit) → AreUnitsFrom lines macros (behind_mark unit.final.end.place) behind units last
+  pub one_more : (begins : Place) (units : List BodyUnit) (last : LastUnit) → AreUnitsFrom lines macros (after_mark unit.final.end.place) behind units last
       → AreUnitsFrom lines macros begins (placed_characters_from at (printed_syllable v ss ++ rest)) (unit ∷ units) last
   pub again : SaysAgain lines macros unit behind v ss

@@ -1,4 +1,4 @@
--- What a syllable says: all that is told of it but its spelling and its spans.
+-- What a syllable says: all that is reported of it but its spelling and its spans.
 use Rattle.std.specs.Prelude.{◌≡◌, ℕ, List, map, Bool, Option}
 use Rattle.std.specs.Option.{option_map}
 use Rattle.gabc_places.specs.declared.place.Span.{Span}

@@ -9,6 +9,8 @@ use Rattle.gabc_score.specs.declared.events.BodyEvent.{BodyEvent}
 use Rattle.gabc_score.specs.declared.syllable.Position.{Position}
 use Rattle.gabc_score.specs.Body.{events_onto, findings_of}
 use Rattle.gabc_score.specs.Canonical.{canonical}
+use Rattle.gabc_score.specs.HeldAgain.{IsOneAlone}
+use Rattle.gabc_score.specs.ScoreEvents.{first_place}
 use Rattle.gabc_score.specs.SpansPast.{eu_past, nlba_past}
 use Rattle.gabc_score.specs.Syllable.{UnplacedSyllable, since_close, kept_of, all_syllables, is_eu, is_nlba}
 use Rattle.gabc_score.specs.UnitRead.{HoldsSomeUnit, first_events}
@@ -62,3 +64,9 @@ pub record IsReadFromItsText (lines macros : ℕ) (m : UnplacedSyllable) : Type 
 -- so it is whether the syllable is the first one of a score or not
 abbrev pub IsReadWhereItStands : ℕ → ℕ → UnplacedSyllable → Type 0
 IsReadWhereItStands lines macros m = (first : Bool) → IsReadFromItsText lines macros (as_it_stands first m)
+
+-- The canonical text of a syllable, as it stands or as that of the first one of a score, is one
+-- syllable by itself.
+abbrev pub IsWrittenAsOne : ℕ → ℕ → UnplacedSyllable → Type 0
+IsWrittenAsOne lines macros m =
+    (first : Bool) → (text : List ℕ) × ((canonical (first || m.text.word_start) m ≡ encode_utf8_all text) × IsOneAlone lines macros first_place text)

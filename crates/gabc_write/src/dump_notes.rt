@@ -4,10 +4,10 @@ ghost use Rattle.std.specs.Prelude.{◌≡◌, ◌≤◌, ◌<◌, ◌++◌, [],
 ghost use Rattle.std.specs.Fmt.{decimal};
 ghost use Rattle.gabc_patterns.specs.Pattern.{is_in};
 ghost use Rattle.gabc_notes.specs.Items.{AreWithin};
-ghost use Rattle.gabc_neumes.specs.InForce.{step_of, steps_of, in_force_behind, passed};
+ghost use Rattle.gabc_neumes.specs.InForce.{step_of, steps_of, in_force_after, passed};
 ghost use Rattle.gabc_neumes.specs.Words.{base_word, tail_word};
 ghost use Rattle.gabc_write.specs.DumpOfNotes.{line_of_glyph, lines_of_notes};
-ghost use Rattle.gabc_write.specs.machine.NoteLines.{glyph_of, glyph_at, notes_from, line_of_next, left_after, lines_at, place_behind, lines_of_items};
+ghost use Rattle.gabc_write.specs.machine.NoteLines.{glyph_of, glyph_at, notes_from, line_of_next, left_after, lines_at, place_after_input, lines_of_items};
 
 use crate::dump_item::{put_item, put_last, put_shape};
 use crate::dump_pitch::{put_signed_snippet, put_snippet_of};
@@ -158,8 +158,8 @@ fn put_at<S: Put>(
     ensures lines { out.new ≡ S.taken out.old
         (lines_at alterations.old kept.now place item behind.now) }
     ensures alterations { alterations.new
-        ≡ in_force_behind alterations.old (step_of kept.now item ∷ []) }
-    ensures place { result ≡ place_behind kept.now place item behind.now }
+        ≡ in_force_after alterations.old (step_of kept.now item ∷ []) }
+    ensures place { result ≡ place_after_input kept.now place item behind.now }
 {
     let in_element = is_in_element(kept, item);
     if in_element && !place.in_element {

@@ -2,7 +2,7 @@
 
 ghost use Rattle.std.specs.Prelude.{◌≡◌, ◌≤◌, ◌++◌, false, length, take, drop};
 ghost use Rattle.gabc_write.specs.DumpLines.{escaped, escaped_byte};
-ghost use Rattle.gabc_write.specs.machine.TextLine.{line_part, begun_behind, line_end};
+ghost use Rattle.gabc_write.specs.machine.TextLine.{line_part, begun_after, line_end};
 
 use gabc_places::Put;
 
@@ -94,7 +94,7 @@ impl<S: Put> Put for TextLine<'_, S> {
 
     ghost taken = { λ l bytes. record l {
       out = record l.out { now = S.taken l.out.now (line_part l.begun bytes) };
-      begun = begun_behind l.begun bytes;
+      begun = begun_after l.begun bytes;
     } };
 
     ghost taken_nothing = { Prim.search rules };

@@ -1,12 +1,13 @@
 //! Laws of the definitions alone. Each function's contract is a law; its body calls the laws below
 //! that it stands on.
 
-ghost use Rattle.std.specs.Prelude.{◌≡◌, ◌≤◌, ◌<◌, ◌+◌, ◌*◌, ◌^◌, ◌⊎◌, ◌++◌, ◌∷◌, ℕ, Bool, List, length, true, false, Some, Ok, encode_utf8_all, is_some, IfSome, IsUtf8};
+ghost use Rattle.std.specs.Prelude.{◌≡◌, ◌≤◌, ◌<◌, ◌+◌, ◌*◌, ◌^◌, ◌⊎◌, ◌++◌, ◌∷◌, [], ℕ, Bool, List, length, true, false, Some, Ok, encode_utf8_all, is_some, IfSome, IsUtf8};
 ghost use Rattle.std.specs.List.{All};
 ghost use Rattle.gabc_places.specs.declared.place.Place.{Place};
 ghost use Rattle.gabc_places.specs.declared.place.Char.{Char};
 ghost use Rattle.gabc_places.specs.declared.limits.Limits.{Limits};
 ghost use Rattle.gabc_places.specs.LargerLimits.{AreNoLess};
+ghost use Rattle.gabc_places.specs.StageLaw.{concat_of};
 ghost use Rattle.gabc_headers.specs.declared.heads.Heads.{Heads};
 ghost use Rattle.gabc_headers.specs.Heads.{heads_of};
 ghost use Rattle.gabc_headers.specs.Book.{nabc_lines_of};
@@ -20,10 +21,11 @@ ghost use Rattle.gabc_score.specs.Syllable.{UnplacedSyllable, PlacedSyllable};
 ghost use Rattle.gabc_score.specs.Canonical.{canonical, starts_word};
 ghost use Rattle.gabc_score.specs.declared.snippets.Snippet.{Snippet};
 ghost use Rattle.gabc_score.specs.declared.syllable.Position.{Position};
-ghost use Rattle.gabc_score.specs.ScoreTells.{before_of, before_with, held_of};
+ghost use Rattle.gabc_score.specs.ScoreEvents.{syllables_in};
+ghost use Rattle.gabc_score.specs.ScoreReports.{before_of, before_with, held_of};
 ghost use Rattle.gabc_score.specs.Units.{BodyCutting, IsCut};
-ghost use Rattle.gabc_score.specs.witness.MayStand.{MayStand};
-ghost use Rattle.gabc_score.specs.witness.ScoreStage.{ScoreStageState};
+ghost use Rattle.gabc_score.specs.witness.IsReachable.{IsReachable};
+ghost use Rattle.gabc_score.specs.witness.ScoreStage.{ScoreStageState, left_of};
 ghost use Rattle.gabc_score.specs.UnitRead.{HoldsSomeUnit};
 ghost use Rattle.gabc_score.specs.SyllablesOfUnits.{ScoreUnit, HoldsUnit, AreSyllablesOf, score_units};
 ghost use Rattle.gabc_write.specs.SyllableAgain.{AreSnippets, IsPrinted, IsOneUnit};
@@ -33,7 +35,7 @@ ghost use Rattle.gabc_write.specs.ScoreAgain.{IsPrintedScore, IsScoreAgain};
 ghost use Rattle.gabc_write.specs.PlainText.{IsText};
 ghost use Rattle.gabc_write.specs.SetDown.{MayBeHeldByItsText, SayTheSame};
 ghost use Rattle.gabc_write.specs.SyllableMeaning.{AreSame};
-ghost use Rattle.gabc_write.specs.SyllableRead.{as_it_stands, IsReadFromItsText, IsReadWhereItStands};
+ghost use Rattle.gabc_write.specs.SyllableRead.{as_it_stands, IsReadFromItsText, IsReadWhereItStands, IsWrittenAsOne};
 ghost use Rattle.gabc_score.specs.Holding.{HasWholeSnippets, Holds, HoldsNoNotes};
 ghost use Rattle.gabc_write.specs.DumpOfSyllables.{HaveOneDump, lines_of_syllable, lines_of_syllables, steps_of_syllable};
 
@@ -81,12 +83,24 @@ pub fn a_syllable_is_read_from_its_own_text()
 /// again from its own canonical text, by itself, as one syllable that says the same, without an
 /// error. So it is if it is said to be the first one of the score.
 pub fn what_is_held_is_read_from_its_own_text()
-    ensures { (s : ScoreStageState) → MayStand s →
+    ensures { (s : ScoreStageState) → IsReachable s →
         IfSome (held_of s) (IsReadWhereItStands s.body.nabc_lines s.body.macros) }
 {
     gabc_score::stage_laws::what_is_held_holds_a_unit();
     gabc_score::stage_laws::what_is_held_is_within_the_limits();
     a_syllable_is_read_from_its_own_text();
+}
+
+/// Law: where the inputs of a stage over a score just cease, whatever it has read, what it gives
+/// then is written as one syllable: read by itself, its canonical text is one, whole with its last
+/// character and not before.
+pub fn what_breaks_off_is_one_syllable()
+    ensures { (s : ScoreStageState) → IsReachable s →
+        All (λ p. IsWrittenAsOne s.body.nabc_lines s.body.macros p.made)
+        (syllables_in (concat_of (left_of s []))) }
+{
+    gabc_score::stage_laws::what_breaks_off_is_held();
+    what_is_held_is_read_from_its_own_text();
 }
 
 /// Law: the whole syllable that a stage over a score holds in the body, whatever the stage has
@@ -98,8 +112,8 @@ pub fn what_is_held_may_be_held_by_its_text(stage: &ScoreStage)
     ensures { IfSome (held_of stage.now) (MayBeHeldByItsText stage.now.limits
         (before_with stage.now.body stage.now.before)) }
 {
-    gabc_score::stage_laws::a_stage_may_stand(stage);
-    gabc_score::stage_laws::what_is_told_is_within_the_limits();
+    gabc_score::stage_laws::a_stage_is_reachable(stage);
+    gabc_score::stage_laws::what_is_reported_is_within_the_limits();
     gabc_score::unit_laws::some_events_leave_spans_open();
     what_is_held_is_read_from_its_own_text();
 }

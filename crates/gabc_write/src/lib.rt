@@ -13,6 +13,7 @@
 
 mod dump;
 mod dump_item;
+pub mod dump_laws;
 mod dump_nabc;
 mod dump_notes;
 mod dump_pitch;
@@ -23,7 +24,6 @@ pub mod laws;
 mod message;
 pub mod saved_alike;
 pub mod set_down;
-pub mod without_notes;
 
 pub use dump::{dump_end, dump_header};
 pub use dump_slices::dump_spelled;

@@ -2,11 +2,11 @@
 //! saved go on alike, and what they hold is written alike. Each function's contract is a law, and
 //! its body calls the laws that it stands on.
 
-ghost use Rattle.gabc_score.specs.ScoreTells.{held_of};
-ghost use Rattle.gabc_score.specs.witness.MayStand.{MayStand};
+ghost use Rattle.gabc_score.specs.ScoreReports.{held_of};
+ghost use Rattle.gabc_score.specs.witness.IsReachable.{IsReachable};
 ghost use Rattle.gabc_score.specs.witness.ScoreStage.{ScoreStageState};
 ghost use Rattle.gabc_write.specs.SavedAlike.{AreSavedAlike};
-ghost use Rattle.gabc_write.specs.SetDown.{AreWrittenAlike, GoesOnAlikeInLine};
+ghost use Rattle.gabc_write.specs.SetDown.{AreWrittenAlike, GoesOnEquivalentlyInLine};
 
 use crate::laws;
 
@@ -14,27 +14,27 @@ use crate::laws;
 /// after the other. They run under the same limits after the same, hold none or syllables with one
 /// canonical text there, and report the same of the syllable that is not whole. What the one
 /// reports is that of a text, and the next character stands where a text that is read has counted
-/// it. Of syllables with one canonical text each may stand for the other, since both are read from
-/// this text.
+/// it. Of syllables with one canonical text each is equivalent to the other, since both are read
+/// from this text.
 pub fn what_is_saved_alike_goes_on_alike()
-    ensures { (one other : ScoreStageState) → MayStand one → MayStand other →
-        AreSavedAlike one other → GoesOnAlikeInLine one other }
+    ensures { (one other : ScoreStageState) → IsReachable one → IsReachable other →
+        AreSavedAlike one other → GoesOnEquivalentlyInLine one other }
 {
-    gabc_score::stage_laws::what_is_told_is_within_the_limits();
+    gabc_score::stage_laws::what_is_reported_is_within_the_limits();
     gabc_score::stage_laws::what_is_held_is_a_text();
     laws::what_is_held_is_read_from_its_own_text();
     gabc_score::stage_laws::what_is_held_holds_a_unit();
     gabc_score::stage_laws::spans_of_what_is_held_follow();
     gabc_score::unit_laws::some_events_leave_spans_open();
     gabc_score::unit_laws::snippets_of_a_unit_stand_between_characters();
-    gabc_score::stage_laws::stages_that_tell_the_same_agree_in_line();
+    gabc_score::stage_laws::stages_that_report_the_same_agree_in_line();
 }
 
 /// Of two stages that go on alike the syllables that they hold are written alike, wherever in their
 /// word: each has the canonical text of the other, and the dump of the other.
 pub fn what_goes_on_alike_is_written_alike()
-    ensures { (one other : ScoreStageState) → MayStand one → MayStand other →
-        GoesOnAlikeInLine one other → AreWrittenAlike (held_of one) (held_of other) }
+    ensures { (one other : ScoreStageState) → IsReachable one → IsReachable other →
+        GoesOnEquivalentlyInLine one other → AreWrittenAlike (held_of one) (held_of other) }
 {
     gabc_score::stage_laws::what_is_held_holds_a_unit();
     gabc_score::unit_laws::snippets_of_a_unit_stand_between_characters();

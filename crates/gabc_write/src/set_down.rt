@@ -2,11 +2,11 @@
 //! The function's contract is the law, and its body makes the calls.
 
 ghost use Rattle.std.specs.Prelude.{◌≡◌, ◌≤◌, [], true, false, is_some, IfSome};
-ghost use Rattle.gabc_score.specs.Resumed.{StandsBehind};
-ghost use Rattle.gabc_score.specs.ScoreTells.{StandsAt, before_of, before_with, held_of, is_in_front};
-ghost use Rattle.gabc_score.specs.ToldWithin.{IsToldWithin, written_behind};
-ghost use Rattle.gabc_write.specs.SetDown.{GoesOnAlike};
-ghost use Rattle.gabc_write.specs.machine.SetDown.{BeginsAlike, TellsAlike};
+ghost use Rattle.gabc_score.specs.Resumed.{IsAfterSyllables};
+ghost use Rattle.gabc_score.specs.ScoreReports.{IsAt, before_of, before_with, held_of, is_in_front};
+ghost use Rattle.gabc_score.specs.ReportedWithin.{written_after};
+ghost use Rattle.gabc_write.specs.SetDown.{GoesOnEquivalently};
+ghost use Rattle.gabc_write.specs.machine.SetDown.{BeginsAlike, HasHeldText, IsFreeRoom, TellsAlike};
 
 use crate::laws;
 use gabc_places::Room;
@@ -20,13 +20,10 @@ fn hold_told(
     held: &str,
     room: &mut Room<ScoreEvent>,
 ) -> bool
-    requires runs { is_some (before_of told.now) ≡ true }
-    requires within { IsToldWithin told.now }
-    requires text { IfSome (held_of told.now) (λ m. held.now ≡ written_behind told.now.before m) }
-    requires stands { StandsBehind told.now.limits (before_with told.now.body told.now.before)
+    requires text { HasHeldText told.now held.now }
+    requires stands { IsAfterSyllables told.now.limits (before_with told.now.body told.now.before)
         stage.old }
-    requires empty { room.old.items ≡ [] }
-    requires room { 16 ≤ room.old.limit }
+    requires room { IsFreeRoom room.old }
     ensures room { room.new ≡ room.old }
     ensures holds { result ≡ true }
     ensures begins { BeginsAlike told.now stage.new }
@@ -35,7 +32,7 @@ fn hold_told(
         return true;
     };
     laws::what_is_held_may_be_held_by_its_text(told);
-    gabc_score::stage_laws::a_stage_may_stand(told);
+    gabc_score::stage_laws::a_stage_is_reachable(told);
     laws::what_is_held_is_read_from_its_own_text();
     gabc_score::stage_laws::what_is_held_holds_a_unit();
     gabc_score::stage_laws::spans_of_what_is_held_follow();
@@ -70,7 +67,7 @@ fn read_told(stage: &mut ScoreStage, told: &ScoreStage) -> bool
 /// limits, of what `told` reports to stand before. It holds the syllable of which `held` is the
 /// canonical text there, if one is held, and reads the kept text of the next one. The answer is
 /// `true`. `room` is empty and has room for 16 events; nothing stands in it afterwards.
-pub fn a_stage_is_set_down_again(
+pub fn a_stage_is_restored(
     told: &ScoreStage,
     stage: &mut ScoreStage,
     held: &str,
@@ -78,25 +75,25 @@ pub fn a_stage_is_set_down_again(
 ) -> bool
     requires runs { is_some (before_of told.now) ≡ true }
     requires front { is_in_front told.now.body.part ≡ false }
-    requires next { StandsAt told.now.held.next told.now.body.part }
-    requires text { IfSome (held_of told.now) (λ m. held.now ≡ written_behind told.now.before m) }
-    requires stands { StandsBehind told.now.limits (before_with told.now.body told.now.before)
+    requires next { IsAt told.now.held.next told.now.body.part }
+    requires text { IfSome (held_of told.now) (λ m. held.now ≡ written_after told.now.before m) }
+    requires stands { IsAfterSyllables told.now.limits (before_with told.now.body told.now.before)
         stage.old }
     requires empty { room.old.items ≡ [] }
     requires room { 16 ≤ room.old.limit }
     ensures room { room.new ≡ room.old }
     ensures is { result ≡ true }
-    ensures alike { GoesOnAlike told.now stage.new }
+    ensures alike { GoesOnEquivalently told.now stage.new }
 {
-    gabc_score::stage_laws::a_stage_may_stand(told);
-    gabc_score::stage_laws::what_is_told_is_within_the_limits();
+    gabc_score::stage_laws::a_stage_is_reachable(told);
+    gabc_score::stage_laws::what_is_reported_is_within_the_limits();
     if !hold_told(stage, told, held, room) {
         return false;
     }
     if !read_told(stage, told) {
         return false;
     }
-    gabc_score::stage_laws::a_stage_may_stand(stage);
-    gabc_score::stage_laws::stages_that_tell_the_same_agree();
+    gabc_score::stage_laws::a_stage_is_reachable(stage);
+    gabc_score::stage_laws::stages_that_report_the_same_agree();
     true
 }

@@ -4,14 +4,15 @@ use Rattle.gabc_places.specs.BoundedList.{BoundedList, Fits}
 use Rattle.gabc_places.specs.StageLaw.{concat_of, StopsAtEnd}
 use Rattle.gabc_places.specs.declared.limits.Limits.{Limits}
 use Rattle.gabc_headers.specs.declared.head_event.HeadEvent.{HeadEvent}
-use Rattle.gabc_score.specs.declared.score_event.LentSyllable.TheVariants.{First}
+use Rattle.gabc_score.specs.declared.score_event.BorrowedSyllable.TheVariants.{First}
 use Rattle.gabc_score.specs.declared.score_event.ScoreEvent.{ScoreEvent}
 use Rattle.gabc_score.specs.declared.score_machine.ScorePart.TheVariants as score_part
 use Rattle.gabc_score.specs.ScoreEvents.{ScoreOutput, Found, Stop, Syllable, End}
 use Rattle.gabc_score.specs.ScoreStage.{GivesAt, GivesLast, GivesOutputs, events_left, events_of, is_last_event}
 use Rattle.gabc_score.specs.witness.ScoreStage.{ScoreStageState, left_of}
+use Rattle.gabc_score.proofs.score_events.OutputsOfLentSyllables.{then_more}
 use Rattle.gregorio.specs.declared.run_ending.RunEnding.{RunEnding}
-use Rattle.gregorio.specs.witness.Engine.{Written, behind_output, behind_outputs, ceased_ending, ceased_text, ended_by, lines_of_outputs, streams_in, texts_of_outputs}
+use Rattle.gregorio.specs.witness.Engine.{Written, after_output, after_outputs, ceased_ending, ceased_text, ended_by, lines_of_outputs, streams_in, texts_of_outputs}
 use Rattle.gregorio.specs.machine.InStep.{TakesEvent}
 use Rattle.gregorio.specs.machine.RunWriter.{RunWriterState, HasRoomFor, IsInRoom, last_room, line_room, lines_room, past_end, past_outputs, syllable_room, texts_room}
 use Rattle.gregorio.specs.machine.ScoreWriter.{ScoreWriterState, FitsEvents, IsSilent, IsSteady, WritesLast, event_room, needed_in, outputs_of_events}
@@ -19,7 +20,6 @@ use Rattle.gregorio.proofs.PassedInHeads.{passed_in_heads}
 use Rattle.gregorio.proofs.OutputsOfEvents.{as_many_emitted, emitted_is, ends_at_last, nothing_left}
 use Rattle.gregorio.proofs.RoomForAnEvent.{event_has_room, event_in_room, lines_within, needed_for, nothing_over, one_within, room_behind}
 use Rattle.gregorio.proofs.StreamsOfOutputs.{EndsAtLast, headed_stays, job_stays, second_empty}
-use Rattle.gregorio.proofs.pieces.BytesAreJoined.{extended_by_both}
 use Rattle.gregorio.proofs.pieces.WrittenGoesOn.{steady_past}
 
 -- ---- the outputs
@@ -30,17 +30,17 @@ outs_are : (outputs : List ScoreOutput) (r old new : BoundedList ScoreEvent) (ev
 outs_are outputs r old new events s empty is emitted =
     ap (outputs_of_events s) (is ∙ (ap (λ (l : BoundedList ScoreEvent). l.items) emitted.events ∙ ap (λ (l : BoundedList ScoreEvent). l.items ++ events_of outputs) empty)) ∙ emitted_is s outputs emitted.lent
 
--- behind a stop or the end the stage gives nothing
+-- after a stop or the end the stage gives nothing
 ends_where_emitted : (outputs : List ScoreOutput) (old new : BoundedList ScoreEvent) (s : ScoreStageState) → GivesOutputs outputs old new s.first s.second
     → StopsAtEnd is_last_event (events_left s) old new → EndsAtLast (IsSilent s) outputs
 ends_where_emitted outputs old new s emitted stops = ends_at_last (events_left s) old new stops (λ none xs. nothing_left s xs none) First [] outputs emitted.events
 
--- where a run is over behind these, it was over before, or they end it
-over_by_last : (P : Type 0) (w : Written) (outputs : List ScoreOutput) → EndsAtLast P outputs → (IsSome w.ended → P) → IsSome (behind_outputs w outputs).ended → P
+-- where a run is over after these, it was over before, or they end it
+over_by_last : (P : Type 0) (w : Written) (outputs : List ScoreOutput) → EndsAtLast P outputs → (IsSome w.ended → P) → IsSome (after_outputs w outputs).ended → P
 over_by_last P w [] ends before over = before over
-over_by_last P w (Found f ∷ outputs) ends before over = over_by_last P (behind_output w (Found f)) outputs ends before over
+over_by_last P w (Found f ∷ outputs) ends before over = over_by_last P (after_output w (Found f)) outputs ends before over
 over_by_last P w (Stop fault ∷ outputs) ends before over = ends.1
-over_by_last P w (Syllable s ∷ outputs) ends before over = over_by_last P (behind_output w (Syllable s)) outputs ends before over
+over_by_last P w (Syllable s ∷ outputs) ends before over = over_by_last P (after_output w (Syllable s)) outputs ends before over
 over_by_last P w (End ∷ outputs) ends before over = ends.1
 
 -- ---- an event
@@ -137,7 +137,7 @@ module _ (score mid : ScoreStageState) (writer : RunWriterState) (now : ScoreWri
       (subst (λ (outputs : List ScoreOutput). IsInRoom score.limits lines texts writer outputs) (sym emitted_last)
       (record { lines = more_lines; texts = more_texts; within = step.lends.within }))
 
-  -- room is left for the last text behind them
+  -- room is left for the last text after them
   texts_fit : most_texts + last_room ≤ writer.out.limit
   texts_fit =
       let format = writer.written.format in
@@ -165,7 +165,7 @@ module _ (score mid : ScoreStageState) (writer : RunWriterState) (now : ScoreWri
       → WritesLast now (record { score = mid; writer = new }) how
   last_is_written new how writes ended =
       let w = writer.written in
-      let v = behind_outputs w step.outputs in
+      let v = after_outputs w step.outputs in
       let texts = texts_of_outputs w step.outputs in
       let lines = lines_of_outputs w step.outputs in
       let last = ceased_text v.ended v in
@@ -174,7 +174,7 @@ module _ (score mid : ScoreStageState) (writer : RunWriterState) (now : ScoreWri
       subst (λ (s : ScoreWriterState). WritesLast s (record { score = mid; writer = new }) how) view (record {
         output = texts ++ last;
         lines = lines;
-        out = extended_by_both writer.out (past_outputs writer step.outputs).out new.out texts last refl (ap (λ (u : RunWriterState). u.out) is);
+        out = then_more writer.out (past_outputs writer step.outputs).out new.out texts last refl (ap (λ (u : RunWriterState). u.out) is);
         messages = ap (λ (u : RunWriterState). u.messages) is;
         law = λ book.
             ap (λ (lists : List (List ScoreOutput)). streams_in w (concat_of lists)) step.law

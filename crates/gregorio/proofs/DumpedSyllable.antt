@@ -11,17 +11,17 @@ use Rattle.gabc_score.specs.Syllable.{PlacedSyllable}
 use Rattle.gabc_write.specs.DumpOfSyllables.{lines_of_syllable, steps_of_syllable}
 use Rattle.gregorio_jobs.specs.declared.job.Format.{Format}
 use Rattle.gregorio_jobs.specs.declared.job.Format.TheVariants.{Gabc, Dump}
-use Rattle.gregorio.specs.Streams.{force_behind, next_number, syllable_text}
+use Rattle.gregorio.specs.Streams.{force_after, next_number, syllable_text}
 use Rattle.gregorio.specs.witness.Engine.{Written, text_of_output}
 use Rattle.gregorio.specs.machine.RunWriter.{RunWriterState, past_output, syllable_len}
 
--- so many bytes are no more than are counted for a syllable with notes or without
+-- n bytes are no more than are counted for a syllable with notes or without
 within_len : (format : Format) (no_notes : Bool) (n canonical : ℕ) → format ≡ Dump → n ≤ 64 * canonical + 256 → (no_notes ≡ true → n ≤ 2 * canonical + 128) → n ≤ syllable_len format no_notes canonical
 within_len Gabc no_notes n canonical is short shorter = absurd (cc is)
 within_len Dump false n canonical is short shorter = short
 within_len Dump true n canonical is short shorter = shorter refl
 
--- The number and what is in force before are those behind what was written.
+-- The number and what is in force before are those after what was written.
 module _ (w : RunWriterState) (s : PlacedSyllable) (dump : w.written.format ≡ Dump) (number : ℕ) (number_is : number ≡ next_number w.written.count)
     (short : length (lines_of_syllable number w.written.force s) ≤ 64 * length (canonical_in_place s) + 256)
     (shorter : has_no_notes s.made ≡ true → length (lines_of_syllable number w.written.force s) ≤ 2 * length (canonical_in_place s) + 128) where
@@ -73,7 +73,7 @@ module _ (w : RunWriterState) (s : PlacedSyllable) (dump : w.written.format ≡ 
 
       past : Bool → Format → RunWriterState
       past b f = record w {
-        written = record w.written { count = if b then next_number w.written.count else w.written.count; force = if b then force_behind f w.written.force s else w.written.force };
+        written = record w.written { count = if b then next_number w.written.count else w.written.count; force = if b then force_after f w.written.force s else w.written.force };
         out = extended_by w.out (if b then syllable_text f (next_number w.written.count) w.written.force s else []);
         messages = extended_by w.messages [];
       }

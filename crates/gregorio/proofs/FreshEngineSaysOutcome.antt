@@ -16,7 +16,7 @@ use Rattle.gabc_headers.specs.declared.head_event.HeadEvent.{HeadEvent}
 use Rattle.gabc_headers.specs.declared.heads.Heads.{Heads}
 use Rattle.gabc_headers.specs.declared.heads.HeadFault.{HeadFault}
 use Rattle.gabc_headers.specs.Heads.{heads_of}
-use Rattle.gabc_headers.specs.HeadEvents.{emitted_by, inputs_behind}
+use Rattle.gabc_headers.specs.HeadEvents.{emitted_by, inputs_after}
 use Rattle.gabc_headers.specs.witness.HeadEvents.{events_left, fresh_stage, reading, stage_past}
 use Rattle.gabc_score.specs.witness.BodyStage.{texts_by_stage}
 use Rattle.gabc_score.specs.Events.{texts_by_definition}
@@ -32,7 +32,7 @@ use Rattle.gregorio.specs.declared.source_ending.SourceEnding.{SourceEnding}
 use Rattle.gregorio.specs.declared.source_ending.SourceEnding.TheVariants.{Whole as Ended, Broken}
 use Rattle.gregorio.specs.Outcome.{is_whole, is_cut_short, ending_by, outcome_of}
 use Rattle.gregorio.specs.witness.Engine.{head_events_left, streams_from, text_of_heads}
-use Rattle.gregorio.specs.Streams.{Streams, behind_bytes, streams_of_outcome}
+use Rattle.gregorio.specs.Streams.{Streams, after_bytes, streams_of_outcome}
 use Rattle.gregorio.specs.machine.ScoreWriter.{fresh_writer}
 use Rattle.gregorio.proofs.HeadersComeFirst.{NothingBehind, heads_first, nothing_behind}
 use Rattle.gregorio.proofs.StreamsOfAFreshEngine.{SaysScore, stops_at, streams_same}
@@ -47,16 +47,16 @@ items_are d limits known at_end Broken bytes = ap (λ (xs : List ℕ). concat_of
 
 -- what a stage of headers gives of a text, by how its input ended
 pub record GivesHeads (limits : Limits) (t : List ℕ) : Type 0 where
-  pub whole : head_events limits score_ending.Whole t ≡ emitted_by true (inputs_behind [] t) (events_left limits (reading []) (inputs_behind [] t))
-  pub broken : head_events limits score_ending.Broken t ≡ emitted_by false (inputs_behind [] t) (events_left limits (reading []) (inputs_behind [] t))
-  pub stopped : (fault : Fault) (ended : Bool) → head_events limits (score_ending.At fault) t ≡ emitted_by ended (inputs_behind [] t ++ Err fault ∷ []) (events_left limits (reading []) (inputs_behind [] t ++ Err fault ∷ []))
+  pub whole : head_events limits score_ending.Whole t ≡ emitted_by true (inputs_after [] t) (events_left limits (reading []) (inputs_after [] t))
+  pub broken : head_events limits score_ending.Broken t ≡ emitted_by false (inputs_after [] t) (events_left limits (reading []) (inputs_after [] t))
+  pub stopped : (fault : Fault) (ended : Bool) → head_events limits (score_ending.At fault) t ≡ emitted_by ended (inputs_after [] t ++ Err fault ∷ []) (events_left limits (reading []) (inputs_after [] t ++ Err fault ∷ []))
 
 pub given_are : (limits : Limits) (hasher : DefaultHasher) (ending : SourceEnding) (t : List ℕ) (stop : Option Fault) → GivesHeads limits t
-    → head_events_left (fresh_stage limits hasher) ending (inputs_behind [] t ++ fault_items stop) ≡ head_events limits (ending_by ending stop) t
+    → head_events_left (fresh_stage limits hasher) ending (inputs_after [] t ++ fault_items stop) ≡ head_events limits (ending_by ending stop) t
 given_are limits hasher Ended t None g =
-    ap (λ (xs : List (Result Char Fault)). emitted_by true xs (events_left limits (reading []) xs)) (append-nil (inputs_behind [] t)) ∙ sym g.whole
+    ap (λ (xs : List (Result Char Fault)). emitted_by true xs (events_left limits (reading []) xs)) (append-nil (inputs_after [] t)) ∙ sym g.whole
 given_are limits hasher Broken t None g =
-    ap (λ (xs : List (Result Char Fault)). emitted_by false xs (events_left limits (reading []) xs)) (append-nil (inputs_behind [] t)) ∙ sym g.broken
+    ap (λ (xs : List (Result Char Fault)). emitted_by false xs (events_left limits (reading []) xs)) (append-nil (inputs_after [] t)) ∙ sym g.broken
 given_are limits hasher Ended t (Some fault) g = sym (g.stopped fault true)
 given_are limits hasher Broken t (Some fault) g = sym (g.stopped fault false)
 
@@ -93,7 +93,7 @@ module _ (job : Job) (limits : Limits) (score : ScoreStageState) (ending : Sourc
       let headed = is_some made.book in
       ap (λ (lists : List (List ScoreOutput)). streams_from w read from_heads lists) (r.fresh from_heads r.counts ∙ r.outputs)
       ∙ (heads_first texts_by_definition limits read w e decoded.text r_heads
-      ∙ (ap (λ (s : Streams). behind_bytes (text_of_heads w read headed) [] s) (outputs_are_said (Unit {0}) (record w { headed = headed }) (outputs_of_text limits e decoded.text) refl r.ends)
+      ∙ (ap (λ (s : Streams). after_bytes (text_of_heads w read headed) [] s) (outputs_are_said (Unit {0}) (record w { headed = headed }) (outputs_of_text limits e decoded.text) refl r.ends)
       ∙ streams_same w refl refl refl ending decoded.fault (outputs_of_text limits e decoded.text) made r.score_is (stops_at limits e decoded.text r_heads) r.few made.book read (book_by limits e decoded.text r_heads read book)))
 
 -- ---- by the laws of the crates below
@@ -101,10 +101,10 @@ module _ (job : Job) (limits : Limits) (score : ScoreStageState) (ending : Sourc
 pub record LawsBelow : Type 0 where
   pub scalars : (limit : ℕ) (bytes : List ℕ) → All IsScalar (text_of_bytes limit bytes)
   pub short : (limit : ℕ) (bytes : List ℕ) → length (encode_utf8_all (text_of_bytes limit bytes)) ≤ limit
-  pub book : (limits : Limits) (hasher : DefaultHasher) (t : List ℕ) (heads : Heads) (fault : Option Fault) → All IsScalar t → heads_of limits t ≡ Ok heads → (stage_past (fresh_stage limits hasher) (inputs_behind [] t ++ fault_items fault)).book ≡ heads.book
-  pub whole : (limits : Limits) (t : List ℕ) → All IsScalar t → let xs = inputs_behind [] t in head_events limits score_ending.Whole t ≡ emitted_by true xs (events_left limits (reading []) xs)
-  pub broken : (limits : Limits) (t : List ℕ) → All IsScalar t → let xs = inputs_behind [] t in head_events limits score_ending.Broken t ≡ emitted_by false xs (events_left limits (reading []) xs)
-  pub stopped : (limits : Limits) (t : List ℕ) (fault : Fault) (ended : Bool) → All IsScalar t → let xs = inputs_behind [] t ++ Err fault ∷ [] in head_events limits (score_ending.At fault) t ≡ emitted_by ended xs (events_left limits (reading []) xs)
+  pub book : (limits : Limits) (hasher : DefaultHasher) (t : List ℕ) (heads : Heads) (fault : Option Fault) → All IsScalar t → heads_of limits t ≡ Ok heads → (stage_past (fresh_stage limits hasher) (inputs_after [] t ++ fault_items fault)).book ≡ heads.book
+  pub whole : (limits : Limits) (t : List ℕ) → All IsScalar t → let xs = inputs_after [] t in head_events limits score_ending.Whole t ≡ emitted_by true xs (events_left limits (reading []) xs)
+  pub broken : (limits : Limits) (t : List ℕ) → All IsScalar t → let xs = inputs_after [] t in head_events limits score_ending.Broken t ≡ emitted_by false xs (events_left limits (reading []) xs)
+  pub stopped : (limits : Limits) (t : List ℕ) (fault : Fault) (ended : Bool) → All IsScalar t → let xs = inputs_after [] t ++ Err fault ∷ [] in head_events limits (score_ending.At fault) t ≡ emitted_by ended xs (events_left limits (reading []) xs)
   pub counts : (limits : Limits) (e : InputEnding) (t : List ℕ) → length (encode_utf8_all t) < 2 ^ 63 → AreCountsBelow (head_events limits e t)
   pub outputs : (limits : Limits) (e : InputEnding) (t : List ℕ) → length (encode_utf8_all t) < 2 ^ 63
       → score_outputs texts_by_stage limits (head_events limits e t) ≡ score_outputs texts_by_definition limits (head_events limits e t)
@@ -148,7 +148,7 @@ module _ (below : LawsBelow) (job : Job) (limits : Limits) (hasher : DefaultHash
   streams_are bytes ending =
       let decoded = decoded_of limits (is_whole ending) bytes in
       let t = decoded.text in
-      let xs = inputs_behind [] t ++ fault_items decoded.fault in
+      let xs = inputs_after [] t ++ fault_items decoded.fault in
       let scalars : All IsScalar t = below.scalars limits.input bytes in
       let step : GivesHeads limits t = record { whole = below.whole limits t scalars; broken = below.broken limits t scalars; stopped = λ fault ended. below.stopped limits t fault ended scalars } in
       ap (λ (items : List (Result Char Fault)). let from_heads = head_events_left (fresh_stage limits hasher) ending items in

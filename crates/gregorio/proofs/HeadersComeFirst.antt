@@ -15,11 +15,11 @@ use Rattle.gabc_score.specs.declared.ending.InputEnding.{InputEnding}
 use Rattle.gabc_score.specs.Score.{score_by, head_fault_by}
 use Rattle.gabc_score.specs.ScoreEvents.{ScoreOutput, Found, Stop, Syllable, End, score_outputs, stop_events, head_events_by, is_last}
 use Rattle.gregorio.specs.Outcome.{shown_line, is_error_finding}
-use Rattle.gregorio.specs.Streams.{Streams, behind_bytes, heads_text}
+use Rattle.gregorio.specs.Streams.{Streams, after_bytes, heads_text}
 use Rattle.gregorio.specs.witness.Engine.{Written, is_heads, streams_from, streams_in, text_of_heads}
 use Rattle.gregorio.proofs.StreamsOfOutputs.{EndsAtLast, going_on, in_body, one_and_rest, without_heads}
 
--- ---- nothing stands behind the last
+-- ---- nothing stands after the last
 
 abbrev pub NothingBehind : List ScoreOutput → Type 0
 NothingBehind outputs = (before behind : List ScoreOutput) (o : ScoreOutput) → outputs ≡ before ++ o ∷ behind → is_last o ≡ true → behind ≡ []
@@ -48,28 +48,28 @@ module _ (texts : Texts) (limits : Limits) (read : List (List ℕ × List ℕ)) 
   abbrev says : List HeadEvent → List (List ScoreOutput)
   says from_heads = score_outputs texts limits from_heads
 
-  -- what is found comes before them, and writes nothing behind them
+  -- what is found comes before them, and writes nothing after them
   heads_and_rest : (w : Written) (fs : List Finding) (book : List (List ℕ × List ℕ)) (rest : List HeadEvent)
       → (let from_heads = found_events fs ++ event_of_book book ∷ rest in
-      streams_from (going_on false w) read from_heads (says from_heads) ≡ behind_bytes (heads_text w.format read) [] (streams_in (going_on true w) (concat_of (says from_heads))))
+      streams_from (going_on false w) read from_heads (says from_heads) ≡ after_bytes (heads_text w.format read) [] (streams_in (going_on true w) (concat_of (says from_heads))))
   heads_and_rest w [] book rest =
       let text = heads_text w.format read in
       let v = going_on true w in
       let lists = drop 1 (says (event_of_book book ∷ rest)) in
-      ap (λ (l : List ℕ). behind_bytes l [] (streams_from v read rest lists)) (append-nil text)
-      ∙ ap (λ (s : Streams). behind_bytes text [] s) (in_body v read rest lists refl)
+      ap (λ (l : List ℕ). after_bytes l [] (streams_from v read rest lists)) (append-nil text)
+      ∙ ap (λ (s : Streams). after_bytes text [] s) (in_body v read rest lists refl)
   heads_and_rest w (f ∷ fs) book rest =
       let from_heads = found_events fs ++ event_of_book book ∷ rest in
       let line = shown_line w.name w.all_warnings f in
       let u : Written = record w { errors = w.errors || is_error_finding f } in
-      ap (λ (l : List ℕ). behind_bytes [] l (streams_from (going_on false u) read from_heads (says from_heads))) (append-nil line)
-      ∙ (ap (λ (s : Streams). behind_bytes [] line s) (heads_and_rest u fs book rest)
-      ∙ ap (λ (s : Streams). behind_bytes (heads_text w.format read) [] s) (sym (one_and_rest (going_on true w) (Found f) (concat_of (says from_heads)))))
+      ap (λ (l : List ℕ). after_bytes [] l (streams_from (going_on false u) read from_heads (says from_heads))) (append-nil line)
+      ∙ (ap (λ (s : Streams). after_bytes [] line s) (heads_and_rest u fs book rest)
+      ∙ ap (λ (s : Streams). after_bytes (heads_text w.format read) [] s) (sym (one_and_rest (going_on true w) (Found f) (concat_of (says from_heads)))))
 
   pub heads_first : (w : Written) (ending : InputEnding) (t : List ℕ) (r : Result Heads HeadFault)
       → (let from_heads = head_events_by ending t r in
       let headed = is_some (score_by limits ending t r).book in
-      streams_from (going_on false w) read from_heads (says from_heads) ≡ behind_bytes (text_of_heads w read headed) [] (streams_in (going_on headed w) (concat_of (says from_heads))))
+      streams_from (going_on false w) read from_heads (says from_heads) ≡ after_bytes (text_of_heads w read headed) [] (streams_in (going_on headed w) (concat_of (says from_heads))))
   heads_first w ending t (Ok heads) = heads_and_rest w heads.findings heads.book _
   heads_first w ending t (Err stop) =
       let from_heads = head_events_by ending t (Err stop) in

@@ -23,7 +23,7 @@ found_errors : (fs : List Finding) → list_any is_error_event (map (λ (f : Fin
 found_errors [] = refl
 found_errors (f ∷ fs) = ap (λ (b : Bool). is_error_finding f || b) (found_errors fs)
 
--- ---- behind one input more
+-- ---- after one input more
 
 past_one : (xs : List Char) (x : Char) (h : HeaderStageState) → stage_past h (inputs_of (xs ++ x ∷ [])) ≡ stage_after (stage_past h (inputs_of xs)) (Ok x)
 past_one [] x h = refl

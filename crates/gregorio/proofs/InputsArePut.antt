@@ -8,20 +8,20 @@ use Rattle.gregorio_jobs.specs.declared.job.Status.{Status}
 use Rattle.gregorio.specs.declared.source_ending.SourceEnding.{SourceEnding}
 use Rattle.gregorio.specs.Engine.{RunsJob, with_waiting}
 use Rattle.gregorio.specs.witness.Engine.{EngineState, streams_left}
-use Rattle.gregorio.specs.Streams.{Streams, behind_bytes, ended_with}
+use Rattle.gregorio.specs.Streams.{Streams, after_bytes, ended_with}
 use Rattle.gregorio.specs.machine.InMemory.{TakeTheSame}
 use Rattle.gregorio.proofs.PiecesAreSent.{IsTaken}
 
--- what is left of an input, once an engine took so many bytes more
-pub left_behind : (e f g : EngineState) (input : List ℕ) (count k : ℕ) → IsTaken e f (take k (drop count input)) → g ≡ record f { output = []; messages = [] }
-    → (ending : SourceEnding) (more : List ℕ) → streams_left e ending (drop count input ++ more) ≡ behind_bytes f.output f.messages (streams_left g ending (drop (count + k) input ++ more))
-left_behind e f g input count k law forgets ending more =
+-- what is left of an input, once an engine took n bytes more
+pub left_past : (e f g : EngineState) (input : List ℕ) (count k : ℕ) → IsTaken e f (take k (drop count input)) → g ≡ record f { output = []; messages = [] }
+    → (ending : SourceEnding) (more : List ℕ) → streams_left e ending (drop count input ++ more) ≡ after_bytes f.output f.messages (streams_left g ending (drop (count + k) input ++ more))
+left_past e f g input count k law forgets ending more =
     let rest : List ℕ = drop count input in
     ap (λ (l : List ℕ). streams_left e ending (l ++ more)) (sym (take-append-drop k rest))
     ∙ (ap (streams_left e ending) (append_assoc (take k rest) (drop k rest) more)
     ∙ (law (drop k rest ++ more) ending
     ∙ (ap (λ (l : List ℕ). with_waiting f (streams_left f ending (l ++ more))) (drop-drop k count input)
-    ∙ ap (λ (s : EngineState). behind_bytes f.output f.messages (streams_left s ending (drop (count + k) input ++ more))) (sym forgets))))
+    ∙ ap (λ (s : EngineState). after_bytes f.output f.messages (streams_left s ending (drop (count + k) input ++ more))) (sym forgets))))
 
 -- what waits is none of its job
 pub runs_where_taken : (f g : EngineState) (job : Job) (limits : Limits) → g ≡ record f { output = []; messages = [] } → RunsJob job limits f → RunsJob job limits g
@@ -34,7 +34,7 @@ module _ {A B : Type 0} (takes : A → List ℕ → A) (takes_too : B → List �
 
   module _ (both : (s : A) (a b : List ℕ) → takes (takes s a) b ≡ takes s (a ++ b)) (both_too : (s : B) (a b : List ℕ) → takes_too (takes_too s a) b ≡ takes_too s (a ++ b)) where
     -- they took what stands before the rest
-    pub more_taken : (o p q : A) (m n r : B) (s t u : Streams) (output lines : List ℕ) → TakeTheSame takes takes_too o m s p n t → t ≡ behind_bytes output lines u
+    pub more_taken : (o p q : A) (m n r : B) (s t u : Streams) (output lines : List ℕ) → TakeTheSame takes takes_too o m s p n t → t ≡ after_bytes output lines u
         → q ≡ takes p output → r ≡ takes_too n lines → TakeTheSame takes takes_too o m s q r u
     more_taken o p q m n r s t u output lines h parts i j = record {
       output = ap (λ (x : A). takes x u.output) i ∙ (both p output u.output ∙ (ap (λ (x : Streams). takes p x.output) (sym parts) ∙ h.output));
@@ -44,7 +44,7 @@ module _ {A B : Type 0} (takes : A → List ℕ → A) (takes_too : B → List �
     }
 
   -- they took the last
-  pub last_taken : (o p q : A) (m n r : B) (s t : Streams) (output lines : List ℕ) (status : Status) (fault : Option Fault) → TakeTheSame takes takes_too o m s p n t → t ≡ behind_bytes output lines (ended_with status fault)
+  pub last_taken : (o p q : A) (m n r : B) (s t : Streams) (output lines : List ℕ) (status : Status) (fault : Option Fault) → TakeTheSame takes takes_too o m s p n t → t ≡ after_bytes output lines (ended_with status fault)
       → q ≡ takes p output → r ≡ takes_too n lines → (q ≡ takes o s.output) × (r ≡ takes_too m s.messages) × ((status ≡ s.status) × (fault ≡ s.fault))
   last_taken o p q m n r s t output lines status fault h parts i j = (
     i ∙ (ap (takes p) (sym (ap (λ (x : Streams). x.output) parts ∙ append-nil output)) ∙ h.output),

@@ -1,4 +1,4 @@
--- The line `%%` alone is whole headers: a fresh stage into which it is pushed stands behind them.
+-- The line `%%` alone is whole headers: a fresh stage into which it is pushed stands after them.
 use Rattle.std.proofs.Common.{◌≡◌, ℕ, List, [], ◌∷◌, ◌++◌, Bool, true, false, cond, nat_lt, Some, None, Ok, refl, ap, sym, ◌∙◌, arith}
 use Rattle.std.proofs.lemmas.Bool.{false≢true, le-ltb}
 use Rattle.std.specs.declared.hash.DefaultHasher.{DefaultHasher}
@@ -10,7 +10,7 @@ use Rattle.gabc_headers.specs.HeldText.{inputs_of, text_in}
 use Rattle.gabc_headers.specs.Heads.{line_place, stop_at, too_long}
 use Rattle.gabc_headers.specs.witness.Heads.{heads_by}
 use Rattle.gabc_headers.specs.witness.HeadEvents.{HeadProgress, reading, behind, fresh_stage, progress_after, progress_by, progress_with, stage_at, stage_past}
-use Rattle.gregorio.specs.machine.HeldHeaders.{behind_mark}
+use Rattle.gregorio.specs.machine.HeldHeaders.{after_mark}
 
 -- where no limit is passed
 one_by : (b : Bool) → b ≡ false
@@ -31,13 +31,13 @@ two_percents : (limits : Limits) → progress_with limits (37 ∷ []) 37 ≡ beh
 two_percents limits =
     two_by (nat_lt limits.header 0) (nat_lt limits.input 3) (le-ltb limits.header 0 (omega arith)) (le-ltb limits.input 3 (let h = limits.in_range.input_least in omega (arith, h)))
 
-behind_two : (limits : Limits) (hasher : DefaultHasher) (x y : Char) → x.c ≡ 37 → y.c ≡ 37 → stage_past (fresh_stage limits hasher) (Ok x ∷ Ok y ∷ []) ≡ behind_mark limits hasher
+behind_two : (limits : Limits) (hasher : DefaultHasher) (x y : Char) → x.c ≡ 37 → y.c ≡ 37 → stage_past (fresh_stage limits hasher) (Ok x ∷ Ok y ∷ []) ≡ after_mark limits hasher
 behind_two limits hasher x y one two =
     ap (λ (p : HeadProgress). stage_at (stage_at (fresh_stage limits hasher) p) (progress_after limits p (Ok y))) (ap (λ (c : ℕ). progress_with limits [] c) one ∙ one_percent limits)
     ∙ ap (λ (p : HeadProgress). stage_at (stage_at (fresh_stage limits hasher) (reading (37 ∷ []))) p) (ap (λ (c : ℕ). progress_with limits (37 ∷ []) c) two ∙ two_percents limits)
 
 -- wherever its characters are said to stand
-pub mark_ends : (limits : Limits) (hasher : DefaultHasher) (xs : List Char) → text_in xs ≡ 37 ∷ 37 ∷ [] → stage_past (fresh_stage limits hasher) (inputs_of xs) ≡ behind_mark limits hasher
+pub mark_ends : (limits : Limits) (hasher : DefaultHasher) (xs : List Char) → text_in xs ≡ 37 ∷ 37 ∷ [] → stage_past (fresh_stage limits hasher) (inputs_of xs) ≡ after_mark limits hasher
 mark_ends limits hasher [] is = absurd (cc is)
 mark_ends limits hasher (x ∷ []) is = absurd (cc is)
 mark_ends limits hasher (x ∷ y ∷ z ∷ xs) is = absurd (cc is)

@@ -3,12 +3,12 @@ use Rattle.std.proofs.Common.{◌≡◌, ℕ, zero, suc, List, [], ◌∷◌, �
 use Rattle.gabc_places.specs.BoundedList.{BoundedList, extended_by}
 use Rattle.gabc_places.specs.StageLaw.{concat_of, EmitsNothing, StopsAtEnd}
 use Rattle.gabc_headers.specs.declared.head_event.HeadEvent.{HeadEvent}
-use Rattle.gabc_score.specs.declared.score_event.LentSyllable.{LentSyllable}
-use Rattle.gabc_score.specs.declared.score_event.LentSyllable.TheVariants.{Second}
+use Rattle.gabc_score.specs.declared.score_event.BorrowedSyllable.{BorrowedSyllable}
+use Rattle.gabc_score.specs.declared.score_event.BorrowedSyllable.TheVariants.{Second}
 use Rattle.gabc_score.specs.declared.score_event.ScoreEvent.{ScoreEvent}
 use Rattle.gabc_score.specs.declared.score_event.ScoreEvent.TheVariants as event
 use Rattle.gabc_score.specs.ScoreEvents.{ScoreOutput, Found, Stop, Syllable, End, syllables_in}
-use Rattle.gabc_score.specs.ScoreStage.{events_lent, events_of, is_last_event, events_left}
+use Rattle.gabc_score.specs.ScoreStage.{events_borrowed, events_of, is_last_event, events_left}
 use Rattle.gabc_score.specs.witness.ScoreStage.{ScoreStageState, left_of}
 use Rattle.gabc_score.specs.Syllable.{PlacedSyllable}
 use Rattle.gregorio.specs.machine.ScoreWriter.{outputs_of_events}
@@ -29,19 +29,19 @@ take_none (suc n) = refl
 -- ---- the outputs
 
 module _ (s : ScoreStageState) where
-  emitted_none : (outputs : List ScoreOutput) → syllables_in outputs ≡ [] → outputs_of_events s (events_lent Second outputs) ≡ outputs
+  emitted_none : (outputs : List ScoreOutput) → syllables_in outputs ≡ [] → outputs_of_events s (events_borrowed Second outputs) ≡ outputs
   emitted_none [] h = refl
   emitted_none (Found f ∷ outputs) h = ap (λ (l : List ScoreOutput). Found f ∷ l) (emitted_none outputs h)
   emitted_none (Stop fault ∷ outputs) h = ap (λ (l : List ScoreOutput). Stop fault ∷ l) (emitted_none outputs h)
   emitted_none (Syllable x ∷ outputs) h = no_item x (syllables_in outputs) h
   emitted_none (End ∷ outputs) h = ap (λ (l : List ScoreOutput). End ∷ l) (emitted_none outputs h)
 
-  emitted_second : (outputs : List ScoreOutput) → syllables_in outputs ≡ take (length (syllables_in outputs)) (s.second ∷ []) → outputs_of_events s (events_lent Second outputs) ≡ outputs
+  emitted_second : (outputs : List ScoreOutput) → syllables_in outputs ≡ take (length (syllables_in outputs)) (s.second ∷ []) → outputs_of_events s (events_borrowed Second outputs) ≡ outputs
   emitted_second [] h = refl
   emitted_second (Found f ∷ outputs) h = ap (λ (l : List ScoreOutput). Found f ∷ l) (emitted_second outputs h)
   emitted_second (Stop fault ∷ outputs) h = ap (λ (l : List ScoreOutput). Stop fault ∷ l) (emitted_second outputs h)
   emitted_second (Syllable x ∷ outputs) h =
-      ap (λ (y : PlacedSyllable). Syllable y ∷ outputs_of_events s (events_lent Second outputs)) (sym (ap (head_or x) h))
+      ap (λ (y : PlacedSyllable). Syllable y ∷ outputs_of_events s (events_borrowed Second outputs)) (sym (ap (head_or x) h))
       ∙ ap (λ (l : List ScoreOutput). Syllable x ∷ l) (emitted_none outputs (ap tail_of h ∙ take_none (length (syllables_in outputs))))
   emitted_second (End ∷ outputs) h = ap (λ (l : List ScoreOutput). End ∷ l) (emitted_second outputs h)
 
@@ -50,20 +50,20 @@ module _ (s : ScoreStageState) where
   emitted_is (Found f ∷ outputs) h = ap (λ (l : List ScoreOutput). Found f ∷ l) (emitted_is outputs h)
   emitted_is (Stop fault ∷ outputs) h = ap (λ (l : List ScoreOutput). Stop fault ∷ l) (emitted_is outputs h)
   emitted_is (Syllable x ∷ outputs) h =
-      ap (λ (y : PlacedSyllable). Syllable y ∷ outputs_of_events s (events_lent Second outputs)) (sym (ap (head_or x) h))
+      ap (λ (y : PlacedSyllable). Syllable y ∷ outputs_of_events s (events_borrowed Second outputs)) (sym (ap (head_or x) h))
       ∙ ap (λ (l : List ScoreOutput). Syllable x ∷ l) (emitted_second outputs (ap tail_of h))
   emitted_is (End ∷ outputs) h = ap (λ (l : List ScoreOutput). End ∷ l) (emitted_is outputs h)
 
 -- ---- how many
 
-pub as_many_emitted : (lent : LentSyllable) (outputs : List ScoreOutput) → length (events_lent lent outputs) ≡ length outputs
+pub as_many_emitted : (lent : BorrowedSyllable) (outputs : List ScoreOutput) → length (events_borrowed lent outputs) ≡ length outputs
 as_many_emitted lent [] = refl
 as_many_emitted lent (Found f ∷ outputs) = ap suc (as_many_emitted lent outputs)
 as_many_emitted lent (Stop fault ∷ outputs) = ap suc (as_many_emitted lent outputs)
 as_many_emitted lent (Syllable x ∷ outputs) = ap suc (as_many_emitted Second outputs)
 as_many_emitted lent (End ∷ outputs) = ap suc (as_many_emitted lent outputs)
 
-none_emitted : (lent : LentSyllable) (outputs : List ScoreOutput) → events_lent lent outputs ≡ [] → outputs ≡ []
+none_emitted : (lent : BorrowedSyllable) (outputs : List ScoreOutput) → events_borrowed lent outputs ≡ [] → outputs ≡ []
 none_emitted lent [] h = refl
 none_emitted lent (Found f ∷ outputs) h = no_item _ _ h
 none_emitted lent (Stop fault ∷ outputs) h = no_item _ _ h
@@ -76,15 +76,15 @@ module _ {P : Type 0} (after : List HeadEvent → List (List ScoreEvent)) (old n
   one_on : (before : List ScoreEvent) (x : ScoreEvent) (behind : List ScoreEvent) → new ≡ extended_by old (before ++ x ∷ behind) → new ≡ extended_by old ((before ++ x ∷ []) ++ behind)
   one_on before x behind e = e ∙ ap (λ (l : List ScoreEvent). extended_by old l) (sym (append_assoc before (x ∷ []) behind))
 
-  pub ends_at_last : (lent : LentSyllable) (before : List ScoreEvent) (outputs : List ScoreOutput) → new ≡ extended_by old (before ++ events_lent lent outputs) → EndsAtLast P outputs
+  pub ends_at_last : (lent : BorrowedSyllable) (before : List ScoreEvent) (outputs : List ScoreOutput) → new ≡ extended_by old (before ++ events_borrowed lent outputs) → EndsAtLast P outputs
   ends_at_last lent before [] e = tt
-  ends_at_last lent before (Found f ∷ outputs) e = ends_at_last lent (before ++ event.Found f ∷ []) outputs (one_on before (event.Found f) (events_lent lent outputs) e)
+  ends_at_last lent before (Found f ∷ outputs) e = ends_at_last lent (before ++ event.Found f ∷ []) outputs (one_on before (event.Found f) (events_borrowed lent outputs) e)
   ends_at_last lent before (Stop fault ∷ outputs) e =
-      let r = stops before (events_lent lent outputs) (event.Stop fault) e refl in
+      let r = stops before (events_borrowed lent outputs) (event.Stop fault) e refl in
       (none_emitted lent outputs r.0, score_is r.1)
-  ends_at_last lent before (Syllable x ∷ outputs) e = ends_at_last Second (before ++ event.Syllable lent ∷ []) outputs (one_on before (event.Syllable lent) (events_lent Second outputs) e)
+  ends_at_last lent before (Syllable x ∷ outputs) e = ends_at_last Second (before ++ event.Syllable lent ∷ []) outputs (one_on before (event.Syllable lent) (events_borrowed Second outputs) e)
   ends_at_last lent before (End ∷ outputs) e =
-      let r = stops before (events_lent lent outputs) event.End e refl in
+      let r = stops before (events_borrowed lent outputs) event.End e refl in
       (none_emitted lent outputs r.0, score_is r.1)
 
 nothing_emitted : (lists : List (List ScoreOutput)) → concat_of (map (λ outputs. events_of outputs) lists) ≡ [] → concat_of lists ≡ []

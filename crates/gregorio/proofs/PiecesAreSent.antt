@@ -13,7 +13,8 @@ use Rattle.gregorio_jobs.specs.declared.job.Format.{Format}
 use Rattle.gregorio.specs.Engine.{IsPrompt, NothingWaits, TakesFront, with_waiting}
 use Rattle.gregorio.specs.Run.{IsPointOf, used}
 use Rattle.gregorio.specs.witness.Engine.{EngineState, streams_left}
-use Rattle.gregorio.specs.Streams.{Streams, behind_bytes}
+use Rattle.gregorio.specs.Streams.{Streams, after_bytes}
+use Rattle.gregorio.proofs.pieces.BytesAreJoined.{with_both_after}
 use Rattle.gregorio.proofs.pieces.BytesAreTaken.{none_wait}
 use Rattle.gregorio.specs.machine.Compile.{AreSent, AreCut, IsPromptAs, Knows, NoneOrAll, StreamsAreCut, IsFed, IsFedFrom, IsFedAll, IsFedInPart}
 
@@ -22,13 +23,7 @@ pub on_err_any : {A B C : Type 0} (r : Result A B) → C → OnErr r C
 on_err_any (Ok x) h = tt
 on_err_any (Err e) h = h
 
--- bytes behind bytes
-pub behind_twice : (xs ls ys ks : List ℕ) (s : Streams) → behind_bytes xs ls (behind_bytes ys ks s) ≡ behind_bytes (xs ++ ys) (ls ++ ks) s
-behind_twice xs ls ys ks s =
-    ap (λ (o : List ℕ). record s { output = o; messages = ls ++ (ks ++ s.messages) }) (sym (append_assoc xs ys s.output))
-    ∙ ap (λ (l : List ℕ). record s { output = (xs ++ ys) ++ s.output; messages = l }) (sym (append_assoc ls ks s.messages))
-
--- one sink fails behind what both took
+-- one sink fails after what both took
 one_fails : (a b c d e f : Calls) → GoesOn a b → GoesOn d e → (FailsOnce b c × GoesOn e f) ⊎ (GoesOn b c × FailsOnce e f) → (FailsOnce a c × GoesOn d f) ⊎ (GoesOn a c × FailsOnce d f)
 one_fails a b c d e f h k (inl x) = inl (fails_behind a b c h x.0, goes_on_behind d e f k x.1)
 one_fails a b c d e f h k (inr x) = inr (goes_on_behind a b c h x.0, fails_behind d e f k x.1)
@@ -40,7 +35,7 @@ IsTaken e f bytes = (rest : List ℕ) (ending : SourceEnding) → streams_left e
 pub taken_from : (e f : EngineState) (piece : List ℕ) (count : ℕ) → NothingWaits e → TakesFront e piece count f → IsTaken e f (take count piece)
 taken_from e f piece count waits takes rest ending = sym (none_wait e waits (streams_left e ending (take count piece ++ rest))) ∙ takes.brings rest ending
 
--- all behind so many bytes
+-- all after n bytes
 pub all_behind : (count : ℕ) (piece : List ℕ) → take (length piece - count) (drop count piece) ≡ drop count piece
 all_behind count piece = take_all (length piece - count) (drop count piece) (omega (arith, length-drop count piece))
 
@@ -50,7 +45,7 @@ nothing_waits_behind f g h = subst NothingWaits (sym h) (record { output = refl;
 
 -- ---- points of the reading
 
--- behind bytes of which this was written a point of the rest is a point
+-- after bytes of which this was written a point of the rest is a point
 is_point_behind : (xs rest front : List ℕ) (ending at : SourceEnding) → IsPointOf rest ending front at → IsPointOf (xs ++ rest) ending (xs ++ front) at
 is_point_behind xs rest front ending at (inl p) = inl (p.0, (ap (λ (l : List ℕ). xs ++ l) p.1.0 ∙ sym (append_assoc xs front p.0), p.1.1))
 is_point_behind xs rest front ending at (inr p) = inr (ap (λ (l : List ℕ). xs ++ l) p.0, p.1)
@@ -63,21 +58,21 @@ knows_longer e xs rest ending o l k = record { front = k.front; at = k.at; is_po
     by (inl p) = inl (p.0 ++ rest, (ap (λ (x : List ℕ). x ++ rest) p.1.0 ∙ append_assoc k.front p.0 rest, p.1.1))
     by (inr p) = inl (rest, (ap (λ (x : List ℕ). x ++ rest) (sym p.0), p.1))
 
--- behind bytes of which this was written the same holds of what is known of the rest
+-- after bytes of which this was written the same holds of what is known of the rest
 pub knows_behind : (e f : EngineState) (xs rest : List ℕ) (ending : SourceEnding) (output lines : List ℕ) → f.written.format ≡ e.written.format
-    → ((more : List ℕ) (at : SourceEnding) → streams_left e at (xs ++ more) ≡ behind_bytes output lines (streams_left f at more))
+    → ((more : List ℕ) (at : SourceEnding) → streams_left e at (xs ++ more) ≡ after_bytes output lines (streams_left f at more))
     → (o l : List ℕ) → Knows f rest ending o l → Knows e (xs ++ rest) ending (output ++ o) (lines ++ l)
 knows_behind e f xs rest ending output lines format law o l k = record {
   front = xs ++ k.front;
   at = k.at;
   is_point = is_point_behind xs rest k.front ending k.at k.is_point;
   left = k.left;
-  known = law k.front k.at ∙ (ap (behind_bytes output lines) k.known ∙ behind_twice output lines o l k.left);
+  known = law k.front k.at ∙ (ap (after_bytes output lines) k.known ∙ sym (with_both_after output lines o l k.left));
   prompt = subst (λ (x : Format). IsPrompt x k.left) format k.prompt;
 }
 
 -- what an engine has written, which keeps nothing back now
-pub knows_here : (e f : EngineState) (xs output lines : List ℕ) → IsPromptAs e f → ((more : List ℕ) (at : SourceEnding) → streams_left e at (xs ++ more) ≡ behind_bytes output lines (streams_left f at more))
+pub knows_here : (e f : EngineState) (xs output lines : List ℕ) → IsPromptAs e f → ((more : List ℕ) (at : SourceEnding) → streams_left e at (xs ++ more) ≡ after_bytes output lines (streams_left f at more))
     → Knows e xs Broken output lines
 knows_here e f xs output lines p law = record {
   front = xs;
@@ -106,7 +101,7 @@ module _ {A B : Type 0} (wrote : A → Option (List ℕ)) (went : A → Calls) (
     messages_go_on = goes_on_behind (went_too m) (went_too n) (went_too r) s.messages_go_on t.messages_go_on;
   }
 
-  -- a point of what follows is one behind what was sent
+  -- a point of what follows is one after what was sent
   pub cut_after : (P Q : List ℕ → List ℕ → Type 0) (o p q : A) (m n r : B) (xs ls ys ks : List ℕ) → ((x l : List ℕ) → P x l → Q (xs ++ x) (ls ++ l))
       → AreSent (used wrote went o p) (used emitted went_too m n) xs ls → AreCut P (used wrote went p q) (used emitted went_too n r) ys ks
       → AreCut Q (used wrote went o q) (used emitted went_too m r) (xs ++ ys) (ls ++ ks)
@@ -183,7 +178,7 @@ module _ {A B : Type 0} (wrote : A → Option (List ℕ)) (went : A → Calls) (
     lines = a.lines ++ b.lines;
     sent = sent_on o p q m n r a.output a.lines b.output b.lines a.sent b.sent;
     prompt = prompt_on e f g a.prompt b.prompt;
-    law = λ rest ending. ap (streams_left e ending) (append_assoc xs ys rest) ∙ (a.law (ys ++ rest) ending ∙ (ap (behind_bytes a.output a.lines) (b.law rest ending) ∙ behind_twice a.output a.lines b.output b.lines (streams_left g ending rest)));
+    law = λ rest ending. ap (streams_left e ending) (append_assoc xs ys rest) ∙ (a.law (ys ++ rest) ending ∙ (ap (after_bytes a.output a.lines) (b.law rest ending) ∙ sym (with_both_after a.output a.lines b.output b.lines (streams_left g ending rest))));
   }
 
   pub cut_by : (o p q : A) (m n r : B) (e f : EngineState) (xs rest : List ℕ) (ending : SourceEnding) → IsFed (used wrote went o p) (used emitted went_too m n) e f xs
@@ -219,7 +214,7 @@ module _ {A B : Type 0} (wrote : A → Option (List ℕ)) (went : A → Calls) (
       let later : List ℕ = drop k rest in
       let here : IsPromptAs f g = record { format = takes.format; prompt = subst (λ (x : Format). IsPrompt x (streams_left g Broken [])) takes.format takes.prompt } in
       let s = streams_left g ending later in
-      let same : streams_left f ending rest ≡ behind_bytes g.output g.messages s = ap (streams_left f ending) (sym (take-append-drop k rest)) ∙ law later ending in
+      let same : streams_left f ending rest ≡ after_bytes g.output g.messages s = ap (streams_left f ending) (sym (take-append-drop k rest)) ∙ law later ending in
       let none : Knows f rest ending [] [] = knows_longer f [] rest ending [] [] (knows_here f f [] [] [] (record { format = refl; prompt = subst (λ (x : Format). IsPrompt x (streams_left f Broken [])) (sym a.prompt.format) a.prompt.prompt }) (λ more at. refl)) in
       let all : Knows f rest ending g.output g.messages =
       subst (λ (xs : List ℕ). Knows f xs ending g.output g.messages) (take-append-drop k rest) (knows_longer f front later ending g.output g.messages (knows_here f g front g.output g.messages here law)) in

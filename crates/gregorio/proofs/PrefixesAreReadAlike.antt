@@ -1,4 +1,4 @@
--- A run that is stopped behind its headers has the book and the syllables of a prefix of its bytes.
+-- A run that is stopped after its headers has the book and the syllables of a prefix of its bytes.
 use Rattle.std.proofs.Common.{◌≡◌, ℕ, ◌≤◌, ◌<◌, ◌^◌, ◌||◌, not, Bool, true, false, List, ◌++◌, length, take, Option, Some, None, is_some, refl, sym, ap, subst, ◌∙◌, arith, append-nil, append_assoc}
 use lib.Utf8.{encodes}
 use Rattle.gabc_places.specs.declared.code.Fault.{Fault}
@@ -11,7 +11,7 @@ use Rattle.gabc_score.specs.declared.ending.InputEnding.TheVariants.{Whole as Wh
 use Rattle.gabc_headers.specs.Book.{nabc_lines_of, macros_of}
 use Rattle.gabc_score.specs.Events.{Texts, texts_by_definition}
 use Rattle.gabc_score.specs.Score.{score_of}
-use Rattle.gabc_score.specs.SyllablesOfUnits.{body_characters, whole_prefix, IsBodyCut, StandBeforeBodyStop}
+use Rattle.gabc_score.specs.SyllablesOfUnits.{body_characters, whole_prefix, IsBodyCut, AreBeforeBodyStop}
 use Rattle.gabc_score.specs.Syllable.{PlacedSyllable}
 use Rattle.gabc_score.specs.Units.{BodyCutting, IsCut}
 use Rattle.gabc_write.specs.CanonicalFile.{score_text}
@@ -60,10 +60,10 @@ module _ (prefixes : (limits : Limits) (ended whole : Bool) (bytes : List ℕ) (
     (short : (limit : ℕ) (bytes : List ℕ) → length (encodes (text_of_bytes limit bytes)) ≤ limit)
     (one_cutting : (texts : Texts) (lines macros : ℕ) (xs : List Char) → (cut : BodyCutting) × IsCut texts lines macros xs cut)
     (is_front : (book : List (List ℕ × List ℕ)) (t : List ℕ) (cut : BodyCutting) (n : ℕ) → IsBodyCut book t cut → (m : ℕ) × (whole_prefix t cut n ≡ take m t))
-    (stop : (limits : Limits) (book : List (List ℕ × List ℕ)) (t : List ℕ) → (n : ℕ) × StandBeforeBodyStop limits book t n)
+    (stop : (limits : Limits) (book : List (List ℕ × List ℕ)) (t : List ℕ) → (n : ℕ) × AreBeforeBodyStop limits book t n)
     (prefix : (limits : Limits) (ending : InputEnding) (t : List ℕ) (book : List (List ℕ × List ℕ)) (cut : BodyCutting) (n : ℕ) → length (encodes t) < 2 ^ 63
     → (let score = score_of limits ending t in let again = score_of limits WholeInput (whole_prefix t cut n) in
-    score.book ≡ Some book → IsBodyCut book t cut → StandBeforeBodyStop limits book t n → ¬ ((ending ≡ WholeInput) × (score.fault ≡ None))
+    score.book ≡ Some book → IsBodyCut book t cut → AreBeforeBodyStop limits book t n → ¬ ((ending ≡ WholeInput) × (score.fault ≡ None))
     → (again.book ≡ score.book) × ((again.syllables ≡ score.syllables) × (again.fault ≡ None))))
     (limits : Limits) (ending : SourceEnding) (bytes : List ℕ) where
   abbrev first : Outcome

@@ -1,4 +1,4 @@
--- Of what an engine saves no fault tells but the want of memory.
+-- Of what an engine saves no fault reports but the want of memory.
 use Rattle.std.proofs.Common.{◌≡◌, ℕ, ◌++◌, List, drop, length, take, Result, Err, refl, ap, subst, ◌∙◌}
 use Rattle.std.proofs.Math.Seq.{take-append_seam}
 use Rattle.gabc_places.specs.declared.limits.Limits.{Limits}

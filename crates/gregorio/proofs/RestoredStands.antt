@@ -1,15 +1,15 @@
 -- The parts that are made from the fields of a state stand together as those of an engine that runs.
-use Rattle.std.proofs.Common.{◌≡◌, ℕ, ◌+◌, ◌*◌, ◌-◌, ◌≤◌, List, [], ◌∷◌, Bool, true, false, Option, Some, None, is_none, inl, IsUtf8, encode_utf8_all, refl, ap, sym, subst, ◌∙◌, arith}
+use Rattle.std.proofs.Common.{◌≡◌, ℕ, ◌+◌, ◌*◌, ◌-◌, ◌≤◌, List, [], ◌∷◌, Bool, true, false, Option, Some, None, is_none, inl, refl, ap, sym, subst, ◌∙◌, arith}
 use Rattle.std.proofs.lemmas.Bool.{and_parts, false≢true}
 use Rattle.std.proofs.lemmas.List.Elements.{All-cons, All-head, All-nil, All-tail}
-use Rattle.std.proofs.lemmas.Str.{chars_from_encodes, scalars-chars}
+use Rattle.std.proofs.lemmas.Str.{encodes-chars, scalars-chars}
 use lib.Utf8.{scalars}
 use Rattle.std.specs.List.{All}
 use Rattle.std.specs.Str.{chars}
 use Rattle.std.specs.declared.hash.DefaultHasher.{DefaultHasher}
 use Rattle.gabc_places.specs.BoundedList.{BoundedList}
 use Rattle.gabc_places.specs.DecoderMachine.{DecoderState}
-use Rattle.gabc_places.specs.DecoderTells.{is_after_cr, resumed}
+use Rattle.gabc_places.specs.DecoderReports.{is_after_cr, resumed}
 use Rattle.gabc_places.specs.TextOfAnInput.{IsPlain, IsText, IsTextCharacter}
 use Rattle.gabc_places.specs.declared.limits.Limits.{Limits}
 use Rattle.gabc_places.specs.declared.place.Place.{Place}
@@ -17,7 +17,7 @@ use Rattle.gabc_headers.specs.HeldText.{holding}
 use Rattle.gabc_headers.specs.declared.head_event.HeadEvent.{HeadEvent}
 use Rattle.gabc_headers.specs.witness.HeadEvents.{HeaderStageState, reading, behind}
 use Rattle.gabc_score.specs.Syllable.{UnplacedSyllable}
-use Rattle.gabc_score.specs.ScoreTells.{StandsAt, held_of}
+use Rattle.gabc_score.specs.ScoreReports.{IsAt, held_of}
 use Rattle.gabc_score.specs.declared.score_machine.ScorePart.TheVariants as score_part
 use Rattle.gabc_score.specs.witness.ScoreStage.{ScoreStageState}
 use Rattle.gregorio_jobs.specs.declared.job.Format.{Format}
@@ -30,7 +30,7 @@ use Rattle.gregorio.specs.declared.run_ending.RunEnding.{RunEnding}
 use Rattle.gregorio.specs.Outcome.{input_name}
 use Rattle.gregorio.specs.witness.Engine.{EngineState, Written}
 use Rattle.gregorio.specs.machine.Engine.{IsEngine}
-use Rattle.gregorio.specs.machine.HeldHeaders.{behind_mark}
+use Rattle.gregorio.specs.machine.HeldHeaders.{after_mark}
 use Rattle.gregorio.specs.machine.InStep.{AreInOnePart, HasForce}
 use Rattle.gregorio.specs.machine.Restored.{GoesOn, HasEmptyRooms, StandIn, StandSo, written_by}
 use Rattle.gregorio.specs.machine.Restoring.{IsSetDown}
@@ -49,10 +49,6 @@ characters (c ∷ cs) are plain =
 
 text_characters : (bytes : List ℕ) → IsText bytes → All IsTextCharacter (chars bytes)
 text_characters bytes is = characters (chars bytes) (scalars-chars bytes is.utf8) is.plain
-
--- and its bytes are those of its characters
-pub text_bytes : (bytes : List ℕ) → IsUtf8 bytes → encode_utf8_all (chars bytes) ≡ bytes
-text_bytes bytes is = ap encode_utf8_all (sym (chars_from_encodes is.0 bytes is is.1.1)) ∙ is.1.1
 
 -- ---- the syllables before the one that is held
 
@@ -143,7 +139,7 @@ module _ (job : Job) (s : StateFields) (limits : Limits) (is_job : IsOfJob job l
       body_parts : AreInOnePart (behind []) w.score.part w.writer.written.headed
       body_parts = record { in_part = d.body; written_so = headed }
 
-      pub engine_in_score : IsEngine decoder (behind_mark limits hasher) from_heads w
+      pub engine_in_score : IsEngine decoder (after_mark limits hasher) from_heads w
       engine_in_score = record {
         few = few;
         together = record {
@@ -164,7 +160,7 @@ module _ (job : Job) (s : StateFields) (limits : Limits) (is_job : IsOfJob job l
             taken = λ is. d.whole;
             column = fields.decoder.reached.column;
             near = near;
-            counts = λ within body. subst (λ (p : Place). StandsAt p w.score.body.part) d.next d.stands;
+            counts = λ within body. subst (λ (p : Place). IsAt p w.score.body.part) d.next d.stands;
           };
         };
         headers = λ running. tt;
@@ -186,7 +182,7 @@ module _ (job : Job) (s : StateFields) (limits : Limits) (is_job : IsOfJob job l
     pub restored_engine : (d : DecoderState) (h : HeaderStageState) → d ≡ decoder → StandSo s limits h w.score → w.writer.written ≡ written_by job s s.phase → IsEngine d h from_heads w
     restored_engine d h is_d so is_w = subst (λ (x : DecoderState). IsEngine x h from_heads w) (sym is_d) (by_phase s.phase h fields.phase so.stand is_w)
 
--- ---- what it tells
+-- ---- what it reports
 
 abbrev fields_made : Format → Bool → ℕ → ℕ → ℕ → ℕ → Place → List ℕ → Bool → Bool → PhaseFields → StateFields
 fields_made format warnings header syllable input taken place pending cr error phase = record {
@@ -215,7 +211,7 @@ same s format warnings header syllable input taken place pending cr error phase 
 module _ (job : Job) (s : StateFields) (limits : Limits) (is_job : IsOfJob job limits s) (fields : AreStateFields s) (e : EngineState) (is_d : e.decoder ≡ resumed s.input_limit s.taken s.place s.pending s.after_cr)
     (cr : is_after_cr e.decoder ≡ s.after_cr) (limits_are : e.score.limits ≡ limits) (output : e.output ≡ []) (messages : e.messages ≡ []) where
   goes : (format : e.written.format ≡ job.format) → e.written.all_warnings ≡ job.all_warnings → e.written.errors ≡ s.has_error → e.written.name ≡ input_name job.input → e.written.ended ≡ None
-      → phase_fields e.heads.progress e.written.force e.score ≡ s.phase → GoesOn job limits s e
+      → phase_fields e.heads.progress e.written.force e.score ≡ s.phase → GoesOn job limits s e.heads.hasher e
   goes format warnings errors name ended phase = record {
     state = same s e.written.format e.written.all_warnings e.score.limits.header e.score.limits.syllable e.score.limits.input e.decoder.taken e.decoder.place e.decoder.pending
         (is_after_cr e.decoder) e.written.errors (phase_fields e.heads.progress e.written.force e.score)
@@ -233,16 +229,17 @@ module _ (job : Job) (s : StateFields) (limits : Limits) (is_job : IsOfJob job l
     job_is = record { limits_are = limits_are; format = format; name = name; all_warnings = warnings };
     running = ap (λ (o : Option RunEnding). is_none o) ended;
     waits = record { output = output; messages = messages };
+    hasher_is = refl;
   }
 
-  goes_by : (phase : PhaseFields) → phase ≡ s.phase → ArePhaseFields s phase → StandIn s phase limits e.heads e.score → e.written ≡ written_by job s phase → GoesOn job limits s e
+  goes_by : (phase : PhaseFields) → phase ≡ s.phase → ArePhaseFields s phase → StandIn s phase limits e.heads e.score → e.written ≡ written_by job s phase → GoesOn job limits s e.heads.hasher e
   goes_by (InHeaders text) is are stand is_w =
       goes (ap (λ (v : Written). v.format) is_w) (ap (λ (v : Written). v.all_warnings) is_w) (ap (λ (v : Written). v.errors) is_w) (ap (λ (v : Written). v.name) is_w) (ap (λ (v : Written). v.ended) is_w)
-      (ap (λ (h : HeaderStageState). phase_fields h.progress e.written.force e.score) stand.heads ∙ (ap (λ (bytes : List ℕ). InHeaders bytes) (text_bytes text are.is_text.utf8) ∙ is))
+      (ap (λ (h : HeaderStageState). phase_fields h.progress e.written.force e.score) stand.heads ∙ (ap (λ (bytes : List ℕ). InHeaders bytes) (encodes-chars text are.is_text.utf8) ∙ is))
   goes_by (InScore f) is are stand is_w =
       goes (ap (λ (v : Written). v.format) is_w) (ap (λ (v : Written). v.all_warnings) is_w) (ap (λ (v : Written). v.errors) is_w) (ap (λ (v : Written). v.name) is_w) (ap (λ (v : Written). v.ended) is_w)
       (ap (λ (h : HeaderStageState). phase_fields h.progress e.written.force e.score) stand.heads
       ∙ (ap (λ (v : Written). InScore (score_fields v.force e.score)) is_w ∙ (ap (λ (g : ScoreFields). InScore g) stand.set_down.tells ∙ is)))
 
-  pub goes_on : StandSo s limits e.heads e.score → e.written ≡ written_by job s s.phase → GoesOn job limits s e
+  pub goes_on : StandSo s limits e.heads e.score → e.written ≡ written_by job s s.phase → GoesOn job limits s e.heads.hasher e
   goes_on so is_w = goes_by s.phase refl fields.phase so.stand is_w

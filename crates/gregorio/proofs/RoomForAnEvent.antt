@@ -15,7 +15,7 @@ use Rattle.gabc_score.specs.witness.ScoreStage.{ScoreStageState, left_of}
 use Rattle.gabc_score.specs.ScoreEvents.{ScoreOutput, Found, Stop, Syllable, End, is_last, syllables_in}
 use Rattle.gregorio_jobs.specs.declared.job.Format.{Format}
 use Rattle.gregorio_jobs.specs.declared.job.Format.TheVariants.{Gabc, Dump}
-use Rattle.gabc_score.specs.ScoreStage.{Lends, is_final, most_lent, part_past}
+use Rattle.gabc_score.specs.ScoreStage.{Lends, is_final, most_borrowed, part_past}
 use Rattle.gregorio.specs.machine.RunWriter.{RunWriterState, IsInRoom, HasRoomFor, heads_room, line_room, lines_room, texts_room, syllable_len, syllable_room, room_without_notes, last_room}
 use Rattle.gregorio.specs.machine.ScoreWriter.{ScoreWriterState, FitsEvents, IsSteady, event_room, events_room, heads_left, needed_in}
 use Rattle.gregorio.proofs.StreamsOfOutputs.{EndsAtLast}
@@ -62,12 +62,12 @@ no_more Gabc no_notes limit = omega arith
 no_more Dump true limit = omega arith
 no_more Dump false limit = omega arith
 
--- how much room so many syllables take, of which those behind the first have no notes
+-- how much room n syllables take, of which those after the first have no notes
 abbrev pub texts_of_syllables : Format → ℕ → ℕ → ℕ
 texts_of_syllables format limit zero = 0
 texts_of_syllables format limit (suc n) = syllable_room format limit + n * room_without_notes format limit
 
--- a syllable, those behind it, and one end
+-- a syllable, those after it, and one end
 pub texts_are : (P : Type 0) (format : Format) (limit : ℕ) (outputs : List ScoreOutput) → EndsAtLast P outputs → OnlyFirstHasNotes (syllables_in outputs)
     → texts_room format limit outputs ≤ texts_of_syllables format limit (length (syllables_in outputs)) + last_room
 texts_are P format limit [] ends later = omega arith
@@ -96,7 +96,7 @@ pub one_within : (P : Type 0) (format : Format) (limit : ℕ) (outputs : List Sc
     → texts_room format limit outputs ≤ syllable_room format limit + last_room
 one_within P format limit outputs few later ends = omega (arith, texts_are P format limit outputs ends later, one_of format limit (length (syllables_in outputs)) few)
 
-texts_within : (P : Type 0) (limits : Limits) (format : Format) (x : HeadEvent) (outputs : List ScoreOutput) → Lends limits (most_lent x) outputs → EndsAtLast P outputs
+texts_within : (P : Type 0) (limits : Limits) (format : Format) (x : HeadEvent) (outputs : List ScoreOutput) → Lends limits (most_borrowed x) outputs → EndsAtLast P outputs
     → texts_room format limits.syllable outputs ≤ event_room format limits.syllable x
 texts_within P limits format (head_event.Body x) outputs lends ends = one_within P format limits.syllable outputs lends.few lends.later ends
 texts_within P limits format (head_event.Stop fault) outputs lends ends = one_within P format limits.syllable outputs lends.few lends.later ends
@@ -119,7 +119,7 @@ needed_more score_part.Heads a b h = h
 needed_more score_part.Body a b h = h
 needed_more score_part.Over a b h = omega arith
 
--- where this is needed, and behind the last nothing is given, so much is needed for what was given
+-- where this is needed, and after the last nothing is given, so much is needed for what was given
 pub needed_for : (format : Format) (limit : ℕ) (part : ScorePart) (room : ℕ) (outputs : List ScoreOutput) → (part ≡ score_part.Over → outputs ≡ []) → texts_room format limit outputs ≤ room
     → texts_room format limit outputs ≤ needed_in part room
 needed_for format limit score_part.Heads room outputs none within = within
@@ -132,7 +132,7 @@ abbrev first_given : List (List ScoreOutput) → List ScoreOutput
 first_given [] = []
 first_given (outputs ∷ lists) = outputs
 
--- behind the last a stage gives nothing
+-- after the last a stage gives nothing
 pub nothing_over : (s : ScoreStageState) (xs : List HeadEvent) (outputs : List ScoreOutput) (later : List (List ScoreOutput)) → left_of s xs ≡ outputs ∷ later → s.part ≡ score_part.Over → outputs ≡ []
 nothing_over s xs outputs later law over =
     sym (ap first_given law) ∙ subst (λ (part : ScorePart). first_given (left_of (record s { part = part }) xs) ≡ []) (sym over) (silent xs)
@@ -155,7 +155,7 @@ final_is_over score_part.Body (head_event.Body x) outputs final last = absurd (c
 final_is_over score_part.Body (head_event.Found f) outputs final last = absurd (cc final)
 final_is_over score_part.Body (head_event.Heads lines macros canonical) outputs final last = absurd (cc final)
 
--- behind an event no more is needed than was left behind it
+-- after an event no more is needed than was left after it
 needed_behind : (old new : ScorePart) (x : HeadEvent) (outputs : List ScoreOutput) (one rest : ℕ) → new ≡ part_past old x outputs
     → ((old ≡ score_part.Over → ⊥) → is_final x ≡ true → list_any is_last outputs ≡ true)
     → needed_in old one + needed_in new rest ≤ needed_in old (one + (if is_final x then 0 else rest))
@@ -177,7 +177,7 @@ needed_behind old new x outputs one rest is last = by old (is_final x) refl refl
 -- ---- an event
 
 pub event_in_room : (P : Type 0) (old : ScoreWriterState) (x : HeadEvent) (outputs : List ScoreOutput)
-    → Lends old.score.limits (most_lent x) outputs → length outputs ≤ 16 → EndsAtLast P outputs → (old.score.part ≡ score_part.Over → outputs ≡ [])
+    → Lends old.score.limits (most_borrowed x) outputs → length outputs ≤ 16 → EndsAtLast P outputs → (old.score.part ≡ score_part.Over → outputs ≡ [])
     → IsInRoom old.score.limits (length old.writer.messages.items + 16 * line_room old.writer.written.name)
     (length old.writer.out.items + needed_in old.score.part (event_room old.writer.written.format old.score.limits.syllable x)) old.writer outputs
 event_in_room P old x outputs lends few ends none = record {
@@ -198,7 +198,7 @@ more_room limits a b c d w outputs more_lines more_texts h = record {
 }
 
 pub event_has_room : (P : Type 0) (old : ScoreWriterState) (x : HeadEvent) (outputs : List ScoreOutput) → FitsEvents old false (x ∷ [])
-    → Lends old.score.limits (most_lent x) outputs → length outputs ≤ 16 → EndsAtLast P outputs → (old.score.part ≡ score_part.Over → outputs ≡ []) → HasRoomFor old.score.limits old.writer outputs
+    → Lends old.score.limits (most_borrowed x) outputs → length outputs ≤ 16 → EndsAtLast P outputs → (old.score.part ≡ score_part.Over → outputs ≡ []) → HasRoomFor old.score.limits old.writer outputs
 event_has_room P old x outputs h lends few ends none =
     let limit = old.score.limits.syllable in
     let format = old.writer.written.format in
@@ -213,7 +213,7 @@ heads_same old new steady headed =
     ∙ (ap (λ (format : Format). if old.writer.written.headed then 0 else heads_room format new.score.limits.header) steady.format
     ∙ ap (λ (limits : Limits). heads_left old.writer.written limits.header) steady.limits)
 
--- behind an event there is room for those that follow
+-- after an event there is room for those that follow
 pub room_behind : (old new : ScoreWriterState) (x : HeadEvent) (outputs : List ScoreOutput) (ends : Bool) (events : List HeadEvent) → IsSteady old new → new.writer.written.headed ≡ old.writer.written.headed
     → new.score.part ≡ part_past old.score.part x outputs → ((old.score.part ≡ score_part.Over → ⊥) → is_final x ≡ true → list_any is_last outputs ≡ true)
     → IsInRoom old.score.limits (length old.writer.messages.items + 16 * line_room old.writer.written.name)

@@ -19,12 +19,13 @@ use Rattle.gregorio.specs.declared.outcome.Outcome.{Outcome}
 use Rattle.gregorio_jobs.specs.declared.job.Format.{Format}
 use Rattle.gregorio.specs.Engine.{IsPrompt, fault_of, with_waiting}
 use Rattle.gregorio.specs.witness.Engine.{EngineState, streams_left}
-use Rattle.gregorio.specs.Streams.{Streams, behind_bytes, ended_with, streams_of_outcome}
-use Rattle.gregorio.specs.Run.{Use, used, Done, IsKnown, SinkCut, Compiles}
+use Rattle.gregorio.specs.Streams.{Streams, after_bytes, ended_with, streams_of_outcome}
+use Rattle.gregorio.specs.Run.{Use, used, Done, IsKnown, SinkCut, Compiles, Taken}
 use Rattle.gregorio.specs.SourceBytes.{ReadsSource}
 use Rattle.gregorio.specs.Outcome.{is_whole, ending_by, is_cut_short, outcome_of, status_by, status_of, is_error_finding}
 use Rattle.gregorio.specs.machine.Compile.{AreSent, AreCut, IsPromptAs, Knows, NoneOrAll, StreamsAreCut, IsFedAll, IsFedInPart, IsRun, SaysOutcomes}
-use Rattle.gregorio.proofs.PiecesAreSent.{behind_twice, sent_on, cut_by, cut_longer}
+use Rattle.gregorio.proofs.pieces.BytesAreJoined.{with_both_after}
+use Rattle.gregorio.proofs.PiecesAreSent.{sent_on, cut_by, cut_longer}
 
 done_by : (job : Job) (limits : Limits) (source out messages : Use) (o : Option Fault) (b e : Bool) → Done job limits source out messages (status_by o b e) → Compiles job limits source out messages (status_by o b e)
 done_by job limits source out messages (Some f) b e d = d
@@ -119,108 +120,26 @@ known_at_end f g ending status prompt last o l (inr all) =
     subst (λ (x : List ℕ). Knows f [] ending x l) (sym all.0) (subst (λ (x : List ℕ). Knows f [] ending g.output x) (sym all.1)
     (record { front = []; at = ending; is_point = inr (refl, refl); left = ended_with status (fault_of g); known = last; prompt = record { messages = refl; output = inl refl } }))
 
-module _ {A B C : Type 0} (wrote : A → Option (List ℕ)) (went : A → Calls) (emitted : B → Option (List ℕ)) (went_too : B → Calls) (left : C → Option (List ℕ)) (reads_went : C → Calls) (job : Job) (limits : Limits) where
-  -- what an engine wrote of an input is its outcome's
-  streams_are : (s t : C) (o p : A) (m n : B) (e f g : EngineState) (ending : SourceEnding) (status : Status) → SaysOutcomes job limits e
-      → (a : IsFedAll limits.input (used left reads_went s t) (used wrote went o p) (used emitted went_too m n) e f ending) → streams_left f ending [] ≡ with_waiting g (ended_with status (fault_of g))
-      → streams_of_outcome job (outcome_of limits ending a.bytes) ≡ behind_bytes (a.fed.output ++ g.output) (a.fed.lines ++ g.messages) (ended_with status (fault_of g))
-  streams_are s t o p m n e f g ending status all a last =
-      sym (all.all a.bytes ending) ∙ (ap (streams_left e ending) (sym (append-nil a.bytes)) ∙ (a.fed.law [] ending
-      ∙ (ap (behind_bytes a.fed.output a.fed.lines) last ∙ behind_twice a.fed.output a.fed.lines g.output g.messages (ended_with status (fault_of g)))))
-
-  -- a run that wrote all
-  runs_whole : (s t : C) (o p q : A) (m n r : B) (e f g : EngineState) (ending : SourceEnding) (status : Status) → SaysOutcomes job limits e
-      → IsFedAll limits.input (used left reads_went s t) (used wrote went o p) (used emitted went_too m n) e f ending → streams_left f ending [] ≡ with_waiting g (ended_with status (fault_of g))
-      → AreSent (used wrote went p q) (used emitted went_too n r) g.output g.messages
-      → Compiles job limits (used left reads_went s t) (used wrote went o q) (used emitted went_too m r) status
-  runs_whole s t o p q m n r e f g ending status all a last sent =
-      let made : Outcome = outcome_of limits ending a.bytes in
-      let are = streams_are s t o p m n e f g ending status all a last in
-      let x = sent_on wrote went emitted went_too o p q m n r a.fed.output a.fed.lines g.output g.messages a.fed.sent sent in
-      let d : Done job limits (used left reads_went s t) (used wrote went o q) (used emitted went_too m r) (status_of made) = record {
-        input = record { bytes = a.bytes; ending = ending; reads = a.reads };
-        written = subst (Appends (wrote o) (wrote q)) (sym (ap (λ (y : Streams). y.output) are ∙ append-nil (a.fed.output ++ g.output))) x.written;
-        messages_written = subst (Appends (emitted m) (emitted r)) (sym (ap (λ (y : Streams). y.messages) are ∙ append-nil (a.fed.lines ++ g.messages))) x.messages_written;
-        ends = refl;
-      } in
-      subst (λ (y : Status). Compiles job limits (used left reads_went s t) (used wrote went o q) (used emitted went_too m r) y) (ap (λ (y : Streams). y.status) are)
-      (done_by job limits (used left reads_went s t) (used wrote went o q) (used emitted went_too m r) made.score.fault made.broken (list_any is_error_finding made.score.findings) d)
-
-  -- a run whose source failed
-  runs_broken : (s t : C) (o p : A) (m n : B) (e f g : EngineState) (ending : SourceEnding) (status : Status) → SaysOutcomes job limits e
-      → IsFedAll limits.input (used left reads_went s t) (used wrote went o p) (used emitted went_too m n) e f ending → streams_left f ending [] ≡ with_waiting g (ended_with status (fault_of g))
-      → status ≡ ReadFault → (reads_went s).failures < (reads_went t).failures
-  runs_broken s t o p m n e f g ending status all a last is =
-      a.reads.broken (read_fault_broken limits ending a.bytes (ap (λ (y : Streams). y.status) (streams_are s t o p m n e f g ending status all a last) ∙ is))
-
-  -- a run that wrote all is not one that a sink's failure cut
-  runs_sunk : (s t : C) (o p : A) (m n : B) (e f g : EngineState) (ending : SourceEnding) (status : Status) → SaysOutcomes job limits e
-      → IsFedAll limits.input (used left reads_went s t) (used wrote went o p) (used emitted went_too m n) e f ending → streams_left f ending [] ≡ with_waiting g (ended_with status (fault_of g))
-      → status ≡ WriteFault → ⊥
-  runs_sunk s t o p m n e f g ending status all a last is =
-      let made : Outcome = outcome_of limits ending a.bytes in
-      never_sunk made.score.fault made.broken (list_any is_error_finding made.score.findings) (ap (λ (y : Streams). y.status) (streams_are s t o p m n e f g ending status all a last) ∙ is)
-
-  -- a run that a sink's failure cut while its source was read
-  runs_short : (s t : C) (o p : A) (m n : B) (e : EngineState) → SaysOutcomes job limits e → IsFedInPart limits.input (used left reads_went s t) (used wrote went o p) (used emitted went_too m n) e
-      → SinkCut job limits (used left reads_went s t) (used wrote went o p) (used emitted went_too m n)
+-- a run that a sink's failure cut when these bytes were taken
+module _ (job : Job) (limits : Limits) (source out messages : Use) where
+  sink_cut : (e : EngineState) → SaysOutcomes job limits e → (input : Taken limits source) → StreamsAreCut out messages e input.ending input.bytes → SinkCut job limits source out messages
   unfolding is_known
-  runs_short s t o p m n e all a =
-      let c = subst (λ (y : Streams). AreCut (Knows e a.bytes Broken) (used wrote went o p) (used emitted went_too m n) y.output y.messages) (all.all a.bytes Broken) a.cut in
+  sink_cut e all input cut =
+      let c = subst (λ (y : Streams). AreCut (Knows e input.bytes input.ending) out messages y.output y.messages) (all.all input.bytes input.ending) cut in
       record {
-        input = record { bytes = a.bytes; ending = Broken; consumed = a.consumed; reads = omega (arith, a.reads); within = a.within; whole = λ no. cc; met = λ runs stopped same. absurd (never_stopped (sym stopped ∙ (a.goes_on.is_stopped ∙ runs))); unmet = λ _ _. refl; failed = λ _. refl };
+        input = input;
         written_count = c.output_count;
         messages_count = c.lines_count;
         written = c.written;
         messages_written = c.messages_written;
         fails = c.fails;
-        known = is_known job limits e a.bytes Broken c.order.output c.order.lines all c.order.is_point;
+        known = is_known job limits e input.bytes input.ending c.order.output c.order.lines all c.order.is_point;
         output_first = c.order.output_first;
         messages_then = c.order.lines_then;
       }
 
-  -- a run that a sink's failure cut at its end
-  runs_cut : (s t : C) (o p q : A) (m n r : B) (e f g : EngineState) (ending : SourceEnding) (status : Status) → SaysOutcomes job limits e
-      → IsFedAll limits.input (used left reads_went s t) (used wrote went o p) (used emitted went_too m n) e f ending → streams_left f ending [] ≡ with_waiting g (ended_with status (fault_of g))
-      → AreCut (NoneOrAll g.output g.messages) (used wrote went p q) (used emitted went_too n r) g.output g.messages
-      → SinkCut job limits (used left reads_went s t) (used wrote went o q) (used emitted went_too m r)
-  unfolding is_known
-  runs_cut s t o p q m n r e f g ending status all a last cut =
-      let longer : StreamsAreCut (used wrote went p q) (used emitted went_too n r) f ending [] =
-      subst (λ (y : Streams). AreCut (Knows f [] ending) (used wrote went p q) (used emitted went_too n r) y.output y.messages) (sym last)
-      (cut_longer wrote went emitted went_too (NoneOrAll g.output g.messages) (Knows f [] ending) p q n r g.output g.messages [] [] (known_at_end f g ending status (prompt_itself e f a.fed.prompt) last) cut) in
-      let c = subst (λ (y : Streams). AreCut (Knows e a.bytes ending) (used wrote went o q) (used emitted went_too m r) y.output y.messages) (all.all a.bytes ending)
-      (subst (StreamsAreCut (used wrote went o q) (used emitted went_too m r) e ending) (append-nil a.bytes) (cut_by wrote went emitted went_too o p q m n r e f a.bytes [] ending a.fed longer)) in
-      record {
-        input = record { bytes = a.bytes; ending = ending; consumed = a.reads.consumed; reads = a.reads.reads; within = a.reads.within; whole = a.reads.whole; met = λ _ _ same. met_whole _ _ _ _ _ _ ending a.reads same; unmet = unmet_broken _ _ _ _ _ _ ending a.reads; failed = failed_broken _ _ _ _ _ _ ending a.reads };
-        written_count = c.output_count;
-        messages_count = c.lines_count;
-        written = c.written;
-        messages_written = c.messages_written;
-        fails = c.fails;
-        known = is_known job limits e a.bytes ending c.order.output c.order.lines all c.order.is_point;
-        output_first = c.order.output_first;
-        messages_then = c.order.lines_then;
-      }
-
-  -- ---- and which ends failed
-
-  pub is_run_whole : (s t : C) (o p q : A) (m n r : B) (e f g : EngineState) (ending : SourceEnding) (status : Status) → SaysOutcomes job limits e
-      → IsFedAll limits.input (used left reads_went s t) (used wrote went o p) (used emitted went_too m n) e f ending → streams_left f ending [] ≡ with_waiting g (ended_with status (fault_of g))
-      → AreSent (used wrote went p q) (used emitted went_too n r) g.output g.messages
-      → IsRun job limits (used left reads_went s t) (used wrote went o q) (used emitted went_too m r) status
-  is_run_whole s t o p q m n r e f g ending status all a last sent =
-      let x = sent_on wrote went emitted went_too o p q m n r a.fed.output a.fed.lines g.output g.messages a.fed.sent sent in
-      record {
-        compiles = runs_whole s t o p q m n r e f g ending status all a last sent;
-        read_fault = runs_broken s t o p m n e f g ending status all a last;
-        write_fault = λ is. absurd (runs_sunk s t o p m n e f g ending status all a last is);
-        steady = λ is. (x.goes_on.failures, x.messages_go_on.failures);
-        in_time = (a.in_time, (x.goes_on.none_late, x.messages_go_on.none_late));
-      }
-
-  is_run_cut : (source out messages : Use) → SinkCut job limits source out messages → NoneLate source.calls_old source.calls_new → IsRun job limits source out messages WriteFault
-  is_run_cut source out messages c in_time = record {
+  is_run_cut : SinkCut job limits source out messages → NoneLate source.calls_old source.calls_new → IsRun job limits source out messages WriteFault
+  is_run_cut c in_time = record {
     compiles = c;
     read_fault = λ is. absurd (sunk_is_not_broken is);
     write_fault = λ is. a_failure_more _ _ _ _ c.fails;
@@ -228,13 +147,83 @@ module _ {A B C : Type 0} (wrote : A → Option (List ℕ)) (went : A → Calls)
     in_time = (in_time, sinks_in_time _ _ _ _ c.fails);
   }
 
+module _ {A B C : Type 0} (wrote : A → Option (List ℕ)) (went : A → Calls) (emitted : B → Option (List ℕ)) (went_too : B → Calls) (left : C → Option (List ℕ)) (reads_went : C → Calls) (job : Job) (limits : Limits) where
+  -- while its source was read
   pub is_run_cut_early : (s t : C) (o p : A) (m n : B) (e : EngineState) → SaysOutcomes job limits e → IsFedInPart limits.input (used left reads_went s t) (used wrote went o p) (used emitted went_too m n) e
       → IsRun job limits (used left reads_went s t) (used wrote went o p) (used emitted went_too m n) WriteFault
-  is_run_cut_early s t o p m n e all a = is_run_cut (used left reads_went s t) (used wrote went o p) (used emitted went_too m n) (runs_short s t o p m n e all a) a.goes_on.none_late
+  is_run_cut_early s t o p m n e all a =
+      let input : Taken limits (used left reads_went s t) = record {
+        bytes = a.bytes;
+        ending = Broken;
+        consumed = a.consumed;
+        reads = omega (arith, a.reads);
+        within = a.within;
+        whole = λ no. cc;
+        met = λ runs stopped same. absurd (never_stopped (sym stopped ∙ (a.goes_on.is_stopped ∙ runs)));
+        unmet = λ _ _. refl;
+        failed = λ _. refl;
+      } in
+      is_run_cut job limits _ _ _ (sink_cut job limits (used left reads_went s t) (used wrote went o p) (used emitted went_too m n) e all input a.cut) a.goes_on.none_late
 
-  pub is_run_cut_late : (s t : C) (o p q : A) (m n r : B) (e f g : EngineState) (ending : SourceEnding) (status : Status) → SaysOutcomes job limits e
-      → IsFedAll limits.input (used left reads_went s t) (used wrote went o p) (used emitted went_too m n) e f ending → streams_left f ending [] ≡ with_waiting g (ended_with status (fault_of g))
-      → AreCut (NoneOrAll g.output g.messages) (used wrote went p q) (used emitted went_too n r) g.output g.messages
-      → IsRun job limits (used left reads_went s t) (used wrote went o q) (used emitted went_too m r) WriteFault
-  is_run_cut_late s t o p q m n r e f g ending status all a last cut =
-      is_run_cut (used left reads_went s t) (used wrote went o q) (used emitted went_too m r) (runs_cut s t o p q m n r e f g ending status all a last cut) a.in_time
+  -- a run whose source was read, and whose engine has ended
+  module _ (s t : C) (o p q : A) (m n r : B) (e f g : EngineState) (ending : SourceEnding) (status : Status) (all : SaysOutcomes job limits e)
+      (a : IsFedAll limits.input (used left reads_went s t) (used wrote went o p) (used emitted went_too m n) e f ending) (last : streams_left f ending [] ≡ with_waiting g (ended_with status (fault_of g))) where
+    abbrev source : Use
+    source = used left reads_went s t
+
+    abbrev out : Use
+    out = used wrote went o q
+
+    abbrev messages : Use
+    messages = used emitted went_too m r
+
+    abbrev made : Outcome
+    made = outcome_of limits ending a.bytes
+
+    -- what an engine wrote of an input is its outcome's
+    streams_are : streams_of_outcome job made ≡ after_bytes (a.fed.output ++ g.output) (a.fed.lines ++ g.messages) (ended_with status (fault_of g))
+    streams_are =
+        sym (all.all a.bytes ending) ∙ (ap (streams_left e ending) (sym (append-nil a.bytes)) ∙ (a.fed.law [] ending
+        ∙ (ap (after_bytes a.fed.output a.fed.lines) last ∙ sym (with_both_after a.fed.output a.fed.lines g.output g.messages (ended_with status (fault_of g))))))
+
+    ends_so : (streams_of_outcome job made).status ≡ status
+    ends_so = ap (λ (y : Streams). y.status) streams_are
+
+    -- all was written
+    pub is_run_whole : AreSent (used wrote went p q) (used emitted went_too n r) g.output g.messages → IsRun job limits source out messages status
+    is_run_whole sent =
+        let x = sent_on wrote went emitted went_too o p q m n r a.fed.output a.fed.lines g.output g.messages a.fed.sent sent in
+        let d : Done job limits source out messages (status_of made) = record {
+          input = record { bytes = a.bytes; ending = ending; reads = a.reads };
+          written = subst (Appends (wrote o) (wrote q)) (sym (ap (λ (y : Streams). y.output) streams_are ∙ append-nil (a.fed.output ++ g.output))) x.written;
+          messages_written = subst (Appends (emitted m) (emitted r)) (sym (ap (λ (y : Streams). y.messages) streams_are ∙ append-nil (a.fed.lines ++ g.messages))) x.messages_written;
+          ends = refl;
+        } in
+        record {
+          compiles = subst (λ (y : Status). Compiles job limits source out messages y) ends_so
+              (done_by job limits source out messages made.score.fault made.broken (list_any is_error_finding made.score.findings) d);
+          read_fault = λ is. a.reads.broken (read_fault_broken limits ending a.bytes (ends_so ∙ is));
+          write_fault = λ is. absurd (never_sunk made.score.fault made.broken (list_any is_error_finding made.score.findings) (ends_so ∙ is));
+          steady = λ is. (x.goes_on.failures, x.messages_go_on.failures);
+          in_time = (a.in_time, (x.goes_on.none_late, x.messages_go_on.none_late));
+        }
+
+    -- a sink's failure cut it at its end
+    pub is_run_cut_late : AreCut (NoneOrAll g.output g.messages) (used wrote went p q) (used emitted went_too n r) g.output g.messages → IsRun job limits source out messages WriteFault
+    is_run_cut_late cut =
+        let longer : StreamsAreCut (used wrote went p q) (used emitted went_too n r) f ending [] =
+        subst (λ (y : Streams). AreCut (Knows f [] ending) (used wrote went p q) (used emitted went_too n r) y.output y.messages) (sym last)
+        (cut_longer wrote went emitted went_too (NoneOrAll g.output g.messages) (Knows f [] ending) p q n r g.output g.messages [] [] (known_at_end f g ending status (prompt_itself e f a.fed.prompt) last) cut) in
+        let input : Taken limits source = record {
+          bytes = a.bytes;
+          ending = ending;
+          consumed = a.reads.consumed;
+          reads = a.reads.reads;
+          within = a.reads.within;
+          whole = a.reads.whole;
+          met = λ _ _ same. met_whole _ _ _ _ _ _ ending a.reads same;
+          unmet = unmet_broken _ _ _ _ _ _ ending a.reads;
+          failed = failed_broken _ _ _ _ _ _ ending a.reads;
+        } in
+        is_run_cut job limits source out messages
+        (sink_cut job limits source out messages e all input (subst (StreamsAreCut out messages e ending) (append-nil a.bytes) (cut_by wrote went emitted went_too o p q m n r e f a.bytes [] ending a.fed longer))) a.in_time

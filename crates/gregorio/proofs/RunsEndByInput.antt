@@ -8,7 +8,7 @@ use Rattle.gregorio.specs.declared.run_ending.RunEnding.{RunEnding}
 use Rattle.gregorio.specs.declared.run_ending.RunEnding.TheVariants.{Whole, Errors, Fatal, ReadFault}
 use Rattle.gregorio.specs.declared.source_ending.SourceEnding.{SourceEnding}
 use Rattle.gregorio.specs.Engine.{EndsByInput}
-use Rattle.gregorio.specs.witness.Engine.{EngineState, Written, behind_heads, behind_outputs, book_behind, ceased_ending, first_list, head_events_left, items_left, status_of_ending, streams_from, streams_left, writes_heads}
+use Rattle.gregorio.specs.witness.Engine.{EngineState, Written, after_heads, after_outputs, book_behind, ceased_ending, first_list, head_events_left, items_left, status_of_ending, streams_from, streams_left, writes_heads}
 
 ended_so : (how : RunEnding) → EndsByInput (status_of_ending how)
 ended_so Whole = tt
@@ -17,8 +17,8 @@ ended_so (Fatal fault) = tt
 ended_so ReadFault = tt
 
 ends : (w : Written) (book : List (List ℕ × List ℕ)) (from_heads : List HeadEvent) (lists : List (List ScoreOutput)) → EndsByInput (streams_from w book from_heads lists).status
-ends w book [] lists = ended_so (ceased_ending (behind_outputs w (concat_of lists)).ended)
-ends w book (x ∷ from_heads) lists = ends (behind_outputs (behind_heads w (writes_heads w x)) (first_list lists)) book from_heads (drop 1 lists)
+ends w book [] lists = ended_so (ceased_ending (after_outputs w (concat_of lists)).ended)
+ends w book (x ∷ from_heads) lists = ends (after_outputs (after_heads w (writes_heads w x)) (first_list lists)) book from_heads (drop 1 lists)
 
 pub ends_by_input : (e : EngineState) (ending : SourceEnding) (bytes : List ℕ) → EndsByInput (streams_left e ending bytes).status
 ends_by_input e ending bytes =

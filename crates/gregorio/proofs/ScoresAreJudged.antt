@@ -4,15 +4,16 @@ use Rattle.std.specs.Str.{chars}
 use Rattle.gabc_places.specs.declared.limits.Limits.{Limits}
 use Rattle.gabc_places.specs.declared.place.Place.{Place}
 use Rattle.gabc_places.specs.TextOfAnInput.{IsText}
+use Rattle.gabc_score.proofs.runs.RunGoesOn.{few_characters}
 use Rattle.gabc_score.specs.HeldAgain.{IsOneSyllable}
 use Rattle.gabc_score.specs.Syllable.{UnplacedSyllable}
 use Rattle.gabc_score.specs.declared.before.Spans.{Spans}
-use Rattle.gabc_places.specs.DecoderTells.{MayBeTold}
-use Rattle.gregorio_state.specs.Conditions.{ArePhaseFields, AreScoreFields, AreStateFields}
+use Rattle.gabc_places.specs.DecoderReports.{MayBeReported}
+use Rattle.gregorio_state.specs.Conditions.{ArePhaseFields, AreScoreFields}
 use Rattle.gregorio_state.specs.Fields.{InScore, ScoreFields, StateFields}
-use Rattle.gregorio.specs.SavedState.{IsHeldRead, IsKeptRead, IsScoreRead, TellsLimits}
+use Rattle.gregorio.specs.SavedState.{IsHeldRead, IsKeptRead, IsScoreRead, ReportsLimits}
 use Rattle.gregorio.specs.machine.Judging.{IsEnoughFor, LetsTexts}
-use Rattle.gregorio.proofs.pieces.RunIsTaken.{fewer_characters}
+use Rattle.gregorio.specs.machine.Restoring.{AreFieldsIn}
 
 module _ (law : (lines macros : ℕ) (at : Place) (text : List ℕ) (spans : Spans) (limit other : ℕ) (m : UnplacedSyllable) → 5 * length text ≤ other → IsOneSyllable lines macros at text spans limit m
     → IsOneSyllable lines macros at text spans other m × (length m.kept ≤ other)) where
@@ -35,18 +36,18 @@ module _ (law : (lines macros : ℕ) (at : Place) (text : List ℕ) (spans : Spa
   score_alike : (limits small : Limits) (f : ScoreFields) → IsText f.held → IsEnoughFor f limits small → IsScoreRead small f ↔ IsScoreRead limits f
   score_alike limits small f is (inl same) = subst (λ (l : Limits). IsScoreRead l f ↔ IsScoreRead limits f) (sym same) ((λ r. r), (λ r. r))
   score_alike limits small f is (inr e) =
-      let few = fewer_characters f.held is.utf8 in
+      let few = few_characters f.held is.utf8 in
       (read_alike small limits f few e.own (sym e.input), read_alike limits small f few e.others e.input)
 
-  pub of_fields_alike : (s : StateFields) (limits small : Limits) (f : ScoreFields) → AreStateFields s → s.phase ≡ InScore f → IsEnoughFor f limits small → IsScoreRead small f ↔ IsScoreRead limits f
-  of_fields_alike s limits small f fields is = score_alike limits small f (subst (ArePhaseFields s) is fields.phase).held.is_text
+  pub of_fields_alike : (s : StateFields) (limits small : Limits) (f : ScoreFields) → AreFieldsIn (InScore f) s → IsEnoughFor f limits small → IsScoreRead small f ↔ IsScoreRead limits f
+  of_fields_alike s limits small f are = score_alike limits small f (subst (ArePhaseFields s) are.phase_is are.fields.phase).held.is_text
 
 -- ---- the fields with these limits
 
 abbrev pub with_limits : Limits → StateFields → StateFields
 with_limits small s = record s { header_limit = small.header; syllable_limit = small.syllable; input_limit = small.input }
 
-module _ (s : StateFields) (limits small : Limits) (f : ScoreFields) (tells : TellsLimits s limits) (enough : IsEnoughFor f limits small) where
+module _ (s : StateFields) (limits small : Limits) (f : ScoreFields) (tells : ReportsLimits s limits) (enough : IsEnoughFor f limits small) where
   same_input : s.input_limit ≡ small.input
   same_input = tells.input ∙ by enough
     where
@@ -74,9 +75,12 @@ module _ (s : StateFields) (limits small : Limits) (f : ScoreFields) (tells : Te
         kept_short = sizes.1;
       }
 
-  pub fields_alike : AreStateFields s → s.phase ≡ InScore f → AreStateFields (with_limits small s)
-  fields_alike a is = record {
-    limits = small.in_range;
-    decoder = subst (λ (n : ℕ). MayBeTold n s.taken s.place s.pending s.after_cr) same_input a.decoder;
-    phase = subst (ArePhaseFields (with_limits small s)) (sym is) (score_fields_alike (subst (ArePhaseFields s) is a.phase));
+  pub fields_alike : AreFieldsIn (InScore f) s → AreFieldsIn (InScore f) (with_limits small s)
+  fields_alike are = record {
+    fields = record {
+      limits = small.in_range;
+      decoder = subst (λ (n : ℕ). MayBeReported n s.taken s.place s.pending s.after_cr) same_input are.fields.decoder;
+      phase = subst (ArePhaseFields (with_limits small s)) (sym are.phase_is) (score_fields_alike (subst (ArePhaseFields s) are.phase_is are.fields.phase));
+    };
+    phase_is = are.phase_is;
   }

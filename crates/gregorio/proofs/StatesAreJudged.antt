@@ -1,17 +1,20 @@
--- The fields of a state are judged by its texts, under the limits that it tells.
+-- The fields of a state are judged by its texts, under the limits that it reports.
 use Rattle.std.proofs.Common.{◌≡◌, ◌↔◌, Bool, Result, Ok, Err, IfOk, IsTrue, subst, sym}
 use Rattle.gabc_places.specs.declared.limits.Limits.{Limits}
 use Rattle.gabc_headers.specs.witness.HeadEvents.{HeaderStageState}
 use Rattle.gabc_score.specs.witness.ScoreStage.{ScoreStageState}
-use Rattle.gregorio_state.specs.Conditions.{AreStateFields}
 use Rattle.gregorio_state.specs.Fields.{PhaseFields, StateFields}
-use Rattle.gregorio.specs.SavedState.{AreOfState, IsPhaseRead, TellsLimits}
+use Rattle.gregorio.specs.SavedState.{AreOfState, IsPhaseRead, ReportsLimits}
 use Rattle.gregorio.specs.machine.Restored.{StandIn, StandSo}
+use Rattle.gregorio.specs.machine.Restoring.{AreFieldsIn}
 use Rattle.gregorio.proofs.LimitsAreTold.{told_once}
 
-module _ (s : StateFields) (own : Limits) (tells : TellsLimits s own) (fields : AreStateFields s) (phase : PhaseFields) (is : s.phase ≡ phase) where
+module _ (s : StateFields) (own : Limits) (tells : ReportsLimits s own) (phase : PhaseFields) (in_phase : AreFieldsIn phase s) where
+  is : s.phase ≡ phase
+  is = in_phase.phase_is
+
   pub read_so : IsPhaseRead own s phase → AreOfState s
-  read_so read = record { fields = fields; limits = own; limits_are = tells; read = subst (IsPhaseRead own s) (sym is) read }
+  read_so read = record { fields = in_phase.fields; limits = own; limits_are = tells; read = subst (IsPhaseRead own s) (sym is) read }
 
   pub not_read : (IsPhaseRead own s phase → ⊥) → AreOfState s → ⊥
   not_read refused h = refused (subst (IsPhaseRead own s) is (subst (λ (l : Limits). IsPhaseRead l s s.phase) (told_once s h.limits own h.limits_are tells) h.read))
@@ -25,7 +28,7 @@ module _ (s : StateFields) (own : Limits) (tells : TellsLimits s own) (fields : 
   all_judged (Err e) both = tt
 
   -- under the limits of a job whose state it is
-  module _ (limits : Limits) (told : TellsLimits s limits) where
+  module _ (limits : Limits) (told : ReportsLimits s limits) where
     pub same : own ≡ limits
     same = told_once s own limits tells told
 

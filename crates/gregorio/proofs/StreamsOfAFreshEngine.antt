@@ -15,10 +15,10 @@ use Rattle.gabc_score.specs.declared.ending.InputEnding.TheVariants as score_end
 use Rattle.gabc_score.specs.declared.score.Score.{Score}
 use Rattle.gabc_headers.specs.Book.{nabc_lines_of, macros_of}
 use Rattle.gabc_headers.specs.Lines.{bytes_len}
-use Rattle.gabc_places.specs.Place.{place_after, placed_characters_behind}
+use Rattle.gabc_places.specs.Place.{place_after, placed_characters_after}
 use Rattle.gabc_places.specs.declared.place.Char.{Char}
 use Rattle.gabc_score.specs.NoteBeforeClef.{score_events}
-use Rattle.gabc_score.specs.Score.{score_by, head_fault_by, behind_heads, heads_text as heads_text_of}
+use Rattle.gabc_score.specs.Score.{score_by, head_fault_by, after_heads, heads_text as heads_text_of}
 use Rattle.gabc_score.specs.Body.{body_of, events_to_stop, result_by}
 use Rattle.gabc_score.specs.declared.events.BodyEvent.{BodyEvent}
 use Rattle.gabc_places.specs.declared.place.Place.{Place}
@@ -31,7 +31,7 @@ use Rattle.gregorio_jobs.specs.declared.job.Status.{Status}
 use Rattle.gregorio.specs.declared.source_ending.SourceEnding.{SourceEnding}
 use Rattle.gregorio.specs.declared.source_ending.SourceEnding.TheVariants.{Whole as Ended, Broken}
 use Rattle.gregorio.specs.Outcome.{ending_by, is_cut_short, text_in, output_by, fault_line, shown_line, lines_of, is_error_finding, status_by, status_with}
-use Rattle.gregorio.specs.Streams.{Streams, behind_bytes, force_behind, heads_text, last_text, next_number, texts_behind, count_behind}
+use Rattle.gregorio.specs.Streams.{Streams, after_bytes, force_after, heads_text, last_text, next_number, texts_after, count_after}
 use Rattle.gregorio.specs.witness.Engine.{Written, text_of_heads}
 use Rattle.gregorio.proofs.StreamsOfOutputs.{said}
 use Rattle.gregorio.proofs.pieces.BytesAreJoined.{same_streams}
@@ -42,30 +42,30 @@ next_is : (n : ℕ) → n + 1 < 2 ^ 64 → next_number n ≡ n + 1
 next_is n h = grind (arith, nat_tests)
 
 -- no count saturates where there are fewer syllables than that
-pub count_is : (n : ℕ) (ss : List PlacedSyllable) → n + length ss < 2 ^ 64 → count_behind n ss ≡ n + length ss
+pub count_is : (n : ℕ) (ss : List PlacedSyllable) → n + length ss < 2 ^ 64 → count_after n ss ≡ n + length ss
 count_is n [] h = omega arith
 count_is n (s ∷ ss) h =
     let e = next_is n (omega (arith, h)) in
-    ap (λ (k : ℕ). count_behind k ss) e ∙ (count_is (n + 1) ss (omega (arith, h)) ∙ omega arith)
+    ap (λ (k : ℕ). count_after k ss) e ∙ (count_is (n + 1) ss (omega (arith, h)) ∙ omega arith)
 
-lines_are : (n : ℕ) (force : InForce) (ss : List PlacedSyllable) → n + length ss < 2 ^ 64 → texts_behind Dump n force ss ≡ lines_of_syllables (n + 1) force ss
+lines_are : (n : ℕ) (force : InForce) (ss : List PlacedSyllable) → n + length ss < 2 ^ 64 → texts_after Dump n force ss ≡ lines_of_syllables (n + 1) force ss
 lines_are n force [] h = refl
 lines_are n force (s ∷ ss) h =
     let e = next_is n (omega (arith, h)) in
-    let behind = force_behind Dump force s in
-    ap (λ (k : ℕ). lines_of_syllable k force s ++ texts_behind Dump k behind ss) e
+    let behind = force_after Dump force s in
+    ap (λ (k : ℕ). lines_of_syllable k force s ++ texts_after Dump k behind ss) e
     ∙ ap (λ (t : List ℕ). lines_of_syllable (n + 1) force s ++ t) (lines_are (n + 1) behind ss (omega (arith, h)))
 
-canonical_are : (n : ℕ) (force : InForce) (ss : List PlacedSyllable) → texts_behind Gabc n force ss ≡ flat_map canonical_in_place ss
+canonical_are : (n : ℕ) (force : InForce) (ss : List PlacedSyllable) → texts_after Gabc n force ss ≡ flat_map canonical_in_place ss
 canonical_are n force [] = refl
 canonical_are n force (s ∷ ss) = ap (λ (t : List ℕ). canonical_in_place s ++ t) (canonical_are (next_number n) force ss)
 
--- the text behind the headers
+-- the text after the headers
 pub text_is : (format : Format) (whole : Bool) (book : List (List ℕ × List ℕ)) (ss : List PlacedSyllable) → length ss < 2 ^ 64
-    → heads_text format book ++ (texts_behind format 0 nothing_in_force ss ++ last_text format whole (count_behind 0 ss)) ≡ text_in format whole book ss
+    → heads_text format book ++ (texts_after format 0 nothing_in_force ss ++ last_text format whole (count_after 0 ss)) ≡ text_in format whole book ss
 text_is Gabc whole book ss h = ap (λ (t : List ℕ). encode_utf8_all (canonical_heads book) ++ (t ++ codes "\n")) (canonical_are 0 nothing_in_force ss)
 text_is Dump whole book ss h =
-    ap (λ (t : List ℕ). heads_text Dump book ++ (t ++ last_text Dump whole (count_behind 0 ss))) (lines_are 0 nothing_in_force ss (omega (arith, h)))
+    ap (λ (t : List ℕ). heads_text Dump book ++ (t ++ last_text Dump whole (count_after 0 ss))) (lines_are 0 nothing_in_force ss (omega (arith, h)))
     ∙ ap (λ (n : ℕ). heads_text Dump book ++ (lines_of_syllables 1 nothing_in_force ss ++ last_text Dump whole n)) (count_is 0 ss (omega (arith, h)) ∙ (let z : 0 + length ss ≡ length ss = omega arith in z))
 
 -- ---- how a run ended
@@ -115,7 +115,7 @@ pub stops_at : (limits : Limits) (ending : InputEnding) (t : List ℕ) (r : Resu
 stops_at limits score_ending.Whole t r = tt
 stops_at limits score_ending.Broken t r = tt
 stops_at limits (score_ending.At fault) t (Ok heads) =
-    let xs = placed_characters_behind (heads_text_of t) (behind_heads t) in
+    let xs = placed_characters_after (heads_text_of t) (after_heads t) in
     body_stops limits (bytes_len (canonical_heads heads.book)) heads.findings (place_after t) fault xs (score_events (nabc_lines_of heads.book) (macros_of heads.book) xs)
 stops_at limits (score_ending.At fault) t (Err stop) = by stop.at_end
   where
@@ -155,13 +155,13 @@ module _ (w : Written) (no_syllable : w.count ≡ 0) (no_force : w.force ≡ not
   whole_same = score_is.end ∙ whole_is ending stop score.fault stops
 
   -- with headers
-  output_with : (book : List (List ℕ × List ℕ)) → heads_text w.format book ++ (texts_behind w.format w.count w.force (syllables_in outputs) ++ last_text w.format (has_end outputs) (count_behind w.count (syllables_in outputs)))
+  output_with : (book : List (List ℕ × List ℕ)) → heads_text w.format book ++ (texts_after w.format w.count w.force (syllables_in outputs) ++ last_text w.format (has_end outputs) (count_after w.count (syllables_in outputs)))
       ≡ text_in w.format (not (is_some score.fault || is_cut_short ending score.fault)) book score.syllables
   output_with book =
-      ap (λ (n : ℕ). heads_text w.format book ++ (texts_behind w.format n w.force (syllables_in outputs) ++ last_text w.format (has_end outputs) (count_behind n (syllables_in outputs)))) no_syllable
-      ∙ (ap (λ (force : InForce). heads_text w.format book ++ (texts_behind w.format 0 force (syllables_in outputs) ++ last_text w.format (has_end outputs) (count_behind 0 (syllables_in outputs)))) no_force
-      ∙ (ap (λ (ss : List PlacedSyllable). heads_text w.format book ++ (texts_behind w.format 0 nothing_in_force ss ++ last_text w.format (has_end outputs) (count_behind 0 ss))) score_is.syllables
-      ∙ (ap (λ (b : Bool). heads_text w.format book ++ (texts_behind w.format 0 nothing_in_force score.syllables ++ last_text w.format b (count_behind 0 score.syllables))) whole_same
+      ap (λ (n : ℕ). heads_text w.format book ++ (texts_after w.format n w.force (syllables_in outputs) ++ last_text w.format (has_end outputs) (count_after n (syllables_in outputs)))) no_syllable
+      ∙ (ap (λ (force : InForce). heads_text w.format book ++ (texts_after w.format 0 force (syllables_in outputs) ++ last_text w.format (has_end outputs) (count_after 0 (syllables_in outputs)))) no_force
+      ∙ (ap (λ (ss : List PlacedSyllable). heads_text w.format book ++ (texts_after w.format 0 nothing_in_force ss ++ last_text w.format (has_end outputs) (count_after 0 ss))) score_is.syllables
+      ∙ (ap (λ (b : Bool). heads_text w.format book ++ (texts_after w.format 0 nothing_in_force score.syllables ++ last_text w.format b (count_after 0 score.syllables))) whole_same
       ∙ text_is w.format (not (is_some score.fault || is_cut_short ending score.fault)) book score.syllables few)))
 
   same : (one other : List ℕ) → one ≡ other
@@ -171,12 +171,12 @@ module _ (w : Written) (no_syllable : w.count ≡ 0) (no_force : w.force ≡ not
 
   -- the headers are a book, which `read` is, or there is none
   pub streams_same : (o : Option (List (List ℕ × List ℕ))) (read : List (List ℕ × List ℕ)) → IfSome o (λ book. read ≡ book)
-      → behind_bytes (text_of_heads w read (is_some o)) [] (said (record w { headed = is_some o }) outputs)
+      → after_bytes (text_of_heads w read (is_some o)) [] (said (record w { headed = is_some o }) outputs)
       ≡ record {
         output = output_by w.format (not (is_some score.fault || is_cut_short ending score.fault)) o score.syllables;
         messages = lines_of w.name w.all_warnings score;
         status = status_with score (is_cut_short ending score.fault);
         fault = score.fault;
       }
-  streams_same (Some book) read e = same _ _ (ap (λ (b : List (List ℕ × List ℕ)). heads_text w.format b ++ (texts_behind w.format w.count w.force (syllables_in outputs) ++ last_text w.format (has_end outputs) (count_behind w.count (syllables_in outputs)))) e ∙ output_with book)
+  streams_same (Some book) read e = same _ _ (ap (λ (b : List (List ℕ × List ℕ)). heads_text w.format b ++ (texts_after w.format w.count w.force (syllables_in outputs) ++ last_text w.format (has_end outputs) (count_after w.count (syllables_in outputs)))) e ∙ output_with book)
   streams_same None read e = same [] [] refl

@@ -10,29 +10,29 @@ use Rattle.gabc_score.specs.witness.ScoreStage.{ScoreStageState, left_of}
 use Rattle.gabc_write.specs.Message.{line_of}
 use Rattle.gregorio.specs.declared.run_ending.RunEnding.{RunEnding}
 use Rattle.gregorio.specs.Outcome.{shown_line, fault_line, is_error_finding, status_by}
-use Rattle.gregorio.specs.Streams.{Streams, behind_bytes, syllable_text, force_behind, last_text, next_number, texts_behind, count_behind}
-use Rattle.gregorio.specs.witness.Engine.{Written, behind_heads, behind_output, behind_outputs, ceased, ceased_ending, ceased_text, ended_by, ending_of_whole, fault_of_ending, first_list, if_headed, is_before_heads, is_heads, lines_of_output, lines_of_outputs, status_of_ending, streams_from, streams_in, text_of_heads, text_of_output, texts_of_outputs, writes_heads}
+use Rattle.gregorio.specs.Streams.{Streams, after_bytes, syllable_text, force_after, last_text, next_number, texts_after, count_after}
+use Rattle.gregorio.specs.witness.Engine.{Written, after_heads, after_output, after_outputs, ceased, ceased_ending, ceased_text, ended_by, ending_of_whole, fault_of_ending, first_list, if_headed, is_before_heads, is_heads, lines_of_output, lines_of_outputs, status_of_ending, streams_from, streams_in, text_of_heads, text_of_output, texts_of_outputs, writes_heads}
 use Rattle.gregorio.specs.machine.ScoreWriter.{IsOver}
-use Rattle.gregorio.proofs.pieces.BytesAreJoined.{behind_both, same_streams}
+use Rattle.gregorio.proofs.pieces.BytesAreJoined.{with_both_after, same_streams}
 
--- ---- one output and those behind it
+-- ---- one output and those after it
 
-pub one_and_rest : (w : Written) (o : ScoreOutput) (outputs : List ScoreOutput) → streams_in w (o ∷ outputs) ≡ behind_bytes (text_of_output w o) (lines_of_output w o) (streams_in (behind_output w o) outputs)
+pub one_and_rest : (w : Written) (o : ScoreOutput) (outputs : List ScoreOutput) → streams_in w (o ∷ outputs) ≡ after_bytes (text_of_output w o) (lines_of_output w o) (streams_in (after_output w o) outputs)
 one_and_rest w o outputs =
-    let v = behind_output w o in
-    behind_both (text_of_output w o) (lines_of_output w o) (texts_of_outputs v outputs) (lines_of_outputs v outputs) (ceased (behind_outputs v outputs))
+    let v = after_output w o in
+    with_both_after (text_of_output w o) (lines_of_output w o) (texts_of_outputs v outputs) (lines_of_outputs v outputs) (ceased (after_outputs v outputs))
 
-pub some_and_rest : (w : Written) (outputs rest : List ScoreOutput) → streams_in w (outputs ++ rest) ≡ behind_bytes (texts_of_outputs w outputs) (lines_of_outputs w outputs) (streams_in (behind_outputs w outputs) rest)
+pub some_and_rest : (w : Written) (outputs rest : List ScoreOutput) → streams_in w (outputs ++ rest) ≡ after_bytes (texts_of_outputs w outputs) (lines_of_outputs w outputs) (streams_in (after_outputs w outputs) rest)
 some_and_rest w [] rest = refl
 some_and_rest w (o ∷ outputs) rest =
-    let v = behind_output w o in
+    let v = after_output w o in
     one_and_rest w o (outputs ++ rest)
-    ∙ (ap (λ (s : Streams). behind_bytes (text_of_output w o) (lines_of_output w o) s) (some_and_rest v outputs rest)
-    ∙ sym (behind_both (text_of_output w o) (lines_of_output w o) (texts_of_outputs v outputs) (lines_of_outputs v outputs) (streams_in (behind_outputs v outputs) rest)))
+    ∙ (ap (λ (s : Streams). after_bytes (text_of_output w o) (lines_of_output w o) s) (some_and_rest v outputs rest)
+    ∙ sym (with_both_after (text_of_output w o) (lines_of_output w o) (texts_of_outputs v outputs) (lines_of_outputs v outputs) (streams_in (after_outputs v outputs) rest)))
 
 -- ---- what all of them say
 
--- Behind a stop or the end nothing stands among these, and `P` holds.
+-- After a stop or the end nothing stands among these, and `P` holds.
 abbrev pub EndsAtLast : Type 0 → List ScoreOutput → Type 0
 EndsAtLast P [] = Unit {0}
 EndsAtLast P (Found f ∷ outputs) = EndsAtLast P outputs
@@ -55,7 +55,7 @@ second_empty (x ∷ xs) ys h = no_item x (xs ++ ys) h
 -- the streams of a run that goes on, by what is found, the syllables, the stop and the end
 abbrev pub said : Written → List ScoreOutput → Streams
 said w outputs = record {
-  output = if_headed w (texts_behind w.format w.count w.force (syllables_in outputs) ++ last_text w.format (has_end outputs) (count_behind w.count (syllables_in outputs)));
+  output = if_headed w (texts_after w.format w.count w.force (syllables_in outputs) ++ last_text w.format (has_end outputs) (count_after w.count (syllables_in outputs)));
   messages = flat_map (shown_line w.name w.all_warnings) (findings_in outputs) ++ fault_line w.name (fault_in outputs);
   status = status_by (fault_in outputs) (not (has_end outputs)) (w.errors || list_any is_error_finding (findings_in outputs));
   fault = fault_in outputs;
@@ -77,17 +77,17 @@ say P headed w [] ends = refl
 say P headed w (Found f ∷ outputs) ends =
     let v = going_on headed w in
     one_and_rest v (Found f) outputs
-    ∙ (ap (λ (s : Streams). behind_bytes [] (shown_line w.name w.all_warnings f) s) (say P headed (record w { errors = w.errors || is_error_finding f }) outputs ends)
+    ∙ (ap (λ (s : Streams). after_bytes [] (shown_line w.name w.all_warnings f) s) (say P headed (record w { errors = w.errors || is_error_finding f }) outputs ends)
     ∙ same_streams _ _ refl
     (sym (append_assoc (shown_line w.name w.all_warnings f) (flat_map (shown_line w.name w.all_warnings) (findings_in outputs)) (fault_line w.name (fault_in outputs))))
     (ap (λ (errors : Bool). status_by (fault_in outputs) (not (has_end outputs)) errors) (or_assoc w.errors (is_error_finding f) (list_any is_error_finding (findings_in outputs)))) refl)
 say P true w (Syllable s ∷ outputs) ends =
     let v = going_on true w in
     let text = syllable_text w.format (next_number w.count) w.force s in
-    let u : Written = record w { count = next_number w.count; force = force_behind w.format w.force s } in
+    let u : Written = record w { count = next_number w.count; force = force_after w.format w.force s } in
     one_and_rest v (Syllable s) outputs
-    ∙ (ap (λ (t : Streams). behind_bytes text [] t) (say P true u outputs ends)
-    ∙ same_streams _ _ (sym (append_assoc text (texts_behind w.format u.count u.force (syllables_in outputs)) (last_text w.format (has_end outputs) (count_behind u.count (syllables_in outputs))))) refl refl refl)
+    ∙ (ap (λ (t : Streams). after_bytes text [] t) (say P true u outputs ends)
+    ∙ same_streams _ _ (sym (append_assoc text (texts_after w.format u.count u.force (syllables_in outputs)) (last_text w.format (has_end outputs) (count_after u.count (syllables_in outputs))))) refl refl refl)
 say P false w (Syllable s ∷ outputs) ends = say P false w outputs ends
 say P headed w (Stop fault ∷ []) ends =
     same_streams _ _ (append-nil (if_headed (going_on headed w) (last_text w.format false w.count) ++ []) ∙ append-nil (if_headed (going_on headed w) (last_text w.format false w.count)))
@@ -108,14 +108,14 @@ outputs_are_said P w outputs goes_on ends =
 abbrev pub IsSameJob : Written → Written → Type 0
 IsSameJob w v = (v.format ≡ w.format) × ((v.name ≡ w.name) × ((v.all_warnings ≡ w.all_warnings) × (v.headed ≡ w.headed)))
 
-pub job_stays : (w : Written) (outputs : List ScoreOutput) → IsSameJob w (behind_outputs w outputs)
+pub job_stays : (w : Written) (outputs : List ScoreOutput) → IsSameJob w (after_outputs w outputs)
 job_stays w [] = (refl, (refl, (refl, refl)))
-job_stays w (Found f ∷ outputs) = job_stays (behind_output w (Found f)) outputs
-job_stays w (Stop fault ∷ outputs) = job_stays (behind_output w (Stop fault)) outputs
-job_stays w (Syllable s ∷ outputs) = job_stays (behind_output w (Syllable s)) outputs
-job_stays w (End ∷ outputs) = job_stays (behind_output w End) outputs
+job_stays w (Found f ∷ outputs) = job_stays (after_output w (Found f)) outputs
+job_stays w (Stop fault ∷ outputs) = job_stays (after_output w (Stop fault)) outputs
+job_stays w (Syllable s ∷ outputs) = job_stays (after_output w (Syllable s)) outputs
+job_stays w (End ∷ outputs) = job_stays (after_output w End) outputs
 
-pub headed_stays : (w : Written) (outputs : List ScoreOutput) → (behind_outputs w outputs).headed ≡ w.headed
+pub headed_stays : (w : Written) (outputs : List ScoreOutput) → (after_outputs w outputs).headed ≡ w.headed
 headed_stays w outputs = (job_stays w outputs).1.1.1
 
 not_before : (headed : Bool) → not (headed || true) ≡ false
@@ -123,21 +123,21 @@ not_before true = refl
 not_before false = refl
 
 -- where no headers are to be written, none are later
-never_later : (w : Written) (outputs : List ScoreOutput) → is_before_heads w ≡ false → is_before_heads (behind_outputs w outputs) ≡ false
+never_later : (w : Written) (outputs : List ScoreOutput) → is_before_heads w ≡ false → is_before_heads (after_outputs w outputs) ≡ false
 never_later w [] h = h
-never_later w (Found f ∷ outputs) h = never_later (behind_output w (Found f)) outputs h
-never_later w (Stop fault ∷ outputs) h = never_later (behind_output w (Stop fault)) outputs (not_before w.headed)
-never_later w (Syllable s ∷ outputs) h = never_later (behind_output w (Syllable s)) outputs h
-never_later w (End ∷ outputs) h = never_later (behind_output w End) outputs (not_before w.headed)
+never_later w (Found f ∷ outputs) h = never_later (after_output w (Found f)) outputs h
+never_later w (Stop fault ∷ outputs) h = never_later (after_output w (Stop fault)) outputs (not_before w.headed)
+never_later w (Syllable s ∷ outputs) h = never_later (after_output w (Syllable s)) outputs h
+never_later w (End ∷ outputs) h = never_later (after_output w End) outputs (not_before w.headed)
 
 -- at an event at which no headers are written
 pub no_heads_at : (w : Written) (book : List (List ℕ × List ℕ)) (x : HeadEvent) (from_heads : List HeadEvent) (lists : List (List ScoreOutput)) → writes_heads w x ≡ false
     → streams_from w book (x ∷ from_heads) lists
-    ≡ behind_bytes (texts_of_outputs w (first_list lists)) (lines_of_outputs w (first_list lists)) (streams_from (behind_outputs w (first_list lists)) book from_heads (drop 1 lists))
+    ≡ after_bytes (texts_of_outputs w (first_list lists)) (lines_of_outputs w (first_list lists)) (streams_from (after_outputs w (first_list lists)) book from_heads (drop 1 lists))
 no_heads_at w book x from_heads lists none =
     let outputs = first_list lists in
-    let at : Written → List ℕ → Streams = λ v text. behind_bytes (text ++ texts_of_outputs v outputs) (lines_of_outputs v outputs) (streams_from (behind_outputs v outputs) book from_heads (drop 1 lists)) in
-    ap (λ (writes : Bool). at (behind_heads w writes) (text_of_heads w book writes)) none
+    let at : Written → List ℕ → Streams = λ v text. after_bytes (text ++ texts_of_outputs v outputs) (lines_of_outputs v outputs) (streams_from (after_outputs v outputs) book from_heads (drop 1 lists)) in
+    ap (λ (writes : Bool). at (after_heads w writes) (text_of_heads w book writes)) none
     ∙ ap (λ (headed : Bool). at (record w { headed = headed }) []) (or-false w.headed)
 
 and-false : (b : Bool) → (b && false) ≡ false
@@ -160,7 +160,7 @@ pub second_false : (b c : Bool) → (b || c) ≡ false → c ≡ false
 second_false false c h = h
 second_false true c h = absurd (false≢true (sym h))
 
-none_later : (w : Written) (x : HeadEvent) (from_heads : List HeadEvent) (outputs : List ScoreOutput) → NoHeadsCome w (x ∷ from_heads) → NoHeadsCome (behind_outputs w outputs) from_heads
+none_later : (w : Written) (x : HeadEvent) (from_heads : List HeadEvent) (outputs : List ScoreOutput) → NoHeadsCome w (x ∷ from_heads) → NoHeadsCome (after_outputs w outputs) from_heads
 none_later w x from_heads outputs (inl h) = inl (never_later w outputs h)
 none_later w x from_heads outputs (inr h) = inr (second_false (is_heads x) (list_any is_heads from_heads) h)
 
@@ -175,10 +175,10 @@ without_heads w book [] lists h = refl
 without_heads w book (x ∷ from_heads) lists h =
     let outputs = first_list lists in
     no_heads_at w book x from_heads lists (none_now w x from_heads h)
-    ∙ (ap (λ (s : Streams). behind_bytes (texts_of_outputs w outputs) (lines_of_outputs w outputs) s) (without_heads (behind_outputs w outputs) book from_heads (drop 1 lists) (none_later w x from_heads outputs h))
+    ∙ (ap (λ (s : Streams). after_bytes (texts_of_outputs w outputs) (lines_of_outputs w outputs) s) (without_heads (after_outputs w outputs) book from_heads (drop 1 lists) (none_later w x from_heads outputs h))
     ∙ (sym (some_and_rest w outputs (concat_of (drop 1 lists))) ∙ ap (streams_in w) (sym (concat_first lists))))
 
--- ---- behind the headers, and behind the end
+-- ---- after the headers, and after the end
 
 pub in_body : (w : Written) (book : List (List ℕ × List ℕ)) (from_heads : List HeadEvent) (lists : List (List ScoreOutput)) → w.headed ≡ true
     → streams_from w book from_heads lists ≡ streams_in w (concat_of lists)
@@ -190,4 +190,4 @@ pub over_is_last : (w : Written) (score : ScoreStageState) (how : RunEnding) →
 over_is_last w score how over book from_heads =
     without_heads w book from_heads (left_of score from_heads) (inl (ap (λ (o : Option RunEnding). not (w.headed || is_some o)) over.ended ∙ not_before w.headed))
     ∙ (ap (streams_in w) (over.silent from_heads)
-    ∙ ap (λ (o : Option RunEnding). behind_bytes [] [] (record (ended_by (ceased_ending o)) { output = ceased_text o w })) over.ended)
+    ∙ ap (λ (o : Option RunEnding). after_bytes [] [] (record (ended_by (ceased_ending o)) { output = ceased_text o w })) over.ended)

@@ -35,7 +35,7 @@ others_within limits (Stop fault) outputs h = h
 others_within limits (Syllable s) outputs h = All-tail (IsWithin limits) s (syllables_in outputs) h
 others_within limits End outputs h = h
 
--- `v` is what is to be written behind the output
+-- `v` is what is to be written after the output
 pub output_in_room : (limits : Limits) (a b : ℕ) (w : RunWriterState) (o : ScoreOutput) (outputs : List ScoreOutput) (v : Written) → v.name ≡ w.written.name → v.format ≡ w.written.format
     → IsOutputShort limits w o → IsInRoom limits a b w (o ∷ outputs) → IsInRoom limits a b (record (with_bytes w (text_of_output w.written o) (lines_of_output w.written o)) { written = v }) outputs
 output_in_room limits a b w o outputs v name format short h =

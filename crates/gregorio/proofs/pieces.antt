@@ -9,6 +9,7 @@ pub mod BytesAreTaken
 pub mod RunIsWritten
 pub mod RunIsTaken
 pub mod NothingIsKeptBack
+pub mod PiecesAreTaken
 pub mod InputsAreEnded
 pub mod WrittenGoesOn
 pub mod PartsStayInStep

@@ -1,4 +1,4 @@
--- A stage over a score is set down again from the fields of a state.
+-- A stage over a score is restored from the fields of a state.
 pub mod HeldIsRead
 pub mod KeptAsReported
 pub mod KeptIsRead

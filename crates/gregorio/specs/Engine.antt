@@ -3,7 +3,7 @@ use Rattle.std.specs.Prelude.{◌≡◌, ◌<◌, ◌≤◌, ◌⊎◌, ℕ, Lis
 use Rattle.gabc_neumes.specs.InForce.{InForce}
 use Rattle.std.specs.List.{All}
 use Rattle.gabc_score.specs.Syllable.{PlacedSyllable}
-use Rattle.gabc_score.specs.UnitRead.{HoldsSomeUnit}
+use Rattle.gabc_write.specs.SyllableRead.{IsWrittenAsOne}
 use Rattle.gabc_places.specs.declared.code.Fault.{Fault}
 use Rattle.gabc_places.specs.declared.limits.Limits.{Limits}
 use Rattle.gregorio_jobs.specs.declared.job.Format.{Format}
@@ -11,14 +11,14 @@ use Rattle.gregorio_jobs.specs.declared.job.Job.{Job}
 use Rattle.gregorio_jobs.specs.declared.job.Status.{Status}
 use Rattle.gregorio_jobs.specs.declared.job.Status.TheVariants.{Whole, Errors, Fatal, ReadFault, WriteFault, NoMemory}
 use Rattle.gregorio.specs.Outcome.{input_name}
-use Rattle.gregorio.specs.Streams.{Streams, behind_bytes, last_text, texts_behind, count_behind}
+use Rattle.gregorio.specs.Streams.{Streams, after_bytes, last_text, texts_after, count_after}
 use Rattle.gregorio.specs.declared.source_ending.SourceEnding.{SourceEnding}
 use Rattle.gregorio.specs.declared.source_ending.SourceEnding.TheVariants.{Broken}
 use Rattle.gregorio.specs.witness.Engine.{EngineState, ceased_ending, fault_of_ending, streams_left}
 
 -- what waits, and then these
 abbrev pub with_waiting : EngineState → Streams → Streams
-with_waiting s rest = behind_bytes s.output s.messages rest
+with_waiting s rest = after_bytes s.output s.messages rest
 
 -- ---- between two calls
 
@@ -27,15 +27,17 @@ pub record NothingWaits (s : EngineState) : Type 0 where
   pub messages : s.messages ≡ []
 
 -- The text of at most one syllable, whose position in its word is not known yet, and of what stands
--- after the syllables of a score that is not whole.
+-- after the syllables of a score that is not whole. Read by itself, the canonical text of this
+-- syllable is one.
 pub record IsHeldText (format : Format) (output : List ℕ) : Type 0 where
   pub count : ℕ
   pub force : InForce
   pub held : List PlacedSyllable
   pub few : length held ≤ 1
   pub lines : ℕ
-  pub noted : All (λ (s : PlacedSyllable). HoldsSomeUnit lines s.made) held
-  pub is : output ≡ texts_behind format count force held ++ last_text format false (count_behind count held)
+  pub macros : ℕ
+  pub one : All (λ (s : PlacedSyllable). IsWrittenAsOne lines macros s.made) held
+  pub is : output ≡ texts_after format count force held ++ last_text format false (count_after count held)
 
 -- A run that breaks off now has nothing to write that it could have written before: no message, and
 -- of the output nothing, or the held syllable and the last text.

@@ -11,7 +11,7 @@ use Rattle.gregorio_jobs.specs.declared.job.Status.TheVariants.{NoMemory, WriteF
 use Rattle.gregorio.specs.Engine.{IsPrompt}
 use Rattle.gregorio.specs.Outcome.{outcome_of, output_of, messages_of, status_of}
 use Rattle.gregorio.specs.SourceBytes.{ReadsSource}
-use Rattle.gregorio.specs.Streams.{Streams, behind_bytes, streams_of_outcome}
+use Rattle.gregorio.specs.Streams.{Streams, after_bytes, streams_of_outcome}
 
 -- An end before and after a run: its bytes, where they are known, and how its calls went.
 pub record Use : Type 0 where
@@ -68,7 +68,7 @@ pub record IsKnown (job : Job) (limits : Limits) (bytes : List ℕ) (ending : So
   pub output : List ℕ
   pub lines : List ℕ
   pub left : Streams
-  pub known : streams_of_outcome job (outcome_of limits at front) ≡ behind_bytes output lines left
+  pub known : streams_of_outcome job (outcome_of limits at front) ≡ after_bytes output lines left
   pub prompt : IsPrompt job.format left
 
 -- A sink failed: each stream holds a prefix of its text, for the bytes that were taken. At some

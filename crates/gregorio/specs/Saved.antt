@@ -4,12 +4,12 @@ use Rattle.std.specs.List.{list_any}
 use Rattle.gabc_headers.specs.HeldText.{IsHeld, findings_held}
 use Rattle.gabc_headers.specs.witness.HeadEvents.{HeadProgress, reading, behind, over}
 use Rattle.gabc_neumes.specs.InForce.{InForce}
-use Rattle.gabc_places.specs.DecoderTells.{is_after_cr}
+use Rattle.gabc_places.specs.DecoderReports.{is_after_cr}
 use Rattle.gabc_places.specs.Place.{place_after}
 use Rattle.gabc_places.specs.declared.limits.Limits.{Limits}
 use Rattle.gabc_places.specs.declared.place.Place.{Place}
 use Rattle.gabc_score.specs.Canonical.{canonical}
-use Rattle.gabc_score.specs.ScoreTells.{held_of, is_in_comment, openers_of, reading_of}
+use Rattle.gabc_score.specs.ScoreReports.{held_of, is_in_comment, openers_of, reading_of}
 use Rattle.gabc_score.specs.Syllable.{UnplacedSyllable}
 use Rattle.gabc_score.specs.declared.before.Preceding.{Preceding}
 use Rattle.gabc_score.specs.witness.ScoreStage.{ScoreStageState}
@@ -27,7 +27,7 @@ abbrev pub held_text : Preceding → Option UnplacedSyllable → List ℕ
 held_text p None = []
 held_text p (Some m) = canonical ((p.syllables == 0) || m.text.word_start) m
 
--- what a stage over a score tells in the body, where this is in force before the syllable that is
+-- what a stage over a score reports in the body, where this is in force before the syllable that is
 -- held
 abbrev pub score_fields : InForce → ScoreStageState → ScoreFields
 score_fields force s =

@@ -1,5 +1,5 @@
 -- What a saved state is: fields that meet their conditions, and texts that are read as the fields
--- say. It is judged by the limits that it tells itself.
+-- say. It is judged by the limits that it reports itself.
 use Rattle.std.specs.Prelude.{◌≡◌, ◌≢◌, ◌≤◌, ℕ, ◌-◌, List, [], length}
 use Rattle.std.specs.Str.{chars}
 use Rattle.gabc_places.specs.declared.limits.Limits.{Limits}
@@ -7,7 +7,7 @@ use Rattle.gabc_score.specs.Before.{preceding_of}
 use Rattle.gabc_score.specs.HeldAgain.{MayBeHeld}
 use Rattle.gabc_score.specs.KeptAgain.{IsKeptAgain}
 use Rattle.gabc_score.specs.Syllable.{UnplacedSyllable}
-use Rattle.gabc_score.specs.ToldWithin.{written_behind}
+use Rattle.gabc_score.specs.ReportedWithin.{written_after}
 use Rattle.gabc_score.specs.declared.before.Before.{Before}
 use Rattle.gregorio_jobs.specs.declared.job.Job.{Job}
 use Rattle.gregorio_state.specs.Conditions.{AreStateFields}
@@ -15,8 +15,8 @@ use Rattle.gregorio_state.specs.Fields.{PhaseFields, ScoreFields, StateFields, I
 use Rattle.gregorio_state.specs.StateBytes.{state_bytes}
 use Rattle.gregorio.specs.Saved.{GivesHeaders}
 
--- These are the limits that it tells.
-pub record TellsLimits (s : StateFields) (limits : Limits) : Type 0 where
+-- These are the limits that it reports.
+pub record ReportsLimits (s : StateFields) (limits : Limits) : Type 0 where
   pub header : s.header_limit ≡ limits.header
   pub syllable : s.syllable_limit ≡ limits.syllable
   pub input : s.input_limit ≡ limits.input
@@ -41,7 +41,7 @@ before_held f = record {
 pub record IsHeldRead (limits : Limits) (f : ScoreFields) : Type 0 where
   pub m : UnplacedSyllable
   pub may : MayBeHeld limits (before_held f) (chars f.held) m
-  pub is : written_behind (preceding_of (before_held f)) m ≡ f.held
+  pub is : written_after (preceding_of (before_held f)) m ≡ f.held
 
 -- ---- the kept text
 
@@ -67,12 +67,12 @@ IsPhaseRead limits s (InScore f) = IsScoreRead limits f
 pub record AreOfState (s : StateFields) : Type 0 where
   pub fields : AreStateFields s
   pub limits : Limits
-  pub limits_are : TellsLimits s limits
+  pub limits_are : ReportsLimits s limits
   pub read : IsPhaseRead limits s s.phase
 
 -- It is one of this job under these limits. Nothing else of a job stands in a state.
 pub record IsOfJob (job : Job) (limits : Limits) (s : StateFields) : Type 0 where
-  pub limits_are : TellsLimits s limits
+  pub limits_are : ReportsLimits s limits
   pub format : s.format ≡ job.format
   pub all_warnings : s.all_warnings ≡ job.all_warnings
 

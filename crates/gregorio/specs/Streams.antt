@@ -34,8 +34,8 @@ abbrev pub streams_of_outcome : Job → Outcome → Streams
 streams_of_outcome job outcome = record { output = output_of job.format outcome; messages = messages_of job outcome; status = status_of outcome; fault = outcome.score.fault }
 
 -- these bytes, and what follows them
-abbrev pub behind_bytes : List ℕ → List ℕ → Streams → Streams
-behind_bytes output messages rest = record rest { output = output ++ rest.output; messages = messages ++ rest.messages }
+abbrev pub after_bytes : List ℕ → List ℕ → Streams → Streams
+after_bytes output messages rest = record rest { output = output ++ rest.output; messages = messages ++ rest.messages }
 
 -- what stands before the syllables
 abbrev pub heads_text : Format → List (List ℕ × List ℕ) → List ℕ
@@ -48,11 +48,11 @@ syllable_text Gabc number force s = canonical_in_place s
 syllable_text Dump number force s = lines_of_syllable number force s
 
 -- what is in force after a syllable: the canonical form asks for nothing of it
-abbrev pub force_behind : Format → InForce → PlacedSyllable → InForce
-force_behind Gabc force s = force
-force_behind Dump force s = passed force (steps_of_syllable s)
+abbrev pub force_after : Format → InForce → PlacedSyllable → InForce
+force_after Gabc force s = force
+force_after Dump force s = passed force (steps_of_syllable s)
 
--- what stands after so many syllables, which are the whole score or not
+-- what stands after n syllables, which are the whole score or not
 abbrev pub last_text : Format → Bool → ℕ → List ℕ
 last_text Gabc whole count = codes "\n"
 last_text Dump whole count = if whole then end_line count else []
@@ -61,15 +61,15 @@ last_text Dump whole count = if whole then end_line count else []
 abbrev pub next_number : ℕ → ℕ
 next_number count = min (count + 1) (2 ^ 64 - 1)
 
--- the texts of syllables after so many, before which this is in force
-abbrev pub texts_behind : Format → ℕ → InForce → List PlacedSyllable → List ℕ
-texts_behind format count force [] = []
-texts_behind format count force (s ∷ syllables) =
-    syllable_text format (next_number count) force s ++ texts_behind format (next_number count) (force_behind format force s) syllables
+-- the texts of syllables after n, before which this is in force
+abbrev pub texts_after : Format → ℕ → InForce → List PlacedSyllable → List ℕ
+texts_after format count force [] = []
+texts_after format count force (s ∷ syllables) =
+    syllable_text format (next_number count) force s ++ texts_after format (next_number count) (force_after format force s) syllables
 
-abbrev pub count_behind : ℕ → List PlacedSyllable → ℕ
-count_behind count [] = count
-count_behind count (s ∷ syllables) = count_behind (next_number count) syllables
+abbrev pub count_after : ℕ → List PlacedSyllable → ℕ
+count_after count [] = count
+count_after count (s ∷ syllables) = count_after (next_number count) syllables
 
 -- the bytes of pieces, one after the other
 abbrev pub joined : List (Bor (List ℕ)) → List ℕ

@@ -16,5 +16,6 @@ pub mod Saving
 pub mod ScoreWriter
 pub mod SettingDown
 pub mod SavedAlike
+pub mod Taking
 pub mod Telling
 pub mod TellsInStep

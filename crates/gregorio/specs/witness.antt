@@ -1,3 +1,3 @@
 pub mod Engine
-pub mod MayRun
+pub mod CanRun
 pub mod StandsFor

@@ -1,7 +1,7 @@
 //! A run that takes its input in pieces.
 
 ghost use Rattle.std.specs.Hash.DefaultHasher.{initial};
-ghost use Rattle.std.specs.Prelude.{◌≡◌, ◌<◌, ◌≤◌, ◌-◌, List, [], ◌∷◌, ◌++◌, length, take, not, true, false, ℕ, Bool, IfOk, None, option_to_list};
+ghost use Rattle.std.specs.Prelude.{◌≡◌, ◌<◌, ◌-◌, List, [], ◌∷◌, ◌++◌, length, take, not, true, false, ℕ, Bool, IfOk, None, option_to_list};
 ghost use Rattle.gabc_headers.specs.declared.head_event.HeadEvent.{HeadEvent as HeadItem};
 ghost use Rattle.gregorio.specs.declared.source_ending.SourceEnding.{SourceEnding as EndOfSource};
 ghost use Rattle.gregorio.specs.declared.source_ending.SourceEnding.TheVariants.{Whole, Broken};
@@ -9,19 +9,20 @@ ghost use Rattle.gabc_places.specs.declared.limits.Limits.{Limits};
 ghost use Rattle.gregorio_jobs.specs.declared.job.Job.{Job};
 ghost use Rattle.gregorio_jobs.specs.declared.job.Status.TheVariants.{ReadFault};
 ghost use Rattle.gregorio.specs.Outcome.{outcome_of};
-ghost use Rattle.gregorio.specs.Engine.{Brings, IsPrompt, NothingWaits, RunsJob, StillRuns, TakesFront, fault_of, is_running, with_waiting};
+ghost use Rattle.gregorio.specs.Engine.{IsPrompt, NothingWaits, RunsJob, StillRuns, TakesFront, fault_of, is_running, with_waiting};
 ghost use Rattle.gregorio.specs.witness.Engine.{streams_left};
 ghost use Rattle.gregorio.specs.Streams.{streams_of_outcome, ended_with};
 ghost use Rattle.gregorio.specs.machine.Engine.{LeavesRoom, MayRead, ReadsItems, event_of_item};
 ghost use Rattle.gregorio.specs.machine.InStep.{TakesEvents};
+ghost use Rattle.gregorio.specs.machine.Taking.{Takes};
 ghost use Rattle.gregorio.specs.machine.ScoreWriter.{FitsEvents, IsShortBook};
 
-use crate::beginning::what_begins_is_written_whole;
+use crate::engine_laws;
 use crate::rooms::memory_for;
 use crate::run_writer::RunWriter;
 use crate::score_writer::ScoreWriter;
 use gabc_headers::{HeadEvent, HeaderStage};
-use gabc_places::{Char, Decoder, Fault, Limits, Memory, Room, Stage};
+use gabc_places::{Char, Decoder, Fault, Limits, Room, Stage};
 use gabc_score::ScoreStage;
 use gregorio_jobs::{Job, Status};
 use std::alloc::{AllocError, Global};
@@ -187,30 +188,12 @@ impl Engine {
         ensures job { IfOk result (λ engine. RunsJob job.now limits engine) }
         ensures hasher { IfOk result (λ engine. engine.heads.hasher ≡ hasher) }
     {
-        let memory = memory_for(alloc, job, limits)?;
-        Engine::in_memory(&memory, job, limits, hasher)
-    }
-
-    /// Returns an engine as `with_hasher` does, most of whose memory is reserved in `memory`.
-    fn in_memory(
-        memory: &Memory,
-        job: &Job,
-        limits: Limits,
-        hasher: DefaultHasher,
-    ) -> Result<Engine, AllocError>
-        ensures all { IfOk result (λ engine. (bytes : List ℕ) (ending : EndOfSource) →
-            streams_left engine ending bytes
-            ≡ streams_of_outcome job.now (outcome_of limits ending bytes)) }
-        ensures waits { IfOk result (λ engine. NothingWaits engine) }
-        ensures running { IfOk result (λ engine. is_running engine ≡ true) }
-        ensures job { IfOk result (λ engine. RunsJob job.now limits engine) }
-        ensures hasher { IfOk result (λ engine. engine.heads.hasher ≡ hasher) }
-    {
-        what_begins_is_written_whole();
+        engine_laws::what_begins_is_written_whole();
         gabc_headers::stage_laws::a_held_text_grows();
-        let from_heads = Room::in_memory(memory, 2)?;
-        let heads = HeaderStage::in_memory(memory, limits, hasher)?;
-        match ScoreWriter::with_limits(memory, job, limits) {
+        let memory = memory_for(alloc, job, limits)?;
+        let from_heads = Room::in_memory(&memory, 2)?;
+        let heads = HeaderStage::in_memory(&memory, limits, hasher)?;
+        match ScoreWriter::with_limits(&memory, job, limits) {
             Ok(writer) => Ok(Engine {
                 decoder: Decoder::new(limits),
                 heads,
@@ -223,22 +206,6 @@ impl Engine {
                 Err(error)
             }
         }
-    }
-
-    /// Does nothing. Its contract is a law: nothing is kept back but what is held, and no fault
-    /// while it runs.
-    #[inline(always)]
-    pub(crate) fn keeps_nothing_back(&self)
-        ensures prompt { IsPrompt self.now.written.format (streams_left self.now Broken []) }
-        ensures running { is_running self.now ≡ true →
-            (streams_left self.now Broken []).status ≡ ReadFault }
-        ensures fault { is_running self.now ≡ true →
-            (streams_left self.now Broken []).fault ≡ None }
-    {
-        gabc_score::stage_laws::inputs_that_cease_give_no_stop();
-        gabc_score::stage_laws::what_breaks_off_holds_a_unit();
-        gabc_score::stage_laws::a_stage_may_stand(self.writer.score());
-        self.writer.at_most_one_is_held();
     }
 
     /// Returns the decoder.
@@ -279,16 +246,14 @@ impl Engine {
     }
 
     /// Takes a byte. Before it nothing is kept back.
-    fn take(&mut self, byte: u8)
+    pub(crate) fn take(&mut self, byte: u8)
         requires room { LeavesRoom self.old }
         ensures prompt { IsPrompt self.old.written.format (streams_left self.old Broken []) }
         ensures running { is_running self.old ≡ true →
             (streams_left self.old Broken []).status ≡ ReadFault }
-        ensures format { self.new.written.format ≡ self.old.written.format }
-        ensures job { StillRuns self.old self.new }
-        ensures brings { Brings self.old (byte ∷ []) self.new }
+        ensures takes { Takes self.old (byte ∷ []) self.new }
     {
-        self.keeps_nothing_back();
+        engine_laws::nothing_is_kept_back(self);
         let item = self.decoder.take(byte);
         read_decoded(
             item,
@@ -296,30 +261,6 @@ impl Engine {
             &mut self.from_heads,
             &mut self.writer,
         );
-    }
-
-    /// Takes the first byte of `piece`, if there is one, and returns how many it took.
-    #[inline(always)]
-    pub(crate) fn take_some(&mut self, piece: &[u8]) -> usize
-        requires room { LeavesRoom self.old }
-        ensures taken { result ≤ length piece.now }
-        ensures some { 0 < length piece.now → 0 < result }
-        ensures brings { Brings self.old (take result piece.now) self.new }
-        ensures format { self.new.written.format ≡ self.old.written.format }
-        ensures job { StillRuns self.old self.new }
-        ensures stops { NothingWaits self.old → ¬ (NothingWaits self.new) →
-            IsPrompt self.old.written.format
-            (streams_left self.old Broken (take (result - 1) piece.now)) }
-        ensures fault { is_running self.old ≡ true → is_running self.new ≡ false →
-            (streams_left self.old Broken (take (result - 1) piece.now)).status ≡ ReadFault }
-    {
-        match piece.first() {
-            Some(byte) => {
-                self.take(*byte);
-                1
-            }
-            None => 0,
-        }
     }
 
     /// Takes bytes of `piece` until it is used up or output or messages wait, and returns how many.
@@ -334,6 +275,7 @@ impl Engine {
             (streams_left self.old Broken (take (result - 1) piece.now)) }
         ensures fault { is_running self.old ≡ true → ¬ (NothingWaits self.new) →
             (streams_left self.old Broken (take (result - 1) piece.now)).status ≡ ReadFault }
+        ensures hasher { self.new.heads.hasher ≡ self.old.heads.hasher }
     {
         gabc_score::stage_laws::the_end_comes_with_the_end();
         let mut count = 0;
@@ -341,9 +283,10 @@ impl Engine {
             return piece.len();
         }
         while count < piece.len() && self.nothing_waits() {
-            count += self.take_some(&piece[count..]);
+            self.take(piece[count]);
+            count += 1;
         }
-        self.keeps_nothing_back();
+        engine_laws::nothing_is_kept_back(self);
         count
     }
 
@@ -390,6 +333,7 @@ impl Engine {
         ensures over { is_running self.new ≡ false }
         ensures job { StillRuns self.old self.new }
         ensures again { is_running self.old ≡ false → self.new ≡ self.old }
+        ensures hasher { self.new.heads.hasher ≡ self.old.heads.hasher }
     {
         if let Some(ended) = self.writer.ended() {
             return ended.status();
@@ -419,6 +363,7 @@ impl Engine {
         ensures over { is_running self.new ≡ false }
         ensures job { StillRuns self.old self.new }
         ensures again { is_running self.old ≡ false → self.new ≡ self.old }
+        ensures hasher { self.new.heads.hasher ≡ self.old.heads.hasher }
     {
         if let Some(ended) = self.writer.ended() {
             return ended.status();
@@ -439,7 +384,7 @@ impl Engine {
         ensures job { StillRuns self.old self.new }
         ensures hasher { self.new.heads.hasher ≡ self.old.heads.hasher }
     {
-        what_begins_is_written_whole();
+        engine_laws::what_begins_is_written_whole();
         gabc_headers::stage_laws::a_held_text_grows();
         self.decoder = Decoder::new(self.writer.score().limits());
         self.heads.restart();
@@ -463,7 +408,7 @@ impl Engine {
         ensures over { is_running self.now ≡ false → (bytes : List ℕ) (ending : EndOfSource) →
             (streams_left self.now ending bytes).fault ≡ result }
     {
-        self.keeps_nothing_back();
+        engine_laws::nothing_is_kept_back(self);
         self.writer.ended()?.fault()
     }
 }

@@ -3,11 +3,13 @@
 ghost use Rattle.std.specs.Prelude.{◌≡◌, ◌<◌, ◌≤◌, ◌-◌, length, take, drop, true, false};
 ghost use Rattle.gregorio.specs.declared.source_ending.SourceEnding.TheVariants.{Broken};
 ghost use Rattle.gregorio_jobs.specs.declared.job.Status.TheVariants.{ReadFault};
-ghost use Rattle.gregorio.specs.Engine.{Brings, StillRuns, TakesFront, is_running};
+ghost use Rattle.gregorio.specs.Engine.{TakesFront, is_running};
 ghost use Rattle.gregorio.specs.witness.Engine.{streams_left};
 ghost use Rattle.gregorio.specs.machine.Engine.{LeavesRoom};
+ghost use Rattle.gregorio.specs.machine.Taking.{Takes, TakesFrom};
 
 use crate::engine::Engine;
+use crate::engine_laws;
 use crate::rooms::most_waiting;
 use gabc_places::valid_front;
 
@@ -24,6 +26,7 @@ impl Engine {
         ensures takes { TakesFront self.old piece.now result self.new }
         ensures fault { is_running self.old ≡ true → is_running self.new ≡ false →
             (streams_left self.old Broken (take (result - 1) piece.now)).status ≡ ReadFault }
+        ensures hasher { self.new.heads.hasher ≡ self.old.heads.hasher }
     {
         let mut count = 0;
         if self.is_over() {
@@ -33,7 +36,7 @@ impl Engine {
             let most = MOST_LOOKED_AT.min(piece.len() - count);
             count += self.fill_part(&piece[count..count + most]);
         }
-        self.keeps_nothing_back();
+        engine_laws::nothing_is_kept_back(self);
         count
     }
 
@@ -43,18 +46,14 @@ impl Engine {
         requires room { LeavesRoom self.old }
         requires running { is_running self.old ≡ true }
         requires more { 0 < length part.now }
-        ensures taken { result ≤ length part.now }
         ensures some { 0 < result }
-        ensures brings { Brings self.old (take result part.now) self.new }
-        ensures format { self.new.written.format ≡ self.old.written.format }
-        ensures job { StillRuns self.old self.new }
-        ensures fault { is_running self.new ≡ false →
-            (streams_left self.old Broken (take (result - 1) part.now)).status ≡ ReadFault }
+        ensures takes { TakesFrom self.old part.now result self.new }
     {
         let text = valid_front(part);
         if text.is_empty() {
             // It begins within a character, or with what is none.
-            return self.take_some(part);
+            self.take(part[0]);
+            return 1;
         }
         let mut count = 0;
         while count < part.len() && self.has_room() {
@@ -64,22 +63,16 @@ impl Engine {
     }
 
     /// Takes bytes of `piece` after the first `count`, and returns how many: a run of syllables, if
-    /// `text`, the front of `piece` that is UTF-8, can be cut there and one follows, or else what
-    /// `take_some` takes.
+    /// `text`, the front of `piece` that is UTF-8, can be cut there and one follows, or else one
+    /// byte.
     #[inline(always)]
     fn take_next(&mut self, piece: &[u8], text: &str, count: usize) -> usize
         requires room { LeavesRoom self.old }
         requires running { is_running self.old ≡ true }
         requires more { count < length piece.now }
         requires front { text.now ≡ take (length text.now) piece.now }
-        ensures taken { result ≤ length piece.now - count }
         ensures some { 0 < result }
-        ensures brings { Brings self.old (take result (drop count piece.now)) self.new }
-        ensures format { self.new.written.format ≡ self.old.written.format }
-        ensures job { StillRuns self.old self.new }
-        ensures fault { is_running self.new ≡ false →
-            (streams_left self.old Broken (take (result - 1) (drop count piece.now))).status
-            ≡ ReadFault }
+        ensures takes { TakesFrom self.old (drop count piece.now) result self.new }
     {
         if let Some((_, rest)) = text.split_at_checked(count) {
             let taken = self.take_run(rest);
@@ -87,22 +80,22 @@ impl Engine {
                 return taken;
             }
         }
-        self.take_some(&piece[count..])
+        self.take(piece[count]);
+        1
     }
 
     /// Takes whole syllables from the front of `text`, and returns how many bytes. What they bring
     /// waits then, after what waited before. Of those that it could take it may leave some to
-    /// `take_some`.
+    /// `take`.
     #[inline(always)]
     fn take_run(&mut self, text: &str) -> usize
+        requires { is_running self.old ≡ true }
         ensures within { result ≤ length text.now }
         ensures room { result ≡ 0 → LeavesRoom self.old → LeavesRoom self.new }
-        ensures brings { Brings self.old (take result text.now) self.new }
-        ensures format { self.new.written.format ≡ self.old.written.format }
-        ensures job { StillRuns self.old self.new }
-        ensures running { is_running self.new ≡ is_running self.old }
+        ensures takes { Takes self.old (take result text.now) self.new }
+        ensures running { is_running self.new ≡ true }
     {
-        if !self.writer.takes_runs() || self.decoder.after_cr() {
+        if !self.writer.headed() || self.decoder.after_cr() {
             return 0;
         }
         let most = text.floor_char_boundary(self.decoder.most_skipped());

@@ -7,7 +7,7 @@ ghost use Rattle.gabc_places.specs.Place.{place_after};
 ghost use Rattle.gabc_headers.specs.HeldText.{holding};
 ghost use Rattle.gabc_headers.specs.witness.HeadEvents.{events_of_input, fresh_stage, stage_after};
 ghost use Rattle.gregorio.specs.Saved.{GivesHeaders};
-ghost use Rattle.gregorio.specs.machine.HeldHeaders.{IsPushed, behind_mark, is_error_event as error_event};
+ghost use Rattle.gregorio.specs.machine.HeldHeaders.{IsPushed, after_mark, is_error_event as error_event};
 
 use crate::findings::is_error;
 use gabc_headers::{HeadEvent, HeaderStage};
@@ -109,7 +109,7 @@ pub(crate) fn holds_text(
 pub(crate) fn read_mark(heads: &mut HeaderStage, events: &mut Room<HeadEvent>)
     requires fresh { heads.old ≡ fresh_stage heads.old.limits heads.old.hasher }
     requires room { 2 ≤ events.old.limit }
-    ensures { heads.new ≡ behind_mark heads.old.limits heads.old.hasher }
+    ensures { heads.new ≡ after_mark heads.old.limits heads.old.hasher }
 {
     let _ = push_text(heads, "%%", events);
 }

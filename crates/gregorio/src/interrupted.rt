@@ -3,11 +3,11 @@
 
 ghost use Rattle.std.specs.Prelude.{◌≡◌, ◌+◌, ◌*◌, ◌≤◌, ℕ, List, [], ◌++◌, length, max, IfErr, IfOk, OnOk};
 ghost use Rattle.gregorio.specs.declared.source_ending.SourceEnding.{SourceEnding as EndOfSource};
-ghost use Rattle.gregorio.specs.Engine.{NothingWaits, RunsJob};
+ghost use Rattle.gregorio.specs.Engine.{NothingWaits};
 ghost use Rattle.gregorio.specs.Outcome.{outcome_of};
 ghost use Rattle.gregorio.specs.Streams.{joined, streams_of_outcome};
 ghost use Rattle.gregorio.specs.witness.Engine.{streams_left};
-ghost use Rattle.gregorio.specs.machine.InMemory.{TakeTheSame};
+ghost use Rattle.gregorio.specs.machine.InMemory.{IsBetweenPieces, TakeTheSame};
 
 use crate::engine::Engine;
 use crate::in_memory::{feed_input, put_waiting};
@@ -31,11 +31,9 @@ fn feed_and_restore<O: Put, M: Put>(
     out: &mut O,
     messages: &mut M,
 ) -> Result<(), StateFault>
-    requires waits { NothingWaits engine.old }
-    requires job { RunsJob job.now limits engine.old }
+    requires between { IsBetweenPieces job.now limits engine.old }
     requires room { max limits.header (2 * limits.syllable) + 128 ≤ length buf.old }
-    ensures waits { OnOk result (NothingWaits engine.new) }
-    ensures job { OnOk result (RunsJob job.now limits engine.new) }
+    ensures between { OnOk result (IsBetweenPieces job.now limits engine.new) }
     ensures put { OnOk result ((ending : EndOfSource) (more : List ℕ) → TakeTheSame O.taken M.taken
         out.old messages.old (streams_left engine.old ending (piece.now ++ more))
         out.new messages.new (streams_left engine.new ending more)) }
@@ -61,10 +59,9 @@ fn feed_pieces<O: Put, M: Put>(
     out: &mut O,
     messages: &mut M,
 ) -> Result<(), StateFault>
-    requires waits { NothingWaits engine.old }
-    requires job { RunsJob job.now limits engine.old }
+    requires between { IsBetweenPieces job.now limits engine.old }
     requires room { max limits.header (2 * limits.syllable) + 128 ≤ length buf.old }
-    ensures waits { OnOk result (NothingWaits engine.new) }
+    ensures between { OnOk result (IsBetweenPieces job.now limits engine.new) }
     ensures put { OnOk result ((ending : EndOfSource) → TakeTheSame O.taken M.taken
         out.old messages.old (streams_left engine.old ending (joined pieces.now))
         out.new messages.new (streams_left engine.new ending [])) }

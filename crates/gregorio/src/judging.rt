@@ -4,10 +4,11 @@
 ghost use Rattle.std.specs.Prelude.{◌≡◌, ◌≢◌, ◌↔◌, ◌<◌, ◌≤◌, ◌^◌, length, IfErr, IfOk, IsTrue};
 ghost use Rattle.std.specs.Str.{chars};
 ghost use Rattle.gregorio_state.specs.Conditions.{AreStateFields};
-ghost use Rattle.gregorio_state.specs.Fields.{InHeaders, InScore, fields_of, phase_of, score_of};
+ghost use Rattle.gregorio_state.specs.Fields.{InHeaders, InScore, fields_of, score_of};
 ghost use Rattle.gregorio.specs.Saved.{GivesHeaders};
 ghost use Rattle.gregorio.specs.SavedState.{AreOfState, IsScoreRead};
 ghost use Rattle.gregorio.specs.machine.Judging.{IsEnough, IsEnoughFor};
+ghost use Rattle.gregorio.specs.machine.Restoring.{AreFieldsIn};
 
 use crate::held_headers::{HeldHeaders, holds_text};
 use crate::restoring::{fresh_heads, head_room};
@@ -60,8 +61,7 @@ fn are_headers_read(
     text: &str,
     hasher: DefaultHasher,
 ) -> Result<bool, StateFault>
-    requires fields { AreStateFields (fields_of state.now) }
-    requires phase { phase_of state.now.phase ≡ InHeaders text.now }
+    requires phase { AreFieldsIn (InHeaders text.now) (fields_of state.now) }
     requires short { length text.now < 2 ^ 63 }
     ensures read { IfOk result (λ is. IsTrue is ↔ GivesHeaders state.now.limits (chars text.now)
         state.now.place state.now.has_error) }
@@ -87,8 +87,7 @@ fn is_score_read(
     state: &StateFields<'_>,
     fields: &ScoreFields<'_>,
 ) -> Result<bool, StateFault>
-    requires fields { AreStateFields (fields_of state.now) }
-    requires phase { phase_of state.now.phase ≡ InScore (score_of fields.now) }
+    requires { AreFieldsIn (InScore (score_of fields.now)) (fields_of state.now) }
     ensures read { IfOk result (λ is. IsTrue is ↔
         IsScoreRead state.now.limits (score_of fields.now)) }
     ensures fault { IfErr result (λ fault. fault ≡ StateFault.K0) }

@@ -21,9 +21,9 @@
 //! ```
 #![tactic(auto)]
 
-mod beginning;
 mod comparison;
 mod engine;
+mod engine_laws;
 mod filling;
 mod findings;
 mod held_headers;
@@ -45,7 +45,6 @@ mod score_writer;
 mod set_down;
 mod source_ending;
 mod state_fault;
-mod tells;
 
 pub use engine::Engine;
 pub use findings::is_shown;

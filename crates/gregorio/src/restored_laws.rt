@@ -13,6 +13,7 @@ ghost use Rattle.gregorio.specs.witness.Engine.{streams_left};
 ghost use Rattle.gregorio.specs.witness.StandsFor.{StandsFor};
 
 use crate::engine::Engine;
+use crate::engine_laws;
 use crate::saved_alike::{an_engine_may_run, engines_that_save_the_same_agree};
 use crate::state_fault::StateFault;
 use gabc_places::Limits;
@@ -39,7 +40,7 @@ pub fn what_is_saved_stands(engine: &Engine, job: &Job, limits: Limits, bytes: &
         (ending : SourceEnding) (more : List ℕ) →
         streams_left engine.now ending more ≡ left ending more }
 {
-    engine.tells_a_state();
+    engine_laws::what_is_saved_is_a_state(engine);
     an_engine_may_run(engine);
     bytes_are_of_one_state(bytes);
     engines_that_save_the_same_agree();

@@ -5,7 +5,7 @@ ghost use Rattle.std.specs.Hash.DefaultHasher.{initial};
 ghost use Rattle.std.specs.Str.{chars};
 ghost use Rattle.gabc_headers.specs.HeldText.{holding};
 ghost use Rattle.gabc_headers.specs.witness.HeadEvents.{fresh_stage};
-ghost use Rattle.gabc_places.specs.DecoderTells.{is_after_cr, resumed};
+ghost use Rattle.gabc_places.specs.DecoderReports.{is_after_cr, resumed};
 ghost use Rattle.gabc_score.specs.declared.score_machine.ScorePart.TheVariants.{Heads};
 ghost use Rattle.gregorio_state.specs.Conditions.{AreStateFields};
 ghost use Rattle.gregorio_state.specs.Fields.{InHeaders, InScore, fields_of, phase_of, score_of};
@@ -14,8 +14,9 @@ ghost use Rattle.gregorio.specs.Engine.{NothingWaits, RunsJob, is_running};
 ghost use Rattle.gregorio.specs.Saved.{GivesHeaders, state_of};
 ghost use Rattle.gregorio.specs.SavedState.{AreOfState, IsOfAnother, IsOfJob, IsState};
 ghost use Rattle.gregorio.specs.machine.ClefInForce.{HasClefOfSounds};
-ghost use Rattle.gregorio.specs.machine.HeldHeaders.{behind_mark};
+ghost use Rattle.gregorio.specs.machine.HeldHeaders.{after_mark};
 ghost use Rattle.gregorio.specs.machine.Restored.{GoesOn, HasEmptyRooms, StandSo, written_by};
+ghost use Rattle.gregorio.specs.machine.Restoring.{AreFieldsIn};
 ghost use Rattle.gregorio.specs.machine.ScoreWriter.{fresh_writer};
 
 use crate::engine::Engine;
@@ -106,7 +107,7 @@ fn heads_behind(
     limits: Limits,
     hasher: DefaultHasher,
 ) -> Result<HeaderStage, StateFault>
-    ensures stage { IfOk result (λ stage. stage ≡ behind_mark limits hasher) }
+    ensures stage { IfOk result (λ stage. stage ≡ after_mark limits hasher) }
     ensures fault { IfErr result (λ fault. fault ≡ StateFault.K0) }
 {
     let mut events = head_room(memory)?;
@@ -236,8 +237,7 @@ fn engine_with(
     requires fields { AreStateFields (fields_of state.now) }
     requires job { IsOfJob job.now limits (fields_of state.now) }
     requires stand { StandSo (fields_of state.now) limits heads score }
-    ensures goes { IfOk result (GoesOn job.now limits (fields_of state.now)) }
-    ensures hasher { IfOk result (λ engine. engine.heads.hasher ≡ heads.hasher) }
+    ensures goes { IfOk result (GoesOn job.now limits (fields_of state.now) heads.hasher) }
     ensures fault { IfErr result (λ fault. fault ≡ StateFault.K0) }
 {
     match head_room(memory) {
@@ -271,11 +271,9 @@ fn engine_in_headers(
     text: &str,
     hasher: DefaultHasher,
 ) -> Result<Engine, StateFault>
-    requires fields { AreStateFields (fields_of state.now) }
-    requires phase { phase_of state.now.phase ≡ InHeaders text.now }
+    requires phase { AreFieldsIn (InHeaders text.now) (fields_of state.now) }
     requires job { IsOfJob job.now limits (fields_of state.now) }
-    ensures goes { IfOk result (GoesOn job.now limits (fields_of state.now)) }
-    ensures hasher { IfOk result (λ engine. engine.heads.hasher ≡ hasher) }
+    ensures goes { IfOk result (GoesOn job.now limits (fields_of state.now) hasher) }
     ensures read { IfOk result (λ _. AreOfState (fields_of state.now)) }
     ensures none { result ≡ Err StateFault.K1 → AreOfState (fields_of state.now) → ⊥ }
     ensures never { result ≡ Err StateFault.K2 → ⊥ }
@@ -300,11 +298,9 @@ fn engine_in_score(
     fields: &ScoreFields<'_>,
     hasher: DefaultHasher,
 ) -> Result<Engine, StateFault>
-    requires fields { AreStateFields (fields_of state.now) }
-    requires phase { phase_of state.now.phase ≡ InScore (score_of fields.now) }
+    requires phase { AreFieldsIn (InScore (score_of fields.now)) (fields_of state.now) }
     requires job { IsOfJob job.now limits (fields_of state.now) }
-    ensures goes { IfOk result (GoesOn job.now limits (fields_of state.now)) }
-    ensures hasher { IfOk result (λ engine. engine.heads.hasher ≡ hasher) }
+    ensures goes { IfOk result (GoesOn job.now limits (fields_of state.now) hasher) }
     ensures read { IfOk result (λ _. AreOfState (fields_of state.now)) }
     ensures none { result ≡ Err StateFault.K1 → AreOfState (fields_of state.now) → ⊥ }
     ensures never { result ≡ Err StateFault.K2 → ⊥ }

@@ -10,6 +10,7 @@ ghost use Rattle.gregorio.specs.Run.{Compiles, InTime, used};
 ghost use Rattle.gregorio.specs.machine.Compile.{AreCut, AreSent, IsFed, IsFedAll, IsFedInPart, IsRun, NoneOrAll, SaysOutcomes, StreamsAreCut};
 
 use crate::engine::Engine;
+use crate::engine_laws;
 use crate::source_ending::SourceEnding;
 use gabc_places::{Limits, Sink, SinkFault, Source, Unsent, send_all};
 use gregorio_jobs::{Job, Status};
@@ -80,7 +81,7 @@ fn feed_piece<O: Sink, M: Sink>(
         StreamsAreCut (used O.written O.calls out.old out.new)
         (used M.written M.calls messages.old messages.new) engine.old ending piece.now) }
 {
-    engine.keeps_nothing_back();
+    engine_laws::nothing_is_kept_back(engine);
     let mut count = 0;
     while count < piece.len() {
         count += engine.fill(&piece[count..]);
@@ -111,7 +112,7 @@ fn feed_all<S: Source, O: Sink, M: Sink>(
         (used M.written M.calls messages.old messages.new)
         engine.old) }
 {
-    engine.keeps_nothing_back();
+    engine_laws::nothing_is_kept_back(engine);
     let most = limit as usize + 1;
     let mut taken = 0;
     let mut buffer = [0; PIECE];

@@ -1,6 +1,6 @@
 //! What a run writes, in rooms that are reserved.
 
-ghost use Rattle.std.specs.Prelude.{◌≡◌, ◌+◌, ◌*◌, ◌≤◌, ℕ, [], IfOk, IfSome, Some, true, false, length, take, string_bytes, encode_utf8_all};
+ghost use Rattle.std.specs.Prelude.{◌≡◌, ◌+◌, ◌*◌, ◌≤◌, ℕ, [], IfOk, Some, true, false, length, take, string_bytes, encode_utf8_all};
 ghost use Rattle.gabc_headers.specs.Canonical.{canonical_heads};
 ghost use Rattle.gabc_score.specs.Canonical.{canonical_in_place};
 ghost use Rattle.gabc_write.specs.Message.{line_of};
@@ -23,9 +23,9 @@ use gabc_headers::Headers;
 use gabc_neumes::Alterations;
 use gabc_places::{Fault, Finding, Limits, Memory, Room};
 use gabc_score::{Give, SpelledSyllable, Syllable};
-use gabc_write::without_notes::a_dump_without_notes_is_shorter;
 use gabc_write::{
-    canon_header, canon_syllable, dump_end, dump_header, dump_spelled, dump_syllable, message_line,
+    canon_header, canon_syllable, dump_end, dump_header, dump_laws, dump_spelled, dump_syllable,
+    message_line,
 };
 use gregorio_jobs::{Format, Job};
 use std::alloc::AllocError;
@@ -148,17 +148,6 @@ impl RunWriter {
         self.errors = errors;
     }
 
-    /// Does nothing. Its contract is a law: the clef in force has a line, and each height an
-    /// alteration.
-    pub(crate) fn tells_what_is_in_force(&self)
-        ensures line { IfSome self.now.written.force.clef
-            (λ clef. (1 ≤ clef.line) × (clef.line ≤ 5)) }
-        ensures heights { length self.now.written.force.alters ≡ 15 }
-    {
-        let _ = self.alterations.clef();
-        let _ = self.alterations.alters();
-    }
-
     /// Returns the format of the output.
     pub(crate) fn format(&self) -> Format
         ensures { result ≡ self.now.written.format }
@@ -270,7 +259,7 @@ impl RunWriter {
             (has_no_notes (unplaced_of syllable.now))
             (length (canonical_in_place (placed_of syllable.now))) }
     {
-        a_dump_without_notes_is_shorter();
+        dump_laws::a_dump_without_notes_is_shorter();
         if !self.headed {
             return;
         }
@@ -319,7 +308,7 @@ impl RunWriter {
     {
         self.count = self.count.saturating_add(1);
         if syllable.position.starts_word() {
-            self.out.append(b"\n");
+            self.out.push(b'\n');
         }
         self.out.append(syllable.canonical.as_bytes());
     }
@@ -334,7 +323,7 @@ impl RunWriter {
         ensures { (s : PlacedSyllable) → Spells syllable.entry s →
             self.new ≡ past_output self.old (SyllableGiven s) }
     {
-        a_dump_without_notes_is_shorter();
+        dump_laws::a_dump_without_notes_is_shorter();
         self.count = self.count.saturating_add(1);
         dump_spelled(self.count, syllable, &mut self.alterations, &mut self.out);
     }

@@ -8,7 +8,7 @@ ghost use Rattle.gregorio.specs.declared.source_ending.SourceEnding.{SourceEndin
 ghost use Rattle.gregorio.specs.Engine.{is_running};
 ghost use Rattle.gregorio.specs.Saved.{state_of};
 ghost use Rattle.gregorio.specs.witness.Engine.{EngineState, streams_left};
-ghost use Rattle.gregorio.specs.witness.MayRun.{MayRun};
+ghost use Rattle.gregorio.specs.witness.CanRun.{CanRun};
 
 use crate::engine::Engine;
 use gabc_write::saved_alike::{
@@ -18,24 +18,24 @@ use gabc_write::saved_alike::{
 /// An engine that runs may run so.
 pub fn an_engine_may_run(engine: &Engine)
     requires { is_running engine.now ≡ true }
-    ensures { MayRun engine.now }
+    ensures { CanRun engine.now }
 {
-    gabc_places::laws::what_a_decoder_tells_may_be_told(&engine.decoder);
-    gabc_score::stage_laws::a_stage_may_stand(engine.writer.score());
+    gabc_places::laws::what_a_decoder_reports_may_be_reported(&engine.decoder);
+    gabc_score::stage_laws::a_stage_is_reachable(engine.writer.score());
 }
 
 /// Two engines that run, call their inputs the same and save the same write the same of whatever
 /// follows, and end alike: all by which a run goes on stands in its state.
 pub fn engines_that_save_the_same_agree()
-    ensures { (one other : EngineState) → MayRun one → MayRun other →
+    ensures { (one other : EngineState) → CanRun one → CanRun other →
         one.written.name ≡ other.written.name → state_of one ≡ state_of other →
         (ending : SourceEnding) (bytes : List ℕ) →
         streams_left one ending bytes ≡ streams_left other ending bytes }
 {
-    gabc_places::laws::decoders_that_tell_the_same_agree();
+    gabc_places::laws::decoders_that_report_the_same_agree();
     gabc_headers::stage_laws::stages_of_one_text_agree();
-    gabc_headers::stage_laws::stages_behind_headers_agree();
-    gabc_score::stage_laws::what_is_told_is_within_the_limits();
+    gabc_headers::stage_laws::stages_after_headers_agree();
+    gabc_score::stage_laws::what_is_reported_is_within_the_limits();
     what_is_saved_alike_goes_on_alike();
     what_goes_on_alike_is_written_alike();
 }

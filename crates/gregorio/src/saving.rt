@@ -6,7 +6,7 @@ ghost use Rattle.std.specs.Str.{chars};
 ghost use Rattle.gabc_headers.specs.witness.HeadEvents.{IsInHeaders};
 ghost use Rattle.gabc_score.specs.Canonical.{canonical};
 ghost use Rattle.gabc_score.specs.Syllable.{unplaced_of};
-ghost use Rattle.gabc_score.specs.ScoreTells.{held_of};
+ghost use Rattle.gabc_score.specs.ScoreReports.{held_of};
 ghost use Rattle.gabc_score.specs.declared.score_machine.ScorePart.TheVariants.{Body};
 ghost use Rattle.gregorio_state.specs.Conditions.{AreStateFields};
 ghost use Rattle.gregorio_state.specs.Fields.{InHeaders, fields_of, holding, phase_holding, phase_of, score_of, with_held};
@@ -17,6 +17,7 @@ ghost use Rattle.gregorio.specs.SavedState.{AreOfState};
 ghost use Rattle.gregorio.specs.machine.Saving.{text_when_held};
 
 use crate::engine::Engine;
+use crate::engine_laws;
 use gabc_places::{ByteCounter, Put};
 use gabc_score::{ScoreStage, Syllable, canon_starting};
 use gregorio_state::{Phase, PutText, ScoreFields, StateFields, TooShort};
@@ -135,7 +136,7 @@ impl Engine {
         match self.heads().text() {
             Some(text) => in_headers(text),
             None => {
-                self.stands_in_the_body();
+                engine_laws::the_body_comes_after_the_headers(self);
                 Phase::Score(self.score_fields(held))
             }
         }
@@ -173,7 +174,7 @@ impl Engine {
         ensures short { result
             ≤ max self.now.score.limits.header (2 * self.now.score.limits.syllable) + 128 }
     {
-        self.tells_a_state();
+        engine_laws::what_is_saved_is_a_state(self);
         let held = HeldSyllable::of(self.score());
         let fields = self.state_fields(held.len());
         fields.len_holding(&held)
@@ -197,7 +198,7 @@ impl Engine {
         ensures short { max self.now.score.limits.header (2 * self.now.score.limits.syllable) + 128
             ≤ length buf.old → IsOk result }
     {
-        self.tells_a_state();
+        engine_laws::what_is_saved_is_a_state(self);
         let held = HeldSyllable::of(self.score());
         let fields = self.state_fields(held.len());
         fields.save_holding(&held, buf)

@@ -1,6 +1,6 @@
 //! What a run does with what a stage of headers emits.
 
-ghost use Rattle.std.specs.Prelude.{◌≡◌, ◌≤◌, ℕ, Bool, List, [], ◌∷◌, length, take, true, false, None, IfOk, IfSome, IsSome};
+ghost use Rattle.std.specs.Prelude.{◌≡◌, ℕ, Bool, List, [], ◌∷◌, take, true, false, None, IfOk, IfSome};
 ghost use Rattle.std.specs.List.{All};
 ghost use Rattle.std.specs.Str.{chars};
 ghost use Rattle.std.specs.String.Boundary.{IsSplitPoint};
@@ -8,17 +8,16 @@ ghost use Rattle.gabc_places.specs.Place.{place_past};
 ghost use Rattle.gabc_places.specs.TextOfAnInput.{IsPlain};
 ghost use Rattle.gabc_headers.specs.declared.head_event.HeadEvent.{HeadEvent as HeadItem};
 ghost use Rattle.gabc_score.specs.witness.BodyStage.{texts_by_stage};
-ghost use Rattle.gabc_places.specs.StageLaw.{concat_of};
-ghost use Rattle.gabc_score.specs.ScoreEvents.{ScoreOutput, score_outputs, syllables_in};
+ghost use Rattle.gabc_score.specs.ScoreEvents.{ScoreOutput, score_outputs};
 ghost use Rattle.gabc_score.specs.ScoreStage.{AreCountsBelow};
 ghost use Rattle.gabc_score.specs.witness.ScoreStage.{left_of};
 ghost use Rattle.gabc_score.specs.declared.score_machine.ScorePart.{ScorePart};
 ghost use Rattle.gregorio.specs.machine.ClefInForce.{HasClefOfSounds};
 ghost use Rattle.gregorio.specs.machine.InStep.{HasForce, TakesEvent};
 ghost use Rattle.gregorio.specs.machine.TellsInStep.{BeginsBody};
-ghost use Rattle.gabc_score.specs.ScoreTells.{StandsInFront};
+ghost use Rattle.gabc_score.specs.ScoreReports.{IsInFront};
 ghost use Rattle.gregorio.specs.machine.RunWriter.{HasRoomFor, IsInRoom, TakesRuns, heads_at, past_output, past_outputs};
-ghost use Rattle.gregorio.specs.machine.ScoreWriter.{output_of_event, outputs_of_events, IsOver, IsShortBook, IsSilent, begun_again, emptied, fresh_writer, IsReserved, IsSteady, FitsEvents, WritesLast, WritesRun};
+ghost use Rattle.gregorio.specs.machine.ScoreWriter.{output_of_event, outputs_of_events, IsOver, IsShortBook, begun_again, emptied, fresh_writer, IsReserved, IsSteady, FitsEvents, WritesLast, WritesRun};
 
 use crate::run_ending::RunEnding;
 use crate::run_writer::RunWriter;
@@ -179,7 +178,7 @@ impl ScoreWriter {
 
     /// Says, if the headers are written, that the body begins after `item`, their last character.
     pub(crate) fn begin_body(&mut self, item: Result<Char, Fault>)
-        requires front { self.old.writer.written.headed ≡ true → StandsInFront self.old.score }
+        requires front { self.old.writer.written.headed ≡ true → IsInFront self.old.score }
         ensures { BeginsBody item self.old self.new }
     {
         let Ok(x) = item else {
@@ -190,14 +189,6 @@ impl ScoreWriter {
         }
         gabc_score::stage_laws::a_body_may_begin_anywhere(&self.score);
         self.score.go_to(x.place.saturating_after(x.c));
-    }
-
-    /// Returns whether it takes runs of syllables: after the headers and before the end.
-    #[inline(always)]
-    pub(crate) fn takes_runs(&self) -> bool
-        ensures { result ≡ true → TakesRuns self.now.writer.written }
-    {
-        self.writer.takes_runs()
     }
 
     /// Takes whole syllables from the front of `text`, of which the first character stands at `at`,
@@ -234,27 +225,6 @@ impl ScoreWriter {
         self.writer.cease()
     }
 
-    /// Does nothing. Its contract is a law: where nothing more comes, at most one syllable is
-    /// written, and after the end nothing is.
-    #[inline(always)]
-    pub(crate) fn at_most_one_is_held(&self)
-        ensures held { length (syllables_in (concat_of (left_of self.now.score []))) ≤ 1 }
-        ensures over { IsSome self.now.writer.written.ended → IsSilent self.now.score }
-    {
-        gabc_score::stage_laws::at_most_one_syllable_is_held(&self.score);
-    }
-
-    /// Does nothing. Its contract is a law on what is in force: the clef has a line and each height
-    /// an alteration, and in the body, where no note or clef has come in GABC, there is no clef.
-    pub(crate) fn tells_what_is_in_force(&self)
-        ensures line { IfSome self.now.writer.written.force.clef
-            (λ clef. (1 ≤ clef.line) × (clef.line ≤ 5)) }
-        ensures heights { length self.now.writer.written.force.alters ≡ 15 }
-        ensures clef { HasClefOfSounds self.now.score self.now.writer.written }
-    {
-        self.writer.tells_what_is_in_force();
-    }
-
     /// Returns the stage over the score.
     pub(crate) fn score(&self) -> &ScoreStage
         ensures { result.now ≡ self.now.score }
@@ -264,7 +234,8 @@ impl ScoreWriter {
 
     /// Returns the writer of the run.
     pub(crate) fn run_writer(&self) -> &RunWriter
-        ensures { result.now ≡ self.now.writer }
+        ensures writer { result.now ≡ self.now.writer }
+        ensures clef { HasClefOfSounds self.now.score self.now.writer.written }
     {
         &self.writer
     }

@@ -1,16 +1,15 @@
 //! A stage over a score that is restored from the fields of a state.
 
-ghost use Rattle.std.specs.Prelude.{◌≡◌, ◌≢◌, ◌↔◌, ◌≤◌, [], length, true, false, Err, IfErr, IfOk, IsTrue};
-ghost use Rattle.gabc_score.specs.Resumed.{StandsBehind};
-ghost use Rattle.gabc_score.specs.ScoreTells.{held_of, is_in_front};
-ghost use Rattle.gabc_score.specs.ToldWithin.{IsPlace, TellsOfText};
+ghost use Rattle.std.specs.Prelude.{◌≡◌, ◌≢◌, ◌↔◌, ◌≤◌, [], length, true, Err, IfErr, IfOk, IsTrue};
+ghost use Rattle.gabc_score.specs.ScoreReports.{held_of};
+ghost use Rattle.gabc_score.specs.ReportedWithin.{IsPlace};
 ghost use Rattle.gabc_score.specs.declared.score_machine.ScorePart.TheVariants.{Body};
-ghost use Rattle.gregorio_state.specs.Conditions.{AreScoreFields, AreStateFields, IsHeldWithin};
-ghost use Rattle.gregorio_state.specs.Fields.{InScore, fields_of, phase_of, score_of};
+ghost use Rattle.gregorio_state.specs.Conditions.{AreScoreFields, IsHeldWithin};
+ghost use Rattle.gregorio_state.specs.Fields.{InScore, fields_of, score_of};
 ghost use Rattle.gregorio.specs.Saved.{held_text};
 ghost use Rattle.gregorio.specs.SavedState.{IsHeldRead, IsKeptRead, IsScoreRead, before_held};
-ghost use Rattle.gregorio.specs.machine.Restoring.{IsSetDown};
-ghost use Rattle.gregorio.specs.machine.SettingDown.{HasRead, HoldsHeld, ReadsOn, openers_told};
+ghost use Rattle.gregorio.specs.machine.Restoring.{AreFieldsIn, IsSetDown};
+ghost use Rattle.gregorio.specs.machine.SettingDown.{HasRead, HoldsHeld, IsResumed, ReadsOn, openers_told};
 
 use crate::comparison::Comparison;
 use crate::saving::HeldSyllable;
@@ -66,12 +65,10 @@ fn stage_behind(
     fields: &ScoreFields<'_>,
 ) -> Result<ScoreStage, StateFault>
     requires { AreScoreFields (fields_of state.now) (score_of fields.now) }
-    ensures stands { IfOk result (λ stage.
-        StandsBehind state.now.limits (before_held (score_of fields.now)) stage) }
-    ensures told { IfOk result (λ stage. TellsOfText stage) }
+    ensures stands { IfOk result (IsResumed state.now.limits (score_of fields.now)) }
     ensures fault { IfErr result (λ fault. fault ≡ StateFault.K0) }
 {
-    gabc_score::stage_laws::a_resumed_stage_tells_of_a_text();
+    gabc_score::stage_laws::a_resumed_stage_reports_a_text();
     match ScoreStage::resume(memory, state.limits, before_held(fields)) {
         Ok(stage) => Ok(stage),
         Err(_) => Err(StateFault::K0),
@@ -91,10 +88,8 @@ fn is_held_text(stage: &ScoreStage, text: &str) -> bool
 /// is read so.
 fn hold(stage: &mut ScoreStage, fields: &ScoreFields<'_>, room: &mut Room<ScoreEvent>) -> bool
     requires held { IsHeldWithin stage.old.limits.syllable (score_of fields.now) }
-    requires stands { StandsBehind stage.old.limits (before_held (score_of fields.now)) stage.old }
-    requires told { TellsOfText stage.old }
-    requires empty { room.old.items ≡ [] }
-    requires room { 16 ≤ room.old.limit }
+    requires stands { IsResumed stage.old.limits (score_of fields.now) stage.old }
+    requires room { room.old ≡ record { items = []; limit = 16 } }
     ensures read { IsTrue result ↔
         (fields.now.held.now ≢ [] → IsHeldRead stage.old.limits (score_of fields.now)) }
     ensures limits { result ≡ true → stage.new.limits ≡ stage.old.limits }
@@ -133,8 +128,8 @@ fn read_kept(stage: &mut ScoreStage, state: &StateFields<'_>, fields: &ScoreFiel
 {
     gabc_score::stage_laws::a_text_begins_outside_a_comment();
     gabc_score::stage_laws::a_comment_in_front_can_be_read_in_a_text();
-    gabc_score::kept_laws::what_is_told_is_kept_again();
-    gabc_score::kept_laws::what_is_kept_again_is_told();
+    gabc_score::kept_laws::what_is_reported_is_kept_again();
+    gabc_score::kept_laws::what_is_kept_again_is_reported();
     if !stage.read_again(fields.kept, openers(fields), fields.in_comment, state.place) {
         return false;
     }
@@ -151,14 +146,11 @@ fn read_texts(
 ) -> bool
     requires fields { AreScoreFields (fields_of state.now) (score_of fields.now) }
     requires place { IsPlace state.now.place }
-    requires stands { StandsBehind state.now.limits (before_held (score_of fields.now)) stage.old }
-    requires told { TellsOfText stage.old }
-    requires empty { room.old.items ≡ [] }
-    requires room { 16 ≤ room.old.limit }
+    requires stands { IsResumed state.now.limits (score_of fields.now) stage.old }
+    requires room { room.old ≡ record { items = []; limit = 16 } }
     ensures read { IsTrue result ↔ IsScoreRead state.now.limits (score_of fields.now) }
     ensures told { result ≡ true →
         IsSetDown (fields_of state.now) (score_of fields.now) stage.new }
-    ensures front { result ≡ true → is_in_front stage.new.body.part ≡ false }
 {
     if !hold(stage, fields, room) {
         return false;
@@ -178,11 +170,9 @@ pub(crate) fn set_down(
     state: &StateFields<'_>,
     fields: &ScoreFields<'_>,
 ) -> Result<ScoreStage, StateFault>
-    requires state { AreStateFields (fields_of state.now) }
-    requires phase { phase_of state.now.phase ≡ InScore (score_of fields.now) }
+    requires { AreFieldsIn (InScore (score_of fields.now)) (fields_of state.now) }
     ensures told { IfOk result (λ stage.
         IsSetDown (fields_of state.now) (score_of fields.now) stage) }
-    ensures front { IfOk result (λ stage. is_in_front stage.body.part ≡ false) }
     ensures read { IfOk result (λ stage. IsScoreRead state.now.limits (score_of fields.now)) }
     ensures refused { result ≡ Err StateFault.K1 →
         IsScoreRead state.now.limits (score_of fields.now) → ⊥ }

@@ -41,7 +41,7 @@ decimal_are_digits : (n : ℕ) → AreDigits (decimal n)
 unfolding digits
 decimal_are_digits n = onto_are_digits 64 n [] tt
 
--- the message behind these bytes of a field
+-- the message after these bytes of a field
 abbrev message_onto : Field → Message → List ℕ → Message
 message_onto field message [] = message
 message_onto field message (c ∷ cs) = message_onto field (message_with field message c) cs
@@ -67,7 +67,7 @@ column_onto m (c ∷ cs) = column_onto (message_with Column m c) cs
 abbrev pub as_read : Message → Message
 as_read m = record m { line = number_onto 0 (decimal m.line); column = number_onto 0 (decimal m.column) }
 
--- what stands behind the place
+-- what stands after the place
 code_is_read : (code : Code) (line column : ℕ) (rest : List ℕ) → messages_in (in_field Column (record { line = line; column = column; severity = 0; code = 0 })) (codes ": " ++ (code_text code ++ (10 ∷ rest))) ≡ record { line = line; column = column; severity = severity_number (severity_of code); code = number_of code } ∷ messages_in before_line rest
 code_is_read E1 line column rest = refl
 code_is_read E2 line column rest = refl
@@ -95,7 +95,7 @@ code_is_read F5 line column rest = refl
 code_is_read F6 line column rest = refl
 code_is_read F7 line column rest = refl
 
--- the line that tells a code at a place
+-- the line that reports a code at a place
 abbrev pub line_at : Place → Code → List ℕ
 line_at place code = fault_line stdin_name (Some (record { place = place; code = code }))
 

@@ -8,12 +8,12 @@ use Rattle.gabc_score.specs.declared.score.Score.{Score}
 use Rattle.gregorio.specs.Outcome.{is_shown, shown_line, fault_line, lines_of}
 use Rattle.gregorio_c.specs.Answers.{stdin_name}
 use Rattle.gregorio_c.specs.Messages.{message_at, shown_message, fault_message, messages_by}
-use Rattle.gregorio_c.specs.machine.LineReader.{AreCounted, before_line, counted_behind, messages_in}
+use Rattle.gregorio_c.specs.machine.LineReader.{AreCounted, before_line, counted_after, messages_in}
 use Rattle.gregorio_c.proofs.LinesAreRead.{as_read, line_at, line_is_read}
 use Rattle.gregorio_c.proofs.MessagesAreCounted.{AreAsRead, are_as_read}
 
 module _ (all : Bool) where
-  -- the lines of findings, behind which others stand
+  -- the lines of findings, after which others stand
   findings_are_read : (fs : List Finding) (rest : List ℕ) → messages_in before_line (flat_map (shown_line stdin_name all) fs ++ rest) ≡ map as_read (flat_map (shown_message all) fs) ++ messages_in before_line rest
   findings_are_read [] rest = refl
   findings_are_read (f ∷ fs) rest = by (is_shown all f) (findings_are_read fs rest)
@@ -39,8 +39,8 @@ module _ (all : Bool) where
       ∙ sym (map-append as_read (flat_map (shown_message all) score.findings) (fault_message score.fault))
 
   module _ (score : Score) (count : ℕ) (are : AreCounted count (lines_of stdin_name all score)) where
-    counted : count ≡ counted_behind 0 (map as_read (messages_by all score))
-    counted = are.counted ∙ ap (counted_behind 0) (lines_are_read score)
+    counted : count ≡ counted_after 0 (map as_read (messages_by all score))
+    counted = are.counted ∙ ap (counted_after 0) (lines_are_read score)
 
     as_they_are : AreAsRead 0 (messages_by all score)
     as_they_are = are_as_read 0 (messages_by all score) (subst (λ n. n < 2 ^ 64 - 1) counted are.below)

@@ -10,7 +10,7 @@ use Rattle.gregorio_c.specs.machine.LineReader.{with_digit}
 abbrev pub most : ℕ
 most = 2 ^ 64 - 1
 
--- the number behind these digits
+-- the number after these digits
 abbrev pub number_onto : ℕ → List ℕ → ℕ
 number_onto number [] = number
 number_onto number (c ∷ cs) = number_onto (with_digit number c) cs
@@ -35,7 +35,7 @@ one_more j n w big (inr (inl same)) = elim (digit_is w (n % 10)) [ inl e ↦ inl
 one_more j n w big (inr (inr (inl none))) = elim (digit_is w (n % 10)) [ inl e ↦ inl e | inr e ↦ inr (inr (inr (omega (arith, e, pow-suc 10 j, ap (λ i. 10 ^ i) none.0)))) ]
 one_more j n w big (inr (inr (inr long))) = elim (digit_is w (n % 10)) [ inl e ↦ inl e | inr e ↦ inr (inr (inr (omega (arith, e, pow-suc 10 j)))) ]
 
--- the number of digits, behind which others stand
+-- the number of digits, after which others stand
 pub record ReadBehind (k n : ℕ) (acc digits : List ℕ) : Type 0 where
   pub number : ℕ
   pub behind : number_onto 0 digits ≡ number_onto number acc

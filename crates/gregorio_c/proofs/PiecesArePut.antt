@@ -13,7 +13,7 @@ use Rattle.gregorio_state.specs.StateBytes.{state_bytes}
 use Rattle.gregorio.specs.declared.source_ending.SourceEnding.{SourceEnding}
 use Rattle.gregorio.specs.Saved.{state_of}
 use Rattle.gregorio.specs.SavedState.{IsOfJob}
-use Rattle.gregorio.specs.Streams.{Streams, behind_bytes, joined}
+use Rattle.gregorio.specs.Streams.{Streams, after_bytes, joined}
 use Rattle.std.specs.Borrow.{Bor}
 use Rattle.gregorio.specs.witness.StandsFor.{StandsFor}
 use Rattle.gregorio_c.specs.StepAnswers.{BeginAnswer, Buffer, EndAnswer, FeedAnswer, IsHandedOut, IsReason, used}
@@ -25,7 +25,7 @@ use Rattle.gregorio_c.specs.declared.in_pieces.Fed.TheVariants.{On, Over}
 use Rattle.gregorio_c.specs.InPieces.{MayFail, PutsLast}
 use Rattle.gregorio_c.specs.machine.InPieces.{PutsFed, PutsOn, fed_as}
 use Rattle.gregorio_c.specs.machine.Steps.{WritesNothing}
-use Rattle.gregorio_c.proofs.PiecesAreGathered.{joined_streams}
+use Rattle.gregorio.proofs.pieces.BytesAreJoined.{with_both_after}
 use Rattle.gregorio_c.proofs.NoStepIsRefused.{begun_writes, ended_writes, fed_writes}
 
 joined_both : (one more : List (Bor (List ℕ))) → joined (one ++ more) ≡ joined one ++ joined more
@@ -177,13 +177,13 @@ module _ (job : Job) (limits : Limits) (before : List ℕ) (left : Writes) (stan
           number_is = t.number_is ∙ (a.ends.over.number ∙ ap (λ (s : Streams). code_of s.status) (sym law));
         }
 
--- ---- one behind the other
+-- ---- one after the other
 
--- a piece stands behind those before it
+-- a piece stands after those before it
 pub joined_next : (pieces : List (Bor (List ℕ))) (count : ℕ) (piece : Bor (List ℕ)) → take (count + 1) pieces ≡ take count pieces ++ (piece ∷ []) → joined (take (count + 1) pieces) ≡ joined (take count pieces) ++ piece.now
 joined_next pieces count piece is = ap (λ (l : List (Bor (List ℕ))). joined l) is ∙ joined_behind (take count pieces) piece
 
--- behind a piece stand those that follow
+-- after a piece stand those that follow
 pub joined_rest : (pieces : List (Bor (List ℕ))) (count : ℕ) → joined (take count pieces) ++ joined (drop count pieces) ≡ joined pieces
 joined_rest pieces count = sym (joined_both (take count pieces) (drop count pieces)) ∙ ap (λ (l : List (Bor (List ℕ))). joined l) (take-append-drop count pieces)
 
@@ -215,7 +215,7 @@ module _ {A B : Type 0} (takes : A → List ℕ → A) (takes_too : B → List �
       law = λ ending more.
           ap (left ending) (append_assoc bytes piece more)
           ∙ (a.law ending (piece ++ more)
-          ∙ (ap (behind_bytes a.output a.lines) (b.law ending more) ∙ joined_streams a.output a.lines b.output b.lines (b.rest ending more)));
+          ∙ (ap (after_bytes a.output a.lines) (b.law ending more) ∙ sym (with_both_after a.output a.lines b.output b.lines (b.rest ending more))));
     }
 
     -- the last is put
@@ -228,7 +228,7 @@ module _ {A B : Type 0} (takes : A → List ℕ → A) (takes_too : B → List �
           number_is = l.number_is ∙ ap (λ (s : Streams). code_of s.status) (sym law);
         }
 
--- ---- pieces, one behind the other
+-- ---- pieces, one after the other
 
 pub if_ok : {P Q : ℕ → Type 0} (r : Result ℕ ℕ) → IfOk r P → ((n : ℕ) → P n → Q n) → IfOk r Q
 if_ok (Ok n) h f = f n h

@@ -1,4 +1,4 @@
--- What a step makes of an engine that stands behind a state.
+-- What a step makes of an engine that stands after a state.
 use Rattle.std.proofs.Common.{◌≡◌, ℕ, List, [], ◌++◌, Option, append-nil, refl, sym, ap, subst, ◌∙◌}
 use Rattle.gabc_places.specs.declared.code.Fault.{Fault}
 use Rattle.gabc_places.specs.declared.limits.Limits.{Limits}
@@ -9,7 +9,7 @@ use Rattle.gregorio_jobs.specs.Status.{code_of}
 use Rattle.gregorio.specs.declared.source_ending.SourceEnding.{SourceEnding}
 use Rattle.gregorio.specs.declared.source_ending.SourceEnding.TheVariants.{Broken}
 use Rattle.gregorio.specs.Engine.{EndsByInput}
-use Rattle.gregorio.specs.Streams.{Streams, behind_bytes, ended_with}
+use Rattle.gregorio.specs.Streams.{Streams, after_bytes, ended_with}
 use Rattle.gregorio.specs.witness.StandsFor.{StandsFor}
 use Rattle.gregorio_c.specs.Steps.{Begins, Ends, Feeds, GoesOn, IsStopped, Made, Writes, goes_on, run_of}
 use Rattle.gregorio_c.specs.machine.Steps.{EndedAs, FedAs, StandsAlone}
@@ -24,7 +24,7 @@ no_end WriteFault e = absurd (cc e)
 no_end NoMemory e = absurd (cc e)
 
 -- the last bytes of a run that is over
-last_is : (output lines : List ℕ) (status : Status) (fault : Option Fault) → behind_bytes output lines (ended_with status fault) ≡ record { output = output; messages = lines; status = status; fault = fault }
+last_is : (output lines : List ℕ) (status : Status) (fault : Option Fault) → after_bytes output lines (ended_with status fault) ≡ record { output = output; messages = lines; status = status; fault = fault }
 last_is output lines status fault =
     let texts = append-nil output in
     let told = append-nil lines in
@@ -33,7 +33,7 @@ last_is output lines status fault =
 -- ---- what is made of an engine
 
 pub ended : (ending : SourceEnding) (left : Writes) (made : Made) (status : Status) (fault : Option Fault) (output lines : List ℕ) → made ≡ record { output = output; lines = lines; state = []; number = code_of status }
-    → left ending [] ≡ behind_bytes output lines (ended_with status fault) → EndsByInput (left ending []).status → EndedAs ending left made
+    → left ending [] ≡ after_bytes output lines (ended_with status fault) → EndsByInput (left ending []).status → EndedAs ending left made
 ended ending left made status fault output lines is law by_input =
     subst (EndedAs ending left) (sym is) (record {
       status = status;
@@ -43,7 +43,7 @@ ended ending left made status fault output lines is law by_input =
     })
 
 pub stopped : (job : Job) (limits : Limits) (left rest : Writes) (piece : List ℕ) (made : Made) (status : Status) (fault : Option Fault) (output lines : List ℕ) → made ≡ record { output = output; lines = lines; state = []; number = code_of status }
-    → ((ending : SourceEnding) (more : List ℕ) → left ending (piece ++ more) ≡ behind_bytes output lines (rest ending more)) → ((more : List ℕ) (ending : SourceEnding) → rest ending more ≡ ended_with status fault)
+    → ((ending : SourceEnding) (more : List ℕ) → left ending (piece ++ more) ≡ after_bytes output lines (rest ending more)) → ((more : List ℕ) (ending : SourceEnding) → rest ending more ≡ ended_with status fault)
     → EndsByInput (left Broken (piece ++ [])).status → FedAs job limits left piece made
 stopped job limits left rest piece made status fault output lines is law over by_input =
     subst (FedAs job limits left piece) (sym is) (record {
@@ -53,10 +53,10 @@ stopped job limits left rest piece made status fault output lines is law over by
         fault = fault;
         over = record {
           number = refl;
-          by_input = subst EndsByInput (ap (λ (s : Streams). s.status) (law Broken [] ∙ ap (behind_bytes output lines) (over [] Broken))) by_input;
+          by_input = subst EndsByInput (ap (λ (s : Streams). s.status) (law Broken [] ∙ ap (after_bytes output lines) (over [] Broken))) by_input;
           no_state = refl;
         };
-        law = λ ending more. law ending more ∙ (ap (behind_bytes output lines) (over more ending) ∙ last_is output lines status fault);
+        law = λ ending more. law ending more ∙ (ap (after_bytes output lines) (over more ending) ∙ last_is output lines status fault);
       };
     })
 

@@ -32,7 +32,7 @@ pub record IsOutcomeOf (score : List ℕ) (outcome : Outcome) : Type 0 where
   pub is : outcome ≡ outcome_of limits Whole score
 
 -- The output and the lines of the messages stand in their buffers, and their lengths and the status
--- are told.
+-- are reported.
 pub record Answer (request : Request) (score output_old output_new messages_old messages_new : List ℕ) (lengths : Lengths) (status : ℕ) : Type 0 where
   pub outcome : Outcome
   pub of : IsOutcomeOf score outcome
@@ -42,7 +42,7 @@ pub record Answer (request : Request) (score output_old output_new messages_old 
   pub messages_length : lengths.messages ≡ length (lines_of stdin_name request.all_warnings outcome.score)
   pub ends : status ≡ status_number outcome
 
--- The messages stand in their buffer, and their number and the status are told.
+-- The messages stand in their buffer, and their number and the status are reported.
 pub record MessagesAnswer (all_warnings : Bool) (score : List ℕ) (old new : List Message) (count status : ℕ) : Type 0 where
   pub outcome : Outcome
   pub of : IsOutcomeOf score outcome

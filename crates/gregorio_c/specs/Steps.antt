@@ -12,7 +12,7 @@ use Rattle.gregorio.specs.declared.source_ending.SourceEnding.{SourceEnding}
 use Rattle.gregorio.specs.declared.source_ending.SourceEnding.TheVariants.{Broken}
 use Rattle.gregorio.specs.Engine.{EndsByInput, IsPrompt}
 use Rattle.gregorio.specs.Outcome.{outcome_of}
-use Rattle.gregorio.specs.Streams.{Streams, behind_bytes, streams_of_outcome}
+use Rattle.gregorio.specs.Streams.{Streams, after_bytes, streams_of_outcome}
 use Rattle.gregorio.specs.witness.StandsFor.{StandsFor}
 use Rattle.gregorio_c.specs.declared.request.Request.{Request}
 
@@ -64,7 +64,7 @@ pub record Begins (job : Job) (limits : Limits) (made : Made) : Type 0 where
 pub record GoesOn (job : Job) (limits : Limits) (left : Writes) (piece : List ℕ) (made : Made) : Type 0 where
   pub rest : Writes
   pub stands : StandsFor job limits made.state rest
-  pub law : (ending : SourceEnding) (more : List ℕ) → left ending (piece ++ more) ≡ behind_bytes made.output made.lines (rest ending more)
+  pub law : (ending : SourceEnding) (more : List ℕ) → left ending (piece ++ more) ≡ after_bytes made.output made.lines (rest ending more)
   pub prompt : IsPrompt job.format (rest Broken [])
 
 -- A fault in a piece stopped the run, whatever follows.

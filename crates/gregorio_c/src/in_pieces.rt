@@ -215,7 +215,8 @@ fn end_one<O: Put, M: Put>(
 /// the state before, writes the output and the messages and answers the status of a run over the
 /// pieces joined, however its input is cut: they are put into `out` and `lines`. `state`, `output`
 /// and `messages` are the buffers of the calls. The error is 3 where the numbers ask for nothing,
-/// else 5, where there is too little memory, or 7, where a buffer is too small.
+/// else 5, where there is too little memory, or 7, where a buffer is too small. That it makes a
+/// call for each piece stands in its body, and in no clause.
 pub fn a_run_may_be_fed_in_pieces<O: Put, M: Put>(
     alloc: Global,
     numbers: &Numbers<'_>,

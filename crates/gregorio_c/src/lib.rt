@@ -49,7 +49,8 @@ const NO_MEMORY: u32 = 5;
 /// their exact lengths in bytes into `lengths`. A text that is longer than its buffer is left out
 /// whole, and the buffer stays as it was. `format` is 0 for canonical GABC and 1 for the dump, and
 /// `flags` is 1 for all warnings, else 0. `key` has the words of a key for the names of headers:
-/// two random ones where strangers write the score, else none. No answer depends on it.
+/// two random ones where strangers write the score, else none. No answer depends on it. The limits
+/// are the default ones.
 ///
 /// Returns the exit status that the program would have: 0, 1 or 2. It returns 3 for another format
 /// or flag, and 5 where there is no memory; buffers and lengths stay as they were then.

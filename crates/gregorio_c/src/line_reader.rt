@@ -1,7 +1,7 @@
 //! The lines of messages, read back byte by byte.
 
 ghost use Rattle.std.specs.Prelude.{◌≡◌};
-ghost use Rattle.gregorio_c.specs.machine.LineReader.{next_field, with_digit, severity_with, code_with, message_with, before_line, ended_by, behind_byte};
+ghost use Rattle.gregorio_c.specs.machine.LineReader.{next_field, with_digit, severity_with, code_with, message_with, before_line, ended_by, past_byte};
 
 use crate::message::Message;
 
@@ -120,7 +120,7 @@ impl LineReader {
     /// Reads `byte`. Returns the message whose line it ends, if it is an LF. A place of which a
     /// number is larger than a `u64` has the last value of one for it.
     pub(crate) fn read(&mut self, byte: u8) -> Option<Message>
-        ensures reader { self.new ≡ behind_byte self.old byte }
+        ensures reader { self.new ≡ past_byte self.old byte }
         ensures message { result ≡ ended_by self.old byte }
     {
         match byte {

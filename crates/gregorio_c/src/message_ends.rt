@@ -2,7 +2,7 @@
 
 ghost use Rattle.std.specs.Prelude.{◌≡◌, [], ◌∷◌};
 ghost use Rattle.gabc_places.specs.Filling.{filled, filled_len};
-ghost use Rattle.gregorio_c.specs.machine.LineReader.{has_place as is_placed, counted_by, counted_behind, before_line, behind_bytes, messages_in};
+ghost use Rattle.gregorio_c.specs.machine.LineReader.{has_place as is_placed, counted_by, counted_after, before_line, after_bytes, messages_in};
 
 use crate::line_reader::LineReader;
 use crate::message::Message;
@@ -50,8 +50,8 @@ fn take_lines(
     buf: &mut [Message],
     at: usize,
 ) -> usize
-    ensures reader { reader.new ≡ behind_bytes reader.old bytes.now }
-    ensures count { count.new ≡ counted_behind count.old (messages_in reader.old bytes.now) }
+    ensures reader { reader.new ≡ after_bytes reader.old bytes.now }
+    ensures count { count.new ≡ counted_after count.old (messages_in reader.old bytes.now) }
     ensures buf { buf.new ≡ filled buf.old at (messages_in reader.old bytes.now) }
     ensures len { result ≡ filled_len buf.old at (messages_in reader.old bytes.now) }
 {
@@ -93,13 +93,13 @@ impl MessageFiller<'_> {
 impl Put for MessageFiller<'_> {
     ghost use Rattle.std.proofs.Common.{rules};
     ghost use Rattle.gabc_places.specs.Filling.{filled_nothing, filled_both, filled_len_both};
-    ghost use Rattle.gregorio_c.specs.machine.LineReader.{behind_both, messages_in_both, counted_both};
+    ghost use Rattle.gregorio_c.specs.machine.LineReader.{with_both_after, messages_in_both, counted_both};
 
     ghost taken = { λ f bytes. record {
       buf = record f.buf { now = filled f.buf.now f.len (messages_in f.reader bytes) };
       len = filled_len f.buf.now f.len (messages_in f.reader bytes);
-      count = counted_behind f.count (messages_in f.reader bytes);
-      reader = behind_bytes f.reader bytes;
+      count = counted_after f.count (messages_in f.reader bytes);
+      reader = after_bytes f.reader bytes;
     } };
 
     ghost taken_nothing = { Prim.search (rules, filled_nothing) };
@@ -108,7 +108,7 @@ impl Put for MessageFiller<'_> {
       rules,
       filled_both,
       filled_len_both,
-      behind_both,
+      with_both_after,
       messages_in_both,
       counted_both,
     ) };

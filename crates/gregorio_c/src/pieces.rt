@@ -47,6 +47,8 @@ pub extern "C" fn gregorio_state_bound(options: &[Options]) -> usize
 /// Returns 6: the run goes on. It returns 7 where `state` is too small, and stays as it was then; 3
 /// where a number is not known or out of range, and 5 where there is no memory: nothing is written
 /// then.
+///
+/// The state stands for the whole run, over whatever follows and however that ends.
 #[unsafe(no_mangle)]
 pub extern "C" fn gregorio_begin(
     alloc: Global,
@@ -84,6 +86,10 @@ pub extern "C" fn gregorio_begin(
 /// and `step` gives the lengths that are wanted. With 3 and 5, as `gregorio_begin` returns them,
 /// with 8, where the bytes are no state, and 9, where they are one of another format, of other
 /// flags or limits, nothing is written.
+///
+/// Of whatever the state before stands for, what is written are the first bytes: all that is known,
+/// but for the syllable that is held. The state after it stands for the rest. A state is accepted
+/// exactly where `Engine::restore` accepts it.
 #[unsafe(no_mangle)]
 pub extern "C" fn gregorio_feed(
     alloc: Global,

@@ -88,7 +88,7 @@ fn run<'j>(rt: &HostRuntime, job: &'j Job) -> Result<Status, Unopened<'j>> {
     ))
 }
 
-/// Tells what a status says beside the messages of the run, and ends with it.
+/// Reports what a status says beside the messages of the run, and ends with it.
 fn finish(rt: &HostRuntime, status: Status) -> ExitCode {
     let _ = match status {
         Status::ReadFault => eprintln!(rt; "gregorio: cannot read"),
@@ -119,7 +119,7 @@ fn help(rt: &HostRuntime) -> ExitCode {
     }
 }
 
-/// Tells why the words are refused.
+/// Reports why the words are refused.
 fn refuse(rt: &HostRuntime, refusal: Refusal) -> ExitCode {
     let _ = eprintln!(rt; "gregorio: {refusal}");
     ExitCode::from(refusal.code())

@@ -116,8 +116,9 @@ fn plan_by(alloc: Global, matches: &ArgMatches<'_>) -> Result<Plan, Refusal>
 }
 
 /// Returns what `words`, those after the program's name, want: the help line where `-h` is there,
-/// else the job of the words. Returns `O1` where the command takes no such words, else the
-/// first of `O2` to `O7` that applies, and `O0` where there is no memory. `-h` hides `O2` to `O7`.
+/// else the job of the words. Returns `O1` where the command takes no such words, else the first of
+/// `O2` to `O7` that applies, and `O0` where there is no memory. `-h` hides `O2` to `O7`. Which
+/// words the command takes is `clap`'s statement, and exact for this command.
 pub fn plan(alloc: Global, words: &Words) -> Result<Plan, Refusal>
     ensures { result ≢ Err O0 → result ≡ wants words.now }
 {

@@ -44,7 +44,7 @@ none_tested : (n : ℕ) → list_all is_none (replicate n alter.None) ≡ true
 none_tested zero = refl
 none_tested (suc n) = none_tested n
 
--- of so many, none is in force exactly where each is none
+-- of n, none is in force exactly where each is none
 pub alters_tested : (alters : List Alter) (n : ℕ) → length alters ≡ n → (list_all is_none alters ≡ true → alters ≡ replicate n alter.None) × (alters ≡ replicate n alter.None → list_all is_none alters ≡ true)
 alters_tested alters n len = (λ e. rw (← len) (each_none alters e), λ e. rw e (none_tested n))
 

@@ -97,7 +97,7 @@ state_length s fits =
       phase_length s s.phase fits.limits fits.phase,
     )
 
--- so many bytes are counted one by one
+-- n bytes are counted one by one
 pub state_counted : (s : StateFields) → AreStateFields s → counted_with 0 (state_bytes s) ≡ length (state_bytes s)
 state_counted s fits = counted (length (state_bytes s)) (omega (arith, state_length s fits, max-le head twice))
   where

@@ -4,7 +4,7 @@
 -- text is given back, holds no whole syllable, and is inside what the openers say; that no comment
 -- is open after an unpaired `$`.
 use Rattle.std.specs.Prelude.{◌≡◌, ◌↔◌, ℕ, ◌+◌, ◌<◌, ◌≤◌, List, [], ◌∷◌, length, Bool, true, false, None, IfSome}
-use Rattle.gabc_places.specs.DecoderTells.{MayBeTold}
+use Rattle.gabc_places.specs.DecoderReports.{MayBeReported}
 use Rattle.gabc_places.specs.Limits.{AreLimits}
 use Rattle.gabc_places.specs.PlacesInOrder.{AreInOrder, LiesBefore}
 use Rattle.gabc_places.specs.TextOfAnInput.{IsText}
@@ -77,8 +77,8 @@ abbrev pub ArePhaseFields : StateFields → PhaseFields → Type 0
 ArePhaseFields s (InHeaders headers) = AreHeaderFields s headers
 ArePhaseFields s (InScore f) = AreScoreFields s f
 
--- the fields may be those of a saved state; the decoder's are what a decoder may tell
+-- the fields may be those of a saved state; the decoder's are what a decoder may report
 pub record AreStateFields (s : StateFields) : Type 0 where
   pub limits : AreLimits s.header_limit s.syllable_limit s.input_limit
-  pub decoder : MayBeTold s.input_limit s.taken s.place s.pending s.after_cr
+  pub decoder : MayBeReported s.input_limit s.taken s.place s.pending s.after_cr
   pub phase : ArePhaseFields s s.phase

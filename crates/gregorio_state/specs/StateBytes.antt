@@ -15,7 +15,7 @@ use Rattle.gregorio_state.specs.Fields.{StateFields, ScoreFields, PhaseFields, I
 abbrev pub bit : Bool → ℕ
 bit b = if b then 1 else 0
 
--- a number in so many bytes has its highest byte first
+-- a number in n bytes has its highest byte first
 unfoldable pub number_bytes : Width → ℕ → List ℕ
 number_bytes w n = to_be_bytes w n
 

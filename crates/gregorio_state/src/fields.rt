@@ -53,7 +53,7 @@ pub enum Phase<'a> {
 pub struct StateFields<'a> {
     /// The format of the output.
     pub format: Format,
-    /// Whether warnings are told.
+    /// Whether warnings are reported.
     pub all_warnings: bool,
     /// How much the run reads and keeps.
     pub limits: Limits,

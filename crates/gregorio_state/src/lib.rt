@@ -1,4 +1,5 @@
-//! The fields of a saved state, and its bytes: written, and read. It runs nothing.
+//! The fields of a saved state, and its bytes: written, and read. It runs nothing, and asks for no
+//! memory.
 #![tactic(auto)]
 
 mod conditions;

@@ -404,7 +404,8 @@ fn state_of_bytes(bytes: &[u8]) -> Option<StateFields<'_>>
 
 /// Reads the fields of a saved state from all of `bytes`. Returns `None` where the bytes are those
 /// of no fields that meet the conditions of a saved state; what a text of them says when it is read
-/// is not looked at.
+/// is not looked at. Bytes are those of one state at most, and no byte is left over. The texts are
+/// borrowed from `bytes`.
 pub fn read(bytes: &[u8]) -> Option<StateFields<'_>>
     ensures some { IfSome result
         (λ s. (bytes.now ≡ state_bytes (fields_of s)) × AreStateFields (fields_of s)) }

@@ -216,14 +216,14 @@ fn nabc_goes_on_after_each_character(rt: HostRuntime) -> Result<(), AllocError> 
 #[test]
 fn laws_of_kept_texts_are_called(rt: HostRuntime) {
     let one = NoteStage::new(true, 2);
-    gabc_notes::laws::stages_that_tell_the_same_agree(&one, &one);
-    gabc_notes::laws::stages_behind_one_text_agree();
-    gabc_notes::laws::an_opener_is_told_inside_raw();
+    gabc_notes::laws::stages_that_report_the_same_agree(&one, &one);
+    gabc_notes::laws::stages_after_one_text_agree();
+    gabc_notes::laws::an_opener_is_reported_inside_raw();
     gabc_notes::laws::a_kept_character_is_kept_again();
     gabc_notes::laws::a_kept_text_gives_the_stage_back(&one);
     assert!(rt; one.opener().is_none() && !one.in_comment());
     let one = NabcStage::new();
-    gabc_nabc::laws::stages_behind_one_text_agree();
+    gabc_nabc::laws::stages_after_one_text_agree();
     gabc_nabc::laws::a_kept_text_gives_the_stage_back(&one);
     assert!(rt; !one.in_comment());
 }

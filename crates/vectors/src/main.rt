@@ -172,7 +172,7 @@ fn is_kept(alloc: Global, row: &Row) -> bool {
         || gives_itself(alloc, canonical, asked.limits) && gives_its_dump(alloc, asked, canonical)
 }
 
-/// Whether the run on this line of a file gives what its row says. Tells where it does not.
+/// Whether the run on this line of a file gives what its row says. Reports where it does not.
 fn row_agrees(rt: &HostRuntime, path: &str, number: usize, line: &str) -> io::Result<bool> {
     match row_of(rt.alloc(), line)? {
         Some(row) if !agrees(rt.alloc(), &row) => {
@@ -325,8 +325,8 @@ impl Lines {
         }
     }
 
-    /// Returns whether what stands on this line of a file is as the line says. Tells where it is
-    /// not.
+    /// Returns whether what stands on this line of a file is as the line says. Reports where
+    /// it is not.
     fn agree(self, rt: &HostRuntime, path: &str, number: usize, line: &str) -> io::Result<bool> {
         let alloc = rt.alloc();
         let agrees = match self {

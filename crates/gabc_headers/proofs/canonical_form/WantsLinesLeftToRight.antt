@@ -4,7 +4,7 @@ use Rattle.std.proofs.Math.Bool.{or-true}
 use Rattle.gabc_headers.specs.Lines.{lines, on_first, is_bare, is_mark, has_mark}
 use Rattle.gabc_headers.specs.Canonical.{wants_lines}
 
--- whether the rest of a value has an LF, or the line has a mark; `marked` tells that a `;` and blanks stand before the rest
+-- whether the rest of a value has an LF, or the line has a mark; `marked` says that a `;` and blanks stand before the rest
 abbrev pub has_lf : List ℕ → Bool
 has_lf [] = false
 has_lf (c ∷ v) = (c == 10) || has_lf v

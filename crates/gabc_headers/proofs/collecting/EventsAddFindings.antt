@@ -9,7 +9,7 @@ use Rattle.gabc_headers.specs.declared.events.HeaderEvent.{HeaderEvent}
 use Rattle.gabc_headers.specs.declared.events.HeaderEvent.TheVariants.{LeftOut, Header}
 use Rattle.gabc_headers.specs.Parts.{HeaderPart, left_out, header, unended}
 use Rattle.gabc_headers.specs.Book.{is_kept, repeats, entries, is_one_of}
-use Rattle.gabc_headers.specs.Heads.{findings_behind, known_at, line_place}
+use Rattle.gabc_headers.specs.Heads.{findings_after, known_at, line_place}
 use Rattle.gabc_headers.specs.EntryMap.{is_annotation, put_entry, put_all, with_value}
 use Rattle.gabc_headers.specs.Entries.{spelled_entries}
 use Rattle.gabc_headers.specs.machine.EntryMap.{names, comes_again, AreWithin}
@@ -41,7 +41,7 @@ names-put {X} es name v n = by (is_annotation name) (is_one_of name (names es)) 
 -- what a list of events makes of what is there
 pub record Follows (text : List ℕ) (seen : List (List ℕ)) (ps : List HeaderPart) (c d : Collected) : Type 0 where
   pub headers : spelled_entries text d.headers ≡ put_all (spelled_entries text c.headers) (entries ps)
-  pub findings : d.findings ≡ c.findings ++ all_known (findings_behind seen ps)
+  pub findings : d.findings ≡ c.findings ++ all_known (findings_after seen ps)
   pub within : AreWithin text d.headers
 
 -- a finding between
@@ -62,7 +62,7 @@ follow t (LeftOut k p ∷ es) (left_out j q ∷ ps) seen c u h s w =
     let f = follow t es ps seen (collected_with (encodes t) (LeftOut k p) c) u h.1 s w in
     record {
       headers = f.headers;
-      findings = f.findings ∙ between c.findings (c.findings ++ finding_at k E4 ∷ []) (finding_at j E4 ∷ []) (all_known (findings_behind seen ps)) (ap (λ (n : ℕ). c.findings ++ finding_at n E4 ∷ []) h.0.0);
+      findings = f.findings ∙ between c.findings (c.findings ++ finding_at k E4 ∷ []) (finding_at j E4 ∷ []) (all_known (findings_after seen ps)) (ap (λ (n : ℕ). c.findings ++ finding_at n E4 ∷ []) h.0.0);
       within = f.within;
     }
 follow t (LeftOut k p ∷ es) (unended j ∷ ps) seen c u h s w = absurd h.0
@@ -84,7 +84,7 @@ follow t (Header k a b p ∷ es) (header j n v q ∷ ps) seen c u h s w =
         record {
           headers = rw e (f.headers ∙ (ap (λ (x : List (List ℕ × List ℕ)). put_all x (entries ps)) (spelled-put (encodes t) c.headers n b)
               ∙ ap (λ (y : List ℕ). put_all (put_entry (spelled_entries (encodes t) c.headers) n y) (entries ps)) (holds_shown t v b u h.0.2)));
-          findings = rw (e, repeats-same seen (names c.headers) n s) (f.findings ∙ again (comes_again c.headers n) j q (all_known (findings_behind (n ∷ seen) ps)) c.findings (findings_behind (n ∷ seen) ps) refl);
+          findings = rw (e, repeats-same seen (names c.headers) n s) (f.findings ∙ again (comes_again c.headers n) j q (all_known (findings_after (n ∷ seen) ps)) c.findings (findings_after (n ∷ seen) ps) refl);
           within = f.within;
         }
     by false e r =
@@ -92,6 +92,6 @@ follow t (Header k a b p ∷ es) (header j n v q ∷ ps) seen c u h s w =
         let f = r seen m u h.1 s w in
         record {
           headers = rw e f.headers;
-          findings = rw e (f.findings ∙ append_assoc c.findings (finding_at j E5 ∷ []) (all_known (findings_behind seen ps)));
+          findings = rw e (f.findings ∙ append_assoc c.findings (finding_at j E5 ∷ []) (all_known (findings_after seen ps)));
           within = f.within;
         }

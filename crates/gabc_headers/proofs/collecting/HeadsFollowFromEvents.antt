@@ -17,7 +17,7 @@ use Rattle.gabc_headers.specs.witness.Parts.{outside, head_parts}
 use Rattle.gabc_headers.specs.Book.{book_of, entries}
 use Rattle.gabc_headers.specs.Entries.{spelled_entries}
 use Rattle.gabc_headers.specs.machine.EntryMap.{AreWithin}
-use Rattle.gabc_headers.specs.Heads.{head_len, findings_behind, line_place, heads_of}
+use Rattle.gabc_headers.specs.Heads.{head_len, findings_after, line_place, heads_of}
 use Rattle.gabc_headers.specs.machine.Collected.{AreGoodEvents, collected_with_all, none, heads_at_body, heads_at_score, fault_at_end}
 use Rattle.gabc_headers.specs.machine.Events.{AreHeaderEvents, EndsAs, AreEarly, AreLate}
 use Rattle.gabc_headers.proofs.order.FoundBeforeAPoint.{all_known}
@@ -45,7 +45,7 @@ module _ (limits : Limits) (t : List ℕ) (events : List HeaderEvent) (end : Hea
   read_book : spelled_entries (encodes t) (collected_of t events).headers ≡ book_of emitted.emitted
   read_book = (follow t events emitted.emitted [] none u emitted.are_events_of (λ n. refl) tt).headers ∙ put-book (entries emitted.emitted)
 
-  read_found : (collected_of t events).findings ≡ all_known (findings_behind [] emitted.emitted)
+  read_found : (collected_of t events).findings ≡ all_known (findings_after [] emitted.emitted)
   read_found = (follow t events emitted.emitted [] none u emitted.are_events_of (λ n. refl) tt).findings
 
   ends_as : (e : HeaderEnding) → end ≡ e → EndsAs limits.header t emitted.rest emitted.stop e
@@ -69,7 +69,7 @@ module _ (limits : Limits) (t : List ℕ) (events : List HeaderEvent) (end : Hea
   case_text_ended place q =
       let e = ends_as (Text place None) q in
       ap (λ (x : List Finding). Err (record { fault = record { place = place; code = F2 }; findings = x; at_end = true })) read_found
-      ∙ (ap (λ (p : Place). Err (record { fault = record { place = p; code = F2 }; findings = all_known (findings_behind [] emitted.emitted); at_end = true })) e.3
+      ∙ (ap (λ (p : Place). Err (record { fault = record { place = p; code = F2 }; findings = all_known (findings_after [] emitted.emitted); at_end = true })) e.3
       ∙ text_ended limits t emitted.emitted emitted.rest emitted.all (subst (λ (p : ℕ). AreEarly p emitted.emitted) e.2 emitted.early) (subst (λ (p : ℕ). AreLate p emitted.rest) e.2 emitted.late) e.0 e.1 e.4)
 
   pub case_score_open : (place : Place) (body : ℕ) (k : ℕ) → end ≡ Score place body (Some k)
@@ -86,8 +86,8 @@ module _ (limits : Limits) (t : List ℕ) (events : List HeaderEvent) (end : Hea
       let h : head_parts t ≡ emitted.emitted = emitted.all ∙ (ap (λ (x : List HeaderPart). emitted.emitted ++ x) e.6 ∙ append-nil emitted.emitted) in
       ap (λ (x : List (List ℕ × List ℕ)). heads_at_body limits place body x (collected_of t events).findings) read_book
       ∙ (ap (λ (x : List Finding). heads_at_body limits place body (book_of emitted.emitted) x) read_found
-      ∙ (ap (λ (p : Place). heads_at_body limits p body (book_of emitted.emitted) (all_known (findings_behind [] emitted.emitted))) e.3
-      ∙ (ap (λ (b : ℕ). heads_at_body limits (place_after (take (head_len t) t)) b (book_of emitted.emitted) (all_known (findings_behind [] emitted.emitted))) e.4
+      ∙ (ap (λ (p : Place). heads_at_body limits p body (book_of emitted.emitted) (all_known (findings_after [] emitted.emitted))) e.3
+      ∙ (ap (λ (b : ℕ). heads_at_body limits (place_after (take (head_len t) t)) b (book_of emitted.emitted) (all_known (findings_after [] emitted.emitted))) e.4
       ∙ score_ended limits t emitted.emitted h (subst (λ (p : ℕ). AreEarly p emitted.emitted) e.2 emitted.early) e.0 e.1 e.5)))
 
   -- at the line `%%`

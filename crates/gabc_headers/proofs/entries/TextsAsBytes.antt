@@ -68,7 +68,7 @@ annotation-chars a u = bytes_eq-text a (codes "annotation") u (IsUtf8-from_is_ut
 pub nabc_lines-chars : (a : List ℕ) → IsUtf8 a → bytes_eq (chars a) (codes "nabc-lines") ≡ bytes_eq a (codes "nabc-lines")
 nabc_lines-chars a u = bytes_eq-text a (codes "nabc-lines") u (IsUtf8-from_is_utf8 (codes "nabc-lines") utf8-nabc_lines) chars-nabc_lines
 
--- the bytes of texts one behind the other
+-- the bytes of texts one after the other
 pub bytes_len-append : (a b : List ℕ) → bytes_len (a ++ b) ≡ bytes_len a + bytes_len b
 bytes_len-append a b = sum_by-append len_utf8 a b
 

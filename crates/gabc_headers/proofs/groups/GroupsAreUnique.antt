@@ -1,4 +1,4 @@
--- Lines are cut into groups in one way, and the groups tell the parts.
+-- Lines are cut into groups in one way, and the groups report the parts.
 use Rattle.std.proofs.Common.{◌≡◌, ℕ, List, [], ◌∷◌, ◌++◌, Bool, true, false, cond, Option, Some, None, refl, sym, ap, ◌∙◌, subst, append_assoc, append-nil}
 use Rattle.gabc_headers.specs.Lines.{is_bare, has_mark, has_colon, after_colon}
 use Rattle.gabc_headers.specs.Groups.{Group, skipped, colonless, valued, unfinished, EndAtMark, HaveNoMark, BeginsHeader, EndsValue, AreGroups}

@@ -1,4 +1,4 @@
--- The parts of lines are what their groups tell.
+-- The parts of lines are what their groups report.
 use Rattle.std.proofs.Common.{◌≡◌, ℕ, ◌+◌, List, [], ◌∷◌, ◌++◌, length, Bool, true, false, cond, Option, refl, sym, ap, ap₂, ◌∙◌, append_assoc, append-nil, arith}
 use Rattle.gabc_headers.specs.Lines.{is_bare, has_mark, before_mark, mark_end, has_colon, before_colon, after_colon, lines_len}
 use Rattle.gabc_headers.specs.Parts.{HeaderPart, left_out, unended, name_of, bad_name_parts, ended_parts}

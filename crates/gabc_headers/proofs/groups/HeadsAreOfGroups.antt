@@ -1,4 +1,4 @@
--- The headers of a text are those that the groups of its lines tell.
+-- The headers of a text are those that the groups of its lines report.
 use Rattle.std.proofs.Common.{◌≡◌, List, ℕ, Result, ap, sym, subst, ◌∙◌}
 use Rattle.gabc_places.specs.declared.limits.Limits.{Limits}
 use Rattle.gabc_headers.specs.declared.heads.Heads.{Heads}

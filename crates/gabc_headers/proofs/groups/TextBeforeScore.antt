@@ -17,7 +17,7 @@ abbrev pub is_scored : Bool → List ℕ → Bool
 is_scored starts [] = false
 is_scored starts (c ∷ r) = (starts && is_score_line (c ∷ r)) || is_scored (c == 10) r
 
--- ---- a line's start tells whether it is the line `%%`
+-- ---- a line's start says whether it is the line `%%`
 
 -- an LF is no `%`
 not_percent : (c : ℕ) → (c == 10) ≡ true → (c == 37) ≡ false
@@ -150,7 +150,7 @@ all_lines (l ∷ ls) h = by (is_score_line l) h (λ e. all_lines ls e)
     by true h e = absurd (cc)
     by false h e = ap (λ (x : List (List ℕ)). l ∷ x) (e h)
 
--- an empty line more tells nothing
+-- an empty line more reports nothing
 parts_more : (w : LineContext) (k n : ℕ) (ls : List (List ℕ)) → parts w k n (ls ++ [] ∷ []) ≡ parts w k n ls
 parts_more outside k n [] = refl
 parts_more (within j name v) k n [] = refl

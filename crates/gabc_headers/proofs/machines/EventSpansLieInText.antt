@@ -187,7 +187,7 @@ pub record Later (all : List HeaderPart) (i : ℕ) (done : List HeaderPart) : Ty
   pub whole : all ≡ done ++ rest
   pub late : AreLate i rest
 
--- the text behind the next character
+-- the text after the next character
 pub drop_next : (text r : List ℕ) (i c : ℕ) → drop i text ≡ c ∷ r → drop (i + 1) text ≡ r
 drop_next text r i c e = sym (drop-drop 1 i text) ∙ ap (drop 1) e
 
@@ -221,7 +221,7 @@ quiet_in (Value long run) leading = not (is_mark_run run)
 abbrev pub is_quiet : PartMachine → Bool
 is_quiet rd = quiet_in rd.state rd.trim.leading
 
--- behind an LF the machine is quiet
+-- after an LF the machine is quiet
 pub quiet_line : (rd : PartMachine) (i next : ℕ) (good : Bool) → is_quiet (next_part_machine rd LineEnd i next good).0 ≡ true
 quiet_line rd i next good = by rd.state
   where

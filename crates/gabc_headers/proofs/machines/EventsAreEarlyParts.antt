@@ -53,7 +53,7 @@ open_emitted i (left_out k p ∷ events) rest h = open_emitted i events rest h.1
 open_emitted i (header k n v p ∷ events) rest h = open_emitted i events rest h.1
 open_emitted i (unended k ∷ events) rest h = absurd h.0
 
--- the open value is behind what the end emits
+-- the open value is after what the end emits
 pub open_rest : (head : List ℕ) (e : Option HeaderEvent) (o : Option ℕ) → open_line (seen head e ++ open_part o) ≡ o
 open_rest head None None = refl
 open_rest head None (Some k) = refl

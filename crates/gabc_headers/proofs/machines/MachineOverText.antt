@@ -84,7 +84,7 @@ module _ (t : List ℕ) (limit : ℕ) (done rest : List ℕ) (r : HeaderMachine)
   pub bytes_push : bytes_len (done ++ c ∷ []) ≡ r.bytes + len_utf8 c
   bytes_push = let a = bytes_len-append done (c ∷ []) in let b = h.bytes in omega arith
 
-  -- the byte behind it
+  -- the byte after it
   bytes_next : r.bytes + len_utf8 c ≡ bytes_at (head_text true t) (length done + 1)
   bytes_next =
       let sc = scan_more t done rest c r.at_line e h.scan in
@@ -113,7 +113,7 @@ module _ (t : List ℕ) (limit : ℕ) (done rest : List ℕ) (r : HeaderMachine)
       (drop_next (head_text true t) (head_text (c == 10) rest) (length done) c head_drop) (λ x y. good_is)
       (subst (λ (x : List ℕ). StandsIn (head_parts t) (head_text true t) h.rd.state x (length done) h.rd h.emitted) (head_next r.at_line c rest e) h.stands)
 
-  -- behind an LF it is quiet
+  -- after an LF it is quiet
   quiet_next : (c == 10) ≡ true → is_quiet char_step.0 ≡ true
   quiet_next q = ap (λ (k : HeaderChar). is_quiet (next_part_machine h.rd k (length done) (length done + 1) (is_good_span (span_of r.parts.trim))).0) (kind_line c q)
       ∙ quiet_line h.rd (length done) (length done + 1) (is_good_span (span_of r.parts.trim))

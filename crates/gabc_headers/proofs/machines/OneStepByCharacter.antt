@@ -74,7 +74,7 @@ module _ (all : List HeaderPart) (text : List ℕ) where
   same : (r : List ℕ) (i : ℕ) (done : List HeaderPart) (rd : PartMachine) → StandsIn all text rd.state r i rd done → After r i done (rd, None)
   same r i done rd h = subst (λ (x : List HeaderPart). StandsIn all text rd.state r i rd x) (sym (append-nil done)) h
 
-  -- nothing is bare behind another character
+  -- nothing is bare after another character
   false_both : (a : Bool) (y : Bool) → (a && false) ≡ ((a && false) && y)
   false_both true y = refl
   false_both false y = refl

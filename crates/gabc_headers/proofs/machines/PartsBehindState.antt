@@ -200,7 +200,7 @@ module _ (all : List HeaderPart) (text : List ℕ) where
       next : h.start + (length (h.prefix ++ 37 ∷ first_line r) + 1) ≡ (i + 1) + (length (first_line r) + 1)
       next = let a = h.place in let b = length-append h.prefix (37 ∷ first_line r) in omega arith
 
-  -- ---- the `:` behind a name
+  -- ---- the `:` after a name
 
   -- nothing holds together with what does not
   and_false : (b : Bool) → (b && false) ≡ false
@@ -217,7 +217,7 @@ module _ (all : List HeaderPart) (text : List ℕ) where
   kept_name true nm s e f = rw (← e) (ap (λ (x : List ℕ). Some x) (sym f))
   kept_name false nm s e f = rw (← e) refl
 
-  -- the `:` behind a name
+  -- the `:` after a name
   pub name_colon : (r : List ℕ) (i : ℕ) (rd : PartMachine) (done : List HeaderPart) (good : Bool) → drop (i + 1) text ≡ r → good ≡ is_good_name (slice_range text rd.trim.from rd.trim.to)
       → InName (58 ∷ r) i rd done → InValue false Text r (i + 1) (value_begun_at rd (i + 1) good) (done ++ seen text (cond good None (Some (LeftOut rd.line i))))
   name_colon r i rd done good e g h = record {
@@ -343,7 +343,7 @@ module _ (all : List HeaderPart) (text : List ℕ) where
       (let a = z.end in let b = h.place in omega arith) (z.value h.above)
       (sym (trim_slice is_blank_or_lf ends_no_value h.start (h.above ++ h.prefix) c text rd.trim h.trim h.at))
 
-  -- the LF behind a mark
+  -- the LF after a mark
   pub value_ends : (long : Bool) (run : Run) (r : List ℕ) (i : ℕ) (rd : PartMachine) (done : List HeaderPart) → drop (i + 1) text ≡ r → is_mark_run run ≡ true
       → InValue long run (10 ∷ r) i rd done → InName r (i + 1) (at_line_start (rd.line + 1) (i + 1)) (done ++ seen text (event_at_end rd i))
   value_ends long run r i rd done d e h =
@@ -355,7 +355,7 @@ module _ (all : List HeaderPart) (text : List ℕ) where
       ∙ (ap (λ (x : ℕ). done ++ (seen text (event_at_end rd i) ++ parts outside (rd.line + 1) x (lines r))) n
       ∙ sym (append_assoc done (seen text (event_at_end rd i)) (parts outside (rd.line + 1) (i + 1) (lines r)))))))
 
-  -- the `%` behind a mark
+  -- the `%` after a mark
   pub value_percent : (long : Bool) (run : Run) (r : List ℕ) (i : ℕ) (rd : PartMachine) (done : List HeaderPart) → is_mark_run run ≡ true
       → InValue long run (37 ∷ r) i rd done → InSkip r (i + 1) (record rd { state = Skip }) (done ++ seen text (event_at_end rd i))
   value_percent long run r i rd done e h =
@@ -381,7 +381,7 @@ module _ (all : List HeaderPart) (text : List ℕ) where
           ∙ (ap (λ (n : ℕ). done ++ left_out rd.line n ∷ []) (let a = h.place in let b = length-append h.prefix [] in let x : h.start + length (h.prefix ++ []) ≡ i = omega arith in x)
           ∙ sym (append-nil (done ++ left_out rd.line i ∷ []))))
 
-  -- the text ends behind a mark
+  -- the text ends after a mark
   pub end_marked : (long : Bool) (run : Run) (i : ℕ) (rd : PartMachine) (done : List HeaderPart) → is_mark_run run ≡ true → InValue long run [] i rd done → all ≡ (done ++ seen text (event_at_end rd i)) ++ []
   end_marked long run i rd done e h =
       let z = run_closes long run h.prefix [] h.runs e refl in

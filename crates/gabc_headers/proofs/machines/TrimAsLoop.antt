@@ -50,7 +50,7 @@ module _ (out : ℕ → Bool) where
       by false h r = absurd (cc)
   trim_end-all_out (d ∷ l) m h = ap (unless_last (out d) d) (trim_end-all_out l m h)
 
-  -- one more behind one that is kept
+  -- one more after one that is kept
   pub lead_len-more : (l : List ℕ) (c : ℕ) → all_out out l ≡ false → lead_len out (l ++ c ∷ []) ≡ lead_len out l
   lead_len-more [] c h = absurd (cc)
   lead_len-more (d ∷ l) c h = by (out d) h (lead_len-more l c)

@@ -29,7 +29,7 @@ all_out-push out (d ∷ u) c = ap (λ (b : Bool). out d && b) (all_out-push out 
     by true b c = refl
     by false b c = refl
 
--- one more behind what is all left out
+-- one more after what is all left out
 lead_len-stop : (out : ℕ → Bool) (u : List ℕ) (c : ℕ) → all_out out u ≡ true → lead_len out (u ++ c ∷ []) ≡ length u + cond (out c) 1 0
 lead_len-stop out [] c h = by (out c)
   where

@@ -20,7 +20,7 @@ pub record Passed (m : ℕ) (p l : List ℕ) : Type 0 where
   pub before : before_mark m (p ++ l) ≡ p ++ before_mark m l
   pub end : mark_end m (p ++ l) ≡ length p + mark_end m l
 
--- the first mark of p ++ l begins behind p
+-- the first mark of p ++ l begins after p
 pub record Marked (m : ℕ) (p l : List ℕ) : Type 0 where
   pub has : has_mark m (p ++ l) ≡ true
   pub before : before_mark m (p ++ l) ≡ p
@@ -42,7 +42,7 @@ pass_more m p q l a b = record {
   end = ap (mark_end m) (append_assoc p q l) ∙ (let e = a.end in let f = b.end in let g = length-append p q in omega arith);
 }
 
--- a mark that begins behind what is passed
+-- a mark that begins after what is passed
 pub mark_here : (m : ℕ) (p l : List ℕ) → Passed m p l → is_mark m l ≡ true → Marked m p l
 mark_here m p [] a h = absurd (cc)
 mark_here m p (c ∷ l) a h = record {
@@ -80,7 +80,7 @@ bare_blanks (c ∷ b) l h =
     let g = and_parts (is_blank c) (all_blank b) h in
     rw (blank_not c 37 g.0 (omega arith) (omega arith), g.0) (bare_blanks b l g.1)
 
--- behind a run of `;` neither the line's end nor a `;`
+-- after a run of `;` neither the line's end nor a `;`
 pub semis_dead : (m n c : ℕ) (l : List ℕ) → is_bare (c ∷ l) ≡ false → (c == 59) ≡ false → is_mark m (semis n ++ c ∷ l) ≡ false
 semis_dead m zero c l b s = rw (s) refl
 semis_dead m (suc zero) c l b s = rw (b, s) (by (nat_le m 1))

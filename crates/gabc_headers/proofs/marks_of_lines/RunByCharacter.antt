@@ -39,22 +39,22 @@ begin_run long = record { prefix = []; count = 0; blanks = []; split = refl; sha
 pub text_run : (long : Bool) (p : List ℕ) → ((l : List ℕ) → Passed (wanted long) p l) → RunOf long Text p
 text_run long p h = record { prefix = p; count = 0; blanks = []; split = sym (append-nil p); shape = (refl, refl); passed = h }
 
--- p, and behind it a `;` that begins a run
+-- p, and after it a `;` that begins a run
 one_semi : (long : Bool) (p : List ℕ) → ((l : List ℕ) → Passed (wanted long) p (59 ∷ l)) → (run : Run) → Shape long run 1 [] → RunOf long run (p ++ 59 ∷ [])
 one_semi long p h run s = record { prefix = p; count = 1; blanks = []; split = refl; shape = s; passed = λ l. h l }
 
--- what follows goes behind the last part
+-- what follows goes after the last part
 tail : (p q t l : List ℕ) → p ≡ q ++ t → p ++ l ≡ q ++ (t ++ l)
 tail p q t l e = ap (λ (x : List ℕ). x ++ l) e ∙ append_assoc q t l
 
--- and behind two parts
+-- and after two parts
 tail2 : (p q t u l : List ℕ) → p ≡ q ++ (t ++ u) → p ++ l ≡ q ++ (t ++ (u ++ l))
 tail2 p q t u l e = tail p q (t ++ u) l e ∙ ap (λ (x : List ℕ). q ++ x) (append_assoc t u l)
 
 -- ---- a `;`
 
 module _ (long : Bool) (p : List ℕ) where
-  -- a `;` behind a run that is enough
+  -- a `;` after a run that is enough
   more_semis : (h : RunOf long Enough p) → RunOf long Enough (p ++ 59 ∷ [])
   more_semis h =
       let s = h.shape in
@@ -69,7 +69,7 @@ module _ (long : Bool) (p : List ℕ) where
             (ap (λ (x : List ℕ). semis h.count ++ (x ++ 59 ∷ l)) s.2 ∙ semis_more h.count l) (h.passed (59 ∷ l));
       }
 
-  -- a `;` behind a run that is too short
+  -- a `;` after a run that is too short
   short_semis : (h : RunOf long Short p) → RunOf long Enough (p ++ 59 ∷ [])
   short_semis h =
       let s = h.shape in
@@ -125,7 +125,7 @@ module _ (long : Bool) (p : List ℕ) where
       (subst (λ (x : List ℕ). Passed (wanted long) (semis h.count) x) (sym e) (pass_semis (wanted long) h.count s.3 (s.4 ++ c ∷ l) f g))
       (pass_blanks (wanted long) h.blanks (c ∷ l) s.2))
 
-  -- ---- another character behind which the line has begun no run
+  -- ---- another character after which the line has begun no run
 
   -- a character that is passed
   passed_on : (c : ℕ) → ((l : List ℕ) → Passed (wanted long) p (c ∷ l)) → (c == 59) ≡ false → RunOf long Text (p ++ c ∷ [])
@@ -136,7 +136,7 @@ module _ (long : Bool) (p : List ℕ) where
   first_semi : (run : Run) → Shape long run 1 [] → ((l : List ℕ) → Passed (wanted long) p (59 ∷ l)) → RunOf long run (p ++ 59 ∷ [])
   first_semi run s h = one_semi long p h run s
 
-  -- a blank behind a run
+  -- a blank after a run
   enough_blank : (h : RunOf long Enough p) (c : ℕ) → is_blank c ≡ true → RunOf long Spaced (p ++ c ∷ [])
   enough_blank h c e =
       let s = h.shape in
@@ -149,7 +149,7 @@ module _ (long : Bool) (p : List ℕ) where
         passed = λ l. subst (λ (x : List ℕ). Passed (wanted long) h.prefix (semis h.count ++ (x ++ c ∷ l))) s.2 (h.passed (c ∷ l));
       }
 
-  -- a blank behind blanks
+  -- a blank after blanks
   spaced_blank : (h : RunOf long Spaced p) (c : ℕ) → is_blank c ≡ true → RunOf long Spaced (p ++ c ∷ [])
   spaced_blank h c e =
       let s = h.shape in

@@ -11,7 +11,7 @@ use Rattle.gabc_headers.specs.Book.{is_kept, repeats, has_header, book_of}
 use Rattle.gabc_headers.specs.Lines.{lines, head_of, has_score}
 use Rattle.gabc_headers.specs.Parts.{HeaderPart, left_out, header, unended}
 use Rattle.gabc_headers.specs.witness.Parts.{outside, head_parts}
-use Rattle.gabc_headers.specs.Heads.{head_len, findings_behind, names_after, heads_of, text_stops, open_stops, missing_score, open_line, findings_of, known_at, line_place}
+use Rattle.gabc_headers.specs.Heads.{head_len, findings_after, names_after, heads_of, text_stops, open_stops, missing_score, open_line, findings_of, known_at, line_place}
 use Rattle.gabc_headers.specs.witness.Heads.{head_findings, name_findings, heads_by, head_stops, score_stops}
 use Rattle.gabc_headers.proofs.order.FoundBeforeAPoint.{known-append}
 use Rattle.gabc_headers.proofs.order.FindingsStandInOrder.{Rise, rise_up, rises, score_line}
@@ -29,14 +29,14 @@ abbrev AtFirst : List Known → Type 0
 AtFirst [] = Unit {0}
 AtFirst (f ∷ fs) = (f.finding.place.column ≡ 1) × AtFirst fs
 
-found_first : (seen : List (List ℕ)) (ps : List HeaderPart) → AtFirst (findings_behind seen ps)
+found_first : (seen : List (List ℕ)) (ps : List HeaderPart) → AtFirst (findings_after seen ps)
 found_first seen [] = tt
 found_first seen (left_out k p ∷ ps) = (refl, found_first seen ps)
 found_first seen (unended k ∷ ps) = found_first seen ps
 found_first seen (header k name value p ∷ ps) = by (is_kept name value) (repeats seen name) _ _ refl refl (found_first (names_after seen (header k name value p)) ps)
   where
-    by : (a b : Bool) (f g : Known) → f.finding.place.column ≡ 1 → g.finding.place.column ≡ 1 → AtFirst (findings_behind (names_after seen (header k name value p)) ps)
-        → AtFirst (cond a (cond b (f ∷ []) []) (g ∷ []) ++ findings_behind (names_after seen (header k name value p)) ps)
+    by : (a b : Bool) (f g : Known) → f.finding.place.column ≡ 1 → g.finding.place.column ≡ 1 → AtFirst (findings_after (names_after seen (header k name value p)) ps)
+        → AtFirst (cond a (cond b (f ∷ []) []) (g ∷ []) ++ findings_after (names_after seen (header k name value p)) ps)
     by true true f g d e r = (d, r)
     by true false f g d e r = r
     by false b f g d e r = (e, r)
@@ -104,9 +104,9 @@ none_stops t (Some s) heads e = absurd (cc)
 found_between : (t : List ℕ) (p : ℕ) → has_score (lines t) ≡ true → LieBetween (line_place 1) (place_after (take (head_len t) t)) (findings_before p (head_findings t))
 found_between t p s =
     let e = score_line t s in
-    subst (LieBetween (line_place 1) (place_after (take (head_len t) t))) (sym (known-append p (findings_behind [] (head_parts t)) (name_findings t)))
-    (lie_append (line_place 1) (place_after (take (head_len t) t)) (findings_before p (findings_behind [] (head_parts t))) (findings_before p (name_findings t))
-    (rise_between 0 (1 + length (head_of (lines t))) p (place_after (take (head_len t) t)) (findings_behind [] (head_parts t)) (rises (head_of (lines t)) outside 1 0 [] 0 (lit< tt)) (found_first [] (head_parts t)) (omega arith))
+    subst (LieBetween (line_place 1) (place_after (take (head_len t) t))) (sym (known-append p (findings_after [] (head_parts t)) (name_findings t)))
+    (lie_append (line_place 1) (place_after (take (head_len t) t)) (findings_before p (findings_after [] (head_parts t))) (findings_before p (name_findings t))
+    (rise_between 0 (1 + length (head_of (lines t))) p (place_after (take (head_len t) t)) (findings_after [] (head_parts t)) (rises (head_of (lines t)) outside 1 0 [] 0 (lit< tt)) (found_first [] (head_parts t)) (omega arith))
     (nameless_between t p))
 
 pub heads_within : (limits : Limits) (t : List ℕ) (heads : Heads) → heads_of limits t ≡ Ok heads → LieBetween (line_place 1) (place_after (take (head_len t) t)) heads.findings

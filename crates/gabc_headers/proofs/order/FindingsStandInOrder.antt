@@ -5,15 +5,15 @@ use Rattle.gabc_places.specs.declared.code.Code.TheVariants.{E5, W1, W2}
 use Rattle.std.proofs.lemmas.List.Sums.{sum_by-append}
 use Rattle.gabc_places.specs.declared.code.Finding.{Finding}
 use Rattle.gabc_places.specs.Place.{place_after, is_line_feed}
-use Rattle.gabc_places.specs.Findings.{Known, findings_before, AreInOrder, StandBehind, Stop, earliest}
+use Rattle.gabc_places.specs.Findings.{Known, findings_before, AreInOrder, ComeAfter, Stop, earliest}
 use Rattle.gabc_headers.specs.Lines.{lines, on_first, lines_len, head_of, has_score, is_score_line, is_bare, has_mark, before_mark, mark_end, has_colon, before_colon, after_colon, trim_value}
 use Rattle.gabc_headers.specs.Parts.{HeaderPart, left_out, header, name_of, ended_parts, bad_name_parts}
 use Rattle.gabc_headers.specs.witness.Parts.{LineContext, outside, within, parts, head_parts}
 use Rattle.gabc_headers.specs.Book.{is_kept, repeats, has_header, book_of}
-use Rattle.gabc_headers.specs.Heads.{head_len, findings_behind, names_after, heads_of, findings_of, known_at, line_place}
+use Rattle.gabc_headers.specs.Heads.{head_len, findings_after, names_after, heads_of, findings_of, known_at, line_place}
 use Rattle.gabc_headers.specs.witness.Heads.{head_findings, name_findings, heads_by, head_stops}
 
--- findings on rising lines, all behind line k and before line m
+-- findings on rising lines, all after line k and before line m
 abbrev pub Rise : ℕ → ℕ → List Known → Type 0
 Rise k m [] = k < m
 Rise k m (f ∷ fs) = (k < f.finding.place.line) × Rise f.finding.place.line m fs
@@ -26,7 +26,7 @@ pub rise_up : (k m : ℕ) (fs : List Known) → Rise k m fs → k < m
 rise_up k m [] h = h
 rise_up k m (f ∷ fs) h = let x = rise_up f.finding.place.line m fs h.1 in let y : k < f.finding.place.line = h.0 in omega arith
 
--- two such lists one behind the other
+-- two such lists one after the other
 rise_append : (k m n : ℕ) (fs gs : List Known) → Rise k m fs → ((j : ℕ) → j < m → Rise j n gs) → Rise k n (fs ++ gs)
 rise_append k m n [] gs h r = r k h
 rise_append k m n (f ∷ fs) gs h r = (h.0, rise_append f.finding.place.line m n fs gs h.1 r)
@@ -53,23 +53,23 @@ lines_order : (k : ℕ) (fs : List Finding) → Lines k fs → AreInOrder fs
 lines_order k [] h = tt
 lines_order k (f ∷ fs) h = behind f fs h.1
   where
-    behind : (f : Finding) (fs : List Finding) → Lines f.place.line fs → StandBehind f fs
+    behind : (f : Finding) (fs : List Finding) → Lines f.place.line fs → ComeAfter f fs
     behind f [] h = tt
     behind f (g ∷ gs) h = (inl h.0, behind g gs h.1)
 
 -- ---- the parts
 
--- a header's finding stands behind line j; a header without a name has none
+-- a header's finding stands after line j; a header without a name has none
 abbrev Fits : Option (List ℕ) → ℕ → ℕ → Type 0
 Fits None j i = j ≤ i
 Fits (Some name) j i = j < i
 
--- the header at line i, and parts behind it
+-- the header at line i, and parts after it
 header_rise : (s : List (List ℕ)) (i m : ℕ) (o : Option (List ℕ)) (v : List ℕ) (p : ℕ) (qs : List HeaderPart) (j : ℕ) → Fits o j i
-    → ((t : List (List ℕ)) (h : ℕ) → h ≤ i → Rise h m (findings_behind t qs)) → Rise j m (findings_behind s (ended_parts i o v p ++ qs))
+    → ((t : List (List ℕ)) (h : ℕ) → h ≤ i → Rise h m (findings_after t qs)) → Rise j m (findings_after s (ended_parts i o v p ++ qs))
 header_rise s i m None v p qs j l r = r s j l
 header_rise s i m (Some name) v p qs j l r =
-    by (is_kept name (trim_value v)) (repeats s name) (known_at p (line_place i) W2) (known_at p (line_place i) E5) (findings_behind (names_after s (header i name (trim_value v) p)) qs) refl refl
+    by (is_kept name (trim_value v)) (repeats s name) (known_at p (line_place i) W2) (known_at p (line_place i) E5) (findings_after (names_after s (header i name (trim_value v) p)) qs) refl refl
     (r (names_after s (header i name (trim_value v) p)) i (omega arith))
   where
     by : (a b : Bool) (f g : Known) (ks : List Known) → f.finding.place.line ≡ i → g.finding.place.line ≡ i → Rise i m ks → Rise j m (cond a (cond b (f ∷ []) []) (g ∷ []) ++ ks)
@@ -81,16 +81,16 @@ header_rise s i m (Some name) v p qs j l r =
 module _ (m : ℕ) (qs : LineContext → List HeaderPart) where
   -- a line within a value
   within_rise : (b : Bool) (s : List (List ℕ)) (i : ℕ) (o : Option (List ℕ)) (u v : List ℕ) (p j : ℕ) → Fits o j i
-      → ((t : List (List ℕ)) (h : ℕ) → h ≤ i → Rise h m (findings_behind t (qs outside))) → Rise j m (findings_behind s (qs (within i o u)))
-      → Rise j m (findings_behind s (cond b (ended_parts i o v p) [] ++ qs (cond b outside (within i o u))))
+      → ((t : List (List ℕ)) (h : ℕ) → h ≤ i → Rise h m (findings_after t (qs outside))) → Rise j m (findings_after s (qs (within i o u)))
+      → Rise j m (findings_after s (cond b (ended_parts i o v p) [] ++ qs (cond b outside (within i o u))))
   within_rise true s i o u v p j l r w = header_rise s i m o v p (qs outside) j l r
   within_rise false s i o u v p j l r w = w
 
   -- a line outside: skipped, without `:`, or a header's first line
   outside_rise : (bare colon mark : Bool) (s : List (List ℕ)) (k : ℕ) (o : Option (List ℕ)) (u v : List ℕ) (a p e j : ℕ) → j < k
-      → ((t : List (List ℕ)) (h : ℕ) → h ≤ k → Rise h m (findings_behind t (qs outside)))
-      → ((t : List (List ℕ)) (h : ℕ) → Fits o h k → Rise h m (findings_behind t (qs (within k o u))))
-      → Rise j m (findings_behind s (cond bare [] (cond colon (bad_name_parts k o a ++ cond mark (ended_parts k o v p) []) (left_out k e ∷ [])) ++ qs (cond (bare || (not colon || mark)) outside (within k o u))))
+      → ((t : List (List ℕ)) (h : ℕ) → h ≤ k → Rise h m (findings_after t (qs outside)))
+      → ((t : List (List ℕ)) (h : ℕ) → Fits o h k → Rise h m (findings_after t (qs (within k o u))))
+      → Rise j m (findings_after s (cond bare [] (cond colon (bad_name_parts k o a ++ cond mark (ended_parts k o v p) []) (left_out k e ∷ [])) ++ qs (cond (bare || (not colon || mark)) outside (within k o u))))
   outside_rise true colon mark s k o u v a p e j l r w = r s j (omega arith)
   outside_rise false false mark s k o u v a p e j l r w = (l, r s k (omega arith))
   outside_rise false true true s k None u v a p e j l r w = (l, r s k (omega arith))
@@ -106,8 +106,8 @@ fits_below : (o : Option (List ℕ)) (i k j : ℕ) → i < k → Fits o j i → 
 fits_below None i k j l h = omega arith
 fits_below (Some n) i k j l h = let x : j < i = h in omega arith
 
--- the findings of the parts from line k on are behind line j, and on lines before the one behind them
-pub rises : (ls : List (List ℕ)) (w : LineContext) (k n : ℕ) (s : List (List ℕ)) (j : ℕ) → Starts w k j → Rise j (k + length ls) (findings_behind s (parts w k n ls))
+-- the findings of the parts from line k on are after line j, and on lines before the one after them
+pub rises : (ls : List (List ℕ)) (w : LineContext) (k n : ℕ) (s : List (List ℕ)) (j : ℕ) → Starts w k j → Rise j (k + length ls) (findings_after s (parts w k n ls))
 rises [] outside k n s j h = (let x : j < k = h in omega arith)
 rises [] (within i o v) k n s j h = (let x = fits_below o i k j h.0 h.1 in omega arith)
 rises (l ∷ ls) outside k n s j h =
@@ -176,7 +176,7 @@ score_line t s =
 head_rise : (t : List ℕ) → (m : ℕ) × Rise 0 m (head_findings t)
 head_rise t = (
   2 + (length (head_of (lines t)) + (place_after (take (head_len t) t)).line),
-  rise_append 0 (1 + length (head_of (lines t))) _ (findings_behind [] (head_parts t)) (name_findings t) (rises (head_of (lines t)) outside 1 0 [] 0 (lit< tt)) last,
+  rise_append 0 (1 + length (head_of (lines t))) _ (findings_after [] (head_parts t)) (name_findings t) (rises (head_of (lines t)) outside 1 0 [] 0 (lit< tt)) last,
 )
   where
     by : (a b : Bool) (k : Known) (j : ℕ) → (a ≡ true → j < k.finding.place.line) → k.finding.place.line < 2 + (length (head_of (lines t)) + (place_after (take (head_len t) t)).line) → j < 1 + length (head_of (lines t))

@@ -6,7 +6,7 @@ use Rattle.gabc_places.specs.declared.code.Finding.{Finding}
 use Rattle.gabc_places.specs.Findings.{Known, findings_before}
 use Rattle.gabc_headers.specs.Parts.{HeaderPart, left_out, header, unended}
 use Rattle.gabc_headers.specs.Book.{is_kept, repeats}
-use Rattle.gabc_headers.specs.Heads.{findings_behind, findings_at, names_after}
+use Rattle.gabc_headers.specs.Heads.{findings_after, findings_at, names_after}
 use Rattle.gabc_headers.specs.machine.Events.{AreEarly, IsEarly, AreLate, IsLate}
 
 -- the findings without their points
@@ -59,17 +59,17 @@ pub all_known-append : (ks bs : List Known) → all_known (ks ++ bs) ≡ all_kno
 all_known-append [] bs = refl
 all_known-append (a ∷ ks) bs = ap (λ (l : List Finding). a.finding ∷ l) (all_known-append ks bs)
 
-late_all : (s : List (List ℕ)) (p : ℕ) (rest : List HeaderPart) → AreLate p rest → findings_before p (findings_behind s rest) ≡ []
+late_all : (s : List (List ℕ)) (p : ℕ) (rest : List HeaderPart) → AreLate p rest → findings_before p (findings_after s rest) ≡ []
 late_all s p [] h = refl
-late_all s p (q ∷ rest) h = known-append p (findings_at s q) (findings_behind (names_after s q) rest) ∙ rw (late_at s p q h.0, late_all (names_after s q) p rest h.1) refl
+late_all s p (q ∷ rest) h = known-append p (findings_at s q) (findings_after (names_after s q) rest) ∙ rw (late_at s p q h.0, late_all (names_after s q) p rest h.1) refl
 
 -- what is known before a point is what is found at the parts emitted before it
-pub early_all : (s : List (List ℕ)) (p : ℕ) (events rest : List HeaderPart) → AreEarly p events → AreLate p rest → findings_before p (findings_behind s (events ++ rest)) ≡ all_known (findings_behind s events)
+pub early_all : (s : List (List ℕ)) (p : ℕ) (events rest : List HeaderPart) → AreEarly p events → AreLate p rest → findings_before p (findings_after s (events ++ rest)) ≡ all_known (findings_after s events)
 early_all s p [] rest e l = late_all s p rest l
 early_all s p (q ∷ events) rest e l =
-    known-append p (findings_at s q) (findings_behind (names_after s q) (events ++ rest))
-    ∙ (ap (λ (x : List Finding). x ++ findings_before p (findings_behind (names_after s q) (events ++ rest))) (early_at s p q e.0)
-    ∙ (ap (λ (x : List Finding). all_known (findings_at s q) ++ x) (early_all (names_after s q) p events rest e.1 l) ∙ sym (all_known-append (findings_at s q) (findings_behind (names_after s q) events))))
+    known-append p (findings_at s q) (findings_after (names_after s q) (events ++ rest))
+    ∙ (ap (λ (x : List Finding). x ++ findings_before p (findings_after (names_after s q) (events ++ rest))) (early_at s p q e.0)
+    ∙ (ap (λ (x : List Finding). all_known (findings_at s q) ++ x) (early_all (names_after s q) p events rest e.1 l) ∙ sym (all_known-append (findings_at s q) (findings_after (names_after s q) events))))
 
 -- a later point leaves early parts early
 pub still_early : (p q : ℕ) (events : List HeaderPart) → p ≤ q → AreEarly p events → AreEarly q events

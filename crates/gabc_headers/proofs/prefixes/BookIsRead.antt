@@ -8,11 +8,11 @@ use Rattle.gabc_places.specs.declared.code.Fault.{Fault}
 use Rattle.gabc_places.specs.Decoder.{fault_items}
 use Rattle.gabc_headers.specs.declared.heads.Heads.{Heads}
 use Rattle.gabc_headers.specs.Heads.{heads_of}
-use Rattle.gabc_headers.specs.HeadEvents.{inputs_behind}
+use Rattle.gabc_headers.specs.HeadEvents.{inputs_after}
 use Rattle.gabc_headers.specs.witness.HeadEvents.{HeadProgress, HeaderStageState, reading, behind, over, progress_after, progress_by, stage_at, stage_after, stage_past, fresh_stage}
 use Rattle.gabc_headers.proofs.prefixes.EventsNeedNoEnd.{progress_past, standing}
 
--- behind the headers the book is theirs
+-- after the headers the book is theirs
 abbrev IsBookOf : HeadProgress → List (List ℕ × List ℕ) → Type 0
 IsBookOf (behind book) held = held ≡ book
 IsBookOf (reading t) held = Unit {0}
@@ -46,10 +46,10 @@ fault_keeps s (Some fault) = by s.progress
     by over = refl
 
 pub book_is_read : (limits : Limits) (hasher : DefaultHasher) (t : List ℕ) (heads : Heads) (fault : Option Fault) → scalars t ≡ true → heads_of limits t ≡ Ok heads
-    → (stage_past (fresh_stage limits hasher) (inputs_behind [] t ++ fault_items fault)).book ≡ heads.book
+    → (stage_past (fresh_stage limits hasher) (inputs_after [] t ++ fault_items fault)).book ≡ heads.book
 book_is_read limits hasher t heads fault u h =
-    let s = stage_past (fresh_stage limits hasher) (inputs_behind [] t) in
-    let stands : s.progress ≡ behind heads.book = stands_past (fresh_stage limits hasher) (inputs_behind [] t) ∙ (standing limits t u ∙ ap (progress_by t) h) in
-    let fits : IsBookOf s.progress s.book = keeps_book (fresh_stage limits hasher) (inputs_behind [] t) tt in
-    ap (λ (x : HeaderStageState). x.book) (past_both (fresh_stage limits hasher) (inputs_behind [] t) (fault_items fault))
+    let s = stage_past (fresh_stage limits hasher) (inputs_after [] t) in
+    let stands : s.progress ≡ behind heads.book = stands_past (fresh_stage limits hasher) (inputs_after [] t) ∙ (standing limits t u ∙ ap (progress_by t) h) in
+    let fits : IsBookOf s.progress s.book = keeps_book (fresh_stage limits hasher) (inputs_after [] t) tt in
+    ap (λ (x : HeaderStageState). x.book) (past_both (fresh_stage limits hasher) (inputs_after [] t) (fault_items fault))
     ∙ (fault_keeps s fault ∙ subst (λ (p : HeadProgress). IsBookOf p s.book) stands fits)

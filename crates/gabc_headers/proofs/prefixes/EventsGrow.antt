@@ -41,7 +41,7 @@ pub with_last : (text : List ℕ) (es : List HeaderEvent) (e : HeaderEvent) (c :
 with_last text [] e c = refl
 with_last text (d ∷ es) e c = with_last text es e (collected_with text d c)
 
--- what is found at an event stands behind what was found
+-- what is found at an event stands after what was found
 pub found_behind : (text : List ℕ) (e : HeaderEvent) (c : Collected) → (collected_with text e c).findings ≡ c.findings ++ found_with text e c
 found_behind text (LeftOut k p) c = refl
 found_behind text (Header k n v p) c = by (is_kept (text_at text n) (text_at text v)) (comes_again c.headers (text_at text n))

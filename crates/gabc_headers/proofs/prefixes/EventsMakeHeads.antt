@@ -12,7 +12,7 @@ use Rattle.gabc_places.specs.declared.limits.Limits.{Limits}
 use Rattle.gabc_places.specs.declared.code.Code.TheVariants.{F4, F7, W1}
 use Rattle.gabc_places.specs.declared.code.Fault.{Fault}
 use Rattle.gabc_places.specs.declared.code.Finding.{Finding}
-use Rattle.gabc_places.specs.Place.{placed_characters, placed_characters_behind}
+use Rattle.gabc_places.specs.Place.{placed_characters, placed_characters_after}
 use Rattle.gabc_places.specs.StageLaw.{concat_of}
 use Rattle.gabc_places.proofs.texts.PlacesOfCharacters.{length-placed, placed-append}
 use Rattle.gabc_headers.specs.declared.heads.Heads.{Heads}
@@ -27,7 +27,7 @@ use Rattle.gabc_headers.specs.declared.header_machine.HeaderMachine.{HeaderMachi
 use Rattle.gabc_headers.specs.declared.header_machine.HeaderStep.{HeaderStep}
 use Rattle.gabc_headers.specs.declared.header_machine.HeaderStep.TheVariants.{Read, Ended}
 use Rattle.gabc_headers.specs.Heads.{heads_of, findings_of, head_len}
-use Rattle.gabc_headers.specs.HeadEvents.{event_of_book, inputs_behind, body_characters, events_of_heads}
+use Rattle.gabc_headers.specs.HeadEvents.{event_of_book, inputs_after, body_characters, events_of_heads}
 use Rattle.gabc_headers.specs.witness.HeadEvents.{HeadProgress, reading, behind, over, events_by, events_at, progress_by, events_left, events_at_end, new_findings}
 use Rattle.gabc_headers.specs.Entries.{spelled_entries}
 use Rattle.gabc_headers.specs.machine.EntryMap.{AreWithin}
@@ -73,7 +73,7 @@ no_text_push r c =
 pub concat-cons : {T : Type 0} (a : List T) (rest : List (List T)) → concat_of (a ∷ rest) ≡ a ++ concat_of rest
 concat-cons a rest = flat_map-cons (λ xs. xs) a rest
 
--- behind the last event
+-- after the last event
 pub nothing_left : (limits : Limits) (xs : List (Result Char Fault)) → concat_of (events_left limits over xs) ≡ []
 nothing_left limits [] = refl
 nothing_left limits (x ∷ xs) = nothing_left limits xs
@@ -83,15 +83,15 @@ moved : (a new more : List Finding) (rest : List HeadEvent) → a ++ new ≡ mor
 moved a new more rest e = sym (append_assoc (map (λ f. Found f) a) (map (λ f. Found f) new) rest)
     ∙ ap (λ (x : List HeadEvent). x ++ rest) (sym (map-append (λ f. Found f) a new) ∙ ap (λ (x : List Finding). map (λ f. Found f) x) e)
 
--- the characters behind the headers
+-- the characters after the headers
 body_given : (limits : Limits) (book : List (List ℕ × List ℕ)) (cs : List Char) → concat_of (events_left limits (behind book) (map (λ c. Ok c) cs)) ≡ map (λ c. Body c) cs ++ End ∷ []
 body_given limits book [] = concat-cons (End ∷ []) []
 body_given limits book (c ∷ cs) = concat-cons (Body c ∷ []) (events_left limits (behind book) (map (λ c. Ok c) cs)) ∙ ap (λ (x : List HeadEvent). Body c ∷ x) (body_given limits book cs)
 
-placed_drop : (t xs : List ℕ) (n : ℕ) → n ≡ length t → drop n (placed_characters (t ++ xs)) ≡ placed_characters_behind t xs
+placed_drop : (t xs : List ℕ) (n : ℕ) → n ≡ length t → drop n (placed_characters (t ++ xs)) ≡ placed_characters_after t xs
 placed_drop t xs n e =
     ap (λ (m : ℕ). drop m (placed_characters (t ++ xs))) (e ∙ sym (length-placed [] t))
-    ∙ (ap (λ (x : List Char). drop (length (placed_characters_behind [] t)) x) (placed-append [] t xs) ∙ drop-append_seam (placed_characters_behind [] t) (placed_characters_behind t xs))
+    ∙ (ap (λ (x : List Char). drop (length (placed_characters_after [] t)) x) (placed-append [] t xs) ∙ drop-append_seam (placed_characters_after [] t) (placed_characters_after t xs))
 
 -- ---- the headers' end
 
@@ -144,8 +144,8 @@ module _ (limits : Limits) (held : List ℕ) (c : ℕ) (heads : Heads) (now : he
       by true e l n = absurd (not_before (let m : head_len t + 2 ≤ length held = grind (arith, nat_tests) in m))
       by false e l n = let m : length held < head_len t + 2 = grind (arith, nat_tests) in omega arith
 
-  -- what stands behind changes nothing of that
-  pub body_is : (xs : List ℕ) → body_characters (t ++ xs) ≡ placed_characters_behind t xs
+  -- what stands after changes nothing of that
+  pub body_is : (xs : List ℕ) → body_characters (t ++ xs) ≡ placed_characters_after t xs
   body_is xs =
       let e : take (head_len t + 2) t ++ xs ≡ t ++ xs = ap (λ (n : ℕ). take n t ++ xs) mark_last ∙ ap (λ (x : List ℕ). x ++ xs) (take-all t) in
       let n : head_len (t ++ xs) ≡ head_len t = subst (λ (x : List ℕ). head_len x ≡ head_len t) e (len_again limits t xs heads now) in
@@ -159,7 +159,7 @@ events_of_text limits t = events_of_heads t (heads_of limits t)
 
 -- what is emitted from here on makes the whole
 abbrev Makes : Limits → List ℕ → List HeaderEvent → List ℕ → Type 0
-Makes limits held es xs = map (λ f. Found f) (collected_of held es).findings ++ concat_of (events_left limits (reading held) (inputs_behind held xs)) ≡ events_of_text limits (held ++ xs)
+Makes limits held es xs = map (λ f. Found f) (collected_of held es).findings ++ concat_of (events_left limits (reading held) (inputs_after held xs)) ≡ events_of_text limits (held ++ xs)
 
 open_events : (found : List Finding) (f : HeadFault) → f.at_end ≡ true → events_by found (Err f) ≡ map (λ f. Found f) found
 open_events found f e = rw e refl
@@ -190,10 +190,10 @@ module _ (limits : Limits) (held xs : List ℕ) (c : ℕ) (r new : HeaderMachine
   o = open_so_far limits held r es u_held h
 
   abbrev rest : HeadProgress → List HeadEvent
-  rest progress = concat_of (events_left limits progress (inputs_behind longer xs))
+  rest progress = concat_of (events_left limits progress (inputs_after longer xs))
 
-  split : concat_of (events_left limits (reading held) (inputs_behind held (c ∷ xs))) ≡ events_at limits held c ++ rest (progress_by longer (heads_of limits longer))
-  split = concat-cons (events_at limits held c) (events_left limits (progress_by longer (heads_of limits longer)) (inputs_behind longer xs))
+  split : concat_of (events_left limits (reading held) (inputs_after held (c ∷ xs))) ≡ events_at limits held c ++ rest (progress_by longer (heads_of limits longer))
+  split = concat-cons (events_at limits held c) (events_left limits (progress_by longer (heads_of limits longer)) (inputs_after longer xs))
 
   -- what is found more
   new_is : (more : List Finding) (now : Result Heads HeadFault) → heads_of limits longer ≡ now → findings_of now ≡ (collected_of held es).findings ++ more → new_findings limits held longer ≡ more
@@ -266,7 +266,7 @@ module _ (limits : Limits) (held xs : List ℕ) (c : ℕ) (r new : HeaderMachine
       let emits = stopped_emits f now e in
       ap (λ (x : List HeadEvent). map (λ f. Found f) (collected_of held es).findings ++ x)
       (split ∙ (ap (λ (x : List HeadEvent). x ++ rest (progress_by longer (heads_of limits longer))) emits.0
-      ∙ (ap (λ (x : HeadProgress). Stop f.fault ∷ rest x) emits.1 ∙ ap (λ (x : List HeadEvent). Stop f.fault ∷ x) (nothing_left limits (inputs_behind longer xs)))))
+      ∙ (ap (λ (x : HeadProgress). Stop f.fault ∷ rest x) emits.1 ∙ ap (λ (x : List HeadEvent). Stop f.fault ∷ x) (nothing_left limits (inputs_after longer xs)))))
       ∙ (ap (λ (x : List Finding). map (λ f. Found f) x ++ Stop f.fault ∷ []) (sym g) ∙ ap (λ (x : Result Heads HeadFault). events_of_heads (held ++ c ∷ xs) x) (sym all))
 
   -- what the second `%` emits of whole headers
@@ -281,14 +281,14 @@ module _ (limits : Limits) (held xs : List ℕ) (c : ℕ) (r new : HeaderMachine
   whole_makes : (heads : Heads) (more : List Finding) → heads_of limits longer ≡ Ok heads → heads_of limits (held ++ c ∷ xs) ≡ Ok heads → heads.findings ≡ (collected_of held es).findings ++ more → Makes limits held es (c ∷ xs)
   whole_makes heads more now all g =
       let emits = whole_emits heads more now g in
-      let head_items : rest (behind heads.book) ≡ map (λ c. Body c) (placed_characters_behind longer xs) ++ End ∷ [] = body_given limits heads.book (placed_characters_behind longer xs) in
-      let body : body_characters (held ++ c ∷ xs) ≡ placed_characters_behind longer xs = subst (λ (x : List ℕ). body_characters x ≡ placed_characters_behind longer xs) whole_is (body_is limits held c heads now o.fault o.heads xs) in
+      let head_items : rest (behind heads.book) ≡ map (λ c. Body c) (placed_characters_after longer xs) ++ End ∷ [] = body_given limits heads.book (placed_characters_after longer xs) in
+      let body : body_characters (held ++ c ∷ xs) ≡ placed_characters_after longer xs = subst (λ (x : List ℕ). body_characters x ≡ placed_characters_after longer xs) whole_is (body_is limits held c heads now o.fault o.heads xs) in
       ap (λ (x : List HeadEvent). map (λ f. Found f) (collected_of held es).findings ++ x)
       (split ∙ (ap (λ (x : List HeadEvent). x ++ rest (progress_by longer (heads_of limits longer))) emits.0
       ∙ (ap (λ (x : HeadProgress). (map (λ f. Found f) more ++ event_of_book heads.book ∷ []) ++ rest x) emits.1
       ∙ (append_assoc (map (λ f. Found f) more) (event_of_book heads.book ∷ []) (rest (behind heads.book))
       ∙ ap (λ (x : List HeadEvent). map (λ f. Found f) more ++ event_of_book heads.book ∷ x) head_items))))
-      ∙ (moved (collected_of held es).findings more heads.findings (event_of_book heads.book ∷ (map (λ c. Body c) (placed_characters_behind longer xs) ++ End ∷ [])) (sym g)
+      ∙ (moved (collected_of held es).findings more heads.findings (event_of_book heads.book ∷ (map (λ c. Body c) (placed_characters_after longer xs) ++ End ∷ [])) (sym g)
       ∙ (ap (λ (x : List Char). map (λ f. Found f) heads.findings ++ event_of_book heads.book ∷ (map (λ c. Body c) x ++ End ∷ [])) (sym body)
       ∙ ap (λ (x : Result Heads HeadFault). events_of_heads (held ++ c ∷ xs) x) (sym all)))
 
@@ -331,5 +331,5 @@ makes limits (c ∷ xs) held r es u h = makes_step limits held xs c r es u h
     (λ new more k. makes limits xs (held ++ c ∷ []) new more (subst (λ (x : List ℕ). scalars x ≡ true) (sym (append_assoc held (c ∷ []) xs)) u) k)
 
 -- Emitted character by character, the headers of a text are what they are as a whole.
-pub events_make_heads : (limits : Limits) (t : List ℕ) → scalars t ≡ true → concat_of (events_left limits (reading []) (inputs_behind [] t)) ≡ events_of_heads t (heads_of limits t)
+pub events_make_heads : (limits : Limits) (t : List ℕ) → scalars t ≡ true → concat_of (events_left limits (reading []) (inputs_after [] t)) ≡ events_of_heads t (heads_of limits t)
 events_make_heads limits t u = makes limits t [] (fresh_machine limits.header) [] u (begin_read limits.header)

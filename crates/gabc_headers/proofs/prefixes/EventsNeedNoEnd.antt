@@ -5,7 +5,7 @@ use lib.Utf8.{scalars}
 use Rattle.gabc_places.specs.declared.place.Char.{Char}
 use Rattle.gabc_places.specs.declared.limits.Limits.{Limits}
 use Rattle.gabc_places.specs.declared.code.Fault.{Fault}
-use Rattle.gabc_places.specs.Place.{placed_characters_behind}
+use Rattle.gabc_places.specs.Place.{placed_characters_after}
 use Rattle.gabc_places.specs.StageLaw.{concat_of}
 use Rattle.gabc_headers.specs.declared.events.HeaderEvent.{HeaderEvent}
 use Rattle.gabc_headers.specs.declared.head_event.HeadEvent.{HeadEvent}
@@ -16,7 +16,7 @@ use Rattle.gabc_headers.specs.declared.header_machine.HeaderStep.TheVariants.{Re
 use Rattle.gabc_headers.specs.declared.heads.Heads.{Heads}
 use Rattle.gabc_headers.specs.declared.heads.HeadFault.{HeadFault}
 use Rattle.gabc_headers.specs.Heads.{heads_of}
-use Rattle.gabc_headers.specs.HeadEvents.{event_of_book, inputs_behind, body_characters, events_of_heads, events_of_broken, events_of_stopped, emitted_by}
+use Rattle.gabc_headers.specs.HeadEvents.{event_of_book, inputs_after, body_characters, events_of_heads, events_of_broken, events_of_stopped, emitted_by}
 use Rattle.gabc_headers.specs.witness.HeadEvents.{HeadProgress, reading, behind, over, progress_by, progress_after, events_of_input, events_of_end, events_at_end, events_left}
 use Rattle.gabc_headers.specs.machine.HeaderMachine.{push_one, fresh_machine}
 use Rattle.gabc_headers.specs.machine.Events.{with_event}
@@ -24,7 +24,7 @@ use Rattle.gabc_headers.proofs.collecting.HeadsFollowFromEvents.{collected_of}
 use Rattle.gabc_headers.proofs.prefixes.EventsMakeHeads.{IsNoText, no_text_push, concat-cons, EndsWith, stopped, whole, ends_with, open_progress, closed_progress, whole_is, read_emits, now_is, same_heads, events_make_heads}
 use Rattle.gabc_headers.proofs.prefixes.HeadsSoFar.{HasRead, begin_read, read_more, heads_at, open_so_far}
 
--- ---- where a stage stands behind inputs
+-- ---- where a stage stands after inputs
 
 abbrev pub progress_past : Limits → HeadProgress → List (Result Char Fault) → HeadProgress
 progress_past limits progress [] = progress
@@ -38,9 +38,9 @@ pub stays_behind : (limits : Limits) (book : List (List ℕ × List ℕ)) (cs : 
 stays_behind limits book [] = refl
 stays_behind limits book (c ∷ cs) = stays_behind limits book cs
 
--- behind a text it stands where the headers of the text say
+-- after a text it stands where the headers of the text say
 abbrev StandsPast : Limits → List ℕ → List ℕ → Type 0
-StandsPast limits held xs = progress_past limits (reading held) (inputs_behind held xs) ≡ progress_by (held ++ xs) (heads_of limits (held ++ xs))
+StandsPast limits held xs = progress_past limits (reading held) (inputs_after held xs) ≡ progress_by (held ++ xs) (heads_of limits (held ++ xs))
 
 stands_at_end : (limits : Limits) (held : List ℕ) (r : HeaderMachine) (es : List HeaderEvent) → scalars held ≡ true → HasRead limits.header held r es → StandsPast limits held []
 stands_at_end limits held r es u h =
@@ -55,18 +55,18 @@ stands_step limits held xs c r es u h next = by (push_one r c) refl
         → StandsPast limits held (c ∷ xs)
     by_end found result (stopped f e d g) now same =
         let closed : (t : List ℕ) → progress_by t (heads_of limits (held ++ c ∷ [])) ≡ over = λ t. ap (progress_by t) (sym now ∙ e) ∙ closed_progress t f d in
-        ap (λ (p : HeadProgress). progress_past limits p (inputs_behind (held ++ c ∷ []) xs)) (closed (held ++ c ∷ []))
-        ∙ (stays_over limits (inputs_behind (held ++ c ∷ []) xs)
+        ap (λ (p : HeadProgress). progress_past limits p (inputs_after (held ++ c ∷ []) xs)) (closed (held ++ c ∷ []))
+        ∙ (stays_over limits (inputs_after (held ++ c ∷ []) xs)
         ∙ sym (ap (progress_by (held ++ c ∷ xs)) same ∙ closed (held ++ c ∷ xs)))
     by_end found result (whole heads more e g) now same =
         let behind_is : (t : List ℕ) → progress_by t (heads_of limits (held ++ c ∷ [])) ≡ behind heads.book = λ t. ap (progress_by t) (sym now ∙ e) in
-        ap (λ (p : HeadProgress). progress_past limits p (inputs_behind (held ++ c ∷ []) xs)) (behind_is (held ++ c ∷ []))
-        ∙ (stays_behind limits heads.book (placed_characters_behind (held ++ c ∷ []) xs)
+        ap (λ (p : HeadProgress). progress_past limits p (inputs_after (held ++ c ∷ []) xs)) (behind_is (held ++ c ∷ []))
+        ∙ (stays_behind limits heads.book (placed_characters_after (held ++ c ∷ []) xs)
         ∙ sym (ap (progress_by (held ++ c ∷ xs)) same ∙ behind_is (held ++ c ∷ xs)))
 
     by : (p : HeaderMachine × HeaderStep) → push_one r c ≡ p → StandsPast limits held (c ∷ xs)
     by (new, Read e) p =
-        ap (λ (p : HeadProgress). progress_past limits p (inputs_behind (held ++ c ∷ []) xs)) (read_emits limits held xs c r new es u h e p).1
+        ap (λ (p : HeadProgress). progress_past limits p (inputs_after (held ++ c ∷ []) xs)) (read_emits limits held xs c r new es u h e p).1
         ∙ (next new (with_event es e) (read_more limits.header held r new es c e h p)
         ∙ ap (λ (t : List ℕ). progress_by t (heads_of limits t)) (whole_is limits held xs c r new es u h))
     by (new, Ended end) p =
@@ -111,7 +111,7 @@ past_one_more : (limits : Limits) (progress : HeadProgress) (xs : List (Result C
 past_one_more limits progress [] last = refl
 past_one_more limits progress (x ∷ xs) last = past_one_more limits (progress_after limits progress x) xs last
 
--- behind a fault nothing is given at the end
+-- after a fault nothing is given at the end
 silent_behind_fault : (limits : Limits) (progress : HeadProgress) (fault : Fault) → events_of_end limits (progress_after limits progress (Err fault)) ≡ []
 silent_behind_fault limits (reading t) fault = refl
 silent_behind_fault limits (behind book) fault = refl
@@ -145,7 +145,7 @@ stopped_by limits t fault (Err stop) = by stop.at_end
 
 module _ (limits : Limits) (t : List ℕ) (u : scalars t ≡ true) where
   abbrev head_items : List (Result Char Fault)
-  head_items = inputs_behind [] t
+  head_items = inputs_after [] t
 
   pub standing : progress_past limits (reading []) head_items ≡ progress_by t (heads_of limits t)
   standing = stands limits t [] (fresh_machine limits.header) [] u (begin_read limits.header)

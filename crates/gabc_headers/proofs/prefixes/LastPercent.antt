@@ -9,7 +9,7 @@ use Rattle.gabc_headers.proofs.groups.BookNeedsScoreLine.{has_score_line}
 use Rattle.gabc_headers.proofs.groups.TextBeforeScore.{head_length, head_text, score_lines}
 use Rattle.gabc_headers.proofs.prefixes.EventsMakeHeads.{mark_last}
 
--- where nothing stands behind `%%`, the last character is its second `%`
+-- where nothing stands after `%%`, the last character is its second `%`
 last_is : (held before rest : List ℕ) (c : ℕ) → held ++ c ∷ [] ≡ before ++ 37 ∷ 37 ∷ rest → length before + 2 ≡ length (held ++ c ∷ []) → c ≡ 37
 last_is [] before rest c e n = absurd (omega (arith, n))
 last_is (h ∷ []) [] rest c e n = cc

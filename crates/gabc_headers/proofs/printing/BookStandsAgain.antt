@@ -5,7 +5,7 @@ use Rattle.std.specs.Cmp.Lexicographic.{same_text}
 use Rattle.gabc_places.specs.Findings.{Known}
 use Rattle.gabc_headers.specs.Parts.{HeaderPart, left_out, header, unended}
 use Rattle.gabc_headers.specs.Book.{is_kept, is_one_of, repeats, unless, entries, last_value, value_of, standing_entries}
-use Rattle.gabc_headers.specs.Heads.{findings_at, names_after, findings_behind, open_line}
+use Rattle.gabc_headers.specs.Heads.{findings_at, names_after, findings_after, open_line}
 use Rattle.gabc_headers.proofs.entries.TextsAsBytes.{bytes_eq_self}
 use Rattle.gabc_headers.proofs.printing.EntriesAreTrimmed.{IsName, IsValue, HaveGoodHeaders}
 
@@ -56,7 +56,7 @@ standing_good seen (e ∷ es) h = by (repeats seen e.0) (standing_good (e.0 ∷ 
 
 -- ---- no name comes again
 
--- behind these names
+-- after these names
 abbrev pub NoneAgain : List (List ℕ) → List (List ℕ × List ℕ) → Type 0
 NoneAgain seen [] = Unit {0}
 NoneAgain seen (e ∷ es) = (repeats seen e.0 ≡ false) × NoneAgain (e.0 ∷ seen) es
@@ -140,7 +140,7 @@ headers_entries (header k name v p ∷ ps) (e ∷ es) h g =
     ∙ ap (λ (x : List ℕ). (x, v) ∷ es) h.0.0 ∙ ap (λ (x : List ℕ). (e.0, x) ∷ es) h.0.1
 
 -- nothing is found at them
-pub headers_found : (seen : List (List ℕ)) (ps : List HeaderPart) (es : List (List ℕ × List ℕ)) → AreHeaders ps es → AreEntries es → NoneAgain seen es → findings_behind seen ps ≡ []
+pub headers_found : (seen : List (List ℕ)) (ps : List HeaderPart) (es : List (List ℕ × List ℕ)) → AreHeaders ps es → AreEntries es → NoneAgain seen es → findings_after seen ps ≡ []
 headers_found seen [] [] h g n = refl
 headers_found seen [] (e ∷ es) h g n = absurd h
 headers_found seen (left_out k p ∷ ps) es h g n = absurd h
@@ -151,8 +151,8 @@ headers_found seen (header k name v p ∷ ps) (e ∷ es) h g n =
     let once : repeats seen name ≡ false = ap (repeats seen) h.0.0 ∙ n.0 in
     let none : findings_at seen (header k name v p) ≡ [] = rw (kept, once) refl in
     let next : names_after seen (header k name v p) ≡ e.0 ∷ seen = ap (λ (b : Bool). cond b (name ∷ seen) seen) kept ∙ ap (λ (x : List ℕ). x ∷ seen) h.0.0 in
-    ap (λ (x : List Known). x ++ findings_behind (names_after seen (header k name v p)) ps) none
-    ∙ ap (λ (x : List (List ℕ)). findings_behind x ps) next
+    ap (λ (x : List Known). x ++ findings_after (names_after seen (header k name v p)) ps) none
+    ∙ ap (λ (x : List (List ℕ)). findings_after x ps) next
     ∙ headers_found (e.0 ∷ seen) ps es h.1 g.1 n.1
 
 -- each of them is ended

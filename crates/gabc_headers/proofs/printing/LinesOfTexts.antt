@@ -17,10 +17,10 @@ has-append x (c ∷ a) b h g = by (c == x) h (has-append x a b)
     by true h r = absurd (cc)
     by false h r = r h g
 
--- behind an LF the lines of what follows begin
-pub lines_behind : (u t : List ℕ) → lines (u ++ 10 ∷ t) ≡ lines u ++ lines t
-lines_behind [] t = refl
-lines_behind (c ∷ u) t = by (c == 10) (lines_behind u t) (lines_split u)
+-- after an LF the lines of what follows begin
+pub lines_after : (u t : List ℕ) → lines (u ++ 10 ∷ t) ≡ lines u ++ lines t
+lines_after [] t = refl
+lines_after (c ∷ u) t = by (c == 10) (lines_after u t) (lines_split u)
   where
     by : (b : Bool) → lines (u ++ 10 ∷ t) ≡ lines u ++ lines t → lines u ≡ first_line u ∷ later_lines u
         → cond b ([] ∷ lines (u ++ 10 ∷ t)) (on_first c (lines (u ++ 10 ∷ t))) ≡ cond b ([] ∷ lines u) (on_first c (lines u)) ++ lines t
@@ -37,13 +37,13 @@ one_line (c ∷ u) h = by (c == 10) h (one_line u)
     by true h r = absurd (cc)
     by false h r = ap (on_first c) (r h)
 
--- the lines, with a text behind the last
+-- the lines, with a text after the last
 abbrev pub with_last : List ℕ → List (List ℕ) → List (List ℕ)
 with_last s [] = []
 with_last s (l ∷ []) = (l ++ s) ∷ []
 with_last s (l ∷ m ∷ ls) = l ∷ with_last s (m ∷ ls)
 
--- a text without LF behind another stands behind its last line
+-- a text without LF after another stands after its last line
 pub lines_with : (u s : List ℕ) → has 10 s ≡ false → lines (u ++ s) ≡ with_last s (lines u)
 lines_with [] s h = one_line s h
 lines_with (c ∷ u) s h = by (c == 10) (lines_with u s h) (lines_split u)
@@ -57,7 +57,7 @@ lines_with (c ∷ u) s h = by (c == 10) (lines_with u s h) (lines_split u)
     by true e f = ap (λ (x : List (List ℕ)). [] ∷ x) (e ∙ ap (with_last s) f) ∙ sym (ap (λ (x : List (List ℕ)). with_last s ([] ∷ x)) f)
     by false e f = ap (on_first c) (e ∙ ap (with_last s) f) ∙ first (first_line u) (later_lines u) ∙ sym (ap (λ (x : List (List ℕ)). with_last s (on_first c x)) f)
 
--- lines as a text, each behind an LF
+-- lines as a text, each after an LF
 abbrev pub below_text : List (List ℕ) → List ℕ
 below_text [] = []
 below_text (l ∷ ls) = 10 ∷ l ++ below_text ls

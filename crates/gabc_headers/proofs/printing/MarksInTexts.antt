@@ -21,7 +21,7 @@ end_is c h =
     let b = or_parts (is_blank c) (c == 10) a.0 in
     record { blank = b.0; feed = b.1; semi = a.1 }
 
--- ---- a mark behind what ends well
+-- ---- a mark after what ends well
 
 module _ (s : List ℕ) where
   bare_more : (c : ℕ) (w : List ℕ) → EndsWell ends_no_value (c ∷ w) → is_bare (c ∷ (w ++ s)) ≡ is_bare (c ∷ w)

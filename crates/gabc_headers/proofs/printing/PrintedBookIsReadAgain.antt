@@ -17,7 +17,7 @@ use Rattle.gabc_headers.specs.witness.Parts.{outside, parts, head_parts}
 use Rattle.gabc_headers.specs.Book.{entries, standing_entries, book_of, has_header}
 use Rattle.gabc_headers.specs.Groups.{Group, valued, AreGroups, value_text, mark_point, parts_of_groups}
 use Rattle.gabc_headers.specs.Canonical.{header_line, header_lines, canonical_heads}
-use Rattle.gabc_headers.specs.Heads.{head_len, open_line, findings_behind, known_at, stop_at, text_stops, open_stops, missing_score, body_byte, heads_of}
+use Rattle.gabc_headers.specs.Heads.{head_len, open_line, findings_after, known_at, stop_at, text_stops, open_stops, missing_score, body_byte, heads_of}
 use Rattle.gabc_headers.specs.witness.Heads.{name_findings, head_findings, score_stops, head_stops, heads_by}
 use Rattle.gabc_headers.specs.HeadsAgain.{nameless, heads_again}
 use Rattle.gabc_headers.proofs.canonical_form.HeadersEndInTwoPercents.{heads_len}
@@ -34,7 +34,7 @@ use Rattle.gabc_headers.proofs.printing.PrintedLinesAreGroups.{PrintedEntry, pri
 
 -- ---- the lines of a book
 
--- the lines that are printed of entries, in front of a line `%%`: those of groups that tell the entries
+-- the lines that are printed of entries, in front of a line `%%`: those of groups that report the entries
 record PrintedBook (es : List (List ℕ × List ℕ)) (more : List ℕ) : Type 0 where
   groups : List Group
   heads : List (List ℕ)
@@ -183,7 +183,7 @@ module _ (limits : Limits) (book : List (List ℕ × List ℕ)) (w : IsWithinLim
 
   found_is : head_findings again ≡ cond (not (has_header (codes "name") book)) (record { point = head_len again + 1; finding = nameless book } ∷ []) []
   found_is =
-      ap (λ (x : List HeaderPart). findings_behind [] x ++ name_findings again) parts_are
+      ap (λ (x : List HeaderPart). findings_after [] x ++ name_findings again) parts_are
       ∙ ap (λ (x : List Known). x ++ name_findings again) (headers_found [] parts_at_end book (printed.headers_are 1 0) w.entries w.once)
       ∙ ap (λ (b : Bool). cond (b && not (has_header (codes "name") (book_of (head_parts again)))) (known_at (head_len again + 1) (place_after (take (head_len again) again)) W1 ∷ []) []) score_is
       ∙ ap (λ (b : List (List ℕ × List ℕ)). cond (not (has_header (codes "name") b)) (known_at (head_len again + 1) (place_after (take (head_len again) again)) W1 ∷ []) []) book_is

@@ -1,4 +1,4 @@
--- The printed lines of an entry are one group, which tells the entry.
+-- The printed lines of an entry are one group, which reports the entry.
 use Rattle.std.proofs.Common.{◌≡◌, ℕ, ◌==◌, List, [], ◌∷◌, ◌++◌, Bool, true, false, cond, ◌||◌, codes, refl, sym, ap, subst, ◌∙◌, append_assoc, append-nil, Some, None}
 use Rattle.std.proofs.lemmas.Bool.{or_parts}
 use Rattle.gabc_headers.specs.Lines.{lines, on_first, is_bare, has_mark, before_mark, has_colon, before_colon, after_colon, is_blank_or_lf, ends_no_value, trim_start, unless_last, trim_name, trim_value, is_score_line}
@@ -7,13 +7,13 @@ use Rattle.gabc_headers.specs.Groups.{EndAtMark, HaveNoMark, BeginsHeader, EndsV
 use Rattle.gabc_headers.specs.Canonical.{wants_lines, header_line}
 use Rattle.gabc_headers.proofs.machines.PartsBehindState.{first_line, later_lines, lines_split}
 use Rattle.gabc_headers.proofs.marks_of_lines.PrefixOfMark.{mark_here}
-use Rattle.gabc_headers.proofs.printing.LinesOfTexts.{has, has-append, lines_behind, one_line, with_last, lines_with, below_text, lines_joined}
+use Rattle.gabc_headers.proofs.printing.LinesOfTexts.{has, has-append, lines_after, one_line, with_last, lines_with, below_text, lines_joined}
 use Rattle.gabc_headers.proofs.printing.TrimmedTexts.{EndsWell, start_kept, end_kept}
 use Rattle.gabc_headers.proofs.printing.MarksInTexts.{end_is, marks_passed, free_lines, AreNoScore, later_no_score}
 use Rattle.gabc_headers.proofs.printing.EntriesAreTrimmed.{IsName, IsValue}
 use Rattle.gabc_headers.proofs.groups.GroupsAreUnique.{ends_value}
 
--- the lines that are printed of an entry: those of a group that tells it, of which none begins with `%%`
+-- the lines that are printed of an entry: those of a group that reports it, of which none begins with `%%`
 pub record PrintedEntry (e : List ℕ × List ℕ) : Type 0 where
   pub first : List ℕ
   pub below : List (List ℕ)
@@ -58,9 +58,9 @@ first_is name x g =
       no_score = bare_score (name ++ 58 ∷ x) (g.begins (58 ∷ x));
     }
 
--- ---- a value behind its header's `:`
+-- ---- a value after its header's `:`
 
--- behind an LF and a blank, or the blank alone, a value that is not empty is trimmed to itself
+-- after an LF and a blank, or the blank alone, a value that is not empty is trimmed to itself
 blank_first : (c : ℕ) (v : List ℕ) → IsValue (c ∷ v) → trim_value (32 ∷ c ∷ v) ≡ c ∷ v
 blank_first c v w = ap (λ (y : List ℕ). trim_start is_blank_or_lf (unless_last true 32 y)) (end_kept ends_no_value (c ∷ v) w.ends) ∙ start_kept is_blank_or_lf (c ∷ v) w.starts
 
@@ -70,7 +70,7 @@ feed_first c v w = ap (λ (y : List ℕ). trim_start is_blank_or_lf (unless_last
 -- a text of one line with its LF
 one_printed : (u l t : List ℕ) → u ≡ l ++ 10 ∷ [] → has 10 l ≡ false → lines (u ++ t) ≡ (l ∷ []) ++ lines t
 one_printed u l t e h =
-    ap (λ (x : List ℕ). lines (x ++ t)) e ∙ ap lines (append_assoc l (10 ∷ []) t) ∙ lines_behind l t ∙ ap (λ (x : List (List ℕ)). x ++ lines t) (one_line l h)
+    ap (λ (x : List ℕ). lines (x ++ t)) e ∙ ap lines (append_assoc l (10 ∷ []) t) ∙ lines_after l t ∙ ap (λ (x : List (List ℕ)). x ++ lines t) (one_line l h)
 
 -- the empty value
 printed_empty : (name : List ℕ) → IsName name → PrintedEntry (name, [])
@@ -132,7 +132,7 @@ last_ends c (d ∷ v) h = by (c == 10) (last_ends d v h) (lines_split (d ∷ v))
     by true e s = subst (λ (x : List (List ℕ)). LastEnds ([] ∷ x)) (sym s) (lower (first_line (d ∷ v)) (later_lines (d ∷ v)) (subst LastEnds s e))
     by false e s = subst (λ (x : List (List ℕ)). LastEnds (on_first c x)) (sym s) (last_more c (first_line (d ∷ v)) (later_lines (d ∷ v)) (subst LastEnds s e))
 
--- lines without a mark, with `;;` behind the last
+-- lines without a mark, with `;;` after the last
 record Closed (ls : List (List ℕ)) : Type 0 where
   ends : EndAtMark (with_last (59 ∷ 59 ∷ []) ls)
   text : value_below (with_last (59 ∷ 59 ∷ []) ls) ≡ below_text ls
@@ -181,10 +181,10 @@ printed_lined name v c g w wants =
       below = below;
       lines_are = λ t. ap (λ (x : List ℕ). lines (x ++ t)) text
           ∙ ap lines (append_assoc first (10 ∷ (((32 ∷ c ∷ v) ++ 59 ∷ 59 ∷ []) ++ 10 ∷ [])) t)
-          ∙ lines_behind first ((((32 ∷ c ∷ v) ++ 59 ∷ 59 ∷ []) ++ 10 ∷ []) ++ t)
+          ∙ lines_after first ((((32 ∷ c ∷ v) ++ 59 ∷ 59 ∷ []) ++ 10 ∷ []) ++ t)
           ∙ ap (λ (x : List (List ℕ)). x ++ lines ((((32 ∷ c ∷ v) ++ 59 ∷ 59 ∷ []) ++ 10 ∷ []) ++ t)) (one_line first (has-append 10 name (58 ∷ []) g.one_line refl))
           ∙ ap (λ (x : List ℕ). first ∷ lines x) (append_assoc ((32 ∷ c ∷ v) ++ 59 ∷ 59 ∷ []) (10 ∷ []) t)
-          ∙ ap (λ (x : List (List ℕ)). first ∷ x) (lines_behind ((32 ∷ c ∷ v) ++ 59 ∷ 59 ∷ []) t
+          ∙ ap (λ (x : List (List ℕ)). first ∷ x) (lines_after ((32 ∷ c ∷ v) ++ 59 ∷ 59 ∷ []) t
           ∙ ap (λ (x : List (List ℕ)). x ++ lines t) (lines_with (32 ∷ c ∷ v) (59 ∷ 59 ∷ []) refl ∙ ap (with_last (59 ∷ 59 ∷ [])) blank));
       begins = f.begins;
       ends = ends_value first below (ap (has_mark 1) f.after) closed.ends;

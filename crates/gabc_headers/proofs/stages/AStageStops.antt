@@ -1,4 +1,4 @@
--- A stop, or the end, comes alone, and behind it a stage of headers gives nothing.
+-- A stop, or the end, comes alone, and after it a stage of headers gives nothing.
 use Rattle.std.proofs.Common.{◌≡◌, ℕ, List, [], ◌∷◌, ◌++◌, map, Bool, true, false, cond, refl, ap, ◌∙◌, Result, Ok, Err, ◌⊎◌, inl, inr}
 use Rattle.std.specs.List.{list_any}
 use Rattle.gabc_places.specs.BoundedList.{BoundedList, extended_by}
@@ -24,20 +24,20 @@ silent_both : (limits other : Limits) (xs : List (Result Char Fault)) → events
 silent_both limits other [] = refl
 silent_both limits other (x ∷ xs) = ap (λ (l : List (List HeadEvent)). [] ∷ l) (silent_both limits other xs)
 
--- behind the headers it does not matter which they were
-behind_both : (limits other : Limits) (book more : List (List ℕ × List ℕ)) (xs : List (Result Char Fault)) → events_left limits (behind book) xs ≡ events_left other (behind more) xs
-behind_both limits other book more [] = refl
-behind_both limits other book more (Ok c ∷ xs) = ap (λ (l : List (List HeadEvent)). (Body c ∷ []) ∷ l) (behind_both limits other book more xs)
-behind_both limits other book more (Err fault ∷ xs) = ap (λ (l : List (List HeadEvent)). (Stop fault ∷ []) ∷ l) (silent_both limits other xs)
+-- after the headers it does not matter which they were
+with_both_after : (limits other : Limits) (book more : List (List ℕ × List ℕ)) (xs : List (Result Char Fault)) → events_left limits (behind book) xs ≡ events_left other (behind more) xs
+with_both_after limits other book more [] = refl
+with_both_after limits other book more (Ok c ∷ xs) = ap (λ (l : List (List HeadEvent)). (Body c ∷ []) ∷ l) (with_both_after limits other book more xs)
+with_both_after limits other book more (Err fault ∷ xs) = ap (λ (l : List (List HeadEvent)). (Stop fault ∷ []) ∷ l) (silent_both limits other xs)
 
 pub behind_agree : (limits other : Limits) (p q : HeadProgress) (xs : List (Result Char Fault)) → IsBehind p → IsBehind q → events_left limits p xs ≡ events_left other q xs
 behind_agree limits other (reading t) q xs h k = absurd h
 behind_agree limits other over q xs h k = absurd h
 behind_agree limits other (behind book) (reading t) xs h k = absurd k
 behind_agree limits other (behind book) over xs h k = absurd k
-behind_agree limits other (behind book) (behind more) xs h k = behind_both limits other book more xs
+behind_agree limits other (behind book) (behind more) xs h k = with_both_after limits other book more xs
 
--- events without an end, or an end alone, behind which the stage is over
+-- events without an end, or an end alone, after which the stage is over
 abbrev Stops : List HeadEvent → HeadProgress → Type 0
 Stops events progress = (list_any is_last_event events ≡ false) ⊎ ((last : HeadEvent) × (events ≡ last ∷ []) × (progress ≡ over))
 

@@ -46,7 +46,7 @@ pub push_gives : (limits : Limits) (progress : HeadProgress) (after : List (Resu
     → Pushes (events_left limits progress) after x most old new → new ≡ extended_by old (events_of_input limits progress x)
 push_gives limits progress after x most old new p = p.out ∙ ap (extended_by old) (sym (ap first_of (p.law [])))
 
--- behind the headers
+-- after the headers
 pub body_given : (limits : Limits) (progress : HeadProgress) (c : Char) → IsBehind progress → events_of_input limits progress (Ok c) ≡ Body c ∷ []
 body_given limits (reading t) c h = absurd h
 body_given limits (behind book) c h = refl

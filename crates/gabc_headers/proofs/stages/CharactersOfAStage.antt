@@ -1,4 +1,4 @@
--- What a stage in the headers is behind a character, over its fields.
+-- What a stage in the headers is after a character, over its fields.
 use Rattle.std.proofs.Common.{◌≡◌, ℕ, ◌≤◌, List, [], ◌∷◌, ◌++◌, length, map, Bool, true, false, cond, codes, refl, sym, ap, ◌∙◌, subst, arith, Option, Some, None, append-nil, IsUtf8}
 use Rattle.std.specs.Str.{chars}
 use Rattle.gabc_places.specs.BoundedList.{BoundedList, extended_by}
@@ -60,7 +60,7 @@ pub few_is : (limits : Limits) (part : HeadPart) (text : List ℕ) (headers : En
     → length (events_at view.limits (text_held view.progress) c) ≤ 2
 few_is limits part text headers view c events p e q l = subst (λ (x : List HeadEvent). length x ≤ 2) (sym (events_in limits part text headers view c p e ∙ q)) l
 
--- the state behind a character with which the headers go on
+-- the state after a character with which the headers go on
 pub state_on : (limits : Limits) (part : HeadPart) (text more : List ℕ) (headers now : EntryMapState) (view : HeaderStageState) (c : ℕ) → part ≡ InHeaders → view_of limits part text headers ≡ view
     → now.hasher ≡ headers.hasher → progress_with limits (chars text) c ≡ reading (chars more) → view_of limits part more now ≡ stage_at view (progress_with view.limits (text_held view.progress) c)
 state_on limits part text more headers now view c p e h q = rw (← e, p, q, h) refl
@@ -93,7 +93,7 @@ pub end_stopped : (limits : Limits) (part : HeadPart) (text : List ℕ) (headers
     → events_of_end view.limits view.progress ≡ []
 end_stopped limits part text headers view p e = sym (ap (λ (v : HeaderStageState). events_of_end v.limits v.progress) e) ∙ ap (λ (p : HeadPart). events_of_end limits (progress_in p text (book_in p text headers.items))) p
 
--- ---- behind the last event
+-- ---- after the last event
 
 pub shows_over : (limits : Limits) (part : HeadPart) (text : List ℕ) (headers : EntryMapState) (view : HeaderStageState) → view_of limits part text headers ≡ view
     → view_of limits (part_over part) text headers ≡ stage_at view over

@@ -35,7 +35,7 @@ abbrev headers_in : List HeaderEvent → ℕ
 headers_in [] = 0
 headers_in (e ∷ es) = header_count (Some e) + headers_in es
 
--- In a value of a header that counts, behind k headers: its name and the `:` are read, and with a run of `;` one of these.
+-- In a value of a header that counts, after k headers: its name and the `:` are read, and with a run of `;` one of these.
 abbrev IsSpentIn : ℕ → ℕ → Run → Option Span → Type 0
 IsSpentIn k bytes run None = 3 * k ≤ bytes
 IsSpentIn k bytes Text (Some n) = 3 * k + 2 ≤ bytes
@@ -48,7 +48,7 @@ IsSpentAt k bytes Name r = (3 * k ≤ r.trim.from) × (r.trim.from ≤ bytes) ×
 IsSpentAt k bytes Skip r = 3 * k ≤ bytes
 IsSpentAt k bytes (Value long run) r = IsSpentIn k bytes run r.name
 
--- so many bytes are read, and three of them for each of k headers
+-- n bytes are read, and three of them for each of k headers
 abbrev IsSpent : ℕ → ℕ → PartMachine → Type 0
 IsSpent k bytes r = IsSpentAt k bytes r.state r
 
@@ -74,7 +74,7 @@ in_mark k bytes Short n q h = absurd (cc)
 in_mark k bytes Enough n q h = h
 in_mark k bytes Spaced n q h = h
 
--- behind the end of a value
+-- after the end of a value
 ended : (k bytes at : ℕ) (long : Bool) (run : Run) (r : PartMachine) → is_mark_run run ≡ true → IsSpentIn k bytes run r.name → 3 * (k + header_count (event_at_end r at)) ≤ bytes
 ended k bytes at long run r q = by r.name
   where

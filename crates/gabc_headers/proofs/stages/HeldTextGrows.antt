@@ -16,7 +16,7 @@ use Rattle.gabc_headers.specs.declared.head_event.HeadEvent.TheVariants.{Found, 
 use Rattle.gabc_headers.specs.declared.heads.Heads.{Heads as ReadHeads}
 use Rattle.gabc_headers.specs.declared.heads.HeadFault.{HeadFault}
 use Rattle.gabc_headers.specs.Heads.{findings_of}
-use Rattle.gabc_headers.specs.HeadEvents.{emitted_by, events_of_broken, inputs_behind}
+use Rattle.gabc_headers.specs.HeadEvents.{emitted_by, events_of_broken, inputs_after}
 use Rattle.gabc_headers.specs.HeldText.{IsHeld, findings_held}
 use Rattle.gabc_headers.specs.witness.HeadEvents.{HeadProgress, reading, events_by, events_left, events_of_input, new_findings, progress_by}
 use Rattle.gabc_headers.proofs.prefixes.EventsMakeHeads.{open_progress}
@@ -26,7 +26,7 @@ pub held_at_first : (limits : Limits) → IsHeld limits []
 held_at_first limits = record { stopped = _; heads = refl; at_end = refl }
 
 abbrev so_far : Limits → List ℕ → List HeadEvent
-so_far limits t = emitted_by false (inputs_behind [] t) (events_left limits (reading []) (inputs_behind [] t))
+so_far limits t = emitted_by false (inputs_after [] t) (events_left limits (reading []) (inputs_after [] t))
 
 abbrev found : List Finding → List HeadEvent
 found fs = map (λ f. Found f) fs
@@ -40,10 +40,10 @@ found_alone limits t scalars h =
     alone : (f : HeadFault) → f.at_end ≡ true → events_of_broken t (Err f) ≡ found f.findings
     alone f e = rw e (append-nil (found f.findings))
 
-stands_held : (limits : Limits) (t : List ℕ) → All IsScalar t → IsHeld limits t → progress_past limits (reading []) (inputs_behind [] t) ≡ reading t
+stands_held : (limits : Limits) (t : List ℕ) → All IsScalar t → IsHeld limits t → progress_past limits (reading []) (inputs_after [] t) ≡ reading t
 stands_held limits t scalars h = standing limits t (all_scalars t scalars) ∙ ap (progress_by t) h.heads ∙ open_progress t h.stopped h.at_end
 
--- at a character behind which the text is held what is found more is emitted
+-- at a character after which the text is held what is found more is emitted
 more_found : (limits : Limits) (t : List ℕ) (x : Char) → IsHeld limits (t ++ x.c ∷ []) → events_of_input limits (reading t) (Ok x) ≡ found (new_findings limits t (t ++ x.c ∷ []))
 more_found limits t x h = ap (events_by (new_findings limits t (t ++ x.c ∷ []))) h.heads ∙ alone h.stopped h.at_end
   where
@@ -68,11 +68,11 @@ pub found_more_held : (limits : Limits) (t : List ℕ) (c : ℕ) → All IsScala
 found_more_held limits t c scalars scalar held longer =
     let x : Char = record { c = c; place = place_after t } in
     let more = new_findings limits t (t ++ c ∷ []) in
-    let inputs : inputs_behind [] (t ++ c ∷ []) ≡ inputs_behind [] t ++ Ok x ∷ [] =
+    let inputs : inputs_after [] (t ++ c ∷ []) ≡ inputs_after [] t ++ Ok x ∷ [] =
     ap (λ (xs : List Char). map (λ c. Ok c) xs) (placed-append [] t (c ∷ [])) ∙ map-append (λ (c : Char). Ok c) _ (x ∷ []) in
     let split : so_far limits (t ++ c ∷ []) ≡ so_far limits t ++ events_of_input limits (reading t) (Ok x) =
     ap (λ (xs : List (Result Char Fault)). emitted_by false xs (events_left limits (reading []) xs)) inputs
-    ∙ with_input limits (reading []) (inputs_behind [] t) (Ok x)
+    ∙ with_input limits (reading []) (inputs_after [] t) (Ok x)
     ∙ ap (λ (p : HeadProgress). so_far limits t ++ events_of_input limits p (Ok x)) (stands_held limits t scalars held) in
     let same : found (findings_held limits (t ++ c ∷ [])) ≡ found (findings_held limits t ++ more) =
     sym (found_alone limits (t ++ c ∷ []) (All-push IsScalar t c scalars scalar) longer)

@@ -17,7 +17,7 @@ use Rattle.gabc_headers.specs.declared.header_machine.HeaderMachine.{HeaderMachi
 use Rattle.gabc_headers.specs.declared.heads.Heads.{Heads}
 use Rattle.gabc_headers.specs.declared.heads.HeadFault.{HeadFault}
 use Rattle.gabc_headers.specs.Heads.{findings_of}
-use Rattle.gabc_headers.specs.HeadEvents.{events_of_broken, inputs_behind, emitted_by}
+use Rattle.gabc_headers.specs.HeadEvents.{events_of_broken, inputs_after, emitted_by}
 use Rattle.gabc_headers.specs.witness.HeadEvents.{HeadProgress, reading, behind, over, book_at, stage_past, text_held, progress_by, progress_with, events_at, events_left}
 use Rattle.gabc_headers.specs.HeldText.{IsHeld, findings_held, holding, text_in, inputs_of}
 use Rattle.gabc_headers.specs.machine.HeaderMachine.{fresh_machine}
@@ -49,10 +49,10 @@ closed_stays limits xs q e = absurd (let f : false ≡ true = ap is_open (sym (s
 passed_stays : (limits : Limits) (book : List (List ℕ × List ℕ)) (xs : List Char) (q : List ℕ) → progress_past limits (behind book) (inputs_of xs) ≡ reading q → {A : Type 0} → A
 passed_stays limits book xs q e = absurd (let f : false ≡ true = ap is_open (sym (stays_behind limits book xs) ∙ e) in cc)
 
--- The stage that stands in the headers behind these characters, however they are placed.
+-- The stage that stands in the headers after these characters, however they are placed.
 pub record IsHeldPast (limits : Limits) (hasher : DefaultHasher) (p : List ℕ) (xs : List Char) (b q : List ℕ) : Type 0 where
   pub stage : stage_past (holding limits hasher p) (inputs_of xs) ≡ holding limits hasher q
-  pub events : so_far limits (reading p) (inputs_of xs) ≡ so_far limits (reading p) (inputs_behind b (text_in xs))
+  pub events : so_far limits (reading p) (inputs_of xs) ≡ so_far limits (reading p) (inputs_after b (text_in xs))
 
 held_past : (limits : Limits) (hasher : DefaultHasher) (p : List ℕ) (xs : List Char) (b q : List ℕ) → progress_past limits (reading p) (inputs_of xs) ≡ reading q → IsHeldPast limits hasher p xs b q
 held_past limits hasher p [] b q e = record { stage = ap (holding limits hasher) (ap text_held e); events = refl }
@@ -71,13 +71,13 @@ held_past limits hasher p (x ∷ xs) b q e = by (λ t f. held_past limits hasher
         record {
           stage = ap (λ (n : HeadProgress). stage_past (record { limits = limits; progress = n; book = book_at n []; hasher = hasher }) (inputs_of xs)) f ∙ more.stage;
           events = split (progress_with limits p x.c) (inputs_of xs) ∙ ap (λ (n : HeadProgress). first ++ so_far limits n (inputs_of xs)) f ∙ ap (λ (es : List HeadEvent). first ++ es) more.events
-              ∙ sym (ap (λ (n : HeadProgress). first ++ so_far limits n (inputs_behind (b ++ x.c ∷ []) (text_in xs))) f) ∙ sym (split (progress_with limits p x.c) (inputs_behind (b ++ x.c ∷ []) (text_in xs)));
+              ∙ sym (ap (λ (n : HeadProgress). first ++ so_far limits n (inputs_after (b ++ x.c ∷ []) (text_in xs))) f) ∙ sym (split (progress_with limits p x.c) (inputs_after (b ++ x.c ∷ []) (text_in xs)));
         }
     by again (behind book) f g = passed_stays limits book xs q (subst (λ (n : HeadProgress). progress_past limits n (inputs_of xs) ≡ reading q) f g)
     by again over f g = closed_stays limits xs q (subst (λ (n : HeadProgress). progress_past limits n (inputs_of xs) ≡ reading q) f g)
 
 -- where a stage stands does not depend on where the characters do
-same_progress : (limits : Limits) (progress : HeadProgress) (xs : List Char) (b : List ℕ) → progress_past limits progress (inputs_of xs) ≡ progress_past limits progress (inputs_behind b (text_in xs))
+same_progress : (limits : Limits) (progress : HeadProgress) (xs : List Char) (b : List ℕ) → progress_past limits progress (inputs_of xs) ≡ progress_past limits progress (inputs_after b (text_in xs))
 same_progress limits progress [] b = refl
 same_progress limits (reading t) (x ∷ xs) b = same_progress limits (progress_with limits t x.c) xs (b ++ x.c ∷ [])
 same_progress limits (behind book) (x ∷ xs) b = same_progress limits (behind book) xs (b ++ x.c ∷ [])

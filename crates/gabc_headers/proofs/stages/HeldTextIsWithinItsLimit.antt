@@ -131,7 +131,7 @@ sizes_before n p place x y less = All-append (StopsBefore n) (cond x (stop_at p 
 all_front : {X : Type 0} (P : X → Type 0) (xs ys : List X) → All P (xs ++ ys) → All P xs
 all_front P xs ys all k d less = subst P (get_or_append_left xs ys d k less) (all k d (omega (arith, less, length-append xs ys)))
 
--- what stops them behind their text
+-- what stops them after their text
 abbrev behind_text : Limits → List ℕ → Bool → List Stop
 behind_text limits t b = cond b (open_stops (head_len t + 1) (open_line (head_parts t)) ++ score_stops limits t) (open_stops (length t) (open_line (head_parts t)) ++ missing_score (open_line (head_parts t)) t)
 

@@ -31,7 +31,7 @@ takes_more r last next es all [] c e h p =
     (next, (e, subst (λ (x : HeaderMachine). push_one x c ≡ (next, Read e)) (sym h.0) p, (refl, ap (λ (x : List HeaderEvent). with_event x e) h.1)))
 takes_more r last next es all (d ∷ t) c e h p = (h.0, (h.1.0, h.1.1, takes_more h.0 last next (with_event es h.1.0) all t c e h.1.2 p))
 
--- the machine stands behind the text
+-- the machine stands after the text
 pub has_read : (limit : ℕ) (t : List ℕ) (last : HeaderMachine) (all : List HeaderEvent) → Takes (fresh_machine limit) [] t last all → HasRead limit t last all
 has_read limit t last all h = along (HasRead limit) (λ t r next es c e k p. read_more limit t r next es c e k p) [] t (fresh_machine limit) last [] all (begin_read limit) h
 

@@ -12,7 +12,7 @@ use Rattle.gabc_headers.specs.Lines.{bytes_len, lines, has_score}
 use Rattle.gabc_headers.specs.Parts.{HeaderPart}
 use Rattle.gabc_headers.specs.Book.{book_of, has_header}
 use Rattle.gabc_headers.specs.Canonical.{header_lines}
-use Rattle.gabc_headers.specs.Heads.{head_len, known_at, findings_behind, open_line, text_stops, open_stops, missing_score, stop_at, line_place, body_byte, heads_of}
+use Rattle.gabc_headers.specs.Heads.{head_len, known_at, findings_after, open_line, text_stops, open_stops, missing_score, stop_at, line_place, body_byte, heads_of}
 use Rattle.gabc_headers.specs.witness.Heads.{head_findings, name_findings, score_stops, head_stops, heads_by}
 use Rattle.gabc_headers.specs.witness.Parts.{head_parts}
 use Rattle.gabc_headers.specs.machine.Collected.{heads_at_body}
@@ -31,14 +31,14 @@ nameless_none t p h = by (has_score (lines t) && not (has_header (codes "name") 
     by false = refl
 
 found_emitted : (t : List ℕ) (p : ℕ) (events rest : List HeaderPart) → head_parts t ≡ events ++ rest → AreEarly p events → AreLate p rest
-    → findings_before p (head_findings t) ≡ all_known (findings_behind [] events) ++ findings_before p (name_findings t)
+    → findings_before p (head_findings t) ≡ all_known (findings_after [] events) ++ findings_before p (name_findings t)
 found_emitted t p events rest e a b =
-    known-append p (findings_behind [] (head_parts t)) (name_findings t)
-    ∙ ap (λ (x : List Finding). x ++ findings_before p (name_findings t)) (ap (λ (x : List HeaderPart). findings_before p (findings_behind [] x)) e ∙ early_all [] p events rest a b)
+    known-append p (findings_after [] (head_parts t)) (name_findings t)
+    ∙ ap (λ (x : List Finding). x ++ findings_before p (name_findings t)) (ap (λ (x : List HeaderPart). findings_before p (findings_after [] x)) e ∙ early_all [] p events rest a b)
 
 before : (t : List ℕ) (p : ℕ) (events rest : List HeaderPart) → head_parts t ≡ events ++ rest → AreEarly p events → AreLate p rest → p ≤ head_len t + 1
-    → findings_before p (head_findings t) ≡ all_known (findings_behind [] events)
-before t p events rest e a b l = found_emitted t p events rest e a b ∙ (ap (λ (x : List Finding). all_known (findings_behind [] events) ++ x) (nameless_none t p l) ∙ append-nil (all_known (findings_behind [] events)))
+    → findings_before p (head_findings t) ≡ all_known (findings_after [] events)
+before t p events rest e a b l = found_emitted t p events rest e a b ∙ (ap (λ (x : List Finding). all_known (findings_after [] events) ++ x) (nameless_none t p l) ∙ append-nil (all_known (findings_after [] events)))
 
 -- ---- the cases
 
@@ -67,29 +67,29 @@ stops_text limits t o s n e =
 -- an open value at the line `%%`
 pub score_open : (limits : Limits) (t : List ℕ) (events rest : List HeaderPart) (k : ℕ) → head_parts t ≡ events ++ rest → AreEarly (head_len t + 1) events → AreLate (head_len t + 1) rest
     → has_score (lines t) ≡ true → text_stops limits.header t ≡ [] → Some k ≡ open_line (head_parts t)
-    → Err (record { fault = record { place = line_place k; code = F3 }; findings = all_known (findings_behind [] events); at_end = false }) ≡ heads_of limits t
+    → Err (record { fault = record { place = line_place k; code = F3 }; findings = all_known (findings_after [] events); at_end = false }) ≡ heads_of limits t
 score_open limits t events rest k e a b s n o =
     let w = score_within t s in
-    faulted limits t (stop_at (head_len t + 1) (line_place k) F3) (all_known (findings_behind [] events)) false
+    faulted limits t (stop_at (head_len t + 1) (line_place k) F3) (all_known (findings_after [] events)) false
     (ap (λ (x : List Stop). earliest x) (stops_score limits t (Some k) s n o) ∙ (open_first (head_len t + 1) (line_place k) (place_after (take (head_len t) t)) (nat_lt limits.header (bytes_len (header_lines (book_of (head_parts t))))) (nat_lt limits.input (bytes_len (header_lines (book_of (head_parts t))) + 3))))
     (before t (head_len t + 1) events rest e a b (omega arith)) (below_eqb (head_len t + 1) (length t) (omega arith))
 
 -- an open value at the end
 pub text_open : (limits : Limits) (t : List ℕ) (events rest : List HeaderPart) (k : ℕ) → head_parts t ≡ events ++ rest → AreEarly (length t) events → AreLate (length t) rest
     → has_score (lines t) ≡ false → text_stops limits.header t ≡ [] → Some k ≡ open_line (head_parts t)
-    → Err (record { fault = record { place = line_place k; code = F3 }; findings = all_known (findings_behind [] events); at_end = true }) ≡ heads_of limits t
+    → Err (record { fault = record { place = line_place k; code = F3 }; findings = all_known (findings_after [] events); at_end = true }) ≡ heads_of limits t
 text_open limits t events rest k e a b s n o =
     let l = head_text t s in
-    faulted limits t (stop_at (length t) (line_place k) F3) (all_known (findings_behind [] events)) true
+    faulted limits t (stop_at (length t) (line_place k) F3) (all_known (findings_after [] events)) true
     (ap (λ (x : List Stop). earliest x) (stops_text limits t (Some k) s n o)) (before t (length t) events rest e a b (omega arith)) (same_eqb (length t))
 
 -- no line `%%`
 pub text_ended : (limits : Limits) (t : List ℕ) (events rest : List HeaderPart) → head_parts t ≡ events ++ rest → AreEarly (length t) events → AreLate (length t) rest
     → has_score (lines t) ≡ false → text_stops limits.header t ≡ [] → None ≡ open_line (head_parts t)
-    → Err (record { fault = record { place = place_after t; code = F2 }; findings = all_known (findings_behind [] events); at_end = true }) ≡ heads_of limits t
+    → Err (record { fault = record { place = place_after t; code = F2 }; findings = all_known (findings_after [] events); at_end = true }) ≡ heads_of limits t
 text_ended limits t events rest e a b s n o =
     let l = head_text t s in
-    faulted limits t (stop_at (length t) (place_after t) F2) (all_known (findings_behind [] events)) true
+    faulted limits t (stop_at (length t) (place_after t) F2) (all_known (findings_after [] events)) true
     (ap (λ (x : List Stop). earliest x) (stops_text limits t None s n o)) (before t (length t) events rest e a b (omega arith)) (same_eqb (length t))
 
 open_behind : (p q : ℕ) (o : Option ℕ) → p < q → AllBehind p (open_stops q o)
@@ -120,12 +120,12 @@ others_behind limits t p h l = by (has_score (lines t))
 -- the text is too long
 pub text_limit : (limits : Limits) (t : List ℕ) (events rest : List HeaderPart) (p : ℕ) (place : Place) → head_parts t ≡ events ++ rest → AreEarly p events → AreLate p rest
     → text_stops limits.header t ≡ stop_at p place F4 ∷ []
-    → Err (record { fault = record { place = place; code = F4 }; findings = all_known (findings_behind [] events); at_end = false }) ≡ heads_of limits t
+    → Err (record { fault = record { place = place; code = F4 }; findings = all_known (findings_after [] events); at_end = false }) ≡ heads_of limits t
 text_limit limits t events rest p place e a b n =
     let w = limit_within limits.header t p place n in
     let l : p < length t = w.0 in
     let m : p ≤ head_len t = w.1 in
-    faulted limits t (stop_at p place F4) (all_known (findings_behind [] events)) false
+    faulted limits t (stop_at p place F4) (all_known (findings_after [] events)) false
     (rw n (first_earliest (stop_at p place F4) _ (others_behind limits t p l m)))
     (before t p events rest e a b (omega arith)) (below_eqb p (length t) l)
 
@@ -136,41 +136,41 @@ sizes_first p b false false = refl
 
 -- what is found in the end
 found_all : (t : List ℕ) (events : List HeaderPart) → head_parts t ≡ events → AreEarly (head_len t + 1) events → has_score (lines t) ≡ true
-    → findings_before (length t + 1) (head_findings t) ≡ cond (has_header (codes "name") (book_of (head_parts t))) (all_known (findings_behind [] events)) (all_known (findings_behind [] events) ++ record { place = place_after (take (head_len t) t); code = W1 } ∷ [])
+    → findings_before (length t + 1) (head_findings t) ≡ cond (has_header (codes "name") (book_of (head_parts t))) (all_known (findings_after [] events)) (all_known (findings_after [] events) ++ record { place = place_after (take (head_len t) t); code = W1 } ∷ [])
 found_all t events e a s =
     found_emitted t (length t + 1) events [] (e ∙ sym (append-nil events)) (still_early (head_len t + 1) (length t + 1) events (let w = score_within t s in omega arith) a) tt
-    ∙ (ap (λ (x : List Finding). all_known (findings_behind [] events) ++ x) (by (has_score (lines t)) (has_header (codes "name") (book_of (head_parts t))) s) ∙ joined (has_header (codes "name") (book_of (head_parts t))))
+    ∙ (ap (λ (x : List Finding). all_known (findings_after [] events) ++ x) (by (has_score (lines t)) (has_header (codes "name") (book_of (head_parts t))) s) ∙ joined (has_header (codes "name") (book_of (head_parts t))))
   where
     by : (a b : Bool) → a ≡ true → findings_before (length t + 1) (cond (a && not b) (known_at (head_len t + 1) (place_after (take (head_len t) t)) W1 ∷ []) []) ≡ cond b [] (record { place = place_after (take (head_len t) t); code = W1 } ∷ [])
     by true true h = refl
     by true false h = known_one (length t + 1) (head_len t + 1) _ (let w = score_within t s in omega arith)
     by false b h = absurd (cc)
 
-    joined : (b : Bool) → all_known (findings_behind [] events) ++ cond b [] (record { place = place_after (take (head_len t) t); code = W1 } ∷ []) ≡ cond b (all_known (findings_behind [] events)) (all_known (findings_behind [] events) ++ record { place = place_after (take (head_len t) t); code = W1 } ∷ [])
-    joined true = append-nil (all_known (findings_behind [] events))
+    joined : (b : Bool) → all_known (findings_after [] events) ++ cond b [] (record { place = place_after (take (head_len t) t); code = W1 } ∷ []) ≡ cond b (all_known (findings_after [] events)) (all_known (findings_after [] events) ++ record { place = place_after (take (head_len t) t); code = W1 } ∷ [])
+    joined true = append-nil (all_known (findings_after [] events))
     joined false = refl
 
 -- the line `%%` outside of a value
 pub score_ended : (limits : Limits) (t : List ℕ) (events : List HeaderPart) → head_parts t ≡ events → AreEarly (head_len t + 1) events
     → has_score (lines t) ≡ true → text_stops limits.header t ≡ [] → None ≡ open_line (head_parts t)
-    → heads_at_body limits (place_after (take (head_len t) t)) (body_byte t) (book_of events) (all_known (findings_behind [] events)) ≡ heads_of limits t
+    → heads_at_body limits (place_after (take (head_len t) t)) (body_byte t) (book_of events) (all_known (findings_after [] events)) ≡ heads_of limits t
 score_ended limits t events e a s n o =
-    ap (λ (x : List HeaderPart). heads_at_body limits (place_after (take (head_len t) t)) (body_byte t) (book_of x) (all_known (findings_behind [] events))) (sym e)
+    ap (λ (x : List HeaderPart). heads_at_body limits (place_after (take (head_len t) t)) (body_byte t) (book_of x) (all_known (findings_after [] events))) (sym e)
     ∙ (by (nat_lt limits.header (bytes_len (header_lines (book_of (head_parts t))))) (nat_lt limits.input (bytes_len (header_lines (book_of (head_parts t))) + 3))
     ∙ ap (λ (x : Option Stop). heads_by t x) (sym (ap (λ (x : List Stop). earliest x) (stops_score limits t None s n o) ∙ sizes_first (head_len t + 1) (place_after (take (head_len t) t)) _ _)))
   where
-    fault : (c : Code) → Err (record { fault = record { place = place_after (take (head_len t) t); code = c }; findings = all_known (findings_behind [] events); at_end = false })
+    fault : (c : Code) → Err (record { fault = record { place = place_after (take (head_len t) t); code = c }; findings = all_known (findings_after [] events); at_end = false })
         ≡ heads_by t (Some (stop_at (head_len t + 1) (place_after (take (head_len t) t)) c))
     fault c = sym (ap (λ (x : List Finding). Err (record { fault = record { place = place_after (take (head_len t) t); code = c }; findings = x; at_end = (head_len t + 1) == length t }))
         (before t (head_len t + 1) events [] (e ∙ sym (append-nil events)) a tt (omega arith))
-        ∙ ap (λ (b : Bool). Err (record { fault = record { place = place_after (take (head_len t) t); code = c }; findings = all_known (findings_behind [] events); at_end = b })) (below_eqb (head_len t + 1) (length t) (let w = score_within t s in omega arith)))
+        ∙ ap (λ (b : Bool). Err (record { fault = record { place = place_after (take (head_len t) t); code = c }; findings = all_known (findings_after [] events); at_end = b })) (below_eqb (head_len t + 1) (length t) (let w = score_within t s in omega arith)))
 
-    by : (x y : Bool) → cond x (Err (record { fault = record { place = place_after (take (head_len t) t); code = F4 }; findings = all_known (findings_behind [] events); at_end = false }))
-        (cond y (Err (record { fault = record { place = place_after (take (head_len t) t); code = F7 }; findings = all_known (findings_behind [] events); at_end = false }))
+    by : (x y : Bool) → cond x (Err (record { fault = record { place = place_after (take (head_len t) t); code = F4 }; findings = all_known (findings_after [] events); at_end = false }))
+        (cond y (Err (record { fault = record { place = place_after (take (head_len t) t); code = F7 }; findings = all_known (findings_after [] events); at_end = false }))
         (Ok (record {
           book = book_of (head_parts t);
           body = body_byte t;
-          findings = cond (has_header (codes "name") (book_of (head_parts t))) (all_known (findings_behind [] events)) (all_known (findings_behind [] events) ++ record { place = place_after (take (head_len t) t); code = W1 } ∷ []);
+          findings = cond (has_header (codes "name") (book_of (head_parts t))) (all_known (findings_after [] events)) (all_known (findings_after [] events) ++ record { place = place_after (take (head_len t) t); code = W1 } ∷ []);
         })))
         ≡ heads_by t (cond x (Some (stop_at (head_len t + 1) (place_after (take (head_len t) t)) F4)) (cond y (Some (stop_at (head_len t + 1) (place_after (take (head_len t) t)) F7)) None))
     by true y = fault F4

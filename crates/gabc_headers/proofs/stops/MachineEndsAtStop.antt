@@ -55,7 +55,7 @@ module _ (t : List ℕ) (limit : ℕ) (done : List ℕ) (r : HeaderMachine) (es 
             ∙ ap (λ (p : Place). stop_at (length done) p F4 ∷ []) (sym h.place);
       }
 
-  -- ---- behind a `%` that begins a line, and is no start of the line `%%`
+  -- ---- after a `%` that begins a line, and is no start of the line `%%`
 
   -- the part machine there
   pub record Past (rest : List ℕ) (events : List HeaderPart) (rd : PartMachine) : Type 0 where
@@ -64,7 +64,7 @@ module _ (t : List ℕ) (limit : ℕ) (done : List ℕ) (r : HeaderMachine) (es 
     pub near : Near (length done + 1) new
     pub same : open_in rd.state rd.header ≡ open_in new.state new.header
 
-  -- the part machine behind such a `%`: nothing is emitted there, and no value opens or ends
+  -- the part machine after such a `%`: nothing is emitted there, and no value opens or ends
   past : (rest : List ℕ) (h : MachineReads t limit done (37 ∷ rest) r es) → r.at_line ≡ true → (r.at_line && is_score_line (37 ∷ rest)) ≡ false → Past rest h.emitted h.rd
   past rest h a e =
       let s = char_step t limit done rest r es 37 h e in
@@ -170,7 +170,7 @@ module _ (t : List ℕ) (limit : ℕ) (done : List ℕ) (r : HeaderMachine) (es 
         );
       }
 
-  -- the text ends behind a `%` that is held back
+  -- the text ends after a `%` that is held back
   pub text_held : (h : MachineReads t limit done (37 ∷ []) r es) → r.at_line ≡ true → AreHeaderEvents limit t es (Text (next_place r.place 37) (open_in r.parts.state r.parts.header))
   text_held h a =
       let line : Option ℕ = open_in r.parts.state r.parts.header in

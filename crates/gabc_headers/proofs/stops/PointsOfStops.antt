@@ -69,7 +69,7 @@ pub size_first : (p : ℕ) (b : Place) (y : Bool) → earliest (stop_at p b F4 �
 size_first p b true = rw (same_ltb p, same_eqb p) refl
 size_first p b false = refl
 
--- stops behind a point
+-- stops after a point
 abbrev pub AllBehind : ℕ → List Stop → Type 0
 AllBehind p [] = Unit {0}
 AllBehind p (s ∷ ss) = (p < s.point) × AllBehind p ss

@@ -1,4 +1,4 @@
--- Where the text is too long, and the place behind a text.
+-- Where the text is too long, and the place after a text.
 use Rattle.std.proofs.Common.{◌≡◌, ℕ, ◌+◌, ◌-◌, ◌<◌, ◌≤◌, suc, List, [], ◌∷◌, ◌++◌, length, take, get_or, Bool, true, false, cond, ◌&&◌, ◌||◌, ◌==◌, nat_lt, Some, ap, ◌∙◌, arith, length-append, append_assoc}
 use Rattle.std.specs.Option.{option_map}
 use Rattle.std.specs.Char.{len_utf8}

@@ -79,7 +79,7 @@ scan_free (c ∷ d ∷ t) e =
     let f = free_tail c (d ∷ t) e in
     ap (λ (b : Bool). scan b (d ∷ t)) f.0 ∙ scan_free (d ∷ t) f.1
 
--- a `!` behind one lets a code begin
+-- a `!` after one lets a code begin
 scan_bang : (t u : List ℕ) → is_in 33 t ≡ false → scan false (t ++ 33 ∷ u) ≡ scan true u
 scan_bang [] [] e = refl
 scan_bang [] (d ∷ u) e = refl
@@ -175,7 +175,7 @@ scan_joined (k ∷ gs) g tail h e f =
     ∙ (scan_glyph g (glyphs_joined (k ∷ gs) ++ tail) (glyph_two g h) (spells_none 33 glyph g h refl)
     ∙ ap (λ (l : List GlyphCode). code_of_glyph g ∷ l) (scan_joined gs k tail e.0 e.1 f))
 
--- the glyphs behind the first
+-- the glyphs after the first
 abbrev Others : List (List ℕ) → Type 0
 Others parts = (gs : List (List ℕ)) × Each (Spells glyph) gs × ((g : List ℕ) → g ++ concat parts ≡ glyphs_joined (g ∷ gs))
 

@@ -37,7 +37,7 @@ no_code a b i rows l = ap (λ (u : List Row). name_among a b (map plain u)) (dro
 
 -- ---- the letters of a text
 
--- the characters of a text behind its first one
+-- the characters of a text after its first one
 abbrev pub Behind : List ℕ → ℕ → List ℕ → Type 0
 Behind bs c rest = (chars bs ≡ c ∷ chars rest) × IsUtf8 rest
 

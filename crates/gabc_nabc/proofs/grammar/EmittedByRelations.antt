@@ -18,7 +18,7 @@ use Rattle.gabc_notes.specs.declared.stage.NoteEvent.{NoteEvent}
 use Rattle.gabc_notes.specs.declared.stage.NoteEvent.TheVariants.{Kept, Found, Ended}
 use Rattle.gabc_notes.proofs.FoundOnce.{found_once, kept_once}
 use Rattle.gabc_nabc.specs.Table.{nabc}
-use Rattle.gabc_nabc.specs.Events.{is_character, is_end, has_end, kept_of, first_of, is_missing, bytes_in, end_events, character_events, events_at, cut_events, nabc_events_behind, nabc_events}
+use Rattle.gabc_nabc.specs.Events.{is_character, is_end, has_end, kept_of, first_of, is_missing, bytes_in, end_events, character_events, events_at, cut_events, nabc_events_after, nabc_events}
 use Rattle.gabc_nabc.specs.NabcRead.{IsKeptAfter, IsFoundAfter}
 use Rattle.gabc_nabc.specs.NabcEmitted.{AreOfCharacter, AreOfMark, AreEventsAfter, AreNabcEvents}
 use Rattle.gabc_nabc.proofs.grammar.ReadByRelations.{kept_is, kept_keeps, found_here, one_code, unfinished_at, unfinished_only}
@@ -115,29 +115,29 @@ pub more : (t : List ℕ) (c : ℕ) (b : Bool) → has_end t ≡ false → is_en
 more t c b o e = end_more t c ∙ (ap (λ (a : Bool). a || is_end t c) o ∙ e)
 
 -- after the end nothing
-over : (t : List ℕ) (xs : List Char) → has_end t ≡ true → nabc_events_behind t xs ≡ silence xs
+over : (t : List ℕ) (xs : List Char) → has_end t ≡ true → nabc_events_after t xs ≡ silence xs
 over t [] o = ap (λ (b : Bool). cond b [] (Ended (Cut (record { line = 0; column = 0 })) (bytes_in (kept_of t)) ∷ []) ∷ []) o
 over t (x ∷ xs) o =
-    ap (λ (b : Bool). cond b [] (cond (is_end t x.c) (end_events (kept_of t) x) (cond (is_character t x.c) (character_events (kept_of t) x) [])) ∷ nabc_events_behind (t ++ x.c ∷ []) xs) o
+    ap (λ (b : Bool). cond b [] (cond (is_end t x.c) (end_events (kept_of t) x) (cond (is_character t x.c) (character_events (kept_of t) x) [])) ∷ nabc_events_after (t ++ x.c ∷ []) xs) o
     ∙ ap (λ (l : List (List NoteEvent)). [] ∷ l) (over (t ++ x.c ∷ []) xs (end_more t x.c ∙ ap (λ (a : Bool). a || is_end t x.c) o))
 
 pub cut_is : (t : List ℕ) → has_end t ≡ false → cut_events t ≡ Ended (Cut (record { line = 0; column = 0 })) (bytes_in (kept_of t)) ∷ []
 cut_is t o = ap (λ (b : Bool). cond b [] (Ended (Cut (record { line = 0; column = 0 })) (bytes_in (kept_of t)) ∷ [])) o
 
-events_by_relations : (t : List ℕ) (xs : List Char) → has_end t ≡ false → AreEventsAfter t xs (nabc_events_behind t xs)
+events_by_relations : (t : List ℕ) (xs : List Char) → has_end t ≡ false → AreEventsAfter t xs (nabc_events_after t xs)
 events_by_relations t [] o = (cut_events t, record { kept = kept_of t; keeps = kept_keeps t; all = cut_is t o }, refl)
 events_by_relations t (x ∷ xs) o = go (is_end t x.c) refl (λ p. events_by_relations (t ++ x.c ∷ []) xs p)
   where
-    go : (b : Bool) → is_end t x.c ≡ b → (has_end (t ++ x.c ∷ []) ≡ false → AreEventsAfter (t ++ x.c ∷ []) xs (nabc_events_behind (t ++ x.c ∷ []) xs)) → AreEventsAfter t (x ∷ xs) (nabc_events_behind t (x ∷ xs))
-    go false e F = inr (events_at t x, nabc_events_behind (t ++ x.c ∷ []) xs, of_character t x o e, F (more t x.c false o e), refl)
+    go : (b : Bool) → is_end t x.c ≡ b → (has_end (t ++ x.c ∷ []) ≡ false → AreEventsAfter (t ++ x.c ∷ []) xs (nabc_events_after (t ++ x.c ∷ []) xs)) → AreEventsAfter t (x ∷ xs) (nabc_events_after t (x ∷ xs))
+    go false e F = inr (events_at t x, nabc_events_after (t ++ x.c ∷ []) xs, of_character t x o e, F (more t x.c false o e), refl)
     go true e F = inl (
       end_events (kept_of t) x,
       of_mark t x e,
-      ap (λ (es : List NoteEvent). es ∷ nabc_events_behind (t ++ x.c ∷ []) xs) (at_mark t x o e)
+      ap (λ (es : List NoteEvent). es ∷ nabc_events_after (t ++ x.c ∷ []) xs) (at_mark t x o e)
           ∙ ap (λ (l : List (List NoteEvent)). end_events (kept_of t) x ∷ l) (over (t ++ x.c ∷ []) xs (more t x.c true o e)),
     )
 
-relations_give_events : (t : List ℕ) (xs : List Char) (lists : List (List NoteEvent)) → has_end t ≡ false → AreEventsAfter t xs lists → lists ≡ nabc_events_behind t xs
+relations_give_events : (t : List ℕ) (xs : List Char) (lists : List (List NoteEvent)) → has_end t ≡ false → AreEventsAfter t xs lists → lists ≡ nabc_events_after t xs
 relations_give_events t [] lists o h =
     h.2 ∙ ap (λ (es : List NoteEvent). es ∷ [])
     (h.1.all ∙ (ap (λ (k : List ℕ). Ended (Cut (record { line = 0; column = 0 })) (bytes_in k) ∷ []) (kept_is t h.1.kept h.1.keeps) ∙ sym (cut_is t o)))

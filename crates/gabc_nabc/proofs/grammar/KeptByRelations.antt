@@ -19,9 +19,9 @@ use Rattle.gabc_notes.specs.declared.stage.NoteEvent.TheVariants.{Kept, Found, E
 use Rattle.gabc_notes.proofs.KeptChars.{kept_chars-append}
 use Rattle.gabc_notes.proofs.grammar.KeptByRelations.{none_found}
 use Rattle.gabc_nabc.specs.Table.{nabc}
-use Rattle.gabc_nabc.specs.Events.{is_character, is_end, has_end, kept_of, bytes_in, end_events, events_at, nabc_events_behind, nabc_events}
+use Rattle.gabc_nabc.specs.Events.{is_character, is_end, has_end, kept_of, bytes_in, end_events, events_at, nabc_events_after, nabc_events}
 use Rattle.gabc_nabc.specs.NabcRead.{IsKeptAfter, AreKept, AreKeptChars, IsNabcRead}
-use Rattle.gabc_nabc.specs.SnippetRead.{before_end_behind, before_end, from_end, kept_before, kept_chars_in}
+use Rattle.gabc_nabc.specs.SnippetRead.{before_end_after, before_end, from_end, kept_before, kept_chars_in}
 use Rattle.gabc_nabc.proofs.KeptText.{AreText, text_is}
 use Rattle.gabc_nabc.proofs.grammar.EmittedByRelations.{kept_event, kept_here, parted, at_mark, ended, more, cut_is}
 use Rattle.gabc_nabc.proofs.grammar.LawsOfEvents.{silent}
@@ -54,7 +54,7 @@ one_more t x xs later h = go (is_character t x.c && is_viable nabc (kept_of t ++
 
 -- what is kept of the characters before the end, after the text
 kept_on : (t cs : List ℕ) (at : Place) → has_end t ≡ false
-    → AreKept t (placed_characters_from at (before_end_behind t cs)) (kept_chars_of (concat_of (nabc_events_behind t (placed_characters_from at cs))))
+    → AreKept t (placed_characters_from at (before_end_after t cs)) (kept_chars_of (concat_of (nabc_events_after t (placed_characters_from at cs))))
 kept_on t [] at o = ap (λ (es : List NoteEvent). kept_chars_of (es ++ [])) (cut_is t o)
 kept_on t (c ∷ cs) at o = go (is_end t c) refl (λ p. kept_on (t ++ c ∷ []) cs (next_place at c) p)
   where
@@ -62,19 +62,19 @@ kept_on t (c ∷ cs) at o = go (is_end t c) refl (λ p. kept_on (t ++ c ∷ []) 
     x = record { c = c; place = at }
 
     later : List NoteEvent
-    later = concat_of (nabc_events_behind (t ++ c ∷ []) (placed_characters_from (next_place at c) cs))
+    later = concat_of (nabc_events_after (t ++ c ∷ []) (placed_characters_from (next_place at c) cs))
 
     Goal : Bool → Type 0
-    Goal b = AreKept t (placed_characters_from at (cond b [] (c ∷ before_end_behind (t ++ c ∷ []) cs))) (kept_chars_of (events_at t x ++ later))
+    Goal b = AreKept t (placed_characters_from at (cond b [] (c ∷ before_end_after (t ++ c ∷ []) cs))) (kept_chars_of (events_at t x ++ later))
 
     go : (b : Bool) → is_end t c ≡ b
-        → (has_end (t ++ c ∷ []) ≡ false → AreKept (t ++ c ∷ []) (placed_characters_from (next_place at c) (before_end_behind (t ++ c ∷ []) cs)) (kept_chars_of later))
-        → AreKept t (placed_characters_from at (before_end_behind t (c ∷ cs))) (kept_chars_of (events_at t x ++ later))
+        → (has_end (t ++ c ∷ []) ≡ false → AreKept (t ++ c ∷ []) (placed_characters_from (next_place at c) (before_end_after (t ++ c ∷ []) cs)) (kept_chars_of later))
+        → AreKept t (placed_characters_from at (before_end_after t (c ∷ cs))) (kept_chars_of (events_at t x ++ later))
     go false e F =
         let same : kept_chars_of (events_at t x ++ later) ≡ kept_chars_of (kept_event t x) ++ kept_chars_of later =
         kept_chars-append (events_at t x) later ∙ ap (λ (l : List Char). l ++ kept_chars_of later) (kept_of_one t x o e) in
-        subst Goal (sym e) (subst (AreKept t (placed_characters_from at (c ∷ before_end_behind (t ++ c ∷ []) cs))) (sym same)
-        (one_more t x (placed_characters_from (next_place at c) (before_end_behind (t ++ c ∷ []) cs)) (kept_chars_of later) (F (more t c false o e))))
+        subst Goal (sym e) (subst (AreKept t (placed_characters_from at (c ∷ before_end_after (t ++ c ∷ []) cs))) (sym same)
+        (one_more t x (placed_characters_from (next_place at c) (before_end_after (t ++ c ∷ []) cs)) (kept_chars_of later) (F (more t c false o e))))
     go true e F =
         let none : kept_chars_of (events_at t x ++ later) ≡ [] =
         ap (λ (es : List NoteEvent). kept_chars_of (events_at t x ++ es)) (silent (t ++ c ∷ []) (placed_characters_from (next_place at c) cs) (more t c true o e))

@@ -20,10 +20,10 @@ use Rattle.gabc_notes.specs.declared.stage.NoteEnd.TheVariants as ending
 use Rattle.gabc_notes.specs.declared.stage.NoteEvent.{NoteEvent}
 use Rattle.gabc_notes.specs.declared.stage.NoteEvent.TheVariants.{Kept, Ended}
 use Rattle.gabc_nabc.specs.Table.{nabc}
-use Rattle.gabc_nabc.specs.Events.{is_character, is_end, has_end, kept_of, first_of, is_missing, events_at, nabc_events_behind, nabc_events, bytes_in}
+use Rattle.gabc_nabc.specs.Events.{is_character, is_end, has_end, kept_of, first_of, is_missing, events_at, nabc_events_after, nabc_events, bytes_in}
 use Rattle.gabc_notes.specs.Events.{finding_event, end_by_mark}
 use Rattle.gabc_notes.specs.SnippetRead.{ends_of, kept_of as kept_in}
-use Rattle.gabc_nabc.specs.SnippetRead.{before_end_behind, before_end, from_end, kept_before, end_before}
+use Rattle.gabc_nabc.specs.SnippetRead.{before_end_after, before_end, from_end, kept_before, end_before}
 use Rattle.gabc_nabc.specs.declared.state.DescriptorState.{DescriptorState}
 use Rattle.gabc_nabc.specs.declared.state.DescriptorState.TheVariants.{Start, CodeL, CodeP, CodeS, Code, Glyph, Modified, GlyphH, Pitched, Joined, TailL, TailP, TailS, Points, PointsLetter, Letters, LettersMore, Counted, CountedH, Tail, Slash, Tick, Space}
 use Rattle.gabc_nabc.proofs.machine.MachineReadsTable.{machine, snippets_read, items_read}
@@ -138,7 +138,7 @@ two_complete t v = let x = completes nabc machine snippets_read completion compl
 
 -- ---- what is emitted
 
-prefix_emitted : (t : List ℕ) (xs ys : List Char) → take (length xs) (nabc_events_behind t (xs ++ ys)) ≡ take (length xs) (nabc_events_behind t xs)
+prefix_emitted : (t : List ℕ) (xs ys : List Char) → take (length xs) (nabc_events_after t (xs ++ ys)) ≡ take (length xs) (nabc_events_after t xs)
 prefix_emitted t [] ys = refl
 prefix_emitted t (x ∷ xs) ys = ap (λ (l : List (List NoteEvent)). events_at t x ∷ l) (prefix_emitted (t ++ x.c ∷ []) xs ys)
 
@@ -146,12 +146,12 @@ prefix_emitted t (x ∷ xs) ys = ap (λ (l : List (List NoteEvent)). events_at t
 pub prefix_stays : (xs ys zs : List Char) → take (length xs) (nabc_events (xs ++ ys)) ≡ take (length xs) (nabc_events (xs ++ zs))
 prefix_stays xs ys zs = prefix_emitted [] xs ys ∙ sym (prefix_emitted [] xs zs)
 
--- behind the end nothing is emitted
-pub silent : (t : List ℕ) (xs : List Char) → has_end t ≡ true → concat_of (nabc_events_behind t xs) ≡ []
+-- after the end nothing is emitted
+pub silent : (t : List ℕ) (xs : List Char) → has_end t ≡ true → concat_of (nabc_events_after t xs) ≡ []
 silent t [] e = rw e refl
 silent t (x ∷ xs) e =
     let none : events_at t x ≡ [] = rw e refl in
-    ap (λ (l : List NoteEvent). l ++ concat_of (nabc_events_behind (t ++ x.c ∷ []) xs)) none
+    ap (λ (l : List NoteEvent). l ++ concat_of (nabc_events_after (t ++ x.c ∷ []) xs)) none
     ∙ silent (t ++ x.c ∷ []) xs (end_more t x.c ∙ ap (λ (b : Bool). b || is_end t x.c) e)
 
 -- at the end nothing is kept
@@ -183,16 +183,16 @@ one_kept t x e f = by (is_character t x.c) (is_viable nabc (kept_of t ++ x.c ∷
         ∙ (ap (λ (l : List ℕ). kept_of t ++ l) (warned (is_missing (first_of (kept_of t)) x.c)) ∙ sym (kept_more t x.c h ∙ rw i refl))
 
 all_kept : (xs : List Char) (t : List ℕ) → has_end t ≡ false
-    → kept_of t ++ kept_in (concat_of (nabc_events_behind t xs)) ≡ kept_of (t ++ before_end_behind t (map (λ (x : Char). x.c) xs))
+    → kept_of t ++ kept_in (concat_of (nabc_events_after t xs)) ≡ kept_of (t ++ before_end_after t (map (λ (x : Char). x.c) xs))
 all_kept [] t e = rw e (append-nil (kept_of t) ∙ ap kept_of (sym (append-nil t)))
 all_kept (x ∷ xs) t e = go (is_end t x.c) refl (all_kept xs (t ++ x.c ∷ []))
   where
     later : List NoteEvent
-    later = concat_of (nabc_events_behind (t ++ x.c ∷ []) xs)
+    later = concat_of (nabc_events_after (t ++ x.c ∷ []) xs)
 
     go : (b : Bool) → is_end t x.c ≡ b
-        → (has_end (t ++ x.c ∷ []) ≡ false → kept_of (t ++ x.c ∷ []) ++ kept_in later ≡ kept_of ((t ++ x.c ∷ []) ++ before_end_behind (t ++ x.c ∷ []) (map (λ (y : Char). y.c) xs)))
-        → kept_of t ++ kept_in (events_at t x ++ later) ≡ kept_of (t ++ cond b [] (x.c ∷ before_end_behind (t ++ x.c ∷ []) (map (λ (y : Char). y.c) xs)))
+        → (has_end (t ++ x.c ∷ []) ≡ false → kept_of (t ++ x.c ∷ []) ++ kept_in later ≡ kept_of ((t ++ x.c ∷ []) ++ before_end_after (t ++ x.c ∷ []) (map (λ (y : Char). y.c) xs)))
+        → kept_of t ++ kept_in (events_at t x ++ later) ≡ kept_of (t ++ cond b [] (x.c ∷ before_end_after (t ++ x.c ∷ []) (map (λ (y : Char). y.c) xs)))
     go true f more =
         let none : kept_in (events_at t x ++ later) ≡ [] =
         kept_append (events_at t x) later ∙ (ap (λ (l : List ℕ). l ++ kept_in later) (none_kept t x e f) ∙ ap kept_in (silent (t ++ x.c ∷ []) xs (end_more t x.c ∙ rw (e, f) refl))) in
@@ -201,7 +201,7 @@ all_kept (x ∷ xs) t e = go (is_end t x.c) refl (all_kept xs (t ++ x.c ∷ []))
         ap (λ (l : List ℕ). kept_of t ++ l) (kept_append (events_at t x) later)
         ∙ (sym (append_assoc (kept_of t) (kept_in (events_at t x)) (kept_in later))
         ∙ (ap (λ (l : List ℕ). l ++ kept_in later) (one_kept t x e f)
-        ∙ (more (end_more t x.c ∙ rw (e, f) refl) ∙ ap kept_of (append_assoc t (x.c ∷ []) (before_end_behind (t ++ x.c ∷ []) (map (λ (y : Char). y.c) xs))))))
+        ∙ (more (end_more t x.c ∙ rw (e, f) refl) ∙ ap kept_of (append_assoc t (x.c ∷ []) (before_end_after (t ++ x.c ∷ []) (map (λ (y : Char). y.c) xs))))))
 
 -- what is emitted as kept is what is kept of the text before its end
 pub emitted_kept : (xs : List Char) → kept_in (concat_of (nabc_events xs)) ≡ kept_of (before_end (map (λ (x : Char). x.c) xs))
@@ -233,26 +233,26 @@ no_end t x e f = rw (e, f) (by (is_character t x.c))
     by true = viable (is_viable nabc (kept_of t ++ x.c ∷ []))
     by false = refl
 
--- the end that is emitted of these characters behind the text
+-- the end that is emitted of these characters after the text
 abbrev end_emitted : List ℕ → List ℕ → List ℕ → List (NoteEnd × ℕ)
 end_emitted t prefix rest = (end_before rest, bytes_in (kept_before (t ++ prefix) rest)) ∷ []
 
 ends_from : (xs : List Char) (t : List ℕ) → has_end t ≡ false
-    → ends_of (concat_of (nabc_events_behind t xs)) ≡ end_emitted t (before_end_behind t (map (λ (x : Char). x.c) xs)) (drop (length (before_end_behind t (map (λ (x : Char). x.c) xs))) (map (λ (x : Char). x.c) xs))
+    → ends_of (concat_of (nabc_events_after t xs)) ≡ end_emitted t (before_end_after t (map (λ (x : Char). x.c) xs)) (drop (length (before_end_after t (map (λ (x : Char). x.c) xs))) (map (λ (x : Char). x.c) xs))
 ends_from [] t e = rw e (ap (λ (u : List ℕ). (ending.Cut (record { line = 0; column = 0 }), bytes_in (kept_of u)) ∷ []) (sym (append-nil t)))
 ends_from (x ∷ xs) t e = go (is_end t x.c) refl (ends_from xs (t ++ x.c ∷ []))
   where
     later : List NoteEvent
-    later = concat_of (nabc_events_behind (t ++ x.c ∷ []) xs)
+    later = concat_of (nabc_events_after (t ++ x.c ∷ []) xs)
 
     cs : List ℕ
     cs = map (λ (y : Char). y.c) xs
 
     prefix : Bool → List ℕ
-    prefix b = cond b [] (x.c ∷ before_end_behind (t ++ x.c ∷ []) cs)
+    prefix b = cond b [] (x.c ∷ before_end_after (t ++ x.c ∷ []) cs)
 
     go : (b : Bool) → is_end t x.c ≡ b
-        → (has_end (t ++ x.c ∷ []) ≡ false → ends_of later ≡ end_emitted (t ++ x.c ∷ []) (before_end_behind (t ++ x.c ∷ []) cs) (drop (length (before_end_behind (t ++ x.c ∷ []) cs)) cs))
+        → (has_end (t ++ x.c ∷ []) ≡ false → ends_of later ≡ end_emitted (t ++ x.c ∷ []) (before_end_after (t ++ x.c ∷ []) cs) (drop (length (before_end_after (t ++ x.c ∷ []) cs)) cs))
         → ends_of (events_at t x ++ later) ≡ end_emitted t (prefix b) (drop (length (prefix b)) (x.c ∷ cs))
     go true f more =
         ends_append (events_at t x) later
@@ -263,8 +263,8 @@ ends_from (x ∷ xs) t e = go (is_end t x.c) refl (ends_from xs (t ++ x.c ∷ []
         ends_append (events_at t x) later
         ∙ (ap (λ (l : List (NoteEnd × ℕ)). l ++ ends_of later) (no_end t x e f)
         ∙ (more (end_more t x.c ∙ rw (e, f) refl)
-        ∙ ap (λ (u : List ℕ). (end_before (drop (length (before_end_behind (t ++ x.c ∷ []) cs)) cs), bytes_in (kept_before u (drop (length (before_end_behind (t ++ x.c ∷ []) cs)) cs))) ∷ [])
-        (append_assoc t (x.c ∷ []) (before_end_behind (t ++ x.c ∷ []) cs))))
+        ∙ ap (λ (u : List ℕ). (end_before (drop (length (before_end_after (t ++ x.c ∷ []) cs)) cs), bytes_in (kept_before u (drop (length (before_end_after (t ++ x.c ∷ []) cs)) cs))) ∷ [])
+        (append_assoc t (x.c ∷ []) (before_end_after (t ++ x.c ∷ []) cs))))
 
 -- one end is emitted
 pub end_is_emitted : (xs : List Char)

@@ -28,9 +28,9 @@ use Rattle.gabc_notes.specs.declared.stage.NoteEvent.{NoteEvent}
 use Rattle.gabc_notes.specs.declared.stage.NoteEvent.TheVariants.{Kept, Ended}
 use Rattle.gabc_nabc.specs.Table.{nabc}
 use Rattle.gabc_nabc.specs.Names.{is_known}
-use Rattle.gabc_nabc.specs.Events.{is_character, is_end, has_end_behind, has_end, kept_of, begins_code, is_code, last_of, before_last, joins, takes_code, first_behind, first_of, is_missing, bytes_in, end_events, character_events, events_at, nabc_events_behind}
+use Rattle.gabc_nabc.specs.Events.{is_character, is_end, has_end_after, has_end, kept_of, begins_code, is_code, last_of, before_last, joins, takes_code, first_after, first_of, is_missing, bytes_in, end_events, character_events, events_at, nabc_events_after}
 use Rattle.gabc_nabc.specs.NabcRead.{IsKeptOf, EndsUnknownCode, IsFound, IsFoundAfter, AreFound, IsUnfinished, IsRead, IsNabcRead}
-use Rattle.gabc_nabc.specs.SnippetRead.{before_end_behind, before_end, from_end, kept_before, ending_behind, IsComputed}
+use Rattle.gabc_nabc.specs.SnippetRead.{before_end_after, before_end, from_end, kept_before, ending_past, IsComputed}
 use Rattle.gabc_notes.specs.declared.snippet_read.SnippetRead.{SnippetRead}
 use Rattle.gabc_nabc.proofs.grammar.LawsOfEvents.{silent}
 use Rattle.gabc_nabc.proofs.order.FindingsAreInOrder.{cut_quiet}
@@ -40,7 +40,7 @@ use Rattle.gabc_nabc.proofs.machine.TextWithACharacterMore.{last_is, before_last
 -- ---- codes without a name
 
 first_is : (before : List ℕ) (a : ℕ) → first_of (before ++ a ∷ []) ≡ cond (takes_code before && begins_code a) (Some a) None
-first_is before a = ap (λ (t : List ℕ). first_behind (before_last (before ++ a ∷ [])) t) (last_is before a) ∙ ap (λ (t : List ℕ). cond (takes_code t && begins_code a) (Some a) None) (before_last_is before a)
+first_is before a = ap (λ (t : List ℕ). first_after (before_last (before ++ a ∷ [])) t) (last_is before a) ∙ ap (λ (t : List ℕ). cond (takes_code t && begins_code a) (Some a) None) (before_last_is before a)
 
 one_of_one : (d e : ℕ) → ((e == d) || false) ≡ true → e ≡ d
 one_of_one d e h = go (e == d) refl h
@@ -111,7 +111,7 @@ found_only kept c E3 h = inl (refl, h)
 found_only kept c W7 h = inr (refl, h.0, h.1)
 found_only kept c _ h = absurd h
 
--- what the events at a character tell
+-- what the events at a character report
 pub found_here : (t : List ℕ) (x : Char) → has_end t ≡ false → is_end t x.c ≡ false → AreThoseFound (IsFoundAfter t x) (findings_of (events_at t x))
 found_here t x running no_mark =
     subst (λ (es : List NoteEvent). AreThoseFound (IsFoundAfter t x) (findings_of es)) (sym same) (at_character (is_character t x.c) refl)
@@ -141,7 +141,7 @@ found_here t x running no_mark =
     at_character true e = at_viable e (is_viable nabc (kept_of t ++ x.c ∷ [])) refl
     at_character false e = inr ((λ found h. let f = h.1 in absurd (cc)), refl)
 
--- what the events at a mark tell
+-- what the events at a mark report
 pub unfinished_at : (k : List ℕ) (x : Char) → AreThoseFound (IsUnfinished k x.place) (findings_of (end_events k x))
 unfinished_at k x = go (is_snippet nabc k) refl
   where
@@ -192,11 +192,11 @@ record Split (t cs : List ℕ) (at : Place) : Type 0 where
   before : List ℕ
   rest : List ℕ
   found : List Finding
-  is_before : before_end_behind t cs ≡ before
+  is_before : before_end_after t cs ≡ before
   cut : cs ≡ before ++ rest
   unended : has_end (t ++ before) ≡ false
   finds : AreFound t (placed_characters_from at before) found
-  all : findings_of (concat_of (nabc_events_behind t (placed_characters_from at cs))) ≡ found ++ endings (t ++ before) rest (place_past at before)
+  all : findings_of (concat_of (nabc_events_after t (placed_characters_from at cs))) ≡ found ++ endings (t ++ before) rest (place_past at before)
   mark : StopsAt (t ++ before) rest
 
 split : (t cs : List ℕ) (at : Place) → has_end t ≡ false → Split t cs at
@@ -225,7 +225,7 @@ split t (c ∷ cs) at running = go (is_end t c) refl (λ r. split (t ++ c ∷ []
           before = [];
           rest = c ∷ cs;
           found = [];
-          is_before = ap (λ (b : Bool). cond b [] (c ∷ before_end_behind (t ++ c ∷ []) cs)) e;
+          is_before = ap (λ (b : Bool). cond b [] (c ∷ before_end_after (t ++ c ∷ []) cs)) e;
           cut = refl;
           unended = ap has_end (append-nil t) ∙ running;
           finds = refl;
@@ -241,11 +241,11 @@ split t (c ∷ cs) at running = go (is_end t c) refl (λ r. split (t ++ c ∷ []
           before = c ∷ s.before;
           rest = s.rest;
           found = findings_of (events_at t x) ++ s.found;
-          is_before = ap (λ (b : Bool). cond b [] (c ∷ before_end_behind (t ++ c ∷ []) cs)) e ∙ ap (λ (u : List ℕ). c ∷ u) s.is_before;
+          is_before = ap (λ (b : Bool). cond b [] (c ∷ before_end_after (t ++ c ∷ []) cs)) e ∙ ap (λ (u : List ℕ). c ∷ u) s.is_before;
           cut = ap (λ (u : List ℕ). c ∷ u) s.cut;
           unended = ap has_end (sym joined) ∙ s.unended;
           finds = (findings_of (events_at t x), s.found, refl, found_here t x running e, s.finds);
-          all = findings_append (events_at t x) (concat_of (nabc_events_behind (t ++ c ∷ []) (placed_characters_from (next_place at c) cs)))
+          all = findings_append (events_at t x) (concat_of (nabc_events_after (t ++ c ∷ []) (placed_characters_from (next_place at c) cs)))
               ∙ (ap (λ (u : List Finding). findings_of (events_at t x) ++ u) s.all
               ∙ (sym (append_assoc (findings_of (events_at t x)) s.found (endings ((t ++ c ∷ []) ++ s.before) s.rest (place_past (next_place at c) s.before)))
               ∙ ap (λ (u : List ℕ). (findings_of (events_at t x) ++ s.found) ++ endings u s.rest (place_past (next_place at c) s.before)) joined));
@@ -253,32 +253,32 @@ split t (c ∷ cs) at running = go (is_end t c) refl (λ r. split (t ++ c ∷ []
         }
 
 -- a text without an end, by its characters
-none_ends : (t front before behind : List ℕ) (c : ℕ) → has_end_behind t front ≡ false → front ≡ before ++ c ∷ behind → is_end (t ++ before) c ≡ false
+none_ends : (t front before behind : List ℕ) (c : ℕ) → has_end_after t front ≡ false → front ≡ before ++ c ∷ behind → is_end (t ++ before) c ≡ false
 none_ends t [] [] behind c e f = absurd (cc)
 none_ends t [] (d ∷ before) behind c e f = absurd (cc)
 none_ends t (d ∷ front) [] behind c e f =
     let g : c ≡ d = cc in
-    ap (λ (u : List ℕ). is_end u c) (append-nil t) ∙ (ap (is_end t) g ∙ (or_parts (is_end t d) (has_end_behind (t ++ d ∷ []) front) e).0)
+    ap (λ (u : List ℕ). is_end u c) (append-nil t) ∙ (ap (is_end t) g ∙ (or_parts (is_end t d) (has_end_after (t ++ d ∷ []) front) e).0)
 none_ends t (d ∷ front) (b ∷ before) behind c e f =
     let g : b ≡ d = cc in
     let h : front ≡ before ++ c ∷ behind = cc in
     ap (λ (u : List ℕ). is_end u c) (sym (append_assoc t (b ∷ []) before)) ∙ (ap (λ (a : ℕ). is_end ((t ++ a ∷ []) ++ before) c) g
-    ∙ none_ends (t ++ d ∷ []) front before behind c (or_parts (is_end t d) (has_end_behind (t ++ d ∷ []) front) e).1 h)
+    ∙ none_ends (t ++ d ∷ []) front before behind c (or_parts (is_end t d) (has_end_after (t ++ d ∷ []) front) e).1 h)
 
-none_end : (t front : List ℕ) → ((before behind : List ℕ) (c : ℕ) → front ≡ before ++ c ∷ behind → is_end (t ++ before) c ≡ false) → has_end_behind t front ≡ false
+none_end : (t front : List ℕ) → ((before behind : List ℕ) (c : ℕ) → front ≡ before ++ c ∷ behind → is_end (t ++ before) c ≡ false) → has_end_after t front ≡ false
 none_end t [] h = refl
 none_end t (d ∷ front) h =
-    ap (λ (b : Bool). b || has_end_behind (t ++ d ∷ []) front) (ap (λ (u : List ℕ). is_end u d) (sym (append-nil t)) ∙ h [] front d refl)
+    ap (λ (b : Bool). b || has_end_after (t ++ d ∷ []) front) (ap (λ (u : List ℕ). is_end u d) (sym (append-nil t)) ∙ h [] front d refl)
     ∙ none_end (t ++ d ∷ []) front (λ before behind c e. ap (λ (u : List ℕ). is_end u c) (append_assoc t (d ∷ []) before) ∙ h (d ∷ before) behind c (ap (λ (u : List ℕ). d ∷ u) e))
 
 -- what stands before the first mark
-before_is : (t front rest : List ℕ) → has_end_behind t front ≡ false → StopsAt (t ++ front) rest → before_end_behind t (front ++ rest) ≡ front
+before_is : (t front rest : List ℕ) → has_end_after t front ≡ false → StopsAt (t ++ front) rest → before_end_after t (front ++ rest) ≡ front
 unfolding StopsAt
 before_is t [] [] e m = refl
-before_is t [] (c ∷ rest) e m = ap (λ (b : Bool). cond b [] (c ∷ before_end_behind (t ++ c ∷ []) rest)) (ap (λ (u : List ℕ). is_end u c) (sym (append-nil t)) ∙ m)
+before_is t [] (c ∷ rest) e m = ap (λ (b : Bool). cond b [] (c ∷ before_end_after (t ++ c ∷ []) rest)) (ap (λ (u : List ℕ). is_end u c) (sym (append-nil t)) ∙ m)
 before_is t (c ∷ front) rest e m =
-    let f = or_parts (is_end t c) (has_end_behind (t ++ c ∷ []) front) e in
-    ap (λ (b : Bool). cond b [] (c ∷ before_end_behind (t ++ c ∷ []) (front ++ rest))) f.0
+    let f = or_parts (is_end t c) (has_end_after (t ++ c ∷ []) front) e in
+    ap (λ (b : Bool). cond b [] (c ∷ before_end_after (t ++ c ∷ []) (front ++ rest))) f.0
     ∙ ap (λ (u : List ℕ). c ∷ u) (before_is (t ++ c ∷ []) front rest f.1 (subst (λ (u : List ℕ). StopsAt u rest) (sym (append_assoc t (c ∷ []) front)) m))
 
 rest_is : (t front rest : List ℕ) → before_end t ≡ front → t ≡ front ++ rest → from_end t ≡ rest
@@ -304,11 +304,11 @@ read_by_relations at t r h =
       is_read = go s.before s.found s.rest s.mark
           (h.kept_is ∙ (ap (λ (u : List ℕ). encodes (kept_before u (from_end t))) s.is_before ∙ ap (λ (u : List ℕ). encodes (kept_before s.before u)) rest))
           (h.findings_are ∙ s.all)
-          (h.how_is ∙ (ap (λ (u : List ℕ). ending_behind u (from_end t)) s.is_before ∙ ap (ending_behind s.before) rest));
+          (h.how_is ∙ (ap (λ (u : List ℕ). ending_past u (from_end t)) s.is_before ∙ ap (ending_past s.before) rest));
     }
   where
     go : (front : List ℕ) (found : List Finding) (rest : List ℕ) → StopsAt front rest → string_bytes r.kept ≡ encodes (kept_before front rest)
-        → r.findings ≡ found ++ endings front rest (place_past at front) → r.how ≡ ending_behind front rest → IsRead at front (kept_of front) found rest r
+        → r.findings ≡ found ++ endings front rest (place_past at front) → r.how ≡ ending_past front rest → IsRead at front (kept_of front) found rest r
     go front found [] m k f w = (k, f ∙ append-nil found, w)
     go front found (c ∷ rest) m k f w = record {
       mark = m;
@@ -350,7 +350,7 @@ relations_are_computed at t r h = go h.rest h.cut h.is_read
     text [] i = i.0 ∙ ap encodes kept
     text (c ∷ rest) i = i.kept_is ∙ ap encodes (trims_is nabc refl h.kept i.whole i.trims ∙ ap (trim nabc) kept)
 
-    how : (rest : List ℕ) → IsRead at h.front h.kept h.found rest r → r.how ≡ ending_behind h.front rest
+    how : (rest : List ℕ) → IsRead at h.front h.kept h.found rest r → r.how ≡ ending_past h.front rest
     how [] i = i.2
     how (c ∷ rest) i = i.how_is
 
@@ -367,5 +367,5 @@ relations_are_computed at t r h = go h.rest h.cut h.is_read
           kept_is = text rest i ∙ (ap (λ (u : List ℕ). encodes (kept_before u rest)) (sym front) ∙ ap (λ (u : List ℕ). encodes (kept_before (before_end t) u)) (sym later));
           findings_are = at_end rest i ∙ (ap (λ (u : List Finding). u ++ endings h.front rest (place_past at h.front)) found
               ∙ (ap (λ (u : List ℕ). s.found ++ endings u rest (place_past at u)) (sym same) ∙ (ap (λ (u : List ℕ). s.found ++ endings s.before u (place_past at s.before)) (sym behind) ∙ sym s.all)));
-          how_is = how rest i ∙ (ap (λ (u : List ℕ). ending_behind u rest) (sym front) ∙ ap (ending_behind (before_end t)) (sym later));
+          how_is = how rest i ∙ (ap (λ (u : List ℕ). ending_past u rest) (sym front) ∙ ap (ending_past (before_end t)) (sym later));
         }

@@ -29,9 +29,9 @@ use Rattle.gabc_notes.specs.declared.stage.NoteEvent.TheVariants.{Kept, Ended}
 use Rattle.gabc_nabc.specs.Table.{nabc}
 use Rattle.gabc_nabc.specs.CharClass.{class_of_character}
 use Rattle.gabc_nabc.specs.witness.DescriptorMachine.{next_state}
-use Rattle.gabc_nabc.specs.Events.{in_comment, is_character, is_end, has_end, kept_of, first_of, is_missing, bytes_in, end_events, events_at, nabc_events_behind, nabc_events}
+use Rattle.gabc_nabc.specs.Events.{in_comment, is_character, is_end, has_end, kept_of, first_of, is_missing, bytes_in, end_events, events_at, nabc_events_after, nabc_events}
 use Rattle.gabc_notes.specs.Events.{finding_event, end_by_mark}
-use Rattle.gabc_nabc.specs.SnippetRead.{before_end_behind, before_end, from_end, kept_before}
+use Rattle.gabc_nabc.specs.SnippetRead.{before_end_after, before_end, from_end, kept_before}
 use Rattle.gabc_nabc.specs.ReadAgain.{IsNabcReadAgain}
 use Rattle.gabc_nabc.specs.declared.class.NabcClass.TheVariants.{Other}
 use Rattle.gabc_nabc.proofs.grammar.LawsOfEvents.{no_end, one_end, silent}
@@ -47,7 +47,7 @@ differs k c v d o e =
     let y = state_of nabc machine snippets_read k (viable_prefix nabc k (c ∷ []) v) in
     left_out nabc machine snippets_read y.0 k c y.1 (ap (λ (n : ℕ). next_state y.0 (class_of_character n)) e ∙ (ap (next_state y.0) o ∙ stops y.0)) v
 
--- behind a text without a comment such a character is one of the snippet's, ends it not, and is kept
+-- after a text without a comment such a character is one of the snippet's, ends it not, and is kept
 pub record GoesOn (u : List ℕ) (c : ℕ) : Type 0 where
   pub comment : in_comment (u ++ c ∷ []) ≡ false
   pub character : is_character u c ≡ true
@@ -95,14 +95,14 @@ mark_is Close c e = rw e refl
 mark_is Next c h = rw h.0 refl
 mark_is (Cut place) c h = absurd h
 
--- behind the text u: t is read to its mark
+-- after the text u: t is read to its mark
 pub record ReadsOn (at : Place) (u t : List ℕ) (mark : ℕ) (rest : List ℕ) : Type 0 where
-  pub before : before_end_behind u (t ++ mark ∷ rest) ≡ t
+  pub before : before_end_after u (t ++ mark ∷ rest) ≡ t
   pub kept_is : kept_of (u ++ t) ≡ u ++ t
-  pub chars : kept_chars_of (concat_of (nabc_events_behind u (placed_characters_from at (t ++ mark ∷ rest)))) ≡ placed_characters_from at t
-  pub unended : ends_of (concat_of (take (length t) (nabc_events_behind u (placed_characters_from at (t ++ mark ∷ rest))))) ≡ []
-  pub ended : ends_of (concat_of (take (suc (length t)) (nabc_events_behind u (placed_characters_from at (t ++ mark ∷ rest))))) ≡ (end_by_mark mark, bytes_in (trim nabc (u ++ t))) ∷ []
-  pub all_warn : AllWarnings (concat_of (nabc_events_behind u (placed_characters_from at (t ++ mark ∷ rest))))
+  pub chars : kept_chars_of (concat_of (nabc_events_after u (placed_characters_from at (t ++ mark ∷ rest)))) ≡ placed_characters_from at t
+  pub unended : ends_of (concat_of (take (length t) (nabc_events_after u (placed_characters_from at (t ++ mark ∷ rest))))) ≡ []
+  pub ended : ends_of (concat_of (take (suc (length t)) (nabc_events_after u (placed_characters_from at (t ++ mark ∷ rest))))) ≡ (end_by_mark mark, bytes_in (trim nabc (u ++ t))) ∷ []
+  pub all_warn : AllWarnings (concat_of (nabc_events_after u (placed_characters_from at (t ++ mark ∷ rest))))
 
 -- at the mark
 reads_mark : (at : Place) (u : List ℕ) (mark : ℕ) (rest : List ℕ) → ((mark == 41) || (mark == 124)) ≡ true
@@ -113,11 +113,11 @@ reads_mark at u mark rest m n o k s =
     let ends : is_end u mark ≡ true = rw (n, m) refl in
     let e : events_at u x ≡ end_events (kept_of u) x = rw (o, ends) refl in
     let w = end_warns (kept_of u) x (ap (is_snippet nabc) k ∙ s) in
-    let all : concat_of (nabc_events_behind u (x ∷ left)) ≡ end_events (kept_of u) x =
-    ap (λ (l : List NoteEvent). l ++ concat_of (nabc_events_behind (u ++ mark ∷ []) left)) e
+    let all : concat_of (nabc_events_after u (x ∷ left)) ≡ end_events (kept_of u) x =
+    ap (λ (l : List NoteEvent). l ++ concat_of (nabc_events_after (u ++ mark ∷ []) left)) e
     ∙ (ap (λ (l : List NoteEvent). end_events (kept_of u) x ++ l) (silent (u ++ mark ∷ []) left (end_more u mark ∙ rw (o, ends) refl)) ∙ append-nil (end_events (kept_of u) x)) in
     record {
-      before = ap (λ (b : Bool). cond b [] (mark ∷ before_end_behind (u ++ mark ∷ []) rest)) ends;
+      before = ap (λ (b : Bool). cond b [] (mark ∷ before_end_after (u ++ mark ∷ []) rest)) ends;
       kept_is = subst (λ (t : List ℕ). kept_of t ≡ t) (sym (append-nil u)) k;
       chars = ap kept_chars_of all ∙ w.0;
       unended = refl;
@@ -139,12 +139,12 @@ reads_on at u (c ∷ t) mark rest m n o k s =
     let unknown : Bool = is_missing (first_of (kept_of u)) c in
     let e : events_at u x ≡ Kept x ∷ cond unknown (finding_event at W7 ∷ []) [] = rw (o, g.no_end, g.character, tested) refl in
     let w = kept_warns unknown x in
-    let lists : List (List NoteEvent) = nabc_events_behind (u ++ c ∷ []) left in
+    let lists : List (List NoteEvent) = nabc_events_after (u ++ c ∷ []) left in
     let later : List NoteEvent = concat_of lists in
     let none : ends_of (events_at u x) ≡ [] = no_end u x o g.no_end in
     let y = reads_on (next_place at c) (u ++ c ∷ []) t mark rest m g.comment (end_more u c ∙ rw (o, g.no_end) refl) g.kept_is more in
     record {
-      before = ap (λ (b : Bool). cond b [] (c ∷ before_end_behind (u ++ c ∷ []) (t ++ mark ∷ rest))) g.no_end ∙ ap (λ (l : List ℕ). c ∷ l) y.before;
+      before = ap (λ (b : Bool). cond b [] (c ∷ before_end_after (u ++ c ∷ []) (t ++ mark ∷ rest))) g.no_end ∙ ap (λ (l : List ℕ). c ∷ l) y.before;
       kept_is = subst (λ (l : List ℕ). kept_of l ≡ l) (append_assoc u (c ∷ []) t) y.kept_is;
       chars = kept_chars-append (events_at u x) later ∙ (ap (λ (l : List NoteEvent). kept_chars_of l ++ kept_chars_of later) e
           ∙ (ap (λ (l : List Char). l ++ kept_chars_of later) w.0 ∙ ap (λ (l : List Char). x ∷ l) y.chars));

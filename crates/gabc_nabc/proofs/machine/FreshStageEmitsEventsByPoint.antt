@@ -14,7 +14,7 @@ use Rattle.gabc_patterns.proofs.StatesAfterTexts.{Stands, stands_first, stands_n
 use Rattle.gabc_patterns.proofs.StatesFollowExamples.{viable_next}
 use Rattle.gabc_nabc.specs.Table.{nabc}
 use Rattle.gabc_nabc.specs.CharClass.{class_of_character}
-use Rattle.gabc_nabc.specs.Events.{in_comment, is_character, is_end, has_end, kept_of, begins_code, joins, takes_code, first_of, first_behind, before_last, bytes_in, is_missing, end_events, events_at, nabc_events_behind}
+use Rattle.gabc_nabc.specs.Events.{in_comment, is_character, is_end, has_end, kept_of, begins_code, joins, takes_code, first_of, first_after, before_last, bytes_in, is_missing, end_events, events_at, nabc_events_after}
 use Rattle.gabc_notes.specs.Events.{finding_event, end_by_mark}
 use Rattle.gabc_nabc.specs.witness.DescriptorMachine.{next_state, whole_at, awaits, first_at, comment_in, stage_events_at, stage_after, events_left}
 use Rattle.gabc_notes.specs.witness.StageEvents.{count_plus}
@@ -36,7 +36,7 @@ abbrev pub letters_agree_at : DescriptorState → Option DescriptorState → ℕ
 letters_agree_at s None c = true
 letters_agree_at s (Some z) c = alike (awaits z) ((whole_at s || is_joined s) && begins_code c) && alike (is_joined z) (c == 33)
 
--- the next state awaits the second letter of a code just where a code may begin, and a letter that begins one stands; it is behind a `!` just behind one
+-- the next state awaits the second letter of a code just where a code may begin, and a letter that begins one stands; it is after a `!` just after one
 abbrev pub letters_agree : DescriptorState → ℕ → Bool
 letters_agree s c = letters_agree_at s (next_state s (class_of_character c)) c
 
@@ -85,7 +85,7 @@ letters_at s z c e = elim (dec_lt c 128) [
         let p = and_true (alike (awaits z) ((whole_at s || is_joined s) && begins_code d)) (alike (is_joined z) (d == 33)) t in
         (alike_equal (awaits z) ((whole_at s || is_joined s) && begins_code d) p.0, alike_equal (is_joined z) (d == 33) p.1)
 
--- ---- the stage behind a text
+-- ---- the stage after a text
 
 -- The text has no end, and the stage knows what it needs of it.
 pub record Reached (t : List ℕ) (st : NabcStage) : Type 0 where
@@ -137,7 +137,7 @@ goes_on t st c z r e f n =
     let prefix : bytes_in (trim nabc v) ≡ bytes_in (cond (whole_at z) v (trim nabc u)) =
     ap bytes_in (trim_more u c ∙ ap (λ (b : Bool). cond b v (trim nabc u)) (whole_is nabc machine snippets_read z v here)) in
     let first : first_of v ≡ cond (takes_code u && begins_code c) (Some c) None =
-    ap (λ (l : List ℕ). first_behind (before_last v) l) (last_is u c) ∙ ap (λ (q : List ℕ). first_behind q (c ∷ [])) (before_last_is u c) in
+    ap (λ (l : List ℕ). first_after (before_last v) l) (last_is u c) ∙ ap (λ (q : List ℕ). first_after q (c ∷ [])) (before_last_is u c) in
     record {
       running = r.running;
       unended = end_more t c ∙ (ap (λ (b : Bool). b || is_end t c) r.unended ∙ e);
@@ -155,8 +155,8 @@ goes_on t st c z r e f n =
 
 -- ---- what is emitted
 
--- nothing behind the end
-pub after_end : (t : List ℕ) (st : NabcStage) (xs : List Char) → st.ended ≡ true → has_end t ≡ true → events_left st xs ≡ nabc_events_behind t xs
+-- nothing after the end
+pub after_end : (t : List ℕ) (st : NabcStage) (xs : List Char) → st.ended ≡ true → has_end t ≡ true → events_left st xs ≡ nabc_events_after t xs
 after_end t st [] e f = rw (e, f) refl
 after_end t st (x ∷ xs) e f =
     let more : has_end (t ++ x.c ∷ []) ≡ true = end_more t x.c ∙ ap (λ (b : Bool). b || is_end t x.c) f in
@@ -167,7 +167,7 @@ after_end t st (x ∷ xs) e f =
 
 -- a character, and what follows it
 one : (t : List ℕ) (st next : NabcStage) (x : Char) (xs : List Char) → stage_events_at st x ≡ events_at t x → stage_after st x.c ≡ next
-    → events_left next xs ≡ nabc_events_behind (t ++ x.c ∷ []) xs → events_left st (x ∷ xs) ≡ nabc_events_behind t (x ∷ xs)
+    → events_left next xs ≡ nabc_events_after (t ++ x.c ∷ []) xs → events_left st (x ∷ xs) ≡ nabc_events_after t (x ∷ xs)
 one t st next x xs g s h =
     ap (λ (l : List NoteEvent). l ∷ events_left (stage_after st x.c) xs) g
     ∙ ap (λ (l : List (List NoteEvent)). events_at t x ∷ l) (ap (λ (n : NabcStage). events_left n xs) s ∙ h)
@@ -181,15 +181,15 @@ one_unless true y = refl
 one_unless false y = refl
 
 -- a stage that knows what it needs of a text emits what follows it
-pub goes_on_emitted : (xs : List Char) (t : List ℕ) (st : NabcStage) → Reached t st → events_left st xs ≡ nabc_events_behind t xs
+pub goes_on_emitted : (xs : List Char) (t : List ℕ) (st : NabcStage) → Reached t st → events_left st xs ≡ nabc_events_after t xs
 goes_on_emitted [] t st r = rw (r.running, r.unended, r.kept) refl
 goes_on_emitted (x ∷ xs) t st r =
     go (in_comment t) ((x.c == 41) || (x.c == 124)) (is_in x.c (37 ∷ 32 ∷ 9 ∷ 10 ∷ [])) (next_state st.state (class_of_character x.c)) refl refl refl refl (goes_on_emitted xs)
   where
     go : (b m k : Bool) (o : Option DescriptorState) → in_comment t ≡ b → (x.c == 41) || (x.c == 124) ≡ m → is_in x.c (37 ∷ 32 ∷ 9 ∷ 10 ∷ []) ≡ k
         → next_state st.state (class_of_character x.c) ≡ o
-        → ((u : List ℕ) (s : NabcStage) → Reached u s → events_left s xs ≡ nabc_events_behind u xs)
-        → events_left st (x ∷ xs) ≡ nabc_events_behind t (x ∷ xs)
+        → ((u : List ℕ) (s : NabcStage) → Reached u s → events_left s xs ≡ nabc_events_after u xs)
+        → events_left st (x ∷ xs) ≡ nabc_events_after t (x ∷ xs)
     go true m k o e f g n later =
         let open_comment : st.comment ≡ true = r.comment ∙ e in
         let no_end : is_end t x.c ≡ false = rw e refl in
@@ -256,5 +256,5 @@ fresh_reached = record {
   joined = refl;
 }
 
-pub fresh : (xs : List Char) → events_left fresh_stage xs ≡ nabc_events_behind [] xs
+pub fresh : (xs : List Char) → events_left fresh_stage xs ≡ nabc_events_after [] xs
 fresh xs = goes_on_emitted xs [] fresh_stage fresh_reached

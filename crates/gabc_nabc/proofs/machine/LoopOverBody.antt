@@ -23,10 +23,10 @@ use Rattle.gabc_patterns.specs.Derivative.{is_viable}
 use Rattle.gabc_patterns.specs.Function.{trim, keep_from}
 use Rattle.gabc_patterns.proofs.FunctionsMeetRelations.{trim_trims}
 use Rattle.gabc_nabc.specs.Table.{nabc}
-use Rattle.gabc_nabc.specs.Events.{is_character, is_end, has_end, characters_behind, kept_of, bytes_in, events_at, nabc_events_behind, cut_events, nabc_events}
+use Rattle.gabc_nabc.specs.Events.{is_character, is_end, has_end, characters_after, kept_of, bytes_in, events_at, nabc_events_after, cut_events, nabc_events}
 use Rattle.gabc_notes.specs.Events.{end_by_mark}
 use Rattle.gabc_notes.specs.SnippetRead.{findings_of, ending_at}
-use Rattle.gabc_nabc.specs.SnippetRead.{before_end_behind, before_end, from_end, kept_before, ending_behind}
+use Rattle.gabc_nabc.specs.SnippetRead.{before_end_after, before_end, from_end, kept_before, ending_past}
 use Rattle.gabc_nabc.specs.witness.DescriptorMachine.{stage_events_at, stage_after, events_left, events_of_cut}
 use Rattle.gabc_nabc.specs.machine.BuiltNabc.{BuiltNabc, with_events}
 use Rattle.gabc_nabc.specs.declared.stage.NabcStage.{NabcStage}
@@ -38,13 +38,13 @@ use Rattle.gabc_nabc.proofs.machine.EventsBuildSnippet.{gathers_end, gathers_on}
 none_longer : (c : ℕ) (cs : List ℕ) → length (encodes (c ∷ cs)) ≡ len_utf8 c + length (encodes cs)
 none_longer c cs = length-append (encode c) (encodes cs) ∙ ap (λ (n : ℕ). n + length (encodes cs)) (length-encode c)
 
-characters_short : (s cs : List ℕ) → length (encodes (characters_behind s cs)) ≤ length (encodes cs)
+characters_short : (s cs : List ℕ) → length (encodes (characters_after s cs)) ≤ length (encodes cs)
 characters_short s [] = omega arith
 characters_short s (c ∷ cs) = go (is_character s c) (characters_short (s ++ c ∷ []) cs)
   where
-    go : (b : Bool) → length (encodes (characters_behind (s ++ c ∷ []) cs)) ≤ length (encodes cs)
-        → length (encodes (cond b (c ∷ characters_behind (s ++ c ∷ []) cs) (characters_behind (s ++ c ∷ []) cs))) ≤ length (encodes (c ∷ cs))
-    go true h = omega (arith, h, none_longer c (characters_behind (s ++ c ∷ []) cs), none_longer c cs)
+    go : (b : Bool) → length (encodes (characters_after (s ++ c ∷ []) cs)) ≤ length (encodes cs)
+        → length (encodes (cond b (c ∷ characters_after (s ++ c ∷ []) cs) (characters_after (s ++ c ∷ []) cs))) ≤ length (encodes (c ∷ cs))
+    go true h = omega (arith, h, none_longer c (characters_after (s ++ c ∷ []) cs), none_longer c cs)
     go false h = omega (arith, h, none_longer c cs)
 
 keep_short : (kept cs : List ℕ) → length (encodes (keep_from nabc kept cs)) ≤ length (encodes kept) + length (encodes cs)
@@ -59,15 +59,15 @@ keep_short kept (c ∷ cs) = go (is_viable nabc (kept ++ c ∷ [])) (λ u. keep_
     go false h = omega (arith, h kept, none_longer c cs)
 
 kept_short : (t : List ℕ) → length (encodes (kept_of t)) ≤ length (encodes t)
-kept_short t = omega (arith, keep_short [] (characters_behind [] t), characters_short [] t)
+kept_short t = omega (arith, keep_short [] (characters_after [] t), characters_short [] t)
 
--- ---- behind the end nothing is emitted
+-- ---- after the end nothing is emitted
 
-quiet : (t : List ℕ) (xs : List Char) → has_end t ≡ true → findings_of (concat_of (nabc_events_behind t xs)) ≡ []
+quiet : (t : List ℕ) (xs : List Char) → has_end t ≡ true → findings_of (concat_of (nabc_events_after t xs)) ≡ []
 quiet t [] e = rw e refl
 quiet t (x ∷ xs) e =
     let none : events_at t x ≡ [] = rw e refl in
-    ap (λ (l : List NoteEvent). findings_of (l ++ concat_of (nabc_events_behind (t ++ x.c ∷ []) xs))) none
+    ap (λ (l : List NoteEvent). findings_of (l ++ concat_of (nabc_events_after (t ++ x.c ∷ []) xs))) none
     ∙ quiet (t ++ x.c ∷ []) xs (end_more t x.c ∙ ap (λ (b : Bool). b || is_end t x.c) e)
 
 -- ---- the loop
@@ -75,12 +75,12 @@ quiet t (x ∷ xs) e =
 -- Of the text t, whose first character stands at that place, the characters done are read, and rest is not.
 pub record Reaches (at : Place) (t done rest : List ℕ) (place : Place) (st : NabcStage) (g : BuiltNabc) (index : ℕ) : Type 0 where
   pub cut : done ++ rest ≡ t
-  pub follows : (xs : List Char) → events_left st xs ≡ nabc_events_behind done xs
+  pub follows : (xs : List Char) → events_left st xs ≡ nabc_events_after done xs
   pub unended : has_end done ≡ false
   pub kept : g.kept ≡ encodes (kept_of done)
   pub opened : g.end ≡ None
-  pub findings : g.findings ++ findings_of (concat_of (nabc_events_behind done (placed_characters_from place rest))) ≡ findings_of (concat_of (nabc_events (placed_characters_from at t)))
-  pub prefix : before_end t ≡ done ++ before_end_behind done rest
+  pub findings : g.findings ++ findings_of (concat_of (nabc_events_after done (placed_characters_from place rest))) ≡ findings_of (concat_of (nabc_events (placed_characters_from at t)))
+  pub prefix : before_end t ≡ done ++ before_end_after done rest
   pub counted : index ≡ length (encodes done)
 
 abbrev first_list : List (List NoteEvent) → List NoteEvent
@@ -92,14 +92,14 @@ other_lists [] = []
 other_lists (l ∷ ls) = ls
 
 -- what a character gives is what is emitted of it
-events_here : (done : List ℕ) (st : NabcStage) (x : Char) → ((xs : List Char) → events_left st xs ≡ nabc_events_behind done xs) → stage_events_at st x ≡ events_at done x
+events_here : (done : List ℕ) (st : NabcStage) (x : Char) → ((xs : List Char) → events_left st xs ≡ nabc_events_after done xs) → stage_events_at st x ≡ events_at done x
 events_here done st x h = ap first_list (h (x ∷ []))
 
 findings_on : (g now : BuiltNabc) (done cs : List ℕ) (x : Char) → now.findings ≡ g.findings ++ findings_of (events_at done x)
-    → now.findings ++ findings_of (concat_of (nabc_events_behind (done ++ x.c ∷ []) (placed_characters_from (next_place x.place x.c) cs)))
-    ≡ g.findings ++ findings_of (concat_of (nabc_events_behind done (x ∷ placed_characters_from (next_place x.place x.c) cs)))
+    → now.findings ++ findings_of (concat_of (nabc_events_after (done ++ x.c ∷ []) (placed_characters_from (next_place x.place x.c) cs)))
+    ≡ g.findings ++ findings_of (concat_of (nabc_events_after done (x ∷ placed_characters_from (next_place x.place x.c) cs)))
 findings_on g now done cs x e =
-    let later : List NoteEvent = concat_of (nabc_events_behind (done ++ x.c ∷ []) (placed_characters_from (next_place x.place x.c) cs)) in
+    let later : List NoteEvent = concat_of (nabc_events_after (done ++ x.c ∷ []) (placed_characters_from (next_place x.place x.c) cs)) in
     ap (λ (l : List Finding). l ++ findings_of later) e
     ∙ (append_assoc g.findings (findings_of (events_at done x)) (findings_of later)
     ∙ ap (λ (l : List Finding). g.findings ++ l) (sym (findings_append (events_at done x) later)))
@@ -130,7 +130,7 @@ goes_on at t done cs place then c st next g now index later r e f n p i = go (is
           kept = ap (λ (y : BuiltNabc). y.kept) on;
           opened = n;
           findings = findings_on g now done cs x (ap (λ (y : BuiltNabc). y.findings) on) ∙ r.findings;
-          prefix = r.prefix ∙ (ap (λ (b : Bool). done ++ cond b [] (c ∷ before_end_behind (done ++ c ∷ []) cs)) h ∙ sym (append_assoc done (c ∷ []) (before_end_behind (done ++ c ∷ []) cs)));
+          prefix = r.prefix ∙ (ap (λ (b : Bool). done ++ cond b [] (c ∷ before_end_after (done ++ c ∷ []) cs)) h ∙ sym (append_assoc done (c ∷ []) (before_end_after (done ++ c ∷ []) cs)));
           counted = omega (arith, i, before, bytes, length-append (encodes done) (encodes (c ∷ [])), none_longer c []);
         })
 
@@ -164,7 +164,7 @@ place_fits p next c n m k l h e f g = rw (g ∙ placed_if p (is_line_feed c)) (g
 pub record Ends (at : Place) (t kept : List ℕ) (found : List Finding) (way : SnippetEnding) : Type 0 where
   pub kept_is : kept ≡ encodes (kept_before (before_end t) (from_end t))
   pub findings_are : found ≡ findings_of (concat_of (nabc_events (placed_characters_from at t)))
-  pub how_is : way ≡ ending_behind (before_end t) (from_end t)
+  pub how_is : way ≡ ending_past (before_end t) (from_end t)
 
 -- the end of the text
 pub cut_open : (at : Place) (t done : List ℕ) (place : Place) (st : NabcStage) (g now : BuiltNabc) (index : ℕ) → Reaches at t done [] place st g index
@@ -226,14 +226,14 @@ ends at t done cs place c st g now index len end r f n u small = go (is_end done
     go false h = absurd (let k = sym r.opened ∙ (sym (ap (λ (y : BuiltNabc). y.end) (events_now ∙ gathers_on g done x r.unended h r.kept)) ∙ n) in cc)
     go true h =
         let on : now ≡ record g { findings = g.findings ++ findings_of (events_at done x); end = Some (end_by_mark c, bytes_in (trim nabc (kept_of done))) } = events_now ∙ gathers_end g done x r.unended h in
-        let prefix : before_end t ≡ done = r.prefix ∙ (ap (λ (b : Bool). done ++ cond b [] (c ∷ before_end_behind (done ++ c ∷ []) cs)) h ∙ append-nil done) in
+        let prefix : before_end t ≡ done = r.prefix ∙ (ap (λ (b : Bool). done ++ cond b [] (c ∷ before_end_after (done ++ c ∷ []) cs)) h ∙ append-nil done) in
         let from : from_end t ≡ c ∷ cs = ap (λ (v : List ℕ). drop (length v) t) prefix ∙ (ap (drop (length done)) (sym r.cut) ∙ drop-append_seam done (c ∷ cs)) in
         let kept : now.kept ≡ encodes (kept_of done) = ap (λ (y : BuiltNabc). y.kept) on ∙ r.kept in
         let few : length (encodes (kept_of done)) < 2 ^ 64 = (let i = fits at t done cs place c st g index r in let d : index ≡ length (encodes done) = r.counted in omega (arith, i, d, small, kept_short done)) in
         let good : scalars (kept_of done) ≡ true = ap scalars (chars_from_encodes (kept_of done) now.kept u (sym kept)) ∙ scalars-chars now.kept u in
         let both : Some (end, len) ≡ Some (end_by_mark c, bytes_in (trim nabc (kept_of done))) = sym n ∙ ap (λ (y : BuiltNabc). y.end) on in
         let cut = trimmed (kept_of done) now.kept len kept good (ap bytes_emitted both) few in
-        let later : findings_of (concat_of (nabc_events_behind (done ++ c ∷ []) (placed_characters_from (next_place place c) cs))) ≡ [] = quiet (done ++ c ∷ []) (placed_characters_from (next_place place c) cs) (end_more done c ∙ rw (r.unended, h) refl) in (
+        let later : findings_of (concat_of (nabc_events_after (done ++ c ∷ []) (placed_characters_from (next_place place c) cs))) ≡ [] = quiet (done ++ c ∷ []) (placed_characters_from (next_place place c) cs) (end_more done c ∙ rw (r.unended, h) refl) in (
           cut.1,
           record {
             kept_is = cut.0 ∙ rw (from, prefix) refl;

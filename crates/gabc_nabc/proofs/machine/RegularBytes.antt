@@ -46,7 +46,7 @@ one_ascii c h (suc i) = omega arith
 
 -- ---- the first bytes of a text
 
--- The first n bytes of the text were read, of so many of these the longest regular prefix. The reading stands in that state.
+-- The first n bytes of the text were read, of n of these the longest regular prefix. The reading stands in that state.
 pub record IsReadByBytes (text : List ℕ) (state : RegularState) (n regular : ℕ) : Type 0 where
   pub within : n ≤ length text
   pub ascii : IsAscii (take n text)

@@ -21,7 +21,7 @@ use Rattle.gabc_notes.specs.declared.stage.NoteEvent.{NoteEvent}
 use Rattle.gabc_notes.specs.declared.stage.NoteEvent.TheVariants.{Kept, Ended}
 use Rattle.gabc_nabc.specs.CharClass.{class_of_character}
 use Rattle.gabc_nabc.specs.Table.{nabc}
-use Rattle.gabc_nabc.specs.Events.{bytes_in, events_at, has_end, in_comment, is_end, is_missing, kept_of, nabc_events, nabc_events_behind}
+use Rattle.gabc_nabc.specs.Events.{bytes_in, events_at, has_end, in_comment, is_end, is_missing, kept_of, nabc_events, nabc_events_after}
 use Rattle.gabc_nabc.specs.Regular.{IsRegular}
 use Rattle.gabc_nabc.specs.machine.Regular.{regular_after, regular_by}
 use Rattle.gabc_nabc.specs.witness.DescriptorMachine.{first_at, next_state, whole_at}
@@ -45,7 +45,7 @@ pub record Reads (t : List ℕ) (r : RegularState) : Type 0 where
   pub no_comment : in_comment t ≡ false
   pub kept : kept_of t ≡ t
   pub is : r ≡ seen st
-  pub events : (at : Place) (xs : List Char) → nabc_events (placed_characters_from at t ++ xs) ≡ each_kept (placed_characters_from at t) ++ nabc_events_behind t xs
+  pub events : (at : Place) (xs : List Char) → nabc_events (placed_characters_from at t ++ xs) ≡ each_kept (placed_characters_from at t) ++ nabc_events_after t xs
 
 pub reads_first : Reads [] (record { part = Start; letter = 47 })
 reads_first = record {
@@ -87,9 +87,9 @@ module _ (t : List ℕ) (r : RegularState) (h : Reads t r) where
           ap (λ (l : List Char). nabc_events (l ++ xs)) placed
           ∙ (ap nabc_events (append_assoc (placed_characters_from at t) (x ∷ []) xs)
           ∙ (h.events at (x ∷ xs)
-          ∙ (ap (λ (l : List NoteEvent). each_kept (placed_characters_from at t) ++ l ∷ nabc_events_behind (t ++ c ∷ []) xs) (emits false named (place_past at t))
-          ∙ (sym (append_assoc (each_kept (placed_characters_from at t)) ((Kept x ∷ []) ∷ []) (nabc_events_behind (t ++ c ∷ []) xs))
-          ∙ ap (λ (l : List (List NoteEvent)). l ++ nabc_events_behind (t ++ c ∷ []) xs) (sym (map-append only_kept (placed_characters_from at t) (x ∷ [])) ∙ ap each_kept (sym placed)))))));
+          ∙ (ap (λ (l : List NoteEvent). each_kept (placed_characters_from at t) ++ l ∷ nabc_events_after (t ++ c ∷ []) xs) (emits false named (place_past at t))
+          ∙ (sym (append_assoc (each_kept (placed_characters_from at t)) ((Kept x ∷ []) ∷ []) (nabc_events_after (t ++ c ∷ []) xs))
+          ∙ ap (λ (l : List (List NoteEvent)). l ++ nabc_events_after (t ++ c ∷ []) xs) (sym (map-append only_kept (placed_characters_from at t) (x ∷ [])) ∙ ap each_kept (sym placed)))))));
     }
 
 -- a character more
@@ -122,7 +122,7 @@ reads_regular t r h e = record {
       let here : events_at t x ≡ Ended (end_by_mark mark) (bytes_in (trim nabc (kept_of t))) ∷ [] = rw (h.reached.unended, ends, ap (is_snippet nabc) h.kept ∙ whole) refl in
       ap nabc_events (placed_append at t (mark ∷ []))
       ∙ (h.events at (x ∷ [])
-      ∙ ap (λ (l : List NoteEvent). each_kept (placed_characters_from at t) ++ l ∷ nabc_events_behind (t ++ mark ∷ []) [])
+      ∙ ap (λ (l : List NoteEvent). each_kept (placed_characters_from at t) ++ l ∷ nabc_events_after (t ++ mark ∷ []) [])
       (here ∙ ap (λ (k : NoteEnd). Ended k (bytes_in (trim nabc (kept_of t))) ∷ []) (mark_ends how mark m)
       ∙ ap (λ (u : List ℕ). Ended how (bytes_in (trim nabc u)) ∷ []) h.kept
       ∙ ap (λ (u : List ℕ). Ended how (bytes_in u) ∷ []) (trim_snippet nabc refl t is))
@@ -168,7 +168,7 @@ stuck_there t u c r h e i = by (next_state h.st.state (class_of_character c)) re
     kept : each_kept (placed_characters_from start (t ++ c ∷ u)) ≡ each_kept (placed_characters_from start t) ++ (Kept x ∷ []) ∷ each_kept (placed_characters_from (next_place (place_past start t) c) u)
     kept = ap each_kept (placed_append start t (c ∷ u)) ∙ map-append only_kept (placed_characters_from start t) (x ∷ placed_characters_from (next_place (place_past start t) c) u)
 
-    both_ways : nabc_events_behind t (x ∷ later) ≡ (Kept x ∷ []) ∷ rest
+    both_ways : nabc_events_after t (x ∷ later) ≡ (Kept x ∷ []) ∷ rest
     both_ways = append_cancel_left (each_kept (placed_characters_from start t)) _ _
         (sym (h.events start (x ∷ later)) ∙ (ap nabc_events (sym text) ∙ (i.events start Close 41 refl
         ∙ (ap (λ (l : List (List NoteEvent)). l ++ (Ended Close (bytes_in (t ++ c ∷ u)) ∷ []) ∷ ([] ∷ [])) kept

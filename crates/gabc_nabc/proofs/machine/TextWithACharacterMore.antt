@@ -1,4 +1,4 @@
--- What is said of a text, when a character stands behind it.
+-- What is said of a text, when a character stands after it.
 use Rattle.std.proofs.Common.{◌≡◌, ℕ, ◌-◌, List, [], ◌∷◌, ◌++◌, Bool, true, false, cond, not, ◌&&◌, ◌||◌, ◌==◌, refl, sym, ap, ◌∙◌, length, take, drop, append_assoc, append-nil, length-append, arith}
 use Rattle.std.proofs.lemmas.List.Folds.{list_any-append}
 use Rattle.std.proofs.Math.Seq.{take-append_seam, drop-append_seam}
@@ -11,7 +11,7 @@ use Rattle.gabc_patterns.specs.Derivative.{is_snippet, is_viable}
 use Rattle.gabc_patterns.specs.Function.{keep, trim, trim_from}
 use Rattle.gabc_patterns.proofs.FunctionsMeetRelations.{keep_append}
 use Rattle.gabc_nabc.specs.Table.{nabc}
-use Rattle.gabc_nabc.specs.Events.{in_comment, is_character, is_end, characters_behind, has_end_behind, has_end, kept_of, last_of, before_last, bytes_in}
+use Rattle.gabc_nabc.specs.Events.{in_comment, is_character, is_end, characters_after, has_end_after, has_end, kept_of, last_of, before_last, bytes_in}
 use Rattle.gabc_nabc.specs.witness.DescriptorMachine.{comment_in}
 use Rattle.gabc_notes.specs.witness.StageEvents.{count_plus}
 
@@ -51,21 +51,21 @@ or_assoc true b c = refl
 or_assoc false b c = refl
 
 -- whether it has an end
-end_from : (s cs : List ℕ) (c : ℕ) → has_end_behind s (cs ++ c ∷ []) ≡ has_end_behind s cs || is_end (s ++ cs) c
+end_from : (s cs : List ℕ) (c : ℕ) → has_end_after s (cs ++ c ∷ []) ≡ has_end_after s cs || is_end (s ++ cs) c
 end_from s [] c = or-false (is_end s c) ∙ ap (λ (t : List ℕ). is_end t c) (sym (append-nil s))
 end_from s (d ∷ cs) c =
-    ap (λ (b : Bool). is_end s d || b) (end_from (s ++ d ∷ []) cs c ∙ ap (λ (t : List ℕ). has_end_behind (s ++ d ∷ []) cs || is_end t c) (append_assoc s (d ∷ []) cs))
-    ∙ or_assoc (is_end s d) (has_end_behind (s ++ d ∷ []) cs) (is_end (s ++ d ∷ cs) c)
+    ap (λ (b : Bool). is_end s d || b) (end_from (s ++ d ∷ []) cs c ∙ ap (λ (t : List ℕ). has_end_after (s ++ d ∷ []) cs || is_end t c) (append_assoc s (d ∷ []) cs))
+    ∙ or_assoc (is_end s d) (has_end_after (s ++ d ∷ []) cs) (is_end (s ++ d ∷ cs) c)
 
 pub end_more : (t : List ℕ) (c : ℕ) → has_end (t ++ c ∷ []) ≡ has_end t || is_end t c
 end_more t c = end_from [] t c
 
 -- its characters
-characters_from : (s cs : List ℕ) (c : ℕ) → characters_behind s (cs ++ c ∷ []) ≡ cond (is_character (s ++ cs) c) (characters_behind s cs ++ c ∷ []) (characters_behind s cs)
+characters_from : (s cs : List ℕ) (c : ℕ) → characters_after s (cs ++ c ∷ []) ≡ cond (is_character (s ++ cs) c) (characters_after s cs ++ c ∷ []) (characters_after s cs)
 characters_from s [] c = ap (λ (t : List ℕ). cond (is_character t c) (c ∷ []) []) (sym (append-nil s))
 characters_from s (d ∷ cs) c =
-    go (is_character s d) (is_character (s ++ d ∷ cs) c) (characters_behind (s ++ d ∷ []) (cs ++ c ∷ [])) (characters_behind (s ++ d ∷ []) cs)
-    (characters_from (s ++ d ∷ []) cs c ∙ ap (λ (t : List ℕ). cond (is_character t c) (characters_behind (s ++ d ∷ []) cs ++ c ∷ []) (characters_behind (s ++ d ∷ []) cs)) (append_assoc s (d ∷ []) cs))
+    go (is_character s d) (is_character (s ++ d ∷ cs) c) (characters_after (s ++ d ∷ []) (cs ++ c ∷ [])) (characters_after (s ++ d ∷ []) cs)
+    (characters_from (s ++ d ∷ []) cs c ∙ ap (λ (t : List ℕ). cond (is_character t c) (characters_after (s ++ d ∷ []) cs ++ c ∷ []) (characters_after (s ++ d ∷ []) cs)) (append_assoc s (d ∷ []) cs))
   where
     go : (a b : Bool) (u v : List ℕ) → u ≡ cond b (v ++ c ∷ []) v → cond a (d ∷ u) u ≡ cond b (cond a (d ∷ v) v ++ c ∷ []) (cond a (d ∷ v) v)
     go true true u v e = ap (λ (t : List ℕ). d ∷ t) e
@@ -73,15 +73,15 @@ characters_from s (d ∷ cs) c =
     go false true u v e = e
     go false false u v e = e
 
--- what is kept of it, behind a character of the snippet
+-- what is kept of it, after a character of the snippet
 pub kept_more : (t : List ℕ) (c : ℕ) → is_character t c ≡ true → kept_of (t ++ c ∷ []) ≡ cond (is_viable nabc (kept_of t ++ c ∷ [])) (kept_of t ++ c ∷ []) (kept_of t)
 kept_more t c e =
-    ap (keep nabc) (characters_from [] t c ∙ ap (λ (b : Bool). cond b (characters_behind [] t ++ c ∷ []) (characters_behind [] t)) e)
-    ∙ keep_append nabc [] (characters_behind [] t) (c ∷ [])
+    ap (keep nabc) (characters_from [] t c ∙ ap (λ (b : Bool). cond b (characters_after [] t ++ c ∷ []) (characters_after [] t)) e)
+    ∙ keep_append nabc [] (characters_after [] t) (c ∷ [])
 
--- and behind another
+-- and after another
 pub kept_same : (t : List ℕ) (c : ℕ) → is_character t c ≡ false → kept_of (t ++ c ∷ []) ≡ kept_of t
-kept_same t c e = ap (keep nabc) (characters_from [] t c ∙ ap (λ (b : Bool). cond b (characters_behind [] t ++ c ∷ []) (characters_behind [] t)) e)
+kept_same t c e = ap (keep nabc) (characters_from [] t c ∙ ap (λ (b : Bool). cond b (characters_after [] t ++ c ∷ []) (characters_after [] t)) e)
 
 trim_append : {K : Type 0} (rows : Table K) (best before s t : List ℕ) → trim_from rows best before (s ++ t) ≡ trim_from rows (trim_from rows best before s) (before ++ s) t
 trim_append rows best before [] t = ap (λ (u : List ℕ). trim_from rows best u t) (sym (append-nil before))

@@ -6,7 +6,7 @@ use Rattle.gabc_places.specs.declared.code.Code.TheVariants.{E3, E6, W7}
 use Rattle.gabc_places.specs.declared.code.Finding.{Finding}
 use Rattle.gabc_places.specs.declared.place.Char.{Char}
 use Rattle.gabc_places.specs.declared.place.Place.{Place}
-use Rattle.gabc_places.specs.Findings.{StandsBefore, StandBehind, AreInOrder}
+use Rattle.gabc_places.specs.Findings.{ComesBefore, ComeAfter, AreInOrder}
 use Rattle.gabc_places.specs.StageLaw.{concat_of}
 use Rattle.gabc_places.specs.Place.{next_place, is_line_feed, placed_characters_from}
 use Rattle.gabc_patterns.specs.Derivative.{is_snippet, is_viable}
@@ -15,7 +15,7 @@ use Rattle.gabc_notes.specs.declared.stage.NoteEvent.TheVariants.{Kept, Ended}
 use Rattle.gabc_notes.specs.declared.stage.NoteEvent.{NoteEvent}
 use Rattle.gabc_notes.specs.declared.stage.NoteEnd.TheVariants.{Cut}
 use Rattle.gabc_nabc.specs.Table.{nabc}
-use Rattle.gabc_nabc.specs.Events.{is_character, is_end, has_end, kept_of, first_of, is_missing, bytes_in, events_at, cut_events, nabc_events_behind, nabc_events}
+use Rattle.gabc_nabc.specs.Events.{is_character, is_end, has_end, kept_of, first_of, is_missing, bytes_in, events_at, cut_events, nabc_events_after, nabc_events}
 use Rattle.gabc_notes.specs.Events.{finding_event, end_by_mark}
 use Rattle.gabc_notes.specs.SnippetRead.{findings_of}
 use Rattle.gabc_nabc.specs.SnippetRead.{AreAtMostOne}
@@ -50,16 +50,16 @@ one_at_most t x = by (has_end t)
     by true = inl refl
     by false = end (is_end t x.c)
 
--- the finding stands at that place or behind it
+-- the finding stands at that place or after it
 abbrev From : Place → Finding → Type 0
 From p f = (p.line < f.place.line) ⊎ ((p.line ≡ f.place.line) × (p.column ≤ f.place.column))
 
--- in order, the first of them at that place or behind it
+-- in order, the first of them at that place or after it
 abbrev InOrderFrom : Place → List Finding → Type 0
 InOrderFrom p [] = Unit {0}
-InOrderFrom p (f ∷ fs) = From p f × StandBehind f fs
+InOrderFrom p (f ∷ fs) = From p f × ComeAfter f fs
 
--- the next place is behind this one
+-- the next place is after this one
 next_behind : (p : Place) (c : ℕ) (f : Finding) → From (next_place p c) f → (p.line < f.place.line) ⊎ ((p.line ≡ f.place.line) × (p.column + 1 ≤ f.place.column))
 next_behind p c f h = go (is_line_feed c) h
   where
@@ -80,11 +80,11 @@ from_next p c (f ∷ fs) h = (go (next_behind p c f h.0), h.1)
     go (inr (l, k)) = inr (l, omega arith)
 
 -- and a finding at this place stands before them
-before_next : (p : Place) (c : ℕ) (code : Code) (fs : List Finding) → InOrderFrom (next_place p c) fs → StandBehind (record { place = p; code = code }) fs
+before_next : (p : Place) (c : ℕ) (code : Code) (fs : List Finding) → InOrderFrom (next_place p c) fs → ComeAfter (record { place = p; code = code }) fs
 before_next p c code [] h = tt
 before_next p c code (f ∷ fs) h = (go (next_behind p c f h.0), h.1)
   where
-    go : (p.line < f.place.line) ⊎ ((p.line ≡ f.place.line) × (p.column + 1 ≤ f.place.column)) → StandsBefore (record { place = p; code = code }) f
+    go : (p.line < f.place.line) ⊎ ((p.line ≡ f.place.line) × (p.column + 1 ≤ f.place.column)) → ComesBefore (record { place = p; code = code }) f
     go (inl l) = inl l
     go (inr (l, k)) = inr (l, inl (omega arith))
 
@@ -95,17 +95,17 @@ cut_quiet t = go (has_end t)
     go true = refl
     go false = refl
 
-in_order_from : (cs : List ℕ) (t : List ℕ) (p : Place) → InOrderFrom p (findings_of (concat_of (nabc_events_behind t (placed_characters_from p cs))))
+in_order_from : (cs : List ℕ) (t : List ℕ) (p : Place) → InOrderFrom p (findings_of (concat_of (nabc_events_after t (placed_characters_from p cs))))
 in_order_from [] t p = subst (InOrderFrom p) (sym (cut_quiet t)) tt
 in_order_from (c ∷ cs) t p =
     let x : Char = record { c = c; place = p } in
-    let later : List NoteEvent = concat_of (nabc_events_behind (t ++ c ∷ []) (placed_characters_from (next_place p c) cs)) in
+    let later : List NoteEvent = concat_of (nabc_events_after (t ++ c ∷ []) (placed_characters_from (next_place p c) cs)) in
     subst (InOrderFrom p) (sym (findings_append (events_at t x) later)) (go (findings_of (events_at t x)) (one_at_most t x) (in_order_from cs (t ++ c ∷ []) (next_place p c)))
   where
-    go : (fs : List Finding) → AreAtMostOne p fs → InOrderFrom (next_place p c) (findings_of (concat_of (nabc_events_behind (t ++ c ∷ []) (placed_characters_from (next_place p c) cs))))
-        → InOrderFrom p (fs ++ findings_of (concat_of (nabc_events_behind (t ++ c ∷ []) (placed_characters_from (next_place p c) cs))))
-    go fs (inl e) h = rw e (from_next p c (findings_of (concat_of (nabc_events_behind (t ++ c ∷ []) (placed_characters_from (next_place p c) cs)))) h)
-    go fs (inr (code, e)) h = rw e (inr (refl, omega arith), before_next p c code (findings_of (concat_of (nabc_events_behind (t ++ c ∷ []) (placed_characters_from (next_place p c) cs)))) h)
+    go : (fs : List Finding) → AreAtMostOne p fs → InOrderFrom (next_place p c) (findings_of (concat_of (nabc_events_after (t ++ c ∷ []) (placed_characters_from (next_place p c) cs))))
+        → InOrderFrom p (fs ++ findings_of (concat_of (nabc_events_after (t ++ c ∷ []) (placed_characters_from (next_place p c) cs))))
+    go fs (inl e) h = rw e (from_next p c (findings_of (concat_of (nabc_events_after (t ++ c ∷ []) (placed_characters_from (next_place p c) cs)))) h)
+    go fs (inr (code, e)) h = rw e (inr (refl, omega arith), before_next p c code (findings_of (concat_of (nabc_events_after (t ++ c ∷ []) (placed_characters_from (next_place p c) cs)))) h)
 
 plain_order : (p : Place) (fs : List Finding) → InOrderFrom p fs → AreInOrder fs
 plain_order p [] h = tt

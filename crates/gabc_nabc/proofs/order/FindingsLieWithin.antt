@@ -17,7 +17,7 @@ use Rattle.gabc_notes.specs.SnippetRead.{findings_of}
 use Rattle.gabc_notes.specs.declared.stage.NoteEnd.TheVariants.{Next, Close, Cut}
 use Rattle.gabc_notes.specs.declared.stage.NoteEvent.TheVariants.{Ended}
 use Rattle.gabc_nabc.specs.Table.{nabc}
-use Rattle.gabc_nabc.specs.Events.{in_comment, is_end, has_end, kept_of, bytes_in, end_events, events_at, cut_events, nabc_events_behind, nabc_events}
+use Rattle.gabc_nabc.specs.Events.{in_comment, is_end, has_end, kept_of, bytes_in, end_events, events_at, cut_events, nabc_events_after, nabc_events}
 use Rattle.gabc_notes.specs.Events.{finding_event, end_by_mark}
 use Rattle.gabc_nabc.specs.SnippetRead.{AreAtMostOne}
 use Rattle.gabc_nabc.proofs.grammar.LawsOfEvents.{no_end}
@@ -30,10 +30,10 @@ one_between : (p q r : Place) (fs : List Finding) → AreAtMostOne q fs → IsUp
 one_between p q r fs (inl e) l m = subst (LieBetween p r) (sym e) tt
 one_between p q r fs (inr (code, e)) l m = subst (LieBetween p r) (sym e) ((l, m), tt)
 
--- ---- the characters of a prefix and the one behind it
+-- ---- the characters of a prefix and the one after it
 
 through : (at : Place) (prefix rest t : List ℕ) (p : Place) → IsUpTo at p
-    → LieBetween at (place_past p prefix) (findings_of (concat_of (take (length prefix + 1) (nabc_events_behind t (placed_characters_from p (prefix ++ rest))))))
+    → LieBetween at (place_past p prefix) (findings_of (concat_of (take (length prefix + 1) (nabc_events_after t (placed_characters_from p (prefix ++ rest))))))
 through at [] [] t p l = subst (LieBetween at p) (sym (cut_quiet t)) tt
 through at [] (c ∷ rest) t p l =
     let x : Char = record { c = c; place = p } in
@@ -42,7 +42,7 @@ through at [] (c ∷ rest) t p l =
 through at (c ∷ prefix) rest t p l =
     let x : Char = record { c = c; place = p } in
     let last = place_past (next_place p c) prefix in
-    let later = nabc_events_behind (t ++ c ∷ []) (placed_characters_from (next_place p c) (prefix ++ rest)) in
+    let later = nabc_events_after (t ++ c ∷ []) (placed_characters_from (next_place p c) (prefix ++ rest)) in
     let n : length (c ∷ prefix) + 1 ≡ suc (length prefix + 1) = omega arith in
     subst (λ (k : ℕ). LieBetween at last (findings_of (concat_of (take k (events_at t x ∷ later))))) (sym n)
     (subst (LieBetween at last) (sym (findings_append (events_at t x) (concat_of (take (length prefix + 1) later))))

@@ -19,7 +19,7 @@ use Rattle.gabc_nabc.proofs.grammar.LawsOfEvents.{kinds_are_one}
 use Rattle.gabc_nabc.specs.declared.descriptor.Descriptor.{Descriptor}
 use Rattle.gabc_places.proofs.texts.CharactersOfStrings.{scalars_split}
 
--- What a text says of its parts behind a prefix.
+-- What a text says of its parts after a prefix.
 record Placed (before t : List ℕ) (is : List (Bool × List ℕ)) : Type 0 where
   read : map (read_as (before ++ encodes t)) (placed_parts (length before) is) ≡ is
   joined : FollowOn (length before) (map piece_of (placed_parts (length before) is)) (length (before ++ encodes t))

@@ -20,7 +20,7 @@ use Rattle.gabc_nabc.specs.declared.descriptor.Descriptor.{Descriptor}
 abbrev pub part_at : ℕ → Bool × ℕ → Descriptor
 part_at at i = record { space = i.0; span = record { from = at; to = at + i.1 } }
 
--- What is left of a text behind its first part.
+-- What is left of a text after its first part.
 pub record Behind (text : List ℕ) (at : ℕ) (i : Bool × ℕ) : Type 0 where
   pub some : 0 < i.1
   pub within : i.1 ≤ length text

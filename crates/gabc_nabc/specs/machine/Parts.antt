@@ -4,7 +4,7 @@ use Rattle.std.specs.Str.{chars}
 use Rattle.gabc_patterns.specs.Function.{longest_item}
 use Rattle.gabc_nabc.specs.Table.{nabc}
 
--- a part of so many first characters of a text, with its number of bytes
+-- a part of the first n characters of a text, with its number of bytes
 abbrev pub in_bytes : List ℕ → Option (Bool × ℕ) → Option (Bool × ℕ)
 in_bytes t None = None
 in_bytes t (Some i) = Some (i.0, length (encode_utf8_all (take i.1 t)))

@@ -189,7 +189,7 @@ event_list g = option_to_list g.first ++ option_to_list g.second
 abbrev pub comment_in : Bool → ℕ → Bool
 comment_in b c = (c == 37) || (b && not (c == 10))
 
--- the stage after a character that is kept outside a comment, where `whole` tells that the kept
+-- the stage after a character that is kept outside a comment, where `whole` says that the kept
 -- text with it is a snippet
 abbrev pub stage_kept : NabcStage → DescriptorState → Bool → ℕ → NabcStage
 stage_kept st z whole c = record st {

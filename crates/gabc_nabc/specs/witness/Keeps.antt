@@ -9,7 +9,7 @@ use Rattle.gabc_notes.specs.Events.{end_by_mark}
 use Rattle.gabc_notes.specs.SnippetRead.{kept_of, ends_of}
 use Rattle.gabc_notes.specs.declared.stage.NoteEvent.{NoteEvent}
 use Rattle.gabc_nabc.specs.Table.{nabc}
-use Rattle.gabc_nabc.specs.Events.{bytes_in, nabc_events, nabc_events_behind}
+use Rattle.gabc_nabc.specs.Events.{bytes_in, nabc_events, nabc_events_after}
 use Rattle.gabc_nabc.specs.witness.DescriptorMachine.{comment_in, events_left}
 use Rattle.gabc_nabc.specs.declared.stage.NabcStage.{NabcStage}
 
@@ -48,7 +48,7 @@ with_comment k comment = if comment then k ++ 37 ∷ [] else k
 -- k all is kept.
 pub record Keeps (s : NabcStage) (k : List ℕ) : Type 0 where
   pub whole : IsKeptWhole k
-  pub emits : (xs : List Char) → events_left s xs ≡ nabc_events_behind (with_comment k (comment_of s)) xs
+  pub emits : (xs : List Char) → events_left s xs ≡ nabc_events_after (with_comment k (comment_of s)) xs
 
 -- The stage goes on after a character.
 pub record GoesOn (k : List ℕ) (before : NabcStage) (x : Char) (events : List NoteEvent) (after : NabcStage) : Type 0 where
@@ -59,7 +59,7 @@ pub record GoesOn (k : List ℕ) (before : NabcStage) (x : Char) (events : List 
 
 -- It ends with the bytes of the kept text k without an unfinished end, and nothing is kept with the
 -- mark c.
-pub record EndsBehind (k : List ℕ) (c : ℕ) (events : List NoteEvent) : Type 0 where
+pub record EndsAfter (k : List ℕ) (c : ℕ) (events : List NoteEvent) : Type 0 where
   pub end : ends_of events ≡ (end_by_mark c, bytes_in (trim nabc k)) ∷ []
   pub none_kept : kept_of events ≡ []
 
@@ -67,7 +67,12 @@ pub record EndsBehind (k : List ℕ) (c : ℕ) (events : List NoteEvent) : Type 
 -- on or ends.
 pub record KeepsOn (before : NabcStage) (x : Char) (events : List NoteEvent) (after : NabcStage) : Type 0 where
   pub goes : (k : List ℕ) → Keeps before k → is_end_behind (comment_of before) x.c ≡ false → GoesOn k before x events after
-  pub ends : (k : List ℕ) → Keeps before k → is_end_behind (comment_of before) x.c ≡ true → EndsBehind k x.c events
+  pub ends : (k : List ℕ) → Keeps before k → is_end_behind (comment_of before) x.c ≡ true → EndsAfter k x.c events
+
+-- The step of a stage: it takes a character with these events, and stands there then.
+pub record Steps (before : NabcStage) (x : Char) (events : List NoteEvent) (after : NabcStage) : Type 0 where
+  pub emits : (xs : List Char) → events_left before (x ∷ xs) ≡ events ∷ events_left after xs
+  pub keeps : KeepsOn before x events after
 
 -- ---- a stage and each character
 

@@ -81,7 +81,7 @@ first_best n ns =
 
 -- ---- the longest glyph that begins the notes
 
--- Of the notes so many are read: the state is s, that is the height of the last, and best is the longest glyph so far.
+-- Of the notes n are read: the state is s, that is the height of the last, and best is the longest glyph so far.
 pub record ReadSoFar (ns : List Note) (i : ℕ) (s : GlyphState) (before : Option ℕ) (best : Option (GlyphKind × ℕ)) : Type 0 where
   pub far : ItemSoFar neumes machine (letters ns) i s best
   pub last : before ≡ last_height (take i ns)
@@ -101,7 +101,7 @@ goes ns i s before d o e g =
 inside : (ns : List Note) (i : ℕ) → i < length ns → i < length (letters ns)
 inside ns i l = let m = are_letters.as_many ns in omega arith
 
--- a note more, and the glyph may end behind it
+-- a note more, and the glyph may end after it
 pub reading_ends : (ns : List Note) (i : ℕ) (s z : GlyphState) (before : Option ℕ) (d : Note) (k : GlyphKind) (best : Option (GlyphKind × ℕ)) → i < length ns
     → ReadSoFar ns i s before best → next_state s (class_at before (get_or ns i d)) ≡ Some z → kind_at_end z ≡ Some k → ReadSoFar ns (i + 1) z (Some (get_or ns i d).height) (Some (k, i + 1))
 reading_ends ns i s z before d k best l h g f = record {
@@ -109,7 +109,7 @@ reading_ends ns i s z before d k best l h g f = record {
   last = last_next ns i d l;
 }
 
--- a note more, and the glyph may not end behind it
+-- a note more, and the glyph may not end after it
 pub reading_on : (ns : List Note) (i : ℕ) (s z : GlyphState) (before : Option ℕ) (d : Note) (best : Option (GlyphKind × ℕ)) → i < length ns
     → ReadSoFar ns i s before best → next_state s (class_at before (get_or ns i d)) ≡ Some z → kind_at_end z ≡ None → ReadSoFar ns (i + 1) z (Some (get_or ns i d).height) best
 reading_on ns i s z before d best l h g f = record {
@@ -134,7 +134,7 @@ pub reading_stops : (ns : List Note) (i : ℕ) (s : GlyphState) (before : Option
 reading_stops ns i s before d best l h g =
     best_found ns best (item_stops neumes machine items_read (letters ns) i (here ns i d) s best (inside ns i l) (letter_at None ns i d _ l) (goes ns i s before d None h.last g) h.far)
 
--- behind the last note
+-- after the last note
 pub reading_end : (ns : List Note) (i : ℕ) (s : GlyphState) (before : Option ℕ) (best : Option (GlyphKind × ℕ)) → length ns ≤ i → ReadSoFar ns i s before best → BestFound ns best
 reading_end ns i s before best l h =
     let far = h.far in

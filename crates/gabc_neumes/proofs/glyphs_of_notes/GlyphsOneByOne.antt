@@ -61,7 +61,7 @@ same_items : (ns : List Note) (glyphs : List Glyph)
 same_items ns [] = refl
 same_items ns (g ∷ glyphs) = ap (λ (u : List (GlyphKind × List Note)). read_as ns g ∷ u) (same_items ns glyphs)
 
--- behind the last glyph
+-- after the last glyph
 pub cutting_end : (ns rest : List Note) (glyphs : List Glyph) (at : ℕ) → rest ≡ drop at ns → rest ≡ [] → Cutting ns glyphs at → AreGlyphsOf ns glyphs
 cutting_end ns rest glyphs at e f c =
     let size : length (drop at ns) ≡ 0 = ap length (sym e ∙ f) in

@@ -26,7 +26,7 @@ pub record KindSoFar (done : List Note) (s : GlyphState) (before : Option ℕ) :
 pub far_first : KindSoFar [] Start None
 far_first = record { rows = refl; last = refl }
 
--- the rows behind a note more
+-- the rows after a note more
 pub rows_more : (done : List Note) (s : GlyphState) (before : Option ℕ) (n : Note) (o : Option GlyphState) → KindSoFar done s before → next_state s (class_at before n) ≡ o
     → rows_at neumes machine o ≡ rows_run neumes (letters (done ++ n ∷ []))
 rows_more done s before n o h g =
@@ -47,7 +47,7 @@ pub far_next : (ns : List Note) (i : ℕ) (s z : GlyphState) (before : Option �
 far_next ns i s z before d l h g =
     subst (λ (u : List Note). KindSoFar u z (Some (get_or ns i d).height)) (sym (take_more ns i d l)) (far_more (take i ns) s z before (get_or ns i d) h g)
 
--- behind a note with which no glyph goes on, whatever follows, there is none
+-- after a note with which no glyph goes on, whatever follows, there is none
 pub far_stops : (done more : List Note) (s : GlyphState) (before : Option ℕ) (n : Note) → KindSoFar done s before
     → next_state s (class_at before n) ≡ None → (k : GlyphKind) → ¬ HasKind k ((done ++ n ∷ []) ++ more)
 far_stops done more s before n h g k r =
@@ -63,7 +63,7 @@ pub far_end : (ns : List Note) (s : GlyphState) (before : Option ℕ) (o : Optio
 far_end ns s before None h e = λ k r. no_item_at_end neumes (letters ns) (ap end_kind (sym h.rows) ∙ (items_read.ends s ∙ sym e)) (k, r)
 far_end ns s before (Some k) h e = item_at_end neumes (letters ns) k (ap end_kind (sym h.rows) ∙ (items_read.ends s ∙ sym e))
 
--- the same behind a loop over them
+-- the same after a loop over them
 pub far_all : (ns : List Note) (i : ℕ) (s : GlyphState) (before : Option ℕ) (o : Option GlyphKind) → length ns ≤ i → KindSoFar (take i ns) s before → o ≡ kind_at_end s
     → MatchOption o ((k : GlyphKind) → ¬ HasKind k ns) (λ k. HasKind k ns)
 far_all ns i s before o l h e = far_end ns s before o (subst (λ (u : List Note). KindSoFar u s before) (take_all i ns l) h) e

@@ -131,7 +131,7 @@ search_grows s z note w = go (next_state s.state (class_at s.before note)) refl
         let same : record { state = after; before = Some note.height; read = s.read + 1; best = best_of (kind_at_end after) (s.read + 1) s.best } ≡ z = cc in
         ap (λ (x : GlyphSearch). x.read) (sym same)
 
--- behind the first note
+-- after the first note
 abbrev pub fresh : GlyphSearch
 fresh = record { state = Start; before = None; read = 0; best = None }
 

@@ -35,7 +35,7 @@ module _ {X : Type 0} (p : X → Bool) (xs : List X) where
   not_both : (k : ℕ) → passes_at p xs k ≡ true → passes_at p xs k ≡ false → ⊥
   not_both k a b = cc
 
-  -- a run that ends behind the runs so far ends at i, where one is open, and is that one
+  -- a run that ends after the runs so far ends at i, where one is open, and is that one
   last_run : (i from : ℕ) (spans : List Span) → RunsSoFar p xs i from spans → (s : Span) → IsRun p xs s → from ≤ s.to → s.to < i + 1
       → (from < i) × (s.from ≡ from) × (s.to ≡ i)
   last_run i from spans h s r a l =
@@ -100,7 +100,7 @@ module _ {X : Type 0} (p : X → Bool) (xs : List X) where
   past (y ∷ ys) zero l = absurd (omega arith)
   past (y ∷ ys) (suc k) l = past ys k (omega arith)
 
-  -- behind the last
+  -- after the last
   pub runs_end : (i from : ℕ) (spans : List Span) → i ≡ length xs → RunsSoFar p xs i from spans → AreRuns p xs (spans ++ run_between from (length xs))
   runs_end i from spans l h = subst (λ (n : ℕ). AreRuns p xs (spans ++ run_between from n)) l (ended (runs_close i from spans (past xs i (omega arith)) h))
     where

@@ -11,7 +11,7 @@ use Rattle.gabc_patterns.specs.Derivative.{is_snippet, is_viable}
 use Rattle.gabc_patterns.specs.Function.{trim}
 use Rattle.gabc_patterns.proofs.FunctionsMeetRelations.{trim_trims, trims_is}
 use Rattle.gabc_notes.specs.Table.{gabc}
-use Rattle.gabc_notes.specs.Events.{in_raw, kept, is_comment, kept_with, is_kept, item_at, macro_of, is_missing, is_unpaired, is_fused, opener, finding_event, end_by_mark, bytes_of, is_end, is_over, warnings, at_end, events_at, cut_events, note_events_behind, note_events}
+use Rattle.gabc_notes.specs.Events.{in_raw, kept, is_comment, kept_with, is_kept, item_at, macro_of, is_missing, is_unpaired, is_fused, opener, finding_event, end_by_mark, bytes_of, is_end, is_over, warnings, at_end, events_at, cut_events, note_events_after, note_events}
 use Rattle.gabc_notes.specs.SnippetRead.{findings_of}
 use Rattle.gabc_notes.specs.NotesRead.{IsKeptWith}
 use Rattle.gabc_notes.specs.NotesEmitted.{AreIfKept, AreOfCharacter, AreOfMark, AreEventsAfter, AreNoteEvents}
@@ -115,7 +115,7 @@ of_mark_only split back x events h =
 
 -- ---- both ways
 
-events_by_relations : (split : Bool) (macros : ℕ) (back xs : List Char) → is_over split back ≡ false → AreEventsAfter split macros (marks back) xs (note_events_behind split macros back xs)
+events_by_relations : (split : Bool) (macros : ℕ) (back xs : List Char) → is_over split back ≡ false → AreEventsAfter split macros (marks back) xs (note_events_after split macros back xs)
 unfolding marks
 events_by_relations split macros back [] o = (
   cut_events split back,
@@ -131,18 +131,18 @@ events_by_relations split macros back [] o = (
 events_by_relations split macros back (x ∷ xs) o = go (is_emitted split macros back x o) (λ p. events_by_relations split macros (x ∷ back) xs p)
   where
     go : (is_end split (point back x) ≡ false) ⊎ ((is_end split (point back x) ≡ true) × (events_at split macros (point back x) ≡ at_end (point back x)))
-        → (is_over split (x ∷ back) ≡ false → AreEventsAfter split macros (marks (x ∷ back)) xs (note_events_behind split macros (x ∷ back) xs))
-        → AreEventsAfter split macros (marks back) (x ∷ xs) (note_events_behind split macros back (x ∷ xs))
-    go (inl n) F = inr (is_comment (point back x), events_at split macros (point back x), note_events_behind split macros (x ∷ back) xs, of_character split macros back x o n, F (more_over split back x false o n), refl)
+        → (is_over split (x ∷ back) ≡ false → AreEventsAfter split macros (marks (x ∷ back)) xs (note_events_after split macros (x ∷ back) xs))
+        → AreEventsAfter split macros (marks back) (x ∷ xs) (note_events_after split macros back (x ∷ xs))
+    go (inl n) F = inr (is_comment (point back x), events_at split macros (point back x), note_events_after split macros (x ∷ back) xs, of_character split macros back x o n, F (more_over split back x false o n), refl)
     go (inr n) F = inl (
       at_end (point back x),
       of_mark split back x n.0,
-      ap (λ (es : List NoteEvent). es ∷ note_events_behind split macros (x ∷ back) xs) n.1
+      ap (λ (es : List NoteEvent). es ∷ note_events_after split macros (x ∷ back) xs) n.1
           ∙ ap (λ (l : List (List NoteEvent)). at_end (point back x) ∷ l) (over_emits split macros xs (x ∷ back) (more_over split back x true o n.0)),
     )
 
 relations_give_events : (split : Bool) (macros : ℕ) (back xs : List Char) (lists : List (List NoteEvent)) → is_over split back ≡ false
-    → AreEventsAfter split macros (marks back) xs lists → lists ≡ note_events_behind split macros back xs
+    → AreEventsAfter split macros (marks back) xs lists → lists ≡ note_events_after split macros back xs
 unfolding marks
 relations_give_events split macros back [] lists o h =
     h.2 ∙ ap (λ (es : List NoteEvent). es ∷ []) (h.1.all

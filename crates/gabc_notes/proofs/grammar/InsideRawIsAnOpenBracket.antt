@@ -29,7 +29,7 @@ pub record OpenBy (t : List ℕ) : Type 0 where
   pub opens : ¬ IsSnippet gabc (before ++ 91 ∷ [])
   pub unclosed : is_in 93 behind ≡ false
 
--- the state behind a character, and behind a text
+-- the state after a character, and after a text
 abbrev pub on : ItemState → ℕ → Option ItemState
 on s c = next_state s (class_of_character c)
 
@@ -87,7 +87,7 @@ walk_append o [] u = refl
 walk_append None (c ∷ t) u = sym (none_walks u)
 walk_append (Some s) (c ∷ t) u = walk_append (on s c) t u
 
--- raw is entered by a `[` behind a snippet, and left by a `]`
+-- raw is entered by a `[` after a snippet, and left by a `]`
 abbrev pub test : ItemState → ℕ → Bool
 test s c = cond (is_raw (on s c)) ((raw_state s && not (c == 93)) || ((c == 91) && (whole_at s && not (raw_state s)))) (not (raw_state s) || (c == 93))
 
@@ -124,7 +124,7 @@ tested (Done FullBreak) = refl
 tested (Done FullAttribute) = refl
 tested (Done FullFusion) = refl
 
--- a `[` behind a snippet opens raw or makes a snippet
+-- a `[` after a snippet opens raw or makes a snippet
 opened : (s : ItemState) → cond (whole_at s) (whole_or_raw (on s 91)) true ≡ true
 opened Start = refl
 opened Dash = refl
@@ -171,7 +171,7 @@ raw_then : (a b d : Bool) → a ≡ true → cond a b d ≡ true → b ≡ true
 raw_then true b d e f = f
 raw_then false b d e f = absurd (cc)
 
--- a character behind which the text lies inside raw
+-- a character after which the text lies inside raw
 pub step_in : (s z : ItemState) (c : ℕ) → on s c ≡ Some z → raw_state z ≡ true → ((raw_state s ≡ true) × (c == 93 ≡ false)) ⊎ ((c ≡ 91) × (whole_at s ≡ true))
 step_in s z c e h =
     let r : is_raw (on s c) ≡ true = ap is_raw e ∙ h in

@@ -9,7 +9,7 @@ use Rattle.gabc_places.specs.declared.place.Char.{Char}
 use Rattle.gabc_places.specs.declared.place.Place.{Place}
 use Rattle.gabc_places.specs.Place.{placed_characters_from}
 use Rattle.gabc_places.specs.StageLaw.{concat_of}
-use Rattle.gabc_notes.specs.Events.{is_kept, kept_with, is_end, is_over, at_end, events_at, note_events_behind, note_events}
+use Rattle.gabc_notes.specs.Events.{is_kept, kept_with, is_end, is_over, at_end, events_at, note_events_after, note_events}
 use Rattle.gabc_notes.specs.SnippetRead.{kept_chars_of, kept_chars_in, stop_after, kept_by}
 use Rattle.gabc_notes.specs.NotesRead.{Marked, IsKeptWith, AreKept, AreKeptChars, IsSnippetRead}
 use Rattle.gabc_notes.specs.declared.snippet_read.SnippetRead.{SnippetRead}
@@ -61,13 +61,13 @@ none_at_end split back x e =
 
 -- what is kept of the characters before the end, after those
 kept_on : (split : Bool) (macros : ℕ) (back xs : List Char) → is_over split back ≡ false → (before : List Char) → AreKept (marks back) before
-    → AreKept (marks (stop_after split back xs).back) (before ++ kept_chars_of (concat_of (note_events_behind split macros back xs)))
+    → AreKept (marks (stop_after split back xs).back) (before ++ kept_chars_of (concat_of (note_events_after split macros back xs)))
 kept_on split macros back [] o before h =
     subst (AreKept (marks back)) (sym (ap (λ (es : List NoteEvent). before ++ kept_chars_of (es ++ [])) (cut_outs split back o) ∙ append-nil before)) h
 kept_on split macros back (x ∷ xs) o before h = go (is_emitted split macros back x o) (λ p b k. kept_on split macros (x ∷ back) xs p b k)
   where
     later : List NoteEvent
-    later = concat_of (note_events_behind split macros (x ∷ back) xs)
+    later = concat_of (note_events_after split macros (x ∷ back) xs)
 
     go : (is_end split (point back x) ≡ false) ⊎ ((is_end split (point back x) ≡ true) × (events_at split macros (point back x) ≡ at_end (point back x)))
         → (is_over split (x ∷ back) ≡ false → (b : List Char) → AreKept (marks (x ∷ back)) b → AreKept (marks (stop_after split (x ∷ back) xs).back) (b ++ kept_chars_of later))

@@ -16,7 +16,7 @@ use Rattle.gabc_notes.specs.Table.{gabc}
 use Rattle.gabc_notes.specs.machine.ItemMachine.{whole_at, raw_state}
 use Rattle.gabc_notes.specs.Raw.{InComment, IsOpenedAt}
 use Rattle.gabc_places.proofs.PushesAreOne.{joined_silence}
-use Rattle.gabc_notes.specs.Events.{Point, in_raw, with_comments, ends_in_comment, kept, is_comment, is_kept, is_in_raw, is_end, is_over, opener, bytes_of, at_end, events_at, cut_events, note_events_behind}
+use Rattle.gabc_notes.specs.Events.{Point, in_raw, with_comments, ends_in_comment, kept, is_comment, is_kept, is_in_raw, is_end, is_over, opener, bytes_of, at_end, events_at, cut_events, note_events_after}
 use Rattle.gabc_notes.specs.SnippetRead.{SnippetStop, kept_of, ends_of, stop_after, kept_by, end_by}
 use Rattle.gabc_notes.specs.declared.stage.NoteEnd.{NoteEnd}
 use Rattle.gabc_notes.specs.declared.stage.NoteEvent.{NoteEvent}
@@ -101,8 +101,8 @@ ends_append (Ended h n ∷ a) b = ap (λ (l : List (NoteEnd × ℕ)). (h, n) ∷
 ends_append (Found f ∷ a) b = ends_append a b
 ends_append (Kept x ∷ a) b = ends_append a b
 
--- what is emitted behind the end of the snippet
-pub over_joined : (split : Bool) (macros : ℕ) (back xs : List Char) → is_over split back ≡ true → concat_of (note_events_behind split macros back xs) ≡ []
+-- what is emitted after the end of the snippet
+pub over_joined : (split : Bool) (macros : ℕ) (back xs : List Char) → is_over split back ≡ true → concat_of (note_events_after split macros back xs) ≡ []
 over_joined split macros back xs o = ap (λ (l : List (List NoteEvent)). concat_of l) (over_emits split macros xs back o) ∙ joined_silence xs
 
 pub cut_outs : (split : Bool) (back : List Char) → is_over split back ≡ false → cut_events split back ≡ Ended (end_by None back) (bytes_of (kept back)) ∷ []
@@ -119,40 +119,40 @@ more_over split back x true o e = ap (λ (a : Bool). a || is_over split back) e
 more_over split back x false o e = ap (λ (a : Bool). a || is_over split back) e ∙ o
 
 pub emitted_kept : (split : Bool) (macros : ℕ) (xs back : List Char) → is_over split back ≡ false
-    → kept back ++ kept_of (concat_of (note_events_behind split macros back xs)) ≡ kept (stop_after split back xs).back
+    → kept back ++ kept_of (concat_of (note_events_after split macros back xs)) ≡ kept (stop_after split back xs).back
 emitted_kept split macros [] back o = ap (λ (l : List NoteEvent). kept back ++ kept_of (l ++ [])) (cut_outs split back o) ∙ append-nil (kept back)
 emitted_kept split macros (x ∷ xs) back o = go (is_emitted split macros back x o) (emitted_kept split macros xs (x ∷ back))
   where
     go : (is_end split (point back x) ≡ false) ⊎ ((is_end split (point back x) ≡ true) × (events_at split macros (point back x) ≡ at_end (point back x)))
-        → (is_over split (x ∷ back) ≡ false → kept (x ∷ back) ++ kept_of (concat_of (note_events_behind split macros (x ∷ back) xs)) ≡ kept (stop_after split (x ∷ back) xs).back)
-        → kept back ++ kept_of (events_at split macros (point back x) ++ concat_of (note_events_behind split macros (x ∷ back) xs)) ≡ kept (stop_after split back (x ∷ xs)).back
+        → (is_over split (x ∷ back) ≡ false → kept (x ∷ back) ++ kept_of (concat_of (note_events_after split macros (x ∷ back) xs)) ≡ kept (stop_after split (x ∷ back) xs).back)
+        → kept back ++ kept_of (events_at split macros (point back x) ++ concat_of (note_events_after split macros (x ∷ back) xs)) ≡ kept (stop_after split back (x ∷ xs)).back
     go (inl n) F = (let g = goes split macros back x o n in
-        ap (λ (l : List ℕ). kept back ++ l) (kept_append (events_at split macros (point back x)) (concat_of (note_events_behind split macros (x ∷ back) xs)))
-        ∙ (sym (append_assoc (kept back) (kept_of (events_at split macros (point back x))) (kept_of (concat_of (note_events_behind split macros (x ∷ back) xs))))
-        ∙ (ap (λ (l : List ℕ). l ++ kept_of (concat_of (note_events_behind split macros (x ∷ back) xs))) (sym g.kept_is)
+        ap (λ (l : List ℕ). kept back ++ l) (kept_append (events_at split macros (point back x)) (concat_of (note_events_after split macros (x ∷ back) xs)))
+        ∙ (sym (append_assoc (kept back) (kept_of (events_at split macros (point back x))) (kept_of (concat_of (note_events_after split macros (x ∷ back) xs))))
+        ∙ (ap (λ (l : List ℕ). l ++ kept_of (concat_of (note_events_after split macros (x ∷ back) xs))) (sym g.kept_is)
         ∙ (F (more_over split back x false o n) ∙ ap (λ (s : SnippetStop). kept s.back) (sym (stop_next split back xs x n))))))
     go (inr n) F =
-        ap (λ (l : List ℕ). kept back ++ l) (kept_append (events_at split macros (point back x)) (concat_of (note_events_behind split macros (x ∷ back) xs))
+        ap (λ (l : List ℕ). kept back ++ l) (kept_append (events_at split macros (point back x)) (concat_of (note_events_after split macros (x ∷ back) xs))
         ∙ (ap (λ (l : List NoteEvent). kept_of (events_at split macros (point back x)) ++ kept_of l) (over_joined split macros (x ∷ back) xs (more_over split back x true o n.0))
         ∙ (append-nil (kept_of (events_at split macros (point back x))) ∙ (ap kept_of n.1 ∙ (end_plain (point back x) None).0))))
         ∙ (append-nil (kept back) ∙ ap (λ (s : SnippetStop). kept s.back) (sym (stop_here split back xs x n.0)))
 
 pub emitted_end : (split : Bool) (macros : ℕ) (xs back : List Char) → is_over split back ≡ false
-    → ends_of (concat_of (note_events_behind split macros back xs)) ≡ (end_by (stop_after split back xs).mark (stop_after split back xs).back, bytes_of (kept_by (stop_after split back xs).mark (stop_after split back xs).back)) ∷ []
+    → ends_of (concat_of (note_events_after split macros back xs)) ≡ (end_by (stop_after split back xs).mark (stop_after split back xs).back, bytes_of (kept_by (stop_after split back xs).mark (stop_after split back xs).back)) ∷ []
 emitted_end split macros [] back o = ap (λ (l : List NoteEvent). ends_of (l ++ [])) (cut_outs split back o)
 emitted_end split macros (x ∷ xs) back o = go (is_emitted split macros back x o) (emitted_end split macros xs (x ∷ back))
   where
     go : (is_end split (point back x) ≡ false) ⊎ ((is_end split (point back x) ≡ true) × (events_at split macros (point back x) ≡ at_end (point back x)))
-        → (is_over split (x ∷ back) ≡ false → ends_of (concat_of (note_events_behind split macros (x ∷ back) xs)) ≡ (end_by (stop_after split (x ∷ back) xs).mark (stop_after split (x ∷ back) xs).back, bytes_of (kept_by (stop_after split (x ∷ back) xs).mark (stop_after split (x ∷ back) xs).back)) ∷ [])
-        → ends_of (events_at split macros (point back x) ++ concat_of (note_events_behind split macros (x ∷ back) xs))
+        → (is_over split (x ∷ back) ≡ false → ends_of (concat_of (note_events_after split macros (x ∷ back) xs)) ≡ (end_by (stop_after split (x ∷ back) xs).mark (stop_after split (x ∷ back) xs).back, bytes_of (kept_by (stop_after split (x ∷ back) xs).mark (stop_after split (x ∷ back) xs).back)) ∷ [])
+        → ends_of (events_at split macros (point back x) ++ concat_of (note_events_after split macros (x ∷ back) xs))
         ≡ (end_by (stop_after split back (x ∷ xs)).mark (stop_after split back (x ∷ xs)).back, bytes_of (kept_by (stop_after split back (x ∷ xs)).mark (stop_after split back (x ∷ xs)).back)) ∷ []
     go (inl n) F = (let g = goes split macros back x o n in
-        ends_append (events_at split macros (point back x)) (concat_of (note_events_behind split macros (x ∷ back) xs))
-        ∙ (ap (λ (l : List (NoteEnd × ℕ)). l ++ ends_of (concat_of (note_events_behind split macros (x ∷ back) xs))) g.ends
+        ends_append (events_at split macros (point back x)) (concat_of (note_events_after split macros (x ∷ back) xs))
+        ∙ (ap (λ (l : List (NoteEnd × ℕ)). l ++ ends_of (concat_of (note_events_after split macros (x ∷ back) xs))) g.ends
         ∙ (F (more_over split back x false o n)
         ∙ ap (λ (s : SnippetStop). (end_by s.mark s.back, bytes_of (kept_by s.mark s.back)) ∷ []) (sym (stop_next split back xs x n)))))
     go (inr n) F =
-        ends_append (events_at split macros (point back x)) (concat_of (note_events_behind split macros (x ∷ back) xs))
+        ends_append (events_at split macros (point back x)) (concat_of (note_events_after split macros (x ∷ back) xs))
         ∙ (ap (λ (l : List NoteEvent). ends_of (events_at split macros (point back x)) ++ ends_of l) (over_joined split macros (x ∷ back) xs (more_over split back x true o n.0))
         ∙ (append-nil (ends_of (events_at split macros (point back x))) ∙ (ap ends_of n.1 ∙ ((end_plain (point back x) None).2
         ∙ ap (λ (s : SnippetStop). (end_by s.mark s.back, bytes_of (kept_by s.mark s.back)) ∷ []) (sym (stop_here split back xs x n.0))))))
@@ -172,13 +172,13 @@ fewer_bytes (Some c) back =
     least a b l = omega arith
 
 -- what is emitted of a prefix
-pub events_prefix : (split : Bool) (macros : ℕ) (xs ys zs back : List Char) → take (length xs) (note_events_behind split macros back (xs ++ ys)) ≡ take (length xs) (note_events_behind split macros back (xs ++ zs))
+pub events_prefix : (split : Bool) (macros : ℕ) (xs ys zs back : List Char) → take (length xs) (note_events_after split macros back (xs ++ ys)) ≡ take (length xs) (note_events_after split macros back (xs ++ zs))
 events_prefix split macros [] ys zs back = refl
 events_prefix split macros (x ∷ xs) ys zs back = ap (λ (l : List (List NoteEvent)). events_at split macros (point back x) ∷ l) (events_prefix split macros xs ys zs (x ∷ back))
 
 -- ---- the bracket that is open
 
--- a `[` that was opened stays so behind a character that is not kept
+-- a `[` that was opened stays so after a character that is not kept
 open_unkept : (back : List Char) (x : Char) → is_kept (point back x) ≡ false → kept (x ∷ back) ≡ kept back → IsOpenedAt back → IsOpenedAt (x ∷ back)
 open_unkept back x n same h = record {
   line = x ∷ h.line;
@@ -193,7 +193,7 @@ open_unkept back x n same h = record {
   unclosed = h.unclosed;
 }
 
--- and behind one that is
+-- and after one that is
 open_kept : (back : List Char) (x : Char) → is_kept (point back x) ≡ true → kept (x ∷ back) ≡ kept back ++ x.c ∷ [] → in_raw (kept back) ≡ true → x.c == 93 ≡ false
     → IsOpenedAt back → IsOpenedAt (x ∷ back)
 open_kept back x k same r n h = record {
@@ -259,7 +259,7 @@ opened (x ∷ back) r = go (is_comment (point back x)) refl (is_viable gabc (kep
           | inr z ↦ open_here back x k same (y.raw ∙ outside y.from z.1) z.0
         ]
 
--- ---- behind the end
+-- ---- after the end
 
 pub nothing_over : (split : Bool) (macros : ℕ) (p : Point) → is_over split p.back ≡ true → events_at split macros p ≡ []
 nothing_over split macros p o = rest (is_over split p.back) _ o

@@ -25,7 +25,7 @@ use Rattle.gabc_notes.proofs.items_of_text.ItemByStates.{Steps, opened_at, close
 viable : (t : List ℕ) → IsSnippet gabc t → IsViable gabc t
 viable t h = ([], subst (IsSnippet gabc) (sym (append-nil t)) h)
 
--- a state behind a snippet, and behind it with a character more
+-- a state after a snippet, and after it with a character more
 pub record Next (t : List ℕ) (c : ℕ) : Type 0 where
   pub from : ItemState
   pub whole : whole_at from ≡ true

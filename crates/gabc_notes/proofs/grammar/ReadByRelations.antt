@@ -22,7 +22,7 @@ use Rattle.gabc_patterns.proofs.BothOfTwoTests.{and_true, or_true}
 use Rattle.gabc_patterns.proofs.FunctionsMeetRelations.{trim_trims, trims_is, no_snippet}
 use Rattle.gabc_patterns.proofs.LongestMunchByCharacter.{snippet_from}
 use Rattle.gabc_notes.specs.Table.{gabc}
-use Rattle.gabc_notes.specs.Events.{in_raw, kept, is_comment, is_fused, opener, finding_event, end_by_mark, bytes_of, is_end, is_over, at_end, events_at, note_events_behind, note_events}
+use Rattle.gabc_notes.specs.Events.{in_raw, kept, is_comment, is_fused, opener, finding_event, end_by_mark, bytes_of, is_end, is_over, at_end, events_at, note_events_after, note_events}
 use Rattle.gabc_notes.specs.FoundAt.{AreThoseFound}
 use Rattle.gabc_notes.specs.SnippetRead.{SnippetStop, findings_of, stop_after, kept_by, index_of, ending_at, ending_by, IsComputed}
 use Rattle.gabc_notes.specs.NotesRead.{Marked, IsKeptOf, IsFused, AreFound, IsEnd, AreFoundAtEnd, IsCutAt, IsRead, IsSnippetRead}
@@ -121,7 +121,7 @@ record Split (split : Bool) (macros : ℕ) (back xs : List Char) (before : List 
   cut : reverse_aux back xs ≡ reverse_aux after rest
   running : is_over split after ≡ false
   finds : AreFound macros (marks after) found
-  all : before ++ findings_of (concat_of (note_events_behind split macros back xs)) ≡ found ++ endings after rest
+  all : before ++ findings_of (concat_of (note_events_after split macros back xs)) ≡ found ++ endings after rest
   stop : stop_after split back xs ≡ record { back = after; mark = mark_of rest }
   mark : StopsAt split after rest
 
@@ -156,8 +156,8 @@ split_on split macros back (x ∷ xs) before o h = go (is_emitted split macros b
           cut = s.cut;
           running = s.running;
           finds = s.finds;
-          all = ap (λ (u : List Finding). before ++ u) (findings_append (events_at split macros (point back x)) (concat_of (note_events_behind split macros (x ∷ back) xs)))
-              ∙ (sym (append_assoc before here (findings_of (concat_of (note_events_behind split macros (x ∷ back) xs)))) ∙ s.all);
+          all = ap (λ (u : List Finding). before ++ u) (findings_append (events_at split macros (point back x)) (concat_of (note_events_after split macros (x ∷ back) xs)))
+              ∙ (sym (append_assoc before here (findings_of (concat_of (note_events_after split macros (x ∷ back) xs)))) ∙ s.all);
           stop = ap (λ (b : Bool). cond b (record { back = back; mark = Some x.c }) (stop_after split (x ∷ back) xs)) n ∙ s.stop;
           mark = s.mark;
         }

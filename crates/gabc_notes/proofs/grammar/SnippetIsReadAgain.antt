@@ -19,7 +19,7 @@ use Rattle.gabc_patterns.proofs.FunctionsMeetRelations.{viable_decides, snippet_
 use Rattle.gabc_notes.specs.Table.{gabc}
 use Rattle.gabc_notes.specs.Ends.{IsMarkOf}
 use Rattle.gabc_notes.specs.machine.ItemMachine.{raw_state}
-use Rattle.gabc_notes.specs.Events.{in_raw, finding_event, with_comments, ends_in_comment, kept, is_comment, is_end, is_over, is_fused, is_unpaired, is_missing, macro_of, item_at, opener, warnings, at_end, end_by_mark, bytes_of, events_at, note_events_behind, note_events, Point}
+use Rattle.gabc_notes.specs.Events.{in_raw, finding_event, with_comments, ends_in_comment, kept, is_comment, is_end, is_over, is_fused, is_unpaired, is_missing, macro_of, item_at, opener, warnings, at_end, end_by_mark, bytes_of, events_at, note_events_after, note_events, Point}
 use Rattle.gabc_notes.specs.SnippetRead.{SnippetStop, kept_chars_of, findings_of, ends_of, stop_after, kept_by}
 use Rattle.gabc_notes.specs.ReadAgain.{IsWarning, IsReadAgain}
 use Rattle.gabc_notes.specs.declared.stage.NoteEnd.{NoteEnd}
@@ -101,7 +101,7 @@ unless : (a b : Bool) → (a ≡ false → b ≡ false) → (not a && b) ≡ fal
 unless true b f = refl
 unless false b f = f refl
 
--- behind characters in no comment a character that goes on the kept text begins none, and ends no snippet
+-- after characters in no comment a character that goes on the kept text begins none, and ends no snippet
 pub record GoesOn (split : Bool) (back : List Char) (x : Char) : Type 0 where
   pub comment : is_comment (point back x) ≡ false
   pub no_mark : (not (in_raw (kept back)) && ((x.c == 41) || (split && (x.c == 124)))) ≡ false
@@ -182,14 +182,14 @@ mark_is split Close c e = subst (IsMark split) (sym e) (record { ends = refl; no
 mark_is split Next c h = subst (IsMark split) (sym h.0) (record { ends = rw h.1 refl; no_percent = refl })
 mark_is split (Cut place) c h = absurd h
 
--- behind these characters: the text is read to its mark
+-- after these characters: the text is read to its mark
 pub record ReadsOn (split : Bool) (macros : ℕ) (back xs left : List Char) (t : List ℕ) (mark : ℕ) : Type 0 where
   pub stop : stop_after split back left ≡ record { back = reverse_aux xs back; mark = Some mark }
   pub kept_is : kept (reverse_aux xs back) ≡ kept back ++ t
-  pub chars : kept_chars_of (concat_of (note_events_behind split macros back left)) ≡ xs
-  pub unended : ends_of (concat_of (take (length t) (note_events_behind split macros back left))) ≡ []
-  pub ended : ends_of (concat_of (take (suc (length t)) (note_events_behind split macros back left))) ≡ (end_by_mark mark, bytes_of (trim gabc (kept back ++ t))) ∷ []
-  pub all_warn : AllWarnings (concat_of (note_events_behind split macros back left))
+  pub chars : kept_chars_of (concat_of (note_events_after split macros back left)) ≡ xs
+  pub unended : ends_of (concat_of (take (length t) (note_events_after split macros back left))) ≡ []
+  pub ended : ends_of (concat_of (take (suc (length t)) (note_events_after split macros back left))) ≡ (end_by_mark mark, bytes_of (trim gabc (kept back ++ t))) ∷ []
+  pub all_warn : AllWarnings (concat_of (note_events_after split macros back left))
 
 -- at the mark
 reads_mark : (split : Bool) (macros : ℕ) (at : Place) (rest : List ℕ) (mark : ℕ) (back : List Char) → IsMark split mark
@@ -204,8 +204,8 @@ reads_mark split macros at rest mark back m n o s =
     let ends : is_end split (point back x) ≡ true = yes (is_comment (point back x)) _ comment mark_here in
     let e : events_at split macros (point back x) ≡ at_end (point back x) = pick_end _ _ _ _ _ _ _ o comment mark_here in
     let w = end_warns (point back x) s in
-    let all : concat_of (note_events_behind split macros back (x ∷ left)) ≡ at_end (point back x) =
-    ap (λ (l : List NoteEvent). l ++ concat_of (note_events_behind split macros (x ∷ back) left)) e
+    let all : concat_of (note_events_after split macros back (x ∷ left)) ≡ at_end (point back x) =
+    ap (λ (l : List NoteEvent). l ++ concat_of (note_events_after split macros (x ∷ back) left)) e
     ∙ (ap (λ (l : List NoteEvent). at_end (point back x) ++ l) (over_joined split macros (x ∷ back) left (more_over split back x true o ends)) ∙ append-nil (at_end (point back x))) in
     record {
       stop = ap (λ (b : Bool). cond b (record { back = back; mark = Some mark }) (stop_after split (x ∷ back) left)) ends;
@@ -243,7 +243,7 @@ reads_on split macros at (c ∷ t) rest mark back m n o s =
     let g = goes_on split back x n v in
     let e : events_at split macros (point back x) ≡ Kept x ∷ warnings macros (point back x) = pick_kept _ _ _ _ _ _ _ o g.comment g.no_mark v in
     let w = kept_warns macros (point back x) in
-    let lists : List (List NoteEvent) = note_events_behind split macros (x ∷ back) left in
+    let lists : List (List NoteEvent) = note_events_after split macros (x ∷ back) left in
     let later : List NoteEvent = concat_of lists in
     let none : ends_of (events_at split macros (point back x)) ≡ [] = (goes split macros back x o g.no_end).ends in
     let same : kept (x ∷ back) ++ t ≡ kept back ++ c ∷ t = ap (λ (k : List ℕ). k ++ t) g.kept_is ∙ append_assoc (kept back) (c ∷ []) t in

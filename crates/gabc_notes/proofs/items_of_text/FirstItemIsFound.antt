@@ -17,7 +17,7 @@ use Rattle.gabc_notes.specs.machine.Items.{IsFirstItem}
 use Rattle.gabc_notes.specs.declared.item.ItemKind.{ItemKind}
 use Rattle.gabc_notes.proofs.grammar.LawsOfKeptTexts.{kinds_are_one}
 
--- What a search for the longest item tells.
+-- What a search for the longest item reports.
 pub record BestFound (text : List ℕ) (best : Option (ItemKind × ℕ)) : Type 0 where
   pub found : IfSome best (λ i. IsFirstItem text i.0 i.1)
   pub none : IfNone best (longest_item gabc (chars text) ≡ None)

@@ -1,4 +1,4 @@
--- The item that ends with a character, by the states before and behind it.
+-- The item that ends with a character, by the states before and after it.
 use Rattle.std.proofs.Common.{◌≡◌, ℕ, ◌⊎◌, inl, inr, List, [], ◌∷◌, ◌++◌, Bool, true, false, cond, ◌||◌, ◌==◌, IsTrue, refl, sym, ap, ◌∙◌, subst, codes, Some, None, append-nil, append_assoc, eqb-true, ne_eqb, arith}
 use Rattle.std.proofs.lemmas.List.{same_from_push}
 use Rattle.std.specs.List.{concat}

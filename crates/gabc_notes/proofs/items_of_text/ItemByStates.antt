@@ -1,4 +1,4 @@
--- The item that ends with a character, by the states of the machine before and behind it.
+-- The item that ends with a character, by the states of the machine before and after it.
 use Rattle.std.proofs.Common.{◌≡◌, ℕ, ◌⊎◌, inl, inr, List, [], ◌∷◌, ◌++◌, Bool, true, false, cond, not, ◌&&◌, ◌||◌, ◌==◌, refl, sym, ap, ◌∙◌, subst, codes, Option, Some, None, append_assoc, eqb-true}
 use Rattle.std.proofs.Math.Bool.{and-false, and-true}
 use Rattle.std.proofs.lemmas.List.{same_from_push}
@@ -34,17 +34,17 @@ abbrev pub is_spacing : ItemState → Bool
 is_spacing (Done FullSpacing) = true
 is_spacing _ = false
 
--- behind a `[` the text lies inside raw, or ends with a fusion mark; before the latter it did not
+-- after a `[` the text lies inside raw, or ends with a fusion mark; before the latter it did not
 abbrev pub opened_at : ItemState → Option ItemState → Bool
 opened_at s None = true
 opened_at s (Some z) = raw_state z || (is_fusion z && not (raw_state s))
 
--- behind a `]` the text ends with an attribute or a spacing where it lay inside raw, else with a fusion mark
+-- after a `]` the text ends with an attribute or a spacing where it lay inside raw, else with a fusion mark
 abbrev pub closed_at : ItemState → Option ItemState → Bool
 closed_at s None = true
 closed_at s (Some z) = cond (raw_state s) (attribute_state z || is_spacing z) (is_fusion z)
 
--- behind a `@` of a snippet a `[` ends a fusion mark
+-- after a `@` of a snippet a `[` ends a fusion mark
 abbrev pub joined_at : Option ItemState → Bool
 joined_at None = true
 joined_at (Some z) = elim (on z 91) as (λ _. Bool) [ None ↦ false | Some y ↦ whole_at y ]
@@ -85,7 +85,7 @@ marks_tested (Done FullBreak) = refl
 marks_tested (Done FullAttribute) = refl
 marks_tested (Done FullFusion) = refl
 
--- the states that the tests tell
+-- the states that the tests report
 pub fusion_state : (s : ItemState) → is_fusion s ≡ true → s ≡ Done FullFusion
 fusion_state (Done FullFusion) e = refl
 fusion_state _ e = absurd (cc)
@@ -130,7 +130,7 @@ closed_by s z e =
 
 -- ---- the item by the states
 
--- the machine is in s behind k, and in z behind k and c
+-- the machine is in s after k, and in z after k and c
 pub record Steps (k : List ℕ) (c : ℕ) (s z : ItemState) : Type 0 where
   pub here : Stands gabc machine s k
   pub next : on s c ≡ Some z
@@ -146,7 +146,7 @@ pub kind_ends : (k : List ℕ) (c : ℕ) (s z : ItemState) (i : ItemKind) → St
     → (u : List ℕ) × Ends (i, u) (k ++ c ∷ []) × (last_item (k ++ c ∷ []) ≡ Some (i, u))
 kind_ends k c s z i h e = ends_with (k ++ c ∷ []) i (ap kind_at (stands k c s z h) ∙ e)
 
--- the item behind a `[`
+-- the item after a `[`
 pub item_opened : (k : List ℕ) (s z : ItemState) → Steps k 91 s z
     → ((raw_state z ≡ true) × (last_item (k ++ 91 ∷ []) ≡ None)) ⊎ ((raw_state z ≡ false) × (raw_state s ≡ false) × (last_item (k ++ 91 ∷ []) ≡ Some (Fusion, codes "@[")))
 item_opened k s z h = elim (opened_by s z h.next) [
@@ -155,7 +155,7 @@ item_opened k s z h = elim (opened_by s z h.next) [
       inr (ap raw_state x.0, x.1, y.2 ∙ ap (λ (u : List ℕ). Some (Fusion, u)) (fusion_open k y.0 y.1)))
 ]
 
--- the item behind a `]` outside raw
+-- the item after a `]` outside raw
 pub item_closed : (k : List ℕ) (s z : ItemState) → Steps k 93 s z → raw_state s ≡ false → last_item (k ++ 93 ∷ []) ≡ Some (Fusion, codes "]")
 item_closed k s z h r = elim (closed_by s z h.next) [
   | inl x ↦ absurd (let f = x.0 in cc)
@@ -229,7 +229,7 @@ attribute_raw k raw u h e =
         let outside : in_raw e.prefix ≡ false = snippet_outside e.prefix (prefix_snippet e.before e.prefix u e.reads) in
         absurd (let v : true ≡ false = sym inside ∙ outside in cc)
 
--- the digit of a macro behind the closing bracket
+-- the digit of a macro after the closing bracket
 macro_closed : (r : List ℕ) → macro_in (r ++ 93 ∷ []) ≡ macro_digit r
 macro_closed [] = refl
 macro_closed (a ∷ []) = refl
@@ -245,7 +245,7 @@ pub record ItemIs (raw : List ℕ) (c : ℕ) (s z : ItemState) (item : Option It
   pub closes : closes_fusion item ≡ ((c == 93) && not (raw_state s))
   pub macro : macro_of item ≡ cond (raw_state s && attribute_state z) (macro_digit raw) None
 
--- behind a `]` inside raw
+-- after a `]` inside raw
 item_closed_raw : (k raw : List ℕ) (s z : ItemState) → Steps k 93 s z → raw_state s ≡ true → RawFrom k raw → ItemIs raw 93 s z (last_item (k ++ 93 ∷ []))
 item_closed_raw k raw s z h r f = elim (closed_by s z h.next) [
   | inl x ↦ elim x.1 [
@@ -265,7 +265,7 @@ item_closed_raw k raw s z h r f = elim (closed_by s z h.next) [
   | inr x ↦ absurd (let g = x.0 in cc)
 ]
 
--- ---- behind another character
+-- ---- after another character
 
 same_open : (v : List ℕ) (c : ℕ) → c == 91 ≡ false → same_texts (v ++ c ∷ []) (codes "@[") ≡ false
 same_open [] c e = and-false (c == 64)

@@ -21,11 +21,11 @@ use Rattle.gabc_patterns.proofs.ItemsAsFarAsOneBegins.{items_read_on, one_read_o
 use Rattle.gabc_patterns.proofs.ItemsFunctionReads.{items_are}
 use Rattle.gabc_patterns.proofs.ItemsOneByOne.{items_first, items_lie}
 
--- an item of that kind, and of so many bytes
+-- an item of that kind, and of n bytes
 abbrev pub item_at : ItemKind → ℕ → ℕ → Item
 item_at k at len = record { kind = k; span = record { from = at; to = at + len } }
 
--- the first of the items from a byte on, and those behind it
+-- the first of the items from a byte on, and those after it
 pub first_from : (here : List ℕ) (at len : ℕ) (k : ItemKind) → IsUtf8 here → IsFirstItem here k len → items_from at here ≡ item_at k at len ∷ items_from (at + len) (drop len here)
 first_from here at len k u h =
     let within = h.within in

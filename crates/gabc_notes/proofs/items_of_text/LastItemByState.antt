@@ -1,4 +1,4 @@
--- The last item of a text, by where the reading stands behind it.
+-- The last item of a text, by where the reading stands after it.
 use Rattle.std.proofs.Common.{◌≡◌, ℕ, ◌⊎◌, inl, inr, List, [], ◌∷◌, ◌++◌, Bool, true, false, cond, Some, refl, sym, ap, ◌∙◌, subst, append-nil, append_assoc}
 use Rattle.gabc_patterns.specs.LongestItems.{Table, Longest, IsItemOf, IsItem, IsReading, IsSnippet}
 use Rattle.gabc_patterns.specs.Derivative.{rows_after, rows_run, rows_end, Munch, start, nowhere, within, enter, step, run, end_kind}

@@ -13,7 +13,7 @@ use Rattle.gabc_notes.specs.declared.stage.NoteEvent.{NoteEvent}
 use Rattle.gabc_notes.specs.declared.stage.CharRole.{CharRole}
 use Rattle.gabc_notes.specs.declared.stage.CharFacts.{CharFacts}
 
--- where the reading stands behind the text
+-- where the reading stands after the text
 abbrev pub at_end : List ℕ → Munch ItemKind
 at_end t = run gabc start t
 
@@ -24,7 +24,7 @@ raw_at m = is_whole (run gabc m (codes "]")) && not (is_whole m)
 pub raw_by : (t : List ℕ) → in_raw t ≡ raw_at (at_end t)
 raw_by t = ap (λ (m : Munch ItemKind). is_whole m && not (is_whole (at_end t))) (run-append gabc start t (codes "]"))
 
--- what is known of a character, by where the reading stands before and behind it
+-- what is known of a character, by where the reading stands before and after it
 abbrev pub facts_at : Munch ItemKind → Munch ItemKind → Option ℕ → CharFacts
 facts_at m n d = record {
   raw = raw_at m;
@@ -41,7 +41,7 @@ facts_by kept raw c =
     let n : at_end (kept ++ c ∷ []) ≡ step gabc (at_end kept) c = run-append gabc start kept (c ∷ []) in
     rw (raw_by kept, raw_by (kept ++ c ∷ []), n) refl
 
--- names that no later characters tell apart
+-- names that no later characters report apart
 abbrev pub NameAlike : List ℕ → List ℕ → Type 0
 NameAlike r s = (w : List ℕ) → macro_digit (r ++ w) ≡ macro_digit (s ++ w)
 

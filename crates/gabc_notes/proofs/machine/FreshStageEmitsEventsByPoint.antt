@@ -15,7 +15,7 @@ use Rattle.gabc_notes.specs.Table.{gabc}
 use Rattle.gabc_notes.specs.machine.ItemMachine.{whole_at, raw_state, attribute_state}
 use Rattle.gabc_notes.specs.witness.StageEvents.{ends_with_attribute, kind_at, is_attribute_kind, macro_digit, char_facts, role_in, before_in, fused_in, events_in, warning_in, event_list, raw_with, count_plus, cut_event, events_following, events_behind}
 use Rattle.gabc_notes.specs.machine.StageEvents.{nothing_before}
-use Rattle.gabc_notes.specs.Events.{in_raw, finding_event, end_by_mark, is_missing, ends_in_comment, with_comments, kept, is_comment, is_in_raw, kept_with, is_kept, last_item, item_at, opens_fusion, closes_fusion, macro_of, is_fused, opener, bytes_of, is_end, is_over, is_unpaired, warnings, at_end, events_at, cut_events, note_events_behind, note_events}
+use Rattle.gabc_notes.specs.Events.{in_raw, finding_event, end_by_mark, is_missing, ends_in_comment, with_comments, kept, is_comment, is_in_raw, kept_with, is_kept, last_item, item_at, opens_fusion, closes_fusion, macro_of, is_fused, opener, bytes_of, is_end, is_over, is_unpaired, warnings, at_end, events_at, cut_events, note_events_after, note_events}
 use Rattle.gabc_notes.specs.declared.item.ItemKind.{ItemKind}
 use Rattle.gabc_notes.specs.declared.stage.Before.{Before}
 use Rattle.gabc_notes.specs.declared.stage.NoteEnd.TheVariants.{Cut}
@@ -43,7 +43,7 @@ pub record Holds (split : Bool) (back : List Char) (raw : List ℕ) (b : Before)
   pub raw_from : in_raw (kept back) ≡ true → RawFrom (kept back) raw
   pub no_raw : in_raw (kept back) ≡ false → raw ≡ []
 
--- behind a character that is not kept
+-- after a character that is not kept
 pub unkept : (split : Bool) (back : List Char) (raw : List ℕ) (b : Before) (x : Char) (m : Bool) → Holds split back raw b → is_kept (point back x) ≡ false
     → kept (x ∷ back) ≡ kept back → is_end split (point back x) ≡ false → is_comment (point back x) ≡ m → Holds split (x ∷ back) raw (record b { comment = m })
 unkept split back raw b x m h n same e f = record {
@@ -57,7 +57,7 @@ unkept split back raw b x m h n same e f = record {
   no_raw = λ r. h.no_raw (ap in_raw (sym same) ∙ r);
 }
 
--- a character that is kept, by the states before and behind it
+-- a character that is kept, by the states before and after it
 pub record KeptBy (k : List ℕ) (c : ℕ) : Type 0 where
   pub from : ItemState
   pub to : ItemState
@@ -276,8 +276,8 @@ module _ (split : Bool) (back : List Char) (raw : List ℕ) (b : Before) (x : Ch
 
 -- ---- all characters
 
--- behind the end nothing is emitted
-pub over_emits : (split : Bool) (macros : ℕ) (xs back : List Char) → is_over split back ≡ true → note_events_behind split macros back xs ≡ silence xs
+-- after the end nothing is emitted
+pub over_emits : (split : Bool) (macros : ℕ) (xs back : List Char) → is_over split back ≡ true → note_events_after split macros back xs ≡ silence xs
 over_emits split macros [] back e = ap (λ (o : Bool). cond o [] (Ended (Cut (cond (in_raw (kept back)) (opener back) (record { line = 0; column = 0 }))) (bytes_of (kept back)) ∷ []) ∷ []) e
 over_emits split macros (x ∷ xs) back e =
     let later = over_emits split macros xs (x ∷ back) (any (is_end split (point back x)) (is_over split back) e) in
@@ -314,7 +314,7 @@ cut_emits split back raw b h =
     ∙ sym (ap (λ (o : Bool). cond o [] (Ended (Cut (cond (in_raw (kept back)) (opener back) (record { line = 0; column = 0 }))) (bytes_of (kept back)) ∷ [])) h.over))
 
 pub events_emits : (split : Bool) (macros : ℕ) (xs back : List Char) (raw : List ℕ) (b : Before) → Holds split back raw b
-    → events_behind split macros (kept back) raw b xs ≡ note_events_behind split macros back xs
+    → events_behind split macros (kept back) raw b xs ≡ note_events_after split macros back xs
 events_emits split macros [] back raw b h = ap (λ (o : List NoteEvent). o ∷ []) (cut_emits split back raw b h)
 events_emits split macros (x ∷ xs) back raw b h =
     go (role_in split b.comment (char_facts (kept back) raw x.c) x.c) refl (λ r d. events_emits split macros xs (x ∷ back) r d)
@@ -330,11 +330,11 @@ events_emits split macros (x ∷ xs) back raw b h =
 
     -- of a character that is not kept
     left : (d : Before) (emitted : List NoteEvent) → kept (x ∷ back) ≡ kept back → Holds split (x ∷ back) raw d → emitted ≡ events_at split macros (point back x)
-        → ((r : List ℕ) (d : Before) → Holds split (x ∷ back) r d → events_behind split macros (kept (x ∷ back)) r d xs ≡ note_events_behind split macros (x ∷ back) xs)
-        → emitted ∷ events_behind split macros (kept back) raw d xs ≡ events_at split macros (point back x) ∷ note_events_behind split macros (x ∷ back) xs
+        → ((r : List ℕ) (d : Before) → Holds split (x ∷ back) r d → events_behind split macros (kept (x ∷ back)) r d xs ≡ note_events_after split macros (x ∷ back) xs)
+        → emitted ∷ events_behind split macros (kept back) raw d xs ≡ events_at split macros (point back x) ∷ note_events_after split macros (x ∷ back) xs
     left d emitted same holds g F =
         ap (λ (l : List (List NoteEvent)). emitted ∷ l) (ap (λ (t : List ℕ). events_behind split macros t raw d xs) (sym same) ∙ F raw d holds)
-        ∙ ap (λ (l : List NoteEvent). l ∷ note_events_behind split macros (x ∷ back) xs) g
+        ∙ ap (λ (l : List NoteEvent). l ∷ note_events_after split macros (x ∷ back) xs) g
 
     no_end : is_comment (point back x) ≡ true → is_end split (point back x) ≡ false
     no_end c = ap (λ (a : Bool). not a && (not (in_raw (kept back)) && ((x.c == 41) || (split && (x.c == 124))))) c
@@ -343,11 +343,11 @@ events_emits split macros (x ∷ xs) back raw b h =
     not_kept c = ap (λ (a : Bool). not a && is_viable gabc (kept back ++ x.c ∷ [])) c
 
     go : (r : CharRole) → role_in split b.comment (char_facts (kept back) raw x.c) x.c ≡ r
-        → ((r : List ℕ) (d : Before) → Holds split (x ∷ back) r d → events_behind split macros (kept (x ∷ back)) r d xs ≡ note_events_behind split macros (x ∷ back) xs)
+        → ((r : List ℕ) (d : Before) → Holds split (x ∷ back) r d → events_behind split macros (kept (x ∷ back)) r d xs ≡ note_events_after split macros (x ∷ back) xs)
         → event_list (events_in r macros b (char_facts (kept back) raw x.c) x)
         ∷ events_following r (silence xs) (events_behind split macros (kept back ++ x.c ∷ []) (raw_with (char_facts (kept back) raw x.c) raw x.c) (before_in r b (char_facts (kept back) raw x.c) x) xs)
         (events_behind split macros (kept back) raw (before_in r b (char_facts (kept back) raw x.c) x) xs)
-        ≡ events_at split macros (point back x) ∷ note_events_behind split macros (x ∷ back) xs
+        ≡ events_at split macros (point back x) ∷ note_events_after split macros (x ∷ back) xs
     go Silent e F =
         let R = roles Silent e in
         left b [] (kept_same back x R.0)

@@ -18,7 +18,7 @@ use Rattle.gabc_patterns.proofs.FunctionsMeetRelations.{trim_trims}
 use Rattle.gabc_notes.specs.Table.{gabc}
 use Rattle.gabc_notes.specs.witness.ItemMachine.{events_left}
 use Rattle.gabc_places.proofs.PushesAreOne.{joined_silence}
-use Rattle.gabc_notes.specs.Events.{in_raw, finding_event, end_by_mark, is_missing, Point, kept, is_comment, is_end, is_over, is_fused, is_unpaired, opener, item_at, macro_of, bytes_of, warnings, at_end, events_at, cut_events, note_events, note_events_behind}
+use Rattle.gabc_notes.specs.Events.{in_raw, finding_event, end_by_mark, is_missing, Point, kept, is_comment, is_end, is_over, is_fused, is_unpaired, opener, item_at, macro_of, bytes_of, warnings, at_end, events_at, cut_events, note_events, note_events_after}
 use Rattle.gabc_notes.specs.SnippetRead.{SnippetStop, kept_of, ends_of, findings_of, stop_after, index_of, kept_by, ending_by, ending_at}
 use Rattle.gabc_notes.specs.machine.BuiltSnippet.{BuiltSnippet, with_events, PushIsAdded, EndIsAdded}
 use Rattle.gabc_notes.specs.declared.stage.NoteEnd.{NoteEnd}
@@ -53,7 +53,7 @@ scalars_more (d ∷ a) c e f = go (scalar d) e (λ g. scalars_more a c g f)
     go true e F = F e
     go false e F = absurd (cc)
 
--- a text may be cut behind the bytes of a prefix
+-- a text may be cut after the bytes of a prefix
 pub record Cuts (bs a : List ℕ) (n : ℕ) : Type 0 where
   pub splits : IsSplitPoint bs n
   pub prefix : take n bs ≡ encodes a
@@ -161,9 +161,9 @@ some_none a o e f = cc
 -- After the characters `back` of a snippet that has not ended, where these are left.
 pub record Reaches (split : Bool) (macros : ℕ) (all back left : List Char) (stage : NoteStage) (h : BuiltSnippet) (index : ℕ) : Type 0 where
   pub over : is_over split back ≡ false
-  pub rest : (xs : List Char) → events_left stage xs ≡ note_events_behind split macros back xs
+  pub rest : (xs : List Char) → events_left stage xs ≡ note_events_after split macros back xs
   pub kept_is : h.kept ≡ encodes (kept back)
-  pub findings : h.findings ++ findings_of (concat_of (note_events_behind split macros back left)) ≡ findings_of (concat_of (note_events split macros all))
+  pub findings : h.findings ++ findings_of (concat_of (note_events_after split macros back left)) ≡ findings_of (concat_of (note_events split macros all))
   pub open_end : h.end ≡ None
   pub stop : stop_after split [] all ≡ stop_after split back left
   pub index_is : index ≡ index_of back
@@ -188,15 +188,15 @@ reaches_first split macros all stage h r e = record {
 
 -- what a push gave is what is said of its character
 pub record BuiltHere (split : Bool) (macros : ℕ) (back : List Char) (x : Char) (next : NoteStage) (h after : BuiltSnippet) : Type 0 where
-  pub rest : (xs : List Char) → events_left next xs ≡ note_events_behind split macros (x ∷ back) xs
+  pub rest : (xs : List Char) → events_left next xs ≡ note_events_after split macros (x ∷ back) xs
   pub kept_is : after.kept ≡ h.kept ++ encodes (kept_of (events_at split macros (point back x)))
   pub findings : after.findings ≡ h.findings ++ findings_of (events_at split macros (point back x))
   pub end_is : after.end ≡ end_of h.end (events_at split macros (point back x))
 
 built_here : (split : Bool) (macros : ℕ) (back : List Char) (x : Char) (stage next : NoteStage) (h after : BuiltSnippet)
-    → ((xs : List Char) → events_left stage xs ≡ note_events_behind split macros back xs) → PushIsAdded stage next x h after → BuiltHere split macros back x next h after
+    → ((xs : List Char) → events_left stage xs ≡ note_events_after split macros back xs) → PushIsAdded stage next x h after → BuiltHere split macros back x next h after
 built_here split macros back x stage next h after r f =
-    let law : (xs : List Char) → f.events ∷ events_left next xs ≡ events_at split macros (point back x) ∷ note_events_behind split macros (x ∷ back) xs = λ xs. sym (f.law xs) ∙ r (x ∷ xs) in
+    let law : (xs : List Char) → f.events ∷ events_left next xs ≡ events_at split macros (point back x) ∷ note_events_after split macros (x ∷ back) xs = λ xs. sym (f.law xs) ∙ r (x ∷ xs) in
     let emitted : f.events ≡ events_at split macros (point back x) = (parts _ _ _ _ (law [])).0 in
     let all : after ≡ record { kept = h.kept ++ encodes (kept_of (events_at split macros (point back x))); findings = h.findings ++ findings_of (events_at split macros (point back x)); end = end_of h.end (events_at split macros (point back x)) } =
     f.built ∙ (ap (with_events h) emitted ∙ built_is h (events_at split macros (point back x))) in
@@ -228,9 +228,9 @@ reaches_next split macros all back xs x stage next h after index more r f e s m 
     rest = here.rest;
     kept_is = here.kept_is ∙ (ap (λ (t : List ℕ). t ++ encodes (kept_of (events_at split macros (point back x)))) r.kept_is
         ∙ (sym (encodes-append (kept back) (kept_of (events_at split macros (point back x)))) ∙ ap encodes (sym g.kept_is)));
-    findings = ap (λ (t : List Finding). t ++ findings_of (concat_of (note_events_behind split macros (x ∷ back) xs))) here.findings
-        ∙ (append_assoc h.findings (findings_of (events_at split macros (point back x))) (findings_of (concat_of (note_events_behind split macros (x ∷ back) xs)))
-        ∙ (ap (λ (t : List Finding). h.findings ++ t) (sym (findings_append (events_at split macros (point back x)) (concat_of (note_events_behind split macros (x ∷ back) xs)))) ∙ r.findings));
+    findings = ap (λ (t : List Finding). t ++ findings_of (concat_of (note_events_after split macros (x ∷ back) xs))) here.findings
+        ∙ (append_assoc h.findings (findings_of (events_at split macros (point back x))) (findings_of (concat_of (note_events_after split macros (x ∷ back) xs)))
+        ∙ (ap (λ (t : List Finding). h.findings ++ t) (sym (findings_append (events_at split macros (point back x)) (concat_of (note_events_after split macros (x ∷ back) xs)))) ∙ r.findings));
     open_end = e;
     stop = r.stop ∙ ap (λ (a : Bool). cond a (record { back = back; mark = Some x.c }) (stop_after split (x ∷ back) xs)) n;
     index_is = m ∙ (ap (λ (i : ℕ). i + len_utf8 x.c) r.index_is ∙ sym (sum_by-cons (λ (y : Char). len_utf8 y.c) x back ∙ swap (len_utf8 x.c) (index_of back)));
@@ -279,7 +279,7 @@ stops_at split macros all back xs x stage next h after index bytes how r f e l =
         findings_are = here.findings ∙ (ap (λ (t : List Finding). h.findings ++ t) (sym (append-nil (findings_of (events_at split macros (point back x))))
             ∙ ap (λ (t : List Finding). findings_of (events_at split macros (point back x)) ++ t)
             (sym (ap (λ (o : List (List NoteEvent)). findings_of (concat_of o)) (over_emits split macros xs (x ∷ back) (ap (λ (a : Bool). a || is_over split back) n.0)) ∙ ap findings_of (joined_silence xs))))
-            ∙ (ap (λ (t : List Finding). h.findings ++ t) (sym (findings_append (events_at split macros (point back x)) (concat_of (note_events_behind split macros (x ∷ back) xs)))) ∙ r.findings));
+            ∙ (ap (λ (t : List Finding). h.findings ++ t) (sym (findings_append (events_at split macros (point back x)) (concat_of (note_events_after split macros (x ∷ back) xs)))) ∙ r.findings));
         how_is = ap (λ (w : NoteEnd). ending_at w index) ways ∙ (ap (λ (i : ℕ). ending_at (end_by_mark x.c) i) r.index_is ∙ ap (λ (s : SnippetStop). ending_by s.mark s.back) (sym stop));
       })
 ]

@@ -178,7 +178,7 @@ module _ (text : List ℕ) (n : ℕ) (utf8 : IsUtf8 text) (within : n ≤ length
 
 -- ---- the characters after a front
 
--- These characters were read of the text, of so many bytes, and of so many their longest regular prefix. The reading stands in that state, and the rest is left.
+-- These characters were read of the text, of n bytes, and of n their longest regular prefix. The reading stands in that state, and the rest is left.
 pub record IsReadSoFar (text rest : List ℕ) (state : RegularState) (read regular : ℕ) (done : List ℕ) : Type 0 where
   pub whole : done ++ chars rest ≡ chars text
   pub reads : Reads done state

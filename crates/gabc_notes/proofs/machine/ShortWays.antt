@@ -36,7 +36,7 @@ still_fused false = refl
 abbrev pub short_facts : NoteStage → ItemState → CharFacts
 short_facts st z = facts_by_states st.state (Some z) st.name
 
--- the stage behind it
+-- the stage after it
 abbrev pub note_made : NoteStage → ItemState → ℕ → Char → NoteStage
 note_made st z kept x = record st { state = z; name = Closed; before = record st.before { place = x.place; kept = kept; whole = kept } }
 

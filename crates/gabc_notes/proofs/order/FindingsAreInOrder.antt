@@ -20,7 +20,7 @@ use Rattle.gabc_patterns.proofs.StatesAfterTexts.{state_of, after_char}
 use Rattle.gabc_notes.specs.Table.{gabc}
 use Rattle.gabc_notes.specs.machine.StageEvents.{nothing_before}
 use Rattle.gabc_notes.specs.witness.StageEvents.{char_facts, raw_with, before_in}
-use Rattle.gabc_notes.specs.Events.{ItemText, Point, in_raw, kept, kept_with, is_comment, is_kept, is_end, is_over, is_fused, is_unpaired, is_missing, opener, item_at, opens_fusion, closes_fusion, macro_of, bytes_of, finding_event, end_by_mark, last_of, warnings, at_end, events_at, note_events, note_events_behind}
+use Rattle.gabc_notes.specs.Events.{ItemText, Point, in_raw, kept, kept_with, is_comment, is_kept, is_end, is_over, is_fused, is_unpaired, is_missing, opener, item_at, opens_fusion, closes_fusion, macro_of, bytes_of, finding_event, end_by_mark, last_of, warnings, at_end, events_at, note_events, note_events_after}
 use Rattle.gabc_notes.specs.SnippetRead.{findings_of}
 use Rattle.gabc_notes.specs.declared.item.ItemKind.TheVariants.{Attribute}
 use Rattle.gabc_notes.specs.declared.stage.Before.{Before}
@@ -229,7 +229,7 @@ kept_sorted split macros back x q fs t c n w l b s = go (is_unpaired (point back
     same : kept (x ∷ back) ≡ kept_with (point back x)
     same = kept_more back x c ∙ ap (λ (a : Bool). cond a (kept_with (point back x)) (kept back)) w
 
-    -- behind an item nothing is emitted before the next character
+    -- after an item nothing is emitted before the next character
     later : is_snippet gabc (kept_with (point back x)) ≡ true → Sorted q fs
     later e = subst (λ (a : Bool). Sorted (cond a (opener (x ∷ back)) q) fs)
         (ap in_raw same ∙ (ap (λ (d : Bool). is_snippet gabc (kept_with (point back x) ++ codes "]") && not d) e ∙ and-false (is_snippet gabc (kept_with (point back x) ++ codes "]")))) s
@@ -285,40 +285,40 @@ facts_how split macros back x o n = go (is_comment (point back x)) refl (is_viab
 
 -- the findings of a character and of those that follow it
 one_sorted : (split : Bool) (macros : ℕ) (back xs : List Char) (x : Char) (q : Place) → is_over split back ≡ false → IsEarlier x.place q → OpenerBefore back x.place
-    → (OpenerBefore (x ∷ back) q → Sorted (low (x ∷ back) q) (findings_of (concat_of (note_events_behind split macros (x ∷ back) xs))))
-    → Sorted (low back x.place) (findings_of (events_at split macros (point back x)) ++ findings_of (concat_of (note_events_behind split macros (x ∷ back) xs)))
+    → (OpenerBefore (x ∷ back) q → Sorted (low (x ∷ back) q) (findings_of (concat_of (note_events_after split macros (x ∷ back) xs))))
+    → Sorted (low back x.place) (findings_of (events_at split macros (point back x)) ++ findings_of (concat_of (note_events_after split macros (x ∷ back) xs)))
 one_sorted split macros back xs x q o l b F = elim (is_emitted split macros back x o) [
   | inl n ↦ going n (facts_how split macros back x o n)
   | inr h ↦ ended h.0 h.1
 ]
   where
     ended : is_end split (point back x) ≡ true → events_at split macros (point back x) ≡ at_end (point back x)
-        → Sorted (low back x.place) (findings_of (events_at split macros (point back x)) ++ findings_of (concat_of (note_events_behind split macros (x ∷ back) xs)))
+        → Sorted (low back x.place) (findings_of (events_at split macros (point back x)) ++ findings_of (concat_of (note_events_after split macros (x ∷ back) xs)))
     ended e f =
-        let none : concat_of (note_events_behind split macros (x ∷ back) xs) ≡ [] = over_joined split macros (x ∷ back) xs (more_over split back x true o e) in
+        let none : concat_of (note_events_after split macros (x ∷ back) xs) ≡ [] = over_joined split macros (x ∷ back) xs (more_over split back x true o e) in
         let out = not-true (in_raw (kept back)) (and_true (not (in_raw (kept back))) ((x.c == 41) || (split && (x.c == 124))) (and_true (not (is_comment (point back x))) _ e).1).0 in
-        subst (λ (a : List NoteEvent). Sorted (low back x.place) (findings_of a ++ findings_of (concat_of (note_events_behind split macros (x ∷ back) xs)))) (sym f)
+        subst (λ (a : List NoteEvent). Sorted (low back x.place) (findings_of a ++ findings_of (concat_of (note_events_after split macros (x ∷ back) xs)))) (sym f)
         (subst (λ (a : List NoteEvent). Sorted (low back x.place) (findings_of (at_end (point back x)) ++ findings_of a)) (sym none) (end_sorted macros back x out))
 
     going : is_end split (point back x) ≡ false → FactsHow split macros back x
-        → Sorted (low back x.place) (findings_of (events_at split macros (point back x)) ++ findings_of (concat_of (note_events_behind split macros (x ∷ back) xs)))
+        → Sorted (low back x.place) (findings_of (events_at split macros (point back x)) ++ findings_of (concat_of (note_events_after split macros (x ∷ back) xs)))
     going n (inl h) =
         let k : is_kept (point back x) ≡ false = ap (λ (a : Bool). not a && is_viable gabc (kept_with (point back x))) h.0 in
         let same = kept_same back x h.0 in
-        subst (λ (a : List NoteEvent). Sorted (low back x.place) (findings_of a ++ findings_of (concat_of (note_events_behind split macros (x ∷ back) xs)))) (sym h.1)
+        subst (λ (a : List NoteEvent). Sorted (low back x.place) (findings_of a ++ findings_of (concat_of (note_events_after split macros (x ∷ back) xs)))) (sym h.1)
         (weaken (low back x.place) (low (x ∷ back) q) _ (subst (λ (r : Place). IsUpTo (low back x.place) r) (sym (low_same back x q k same)) (low_grows back x.place q l))
         (F (unkept_before back x q k same l b)))
     going n (inr (inl h)) =
         let k : is_kept (point back x) ≡ true = ap (λ (a : Bool). not a && is_viable gabc (kept_with (point back x))) h.0 ∙ h.1 in
-        subst (λ (a : List NoteEvent). Sorted (low back x.place) (findings_of a ++ findings_of (concat_of (note_events_behind split macros (x ∷ back) xs)))) (sym h.2)
+        subst (λ (a : List NoteEvent). Sorted (low back x.place) (findings_of a ++ findings_of (concat_of (note_events_after split macros (x ∷ back) xs)))) (sym h.2)
         (kept_sorted split macros back x q _ (stand split back o) h.0 n h.1 l b (F (kept_before back x q k l b)))
     going n (inr (inr h)) =
         let k : is_kept (point back x) ≡ false = ap (λ (a : Bool). not a && is_viable gabc (kept_with (point back x))) h.0 ∙ h.1 in
         let same : kept (x ∷ back) ≡ kept back = kept_more back x h.0 ∙ ap (λ (a : Bool). cond a (kept_with (point back x)) (kept back)) h.1 in
         let out : in_raw (kept back) ≡ false = outside (in_raw (kept back)) refl h.1 in
-        subst (λ (a : List NoteEvent). Sorted (low back x.place) (findings_of a ++ findings_of (concat_of (note_events_behind split macros (x ∷ back) xs)))) (sym h.2)
+        subst (λ (a : List NoteEvent). Sorted (low back x.place) (findings_of a ++ findings_of (concat_of (note_events_after split macros (x ∷ back) xs)))) (sym h.2)
         (prepend (low back x.place) q (record { place = x.place; code = E1 }) _ (low_before back x.place b) l
-        (subst (λ (r : Place). Sorted r (findings_of (concat_of (note_events_behind split macros (x ∷ back) xs)))) (low_same back x q k same ∙ ap (λ (r : Bool). cond r (opener back) q) out)
+        (subst (λ (r : Place). Sorted r (findings_of (concat_of (note_events_after split macros (x ∷ back) xs)))) (low_same back x q k same ∙ ap (λ (r : Bool). cond r (opener back) q) out)
         (F (unkept_before back x q k same l b))))
       where
         outside : (r : Bool) → in_raw (kept back) ≡ r → is_viable gabc (kept_with (point back x)) ≡ false → in_raw (kept back) ≡ false
@@ -329,20 +329,20 @@ one_sorted split macros back xs x q o l b F = elim (is_emitted split macros back
         outside false e v = e
 
 pub events_sorted : (split : Bool) (macros : ℕ) (t : List ℕ) (back : List Char) (p : Place) → OpenerBefore back p
-    → Sorted (low back p) (findings_of (concat_of (note_events_behind split macros back (placed_characters_from p t))))
+    → Sorted (low back p) (findings_of (concat_of (note_events_after split macros back (placed_characters_from p t))))
 events_sorted split macros [] back p b = go (is_over split back) refl
   where
-    go : (o : Bool) → is_over split back ≡ o → Sorted (low back p) (findings_of (concat_of (note_events_behind split macros back [])))
+    go : (o : Bool) → is_over split back ≡ o → Sorted (low back p) (findings_of (concat_of (note_events_after split macros back [])))
     go true o = subst (λ (l : List NoteEvent). Sorted (low back p) (findings_of l)) (sym (over_joined split macros back [] o)) (no_findings (low back p))
     go false o = subst (λ (l : List NoteEvent). Sorted (low back p) (findings_of (l ++ []))) (sym (cut_outs split back o)) (no_findings (low back p))
 events_sorted split macros (c ∷ t) back p b = go (is_over split back) refl (events_sorted split macros t (record { c = c; place = p } ∷ back) (next_place p c))
   where
     go : (o : Bool) → is_over split back ≡ o
-        → (OpenerBefore (record { c = c; place = p } ∷ back) (next_place p c) → Sorted (low (record { c = c; place = p } ∷ back) (next_place p c)) (findings_of (concat_of (note_events_behind split macros (record { c = c; place = p } ∷ back) (placed_characters_from (next_place p c) t)))))
-        → Sorted (low back p) (findings_of (concat_of (note_events_behind split macros back (placed_characters_from p (c ∷ t)))))
+        → (OpenerBefore (record { c = c; place = p } ∷ back) (next_place p c) → Sorted (low (record { c = c; place = p } ∷ back) (next_place p c)) (findings_of (concat_of (note_events_after split macros (record { c = c; place = p } ∷ back) (placed_characters_from (next_place p c) t)))))
+        → Sorted (low back p) (findings_of (concat_of (note_events_after split macros back (placed_characters_from p (c ∷ t)))))
     go true o F = subst (λ (l : List NoteEvent). Sorted (low back p) (findings_of l)) (sym (over_joined split macros back (placed_characters_from p (c ∷ t)) o)) (no_findings (low back p))
     go false o F =
-        subst (Sorted (low back p)) (sym (findings_append (events_at split macros (point back (record { c = c; place = p }))) (concat_of (note_events_behind split macros (record { c = c; place = p } ∷ back) (placed_characters_from (next_place p c) t)))))
+        subst (Sorted (low back p)) (sym (findings_append (events_at split macros (point back (record { c = c; place = p }))) (concat_of (note_events_after split macros (record { c = c; place = p } ∷ back) (placed_characters_from (next_place p c) t)))))
         (one_sorted split macros back (placed_characters_from (next_place p c) t) (record { c = c; place = p }) (next_place p c) o (before_next p c) b F)
 
 -- of a whole text

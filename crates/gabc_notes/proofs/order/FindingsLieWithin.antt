@@ -11,7 +11,7 @@ use Rattle.gabc_patterns.specs.Derivative.{is_snippet}
 use Rattle.gabc_patterns.specs.Function.{trim}
 use Rattle.gabc_patterns.proofs.BothOfTwoTests.{and_true, or_true}
 use Rattle.gabc_notes.specs.Table.{gabc}
-use Rattle.gabc_notes.specs.Events.{Point, in_raw, kept, is_comment, is_end, is_over, is_fused, is_unpaired, is_missing, opener, item_at, macro_of, bytes_of, finding_event, end_by_mark, warnings, at_end, events_at, cut_events, note_events, note_events_behind}
+use Rattle.gabc_notes.specs.Events.{Point, in_raw, kept, is_comment, is_end, is_over, is_fused, is_unpaired, is_missing, opener, item_at, macro_of, bytes_of, finding_event, end_by_mark, warnings, at_end, events_at, cut_events, note_events, note_events_after}
 use Rattle.gabc_notes.specs.SnippetRead.{findings_of, ends_of, end_by}
 use Rattle.gabc_notes.specs.Ends.{IsMarkOf, EndWithMark, EndAtMost, AreCutAtMost}
 use Rattle.gabc_notes.specs.declared.stage.NoteEnd.TheVariants.{Next, Close, Cut}
@@ -92,7 +92,7 @@ facts_within at split macros back x l h = start (is_over split back) refl
       | inr e ↦ events (at_end (point back x)) e.1 (end_within at back x l)
     ]
 
--- ---- the characters of a prefix and the one behind it
+-- ---- the characters of a prefix and the one after it
 
 cut_quiet : (split : Bool) (back : List Char) → findings_of (cut_events split back ++ []) ≡ []
 cut_quiet split back = go (is_over split back)
@@ -102,7 +102,7 @@ cut_quiet split back = go (is_over split back)
     go false = refl
 
 through : (at : Place) (split : Bool) (macros : ℕ) (prefix rest : List ℕ) (back : List Char) (p : Place) → IsUpTo at p → StandBetween at p back
-    → LieBetween at (place_past p prefix) (findings_of (concat_of (take (length prefix + 1) (note_events_behind split macros back (placed_characters_from p (prefix ++ rest))))))
+    → LieBetween at (place_past p prefix) (findings_of (concat_of (take (length prefix + 1) (note_events_after split macros back (placed_characters_from p (prefix ++ rest))))))
 through at split macros [] [] back p l h = subst (LieBetween at p) (sym (cut_quiet split back)) tt
 through at split macros [] (c ∷ rest) back p l h =
     let x : Char = record { c = c; place = p } in
@@ -111,7 +111,7 @@ through at split macros [] (c ∷ rest) back p l h =
 through at split macros (c ∷ prefix) rest back p l h =
     let x : Char = record { c = c; place = p } in
     let next = before_up_to p (next_place p c) (before_next p c) in
-    let later = note_events_behind split macros (x ∷ back) (placed_characters_from (next_place p c) (prefix ++ rest)) in
+    let later = note_events_after split macros (x ∷ back) (placed_characters_from (next_place p c) (prefix ++ rest)) in
     let n : length (c ∷ prefix) + 1 ≡ suc (length prefix + 1) = omega arith in
     subst (λ (k : ℕ). LieBetween at (place_past (next_place p c) prefix) (findings_of (concat_of (take k (events_at split macros (point back x) ∷ later))))) (sym n)
     (subst (LieBetween at (place_past (next_place p c) prefix)) (sym (findings_append (events_at split macros (point back x)) (concat_of (take (length prefix + 1) later))))

@@ -5,7 +5,7 @@ use Rattle.gabc_places.specs.BoundedList.{BoundedList}
 use Rattle.gabc_places.specs.StageLaw.{Pushes}
 use Rattle.gabc_places.specs.declared.place.Char.{Char}
 use Rattle.gabc_notes.specs.witness.ItemMachine.{events_left}
-use Rattle.gabc_notes.specs.witness.Keeps.{KeepsOn}
+use Rattle.gabc_notes.specs.witness.Keeps.{KeepsOn, Steps}
 use Rattle.gabc_notes.specs.witness.StageEvents.{role_in}
 use Rattle.gabc_notes.specs.machine.ItemMachine.{IsShortStep, raw_state, facts_by_states, stage_after, stage_kept}
 use Rattle.gabc_notes.specs.machine.StageBehind.{next_of, facts_of, role_of, stage_behind, events_of_push}
@@ -17,7 +17,7 @@ use Rattle.gabc_notes.specs.declared.state.ItemState.{ItemState}
 use Rattle.gabc_notes.proofs.resuming.KeptTextGivesStage.{emits_on}
 use Rattle.gabc_notes.proofs.resuming.StagesKeep.{behind, push_keeps}
 
--- ---- the stage behind a character, by each way
+-- ---- the stage after a character, by each way
 
 -- the general way
 pub read_state : (s next : NoteStage) (x : Char) (o : Option ItemState) (facts : CharFacts) (role : CharRole) → s.ended ≡ false → o ≡ next_of s x.c → facts ≡ facts_by_states s.state o s.name
@@ -62,3 +62,13 @@ pub push_keeps_in : (s next : NoteStage) (x : Char) (old new : BoundedList NoteE
 push_keeps_in s next x old new on e p =
     subst (λ (events : List NoteEvent). KeepsOn s x events next) (sym (ap (λ (room : BoundedList NoteEvent). drop (length old.items) room.items) p.out ∙ drop-append_seam old.items p.events))
     (keeps_by s next x p.events on e (p.law []))
+
+-- ---- what a push does
+
+-- where the stage goes on or ends with the character
+pub push_steps_in : (s next : NoteStage) (x : Char) (old new : BoundedList NoteEvent) → s.ended ≡ false → next ≡ stage_behind s x → Pushes (events_left s) (events_left next) x 3 old new
+    → Steps s x (drop (length old.items) new.items) next
+push_steps_in s next x old new on e p = record {
+  emits = λ xs. p.law xs ∙ ap (λ (events : List NoteEvent). events ∷ events_left next xs) (sym (ap (λ (room : BoundedList NoteEvent). drop (length old.items) room.items) p.out ∙ drop-append_seam old.items p.events));
+  keeps = push_keeps_in s next x old new on e p;
+}

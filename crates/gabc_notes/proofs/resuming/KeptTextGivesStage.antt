@@ -9,7 +9,7 @@ use Rattle.gabc_notes.specs.Events.{in_raw, note_events}
 use Rattle.gabc_notes.specs.witness.ItemMachine.{example, events_left}
 use Rattle.gabc_notes.specs.witness.Keeps.{Keeps, is_comment_behind, is_end_behind, kept_behind, opener_behind, GoesOn, set_down, OpensAt, IsKeptAgain}
 use Rattle.gabc_notes.specs.SnippetRead.{kept_of}
-use Rattle.gabc_notes.specs.StageTells.{opener_of, comment_of, told}
+use Rattle.gabc_notes.specs.StageReports.{opener_of, comment_of, told}
 use Rattle.gabc_notes.specs.machine.StageBehind.{next_of, facts_of, role_of, stage_behind, events_of_push, at_nowhere, aside, fresh_stage, stage_past, AreKept}
 use Rattle.gabc_notes.specs.declared.stage.CharRole.TheVariants.{Keep}
 use Rattle.gabc_notes.specs.declared.stage.NoteEvent.{NoteEvent}
@@ -19,7 +19,7 @@ use Rattle.gabc_notes.proofs.machine.StageEmitsItsEvents.{push_law}
 use Rattle.gabc_notes.proofs.resuming.StagesAgree.{told_suffices}
 use Rattle.gabc_notes.proofs.resuming.StagesKeep.{Behind, behind, text_behind, fresh_behind, keeps_behind, role_says, opener_is, kept_aside, past_more, emitted, events_are, push_keeps, fresh_keeps}
 
--- ---- two stages behind one text
+-- ---- two stages after one text
 
 abbrev with_told : NoteStage → Option Place → Bool → NoteStage
 with_told s None m = record s { before = record s.before { place = record { line = 0; column = 0 }; comment = m } }
@@ -75,7 +75,7 @@ are_before s (d ∷ k) c more a = (let y = are_before (stage_behind s (at_nowher
 pub kept_again : (split : Bool) (macros : ℕ) (s : NoteStage) (k more : List ℕ) (c : ℕ) → Keeps split macros s (k ++ c ∷ more) → IsKeptAgain split k c
 kept_again split macros s k more c h = (let y = are_before (fresh_stage split macros) k c more h.whole in kept_again_by split macros k c y.0 y.1)
 
--- ---- a stage set down again
+-- ---- a stage restored
 
 pub emits_on : (s : NoteStage) (x : Char) (xs : List Char) → s.ended ≡ false → events_left s (x ∷ xs) ≡ events_of_push s x ∷ events_left (stage_behind s x) xs
 emits_on s x xs on =
@@ -92,7 +92,7 @@ module _ (split : Bool) (macros : ℕ) (at : Place) where
   abbrev placed : List ℕ → List Char
   placed k = map (λ (c : ℕ). record { c = c; place = at }) k
 
-  -- a stage that stands behind the text of s, with this text more
+  -- a stage that stands after the text of s, with this text more
   record Reread (s : NoteStage) (k : List ℕ) (down : List Char) (m : Bool) : Type 0 where
     pub stage : NoteStage
     pub keeps : Keeps split macros stage k

@@ -1,4 +1,4 @@
--- Stages that tell the same emit the same of whatever follows.
+-- Stages that report the same emit the same of whatever follows.
 use Rattle.std.proofs.Common.{◌≡◌, ℕ, List, [], ◌∷◌, ◌++◌, Bool, true, false, refl, sym, ap, ◌∙◌, if◌then◌else◌}
 use Rattle.gabc_places.specs.declared.place.Char.{Char}
 use Rattle.gabc_places.specs.declared.place.Place.{Place}
@@ -6,7 +6,7 @@ use Rattle.gabc_places.specs.StageLaw.{silence}
 use Rattle.gabc_notes.specs.Events.{in_raw}
 use Rattle.gabc_notes.specs.witness.ItemMachine.{example, example_prefix, events_left}
 use Rattle.gabc_notes.specs.witness.StageEvents.{char_facts, role_in, before_in, events_in, event_list, raw_with, events_following, events_behind}
-use Rattle.gabc_notes.specs.StageTells.{told}
+use Rattle.gabc_notes.specs.StageReports.{told}
 use Rattle.gabc_notes.specs.declared.stage.Before.{Before}
 use Rattle.gabc_notes.specs.declared.stage.CharRole.{CharRole}
 use Rattle.gabc_notes.specs.declared.stage.CharRole.TheVariants.{Silent, Comment, Ends, Keep, LeaveOut}

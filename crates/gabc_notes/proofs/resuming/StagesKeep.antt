@@ -12,10 +12,10 @@ use Rattle.gabc_patterns.proofs.StatesFollowExamples.{viable_next}
 use Rattle.gabc_notes.specs.Table.{gabc}
 use Rattle.gabc_notes.specs.Events.{in_raw, bytes_of, finding_event, is_missing, end_by_mark}
 use Rattle.gabc_notes.specs.witness.ItemMachine.{example}
-use Rattle.gabc_notes.specs.witness.Keeps.{Keeps, is_comment_behind, is_end_behind, kept_behind, opener_behind, GoesOn, EndsBehind, KeepsOn}
+use Rattle.gabc_notes.specs.witness.Keeps.{Keeps, is_comment_behind, is_end_behind, kept_behind, opener_behind, GoesOn, EndsAfter, KeepsOn}
 use Rattle.gabc_notes.specs.SnippetRead.{kept_of, ends_of}
 use Rattle.gabc_notes.specs.witness.StageEvents.{role_in, warning_in, events_in, event_list, count_plus}
-use Rattle.gabc_notes.specs.StageTells.{opener_of, comment_of}
+use Rattle.gabc_notes.specs.StageReports.{opener_of, comment_of}
 use Rattle.gabc_notes.specs.machine.ItemMachine.{raw_state, facts_by_states, stage_after}
 use Rattle.gabc_notes.specs.machine.StageBehind.{next_of, facts_of, role_of, stage_behind, events_of_push, at_nowhere, aside, fresh_stage, stage_past, AreKept}
 use Rattle.gabc_notes.specs.declared.stage.CharRole.{CharRole}
@@ -40,11 +40,11 @@ pub record Behind (split : Bool) (macros : ℕ) (s : NoteStage) (k : List ℕ) :
   pub bytes : s.before.kept ≡ bytes_of k
   pub whole : s.before.whole ≡ bytes_of (trim gabc k)
 
--- the stage behind a character, if it goes on before it
+-- the stage after a character, if it goes on before it
 pub behind : (s : NoteStage) (x : Char) → s.ended ≡ false → stage_behind s x ≡ stage_after s (role_of s x.c) (facts_of s x.c) (next_of s x.c) x
 behind s x on = ap (λ (b : Bool). if b then s else stage_after s (role_of s x.c) (facts_of s x.c) (next_of s x.c) x) on
 
--- the state behind one that is kept
+-- the state after one that is kept
 kept_state : (s : NoteStage) (c : ℕ) → role_of s c ≡ Keep → (z : ItemState) × (next_of s c ≡ Some z)
 kept_state s c e = by (next_of s c) refl
   where
@@ -74,7 +74,7 @@ kept_one split macros s k x z h n = record {
     by true = more
     by false = h.whole
 
--- a character that is kept, as the stage behind it
+-- a character that is kept, as the stage after it
 kept_step : (s : NoteStage) (x : Char) (z : ItemState) → s.ended ≡ false → role_of s x.c ≡ Keep → next_of s x.c ≡ Some z
     → stage_behind s x ≡ stage_after s Keep (facts_by_states s.state (Some z) s.name) (Some z) x
 kept_step s x z on keep n =
@@ -213,7 +213,7 @@ kept_aside s c e = by (s.before.comment && not (c == 10)) refl
     by true f = absurd (let g : Silent ≡ Keep = ap (λ (a : Bool). if a then Silent else rest) (sym f) ∙ e in cc)
     by false f = ap (λ (a : Bool). if a then Silent else rest) (sym f) ∙ e
 
--- the stage behind it is the same, places and comments aside
+-- the stage after it is the same, places and comments aside
 aside_kept : (s : NoteStage) (x : Char) (z : ItemState)
     → aside (stage_after s Keep (facts_by_states s.state (Some z) s.name) (Some z) x) ≡ stage_after (aside s) Keep (facts_by_states s.state (Some z) s.name) (Some z) (at_nowhere x.c)
 aside_kept s x z = by (raw_state s.state)
@@ -334,21 +334,21 @@ module _ (split : Bool) (macros : ℕ) (s : NoteStage) (x : Char) (k : List ℕ)
       by Ends e = (let R = role_says split macros s k b x.c Ends e in
           absurd (true≢false (sym (ap (λ (a : Bool). not a && marks) R.0 ∙ R.1) ∙ ongoing)))
 
-  ends : is_end_behind split k (comment_of s) x.c ≡ true → EndsBehind k x.c (events_of_push s x)
+  ends : is_end_behind split k (comment_of s) x.c ≡ true → EndsAfter k x.c (events_of_push s x)
   ends over = by (role_of s x.c) refl
     where
-      never : is_comment_behind k (comment_of s) x.c ≡ true → EndsBehind k x.c (events_of_push s x)
+      never : is_comment_behind k (comment_of s) x.c ≡ true → EndsAfter k x.c (events_of_push s x)
       never c = absurd (true≢false (sym over ∙ ap (λ (a : Bool). not a && marks) c))
 
-      no_mark : marks ≡ false → is_comment_behind k (comment_of s) x.c ≡ false → EndsBehind k x.c (events_of_push s x)
+      no_mark : marks ≡ false → is_comment_behind k (comment_of s) x.c ≡ false → EndsAfter k x.c (events_of_push s x)
       no_mark m c = absurd (true≢false (sym over ∙ ap (λ (a : Bool). not a && marks) c ∙ m))
 
-      by : (r : CharRole) → role_of s x.c ≡ r → EndsBehind k x.c (events_of_push s x)
+      by : (r : CharRole) → role_of s x.c ≡ r → EndsAfter k x.c (events_of_push s x)
       by Silent e = never (role_says split macros s k b x.c Silent e).0
       by Comment e = never (role_says split macros s k b x.c Comment e)
       by LeaveOut e = (let R = role_says split macros s k b x.c LeaveOut e in no_mark R.1 R.0)
       by Keep e = (let R = role_says split macros s k b x.c Keep e in no_mark R.1 R.0)
-      by Ends e = subst (EndsBehind k x.c) (sym (events_are s x Ends h.goes_on e)) (record {
+      by Ends e = subst (EndsAfter k x.c) (sym (events_are s x Ends h.goes_on e)) (record {
         end = ends_are s x Ends ∙ ap (λ (n : ℕ). (end_by_mark x.c, n) ∷ []) b.whole;
         none_kept = none_kept s x;
       })

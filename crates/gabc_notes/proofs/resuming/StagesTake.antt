@@ -11,7 +11,7 @@ use Rattle.gabc_notes.specs.SnippetRead.{kept_of}
 use Rattle.gabc_notes.specs.witness.ItemMachine.{example, example_prefix}
 use Rattle.gabc_notes.specs.witness.Keeps.{GoesOn, IsCutAtOpener, Keeps, OpensThere, Takes, is_comment_behind, is_end_behind, kept_behind}
 use Rattle.gabc_notes.specs.witness.StageEvents.{events_behind}
-use Rattle.gabc_notes.specs.StageTells.{comment_of, opener_of}
+use Rattle.gabc_notes.specs.StageReports.{comment_of, opener_of}
 use Rattle.gabc_notes.specs.machine.StageBehind.{events_of_push, next_of, stage_behind}
 use Rattle.gabc_notes.specs.declared.stage.NoteEnd.TheVariants.{Cut}
 use Rattle.gabc_notes.specs.declared.stage.NoteEvent.TheVariants.{Ended}

@@ -1,5 +1,5 @@
 -- A stage stands after the text that it kept. Of what it has read nothing else matters but what it
--- tells.
+-- reports.
 use Rattle.std.specs.Prelude.{◌≡◌, ℕ, List, [], ◌∷◌, ◌++◌, Bool, true, false, not, ◌&&◌, ◌||◌, ◌==◌, if◌then◌else◌, Option, Some, None, unwrap_or, map}
 use Rattle.gabc_places.specs.declared.place.Char.{Char}
 use Rattle.gabc_places.specs.declared.place.Place.{Place}
@@ -8,7 +8,7 @@ use Rattle.gabc_patterns.specs.Function.{trim}
 use Rattle.gabc_notes.specs.Table.{gabc}
 use Rattle.gabc_notes.specs.Events.{in_raw, end_by_mark, bytes_of, note_events}
 use Rattle.gabc_notes.specs.SnippetRead.{kept_of, ends_of}
-use Rattle.gabc_notes.specs.StageTells.{opener_of, comment_of}
+use Rattle.gabc_notes.specs.StageReports.{opener_of, comment_of}
 use Rattle.gabc_notes.specs.machine.StageBehind.{aside, fresh_stage, stage_past, AreKept}
 use Rattle.gabc_notes.specs.witness.ItemMachine.{events_left}
 use Rattle.gabc_notes.specs.declared.stage.NoteEnd.TheVariants.{Cut}
@@ -55,17 +55,23 @@ pub record GoesOn (split : Bool) (macros : ℕ) (k : List ℕ) (before : NoteSta
 
 -- It ends with the bytes of the kept text k without an unfinished end, and nothing is kept with the
 -- mark c.
-pub record EndsBehind (k : List ℕ) (c : ℕ) (events : List NoteEvent) : Type 0 where
+pub record EndsAfter (k : List ℕ) (c : ℕ) (events : List NoteEvent) : Type 0 where
   pub end : ends_of events ≡ (end_by_mark c, bytes_of (trim gabc k)) ∷ []
   pub none_kept : kept_of events ≡ []
 
--- What a character does to a stage, by the text that it kept and what it tells: it goes on or ends.
+-- What a character does to a stage, by the text that it kept and what it reports: it goes on or
+-- ends.
 pub record KeepsOn (before : NoteStage) (x : Char) (events : List NoteEvent) (after : NoteStage) : Type 0 where
   pub goes : (split : Bool) (macros : ℕ) (k : List ℕ) → Keeps split macros before k → is_end_behind split k (comment_of before) x.c ≡ false
       → GoesOn split macros k before x events after
-  pub ends : (split : Bool) (macros : ℕ) (k : List ℕ) → Keeps split macros before k → is_end_behind split k (comment_of before) x.c ≡ true → EndsBehind k x.c events
+  pub ends : (split : Bool) (macros : ℕ) (k : List ℕ) → Keeps split macros before k → is_end_behind split k (comment_of before) x.c ≡ true → EndsAfter k x.c events
 
--- ---- a stage set down again
+-- The step of a stage: it takes a character with these events, and stands there then.
+pub record Steps (before : NoteStage) (x : Char) (events : List NoteEvent) (after : NoteStage) : Type 0 where
+  pub emits : (xs : List Char) → events_left before (x ∷ xs) ≡ events ∷ events_left after xs
+  pub keeps : KeepsOn before x events after
+
+-- ---- a stage restored
 
 -- the characters of a kept text, each at this place, and a `%` after them where a comment is open
 abbrev pub set_down : Place → List ℕ → Bool → List Char

@@ -1,4 +1,4 @@
--- Where a decoder stands behind a byte.
+-- Where a decoder stands after a byte.
 use Rattle.std.proofs.Common.{◌≡◌, ℕ, ◌+◌, not, Bool, true, false, List, [], ◌∷◌, ◌++◌, ◌==◌, ◌&&◌, Option, option_to_list, Result, refl, sym, subst, arith}
 use Rattle.std.proofs.lemmas.Bool.{and_parts, and_right}
 use Rattle.std.proofs.lemmas.Bool.Decides.{nat_tests}
@@ -13,12 +13,12 @@ use Rattle.gabc_places.specs.declared.decoded.Tail.TheVariants.{Nothing, Part, W
 use Rattle.gabc_places.specs.Text.{is_left_out, read_as, utf8_prefix_of, tail_of}
 use Rattle.gabc_places.specs.TextOfAnInput.{IsTextCharacter}
 use Rattle.gabc_places.specs.DecoderMachine.{DecoderState, is_unfinished}
-use Rattle.gabc_places.specs.DecoderTells.{MovesOn, is_after_cr}
+use Rattle.gabc_places.specs.DecoderReports.{MovesOn, is_after_cr}
 use Rattle.gabc_places.specs.witness.DecoderEvents.{DecoderStep, stop_with, take_character, take_pending}
 use Rattle.gabc_places.specs.machine.Decoder.{take_part}
 use Rattle.gabc_places.proofs.texts.TextsAreScalars.{prefix_scalars}
 
--- behind a byte that is counted it stands where it did
+-- after a byte that is counted it stands where it did
 pub record IsCounted (s mid : DecoderState) : Type 0 where
   pub limit : mid.limit ≡ s.limit
   pub taken : mid.taken ≡ s.taken + 1

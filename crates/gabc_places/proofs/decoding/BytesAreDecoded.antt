@@ -20,7 +20,7 @@ use Rattle.gabc_places.specs.declared.code.Fault.{Fault}
 use Rattle.gabc_places.specs.declared.decoded.Decoded.{Decoded}
 use Rattle.gabc_places.specs.declared.decoded.Tail.{Tail}
 use Rattle.gabc_places.specs.declared.decoded.Tail.TheVariants.{Nothing, Part, Wrong}
-use Rattle.gabc_places.specs.Place.{place_after, placed_characters, placed_characters_behind, next_place}
+use Rattle.gabc_places.specs.Place.{place_after, placed_characters, placed_characters_after, next_place}
 use Rattle.gabc_places.specs.StageLaw.{concat_of, silence}
 use Rattle.gabc_places.specs.Text.{is_left_out, read_as, with_previous, text_of_characters, utf8_prefix_of, tail_of, decoded_of, stop_code_of}
 use Rattle.gabc_places.specs.Decoder.{items_of, known_of, known_at_end}
@@ -131,14 +131,14 @@ items-stop : (cs : List ℕ) (code : Code) → items cs (Some code) ≡ items cs
 items-stop cs code = ap (λ l. l ++ Err (record { place = place_after (text_of_characters cs); code = code }) ∷ []) (sym (append-nil (map (λ c. Ok c) (placed_characters (text_of_characters cs)))))
 
 -- a character more
-items-more : (cs : List ℕ) (c : ℕ) → items (cs ++ c ∷ []) None ≡ items cs None ++ map (λ c. Ok c) (placed_characters_behind (text_of_characters cs) (added (is_left_out (last_or 0 cs, c)) c))
+items-more : (cs : List ℕ) (c : ℕ) → items (cs ++ c ∷ []) None ≡ items cs None ++ map (λ c. Ok c) (placed_characters_after (text_of_characters cs) (added (is_left_out (last_or 0 cs, c)) c))
 items-more cs c =
     let text = text_of_characters cs in
     let more = added (is_left_out (last_or 0 cs, c)) c in
     append-nil _ ∙ ap (λ t. map (λ c. Ok c) (placed_characters t)) (text-more cs c)
     ∙ ap (map (λ c. Ok c)) (placed-append [] text more)
-    ∙ map-append (λ c. Ok c) (placed_characters text) (placed_characters_behind text more)
-    ∙ ap (λ l. l ++ map (λ c. Ok c) (placed_characters_behind text more)) (sym (append-nil (map (λ c. Ok c) (placed_characters text))))
+    ∙ map-append (λ c. Ok c) (placed_characters text) (placed_characters_after text more)
+    ∙ ap (λ l. l ++ map (λ c. Ok c) (placed_characters_after text more)) (sym (append-nil (map (λ c. Ok c) (placed_characters text))))
 
 -- ---- a decoder that has read some bytes
 
@@ -281,7 +281,7 @@ module _ (limits : Limits) (bytes : List ℕ) (s : DecoderState) (h : IsReading 
         previous = sym (last_or-more 0 h.chars c);
       }
 
-      events_are : (b : Bool) → map (λ c. Ok c) (placed_characters_behind (text_of_characters h.chars) (added b c)) ≡ (step_by b c).events
+      events_are : (b : Bool) → map (λ c. Ok c) (placed_characters_after (text_of_characters h.chars) (added b c)) ≡ (step_by b c).events
       unfolding step_by
       events_are true = refl
       events_are false = ap (λ p. Ok (record { c = read_as c; place = p }) ∷ []) (sym h.place)
@@ -291,7 +291,7 @@ module _ (limits : Limits) (bytes : List ℕ) (s : DecoderState) (h : IsReading 
       goes_by b f = record {
         next = next_is b f;
         known_is = known_is limits (bytes ++ x ∷ []) (step_by b c).state (next_is b f) ∙ ap (λ cs. items cs None) (chars_are b f) ∙ items-more h.chars c
-            ∙ ap (λ o. items h.chars None ++ map (λ c. Ok c) (placed_characters_behind (text_of_characters h.chars) (added o c))) (ap (λ p. is_left_out (p, c)) (sym h.previous) ∙ f)
+            ∙ ap (λ o. items h.chars None ++ map (λ c. Ok c) (placed_characters_after (text_of_characters h.chars) (added o c))) (ap (λ p. is_left_out (p, c)) (sym h.previous) ∙ f)
             ∙ ap₂ (λ l m. l ++ m) (sym (known_is limits bytes s h)) (events_are b);
       }
         where

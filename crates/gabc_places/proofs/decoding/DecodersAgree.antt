@@ -16,7 +16,7 @@ use Rattle.gabc_places.specs.declared.place.Place.{Place}
 use Rattle.gabc_places.specs.Text.{utf8_prefix_of, tail_of, is_left_out, is_shown, read_as}
 use Rattle.gabc_places.specs.DecoderMachine.{DecoderState, IsPartial, is_unfinished}
 use Rattle.gabc_places.specs.witness.DecoderEvents.{DecoderStep, stop_with, take_character, take_pending, take_end, events_left}
-use Rattle.gabc_places.specs.DecoderTells.{TellTheSame}
+use Rattle.gabc_places.specs.DecoderReports.{ReportTheSame}
 use Rattle.gabc_places.specs.Place.{next_place}
 use Rattle.gabc_places.proofs.utf8.PartOfACharacter.{nothing_is_partial, part_is, character_is}
 
@@ -112,8 +112,8 @@ alike_by : (l n : ℕ) (p : Place) (bs : List ℕ) (r : Bool) (m k : ℕ) (q : P
     → decoder_at l n p bs c r ≡ decoder_at m k q cs c u
 alike_by l n p bs r m k q cs u c e f g h i = cc
 
--- two that run and tell the same differ in that character alone
-pub same_told : (s t : DecoderState) → s.running ≡ true → t.running ≡ true → s.limit ≡ t.limit → IsPartial s.pending → TellTheSame s t
+-- two that run and report the same differ in that character alone
+pub same_told : (s t : DecoderState) → s.running ≡ true → t.running ≡ true → s.limit ≡ t.limit → IsPartial s.pending → ReportTheSame s t
     → (xs : List ℕ) → events_left s xs ≡ events_left t xs
 same_told s t on too limit partial told xs = agree xs s t.previous partial both ∙ ap (λ (r : DecoderState). events_left r xs) alike
   where

@@ -16,7 +16,7 @@ use Rattle.gabc_places.proofs.utf8.CharacterByCharacter.{valid_len-front}
 
 -- ---- characters
 
--- so many characters have so much of the text that follows this one
+-- n characters have so much of the text that follows this one
 abbrev IsReadOf : ℕ → List ℕ → ℕ → ℕ → Type 0
 IsReadOf p cs n k = text_behind p (take k cs) ≡ take n (text_behind p cs)
 

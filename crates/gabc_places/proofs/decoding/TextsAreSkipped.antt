@@ -16,7 +16,7 @@ use Rattle.gabc_places.specs.Skip.{most_skipped, character_events, text_events}
 use Rattle.gabc_places.specs.Text.{utf8_prefix_of, tail_of}
 use Rattle.gabc_places.specs.TextOfAnInput.{IsPlain}
 use Rattle.gabc_places.specs.DecoderMachine.{DecoderState, IsPartial, IsReached, is_unfinished}
-use Rattle.gabc_places.specs.DecoderTells.{is_after_cr}
+use Rattle.gabc_places.specs.DecoderReports.{is_after_cr}
 use Rattle.gabc_places.specs.witness.DecoderEvents.{DecoderStep, take_character, take_pending, events_left}
 use Rattle.gabc_places.proofs.decoding.AByteIsTaken.{with_byte, byte_taken}
 use Rattle.gabc_places.proofs.decoding.DecodersAgree.{agree}

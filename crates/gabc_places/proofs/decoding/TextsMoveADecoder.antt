@@ -14,7 +14,7 @@ use Rattle.gabc_places.specs.Place.{next_place, place_past}
 use Rattle.gabc_places.specs.Skip.{character_events, text_events}
 use Rattle.gabc_places.specs.TextOfAnInput.{IsPlain}
 use Rattle.gabc_places.specs.DecoderMachine.{DecoderState, is_unfinished}
-use Rattle.gabc_places.specs.DecoderTells.{MovesOn, MovesThrough, is_after_cr}
+use Rattle.gabc_places.specs.DecoderReports.{MovesOn, MovesThrough, is_after_cr}
 use Rattle.gabc_places.proofs.decoding.TextsAreEmitted.{one_each}
 use Rattle.gabc_places.proofs.decoding.TextsAreSkipped.{lists_for, moved_past}
 

@@ -15,7 +15,7 @@ use lib.Utf8.{encode, encodes, scalar, scalars}
 pub chars-encode : (c : ℕ) → IsScalar c → chars (encode c) ≡ c ∷ []
 chars-encode c s = chars_past_char (encode c) [] c (IsUtf8-encode c s) (sym (append-nil (encode c))) ∙ ap (λ l. c ∷ l) chars-nil
 
--- a character is pushed behind a text, if there is memory
+-- a character is pushed after a text, if there is memory
 pub chars-pushed : {E : Type 0} (r : Result (Unit {0}) E) (bs more text : List ℕ) (c : ℕ) → IsUtf8 bs → IsScalar c → chars bs ≡ text
     → more ≡ cond (is_ok r) (bs ++ encode c) bs → OnOk r (chars more ≡ text ++ c ∷ [])
 chars-pushed (Ok x) bs more text c u s v e = ap chars e ∙ chars-append bs (encode c) u ∙ ap (λ l. chars bs ++ l) (chars-encode c s) ∙ ap (λ l. l ++ c ∷ []) v
@@ -34,7 +34,7 @@ scalars_split (c ∷ a) b e =
     let g = scalars_split a b f.1 in
     (rw (f.0, g.0) refl, g.1)
 
--- a text is added behind a text, if there is memory
+-- a text is added after a text, if there is memory
 pub chars-added : {E : Type 0} (r : Result (Unit {0}) E) (bs more text part : List ℕ) → IsUtf8 bs → chars bs ≡ text → more ≡ cond (is_ok r) (bs ++ part) bs → OnOk r (chars more ≡ text ++ chars part)
 chars-added (Ok x) bs more text part u v e = ap chars e ∙ chars-append bs part u ∙ ap (λ l. l ++ chars part) v
 chars-added (Err x) bs more text part u v e = tt

@@ -47,7 +47,7 @@ chars-cut bs prefix after at less is e f u v =
     let whole : bs ≡ prefix ++ (encode 13 ++ after) = sym (take-append-drop at bs) ∙ ap (λ l. take at bs ++ l) (drop_more bs at 0 less) ∙ rw (same, ← e, ← f, ascii) refl in
     chars-split bs prefix after 13 refl u v whole
 
--- the text of bytes is the line before the first CR byte, an LF, and the text of what follows, where an LF directly behind the CR is left out
+-- the text of bytes is the line before the first CR byte, an LF, and the text of what follows, where an LF directly after the CR is left out
 pub line-read : (bs prefix after next : List ℕ) (at : ℕ) → IsUtf8 prefix → IsUtf8 after → prefix ≡ take at bs → after ≡ drop (at + 1) bs
     → NoneBefore (Passes (is_byte 13) bs) 0 (length bs) at → (slice_index bs at == 13) ≡ true
     → chars next ≡ cond (slice_index (chars after) 0 == 10) (drop 1 (chars after)) (chars after)
@@ -65,6 +65,6 @@ last-read bs u none = line-last 0 (chars bs) refl (no-return bs u none)
 pub line-added : (text shown rest before : List ℕ) → before ≡ shown ++ 10 ∷ rest → ((text ++ shown) ++ 10 ∷ []) ++ rest ≡ text ++ before
 line-added text shown rest before e = append_assoc (text ++ shown) (10 ∷ []) rest ∙ append_assoc text shown (10 ∷ rest) ∙ ap (λ l. text ++ l) (sym e)
 
--- bytes may be cut behind a CR byte
+-- bytes may be cut after a CR byte
 pub cut-behind : (bs : List ℕ) (at : ℕ) → IsUtf8 bs → at < length bs → (slice_index bs at == 13) ≡ true → IsCharBoundary bs (at + 1)
 cut-behind bs at u less is = IsCharBoundary-after_ascii bs at u less (let same : slice_index bs at ≡ 13 = grind (arith, nat_tests) in omega arith)

@@ -17,7 +17,7 @@ first_by : (s : Bool) (p c : ℕ) (rest : List (ℕ × ℕ)) (line after : List 
 first_by true p c rest line after plain e = rw plain (ap (λ l. c ∷ l) e)
 first_by false p c rest line after plain e = e
 
--- a line without CR, and what follows it, behind a character that is no CR
+-- a line without CR, and what follows it, after a character that is no CR
 pub line-shown : (p : ℕ) (line after : List ℕ) → (p == 13) ≡ false → NonePass (λ c. c == 13) line
     → text_behind p (line ++ 13 ∷ after) ≡ filter is_shown line ++ 10 ∷ text_behind 13 after
 line-shown p [] after plain none = rw plain refl
@@ -36,7 +36,7 @@ same_by : (b : Bool) (p q c : ℕ) (rest : List (ℕ × ℕ))
 same_by true p q c rest = refl
 same_by false p q c rest = refl
 
--- behind characters that are no CR the text is the same
+-- after characters that are no CR the text is the same
 pub same-behind : (p q : ℕ) (cs : List ℕ) → (p == 13) ≡ false → (q == 13) ≡ false → text_behind p cs ≡ text_behind q cs
 same-behind p q [] e f = refl
 same-behind p q (c ∷ cs) e f = rw (e, f) (same_by (not (not (is_shown c))) p q c _)
@@ -48,7 +48,7 @@ return_by : (b : Bool) (c : ℕ) (cs : List ℕ) → (c == 10) ≡ b → text_be
 return_by true c cs e = rw e (same-behind c 0 cs (no_return c e) refl)
 return_by false c cs e = rw e (same_by (not (not (is_shown c))) 13 0 c _)
 
--- directly behind a CR an LF is left out
+-- directly after a CR an LF is left out
 pub behind-return : (cs rest : List ℕ) → rest ≡ cond (slice_index cs 0 == 10) (drop 1 cs) cs → text_behind 13 cs ≡ text_behind 0 rest
 behind-return [] rest e = ap (text_behind 0) (sym e)
 behind-return (c ∷ cs) rest e = return_by (c == 10) c cs refl ∙ ap (text_behind 0) (sym e)

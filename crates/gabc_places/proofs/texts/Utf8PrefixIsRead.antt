@@ -1,4 +1,4 @@
--- What a reader of UTF-8 tells of bytes is their prefix and its tail.
+-- What a reader of UTF-8 reports of bytes is their prefix and its tail.
 use Rattle.std.proofs.Common.{◌≡◌, ℕ, ◌<◌, List, [], ◌∷◌, length, take, drop, Option, refl, ap, sym, ◌∙◌, arith, length-drop, IsUtf8}
 use Rattle.std.proofs.lemmas.Str.{utf8_valid_len-IsUtf8}
 use Rattle.std.specs.Str.{chars}
@@ -14,7 +14,7 @@ pub prefix-whole : (bs : List ℕ) → IsUtf8 bs → chars bs ≡ utf8_prefix_of
 unfolding utf8_prefix_of
 prefix-whole bs u = ap chars (sym (take_all (utf8_valid_len bs) bs (omega (arith, utf8_valid_len-IsUtf8 bs u))))
 
--- of other bytes the prefix is what is told to be valid
+-- of other bytes the prefix is what is reported to be valid
 pub prefix-read : (bs prefix : List ℕ) (n : ℕ) → n ≡ utf8_valid_len bs → prefix ≡ take n bs → chars prefix ≡ utf8_prefix_of bs
 unfolding utf8_prefix_of
 prefix-read bs prefix n e f = ap chars f ∙ ap (λ k. chars (take k bs)) e
@@ -28,7 +28,7 @@ front-read bs prefix n e =
 pub front-whole : (bs prefix : List ℕ) → prefix ≡ bs → prefix ≡ take (length prefix) bs
 front-whole bs prefix e = sym (ap (take (length prefix)) (sym e) ∙ take-length prefix)
 
--- behind valid bytes nothing follows
+-- after valid bytes nothing follows
 pub tail-whole : (bs : List ℕ) → IsUtf8 bs → tail_of bs ≡ Nothing
 unfolding tail_of
 tail-whole bs u = ap tail_at (drop_of_length-le bs {i = utf8_valid_len bs} (omega (arith, utf8_valid_len-IsUtf8 bs u)))
@@ -37,7 +37,7 @@ tail_at-some : (bs : List ℕ) → 0 < length bs → tail_at bs ≡ tail_by (utf
 tail_at-some [] h = absurd (omega arith)
 tail_at-some (b ∷ bs) h = refl
 
--- behind a prefix that is told to be valid stands what is told of the fault
+-- after a prefix that is reported to be valid stands what is reported of the fault
 pub tail-read : (bs : List ℕ) (n : ℕ) (o : Option ℕ) → n < length bs → n ≡ utf8_valid_len bs → o ≡ utf8_error_len (drop n bs) → tail_of bs ≡ tail_by o
 unfolding tail_of
 tail-read bs n o less e f = ap (λ k. tail_at (drop k bs)) (sym e) ∙ tail_at-some (drop n bs) (omega (arith, length-drop n bs)) ∙ ap tail_by (sym f)

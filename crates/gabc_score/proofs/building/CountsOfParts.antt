@@ -17,7 +17,7 @@ use Rattle.gabc_score.specs.declared.events.BodyEvent.{BodyEvent}
 use Rattle.gabc_score.specs.declared.events.BodyEvent.TheVariants as event
 use Rattle.gabc_score.specs.declared.body_stage.BodyPart.{BodyPart}
 use Rattle.gabc_score.specs.declared.body_stage.BodyPart.TheVariants as part
-use Rattle.gabc_score.specs.Events.{behind_mark, is_close, note_event}
+use Rattle.gabc_score.specs.Events.{after_mark, is_close, note_event}
 use Rattle.gabc_score.specs.Syllable.{prefix_of, is_seam}
 use Rattle.gabc_score.specs.machine.BodyBuilder.{with_all}
 use Rattle.gabc_score.specs.machine.Gatherer.{Gathered, with_text, with_event, with_snippet}
@@ -266,4 +266,4 @@ counts_go_on (step.text_ends {s} {t} {es} {after} h e b) k = text_ends s t es k.
 counts_go_on (step.snippet_goes {line} {opened} {before} {after} {es} s n c) k = let l = counts_alike s in notes_go line opened before es k.few l.out after l.into
 counts_go_on (step.snippet_next {line} {opened} {before} {after = after} {es} s n b) k = notes_go line opened before es k.few (counts_alike s).out after (begun_counts after b)
 counts_go_on {x = x} (step.snippet_closes {line} {opened} {before} {es = es} s n c) k =
-    notes_close line opened before es k.few (counts_alike s).out (part.Text (fresh_stage (behind_mark x.place))) (fresh_counts (behind_mark x.place) nothing_open refl) k.once c
+    notes_close line opened before es k.few (counts_alike s).out (part.Text (fresh_stage (after_mark x.place))) (fresh_counts (after_mark x.place) nothing_open refl) k.once c

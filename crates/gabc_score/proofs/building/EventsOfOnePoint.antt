@@ -1,9 +1,8 @@
 -- What is emitted at a point: what the gatherer holds after it, what was found, and which limit is passed.
-use Rattle.std.proofs.Common.{◌≡◌, ℕ, ◌+◌, ◌-◌, ◌<◌, ◌^◌, ◌||◌, ◌&&◌, not, min, nat_lt, Bool, true, false, cond, List, [], ◌∷◌, ◌++◌, map, length, take, get_or, Some, None, refl, sym, ap, ◌∙◌, arith, append_assoc, append-nil}
-use Rattle.std.proofs.lemmas.List.{map-append, take_more, take_at}
+use Rattle.std.proofs.Common.{◌≡◌, ℕ, ◌+◌, ◌-◌, ◌<◌, ◌^◌, ◌||◌, ◌&&◌, not, min, nat_lt, Bool, true, false, cond, List, [], ◌∷◌, ◌++◌, length, take, Some, None, refl, sym, ap, ◌∙◌, arith, append_assoc, append-nil}
+use Rattle.std.proofs.lemmas.List.{take_at}
 use Rattle.gabc_places.specs.declared.code.Code.TheVariants.{F5, F7}
 use Rattle.gabc_places.specs.declared.code.Finding.{Finding}
-use Rattle.gabc_places.specs.BoundedList.{BoundedList}
 use Rattle.gabc_places.specs.declared.limits.Limits.{Limits}
 use Rattle.gabc_text.specs.declared.text_event.TextEvent.TheVariants as text
 use Rattle.gabc_notes.specs.declared.stage.NoteEvent.TheVariants as note
@@ -13,7 +12,7 @@ use Rattle.gabc_score.specs.Syllable.{UnplacedSyllable, closes, since_close, kep
 use Rattle.gabc_score.specs.Canonical.{canonical_bytes}
 use Rattle.gabc_score.specs.Body.{is_longer, is_none, events_onto, code_at, findings_with, findings_of}
 use Rattle.gabc_score.specs.machine.Gatherer.{Gathered, with_event}
-use Rattle.gabc_score.specs.machine.BodyBuilder.{with_all, with_found, code_in}
+use Rattle.gabc_score.specs.machine.BodyBuilder.{with_all, code_in}
 use Rattle.gabc_score.proofs.building.BuilderHoldsDefinition.{gathered, gathered_step, over_by}
 use Rattle.gabc_score.proofs.building.EventsOfSyllableParts.{onto_append}
 
@@ -22,13 +21,6 @@ use Rattle.gabc_score.proofs.building.EventsOfSyllableParts.{onto_append}
 pub with_all_append : (g : Gathered) (xs ys : List BodyEvent) → with_all g (xs ++ ys) ≡ with_all (with_all g xs) ys
 with_all_append g [] ys = refl
 with_all_append g (x ∷ xs) ys = with_all_append (with_event g x) xs ys
-
--- The events of a part are gathered one after the other, each in other words.
-pub with_all_more : {O : Type 0} (event_of : O → BodyEvent) (first now new : Gathered) (ts : List O) (i : ℕ) (d : O) → i < length ts
-    → now ≡ with_all first (map event_of (take i ts)) → new ≡ with_event now (event_of (get_or ts i d)) → new ≡ with_all first (map event_of (take (i + 1) ts))
-with_all_more event_of first now new ts i d h f g =
-    g ∙ ap (λ (s : Gathered). with_event s (event_of (get_or ts i d))) f ∙ sym (with_all_append first (map event_of (take i ts)) (event_of (get_or ts i d) ∷ []))
-    ∙ ap (with_all first) (sym (map-append event_of (take i ts) (get_or ts i d ∷ []))) ∙ ap (λ os. with_all first (map event_of os)) (sym (take_more ts i d h))
 
 -- ---- a point
 
@@ -45,7 +37,7 @@ found_with found fs (event.Notes line (note.Kept c)) = refl
 found_with found fs (event.Notes line (note.Found f)) = append_assoc found fs (f ∷ [])
 found_with found fs (event.Notes line (note.Ended e n)) = refl
 
--- what is found at a point comes behind what was found before
+-- what is found at a point comes after what was found before
 pub found_on : (before now : List BodyEvent) → findings_of (events_onto now before) ≡ findings_of before ++ findings_of (events_onto now [])
 found_on before [] = sym (append-nil (findings_of before))
 found_on before (t ∷ now) =
@@ -56,16 +48,8 @@ found_on before (t ∷ now) =
     ∙ ap (λ fs. findings_of before ++ fs) (sym (found_on (t ∷ []) now))
 
 -- what is found among the events of a part, one after the other
-found_then : (xs : List BodyEvent) (t : BodyEvent) → findings_of (events_onto xs []) ++ findings_of (t ∷ []) ≡ findings_of (events_onto (xs ++ t ∷ []) [])
+pub found_then : (xs : List BodyEvent) (t : BodyEvent) → findings_of (events_onto xs []) ++ findings_of (t ∷ []) ≡ findings_of (events_onto (xs ++ t ∷ []) [])
 found_then xs t = sym (found_on (events_onto xs []) (t ∷ [])) ∙ ap findings_of (sym (onto_append xs (t ∷ []) []))
-
-pub with_found_more : {O : Type 0} (event_of : O → BodyEvent) (first now new : BoundedList Finding) (ts : List O) (i : ℕ) (d : O) → i < length ts
-    → now ≡ with_found first (map event_of (take i ts)) → new ≡ with_found now (event_of (get_or ts i d) ∷ []) → new ≡ with_found first (map event_of (take (i + 1) ts))
-with_found_more event_of first now new ts i d h f g =
-    g ∙ ap (λ (r : BoundedList Finding). with_found r (event_of (get_or ts i d) ∷ [])) f
-    ∙ ap (λ fs. record first { items = fs }) (append_assoc first.items (findings_of (events_onto (map event_of (take i ts)) [])) (findings_of (event_of (get_or ts i d) ∷ [])))
-    ∙ ap (λ fs. record first { items = first.items ++ fs }) (found_then (map event_of (take i ts)) (event_of (get_or ts i d)))
-    ∙ ap (with_found first) (sym (map-append event_of (take i ts) (get_or ts i d ∷ []))) ∙ ap (λ os. with_found first (map event_of os)) (sym (take_more ts i d h))
 
 pub lt_total : (limit n m : ℕ) → limit < m → nat_lt limit (min n m + 1) ≡ nat_lt limit (n + 1)
 lt_total limit n m h = grind arith

@@ -14,17 +14,18 @@ use Rattle.gabc_score.specs.declared.body_stage.BodyPart.TheVariants as part
 use Rattle.gabc_score.specs.declared.events.BodyEvent.{BodyEvent}
 use Rattle.gabc_score.specs.declared.events.BodyEvent.TheVariants as event
 use Rattle.gabc_score.specs.witness.BodyStage.{BodyStageState, part_with, running_events_left, texts_by_stage}
-use Rattle.gabc_score.specs.Events.{PartAhead, InComment, InText, InNotes, events_from, events_in, behind_mark, is_next, is_close, is_text_end, note_event, next_line, part_behind, snippet_from, text_from}
+use Rattle.gabc_score.specs.Events.{PartAhead, InComment, InText, InNotes, events_from, events_in, after_mark, is_next, is_close, is_text_end, note_event, next_line, part_after_character, snippet_from, text_from}
 use Rattle.gabc_score.specs.machine.PartKeeps.{text_events}
 use Rattle.gabc_score.specs.machine.PartPushes.{Emits}
 use Rattle.gabc_score.specs.machine.PartSteps.{IsBounded, PartSteps, SnippetSteps, TakesChar}
 use Rattle.gabc_score.specs.machine.PartSteps as step
+use Rattle.gabc_text.specs.witness.Steps as text
 
 -- the part after a character, where the snippet ended at a `|`, at a `)`, or not
 abbrev part_then : ℕ → ℕ → ℕ → Place → Place → (List Char → PartAhead) → Bool → Bool → List Char → PartAhead
 part_then lines macros line opened at goes next close xs =
     if next then snippet_from lines macros (next_line lines line) opened xs else
-    if close then text_from texts_by_stage (behind_mark at) xs else
+    if close then text_from texts_by_stage (after_mark at) xs else
     goes xs
 
 module _ (lines macros : ℕ) (x : Char) where
@@ -32,25 +33,25 @@ module _ (lines macros : ℕ) (x : Char) where
   abbrev pub left : BodyPart → List Char → List (List BodyEvent)
   left b xs = events_from texts_by_stage lines macros (part_with b xs) xs
 
-  text_emits : (s t : TextStage) (es : List TextEvent) → step.TextSteps s x es t → (next : List Char → PartAhead) → ((xs : List Char) → next xs ≡ (if list_any is_text_end es then snippet_from lines macros 0 x.place xs else part_with (part.Text t) xs))
+  text_emits : (s t : TextStage) (es : List TextEvent) → text.Steps s x es t → (next : List Char → PartAhead) → ((xs : List Char) → next xs ≡ (if list_any is_text_end es then snippet_from lines macros 0 x.place xs else part_with (part.Text t) xs))
       → (xs : List Char) → left (part.Text s) (x ∷ xs) ≡ text_events es ∷ events_from texts_by_stage lines macros (next xs) xs
   text_emits s t es h next n xs =
-      ap (λ lists. events_from texts_by_stage lines macros (InText lists) (x ∷ xs)) (h.law xs)
+      ap (λ lists. events_from texts_by_stage lines macros (InText lists) (x ∷ xs)) (h.emits xs)
       ∙ ap (λ p. text_events es ∷ events_from texts_by_stage lines macros p xs) (sym (n xs))
 
   snippet_emits : {line : ℕ} {opened : Place} {b after : BodyPart} {es : List NoteEvent} → SnippetSteps x line opened b es after → (next : List Char → PartAhead)
       → ((xs : List Char) → next xs ≡ part_then lines macros line opened x.place (part_with after) (list_any is_next es) (list_any is_close es) xs)
       → (xs : List Char) → left b (x ∷ xs) ≡ map (note_event line opened) es ∷ events_from texts_by_stage lines macros (next xs) xs
   snippet_emits (step.in_gabc {opened} {es = es} h) next n xs =
-      ap (λ lists. events_from texts_by_stage lines macros (InNotes 0 opened lists) (x ∷ xs)) (h.law xs)
+      ap (λ lists. events_from texts_by_stage lines macros (InNotes 0 opened lists) (x ∷ xs)) (h.emits xs)
       ∙ ap (λ p. map (note_event 0 opened) es ∷ events_from texts_by_stage lines macros p xs) (sym (n xs))
   snippet_emits (step.in_nabc {line} {opened} {es = es} h) next n xs =
-      ap (λ lists. events_from texts_by_stage lines macros (InNotes line opened lists) (x ∷ xs)) (h.law xs)
+      ap (λ lists. events_from texts_by_stage lines macros (InNotes line opened lists) (x ∷ xs)) (h.emits xs)
       ∙ ap (λ p. map (note_event line opened) es ∷ events_from texts_by_stage lines macros p xs) (sym (n xs))
 
   in_comment : (b : Bool) → (x.c == 10) ≡ b → (xs : List Char) → left part.Comment (x ∷ xs)
       ≡ events_in (if b then part_with (part.Text (fresh_stage x.place)) (x ∷ xs) else InComment)
-      ∷ events_from texts_by_stage lines macros (part_behind texts_by_stage lines macros (if b then part_with (part.Text (fresh_stage x.place)) (x ∷ xs) else InComment) x xs) xs
+      ∷ events_from texts_by_stage lines macros (part_after_character texts_by_stage lines macros (if b then part_with (part.Text (fresh_stage x.place)) (x ∷ xs) else InComment) x xs) xs
   in_comment b e xs = rw e refl
 
 few_notes : (line : ℕ) (opened : Place) (es : List NoteEvent) → length es ≤ 3 → length (map (note_event line opened) es) ≤ 8
@@ -65,7 +66,7 @@ part_emits {lines} {macros} {x} (step.text_ends {s} {t} {es} {after} h e b) =
     text_emits lines macros x s t es h (part_with after) (λ xs. b.reads xs ∙ ap (λ (b : Bool). if b then snippet_from lines macros 0 x.place xs else part_with (part.Text t) xs) (sym e))
 part_emits {lines} {macros} {x} (step.snippet_goes {after = after} s n c) = snippet_emits lines macros x s (part_with after) (λ xs. rw (n, c) refl)
 part_emits {lines} {macros} {x} (step.snippet_next {after = after} s n b) = snippet_emits lines macros x s (part_with after) (λ xs. rw n (b.reads xs))
-part_emits {lines} {macros} {x} (step.snippet_closes s n c) = snippet_emits lines macros x s (part_with (part.Text (fresh_stage (behind_mark x.place)))) (λ xs. rw (n, c) refl)
+part_emits {lines} {macros} {x} (step.snippet_closes s n c) = snippet_emits lines macros x s (part_with (part.Text (fresh_stage (after_mark x.place)))) (λ xs. rw (n, c) refl)
 
 pub few_events : {lines macros : ℕ} {x : Char} {before after : BodyPart} {now : List BodyEvent} (s : PartSteps lines macros x before now after) → IsBounded s → length now ≤ 8
 few_events (step.in_front h) k = omega arith

@@ -1,14 +1,14 @@
--- Behind an LF no comment is open in a part of the body.
+-- After an LF no comment is open in a part of the body.
 use Rattle.std.proofs.Common.{◌≡◌, ℕ, Bool, true, false, List, [], refl, ap, ◌∙◌}
 use Rattle.std.specs.List.{list_any}
 use Rattle.gabc_places.specs.declared.place.Char.{Char}
-use Rattle.gabc_text.specs.StageTells as text_tells
+use Rattle.gabc_text.specs.StageReports as text_tells
 use Rattle.gabc_text.specs.declared.stage.TextStage.{TextStage}
 use Rattle.gabc_text.specs.declared.text_event.TextEvent.{TextEvent}
 use Rattle.gabc_text.specs.witness.Keeps as text
 use Rattle.gabc_score.specs.declared.body_stage.BodyPart.{BodyPart}
 use Rattle.gabc_score.specs.declared.body_stage.BodyPart.TheVariants as part
-use Rattle.gabc_score.specs.Events.{behind_mark, is_text_end}
+use Rattle.gabc_score.specs.Events.{after_mark, is_text_end}
 use Rattle.gabc_score.specs.machine.PartKeeps.{in_text, in_notes}
 use Rattle.gabc_score.specs.machine.PartOpens.{PartEndsLine}
 use Rattle.gabc_score.proofs.building.SnippetsTakeCharacters.{going}
@@ -38,4 +38,4 @@ ends_line {lines} {macros} {x} (step.text_goes {s} {t} {es} h e) = text_ends_lin
 ends_line (step.text_ends h e b) = λ p keeps lf. b.tells.1
 ends_line {lines} {macros} (step.snippet_goes s n c) = λ p keeps. (going lines macros s p keeps n c).line_ends
 ends_line (step.snippet_next s n b) = λ p keeps lf. b.tells.1
-ends_line {x = x} (step.snippet_closes s n c) = λ p keeps lf. comment_fresh (behind_mark x.place)
+ends_line {x = x} (step.snippet_closes s n c) = λ p keeps lf. comment_fresh (after_mark x.place)

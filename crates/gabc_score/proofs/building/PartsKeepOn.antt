@@ -7,7 +7,7 @@ use Rattle.gabc_text.proofs.resuming.StagesKeep.{fresh_keeps}
 use Rattle.gabc_score.specs.declared.body_stage.BodyPart.{BodyPart}
 use Rattle.gabc_score.specs.declared.body_stage.BodyPart.TheVariants as part
 use Rattle.gabc_score.specs.declared.events.BodyEvent.{BodyEvent}
-use Rattle.gabc_score.specs.Events.{behind_mark}
+use Rattle.gabc_score.specs.Events.{after_mark}
 use Rattle.gabc_score.specs.machine.PartKeeps.{PartKeepsOn}
 use Rattle.gabc_score.specs.machine.PartMakes.{PartMakes}
 use Rattle.gabc_score.specs.machine.PartSteps.{PartSteps}
@@ -23,7 +23,7 @@ keeps_on {lines} {macros} {x} (step.text_goes {s} {t} {es} h e) = text_keeps_on 
 keeps_on {lines} {macros} {x} (step.text_ends {s} {t} {es} {after} h e b) = text_ends_on lines macros s t x.c es after h.keeps e (λ u behind. b.keeps u [] behind)
 keeps_on {lines} {macros} (step.snippet_goes s n c) = notes_keep_on lines macros s n c
 keeps_on {lines} {macros} (step.snippet_next {after = after} s n b) = notes_end_on lines macros s after n b.keeps
-keeps_on {lines} {macros} {x} (step.snippet_closes s n c) = notes_close_on lines macros s (part.Text (fresh_stage (behind_mark x.place))) c (fresh_keeps (behind_mark x.place))
+keeps_on {lines} {macros} {x} (step.snippet_closes s n c) = notes_close_on lines macros s (part.Text (fresh_stage (after_mark x.place))) c (fresh_keeps (after_mark x.place))
 
 first_makes : (lines macros : ℕ) (at : Place) (now : List BodyEvent) → PartMakes lines macros (part.Text (fresh_stage at)) now → PartMakes lines macros part.Comment now
 unfolding PartMakes

@@ -98,7 +98,7 @@ reading_begins {lines} {macros} {spans} {g} at r = record {
 
 -- ---- a syllable is made
 
--- behind the others one more follows
+-- after the others one more follows
 follow_push : (p : Preceding) (ms : List UnplacedSyllable) (m : UnplacedSyllable) → FollowEach p ms → FollowsSpans (with_each p ms).spans m → FollowEach p (ms ++ m ∷ [])
 unfolding FollowEach
 follow_push p [] m h k = (k, tt)
@@ -188,7 +188,7 @@ module _ (lines macros : ℕ) {x : Char} {line : ℕ} {opened : Place} {before s
           ∙ ap (λ (i : Gathered). with_more i.builder here.k) (with_all_append (begun spans) (text_events (text.said_of t ++ text.said_at_end t)) (earlier_events lines 0 here.earlier))
           ∙ ap (with_more base.builder) closed.cut
 
-      -- a span is open behind what is made as behind the tags of its text
+      -- a span is open after what is made as after the tags of its text
       opens : (opening closing : List ℕ) (was : Bool) → open_past opening closing made.kept made.text.pieces was ≡ behind_tags opening closing was (span_tags (t ++ 40 ∷ []))
       opens opening closing was =
           subst (λ (o : OpenSyllable). open_past opening closing (past_snippet o line n 41).kept (past_snippet o line n 41).view.pieces was ≡ behind_tags opening closing was (span_tags (t ++ 40 ∷ []))) (sym builder_is)

@@ -52,7 +52,7 @@ codes_in s = codes_of s.characters
 abbrev snippet_in : ReadSnippet → Snippet
 snippet_in s = s.snippet
 
--- the snippet of this kept text behind that one
+-- the snippet of this kept text after that one
 abbrev read_behind : ℕ → List ℕ → List ℕ → ReadSnippet
 read_behind line prefix s = record { snippet = record { line = line; span = span_behind prefix s }; characters = characters_of s; kept = s }
 
@@ -67,7 +67,7 @@ abbrev pub with_more : OpenSyllable → List ℕ → OpenSyllable
 with_more o k = record o { kept = o.kept ++ encode_utf8_all k }
 
 module _ (laws : PartLaws) (lines : ℕ) (t : List ℕ) (view : ViewContent) where
-  -- A syllable has read this text and so many snippets, each in its place; the next is of that line.
+  -- A syllable has read this text and n snippets, each in its place; the next is of that line.
   pub record HasRead (line count : ℕ) (o : OpenSyllable) : Type 0 where
     pub reads : List ReadSnippet
     pub many : length reads ≡ count
@@ -78,7 +78,7 @@ module _ (laws : PartLaws) (lines : ℕ) (t : List ℕ) (view : ViewContent) whe
     pub placed : PlacedFrom lines t [] reads
     pub line_is : line ≡ length reads % (lines + 1)
 
-  -- behind a snippet that ends with this mark
+  -- after a snippet that ends with this mark
   abbrev behind : List ReadSnippet → ReadSnippet → ℕ → OpenSyllable
   behind reads new mark =
       let all : List ℕ = ((t ++ bracket_with kept_text reads) ++ new.kept) ++ mark ∷ [] in
@@ -122,7 +122,7 @@ module _ (laws : PartLaws) (lines : ℕ) (t : List ℕ) (view : ViewContent) whe
         subst (λ (v : ViewContent). StandsForView (whole_of t h.reads new) v (t ++ 40 ∷ [])) (sym same)
         (view_more t (in_brackets kept_text h.reads new) (view_in (t ++ 40 ∷ [])) (t ++ 40 ∷ []) (subst (λ (k : List ℕ). StandsForView k (view_in (t ++ 40 ∷ [])) (t ++ 40 ∷ [])) full.kept_is (laws.stands (t ++ 40 ∷ []))))
 
-    -- a span is open behind its pieces as behind the tags of the text
+    -- a span is open after its pieces as after the tags of the text
     pub close_opens : (n : ℕ) → n ≡ size s → (full : IsSaidInFull t []) → view ≡ view_in (t ++ 40 ∷ []) → (opening closing : List ℕ) (was : Bool)
         → (let b = past_snippet (with_more o (s ++ rest)) line n 41 in open_past opening closing b.kept b.view.pieces was ≡ behind_tags opening closing was (span_tags (t ++ 40 ∷ [])))
     close_opens n e full same opening closing was =
@@ -214,7 +214,7 @@ mids_read (text.Part (text_part.Translation s) ∷ es) g b h v = mids_read es (w
 mids_read (text.Found f ∷ es) g b h v = mids_read es g (with_text_event b (text.Found f)) h v
 mids_read (text.Ended how ∷ es) g b h v = absurd (cc)
 
--- behind the `(`
+-- after the `(`
 abbrev opened : List ℕ → ViewContent → OpenSyllable
 opened k v = record { kept = k ++ encode_utf8 40; from = length (k ++ encode_utf8 40); view = v; snippets = [] }
 

@@ -78,7 +78,7 @@ module _ (lines macros : ℕ) where
             ∙ with_all_append (begun spans) (said_by lines (in_notes here.t here.earlier here.k)) (snippet_events (line_behind lines 0 here.earlier) (kept_of es))
             ∙ ap (λ (l : ℕ). with_all (with_all (begun spans) (said_by lines (in_notes here.t here.earlier here.k))) (snippet_events l (kept_of es))) here.behind.line_is
 
-    -- the `)`, behind which a text begins
+    -- the `)`, after which a text begins
     pub notes_close_on : (after : BodyPart) → list_any is_close es ≡ true → PartKeeps lines macros after (in_text []) → PartKeepsOn lines macros before after (of_notes line opened es)
     unfolding text.said_of
     notes_close_on after close begins spans g fits r =
@@ -98,7 +98,7 @@ module _ (lines macros : ℕ) where
         more : nat_lt (length g.made) (length closing.made) ≡ true
         more = let l = length-append g.made (made_from (with_snippet g line n 41).builder g.eu g.nlba ∷ []) in grind (arith, nat_tests, l)
 
-    -- the `|`, behind which the next snippet begins
+    -- the `|`, after which the next snippet begins
     pub notes_end_on : (after : BodyPart) → list_any is_next es ≡ true → BeginsSnippet lines macros (next_line lines line) after → PartKeepsOn lines macros before after (of_notes line opened es)
     notes_end_on after next begins spans g fits r =
         subst (λ (i : Gathered). IsReading lines macros after (spans_past spans g i) i) (sym (notes_ended line opened es g note_end.Next n e.none_kept (next_ends es x.c n e.end next)))

@@ -8,7 +8,7 @@ use Rattle.std.specs.List.{list_any}
 use Rattle.gabc_places.proofs.NumbersByTests.{same_ltb}
 use Rattle.gabc_places.specs.declared.place.Place.{Place}
 use Rattle.gabc_text.specs.BuiltText.{kept_in}
-use Rattle.gabc_text.specs.StageTells.{is_in_comment}
+use Rattle.gabc_text.specs.StageReports.{is_in_comment}
 use Rattle.gabc_text.specs.witness.Keeps as text
 use Rattle.gabc_text.specs.declared.stage.TextStage.{TextStage}
 use Rattle.gabc_text.specs.declared.text_event.TextEnd.TheVariants as text_end
@@ -151,7 +151,7 @@ text_goes_on s t c es k on keeps goes_on = by (text.end_text es) refl
         let h = on.ends k keeps e in
         absurd (true≢false (sym (in_notes_ended (text.said_at_end k) h.notes) ∙ ap (list_any is_text_end) (sym h.said) ∙ ended_said es ∙ goes_on))
 
--- behind the end of a text
+-- after the end of a text
 pub record IsMarked (g h : Gathered) (mark : ℕ) : Type 0 where
   pub kept : h.builder.kept ≡ g.builder.kept ++ encode_utf8 mark
   pub from : h.builder.from ≡ length h.builder.kept
@@ -290,7 +290,7 @@ module _ (lines macros : ℕ) where
           ∙ ap (with_all (begun spans)) (map-append (λ (o : TextEvent). event.Text o) (text.said_of k) (text.said es))
           ∙ with_all_append (begun spans) (text_events (text.said_of k)) (text_events (text.said es))
 
-  -- the part behind it reads the first snippet of GABC
+  -- the part after it reads the first snippet of GABC
   pub text_ends_on : (s t : TextStage) (c : ℕ) (es : List TextEvent) (after : BodyPart) → text.KeepsOn s c es t → list_any is_text_end es ≡ true
       → ((u : List ℕ) → AreBehind lines macros 0 u [] → PartKeeps lines macros after (in_notes u [] [])) → PartKeepsOn lines macros (part.Text s) after (text_events es)
   text_ends_on s t c es after on over begins spans g fits r =
@@ -312,11 +312,11 @@ module _ (lines macros : ℕ) where
       k : List ℕ
       k = here.k
 
-      ends : text.EndsBehind k es t
+      ends : text.EndsAfter k es t
       ends = on.ends k here.keeps (ends_text es over)
 
-      ends_there : text.ends_behind k ≡ true
-      ends_there = by (not_comment) (c == 40) (text.ends_behind k) (sym (on.end k here.keeps) ∙ ends_text es over)
+      ends_there : text.ends_after_it k ≡ true
+      ends_there = by (not_comment) (c == 40) (text.ends_after_it k) (sym (on.end k here.keeps) ∙ ends_text es over)
         where
           not_comment : Bool
           not_comment = not (is_in_comment s)

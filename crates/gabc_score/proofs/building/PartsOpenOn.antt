@@ -1,9 +1,9 @@
--- What is open in a part of the body, behind each character.
+-- What is open in a part of the body, after each character.
 use Rattle.std.proofs.Common.{◌≡◌, ◌⊎◌, inl, inr, ℕ, false, List, [], Option, Some, None, refl, sym, ap, subst, ◌∙◌}
 use Rattle.std.specs.List.{list_any}
 use Rattle.gabc_places.specs.declared.place.Char.{Char}
 use Rattle.gabc_places.specs.declared.place.Place.{Place}
-use Rattle.gabc_text.specs.StageTells as text_tells
+use Rattle.gabc_text.specs.StageReports as text_tells
 use Rattle.gabc_text.specs.witness.StageReports as text_reports
 use Rattle.gabc_text.specs.TextStage.{fresh_stage}
 use Rattle.gabc_text.specs.declared.stage.TextStage.{TextStage}
@@ -12,8 +12,8 @@ use Rattle.gabc_text.specs.witness.Keeps as text
 use Rattle.gabc_score.specs.declared.body_stage.BodyPart.{BodyPart}
 use Rattle.gabc_score.specs.declared.body_stage.BodyPart.TheVariants as part
 use Rattle.gabc_score.specs.declared.body_tells.Openers.{Openers}
-use Rattle.gabc_score.specs.Events.{behind_mark, is_text_end}
-use Rattle.gabc_score.specs.ScoreTells.{openers_of}
+use Rattle.gabc_score.specs.Events.{after_mark, is_text_end}
+use Rattle.gabc_score.specs.ScoreReports.{openers_of}
 use Rattle.gabc_score.specs.machine.PartKeeps.{in_text, in_notes}
 use Rattle.gabc_score.specs.machine.PartOpens.{OpensOn, PartOpensOn}
 use Rattle.gabc_score.proofs.building.SnippetsTakeCharacters.{going, stays_in_notes}
@@ -32,7 +32,7 @@ same_open at o = record { notes = inl refl; inner = inr (inl refl) }
 abbrev pub opened_at : Option Place → Openers
 opened_at place = record { notes = place; inner = None }
 
--- a snippet behind a text, or behind a snippet
+-- a snippet after a text, or after a snippet
 pub notes_open : (lines macros : ℕ) (x : Char) (before after : BodyPart) → openers_of after ≡ opened_at (Some x.place) → PartOpensOn lines macros x before after
 notes_open lines macros x before after is p keeps at =
     subst (OpensOn x.place (openers_of before)) (sym is) (record { notes = inr (refl, inr refl); inner = inl refl })
@@ -41,7 +41,7 @@ pub next_opens : (lines macros : ℕ) (x : Char) (opened : Place) (before after 
 next_opens lines macros x opened before after was is p keeps at =
     subst (OpensOn x.place (openers_of before)) (sym is) (record { notes = inl (sym was); inner = inl refl })
 
--- a text behind notes
+-- a text after notes
 pub none_open : (lines macros : ℕ) (x : Char) (before after : BodyPart) → openers_of after ≡ opened_at None → PartOpensOn lines macros x before after
 none_open lines macros x before after is p keeps at =
     subst (OpensOn x.place (openers_of before)) (sym is) (record { notes = inr (refl, inl refl); inner = inl refl })
@@ -77,4 +77,4 @@ opens_on {lines} {macros} {x} (step.text_ends {s} {after = after} h e b) = notes
 opens_on {lines} {macros} (step.snippet_goes s n c) = λ p keeps at. let h = stays_in_notes s in record { notes = inl (h.is ∙ sym h.was); inner = (going lines macros s p keeps n c).opener }
 opens_on {lines} {macros} {x} (step.snippet_next {opened = opened} {before} {after = after} s n b) = next_opens lines macros x opened before after (stays_in_notes s).was b.tells.0
 opens_on {lines} {macros} {x} (step.snippet_closes {before = before} s n c) =
-    none_open lines macros x before (part.Text (fresh_stage (behind_mark x.place))) (ap opened_inside (opener_fresh (behind_mark x.place)))
+    none_open lines macros x before (part.Text (fresh_stage (after_mark x.place))) (ap opened_inside (opener_fresh (after_mark x.place)))

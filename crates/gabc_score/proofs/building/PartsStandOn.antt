@@ -1,4 +1,4 @@
--- A part stands behind each character with the place that it has counted.
+-- A part stands after each character with the place that it has counted.
 use Rattle.std.proofs.Common.{◌≡◌, ℕ, false, List, [], refl, sym, ap, ◌∙◌}
 use Rattle.std.specs.List.{list_any}
 use Rattle.gabc_places.specs.Place.{saturating_next_place}
@@ -10,7 +10,7 @@ use Rattle.gabc_text.specs.witness.Keeps as text
 use Rattle.gabc_score.specs.declared.body_stage.BodyPart.{BodyPart}
 use Rattle.gabc_score.specs.declared.body_stage.BodyPart.TheVariants as part
 use Rattle.gabc_score.specs.Events.{is_text_end}
-use Rattle.gabc_score.specs.ScoreTells.{StandsAt}
+use Rattle.gabc_score.specs.ScoreReports.{IsAt}
 use Rattle.gabc_score.specs.machine.PartKeeps.{in_text, in_notes, PartStandsOn}
 use Rattle.gabc_score.proofs.building.SnippetsTakeCharacters.{close_mark, stays_in_notes}
 use Rattle.gabc_score.proofs.building.PartsOfKeptText.{text_goes_on}
@@ -20,7 +20,7 @@ use Rattle.gabc_score.specs.machine.PartSteps.{PartSteps, SnippetSteps, Begins}
 use Rattle.gabc_score.specs.machine.PartSteps as step
 
 -- a part that reads a snippet counts no place
-snippet_stands : {lines macros line : ℕ} {opened : Place} (at : Place) (after : BodyPart) → Begins lines macros line opened after → StandsAt at after
+snippet_stands : {lines macros line : ℕ} {opened : Place} (at : Place) (after : BodyPart) → Begins lines macros line opened after → IsAt at after
 snippet_stands at part.Comment b = tt
 snippet_stands at (part.Text s) b = absurd (let e = b.reads [] in cc)
 snippet_stands at (part.Notes o s) b = tt

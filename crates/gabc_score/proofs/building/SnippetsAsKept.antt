@@ -1,4 +1,4 @@
--- Snippets that follow one another in the kept text, each behind its mark, and a text before them: all of it is one part of the kept text.
+-- Snippets that follow one another in the kept text, each after its mark, and a text before them: all of it is one part of the kept text.
 use Rattle.std.proofs.Common.{◌≡◌, ℕ, ◌+◌, ◌-◌, ◌<◌, ◌≤◌, List, ◌∷◌, ◌++◌, length, take, drop, get_or, refl, sym, ap, ◌∙◌, arith, add-one, drop-cons, append_assoc, codes, false, Option, Some, None}
 use Rattle.std.specs.Option.{is_some}
 use Rattle.std.proofs.lemmas.Bool.{false≢true}
@@ -19,12 +19,12 @@ part_and_rest xs a b h =
     let rest : drop b xs ≡ drop (b - a) (drop a xs) = sym (drop-drop (b - a) a xs ∙ ap (λ (n : ℕ). drop n xs) e) in
     rw rest (take-append-drop (b - a) (drop a xs))
 
--- a span, and then all behind it
+-- a span, and then all after it
 span_and_rest : (kept : List ℕ) (s : Span) → s.from ≤ s.to → slice s kept ++ drop s.to kept ≡ drop s.from kept
 unfolding slice
 span_and_rest kept s h = part_and_rest kept s.from s.to h
 
--- a mark, the span behind it, and then all behind that
+-- a mark, the span after it, and then all after that
 mark_and_span : (kept : List ℕ) (i mark : ℕ) (s : Span) → i < length kept → get_or kept i 0 ≡ mark → s.from ≡ i + 1 → s.from ≤ s.to
     → mark ∷ (slice s kept ++ drop s.to kept) ≡ drop i kept
 mark_and_span kept i mark s h m f o =
@@ -52,7 +52,7 @@ notes_as_kept kept first others from h m f o rest =
     rw (bars_behind_first kept first others)
     (ap (λ (x : List ℕ). 40 ∷ x) (split ∙ ap (λ (x : List ℕ). slice first.span kept ++ x) rest) ∙ mark_and_span kept from 40 first.span h m f o)
 
--- a text, and then all behind it
+-- a text, and then all after it
 text_and_rest : (kept : List ℕ) (text : Span) → text.from ≤ text.to → text.to ≤ length kept → span_bytes kept text ++ drop text.to kept ≡ drop text.from kept
 text_and_rest kept text h k =
     let within : span_bytes kept text ≡ take (text.to - text.from) (drop text.from kept) = grind (arith, common_steps) in

@@ -13,7 +13,7 @@ use Rattle.gabc_patterns.specs.Pattern.{is_in}
 use Rattle.gabc_patterns.proofs.FunctionsMeetRelations.{trim_trims}
 use Rattle.gabc_notes.specs.Events.{end_by_mark, in_raw}
 use Rattle.gabc_notes.specs.SnippetRead.{kept_of, ends_of}
-use Rattle.gabc_notes.specs.StageTells as tells
+use Rattle.gabc_notes.specs.StageReports as tells
 use Rattle.gabc_notes.specs.Table.{gabc}
 use Rattle.gabc_notes.specs.witness.Keeps as notes
 use Rattle.gabc_notes.specs.declared.stage.NoteEnd.{NoteEnd}
@@ -29,9 +29,9 @@ use Rattle.gabc_score.specs.declared.body_stage.BodyPart.{BodyPart}
 use Rattle.gabc_score.specs.declared.body_stage.BodyPart.TheVariants as part
 use Rattle.gabc_score.specs.Events.{is_close, is_next}
 use Rattle.gabc_score.specs.Holding.{IsSnippetOf}
-use Rattle.gabc_score.specs.ScoreTells.{StandsAt, is_in_comment, is_in_front, openers_of}
+use Rattle.gabc_score.specs.ScoreReports.{IsAt, is_in_comment, is_in_front, openers_of}
 use Rattle.gabc_score.specs.machine.PartKeeps.{KeptParts, in_text, in_notes, IsEnded, IsEndedOn, AreBehind, PartKeeps}
-use Rattle.gabc_score.specs.machine.PartSteps.{SnippetSteps, GabcSteps, NabcSteps}
+use Rattle.gabc_score.specs.machine.PartSteps.{SnippetSteps}
 use Rattle.gabc_score.specs.machine.PartSteps as step
 use Rattle.gabc_score.specs.machine.ReadAgain.{place_in}
 use Rattle.gabc_score.proofs.texts_of_body.SeamsOfCharacters.{size, size_is_sum}
@@ -154,7 +154,7 @@ one_of false k ds c e = inl (nothing_of k ds e)
 module _ (lines macros : ℕ) (x : Char) where
   -- ---- a snippet of GABC
 
-  module _ (opened : Place) (s t : NoteStage) (es : List NoteEvent) (h : GabcSteps s x es t) (u : List ℕ) (earlier : List (List ℕ)) (k : List ℕ) (keeps : PartKeeps lines macros (part.Notes opened s) (in_notes u earlier k)) where
+  module _ (opened : Place) (s t : NoteStage) (es : List NoteEvent) (h : notes.Steps s x es t) (u : List ℕ) (earlier : List (List ℕ)) (k : List ℕ) (keeps : PartKeeps lines macros (part.Notes opened s) (in_notes u earlier k)) where
     abbrev split : Bool
     split = nat_lt 0 lines
 
@@ -212,7 +212,7 @@ module _ (lines macros : ℕ) (x : Char) where
 
   -- ---- a snippet of NABC
 
-  module _ (line : ℕ) (opened : Place) (s t : NabcStage) (es : List NoteEvent) (h : NabcSteps s x es t) (u : List ℕ) (earlier : List (List ℕ)) (k : List ℕ) (keeps : PartKeeps lines macros (part.Nabc line opened s) (in_notes u earlier k)) where
+  module _ (line : ℕ) (opened : Place) (s t : NabcStage) (es : List NoteEvent) (h : nabc.Steps s x es t) (u : List ℕ) (earlier : List (List ℕ)) (k : List ℕ) (keeps : PartKeeps lines macros (part.Nabc line opened s) (in_notes u earlier k)) where
     nabc_line : (comment : Bool) → comment_in comment 10 ≡ false
     nabc_line true = refl
     nabc_line false = refl
@@ -332,7 +332,7 @@ pub record StaysInNotes (opened : Place) (before after : BodyPart) : Type 0 wher
   pub is : (openers_of after).notes ≡ Some opened
   pub front : is_in_front after ≡ false
   pub place : (outer inner : Place) → place_in outer inner after ≡ place_in outer inner before
-  pub stands : (at : Place) → StandsAt at after
+  pub stands : (at : Place) → IsAt at after
 
 pub stays_in_notes : {x : Char} {line : ℕ} {opened : Place} {before after : BodyPart} {es : List NoteEvent} → SnippetSteps x line opened before es after → StaysInNotes opened before after
 stays_in_notes (step.in_gabc h) = record { was = refl; is = refl; front = refl; place = λ outer inner. refl; stands = λ at. tt }

@@ -1,4 +1,4 @@
--- Which spans are open behind the parts of a kept text: those that the tags of its text leave open.
+-- Which spans are open after the parts of a kept text: those that the tags of its text leave open.
 use Rattle.std.proofs.Common.{◌≡◌, ℕ, Bool, List, [], ◌∷◌, ◌++◌, codes, refl, ap, sym, ◌∙◌, arith}
 use lib.Utf8.{encode}
 use Rattle.gabc_text.specs.Events.{events_of}
@@ -76,7 +76,7 @@ module _ (opening closing : List ℕ) where
       ∙ said_opens (events_of (record { line = 0; column = 0 }) (t ++ 40 ∷ [])) before before refl refl refl
       ∙ text_opens_span opening closing (record { line = 0; column = 0 }) (t ++ 40 ∷ []) before since
 
--- of what is gathered behind these spans
+-- of what is gathered after these spans
 module _ (lines : ℕ) (t : List ℕ) (earlier : List (List ℕ)) (k : List ℕ) (spans : Spans) (full : IsSaidInFull t []) where
   abbrev all : List BodyEvent
   all = said_by lines (in_notes t earlier k)

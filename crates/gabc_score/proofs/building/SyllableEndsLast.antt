@@ -34,7 +34,7 @@ pushed_last ends stops imp old new none limit stop =
     ends_last ends new.items (λ before behind x e h. (stop before behind x
     (ap (λ es. record new { items = es }) e ∙ (ap (λ n. record { items = before ++ x ∷ behind; limit = n }) limit ∙ ap (λ es. record { items = es ++ (before ++ x ∷ behind); limit = old.limit }) (sym none))) (imp x h)).0)
 
--- so the last event tells whether one ends a part so
+-- so the last event says whether one ends a part so
 pub last_emits_so : {O : Type 0} (ends : O → Bool) (es : List O) (x : O) → EndsLast ends es → slice_get es (length es - 1) ≡ Some x → list_any ends es ≡ ends x
 last_emits_so ends [] x h k = absurd (cc)
 last_emits_so ends (e ∷ []) x h k = or-false (ends e) ∙ ap ends (same_Some e x k)

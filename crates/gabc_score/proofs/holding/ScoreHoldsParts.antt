@@ -3,7 +3,7 @@ use Rattle.std.proofs.Common.{◌⊎◌, inl, inr, ◌≡◌, ℕ, ◌+◌, ◌<
 use Rattle.std.specs.List.{All}
 use Rattle.std.proofs.lemmas.List.Elements.{All-nil, All-cons, All-head, All-tail, All-take}
 use Rattle.std.proofs.lemmas.List.{take-append-drop}
-use Rattle.gabc_places.specs.Place.{place_after, placed_characters_behind}
+use Rattle.gabc_places.specs.Place.{place_after, placed_characters_after}
 use Rattle.gabc_headers.specs.declared.heads.Heads.{Heads}
 use Rattle.gabc_headers.specs.declared.heads.HeadFault.{HeadFault}
 use Rattle.gabc_headers.specs.Book.{nabc_lines_of, macros_of}
@@ -14,7 +14,7 @@ use Rattle.gabc_text.specs.BuiltText.{with_events, empty_text, text_built_at}
 use Rattle.gabc_text.specs.Ends.{EndsOnce}
 use Rattle.gabc_text.specs.Events.{codes_of, events_by_point}
 use Rattle.gabc_score.specs.Events.{body_events}
-use Rattle.gabc_score.specs.Score.{heads_text, behind_heads}
+use Rattle.gabc_score.specs.Score.{heads_text, after_heads}
 use Rattle.gabc_score.specs.Holding.{HoldsNoNotes, Holds, HoldsWithNotes, HoldsParts, lines_of}
 use Rattle.gabc_score.proofs.score_events.PlainScores.{plain_by, plain_of}
 use Rattle.gabc_score.proofs.texts_of_body.SeamsOfCharacters.{size, size_append}
@@ -151,7 +151,7 @@ module _ (P L : UnplacedSyllable → Type 0) where
 
 -- ---- the score
 
-pub codes_placed : (prefix behind : List ℕ) → codes_of (placed_characters_behind prefix behind) ≡ behind
+pub codes_placed : (prefix behind : List ℕ) → codes_of (placed_characters_after prefix behind) ≡ behind
 codes_placed prefix [] = refl
 codes_placed prefix (c ∷ behind) = ap (λ cs. c ∷ cs) (codes_placed (prefix ++ c ∷ []) behind)
 
@@ -161,14 +161,14 @@ size_behind n t =
     omega arith
 
 module _ (ends : (at : Place) (t : List ℕ) → EndsOnce at t) (emits : (at : Place) (t : List ℕ) → with_events empty_text (concat_of (events_by_point at t)) ≡ text_built_at at t) (spans : (t : List ℕ) → StandsForView (kept t) (view_in t) t) (limits : Limits) (ending : InputEnding) (t : List ℕ) (short : size t < 2 ^ 63) where
-  pub behind_short : size (codes_of (placed_characters_behind (heads_text t) (behind_heads t))) < 2 ^ 63
+  pub behind_short : size (codes_of (placed_characters_after (heads_text t) (after_heads t))) < 2 ^ 63
   behind_short =
-      let less : size (behind_heads t) ≤ size t = size_behind (head_len t + 2) t in
-      let same : size (codes_of (placed_characters_behind (heads_text t) (behind_heads t))) ≡ size (behind_heads t) = ap size (codes_placed (heads_text t) (behind_heads t)) in
+      let less : size (after_heads t) ≤ size t = size_behind (head_len t + 2) t in
+      let same : size (codes_of (placed_characters_after (heads_text t) (after_heads t))) ≡ size (after_heads t) = ap size (codes_placed (heads_text t) (after_heads t)) in
       omega arith
 
-  behind_back : IsBack t (codes_of (placed_characters_behind (heads_text t) (behind_heads t)))
-  behind_back = (heads_text t, sym (take-append-drop (head_len t + 2) t) ∙ ap (λ cs. heads_text t ++ cs) (sym (codes_placed (heads_text t) (behind_heads t))))
+  behind_back : IsBack t (codes_of (placed_characters_after (heads_text t) (after_heads t)))
+  behind_back = (heads_text t, sym (take-append-drop (head_len t + 2) t) ∙ ap (λ cs. heads_text t ++ cs) (sym (codes_placed (heads_text t) (after_heads t))))
 
   abbrev Says : List PlacedSyllable → ℕ → Type 0
   Says ss lines = FactsHold (HoldsWithNotes t lines) (Holds HoldsNoNotes t) ss
@@ -178,7 +178,7 @@ module _ (ends : (at : Place) (t : List ℕ) → EndsOnce at t) (emits : (at : P
   by_heads (Ok heads) =
       let lines = nabc_lines_of heads.book in
       let macros = macros_of heads.book in
-      let xs = placed_characters_behind (heads_text t) (behind_heads t) in
+      let xs = placed_characters_after (heads_text t) (after_heads t) in
       let holds = body_holds ends emits spans t lines macros xs behind_back behind_short in
       body_hold (HoldsWithNotes t lines) (Holds HoldsNoNotes t) limits (bytes_len (canonical_heads heads.book)) heads.findings (place_after t) ending xs (body_events lines macros xs) holds.made holds.last
 

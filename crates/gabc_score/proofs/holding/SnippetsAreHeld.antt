@@ -52,7 +52,7 @@ pub record Placed (lines : ℕ) (text : List ℕ) (before : List ReadSnippet) (s
   pub is_snippet : IsSnippetOf s.snippet.line s.kept
   pub span_is : s.snippet.span ≡ span_behind (text ++ bracket_with (λ b. b.kept) before) s.kept
 
--- what stands behind those before: these, and the `)`
+-- what stands after those before: these, and the `)`
 abbrev closing : List ReadSnippet → List ℕ
 closing [] = codes ")"
 closing (s ∷ []) = s.kept ++ codes ")"

@@ -17,7 +17,7 @@ use Rattle.gabc_score.specs.UnitRead.{HoldsSomeUnit}
 use Rattle.gabc_score.specs.Syllable.{UnplacedSyllable, PlacedSyllable, is_seam, slice, text_at}
 use Rattle.gabc_score.specs.declared.snippets.Snippet.{Snippet}
 
--- behind a part of a text a character begins, or the text ends
+-- after a part of a text a character begins, or the text ends
 seam_behind : (a b : List ℕ) → is_seam (drop (length (encodes a)) (encodes (a ++ b))) ≡ true
 seam_behind a b =
     subst (λ t. is_seam t ≡ true) (sym (ap (drop (length (encodes a))) (encodes-append a b) ∙ drop_at (encodes a) (encodes b) (length (encodes a)) refl)) (texts_begin b)

@@ -49,7 +49,7 @@ made_from s eu nlba = record { text = s.view; kept = s.ended ++ s.part; snippets
 abbrev pub text_sum : List ℕ → Sum
 text_sum t = record { view = view_in t; ended = []; part = encodes (kept t); snippets = [] }
 
--- what the events of a text come to before its end, behind a `)` or at the beginning
+-- what the events of a text come to before its end, after a `)` or at the beginning
 text_gathered : (t : List ℕ) (how : TextEnd) (emitted : List BodyEvent) (g : TextEmitted t how emitted) (before : List BodyEvent) → since_close before ≡ [] → sum_of (since_close (events_onto (text_events g.mids) before)) ≡ text_sum t
 text_gathered t how emitted g before h =
     ap sum_of (text_within g.mids before).since
@@ -107,7 +107,7 @@ text_opens input lines front end rest emitted b m g before h = let t = codes_of 
   ap all_syllables (text_onto t text_end.Notes emitted g before) ∙ (text_within g.mids before).made,
 )
 
--- the notes that the text opens are those behind it, and have no snippet yet
+-- the notes that the text opens are those after it, and have no snippet yet
 pub text_opens_is : (input : List ℕ) (lines : ℕ) (front : List Char) (end : Char) (rest : List Char) → (let t = codes_of (front ++ end ∷ rest) in (emitted : List BodyEvent) (b : IsBack input t) (m : end.c ≡ 40)
     (g : TextEmitted t text_end.Notes emitted) (before : List BodyEvent) (h : since_close before ≡ [])
     → (let far = (text_opens input lines front end rest emitted b m g before h).0 in (far.text ≡ t) × (far.characters ≡ codes_of front) × (far.earlier ≡ [])))
@@ -184,7 +184,7 @@ module _ (input : List ℕ) (lines line : ℕ) (opened_at : Place) (from : List 
   all_placed : PlacedFrom lines (kept far.text) [] (far.earlier ++ new ∷ [])
   all_placed = placed_push lines (kept far.text) [] far.earlier new far.placed new_placed
 
-  -- the sum behind the mark
+  -- the sum after the mark
   abbrev behind : ℕ → Sum
   behind c = record {
     view = view_in far.text;
@@ -237,7 +237,7 @@ module _ (input : List ℕ) (lines line : ℕ) (opened_at : Place) (from : List 
   unfolding behind_by
   close_sum = ap (λ s. with_event s close_event) gathered ∙ behind_is 41 closing
 
-  -- what the text and the notes behind it were read from, with this snippet
+  -- what the text and the notes after it were read from, with this snippet
   text_more : (c : ℕ) → end.c ≡ c → far.text ≡ far.characters ++ ((bracket_with codes_in far.earlier ++ (codes_of from ++ c ∷ [])) ++ codes_of rest)
   text_more c e =
       far.text_is
@@ -267,7 +267,7 @@ module _ (input : List ℕ) (lines line : ℕ) (opened_at : Place) (from : List 
     };
   }
 
-  -- behind the `)` the syllable holds the unit of this text, whose snippets are these
+  -- after the `)` the syllable holds the unit of this text, whose snippets are these
   holds_unit : (u : ScoreUnit) → u.text ≡ far.text → u.notes ≡ in_brackets codes_in far.earlier new → (xs : List Char) (xss : List (List Char)) → u.snippets ≡ xs ∷ xss
       → map (λ (s : ReadSnippet). s.characters) (far.earlier ++ new ∷ []) ≡ u.snippets → (eu nlba : Bool) → HoldsUnit lines u (made_from (behind 41) eu nlba)
   holds_unit u t n xs xss some c eu nlba =

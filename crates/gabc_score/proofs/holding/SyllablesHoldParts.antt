@@ -13,8 +13,8 @@ use Rattle.gabc_text.specs.Events.{codes_of, events_by_point}
 use Rattle.gabc_score.specs.declared.events.BodyEvent.{BodyEvent}
 use Rattle.gabc_score.specs.Syllable.{since_close, all_syllables}
 use Rattle.gabc_score.specs.Body.{events_onto, has_last, last_syllable, cut_of}
-use Rattle.gabc_score.specs.Events.{PartAhead, InComment, InText, InNotes, texts_by_definition, snippet_from, behind_mark, body_events}
-use Rattle.gabc_score.specs.Units.{Mark, Opens, Next, Closes, CutPart, Cutting, whole, events_through, Endless, EndsBehind, part_following, Cuts, events_of_cutting, cutting_of, BeginsWithLf, first_text, IsCutFrom, events_of_parts}
+use Rattle.gabc_score.specs.Events.{PartAhead, InComment, InText, InNotes, texts_by_definition, snippet_from, after_mark, body_events}
+use Rattle.gabc_score.specs.Units.{Mark, Opens, Next, Closes, CutPart, Cutting, whole, events_through, Endless, EndsAfter, part_following, Cuts, events_of_cutting, cutting_of, BeginsWithLf, first_text, IsCutFrom, events_of_parts}
 use Rattle.gabc_score.specs.Holding.{HoldsNoNotes, Holds, HoldsWithNotes}
 use Rattle.gabc_score.proofs.texts_of_body.SeamsOfCharacters.{size, size_append}
 use Rattle.gabc_score.proofs.building.EventsOfSyllableParts.{onto_append}
@@ -42,7 +42,7 @@ fits_back xs ys h =
     let all : size (codes_of (xs ++ ys)) ≡ size (codes_of xs) + size (codes_of ys) = ap size (codes_append xs ys) ∙ size_append (codes_of xs) (codes_of ys) in
     omega arith
 
--- what stands behind a prefix of a back of the input is a back of it
+-- what stands after a prefix of a back of the input is a back of it
 back_behind : (input : List ℕ) (xs ys : List Char) → IsBack input (codes_of (xs ++ ys)) → IsBack input (codes_of ys)
 back_behind input xs ys b = (b.0 ++ codes_of xs, b.1 ∙ ap (λ cs. b.0 ++ cs) (codes_append xs ys) ∙ sym (append_assoc b.0 (codes_of xs) (codes_of ys)))
 
@@ -52,7 +52,7 @@ module _ (ends : (at : Place) (t : List ℕ) → EndsOnce at t) (emits : (at : P
   abbrev pub AllHold : List BodyEvent → Type 0
   AllHold before = All (HoldsWithNotes input lines) (all_syllables before)
 
-  -- where a part begins with these characters, behind what was emitted before
+  -- where a part begins with these characters, after what was emitted before
   abbrev Begins : PartAhead → List BodyEvent → List Char → Type 0
   Begins InComment before xs = ⊥
   Begins (InText lists) before xs = ((at : Place) × (lists ≡ texts_by_definition at xs)) × (since_close before ≡ [])
@@ -61,7 +61,7 @@ module _ (ends : (at : Place) (t : List ℕ) → EndsOnce at t) (emits : (at : P
   abbrev through : PartAhead → List Char → List BodyEvent → List BodyEvent
   through part prefix before = events_onto (concat_of (events_through part prefix)) before
 
-  -- the part behind a part, and the syllables so far
+  -- the part after a part, and the syllables so far
   abbrev Follows : Mark → Char → List Char → List BodyEvent → Type 0
   Follows mark end rest after = Begins (part_following texts_by_definition lines macros mark end rest) after rest × AllHold after
 
@@ -69,7 +69,7 @@ module _ (ends : (at : Place) (t : List ℕ) → EndsOnce at t) (emits : (at : P
   same_made before after h k = subst (All (HoldsWithNotes input lines)) (sym h) k
 
   text_follows : (at : Place) (prefix : List Char) (end : Char) (rest : List Char) (mark : Mark) (before : List BodyEvent) → IsBack input (codes_of (prefix ++ end ∷ rest)) → since_close before ≡ []
-      → EndsBehind lines (InText (texts_by_definition at (prefix ++ end ∷ rest))) prefix mark → AllHold before → Follows mark end rest (through (InText (texts_by_definition at (prefix ++ end ∷ rest))) prefix before)
+      → EndsAfter lines (InText (texts_by_definition at (prefix ++ end ∷ rest))) prefix mark → AllHold before → Follows mark end rest (through (InText (texts_by_definition at (prefix ++ end ∷ rest))) prefix before)
   text_follows at prefix end rest mark before b since h k =
       let part = InText (texts_by_definition at (prefix ++ end ∷ rest)) in
       let e = text_ended ends emits lines at prefix end rest mark h in
@@ -77,7 +77,7 @@ module _ (ends : (at : Place) (t : List ℕ) → EndsOnce at t) (emits : (at : P
       subst (λ m. Follows m end rest (through part prefix before)) (sym e.1) ((refl, o.0), same_made before (through part prefix before) o.1 k)
 
   notes_follow : (line : ℕ) (opened : Place) (prefix : List Char) (end : Char) (rest : List Char) (mark : Mark) (before : List BodyEvent) → SoFar input lines line (prefix ++ end ∷ rest) (since_close before) → size (codes_of prefix) < 2 ^ 63
-      → EndsBehind lines (snippet_from lines macros line opened (prefix ++ end ∷ rest)) prefix mark → AllHold before → Follows mark end rest (through (snippet_from lines macros line opened (prefix ++ end ∷ rest)) prefix before)
+      → EndsAfter lines (snippet_from lines macros line opened (prefix ++ end ∷ rest)) prefix mark → AllHold before → Follows mark end rest (through (snippet_from lines macros line opened (prefix ++ end ∷ rest)) prefix before)
   notes_follow line opened prefix end rest Opens before far fits h k = absurd (line_emitted lines macros opened line prefix end rest Opens fits h).marks
   notes_follow line opened prefix end rest (Next l o) before far fits h k =
       let part = snippet_from lines macros line opened (prefix ++ end ∷ rest) in
@@ -91,19 +91,19 @@ module _ (ends : (at : Place) (t : List ℕ) → EndsOnce at t) (emits : (at : P
       let events = concat_of (events_through part prefix) in
       let t = line_emitted lines macros opened line prefix end rest Closes fits h in
       let m = close_made input lines line opened prefix end rest Closes events t before far (spans far.text) t.marks (subst (IsMark end.c) t.marks t.is_mark) in (
-        ((behind_mark end.place, refl), m.3),
+        ((after_mark end.place, refl), m.3),
         subst (All (HoldsWithNotes input lines)) (sym m.1) (All-push (HoldsWithNotes input lines) (all_syllables before) m.0 k m.2),
       )
 
   part_follows : (part : PartAhead) (prefix : List Char) (end : Char) (rest : List Char) (mark : Mark) (before : List BodyEvent) → IsBack input (codes_of (prefix ++ end ∷ rest)) → Begins part before (prefix ++ end ∷ rest) → size (codes_of prefix) < 2 ^ 63
-      → EndsBehind lines part prefix mark → AllHold before → Follows mark end rest (through part prefix before)
+      → EndsAfter lines part prefix mark → AllHold before → Follows mark end rest (through part prefix before)
   part_follows InComment prefix end rest mark before back b fits h k = absurd b
   part_follows (InText lists) prefix end rest mark before back b fits h k =
       subst (λ ls. Follows mark end rest (through (InText ls) prefix before)) (sym b.0.1)
-      (text_follows b.0.0 prefix end rest mark before back b.1 (subst (λ ls. EndsBehind lines (InText ls) prefix mark) b.0.1 h) k)
+      (text_follows b.0.0 prefix end rest mark before back b.1 (subst (λ ls. EndsAfter lines (InText ls) prefix mark) b.0.1 h) k)
   part_follows (InNotes line opened lists) prefix end rest mark before back b fits h k =
       subst (λ part. Follows mark end rest (through part prefix before)) (sym b.0)
-      (notes_follow line opened prefix end rest mark before b.1 fits (subst (λ part. EndsBehind lines part prefix mark) b.0 h) k)
+      (notes_follow line opened prefix end rest mark before b.1 fits (subst (λ part. EndsAfter lines part prefix mark) b.0 h) k)
 
   -- ---- the last part
 

@@ -9,7 +9,7 @@ use Rattle.gabc_score.specs.declared.before.Spans.{Spans}
 use Rattle.gabc_score.specs.declared.body_stage.BodyPart.{BodyPart}
 use Rattle.gabc_score.specs.declared.events.BodyEvent.{BodyEvent}
 use Rattle.gabc_score.specs.Body.{events_onto}
-use Rattle.gabc_score.specs.ScoreTells.{is_in_comment, is_in_front}
+use Rattle.gabc_score.specs.ScoreReports.{is_in_comment, is_in_front}
 use Rattle.gabc_score.specs.machine.BodyBuilder.{with_all}
 use Rattle.gabc_score.specs.machine.Gatherer.{Gathered}
 use Rattle.gabc_score.specs.machine.PartKeeps.{IsReading, spans_past}

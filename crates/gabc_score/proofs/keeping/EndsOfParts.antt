@@ -7,14 +7,14 @@ use Rattle.gabc_places.proofs.NumbersByTests.{above_eqb, same_eqb}
 use Rattle.gabc_places.specs.PlacesInOrder.{IsEarlier, LiesBefore, AreInOrder}
 use Rattle.gabc_places.specs.StageLaw.{concat_of}
 use Rattle.gabc_places.specs.declared.place.Place.{Place}
-use Rattle.gabc_text.specs.StageTells as text_tells
+use Rattle.gabc_text.specs.StageReports as text_tells
 use Rattle.gabc_text.specs.declared.text_event.TextEvent.{TextEvent}
 use Rattle.gabc_text.specs.declared.text_event.TextEvent.TheVariants as text_out
 use Rattle.gabc_text.specs.declared.text_event.TextEnd.TheVariants as text_end
 use Rattle.gabc_text.specs.witness.EventsLeft as text_rest
 use Rattle.gabc_text.specs.witness.Keeps as text
 use Rattle.gabc_notes.specs.Events.{in_raw}
-use Rattle.gabc_notes.specs.StageTells as note_tells
+use Rattle.gabc_notes.specs.StageReports as note_tells
 use Rattle.gabc_notes.specs.declared.stage.NoteEnd.TheVariants as note_end
 use Rattle.gabc_notes.specs.declared.stage.NoteEvent.{NoteEvent}
 use Rattle.gabc_notes.specs.declared.stage.NoteEvent.TheVariants as note
@@ -25,8 +25,8 @@ use Rattle.gabc_score.specs.declared.body_stage.BodyPart.TheVariants as part
 use Rattle.gabc_score.specs.Body.{cut_of}
 use Rattle.gabc_score.specs.Events.{events_at_end, first_list, note_event}
 use Rattle.gabc_score.specs.KeptAgain.{is_other}
-use Rattle.gabc_score.specs.ScoreTells.{is_in_front, openers_of}
-use Rattle.gabc_score.specs.ToldWithin.{AreOpenersBefore}
+use Rattle.gabc_score.specs.ScoreReports.{is_in_front, openers_of}
+use Rattle.gabc_score.specs.ReportedWithin.{AreOpenersBefore}
 use Rattle.gabc_score.specs.machine.PartKeeps.{KeptParts, in_text, in_notes, line_behind, text_events, PartKeeps}
 use Rattle.gabc_score.specs.witness.BodyStage.{part_with}
 use Rattle.gabc_score.specs.machine.StageLaws.{Ends}
@@ -38,7 +38,7 @@ is_behind_text (in_text k) = false
 is_behind_text (in_notes u earlier k) = true
 
 abbrev pub is_open_in : ℕ → KeptParts → Bool
-is_open_in lines (in_text k) = text.is_open_behind k
+is_open_in lines (in_text k) = text.is_open_after_text k
 is_open_in lines (in_notes u earlier k) = if line_behind lines 0 earlier == 0 then in_raw k else false
 
 module _ (laws : Ends) (lines macros : ℕ) where

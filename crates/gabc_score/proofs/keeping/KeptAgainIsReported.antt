@@ -17,7 +17,7 @@ use Rattle.gabc_score.specs.Body.{events_onto}
 use Rattle.gabc_score.specs.KeptAgain.{IsKeptAgain}
 use Rattle.gabc_score.specs.ReadAgain.{IsReported}
 use Rattle.gabc_score.specs.ScoreEvents.{first_place}
-use Rattle.gabc_score.specs.ScoreTells.{is_in_comment, is_in_front, openers_of}
+use Rattle.gabc_score.specs.ScoreReports.{is_in_comment, is_in_front, openers_of}
 use Rattle.gabc_score.specs.Syllable.{PlacedSyllable, all_syllables, kept_of}
 use Rattle.gabc_score.specs.machine.BodyBuilder.{with_all}
 use Rattle.gabc_score.specs.machine.Gatherer.{Gathered, nothing_gathered}

@@ -12,9 +12,9 @@ use Rattle.gabc_score.specs.declared.events.BodyEvent.{BodyEvent}
 use Rattle.gabc_score.specs.Body.{cut_of, events_onto}
 use Rattle.gabc_score.specs.Events.{events_at_end}
 use Rattle.gabc_score.specs.KeptAgain.{IsKeptAgain, emitted, is_other, lists, notes_at, placed}
-use Rattle.gabc_score.specs.ReadAgain.{TellsOfReading}
+use Rattle.gabc_score.specs.ReadAgain.{ReportsReading}
 use Rattle.gabc_score.specs.ScoreEvents.{first_place}
-use Rattle.gabc_score.specs.ScoreTells.{is_in_comment, is_in_front, openers_of}
+use Rattle.gabc_score.specs.ScoreReports.{is_in_comment, is_in_front, openers_of}
 use Rattle.gabc_score.specs.Syllable.{all_syllables, kept_of}
 use Rattle.gabc_score.specs.machine.PartKeeps.{KeptParts, in_text, joined, PartKeeps}
 use Rattle.gabc_score.specs.machine.ReadAgain.{BeginsComment, Reads}
@@ -101,7 +101,7 @@ module _ (laws : StageLaws) (reads : FromBeginning) (lines macros : ℕ) where
       inner = inner_by laws.ends lines macros told p keeps front ∙ sym (inner_by laws.ends lines macros r.read.after p keeps_same r.stands.front) ∙ sym inside_is;
     }
 
-module _ (s : ScoreStageState) (t : List ℕ) (openers : Openers) (comment : Bool) (can : CanBeReadAgain s) (tells : TellsOfReading s (encode_utf8_all t) openers comment) where
+module _ (s : ScoreStageState) (t : List ℕ) (openers : Openers) (comment : Bool) (can : CanBeReadAgain s) (tells : ReportsReading s (encode_utf8_all t) openers comment) where
   kept_text : s.held.gathered.builder.kept ≡ encode_utf8_all t
   kept_text = sym (reads_in_body s.part s.held.gathered.builder.kept can.body) ∙ tells.reading
 

@@ -10,7 +10,7 @@ use Rattle.std.specs.List.{All, list_any}
 use Rattle.gabc_places.specs.declared.place.Char.{Char}
 use Rattle.gabc_places.specs.declared.place.Place.{Place}
 use Rattle.gabc_text.specs.BuiltText.{kept_in}
-use Rattle.gabc_text.specs.StageTells as text_tells
+use Rattle.gabc_text.specs.StageReports as text_tells
 use Rattle.gabc_text.specs.declared.stage.TextStage.{TextStage}
 use Rattle.gabc_text.specs.declared.text_event.TextEvent.{TextEvent}
 use Rattle.gabc_text.specs.witness.Keeps as text
@@ -23,7 +23,7 @@ use Rattle.gabc_score.specs.declared.body_stage.BodyPart.TheVariants as part
 use Rattle.gabc_score.specs.declared.events.BodyEvent.{BodyEvent}
 use Rattle.gabc_score.specs.declared.events.BodyEvent.TheVariants as event
 use Rattle.gabc_score.specs.Events.{is_close, is_next, is_text_end}
-use Rattle.gabc_score.specs.ScoreTells.{is_in_comment}
+use Rattle.gabc_score.specs.ScoreReports.{is_in_comment}
 use Rattle.gabc_score.specs.Syllable.{prefix_of}
 use Rattle.gabc_score.specs.machine.BodyBuilder.{with_all}
 use Rattle.gabc_score.specs.machine.Gatherer.{Gathered, with_event}
@@ -106,9 +106,9 @@ module _ (lines macros : ℕ) where
       -- a `%` does not end it
       no_percent : {A : Type 0} (k : List ℕ) → text.Keeps s k → x.c ≡ 37 → A
       no_percent k keeps is =
-          absurd (true≢false (sym (ends_text t.events e) ∙ t.keeps.end k keeps ∙ ap (λ (c : ℕ). not (text_tells.is_in_comment s) && (c == 40 && text.ends_behind k)) is ∙ by (text_tells.is_in_comment s)))
+          absurd (true≢false (sym (ends_text t.events e) ∙ t.keeps.end k keeps ∙ ap (λ (c : ℕ). not (text_tells.is_in_comment s) && (c == 40 && text.ends_after_it k)) is ∙ by (text_tells.is_in_comment s)))
         where
-          by : (b : Bool) → (not b && (37 == 40 && text.ends_behind k)) ≡ false
+          by : (b : Bool) → (not b && (37 == 40 && text.ends_after_it k)) ≡ false
           by true = refl
           by false = refl
 

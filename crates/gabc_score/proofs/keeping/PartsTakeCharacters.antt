@@ -18,7 +18,7 @@ use Rattle.gabc_notes.specs.declared.stage.NoteEvent.{NoteEvent}
 use Rattle.gabc_notes.specs.declared.stage.NoteEvent.TheVariants as note
 use Rattle.gabc_notes.specs.declared.stage.NoteStage.{NoteStage}
 use Rattle.gabc_notes.specs.SnippetRead.{kept_of}
-use Rattle.gabc_notes.specs.StageTells as note_tells
+use Rattle.gabc_notes.specs.StageReports as note_tells
 use Rattle.gabc_notes.specs.witness.Keeps as notes
 use Rattle.gabc_nabc.specs.Events as nabc_events
 use Rattle.gabc_nabc.specs.declared.stage.NabcStage.{NabcStage}
@@ -29,9 +29,9 @@ use Rattle.gabc_score.specs.declared.body_stage.BodyPart.TheVariants as part
 use Rattle.gabc_score.specs.declared.body_tells.Openers.{Openers}
 use Rattle.gabc_score.specs.declared.events.BodyEvent.{BodyEvent}
 use Rattle.gabc_score.specs.declared.events.BodyEvent.TheVariants as event
-use Rattle.gabc_score.specs.Events.{InNotes, behind_mark, events_from, is_close, is_next, is_text_end, next_line, note_event}
+use Rattle.gabc_score.specs.Events.{InNotes, after_mark, events_from, is_close, is_next, is_text_end, next_line, note_event}
 use Rattle.gabc_score.specs.KeptAgain.{opens}
-use Rattle.gabc_score.specs.ScoreTells.{is_in_comment, is_in_front, openers_of}
+use Rattle.gabc_score.specs.ScoreReports.{is_in_comment, is_in_front, openers_of}
 use Rattle.gabc_score.specs.machine.PartKeeps.{KeptParts, in_text, in_notes, text_events, PartKeeps, PartKeepsOn, PartStandsOn}
 use Rattle.gabc_score.specs.machine.PartOpens.{PartOpensOn}
 use Rattle.gabc_score.specs.machine.ReadAgain.{ReadsAgain}
@@ -168,8 +168,8 @@ module _ (laws : Steps) (lines macros : ℕ) where
   text_takes : (s : TextStage) (x : Char) (t : text.Takes s x.c) (b : Bool) → list_any is_text_end t.events ≡ b → TakesOne lines macros (part.Text s) x
   text_takes s x t true e =
       let n = snippet_at 0 x.place in
-      taken (step.text_ends (record { law = λ xs. t.emits (codes_of xs); keeps = t.keeps }) e n.begins) refl (text_end_one lines macros s x t e n.snippet n.begins.tells.1)
-  text_takes s x t false e = taken (step.text_goes (record { law = λ xs. t.emits (codes_of xs); keeps = t.keeps }) e) refl (text_one lines macros s x t e)
+      taken (step.text_ends (record { emits = λ xs. t.emits (codes_of xs); keeps = t.keeps }) e n.begins) refl (text_end_one lines macros s x t e n.snippet n.begins.tells.1)
+  text_takes s x t false e = taken (step.text_goes (record { emits = λ xs. t.emits (codes_of xs); keeps = t.keeps }) e) refl (text_one lines macros s x t e)
 
   snippet_takes : {x : Char} {line : ℕ} {opened : Place} {before same : BodyPart} {es : List NoteEvent} → SnippetSteps x line opened before es same → is_in_front before ≡ false
       → ((p : KeptParts) → PartKeeps lines macros before p → x.c ≡ 37 → kept_of es ≡ [] → is_in_comment same ≡ true) → (next close : Bool) → list_any is_next es ≡ next → list_any is_close es ≡ close → TakesOne lines macros before x
@@ -177,7 +177,7 @@ module _ (laws : Steps) (lines macros : ℕ) where
       let n = snippet_at (next_line lines line) opened in
       taken (step.snippet_next s e n.begins) front (next_one lines macros s n.snippet n.begins.tells.1 e)
   snippet_takes {x} s front percent false true e f =
-      taken (step.snippet_closes s e f) front (close_one lines macros s (part.Text (fresh_stage (behind_mark x.place))) (comment_fresh (behind_mark x.place)) f)
+      taken (step.snippet_closes s e f) front (close_one lines macros s (part.Text (fresh_stage (after_mark x.place))) (comment_fresh (after_mark x.place)) f)
   snippet_takes s front percent false false e f = taken (step.snippet_goes s e f) front (goes_one lines macros s e f percent)
 
   gabc_percent : (opened : Place) (s : NoteStage) (x : Char) (t : notes.Takes s x) (p : KeptParts) → PartKeeps lines macros (part.Notes opened s) p → x.c ≡ 37 → kept_of t.events ≡ [] → note_tells.comment_of t.after ≡ true
@@ -200,8 +200,8 @@ module _ (laws : Steps) (lines macros : ℕ) where
   takes_one (part.Notes opened s) (in_text k) keeps front x = absurd keeps
   takes_one (part.Notes opened s) (in_notes u earlier k) keeps front x =
       let t = laws.gabc_takes s x keeps.1.goes_on in
-      snippet_takes (step.in_gabc {opened = opened} (record { law = t.emits; keeps = t.keeps })) refl (gabc_percent opened s x t) (list_any is_next t.events) (list_any is_close t.events) refl refl
+      snippet_takes (step.in_gabc {opened = opened} (record { emits = t.emits; keeps = t.keeps })) refl (gabc_percent opened s x t) (list_any is_next t.events) (list_any is_close t.events) refl refl
   takes_one (part.Nabc line opened s) (in_text k) keeps front x = absurd keeps
   takes_one (part.Nabc line opened s) (in_notes u earlier k) keeps front x =
       let t = laws.nabc_takes s x in
-      snippet_takes (step.in_nabc {line = line} {opened = opened} (record { law = t.emits; keeps = t.keeps })) refl (nabc_percent line opened s x t) (list_any is_next t.events) (list_any is_close t.events) refl refl
+      snippet_takes (step.in_nabc {line = line} {opened = opened} (record { emits = t.emits; keeps = t.keeps })) refl (nabc_percent line opened s x t) (list_any is_next t.events) (list_any is_close t.events) refl refl

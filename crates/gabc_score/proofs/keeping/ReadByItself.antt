@@ -15,9 +15,9 @@ use Rattle.gabc_score.specs.declared.events.BodyEvent.{BodyEvent}
 use Rattle.gabc_score.specs.Body.{events_onto}
 use Rattle.gabc_score.specs.Events.{events_from}
 use Rattle.gabc_score.specs.KeptAgain.{notes_at, opens}
-use Rattle.gabc_score.specs.ScoreTells.{StandsAt, is_in_comment, is_in_front, openers_of}
+use Rattle.gabc_score.specs.ScoreReports.{IsAt, is_in_comment, is_in_front, openers_of}
 use Rattle.gabc_score.specs.Syllable.{all_syllables}
-use Rattle.gabc_score.specs.ToldWithin.{AreOpenersBefore, IsPlace}
+use Rattle.gabc_score.specs.ReportedWithin.{AreOpenersBefore, IsPlace}
 use Rattle.gabc_score.specs.machine.BodyBuilder.{with_all}
 use Rattle.gabc_score.specs.machine.Gatherer.{Gathered}
 use Rattle.gabc_score.specs.machine.PartKeeps.{KeptParts, joined, IsReading, PartKeeps}
@@ -30,7 +30,7 @@ use Rattle.gabc_score.proofs.building.PartsOfKeptText.{stays}
 use Rattle.gabc_score.proofs.keeping.PartsTakeCharacters.{TakesOne, takes_one}
 use Rattle.gabc_score.specs.machine.StageLaws.{Again, Steps}
 use Rattle.gabc_score.proofs.resuming.NextIsKept.{next_is}
-use Rattle.gabc_score.proofs.score_events.OpenersInOrder.{opens_in_order, place_behind}
+use Rattle.gabc_score.proofs.score_events.OpenersInOrder.{opens_in_order, place_after_input}
 use Rattle.gabc_score.proofs.stopped_scores.ClosedWithin.{close_count, made_count}
 
 -- ---- places
@@ -77,7 +77,7 @@ pub record StandsAfter (lines macros : ℕ) (at : Place) (b : BodyPart) (before 
   pub none : all_syllables before ≡ []
   pub outside : is_in_comment b ≡ false
   pub front : is_in_front b ≡ false
-  pub stands : StandsAt at b
+  pub stands : IsAt at b
   pub place : IsPlace at
   pub openers : AreOpenersBefore at (openers_of b)
 
@@ -121,7 +121,7 @@ module _ (steps : Steps) (lines macros : ℕ) where
     none = more.none ∙ h.none;
     outside = reads.comment_is;
     front = t.front;
-    stands = subst (λ (q : Place). StandsAt q t.after) (same_place at c n room) (t.stands h.reading.parts h.reading.keeps h.stands);
+    stands = subst (λ (q : Place). IsAt q t.after) (same_place at c n room) (t.stands h.reading.parts h.reading.keeps h.stands);
     place = subst IsPlace (same_place at c n room) behind.0;
     openers = subst (λ (q : Place). AreOpenersBefore q (openers_of t.after)) (same_place at c n room)
         (opens_in_order at (saturating_next_place at c) behind.1 h.place (openers_of b) (openers_of t.after) (t.opens_on h.reading.parts h.reading.keeps h.stands) h.openers);
@@ -146,7 +146,7 @@ module _ (steps : Steps) (lines macros : ℕ) where
       more = adds_after before t.now (c ∷ []) adds
 
       behind : IsPlace (saturating_next_place at c) × IsEarlier at (saturating_next_place at c)
-      behind = let l = room.line in let k = room.column in place_behind at c h.place (omega (arith, l)) (omega (arith, k))
+      behind = let l = room.line in let k = room.column in place_after_input at c h.place (omega (arith, l)) (omega (arith, k))
 
   -- ---- all characters
 
@@ -187,7 +187,7 @@ module _ (steps : Steps) (lines macros : ℕ) where
   notes_on None next false at later last e once h = ap (λ (o : Option Place). option_or o later) (sym e) ∙ h
 
   module _ (again : Again) (told : BodyPart) (p : KeptParts) (keeps : PartKeeps lines macros told p) (fits : length (encode_utf8_all (joined p)) < 2 ^ 64) where
-    -- the next character of the text that is told
+    -- the next character of the text that is reported
     next_told : (b : BodyPart) (before : List BodyEvent) (done rest : List ℕ) (at : Place) (c : ℕ) → (h : StandsAfter lines macros at b before done) → done ++ c ∷ rest ≡ joined p → IsNext lines h.reading.parts c
     next_told b before done rest at c h is =
         next_is again lines macros b told h.reading.parts p c rest h.reading.keeps keeps

@@ -65,7 +65,7 @@ gabc_point split macros p =
     let read = noted_if (notes.is_comment p) [] (if notes.is_kept p then note.Kept p.here ∷ notes.warnings macros p else notes.finding_event p.here.place E1 ∷ []) tt kept in
     noted_if (notes.is_over split p.back) [] _ tt (noted_if (notes.is_end split p) (notes.at_end p) _ (gabc_end p) read)
 
-gabc_points : (split : Bool) (macros : ℕ) (back xs : List Char) → AreLowEach (notes.note_events_behind split macros back xs)
+gabc_points : (split : Bool) (macros : ℕ) (back xs : List Char) → AreLowEach (notes.note_events_after split macros back xs)
 gabc_points split macros back [] = (noted_if (notes.is_over split back) _ _ tt tt, tt)
 gabc_points split macros back (x ∷ xs) = (gabc_point split macros (record { back = back; here = x }), gabc_points split macros (x ∷ back) xs)
 
@@ -85,7 +85,7 @@ nabc_point t x =
     (noted_if (nabc.is_end t x.c) (nabc.end_events (nabc.kept_of t) x) _ (nabc_end (nabc.kept_of t) x)
     (noted_if (nabc.is_character t x.c) (nabc.character_events (nabc.kept_of t) x) [] (nabc_character (nabc.kept_of t) x) tt))
 
-nabc_points : (t : List ℕ) (xs : List Char) → AreLowEach (nabc.nabc_events_behind t xs)
+nabc_points : (t : List ℕ) (xs : List Char) → AreLowEach (nabc.nabc_events_after t xs)
 nabc_points t [] = (noted_if (nabc.has_end t) _ _ tt tt, tt)
 nabc_points t (x ∷ xs) = (nabc_point t x, nabc_points (t ++ x.c ∷ []) xs)
 

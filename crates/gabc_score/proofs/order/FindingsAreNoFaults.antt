@@ -14,13 +14,13 @@ use Rattle.gabc_places.specs.declared.limits.Limits.{Limits}
 use Rattle.gabc_places.specs.Code.{severity_of, rank_of}
 use Rattle.gabc_places.specs.Findings.{Known, findings_before, Stop, earliest}
 use Rattle.gabc_places.specs.StageLaw.{concat_of}
-use Rattle.gabc_places.specs.Place.{place_after, placed_characters_behind}
+use Rattle.gabc_places.specs.Place.{place_after, placed_characters_after}
 use Rattle.gabc_headers.specs.declared.heads.Heads.{Heads}
 use Rattle.gabc_headers.specs.declared.heads.HeadFault.{HeadFault}
 use Rattle.gabc_headers.specs.Book.{nabc_lines_of, is_kept, repeats, has_header, book_of, macros_of}
 use Rattle.gabc_headers.specs.Lines.{lines, has_score}
 use Rattle.gabc_headers.specs.Parts.{HeaderPart as HeadPart, left_out, header, unended}
-use Rattle.gabc_headers.specs.Heads.{findings_behind as heads_found, findings_at, names_after, heads_of, findings_of as found_in_heads}
+use Rattle.gabc_headers.specs.Heads.{findings_after as heads_found, findings_at, names_after, heads_of, findings_of as found_in_heads}
 use Rattle.gabc_headers.specs.witness.Heads.{name_findings, head_findings, head_stops, heads_by}
 use Rattle.gabc_headers.specs.witness.Parts.{head_parts}
 use Rattle.gabc_text.specs.declared.text_event.TextEvent.{TextEvent}
@@ -34,9 +34,9 @@ use Rattle.gabc_notes.specs.Events as notes
 use Rattle.gabc_nabc.specs.Events as nabc
 use Rattle.gabc_score.specs.declared.events.BodyEvent.TheVariants as event
 use Rattle.gabc_score.specs.declared.ending.InputEnding.{InputEnding}
-use Rattle.gabc_score.specs.Events.{PartAhead, InComment, InText, InNotes, is_text_end, is_next, is_close, note_event, first_list, other_lists, events_in, events_at_end, texts_by_definition, text_from, snippet_from, next_line, behind_mark, part_at, part_behind, events_from, body_events}
+use Rattle.gabc_score.specs.Events.{PartAhead, InComment, InText, InNotes, is_text_end, is_next, is_close, note_event, first_list, other_lists, events_in, events_at_end, texts_by_definition, text_from, snippet_from, next_line, after_mark, part_at, part_after_character, events_from, body_events}
 use Rattle.gabc_score.specs.NoteBeforeClef.{score_events}
-use Rattle.gabc_score.specs.Score.{heads_text, behind_heads, score_of, score_by}
+use Rattle.gabc_score.specs.Score.{heads_text, after_heads, score_of, score_by}
 use Rattle.gabc_score.proofs.order.CodesOfSnippets.{AreLow, AreLowEach, notes_low, nabc_low}
 use Rattle.gabc_score.proofs.order.FirstNotesOfParts.{all_with_first}
 use Rattle.gabc_score.proofs.order.FindingsOfParts.{found, found_append}
@@ -210,7 +210,7 @@ module _ (low : (at : Place) (t : List ℕ) → All (λ (f : Finding). rank_of f
   standing_finds (InText lists) x xs h = h
   standing_finds (InNotes line opened lists) x xs h = h
 
-  behind_finds : (part : PartAhead) (x : Char) (xs : List Char) → PartFinds part → PartFinds (part_behind texts_by_definition lines macros part x xs)
+  behind_finds : (part : PartAhead) (x : Char) (xs : List Char) → PartFinds part → PartFinds (part_after_character texts_by_definition lines macros part x xs)
   behind_finds InComment x xs h = tt
   behind_finds (InText lists) x xs h = by (list_any is_text_end (first_list lists))
     where
@@ -219,9 +219,9 @@ module _ (low : (at : Place) (t : List ℕ) → All (λ (f : Finding). rank_of f
       by false = (text_first lists h).1
   behind_finds (InNotes line opened lists) x xs h = by (list_any is_next (first_list lists)) (list_any is_close (first_list lists))
     where
-      by : (b d : Bool) → PartFinds (if b then snippet_from lines macros (next_line lines line) opened xs else if d then text_from texts_by_definition (behind_mark x.place) xs else InNotes line opened (other_lists lists))
+      by : (b d : Bool) → PartFinds (if b then snippet_from lines macros (next_line lines line) opened xs else if d then text_from texts_by_definition (after_mark x.place) xs else InNotes line opened (other_lists lists))
       by true d = snippet_finds (next_line lines line) opened xs
-      by false true = text_finds (behind_mark x.place) xs
+      by false true = text_finds (after_mark x.place) xs
       by false false = (notes_first lists h).1
 
   events_finds : (part : PartAhead) (xs : List Char) → PartFinds part → NoFaults (found (concat_of (events_from texts_by_definition lines macros part xs)))
@@ -229,8 +229,8 @@ module _ (low : (at : Place) (t : List ℕ) → All (λ (f : Finding). rank_of f
   events_finds part (x ∷ xs) h =
       let now = part_at texts_by_definition part x xs in
       let s = standing_finds part x xs h in
-      subst NoFaults (sym (found_append (events_in now) (concat_of (events_from texts_by_definition lines macros (part_behind texts_by_definition lines macros now x xs) xs))))
-      (both (found (events_in now)) _ (part_emits now s) (events_finds (part_behind texts_by_definition lines macros now x xs) xs (behind_finds now x xs s)))
+      subst NoFaults (sym (found_append (events_in now) (concat_of (events_from texts_by_definition lines macros (part_after_character texts_by_definition lines macros now x xs) xs))))
+      (both (found (events_in now)) _ (part_emits now s) (events_finds (part_after_character texts_by_definition lines macros now x xs) xs (behind_finds now x xs s)))
 
 -- ---- of a score
 
@@ -239,7 +239,7 @@ module _ (low : (at : Place) (t : List ℕ) → All (λ (f : Finding). rank_of f
   score_finds : (limits : Limits) (ending : InputEnding) (t : List ℕ) (r : Result Heads HeadFault) → NoFaults (found_in_heads r) → All IsNoFault (score_by limits ending t r).findings
   score_finds limits ending t (Err stop) h = to_all stop.findings h
   score_finds limits ending t (Ok heads) h =
-      let xs = placed_characters_behind (heads_text t) (behind_heads t) in
+      let xs = placed_characters_after (heads_text t) (after_heads t) in
       let emitted = body_events (nabc_lines_of heads.book) (macros_of heads.book) xs in
       let lists = score_events (nabc_lines_of heads.book) (macros_of heads.book) xs in
       read_finds IsNoFault (λ p e. cc) (λ p e. cc) limits _ heads.findings (place_after t) (concat_of lists) (to_all heads.findings h)

@@ -13,16 +13,16 @@ use Rattle.gabc_places.specs.PlacesInOrder.{IsEarlier}
 use Rattle.gabc_notes.specs.declared.item.ItemKind.{ItemKind}
 use Rattle.gabc_notes.specs.Events as notes
 use Rattle.gabc_nabc.specs.Events as nabc
-use Rattle.gabc_score.specs.Events.{PartAhead, texts_by_definition, text_from, snippet_from, behind_mark}
+use Rattle.gabc_score.specs.Events.{PartAhead, texts_by_definition, text_from, snippet_from, after_mark}
 use Rattle.gabc_score.specs.NoteBeforeClef.{is_first_note, found_first, with_first_each}
 use Rattle.gabc_score.specs.declared.events.BodyEvent.{BodyEvent}
-use Rattle.gabc_score.specs.Units.{Mark, Opens, Next, Closes, CutPart, whole, events_through, EndsBehind, part_following, Cuts, events_of_cutting}
+use Rattle.gabc_score.specs.Units.{Mark, Opens, Next, Closes, CutPart, whole, events_through, EndsAfter, part_following, Cuts, events_of_cutting}
 use Rattle.gabc_score.proofs.units.BodyHasOneCutting.{text_mark}
 use Rattle.gabc_score.proofs.order.FindingsOneAfterAnother.{AllBelow, from_earlier, from_append, up_to_append, below_before, before_append, order_append, order_then, all_before, no_notes}
 use Rattle.gabc_score.proofs.order.FindingsOfParts.{found, TextsLie, SnippetsLie, Lie, LieLast, text_lies, text_codes, text_lies_last, snippet_lies, snippet_codes, snippet_lies_last}
 use Rattle.gabc_score.proofs.order.FirstNotesOfParts.{through_end, to_the_end}
 
--- ---- the characters of a part and those behind it
+-- ---- the characters of a part and those after it
 
 record Split (xs : List Char) (x : Char) (ys : List Char) (p : Place) (cs : List ℕ) : Type 0 where
   prefix : List ℕ
@@ -62,8 +62,8 @@ pub short_past : (p : Place) (prefix rest : List ℕ) → Short p (prefix ++ res
 short_past p [] rest h = h
 short_past p (c ∷ prefix) rest h = short_past (next_place p c) prefix rest (short_next p c (prefix ++ rest) h)
 
--- behind a `)`
-behind_is : (q : Place) (c : ℕ) (rest : List ℕ) → c ≡ 41 → Short q (c ∷ rest) → behind_mark q ≡ next_place q c
+-- after a `)`
+behind_is : (q : Place) (c : ℕ) (rest : List ℕ) → c ≡ 41 → Short q (c ∷ rest) → after_mark q ≡ next_place q c
 behind_is q c rest e h =
     let less : q.column + 1 ≤ 2 ^ 64 - 1 = omega (arith, h.here, some) in
     rw e (ap (λ n. record { line = q.line; column = n }) (let m : min (q.column + 1) (2 ^ 64 - 1) ≡ q.column + 1 = grind (arith, less) in m))
@@ -72,7 +72,7 @@ behind_is q c rest e h =
     some = omega arith
 
 module _ (lines macros : ℕ) (texts : TextsLie) (gabc : SnippetsLie (λ xs. notes.note_events (nat_lt 0 lines) macros xs)) (marks : SnippetsLie (λ xs. nabc.nabc_events xs))
-    (closes : (line : ℕ) (opened : Place) (prefix : List Char) (x : Char) (rest : List Char) → EndsBehind lines (snippet_from lines macros line opened (prefix ++ x ∷ rest)) prefix Closes → x.c ≡ 41) where
+    (closes : (line : ℕ) (opened : Place) (prefix : List Char) (x : Char) (rest : List Char) → EndsAfter lines (snippet_from lines macros line opened (prefix ++ x ∷ rest)) prefix Closes → x.c ≡ 41) where
   -- the part begins here with these characters
   abbrev pub Begins : PartAhead → Place → List Char → Type 0
   Begins part p xs = (part ≡ text_from texts_by_definition p xs) ⊎ ((line : ℕ) × (opened : Place) × (part ≡ snippet_from lines macros line opened xs))
@@ -82,7 +82,7 @@ module _ (lines macros : ℕ) (texts : TextsLie) (gabc : SnippetsLie (λ xs. not
   begun_codes part p xs ys (inl f) = rw f (text_codes texts p ys xs)
   begun_codes part p xs ys (inr h) = rw h.2 (snippet_codes lines macros gabc marks h.0 h.1 ys xs)
 
-  -- a note before any clef stands at the mark, behind all that the snippet finds
+  -- a note before any clef stands at the mark, after all that the snippet finds
   lies_with_first : (p q : Place) (fs : List Finding) (was now : Option ItemKind) → IsUpTo p q → Lie p q fs → AllBelow W12 fs → Lie p q (fs ++ found_first was now q)
   lies_with_first p q fs was now u l h = by (is_first_note was now)
     where
@@ -107,12 +107,12 @@ module _ (lines macros : ℕ) (texts : TextsLie) (gabc : SnippetsLie (λ xs. not
       subst (λ q. Lie p (place_past p s.prefix) (found (concat_of (events_through q xs)))) (sym (h.2 ∙ ap (snippet_from lines macros h.0 h.1) (e ∙ ap (placed_characters_from p) s.all)))
       (snippet_lies lines macros gabc marks h.0 h.1 p s.prefix (s.c ∷ s.rest) xs s.size)
 
-  closes_at : (part : PartAhead) (p : Place) (xs : List Char) (x : Char) (ys : List Char) → Begins part p (xs ++ x ∷ ys) → EndsBehind lines part xs Closes → x.c ≡ 41
-  closes_at part p xs x ys (inl f) h = elim (text_mark texts_by_definition lines macros _ xs Closes (subst (λ q. EndsBehind lines q xs Closes) f h)) [ ]
-  closes_at part p xs x ys (inr b) h = closes b.0 b.1 xs x ys (subst (λ q. EndsBehind lines q xs Closes) b.2 h)
+  closes_at : (part : PartAhead) (p : Place) (xs : List Char) (x : Char) (ys : List Char) → Begins part p (xs ++ x ∷ ys) → EndsAfter lines part xs Closes → x.c ≡ 41
+  closes_at part p xs x ys (inl f) h = elim (text_mark texts_by_definition lines macros _ xs Closes (subst (λ q. EndsAfter lines q xs Closes) f h)) [ ]
+  closes_at part p xs x ys (inr b) h = closes b.0 b.1 xs x ys (subst (λ q. EndsAfter lines q xs Closes) b.2 h)
 
   next_begins : (part : PartAhead) (p : Place) (cs : List ℕ) (xs : List Char) (x : Char) (ys : List Char) (mark : Mark) (s : Split xs x ys p cs) → Short p cs
-      → Begins part p (xs ++ x ∷ ys) → EndsBehind lines part xs mark
+      → Begins part p (xs ++ x ∷ ys) → EndsAfter lines part xs mark
       → Begins (part_following texts_by_definition lines macros mark x ys) (next_place (place_past p s.prefix) s.c) ys
   next_begins part p cs xs x ys Opens s short b h = inr (0, x.place, refl)
   next_begins part p cs xs x ys (Next line opened) s short b h = inr (line, opened, refl)
@@ -120,7 +120,7 @@ module _ (lines macros : ℕ) (texts : TextsLie) (gabc : SnippetsLie (λ xs. not
       let at = ap (λ (y : Char). y.place) s.here in
       let c : s.c ≡ 41 = sym (ap (λ (y : Char). y.c) s.here) ∙ closes_at part p xs x ys b h in
       inl (ap (λ q. text_from texts_by_definition q ys)
-      (ap behind_mark at ∙ behind_is (place_past p s.prefix) s.c s.rest c (short_past p s.prefix (s.c ∷ s.rest) (subst (Short p) s.all short))))
+      (ap after_mark at ∙ behind_is (place_past p s.prefix) s.c s.rest c (short_past p s.prefix (s.c ∷ s.rest) (subst (Short p) s.all short))))
 
   both_lie : (p q r e : Place) (fs gs : List Finding) → IsUpTo p r → IsEarlier q r → IsUpTo r e → Lie p q fs → LieLast r e gs → LieLast p e (fs ++ gs)
   both_lie p q r e fs gs u l m f g = record {

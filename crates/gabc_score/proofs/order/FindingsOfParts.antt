@@ -71,7 +71,7 @@ text_emitted (text.Kept c ∷ emitted) = text_emitted emitted
 text_emitted (text.Part p ∷ emitted) = text_emitted emitted
 text_emitted (text.Ended e ∷ emitted) = text_emitted emitted
 
--- the lists of the characters, and that of the point behind them
+-- the lists of the characters, and that of the point after them
 pub text_through : (lists : List (List TextEvent)) (xs : List Char) → found (concat_of (events_through (InText lists) xs)) ≡ found_in (concat_of (take (suc (length xs)) lists))
 text_through [] [] = refl
 text_through (l ∷ lists) [] =
@@ -144,13 +144,13 @@ pub record SnippetsLie (emits_at : List Char → List (List NoteEvent)) : Type 0
   pub each : (xs : List Char) → length (emits_at xs) ≡ length xs + 1
   pub below : (xs : List Char) → AllBelow W12 (notes_found (concat_of (emits_at xs)))
 
--- what is found through the end of a part whose first character stands at p, and behind which stands the place q
+-- what is found through the end of a part whose first character stands at p, and after which stands the place q
 pub record Lie (p q : Place) (fs : List Finding) : Type 0 where
   pub order : AreInOrder fs
   pub from : AllFrom p fs
   pub up_to : AllUpTo q fs
 
--- the same where the characters end: behind it a text without notes is found
+-- the same where the characters end: after it a text without notes is found
 pub record LieLast (p q : Place) (fs : List Finding) : Type 0 where
   pub order : AreInOrder fs
   pub from : AllFrom p fs

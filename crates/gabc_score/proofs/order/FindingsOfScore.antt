@@ -9,9 +9,9 @@ use Rattle.gabc_places.specs.declared.code.Code.TheVariants.{W9, W11}
 use Rattle.gabc_places.specs.declared.code.Finding.{Finding}
 use Rattle.gabc_places.specs.declared.code.Fault.{Fault}
 use Rattle.gabc_places.specs.declared.limits.Limits.{Limits}
-use Rattle.gabc_places.specs.Findings.{StandsBefore, AreInOrder, IsUpTo, LieBetween}
+use Rattle.gabc_places.specs.Findings.{ComesBefore, AreInOrder, IsUpTo, LieBetween}
 use Rattle.gabc_places.specs.StageLaw.{concat_of}
-use Rattle.gabc_places.specs.Place.{place_after, placed_characters_behind, next_place, place_past, placed_characters_from}
+use Rattle.gabc_places.specs.Place.{place_after, placed_characters_after, next_place, place_past, placed_characters_from}
 use Rattle.gabc_places.specs.PlacesInOrder.{IsEarlier}
 use Rattle.gabc_headers.specs.declared.heads.Heads.{Heads}
 use Rattle.gabc_headers.specs.declared.heads.HeadFault.{HeadFault}
@@ -24,9 +24,9 @@ use Rattle.gabc_score.specs.declared.ending.InputEnding.{InputEnding}
 use Rattle.gabc_score.specs.declared.ending.InputEnding.TheVariants.{Whole, Broken, At}
 use Rattle.gabc_score.specs.Events.{texts_by_definition, text_from, snippet_from}
 use Rattle.gabc_score.specs.NoteBeforeClef.{with_first_each, score_events}
-use Rattle.gabc_score.specs.Units.{Closes, Cutting, IsCutFrom, EndsBehind, whole, cutting_of, events_of_parts, first_text, BeginsWithLf, events_of_cutting}
+use Rattle.gabc_score.specs.Units.{Closes, Cutting, IsCutFrom, EndsAfter, whole, cutting_of, events_of_parts, first_text, BeginsWithLf, events_of_cutting}
 use Rattle.gabc_score.specs.Body.{events_onto, findings_of, EventsToStop, events_to_stop, stopped_events, code_at, result_by, result_at_end, result_by_fault, result_whole, result_stopped, found_at_end, has_last, fault_of_end, cut_of}
-use Rattle.gabc_score.specs.Score.{heads_text, behind_heads, score_of, score_by}
+use Rattle.gabc_score.specs.Score.{heads_text, after_heads, score_of, score_by}
 use Rattle.gabc_score.proofs.units.BodyHasOneCutting.{one, body_emits_all}
 use Rattle.gabc_places.proofs.PlacesOfAText.{placed_behind, behind_after, place_append}
 use Rattle.gabc_places.proofs.PlacesInOrder.{before_then, before_next, up_to_past}
@@ -44,12 +44,12 @@ record Behind (prefix : List Char) (ys : List Char) (p : Place) (cs : List ℕ) 
   all : cs ≡ before ++ rest
   placed : ys ≡ placed_characters_from (place_past p before) rest
 
-part_behind : (prefix ys : List Char) (p : Place) (cs : List ℕ) → placed_characters_from p cs ≡ prefix ++ ys → Behind prefix ys p cs
-part_behind [] ys p cs e = record { before = []; rest = cs; all = refl; placed = sym e }
-part_behind (x ∷ prefix) ys p [] e = absurd (cc)
-part_behind (x ∷ prefix) ys p (c ∷ cs) e =
+part_after_character : (prefix ys : List Char) (p : Place) (cs : List ℕ) → placed_characters_from p cs ≡ prefix ++ ys → Behind prefix ys p cs
+part_after_character [] ys p cs e = record { before = []; rest = cs; all = refl; placed = sym e }
+part_after_character (x ∷ prefix) ys p [] e = absurd (cc)
+part_after_character (x ∷ prefix) ys p (c ∷ cs) e =
     let f : placed_characters_from (next_place p c) cs ≡ prefix ++ ys = cc in
-    let b = part_behind prefix ys (next_place p c) cs f in
+    let b = part_after_character prefix ys (next_place p c) cs f in
     record { before = c ∷ b.before; rest = b.rest; all = ap (λ ds. c ∷ ds) b.all; placed = b.placed }
 
 -- the first text begins at the LF
@@ -62,7 +62,7 @@ first_begins (y ∷ ys) p (c ∷ cs) e k =
 
 module _ (texts : TextsLie)
     (gabc : (lines macros : ℕ) → SnippetsLie (λ xs. notes.note_events (nat_lt 0 lines) macros xs)) (marks : SnippetsLie (λ xs. nabc.nabc_events xs))
-    (closes : (lines macros line : ℕ) (opened : Place) (prefix : List Char) (x : Char) (rest : List Char) → EndsBehind lines (snippet_from lines macros line opened (prefix ++ x ∷ rest)) prefix Closes → x.c ≡ 41) where
+    (closes : (lines macros line : ℕ) (opened : Place) (prefix : List Char) (x : Char) (rest : List Char) → EndsAfter lines (snippet_from lines macros line opened (prefix ++ x ∷ rest)) prefix Closes → x.c ≡ 41) where
   parts_lie : (lines macros : ℕ) (p : Place) (cs : List ℕ) (comment : List Char) (parts : Option Cutting) → Short p cs
       → IsCutFrom texts_by_definition lines macros (placed_characters_from p cs) comment parts
       → LieLast p (place_past p cs) (found (concat_of (with_first_each [] (placed_characters_from p cs) (map (λ (x : Char). []) comment ++ events_of_parts texts_by_definition lines macros parts))))
@@ -70,7 +70,7 @@ module _ (texts : TextsLie)
       rw (h.0 ∙ sym (append-nil comment), behind_comment comment [] [] (events_of_parts texts_by_definition lines macros None)) (record { order = tt; from = tt; before = tt })
   parts_lie lines macros p cs comment (Some d) short h =
       let ys = whole d.pieces d.last in
-      let b = part_behind comment (whole d.pieces d.last) p cs h.0 in
+      let b = part_after_character comment (whole d.pieces d.last) p cs h.0 in
       let q = place_past p b.before in
       let k = pieces_lie lines macros texts (gabc lines macros) marks (closes lines macros) d.pieces d.last (first_text texts_by_definition (whole d.pieces d.last)) (place_past p b.before) b.rest b.placed
       (short_past p b.before b.rest (subst (Short p) b.all short))
@@ -113,7 +113,7 @@ reached_prefix limits head before (x ∷ xs) (now ∷ lists) = by (code_at limit
 
 -- ---- the end
 
-eu_last : (p : Place) (f : Finding) → StandsBefore f (no_notes p) → StandsBefore f (record { place = p; code = W11 })
+eu_last : (p : Place) (f : Finding) → ComesBefore f (no_notes p) → ComesBefore f (record { place = p; code = W11 })
 eu_last p f (inl l) = inl l
 eu_last p f (inr (l, inl c)) = inr (l, inl c)
 eu_last p f (inr (l, inr (c, r))) = inr (l, inr (c, omega (arith, r)))
@@ -169,7 +169,7 @@ pub record HeadsLie : Type 0 where
   pub within : (limits : Limits) (t : List ℕ) (heads : Heads) → heads_of limits t ≡ Ok heads → LieBetween (place_after []) (place_after (take (head_len t) t)) heads.findings
   pub behind : (limits : Limits) (t : List ℕ) (heads : Heads) → heads_of limits t ≡ Ok heads → head_len t + 2 ≤ length t
 
--- the body begins behind the line `%%`
+-- the body begins after the line `%%`
 body_behind : (t : List ℕ) → head_len t + 2 ≤ length t → IsEarlier (place_after (take (head_len t) t)) (place_after (heads_text t))
 body_behind t h =
     let n = head_len t in
@@ -185,31 +185,31 @@ body_behind t h =
     (before_then (place_after (take (head_len t) t)) (next_place (place_after (take (head_len t) t)) c) _ (before_next (place_after (take (head_len t) t)) c)
     (up_to_past (next_place (place_after (take (head_len t) t)) c) (d ∷ [])))
 
-short_body : (t : List ℕ) → length t < 2 ^ 63 → Short (place_after (heads_text t)) (behind_heads t)
+short_body : (t : List ℕ) → length t < 2 ^ 63 → Short (place_after (heads_text t)) (after_heads t)
 short_body t h =
-    subst (λ p. Short p (behind_heads t)) (behind_after [] (heads_text t))
-    (short_past (place_after []) (heads_text t) (behind_heads t)
+    subst (λ p. Short p (after_heads t)) (behind_after [] (heads_text t))
+    (short_past (place_after []) (heads_text t) (after_heads t)
     (subst (Short (place_after [])) (sym (take-append-drop (head_len t + 2) t)) (record { here = omega (arith, h); begun = omega (arith, h) })))
 
 module _ (texts : TextsLie) (heads : HeadsLie)
     (gabc : (lines macros : ℕ) → SnippetsLie (λ xs. notes.note_events (nat_lt 0 lines) macros xs)) (marks : SnippetsLie (λ xs. nabc.nabc_events xs))
-    (closes : (lines macros line : ℕ) (opened : Place) (prefix : List Char) (x : Char) (rest : List Char) → EndsBehind lines (snippet_from lines macros line opened (prefix ++ x ∷ rest)) prefix Closes → x.c ≡ 41) where
+    (closes : (lines macros line : ℕ) (opened : Place) (prefix : List Char) (x : Char) (rest : List Char) → EndsAfter lines (snippet_from lines macros line opened (prefix ++ x ∷ rest)) prefix Closes → x.c ≡ 41) where
   behind_sorted : (limits : Limits) (ending : InputEnding) (t : List ℕ) (h : Heads) → length t < 2 ^ 63 → heads_of limits t ≡ Ok h → AreInOrder (score_by limits ending t (Ok h)).findings
   behind_sorted limits ending t h short e =
       let f = heads_text t in
-      let u = behind_heads t in
-      let xs : placed_characters_from (place_after (heads_text t)) (behind_heads t) ≡ placed_characters_behind (heads_text t) (behind_heads t) = placed_behind (heads_text t) (behind_heads t) in
-      let end : place_past (place_after (heads_text t)) (behind_heads t) ≡ place_after t = behind_after (heads_text t) (behind_heads t) ∙ ap place_after (take-append-drop (head_len t + 2) t) in
-      let lists = score_events (nabc_lines_of h.book) (macros_of h.book) (placed_characters_behind (heads_text t) (behind_heads t)) in
-      let all = body_lies texts gabc marks closes (nabc_lines_of h.book) (macros_of h.book) (place_after (heads_text t)) (behind_heads t) (short_body t short) in
+      let u = after_heads t in
+      let xs : placed_characters_from (place_after (heads_text t)) (after_heads t) ≡ placed_characters_after (heads_text t) (after_heads t) = placed_behind (heads_text t) (after_heads t) in
+      let end : place_past (place_after (heads_text t)) (after_heads t) ≡ place_after t = behind_after (heads_text t) (after_heads t) ∙ ap place_after (take-append-drop (head_len t + 2) t) in
+      let lists = score_events (nabc_lines_of h.book) (macros_of h.book) (placed_characters_after (heads_text t) (after_heads t)) in
+      let all = body_lies texts gabc marks closes (nabc_lines_of h.book) (macros_of h.book) (place_after (heads_text t)) (after_heads t) (short_body t short) in
       read_sorted limits _ h.findings (place_after t) (place_after (take (head_len t) t)) (place_after (heads_text t)) (concat_of lists)
       (subst (λ r. AreInOrder (heads_found r)) e (heads.order limits t))
       (lie_up_to (place_after []) (place_after (take (head_len t) t)) h.findings (heads.within limits t h e))
       (body_behind t (heads.behind limits t h e))
-      (subst (IsUpTo (place_after (heads_text t))) end (up_to_past (place_after (heads_text t)) (behind_heads t)))
+      (subst (IsUpTo (place_after (heads_text t))) end (up_to_past (place_after (heads_text t)) (after_heads t)))
       (subst (λ p. LieLast (place_after (heads_text t)) p (found (concat_of lists))) end
-      (subst (λ ys. LieLast (place_after (heads_text t)) (place_past (place_after (heads_text t)) (behind_heads t)) (found (concat_of (score_events (nabc_lines_of h.book) (macros_of h.book) ys)))) xs all))
-      ending _ (reached_prefix limits _ [] (placed_characters_behind (heads_text t) (behind_heads t)) lists)
+      (subst (λ ys. LieLast (place_after (heads_text t)) (place_past (place_after (heads_text t)) (after_heads t)) (found (concat_of (score_events (nabc_lines_of h.book) (macros_of h.book) ys)))) xs all))
+      ending _ (reached_prefix limits _ [] (placed_characters_after (heads_text t) (after_heads t)) lists)
 
   pub score_sorted : (limits : Limits) (ending : InputEnding) (t : List ℕ) → length t < 2 ^ 63 → AreInOrder (score_of limits ending t).findings
   score_sorted limits ending t short = by (heads_of limits t) refl

@@ -7,7 +7,7 @@ use Rattle.gabc_places.specs.declared.code.Finding.{Finding}
 use Rattle.gabc_places.specs.declared.code.Code.{Code}
 use Rattle.gabc_places.specs.declared.code.Code.TheVariants.{W9}
 use Rattle.gabc_places.specs.Code.{rank_of}
-use Rattle.gabc_places.specs.Findings.{StandsBefore, StandBehind, AreInOrder, IsUpTo, LieBetween}
+use Rattle.gabc_places.specs.Findings.{ComesBefore, ComeAfter, AreInOrder, IsUpTo, LieBetween}
 use Rattle.gabc_places.specs.PlacesInOrder.{IsEarlier}
 
 -- ---- lists of findings
@@ -23,7 +23,7 @@ AllUpTo q (f ∷ fs) = IsUpTo f.place q × AllUpTo q fs
 -- each stands before this one
 abbrev pub AllBefore : Finding → List Finding → Type 0
 AllBefore g [] = Unit {0}
-AllBefore g (f ∷ fs) = StandsBefore f g × AllBefore g fs
+AllBefore g (f ∷ fs) = ComesBefore f g × AllBefore g fs
 
 pub lie_from : (p q : Place) (fs : List Finding) → LieBetween p q fs → AllFrom p fs
 lie_from p q [] h = tt
@@ -49,22 +49,22 @@ pub before_append : (g : Finding) (fs gs : List Finding) → AllBefore g fs → 
 before_append g [] gs h k = k
 before_append g (f ∷ fs) gs h k = (h.0, before_append g fs gs h.1 k)
 
--- findings up to q stand before one behind q
+-- findings up to q stand before one after q
 pub all_before : (q : Place) (g : Finding) (fs : List Finding) → AllUpTo q fs → IsEarlier q g.place → AllBefore g fs
 all_before q g [] h l = tt
 all_before q g (f ∷ fs) h l = (stands_before f g (then_before f.place q g.place h.0 l), all_before q g fs h.1 l)
 
-behind_one : (f : Finding) (fs gs : List Finding) (q r : Place) → IsUpTo f.place q → AllUpTo q fs → IsEarlier q r → StandBehind f fs → AreInOrder gs → AllFrom r gs → StandBehind f (fs ++ gs)
+behind_one : (f : Finding) (fs gs : List Finding) (q r : Place) → IsUpTo f.place q → AllUpTo q fs → IsEarlier q r → ComeAfter f fs → AreInOrder gs → AllFrom r gs → ComeAfter f (fs ++ gs)
 behind_one f [] [] q r u h l s o k = tt
 behind_one f [] (g ∷ gs) q r u h l s o k = (stands_before f g (before_then f.place r g.place (then_before f.place q r u l) k.0), o)
 behind_one f (x ∷ fs) gs q r u h l s o k = (s.0, behind_one x fs gs q r h.0 h.1 l s.1 o k)
 
--- findings in order up to q, and findings in order from a place behind q on
+-- findings in order up to q, and findings in order from a place after q on
 pub order_append : (fs gs : List Finding) (q r : Place) → AreInOrder fs → AllUpTo q fs → IsEarlier q r → AreInOrder gs → AllFrom r gs → AreInOrder (fs ++ gs)
 order_append [] gs q r s h l o k = o
 order_append (f ∷ fs) gs q r s h l o k = behind_one f fs gs q r h.0 h.1 l s o k
 
-one_more : (f : Finding) (fs : List Finding) (g : Finding) (gs : List Finding) → StandsBefore f g → AllBefore g fs → StandBehind f fs → AreInOrder (g ∷ gs) → StandBehind f (fs ++ g ∷ gs)
+one_more : (f : Finding) (fs : List Finding) (g : Finding) (gs : List Finding) → ComesBefore f g → AllBefore g fs → ComeAfter f fs → AreInOrder (g ∷ gs) → ComeAfter f (fs ++ g ∷ gs)
 one_more f [] g gs l h s o = (l, o)
 one_more f (x ∷ fs) g gs l h s o = (s.0, one_more x fs g gs h.0 h.1 s.1 o)
 
@@ -73,7 +73,7 @@ pub order_then : (fs : List Finding) (g : Finding) (gs : List Finding) → AreIn
 order_then [] g gs s h o = o
 order_then (f ∷ fs) g gs s h o = one_more f fs g gs h.0 h.1 s o
 
-stand_prefix : (f : Finding) (fs gs : List Finding) → StandBehind f (fs ++ gs) → StandBehind f fs
+stand_prefix : (f : Finding) (fs gs : List Finding) → ComeAfter f (fs ++ gs) → ComeAfter f fs
 stand_prefix f [] gs h = tt
 stand_prefix f (x ∷ fs) gs h = (h.0, stand_prefix x fs gs h.1)
 
@@ -110,11 +110,11 @@ pub below_before : (code : Code) (p : Place) (fs : List Finding) → AllUpTo p f
 below_before code p [] h b = tt
 below_before code p (f ∷ fs) h b = (by h.0, below_before code p fs h.1 b.1)
   where
-    by : IsUpTo f.place p → StandsBefore f (record { place = p; code = code })
+    by : IsUpTo f.place p → ComesBefore f (record { place = p; code = code })
     by (inl l) = inl l
     by (inr l) = (let c = l.1 in at (f.place.column == p.column) refl l.0 c)
       where
-        at : (b : Bool) → (f.place.column == p.column) ≡ b → f.place.line ≡ p.line → f.place.column ≤ p.column → StandsBefore f (record { place = p; code = code })
+        at : (b : Bool) → (f.place.column == p.column) ≡ b → f.place.line ≡ p.line → f.place.column ≤ p.column → ComesBefore f (record { place = p; code = code })
         at true e l c = inr (l, inr (eqb-true f.place.column p.column e, b.0))
         at false e l c = inr (l, inl (less (eqb-false f.place.column p.column e) c))
           where

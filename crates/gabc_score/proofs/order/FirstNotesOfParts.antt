@@ -17,7 +17,7 @@ use Rattle.gabc_notes.specs.declared.stage.NoteEvent.TheVariants as note
 use Rattle.gabc_score.specs.Body.{events_onto}
 use Rattle.gabc_score.specs.Events.{PartAhead, InComment, InText, InNotes, is_next, is_close, first_list, note_event, events_in, next_line}
 use Rattle.gabc_score.specs.NoteBeforeClef.{gabc_ended, first_of, is_first_note, found_first, with_first, with_first_each}
-use Rattle.gabc_score.specs.Units.{Mark, Next, Closes, part_onward, events_through, mark_in, Endless, EndsBehind}
+use Rattle.gabc_score.specs.Units.{Mark, Next, Closes, part_onward, events_through, mark_in, Endless, EndsAfter}
 use Rattle.gabc_score.specs.declared.events.BodyEvent.{BodyEvent}
 use Rattle.gabc_score.specs.declared.events.BodyEvent.TheVariants as event
 use Rattle.gabc_score.proofs.order.FindingsOfParts.{found, found_append}
@@ -75,8 +75,8 @@ module _ (lines : ℕ) where
       ∙ no_first (first_of before) x.place)
       ∙ append-nil (found (events_in part))
 
-  -- what a part finds through its end, with what the score finds at the mark, and what is found behind it
-  pub through_end : (part : PartAhead) (xs : List Char) (x : Char) (ys : List Char) (mark : Mark) (before : List BodyEvent) (later : List (List BodyEvent)) → EndsBehind lines part xs mark
+  -- what a part finds through its end, with what the score finds at the mark, and what is found after it
+  pub through_end : (part : PartAhead) (xs : List Char) (x : Char) (ys : List Char) (mark : Mark) (before : List BodyEvent) (later : List (List BodyEvent)) → EndsAfter lines part xs mark
       → (was : Option ItemKind) × (now : Option ItemKind) × (behind : List BodyEvent)
       × (found (concat_of (with_first_each before (xs ++ x ∷ ys) (events_through part xs ++ later)))
       ≡ (found (concat_of (events_through part xs)) ++ found_first was now x.place) ++ found (concat_of (with_first_each behind ys later)))

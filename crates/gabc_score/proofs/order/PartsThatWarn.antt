@@ -23,7 +23,7 @@ use Rattle.gabc_notes.specs.ReadAgain.{IsWarning}
 use Rattle.gabc_notes.specs.SnippetRead.{findings_of as notes_found}
 use Rattle.gabc_score.specs.declared.events.BodyEvent.{BodyEvent}
 use Rattle.gabc_score.specs.declared.ending.InputEnding.{InputEnding}
-use Rattle.gabc_score.specs.Events.{PartAhead, InText, InNotes, texts_by_definition, text_from, snippet_from, next_line, behind_mark, body_events}
+use Rattle.gabc_score.specs.Events.{PartAhead, InText, InNotes, texts_by_definition, text_from, snippet_from, next_line, after_mark, body_events}
 use Rattle.gabc_score.specs.FoundInParts.{snippet_events, TextWarns, SnippetsWarn, UnitsWarn}
 use Rattle.gabc_score.specs.NoteBeforeClef.{score_events}
 use Rattle.gabc_score.specs.Score.{score_by, score_of}
@@ -68,7 +68,7 @@ module _ (all : (at : Place) (t : List ℕ) → found_in (concat_of (events_by_p
 
   notes_warn : (nexts : List EndedPart) (final : EndedPart) (more : List CutPart) (last : List Char) (line : ℕ) (opened : Place)
       → (let pieces = snippets_with lines line opened nexts (cut_part final Closes ∷ more) in
-      SnippetsWarn lines macros line (nexts ++ final ∷ []) (whole more last) → Warn (Found (text_from texts_by_definition (behind_mark final.end.place) (whole more last)) more last)
+      SnippetsWarn lines macros line (nexts ++ final ∷ []) (whole more last) → Warn (Found (text_from texts_by_definition (after_mark final.end.place) (whole more last)) more last)
       → Warn (Found (snippet_from lines macros line opened (whole pieces last)) pieces last))
   notes_warn [] final more last line opened h k =
       let rest = whole more last in
@@ -102,7 +102,7 @@ module _ (all : (at : Place) (t : List ℕ) → found_in (concat_of (events_by_p
       subst Warn (sym (joined_found first _))
       (All-append IsWarning (found (concat_of first)) _ (text_warns at (score_unit u behind).text xs u.text.characters text_is h.0.0)
       (notes_warn u.nexts u.final more last 0 u.text.end.place (subst (SnippetsWarn lines macros 0 (snippets_in u)) (sym behind_is) h.0.1)
-      (units_warn units last (behind_mark u.final.end.place) h.1 k)))
+      (units_warn units last (after_mark u.final.end.place) h.1 k)))
 
   comment_warns : (comment : List Char) (lists : List (List BodyEvent)) → Warn (found (concat_of lists)) → Warn (found (concat_of (map nothing_of comment ++ lists)))
   comment_warns [] lists h = h

@@ -5,7 +5,7 @@ use Rattle.gabc_places.specs.declared.place.Char.{Char}
 use Rattle.gabc_places.specs.Place.{next_place, place_past, placed_characters_from}
 use Rattle.gabc_places.proofs.PlacesOfAText.{place_append}
 use Rattle.gabc_text.specs.Events.{CountsFit}
-use Rattle.gabc_score.specs.Events.{behind_mark}
+use Rattle.gabc_score.specs.Events.{after_mark}
 use Rattle.gabc_score.specs.RegularSyllable.{SyllableParts, notes_spelled, spelled, after_part, final_at, unit_at}
 use Rattle.gabc_score.proofs.keeping.ReadByItself.{HasRoom, same_place, room_behind}
 use Rattle.gabc_score.proofs.regular_syllables.OneMore.{next_of}
@@ -38,7 +38,7 @@ module _ (at : Place) (r : SyllableParts) (fits : CountsFit at (spelled r)) wher
   room = record { line = fits.line; column = fits.column }
 
   -- a text begins there
-  pub mark_past : behind_mark (unit_at at r).final.end.place ≡ place_past at (spelled r)
+  pub mark_past : after_mark (unit_at at r).final.end.place ≡ place_past at (spelled r)
   mark_past =
       let p = (unit_at at r).final.end.place in
       let within = (room_past at (spelled r) 0 (subst (HasRoom at) (let e : length (spelled r) ≡ length (spelled r) + 0 = omega arith in e) room)).column in

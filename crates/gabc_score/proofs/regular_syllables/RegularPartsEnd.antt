@@ -29,7 +29,7 @@ use Rattle.gabc_nabc.specs.Events.{nabc_events}
 use Rattle.gabc_score.specs.Events.{InText, InNotes, is_next, is_close, next_line, texts_by_definition, text_from, snippet_from}
 use Rattle.gabc_score.specs.FoundInParts.{snippet_events}
 use Rattle.gabc_score.specs.RegularSyllable.{IsRegularOn, ended_at}
-use Rattle.gabc_score.specs.Units.{Mark, Opens, Next, Closes, events_through, EndsBehind}
+use Rattle.gabc_score.specs.Units.{Mark, Opens, Next, Closes, events_through, EndsAfter}
 use Rattle.gabc_score.proofs.order.FindingsOfParts.{found, text_through, snippet_through}
 use Rattle.gabc_score.proofs.texts_of_body.TextEmitsThroughEnd.{any_after, none_ends, ends_apart, length_of_codes, codes_append}
 
@@ -48,7 +48,7 @@ module _ (lines : ℕ) where
   opens_by b = if b then Some Opens else None
 
   ends_there : (before : List (List TextEvent)) (last : List TextEvent) (rest : List ℕ) (prefix : List Char) → length before ≡ length prefix → ends_in (concat_of before) ≡ [] → ends_in last ≡ []
-      → EndsBehind lines (InText (before ++ (last ++ text.Ended text_end.Notes ∷ []) ∷ no_events_each rest)) prefix Opens
+      → EndsAfter lines (InText (before ++ (last ++ text.Ended text_end.Notes ∷ []) ∷ no_events_each rest)) prefix Opens
   ends_there [] last rest [] k n l = ap opens_by (any_after last (text.Ended text_end.Notes ∷ []) l)
   ends_there [] last rest (x ∷ prefix) k n l = absurd (omega (arith, k))
   ends_there (b ∷ before) last rest [] k n l = absurd (omega (arith, k))
@@ -58,13 +58,13 @@ module _ (lines : ℕ) where
 
   -- a text ends at the `(` that its tokens leave
   pub text_ends : (at : Place) (prefix : List Char) (end : Char) (rest : List Char) → (let xs = prefix ++ end ∷ rest in
-      EndsOnce at (codes_of xs) → after_tokens (codes_of xs) ≡ codes_of (end ∷ rest) → EndsBehind lines (text_from texts_by_definition at xs) prefix Opens)
+      EndsOnce at (codes_of xs) → after_tokens (codes_of xs) ≡ codes_of (end ∷ rest) → EndsAfter lines (text_from texts_by_definition at xs) prefix Opens)
   text_ends at prefix end rest e h =
       let xs = prefix ++ end ∷ rest in
       let rest_is : e.rest ≡ codes_of (end ∷ rest) = e.rest_is ∙ h in
       let count : length e.before ≡ length prefix =
       e.one_each ∙ length_back e.prefix e.rest (codes_of prefix) (codes_of (end ∷ rest)) (sym e.text_is ∙ codes_append prefix (end ∷ rest)) rest_is ∙ length_of_codes prefix in
-      subst (λ ls. EndsBehind lines (InText ls) prefix Opens)
+      subst (λ ls. EndsAfter lines (InText ls) prefix Opens)
       (sym (e.events_are ∙ ap (λ how. e.before ++ (e.last ++ text.Ended how ∷ []) ∷ no_events_each e.rest) (notes_end e.how e.leaves rest_is)))
       (ends_there e.before e.last e.rest prefix count e.none_before e.none_in_last)
     where
@@ -107,7 +107,7 @@ module _ (lines line : ℕ) (opened : Place) where
   mark_of events = if list_any is_next events then Some (Next (next_line lines line) opened) else if list_any is_close events then Some Closes else None
 
   notes_ends : (lists : List (List NoteEvent)) (prefix : List Char) (how : NoteEnd) (n : ℕ) → (how ≡ note_end.Next) ⊎ (how ≡ note_end.Close)
-      → take (suc (length prefix)) lists ≡ through_end prefix how n → EndsBehind lines (InNotes line opened lists) prefix (mark_by lines line opened how)
+      → take (suc (length prefix)) lists ≡ through_end prefix how n → EndsAfter lines (InNotes line opened lists) prefix (mark_by lines line opened how)
   notes_ends [] [] how n k h = absurd (cc)
   notes_ends [] (x ∷ prefix) how n k h = absurd (cc)
   notes_ends (l ∷ lists) [] how n k h = ap mark_of (head_same l (note.Ended how n ∷ []) [] [] h) ∙ by how k
@@ -173,7 +173,7 @@ module _ (gabc_prefix : (split : Bool) (macros : ℕ) (xs ys zs : List Char) →
 
   -- a regular snippet ends at its mark, and nothing is found in it
   pub record SnippetEnds (line : ℕ) (opened at : Place) (t : List ℕ) (how : NoteEnd) (rest : List Char) : Type 0 where
-    pub ends : (let e = ended_at at t (code_of how) in EndsBehind lines (snippet_from lines macros line opened (e.characters ++ e.end ∷ rest)) e.characters (mark_by lines line opened how))
+    pub ends : (let e = ended_at at t (code_of how) in EndsAfter lines (snippet_from lines macros line opened (e.characters ++ e.end ∷ rest)) e.characters (mark_by lines line opened how))
     pub nothing : (let e = ended_at at t (code_of how) in found (concat_of (events_through (snippet_from lines macros line opened (e.characters ++ e.end ∷ rest)) e.characters)) ≡ [])
 
   ends_by : (line : ℕ) (opened at : Place) (t : List ℕ) (how : NoteEnd) (rest : List Char) → (how ≡ note_end.Next) ⊎ (how ≡ note_end.Close) → ReadThrough line at t how rest → SnippetEnds line opened at t how rest

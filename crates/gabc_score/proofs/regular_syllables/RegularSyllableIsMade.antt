@@ -303,7 +303,7 @@ module _ (gabc_prefix : (split : Bool) (macros : ℕ) (xs ys zs : List Char) →
       (found_alone : (at : Place) (t rest : List ℕ) → IsRegularText t → findings at (t ++ 40 ∷ rest) ≡ [])
       (ends_alone : (t rest : List ℕ) → IsRegularText t → after_tokens (t ++ 40 ∷ rest) ≡ 40 ∷ rest)
       (found_behind : (at : Place) (b : ℕ) (gap t rest : List ℕ) → is_gap (b ∷ gap) ≡ true → IsRegularText t → findings at (b ∷ gap ++ (t ++ 40 ∷ rest)) ≡ [])
-      (ends_behind : (b : ℕ) (gap t rest : List ℕ) → is_gap (b ∷ gap) ≡ true → IsRegularText t → after_tokens (b ∷ gap ++ (t ++ 40 ∷ rest)) ≡ 40 ∷ rest)
+      (ends_after_it : (b : ℕ) (gap t rest : List ℕ) → is_gap (b ∷ gap) ≡ true → IsRegularText t → after_tokens (b ∷ gap ++ (t ++ 40 ∷ rest)) ≡ 40 ∷ rest)
       (at : Place) (r : SyllableParts) (regular : IsRegularSyllable lines r) where
     abbrev unit : BodyUnit
     unit = unit_at at r
@@ -314,10 +314,10 @@ module _ (gabc_prefix : (split : Bool) (macros : ℕ) (xs ys zs : List Char) →
     cuts : Cuts texts_by_definition lines macros (text_from texts_by_definition at (characters_from (unit ∷ []) (JustText []))) pieces []
     cuts =
         subst (λ (ys : List Char). Cuts texts_by_definition lines macros (text_from texts_by_definition at ys) pieces []) (units_whole lines (unit ∷ []) (JustText [])) (
-          text_there lines macros gabc_prefix nabc_prefix ends all_found found_alone ends_alone found_behind ends_behind at r
+          text_there lines macros gabc_prefix nabc_prefix ends all_found found_alone ends_alone found_behind ends_after_it at r
               (whole (snippets_with lines 0 unit.text.end.place unit.nexts (cut_part unit.final Closes ∷ [])) []) regular,
           notes_cut 0 unit.text.end.place (after_part at (r.gap ++ r.text) 40) r.nexts r.final regular.notes
-              (split_of lines macros gabc_prefix nabc_prefix ends all_found found_alone ends_alone found_behind ends_behind lines r.nexts regular.single),
+              (split_of lines macros gabc_prefix nabc_prefix ends all_found found_alone ends_alone found_behind ends_after_it lines r.nexts regular.single),
         )
 
     pub given : length (encodes (codes_of (characters_in unit ++ []))) < 2 ^ 63 → (before : List BodyEvent) → since_close before ≡ [] → GivesOneSyllable lines macros at unit [] before
@@ -326,7 +326,7 @@ module _ (gabc_prefix : (split : Bool) (macros : ℕ) (xs ys zs : List Char) →
     pub found_none : (before : List BodyEvent) → findings_of (emitted_through lines macros at unit [] before) ≡ findings_of before
     found_none before =
         let us = characters_in unit in
-        let p = syllable_passes lines macros gabc_prefix nabc_prefix ends all_found found_alone ends_alone found_behind ends_behind at r [] regular in
+        let p = syllable_passes lines macros gabc_prefix nabc_prefix ends all_found found_alone ends_alone found_behind ends_after_it at r [] regular in
         let first : first_events lines macros at (us ++ []) (length us) ≡ concat_of p.front =
         ap (λ (ls : List (List BodyEvent)). concat_of (take (length us) ls)) p.all_is ∙ ap concat_of (take_at p.front _ (length us) p.count) in
         found_onto (first_events lines macros at (us ++ []) (length us)) before

@@ -16,10 +16,10 @@ use Rattle.gabc_text.specs.View.{findings}
 use Rattle.gabc_notes.specs.Events.{note_events}
 use Rattle.gabc_nabc.specs.Events.{nabc_events}
 use Rattle.gabc_score.specs.declared.events.BodyEvent.{BodyEvent}
-use Rattle.gabc_score.specs.Events.{PartAhead, texts_by_definition, text_from, snippet_from, next_line, behind_mark, events_from}
+use Rattle.gabc_score.specs.Events.{PartAhead, texts_by_definition, text_from, snippet_from, next_line, after_mark, events_from}
 use Rattle.gabc_score.specs.RegularSyllable.{SyllableParts, IsRegularSyllable, AreRegularFrom, IsReadAsItStands, notes_spelled, spelled, ended_at, after_part, nexts_at, final_at, unit_at}
 use Rattle.gabc_score.specs.SyllablesOfUnits.{with_ends, characters_in}
-use Rattle.gabc_score.specs.Units.{Opens, Next, Closes, EndedPart, events_through, EndsBehind}
+use Rattle.gabc_score.specs.Units.{Opens, Next, Closes, EndedPart, events_through, EndsAfter}
 use Rattle.gabc_score.proofs.order.FindingsOfParts.{found, found_append, found_onto}
 use Rattle.gabc_score.proofs.regular_syllables.RegularPartsEnd.{text_ends, text_none, next_ends, close_ends}
 use Rattle.gabc_score.proofs.stopped_scores.PrefixesAreReadAlike.{through_length}
@@ -93,10 +93,10 @@ module _ (lines macros : ℕ) where
     -- regular snippets through the `)`
     notes_pass : (line : ℕ) (opened at : Place) (nexts : List (List ℕ)) (final : List ℕ) (xs : List Char) → AreRegularFrom lines line nexts final → (nexts ≡ []) ⊎ (nat_lt 0 lines ≡ true)
         → (let us = with_ends (notes_at at nexts final) in
-        Passes (length us) (lists_of (snippet_from lines macros line opened (us ++ xs)) (us ++ xs)) (lists_of (text_from texts_by_definition (behind_mark (final_at at nexts final).end.place) xs) xs))
+        Passes (length us) (lists_of (snippet_from lines macros line opened (us ++ xs)) (us ++ xs)) (lists_of (text_from texts_by_definition (after_mark (final_at at nexts final).end.place) xs) xs))
     notes_pass line opened at [] final xs r s =
         let e = ended_at at final 41 in
-        let later = lists_of (text_from texts_by_definition (behind_mark e.end.place) xs) xs in
+        let later = lists_of (text_from texts_by_definition (after_mark e.end.place) xs) xs in
         let part = snippet_from lines macros line opened (e.characters ++ e.end ∷ xs) in
         let h = close_ends gabc_prefix nabc_prefix lines macros line opened at final xs r in
         let p = passes_on part e 0 (lists_of part (e.characters ++ e.end ∷ xs)) later later
@@ -107,7 +107,7 @@ module _ (lines macros : ℕ) where
         let e = ended_at at t 124 in
         let next = after_part at t 124 in
         let us = with_ends (notes_at next nexts final) in
-        let later = lists_of (text_from texts_by_definition (behind_mark (final_at next nexts final).end.place) xs) xs in
+        let later = lists_of (text_from texts_by_definition (after_mark (final_at next nexts final).end.place) xs) xs in
         let part = snippet_from lines macros line opened (e.characters ++ e.end ∷ (us ++ xs)) in
         let on = notes_pass (next_line lines line) opened next nexts final xs r.1 (inr (splits t nexts lines s)) in
         let h = next_ends gabc_prefix nabc_prefix lines macros line opened at t (us ++ xs) r.0 (splits t nexts lines s) in
@@ -126,11 +126,11 @@ module _ (lines macros : ℕ) where
         (found_alone : (at : Place) (t rest : List ℕ) → IsRegularText t → findings at (t ++ 40 ∷ rest) ≡ [])
         (ends_alone : (t rest : List ℕ) → IsRegularText t → after_tokens (t ++ 40 ∷ rest) ≡ 40 ∷ rest)
         (found_behind : (at : Place) (b : ℕ) (gap t rest : List ℕ) → is_gap (b ∷ gap) ≡ true → IsRegularText t → findings at (b ∷ gap ++ (t ++ 40 ∷ rest)) ≡ [])
-        (ends_behind : (b : ℕ) (gap t rest : List ℕ) → is_gap (b ∷ gap) ≡ true → IsRegularText t → after_tokens (b ∷ gap ++ (t ++ 40 ∷ rest)) ≡ 40 ∷ rest) where
+        (ends_after_it : (b : ℕ) (gap t rest : List ℕ) → is_gap (b ∷ gap) ≡ true → IsRegularText t → after_tokens (b ∷ gap ++ (t ++ 40 ∷ rest)) ≡ 40 ∷ rest) where
       text_laws : (gap t rest : List ℕ) → is_gap gap ≡ true → IsRegularText t → TextLaws gap t rest
       text_laws [] t rest b r = record { ends = ends_alone t rest r; nothing = λ at. found_alone at t rest r }
       text_laws (c ∷ gap) t rest b r = let e = append_assoc (c ∷ gap) t (40 ∷ rest) in record {
-        ends = ap after_tokens e ∙ ends_behind c gap t rest b r;
+        ends = ap after_tokens e ∙ ends_after_it c gap t rest b r;
         nothing = λ at. ap (findings at) e ∙ found_behind at c gap t rest b r;
       }
 
@@ -138,7 +138,7 @@ module _ (lines macros : ℕ) where
       codes_are at t ys = let e = ended_at at t 40 in codes_append e.characters (e.end ∷ ys) ∙ ap (λ (cs : List ℕ). cs ++ 40 ∷ codes_of ys) (codes_placed at t)
 
       pub text_there : (at : Place) (r : SyllableParts) (ys : List Char) → IsRegularSyllable lines r
-          → (let e = ended_at at (r.gap ++ r.text) 40 in EndsBehind lines (text_from texts_by_definition at (e.characters ++ e.end ∷ ys)) e.characters Opens)
+          → (let e = ended_at at (r.gap ++ r.text) 40 in EndsAfter lines (text_from texts_by_definition at (e.characters ++ e.end ∷ ys)) e.characters Opens)
       text_there at r ys h =
           let e = ended_at at (r.gap ++ r.text) 40 in
           let laws = text_laws r.gap r.text (codes_of ys) h.blanks h.text in
@@ -150,12 +150,12 @@ module _ (lines macros : ℕ) where
       split_of (suc n) nexts h = inr (grind arith)
 
       pub syllable_passes : (at : Place) (r : SyllableParts) (xs : List Char) → IsRegularSyllable lines r → (let u = unit_at at r in let us = characters_in u in
-          Passes (length us) (lists_of (text_from texts_by_definition at (us ++ xs)) (us ++ xs)) (lists_of (text_from texts_by_definition (behind_mark u.final.end.place) xs) xs))
+          Passes (length us) (lists_of (text_from texts_by_definition at (us ++ xs)) (us ++ xs)) (lists_of (text_from texts_by_definition (after_mark u.final.end.place) xs) xs))
       syllable_passes at r xs h =
           let e = ended_at at (r.gap ++ r.text) 40 in
           let next = after_part at (r.gap ++ r.text) 40 in
           let us = with_ends (notes_at next r.nexts r.final) in
-          let later = lists_of (text_from texts_by_definition (behind_mark (final_at next r.nexts r.final).end.place) xs) xs in
+          let later = lists_of (text_from texts_by_definition (after_mark (final_at next r.nexts r.final).end.place) xs) xs in
           let ys = e.characters ++ e.end ∷ (us ++ xs) in
           let part = text_from texts_by_definition at ys in
           let laws = text_laws r.gap r.text (codes_of (us ++ xs)) h.blanks h.text in
@@ -172,7 +172,7 @@ module _ (lines macros : ℕ) where
           let same = unit_placed at r in
           record {
             emitted = p.front;
-            events_are = subst (λ (us : List Char). lists_of (text_from texts_by_definition at (us ++ xs)) (us ++ xs) ≡ p.front ++ lists_of (text_from texts_by_definition (behind_mark (unit_at at r).final.end.place) xs) xs) same p.all_is;
+            events_are = subst (λ (us : List Char). lists_of (text_from texts_by_definition at (us ++ xs)) (us ++ xs) ≡ p.front ++ lists_of (text_from texts_by_definition (after_mark (unit_at at r).final.end.place) xs) xs) same p.all_is;
             one_each = p.count ∙ ap (length {A = Char}) same ∙ length_placed at (spelled r);
             nothing = found_onto (concat_of p.front) [] ∙ p.nothing;
           }

@@ -22,7 +22,7 @@ use Rattle.gabc_score.specs.declared.before.Spans.{Spans}
 use Rattle.gabc_score.specs.declared.events.BodyEvent.{BodyEvent}
 use Rattle.gabc_score.specs.Before.{sounds}
 use Rattle.gabc_score.specs.Body.{findings_of, is_none}
-use Rattle.gabc_score.specs.Events.{Texts, texts_by_definition, text_from, behind_mark, events_from}
+use Rattle.gabc_score.specs.Events.{Texts, texts_by_definition, text_from, after_mark, events_from}
 use Rattle.gabc_score.specs.GivesSyllables.{text_inputs}
 use Rattle.gabc_score.specs.RegularSyllable.{SyllableParts, IsRegularSyllable, MakesItsSpelling, spelled, notes_spelled, after_part, nexts_at, unit_at}
 use Rattle.gabc_score.specs.ScoreEvents.{characters_in}
@@ -156,7 +156,7 @@ module _ (lines macros : ℕ) (at : Place) (r : SyllableParts) (regular : IsRegu
       gathered_is : (ms : List UnplacedSyllable) → record (with_all g (concat_of lists)) { made = m ∷ [] } ≡ with_one (record g { made = ms }) m
       gathered_is ms = unit_is_gathered g spans nothing eu_is nlba_is none follows (opened spans) (leaves_open spans) (none_cut spans) lines macros at unit s.one sounded lists unit_each first_are ms
 
-    module _ (stage : (xs : List Char) → lists_by texts_by_stage at (us ++ xs) ≡ lists ++ lists_by texts_by_stage (behind_mark unit.final.end.place) xs) (limits : Limits) (held : HeldScore)
+    module _ (stage : (xs : List Char) → lists_by texts_by_stage at (us ++ xs) ≡ lists ++ lists_by texts_by_stage (after_mark unit.final.end.place) xs) (limits : Limits) (held : HeldScore)
         (between : IsBetween limits held) (sounded : SoundsNoMore (is_some held.gathered.first_kind) (sounds m)) (spans_are : spans_of held.gathered ≡ spans) (room : LeavesRoomFor limits held.gathered r) where
       abbrev ms : List UnplacedSyllable
       ms = held.gathered.made
@@ -184,7 +184,7 @@ module _ (lines macros : ℕ) (at : Place) (r : SyllableParts) (regular : IsRegu
               let cs = characters_in xs in
               ap (λ (ys : List Char). body_left limits held (lists_by texts_by_stage at ys) (inputs_of us ++ xs)) (inputs_are_in us xs)
               ∙ ap (λ (ls : List (List BodyEvent)). body_left limits held ls (inputs_of us ++ xs)) (stage cs)
-              ∙ points_pass limits held us lists (lists_by texts_by_stage (behind_mark unit.final.end.place) cs) xs passes.none_stops
+              ∙ points_pass limits held us lists (lists_by texts_by_stage (after_mark unit.final.end.place) cs) xs passes.none_stops
               ∙ ap (λ (p : Place). points_through held us lists ++ body_left limits (score_through held us lists) (lists_by texts_by_stage p cs) xs) (mark_past at r fits)
               ∙ ap (λ (h : HeldScore). points_through held us lists ++ body_left limits h (lists_by texts_by_stage next cs) xs) after_is
 
@@ -206,4 +206,4 @@ module _ (lines macros : ℕ) (at : Place) (r : SyllableParts) (regular : IsRegu
           lists_are : lists_between lines macros at (spelled r) ≡ lists
           lists_are =
               ap (λ (ys : List Char). take (length (spelled r)) (lists_by texts_by_stage at ys)) (sym (append-nil us)) ∙ ap (take (length (spelled r))) (stage [])
-              ∙ take_at lists (lists_by texts_by_stage (behind_mark unit.final.end.place) []) (length (spelled r)) (lists_each ∙ size_of_us)
+              ∙ take_at lists (lists_by texts_by_stage (after_mark unit.final.end.place) []) (length (spelled r)) (lists_each ∙ size_of_us)

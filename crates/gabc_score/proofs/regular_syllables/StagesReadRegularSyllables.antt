@@ -16,7 +16,7 @@ use Rattle.gabc_text.specs.witness.EventsLeft.{events_left}
 use Rattle.gabc_notes.specs.Events.{note_events}
 use Rattle.gabc_nabc.specs.Events.{nabc_events}
 use Rattle.gabc_score.specs.declared.events.BodyEvent.{BodyEvent}
-use Rattle.gabc_score.specs.Events.{PartAhead, Texts, texts_by_definition, text_from, snippet_from, next_line, behind_mark, events_from}
+use Rattle.gabc_score.specs.Events.{PartAhead, Texts, texts_by_definition, text_from, snippet_from, next_line, after_mark, events_from}
 use Rattle.gabc_score.specs.RegularSyllable.{SyllableParts, IsRegularSyllable, AreRegularFrom, spelled, ended_at, after_part, final_at, unit_at}
 use Rattle.gabc_score.specs.SyllablesOfUnits.{with_ends, characters_in}
 use Rattle.gabc_score.specs.Units.{Opens, Next, Closes, events_through}
@@ -85,13 +85,13 @@ module _ (fresh_is : (at : Place) (t : List ℕ) → CountsFit at t → events_l
   notes_emit : (texts : Texts) (line : ℕ) (opened at : Place) (nexts : List (List ℕ)) (final : List ℕ) (xs : List Char) → AreRegularFrom lines line nexts final → (nexts ≡ []) ⊎ (nat_lt 0 lines ≡ true)
       → (let all = notes_of at nexts final ++ xs in
       lists_by texts (snippet_from lines macros line opened all) all
-      ≡ through_notes line opened at nexts final ++ lists_by texts (text_from texts (behind_mark (final_at at nexts final).end.place) xs) xs)
+      ≡ through_notes line opened at nexts final ++ lists_by texts (text_from texts (after_mark (final_at at nexts final).end.place) xs) xs)
   notes_emit texts line opened at [] final xs r s =
       let e = ended_at at final 41 in
       let part = snippet_from lines macros line opened (e.characters ++ e.end ∷ xs) in
       ap (λ (ys : List Char). lists_by texts (snippet_from lines macros line opened ys) ys) (append_assoc e.characters (e.end ∷ []) xs)
       ∙ ends_emitted texts lines macros part e.characters Closes e.end xs tt (close_ends gabc_prefix nabc_prefix lines macros line opened at final xs r).ends
-      ∙ ap (λ (ls : List (List BodyEvent)). ls ++ lists_by texts (text_from texts (behind_mark e.end.place) xs) xs)
+      ∙ ap (λ (ls : List (List BodyEvent)). ls ++ lists_by texts (text_from texts (after_mark e.end.place) xs) xs)
       (agree_through part (snippet_from lines macros line opened (e.characters ++ e.end ∷ [])) e.characters (snippets_alike line opened e.characters e.end xs []))
   notes_emit texts line opened at (t ∷ nexts) final xs r s =
       let e = ended_at at t 124 in
@@ -99,7 +99,7 @@ module _ (fresh_is : (at : Place) (t : List ℕ) → CountsFit at t → events_l
       let us = notes_of next nexts final in
       let part = snippet_from lines macros line opened (e.characters ++ e.end ∷ (us ++ xs)) in
       let alone = snippet_from lines macros line opened (e.characters ++ e.end ∷ us) in
-      let later = lists_by texts (text_from texts (behind_mark (final_at next nexts final).end.place) xs) xs in
+      let later = lists_by texts (text_from texts (after_mark (final_at next nexts final).end.place) xs) xs in
       ap (λ (ys : List Char). lists_by texts (snippet_from lines macros line opened ys) ys) (append_assoc e.characters (e.end ∷ us) xs)
       ∙ ends_emitted texts lines macros part e.characters (Next (next_line lines line) opened) e.end (us ++ xs) tt (next_ends gabc_prefix nabc_prefix lines macros line opened at t (us ++ xs) r.0 (splits t nexts lines s)).ends
       ∙ ap (λ (ls : List (List BodyEvent)). ls ++ lists_by texts (snippet_from lines macros (next_line lines line) opened (us ++ xs)) (us ++ xs))
@@ -124,7 +124,7 @@ module _ (fresh_is : (at : Place) (t : List ℕ) → CountsFit at t → events_l
       (found_alone : (at : Place) (t rest : List ℕ) → IsRegularText t → findings at (t ++ 40 ∷ rest) ≡ [])
       (ends_alone : (t rest : List ℕ) → IsRegularText t → after_tokens (t ++ 40 ∷ rest) ≡ 40 ∷ rest)
       (found_behind : (at : Place) (b : ℕ) (gap t rest : List ℕ) → is_gap (b ∷ gap) ≡ true → IsRegularText t → findings at (b ∷ gap ++ (t ++ 40 ∷ rest)) ≡ [])
-      (ends_behind : (b : ℕ) (gap t rest : List ℕ) → is_gap (b ∷ gap) ≡ true → IsRegularText t → after_tokens (b ∷ gap ++ (t ++ 40 ∷ rest)) ≡ 40 ∷ rest)
+      (ends_after_it : (b : ℕ) (gap t rest : List ℕ) → is_gap (b ∷ gap) ≡ true → IsRegularText t → after_tokens (b ∷ gap ++ (t ++ 40 ∷ rest)) ≡ 40 ∷ rest)
       (at : Place) (r : SyllableParts) (regular : IsRegularSyllable lines r) (fits : CountsFit at (spelled r)) where
     abbrev us : List Char
     us = characters_in (unit_at at r)
@@ -134,16 +134,16 @@ module _ (fresh_is : (at : Place) (t : List ℕ) → CountsFit at t → events_l
 
     unit_emits_by : (texts : Texts) (xs : List Char) → (let e = ended_at at (r.gap ++ r.text) 40 in let next = after_part at (r.gap ++ r.text) 40 in let ns = notes_of next r.nexts r.final in
         Agree (suc (length e.characters)) (text_from texts_by_definition at (e.characters ++ e.end ∷ ns)) (text_from texts at (e.characters ++ e.end ∷ (ns ++ xs)))
-        → lists_by texts (text_from texts at (us ++ xs)) (us ++ xs) ≡ through_unit at r ++ lists_by texts (text_from texts (behind_mark (unit_at at r).final.end.place) xs) xs)
+        → lists_by texts (text_from texts at (us ++ xs)) (us ++ xs) ≡ through_unit at r ++ lists_by texts (text_from texts (after_mark (unit_at at r).final.end.place) xs) xs)
     unit_emits_by texts xs alike =
         let e = ended_at at (r.gap ++ r.text) 40 in
         let next = after_part at (r.gap ++ r.text) 40 in
         let ns = notes_of next r.nexts r.final in
         let part = text_from texts at (e.characters ++ e.end ∷ (ns ++ xs)) in
         let alone = text_from texts_by_definition at (e.characters ++ e.end ∷ ns) in
-        let later = lists_by texts (text_from texts (behind_mark (final_at next r.nexts r.final).end.place) xs) xs in
-        let there = text_there lines macros gabc_prefix nabc_prefix ends all_found found_alone ends_alone found_behind ends_behind at r ns regular in
-        let split = split_of lines macros gabc_prefix nabc_prefix ends all_found found_alone ends_alone found_behind ends_behind lines r.nexts regular.single in
+        let later = lists_by texts (text_from texts (after_mark (final_at next r.nexts r.final).end.place) xs) xs in
+        let there = text_there lines macros gabc_prefix nabc_prefix ends all_found found_alone ends_alone found_behind ends_after_it at r ns regular in
+        let split = split_of lines macros gabc_prefix nabc_prefix ends all_found found_alone ends_alone found_behind ends_after_it lines r.nexts regular.single in
         ap (λ (ys : List Char). lists_by texts (text_from texts at ys) ys) (append_assoc e.characters (e.end ∷ ns) xs)
         ∙ ends_emitted texts lines macros part e.characters Opens e.end (ns ++ xs) tt (agree_ends lines alone part e.characters Opens alike there)
         ∙ ap (λ (ls : List (List BodyEvent)). ls ++ lists_by texts (snippet_from lines macros 0 e.end.place (ns ++ xs)) (ns ++ xs)) (sym (agree_through alone part e.characters alike))
@@ -158,7 +158,7 @@ module _ (fresh_is : (at : Place) (t : List ℕ) → CountsFit at t → events_l
     alone_is =
         let e = ended_at at (r.gap ++ r.text) 40 in
         let ns = notes_of (after_part at (r.gap ++ r.text) 40) r.nexts r.final in
-        let later = lists_by texts_by_definition (text_from texts_by_definition (behind_mark (unit_at at r).final.end.place) []) [] in
+        let later = lists_by texts_by_definition (text_from texts_by_definition (after_mark (unit_at at r).final.end.place) []) [] in
         let all : lists_by texts_by_definition (text_from texts_by_definition at us) us ≡ through_unit at r ++ later =
         ap (λ (vs : List Char). lists_by texts_by_definition (text_from texts_by_definition at vs) vs) (sym (append-nil us))
         ∙ unit_emits_by texts_by_definition []
@@ -166,11 +166,11 @@ module _ (fresh_is : (at : Place) (t : List ℕ) → CountsFit at t → events_l
         sym (ap (take (length us)) all ∙ take_at (through_unit at r) later (length us) (through_unit_length at r))
 
     pub stage_emits : (xs : List Char) → (let vs = placed_characters_from at (spelled r) in
-        lists_by texts_by_stage (text_from texts_by_stage at (vs ++ xs)) (vs ++ xs) ≡ Alone vs ++ lists_by texts_by_stage (text_from texts_by_stage (behind_mark (unit_at at r).final.end.place) xs) xs)
+        lists_by texts_by_stage (text_from texts_by_stage at (vs ++ xs)) (vs ++ xs) ≡ Alone vs ++ lists_by texts_by_stage (text_from texts_by_stage (after_mark (unit_at at r).final.end.place) xs) xs)
     stage_emits xs =
         let e = ended_at at (r.gap ++ r.text) 40 in
         let ns = notes_of (after_part at (r.gap ++ r.text) 40) r.nexts r.final in
-        let later = lists_by texts_by_stage (text_from texts_by_stage (behind_mark (unit_at at r).final.end.place) xs) xs in
+        let later = lists_by texts_by_stage (text_from texts_by_stage (after_mark (unit_at at r).final.end.place) xs) xs in
         subst (λ (vs : List Char). lists_by texts_by_stage (text_from texts_by_stage at (vs ++ xs)) (vs ++ xs) ≡ Alone vs ++ later) (unit_placed at r)
         (unit_emits_by texts_by_stage xs (texts_alike at e.characters e.end (ns ++ xs) ns (subst (CountsFit at) (sym codes_are) fits))
         ∙ ap (λ (ls : List (List BodyEvent)). ls ++ later) alone_is)

@@ -115,7 +115,7 @@ or_false : (b : Bool) → (b || false) ≡ b
 or_false true = refl
 or_false false = refl
 
--- With so many bytes of a syllable no limit is passed.
+-- With n bytes of a syllable no limit is passed.
 pub record HasRoom (limits : Limits) (g : Gathered) (size : ℕ) : Type 0 where
   pub limit : g.limit ≡ limits.syllable
   pub over : g.over ≡ false

@@ -18,9 +18,9 @@ use Rattle.gabc_score.specs.declared.score_machine.ScorePart.{ScorePart}
 use Rattle.gabc_score.specs.declared.score_machine.ScorePart.TheVariants as score_part
 use Rattle.gabc_score.specs.Before.{with_each}
 use Rattle.gabc_score.specs.Body.{fault_at}
-use Rattle.gabc_score.specs.Events.{InComment, events_from, events_in, events_at_end, part_at, part_behind}
+use Rattle.gabc_score.specs.Events.{InComment, events_from, events_in, events_at_end, part_at, part_after_character}
 use Rattle.gabc_score.specs.ScoreEvents.{ScoreOutput, Found, characters_in}
-use Rattle.gabc_score.specs.ScoreTells.{is_in_front, held_in_body, moved_part}
+use Rattle.gabc_score.specs.ScoreReports.{is_in_front, held_in_body, moved_part}
 use Rattle.gabc_score.specs.Syllable.{UnplacedSyllable}
 use Rattle.gabc_score.specs.machine.BodyBuilder.{code_in, with_all}
 use Rattle.gabc_score.specs.machine.Gatherer.{Gathered}
@@ -52,7 +52,7 @@ module _ (limits : Limits) (lines macros : ℕ) (limit : ℕ) (made : List Unpla
       now = events_in (part_at texts_by_stage InComment x (characters_in xs))
 
       later : List (List BodyEvent)
-      later = events_from texts_by_stage lines macros (part_behind texts_by_stage lines macros (part_at texts_by_stage InComment x (characters_in xs)) x (characters_in xs)) (characters_in xs)
+      later = events_from texts_by_stage lines macros (part_after_character texts_by_stage lines macros (part_at texts_by_stage InComment x (characters_in xs)) x (characters_in xs)) (characters_in xs)
 
       by : (c : Option Code) → left_by c (at p) x now xs (body_left limits (score_past (at p) x now) later xs) ≡ left_by c (at q) x now xs (body_left limits (score_past (at q) x now) later xs)
       by (Some code) = refl

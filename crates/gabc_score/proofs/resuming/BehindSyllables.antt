@@ -1,4 +1,4 @@
--- What was gathered behind syllables which another stage has read: nothing.
+-- What was gathered after syllables which another stage has read: nothing.
 use Rattle.std.proofs.Common.{◌≡◌, ℕ, ◌||◌, Bool, true, false, [], None, is_some, refl, arith}
 use Rattle.std.proofs.lemmas.List.Elements.{All-nil}
 use Rattle.gabc_text.specs.witness.Keeps as text

@@ -4,62 +4,44 @@ use Rattle.std.specs.List.{list_any}
 use Rattle.std.proofs.lemmas.List.Folds.{list_any-append}
 use Rattle.std.proofs.lemmas.Bool.{true≢false}
 use Rattle.std.proofs.lemmas.Bool.Decides.{nat_tests}
-use Rattle.gabc_places.specs.BoundedList.{BoundedList, extended_by}
+use Rattle.gabc_places.specs.BoundedList.{BoundedList}
 use Rattle.gabc_places.specs.declared.code.Code.{Code}
 use Rattle.gabc_places.specs.declared.code.Finding.{Finding}
 use Rattle.gabc_places.specs.declared.place.Char.{Char}
 use Rattle.gabc_places.specs.declared.place.Place.{Place}
 use Rattle.gabc_notes.specs.declared.item.ItemKind.{ItemKind}
 use Rattle.gabc_notes.specs.declared.item.ItemKind.TheVariants.{Note}
-use Rattle.gabc_score.specs.declared.bounds.Bounds.{Bounds}
 use Rattle.gabc_score.specs.declared.events.BodyEvent.{BodyEvent}
 use Rattle.gabc_score.specs.declared.score_event.ScoreEvent.{ScoreEvent}
 use Rattle.gabc_score.specs.declared.score_machine.ScoreMachine.{ScoreMachine}
 use Rattle.gabc_score.specs.declared.score_machine.ScorePart.TheVariants as score_part
+use Rattle.gabc_score.specs.Before.{with_placed}
 use Rattle.gabc_score.specs.Body.{is_none}
 use Rattle.gabc_score.specs.NoteBeforeClef.{found_first}
 use Rattle.gabc_score.specs.ScoreEvents.{findings_now, outputs_of}
 use Rattle.gabc_score.specs.ScoreStage.{events_of}
-use Rattle.gabc_score.specs.Syllable.{UnplacedSyllable}
-use Rattle.gabc_score.specs.machine.BodyBuilder.{with_all, with_found, code_in}
+use Rattle.gabc_score.specs.Syllable.{PlacedSyllable, UnplacedSyllable}
+use Rattle.gabc_score.specs.machine.BodyBuilder.{with_all, code_in}
 use Rattle.gabc_score.specs.machine.Gatherer.{Gathered}
-use Rattle.gabc_score.specs.machine.Preceded.{before_past, past_point}
 use Rattle.gabc_score.specs.machine.PartPushes.{ClosesLast}
-use Rattle.gabc_score.specs.machine.ReadAlone.{is_error, is_error_event, Reads, ReadsAlone}
+use Rattle.gabc_score.specs.machine.ReadAlone.{is_error, is_error_event, ReadsAlone}
+use Rattle.gabc_score.specs.machine.ReadsChar.{Gathers, Passes, ReadsChar, found_past, past_char, stops, goes}
+use Rattle.gabc_score.specs.machine.ScoreMachine.{IsInBody}
 use Rattle.gabc_score.specs.machine.ScoreStage.{placed_behind, with_held}
+use Rattle.gabc_score.specs.machine.SlotPair.{SlotPairState}
 use Rattle.gabc_score.specs.machine.SyllableBuilder.{nothing_open}
+use Rattle.gabc_score.specs.witness.BodyStage.{BodyStageState}
+use Rattle.gabc_score.proofs.building.EventsOfSnippets.{stage_emits}
+use Rattle.gabc_score.proofs.building.PartsKeepOnly.{keeps_only}
+use Rattle.gabc_score.proofs.building.SyllableEndsLast.{closes_last}
+use Rattle.gabc_score.proofs.score_events.CharactersAreRead.{before_is, found_is, has_turned}
 use Rattle.gabc_score.proofs.score_events.WhatPrecedes.{Closed, same_or_closed}
 
-few_is : (n : ℕ) → n ≤ 1 → nat_lt 1 n ≡ false
+pub few_is : (n : ℕ) → n ≤ 1 → nat_lt 1 n ≡ false
 few_is n h = grind (arith, nat_tests, h)
 
 none_left : (n : ℕ) → n ≤ 1 → n - 1 ≡ 0
 none_left n h = omega (arith, h)
-
--- what stands before what is held stays
-pub none_given : (whole gave : Bool) (b : Bounds) (g : Gathered) {n : ℕ} → gave ≡ nat_lt 1 n → n ≤ 1 → (past_point whole gave b g).before ≡ b.before
-none_given whole gave b g {n} e few = by whole gave (e ∙ few_is n few)
-  where
-    by : (whole gave : Bool) → gave ≡ false → before_past whole gave b ≡ b.before
-    by true true f = absurd (true≢false f)
-    by true false f = refl
-    by false gave f = refl
-
--- what is found is given
-pub given_only : (empty held found : BoundedList Finding) (now : List BodyEvent) (given left : BoundedList ScoreEvent) (has_lent : Bool) (old then g : Gathered) (p : Place) → g ≡ then → length then.made ≤ 1 → empty.items ≡ []
-    → held ≡ with_found empty now → found ≡ extended_by held (found_first old.first_kind then.first_kind p)
-    → left ≡ extended_by given (events_of (outputs_of found.items (take (length g.made - 1) (placed_behind has_lent g.made))))
-    → left ≡ extended_by given (events_of (outputs_of (findings_now now ++ found_first old.first_kind then.first_kind p) []))
-given_only empty held found now given left has_lent old then g p is few none h f e =
-    e
-    ∙ ap (λ (n : ℕ). extended_by given (events_of (outputs_of found.items (take n (placed_behind has_lent g.made))))) (none_left (length g.made) (omega (arith, few, ap (λ (k : Gathered). length k.made) is)))
-    ∙ ap (λ (fs : List Finding). extended_by given (events_of (outputs_of fs []))) items
-  where
-    items : found.items ≡ findings_now now ++ found_first old.first_kind then.first_kind p
-    items =
-        ap (λ (r : BoundedList Finding). r.items) f
-        ∙ ap (λ (r : BoundedList Finding). r.items ++ found_first old.first_kind then.first_kind p) h
-        ∙ ap (λ (fs : List Finding). (fs ++ findings_now now) ++ found_first old.first_kind then.first_kind p) none
 
 -- ---- a character that is read where none is held
 
@@ -95,48 +77,77 @@ held_all g few = by g.made few
     by (m ∷ []) h = refl
     by (m ∷ n ∷ ms) h = absurd (omega (arith, h))
 
-pub reads_alone : (old new : ScoreMachine) (x : Char) (given left : BoundedList ScoreEvent) (fine : Bool) → (r : Reads old new x given left) → old.pair.gathered.made ≡ [] → given.items ≡ []
-    → (new.part ≡ score_part.Body → fine ≡ not (list_any is_error_event left.items)) → ((new.part ≡ score_part.Body → ⊥) → fine ≡ false) → ReadsAlone old new x fine
-reads_alone old new x given left fine r none empty body other = by (code_in old.limits (with_all old.pair.gathered r.now)) refl
-  where
-    few : length (with_all old.pair.gathered r.now).made ≤ 1
-    few = few_made old.pair.gathered r.now r.last none
+module _ {old : ScoreMachine} {x : Char} {given left : BoundedList ScoreEvent} (part : old.part ≡ score_part.Body) (h : IsInBody old) (none : old.pair.gathered.made ≡ []) (empty : given.items ≡ []) where
+  -- where no limit is passed
+  module _ {b : BodyStageState} {p : SlotPairState} {f : BoundedList Finding} {whole gave : Bool} {q : SlotPairState} {r : BoundedList Finding} (a : Gathers old x b p f) (s : Passes old x p f whole gave q r given left) where
+    abbrev now : List BodyEvent
+    now = b.events
 
-    whole : is_none (with_all old.pair.gathered r.now).made ≡ false → (with_all old.pair.gathered r.now).builder ≡ nothing_open
-    whole some = on (same_or_closed old.pair.gathered r.now r.last)
-      where
-        on : ((with_all old.pair.gathered r.now).made ≡ old.pair.gathered.made) ⊎ Closed old.pair.gathered (with_all old.pair.gathered r.now) → (with_all old.pair.gathered r.now).builder ≡ nothing_open
-        on (inl same) = absurd (true≢false (sym (ap is_none (same ∙ none)) ∙ some))
-        on (inr c) = c.builder
+    abbrev was : Gathered
+    was = old.pair.gathered
 
-    by : (code : Option Code) → code_in old.limits (with_all old.pair.gathered r.now) ≡ code → ReadsAlone old new x fine
-    by None e =
-        let g = r.gathers e in
-        let first = found_first old.pair.gathered.first_kind (with_all old.pair.gathered r.now).first_kind x.place in
-        let items : left.items ≡ events_of (outputs_of (findings_now r.now ++ first) []) =
-        ap (λ (b : BoundedList ScoreEvent). b.items) (g.found few) ∙ ap (λ (es : List ScoreEvent). es ++ events_of (outputs_of (findings_now r.now ++ first) [])) empty in
+    abbrev then : Gathered
+    then = with_all was now
+
+    last : ClosesLast now
+    last = closes_last a.steps.0 a.steps.1
+
+    few : length then.made ≤ 1
+    few = few_made was now last none
+
+    on : (then.made ≡ was.made) ⊎ Closed was then → is_none then.made ≡ false → then.builder ≡ nothing_open
+    on (inl same) some = absurd (true≢false (sym (ap is_none (same ∙ none)) ∙ some))
+    on (inr c) some = c.builder
+
+    -- n are given
+    abbrev given_of : ℕ → List PlacedSyllable
+    given_of n = take n (placed_behind old.has_lent p.gathered.made)
+
+    left_none : length p.gathered.made - 1 ≡ 0
+    left_none = none_left (length p.gathered.made) (let is = ap (λ (k : Gathered). length k.made) a.gathered in omega (arith, few, is))
+
+    items : left.items ≡ events_of (outputs_of (findings_now now ++ found_first was.first_kind then.first_kind x.place) [])
+    items =
+        ap (λ (k : BoundedList ScoreEvent). k.items) s.given.emitted.events
+        ∙ ap (λ (es : List ScoreEvent). es ++ events_of (outputs_of (found_past old x p f).items (given_of (length p.gathered.made - 1)))) empty
+        ∙ ap (λ (n : ℕ). events_of (outputs_of (found_past old x p f).items (given_of n))) left_none
+        ∙ ap (λ (fs : List Finding). events_of (outputs_of fs [])) (sym (found_is h a))
+
+    alone : {fine : Bool} → fine ≡ not (list_any is_error_event left.items) → ReadsAlone old (past_char old x b whole gave q r) x fine
+    alone is =
         record {
-          now = r.now;
-          after = r.after;
-          law = r.law;
-          only = r.only;
-          body = λ good. g.body;
+          now = now;
+          after = b;
+          law = (stage_emits old.body a.body a.steps).law;
+          only = keeps_only a.steps.0 h.reading.parts h.reading.keeps;
+          body = λ good. refl;
           fine_is =
-              body g.part
+              is
               ∙ ap (λ (es : List ScoreEvent). not (list_any is_error_event es)) items
-              ∙ ap not (any_given (findings_now r.now) old.pair.gathered.first_kind (with_all old.pair.gathered r.now).first_kind x.place)
-              ∙ ap (λ (code : Option Code). not (is_some code) && not (list_any is_error (findings_now r.now))) (sym e);
-          goes = λ good. record { part = g.part; gathered = g.gathered ∙ held_all (with_all old.pair.gathered r.now) few; lines = g.lines; macros = g.macros; before = g.before few; limits = r.limits; whole = whole };
+              ∙ ap not (any_given (findings_now now) was.first_kind then.first_kind x.place)
+              ∙ ap (λ (code : Option Code). not (is_some code) && not (list_any is_error (findings_now now))) (sym (sym (ap (code_in old.limits) a.gathered) ∙ s.none));
+          goes = λ good. record {
+            part = part;
+            gathered = s.given.gathered ∙ ap with_held a.gathered ∙ held_all then few;
+            lines = ap (λ (k : BodyStageState). k.nabc_lines) a.body;
+            macros = ap (λ (k : BodyStageState). k.macros) a.body;
+            before = before_is part h a s.none (has_turned s) ∙ ap (λ (n : ℕ). with_placed old.bounds.before (given_of n)) left_none;
+            limits = refl;
+            whole = λ some. on (same_or_closed was now last) some;
+          };
         }
-    by (Some code) e =
-        let over = r.stops (λ fits. absurd (cc (sym e ∙ fits))) in
-        let bad : fine ≡ false = other (λ is. absurd (cc (sym is ∙ over))) in
-        record {
-          now = r.now;
-          after = r.after;
-          law = r.law;
-          only = r.only;
-          body = λ good. absurd (true≢false (sym good ∙ bad));
-          fine_is = bad ∙ ap (λ (code : Option Code). not (is_some code) && not (list_any is_error (findings_now r.now))) (sym e);
-          goes = λ good. absurd (true≢false (sym good ∙ bad));
-        }
+
+  pub reads_alone : {new : ScoreMachine} {fine : Bool} → ReadsChar old x given left new → (new.part ≡ score_part.Body → fine ≡ not (list_any is_error_event left.items)) → ((new.part ≡ score_part.Body → ⊥) → fine ≡ false)
+      → ReadsAlone old new x fine
+  reads_alone {fine = fine} (stops {b} a some s) body other =
+      let bad : fine ≡ false = other (λ is. absurd (cc (sym is ∙ s.part))) in
+      record {
+        now = b.events;
+        after = b;
+        law = (stage_emits old.body a.body a.steps).law;
+        only = keeps_only a.steps.0 h.reading.parts h.reading.keeps;
+        body = λ good. absurd (true≢false (sym good ∙ bad));
+        fine_is = bad ∙ ap (λ (code : Option Code). not (is_some code) && not (list_any is_error (findings_now b.events))) (sym (sym (ap (code_in old.limits) a.gathered) ∙ some));
+        goes = λ good. absurd (true≢false (sym good ∙ bad));
+      }
+  reads_alone (goes a s) body other = alone a s (body part)

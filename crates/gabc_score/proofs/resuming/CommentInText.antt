@@ -8,7 +8,7 @@ use Rattle.gabc_text.specs.witness.Keeps.{Keeps}
 use Rattle.gabc_score.specs.declared.body_stage.BodyPart.TheVariants as part
 use Rattle.gabc_score.specs.ReadAgain.{CanBeReadInText}
 use Rattle.gabc_score.specs.ScoreEvents.{first_place}
-use Rattle.gabc_score.specs.ScoreTells.{StandsInFront, before_of}
+use Rattle.gabc_score.specs.ScoreReports.{IsInFront, before_of}
 use Rattle.gabc_score.specs.machine.PartKeeps.{in_text}
 use Rattle.gabc_score.specs.witness.ScoreStage.{ScoreStageState}
 use Rattle.gabc_score.proofs.resuming.HeldIsHeld.{nothing_in_body}
@@ -26,7 +26,7 @@ comment_keeps = record {
   whole = refl;
 }
 
-pub front_in_text : (s : ScoreStageState) → is_some (before_of s) ≡ true → StandsInFront s → CanBeReadInText s
+pub front_in_text : (s : ScoreStageState) → is_some (before_of s) ≡ true → IsInFront s → CanBeReadInText s
 unfolding fresh_events.events_left
 front_in_text s runs front =
     let body = in_body_by s.part _ runs in

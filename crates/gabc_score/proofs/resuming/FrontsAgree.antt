@@ -6,7 +6,7 @@ use Rattle.gabc_places.specs.declared.place.Place.{Place}
 use Rattle.gabc_headers.specs.declared.head_event.HeadEvent.{HeadEvent}
 use Rattle.gabc_headers.specs.declared.head_event.HeadEvent.TheVariants as head_event
 use Rattle.gabc_text.specs.Events.{codes_of}
-use Rattle.gabc_text.specs.StageTells as text
+use Rattle.gabc_text.specs.StageReports as text
 use Rattle.gabc_text.specs.witness.StageReports as text_reports
 use Rattle.gabc_text.specs.TextStage.{fresh_stage}
 use Rattle.gabc_text.specs.declared.stage.TextStage.{TextStage}
@@ -18,10 +18,10 @@ use Rattle.gabc_text.specs.witness.Keeps.{Keeps}
 use Rattle.gabc_score.specs.declared.body_stage.BodyPart.{BodyPart}
 use Rattle.gabc_score.specs.declared.body_stage.BodyPart.TheVariants as part
 use Rattle.gabc_score.specs.declared.events.BodyEvent.{BodyEvent}
-use Rattle.gabc_score.specs.Events.{PartAhead, InComment, InText, events_from, events_in, part_behind, text_from}
+use Rattle.gabc_score.specs.Events.{PartAhead, InComment, InText, events_from, events_in, part_after_character, text_from}
 use Rattle.gabc_score.specs.ScoreEvents.{characters_in}
-use Rattle.gabc_score.specs.ScoreStage.{StandInLine}
-use Rattle.gabc_score.specs.ScoreTells.{is_in_comment, is_in_front, StandsAt}
+use Rattle.gabc_score.specs.ScoreStage.{AreInLine}
+use Rattle.gabc_score.specs.ScoreReports.{is_in_comment, is_in_front, IsAt}
 use Rattle.gabc_score.specs.machine.PartKeeps.{in_text, PartKeeps}
 use Rattle.gabc_score.proofs.resuming.BeginsAnywhere.{front_is}
 use Rattle.gabc_score.specs.witness.BodyStage.{BodyStageState, part_with, running_events_left, texts_by_stage}
@@ -42,14 +42,14 @@ module _ (law : CommentsCountForNothing) where
     abbrev text_ahead : TextStage → List HeadEvent → List (List BodyEvent)
     text_ahead s xs = ahead (InText (events_left s (codes_of (characters_in xs)))) xs
 
-    comment_is_text : (s : TextStage) → Keeps s [] → text.is_in_comment s ≡ true → (xs : List HeadEvent) → StandInLine (text_reports.next_of s) xs → ahead InComment xs ≡ text_ahead s xs
+    comment_is_text : (s : TextStage) → Keeps s [] → text.is_in_comment s ≡ true → (xs : List HeadEvent) → AreInLine (text_reports.next_of s) xs → ahead InComment xs ≡ text_ahead s xs
     comment_is_text s keeps open_is [] line = ap (λ (lists : List (List TextEvent)). ahead (InText lists) []) (sym (law.ends s keeps open_is))
     comment_is_text s keeps open_is (head_event.End ∷ xs) line = ap (λ (lists : List (List TextEvent)). ahead (InText lists) []) (sym (law.ends s keeps open_is))
     comment_is_text s keeps open_is (head_event.Stop fault ∷ xs) line = ap (λ (lists : List (List TextEvent)). ahead (InText lists) []) (sym (law.ends s keeps open_is))
     comment_is_text s keeps open_is (head_event.Found f ∷ xs) line = comment_is_text s keeps open_is xs line.1
     comment_is_text s keeps open_is (head_event.Heads l m c ∷ xs) line = comment_is_text s keeps open_is xs line.1
     comment_is_text s keeps open_is (head_event.Body x ∷ xs) line =
-        by (comment_is_text there (law.stays s (saturating_next_place (text_reports.next_of s) x.c) keeps) (law.goes_on s (saturating_next_place (text_reports.next_of s) x.c) ∙ open_is) xs (subst (λ (p : Place). StandInLine (saturating_next_place p x.c) xs) line.0 line.1)) (x.c == 10) refl
+        by (comment_is_text there (law.stays s (saturating_next_place (text_reports.next_of s) x.c) keeps) (law.goes_on s (saturating_next_place (text_reports.next_of s) x.c) ∙ open_is) xs (subst (λ (p : Place). AreInLine (saturating_next_place p x.c) xs) line.0 line.1)) (x.c == 10) refl
       where
         there : TextStage
         there = text_reports.moved_to (saturating_next_place (text_reports.next_of s) x.c) s
@@ -65,7 +65,7 @@ module _ (law : CommentsCountForNothing) where
             ∙ ap (λ (d : ℕ). events_left s (d ∷ codes)) (sym e)
 
         read : PartAhead → List (List BodyEvent)
-        read p = events_in p ∷ ahead (part_behind texts_by_stage lines macros p x (characters_in xs)) xs
+        read p = events_in p ∷ ahead (part_after_character texts_by_stage lines macros p x (characters_in xs)) xs
 
         by : ahead InComment xs ≡ text_ahead there xs → (b : Bool) → (x.c == 10) ≡ b
             → read (if b then text_from texts_by_stage x.place (x ∷ characters_in xs) else InComment) ≡ read (InText (events_left s (x.c ∷ codes)))
@@ -74,16 +74,16 @@ module _ (law : CommentsCountForNothing) where
             ap (λ (lists : List (List BodyEvent)). [] ∷ lists) again
             ∙ ap (λ (lists : List (List TextEvent)). read (InText lists)) (sym (law.on s x.c codes keeps open_is e))
 
-    in_comment : (p : BodyPart) → PartKeeps lines macros p (in_text []) → is_in_comment p ≡ true → (place : Place) (xs : List HeadEvent) → StandsAt place p → StandInLine place xs
+    in_comment : (p : BodyPart) → PartKeeps lines macros p (in_text []) → is_in_comment p ≡ true → (place : Place) (xs : List HeadEvent) → IsAt place p → AreInLine place xs
         → ahead InComment xs ≡ ahead (part_with p (characters_in xs)) xs
     in_comment part.Comment keeps comment place xs stands line = refl
-    in_comment (part.Text s) keeps comment place xs stands line = comment_is_text s keeps comment xs (subst (λ (p : Place). StandInLine p xs) (sym stands) line)
+    in_comment (part.Text s) keeps comment place xs stands line = comment_is_text s keeps comment xs (subst (λ (p : Place). AreInLine p xs) (sym stands) line)
     in_comment (part.Notes opened s) keeps comment place xs stands line = absurd keeps
     in_comment (part.Nabc l opened s) keeps comment place xs stands line = absurd keeps
 
   -- What is left in front of the first text is what is left in such a comment.
   pub fronts_emit : (a b : BodyStageState) → a.nabc_lines ≡ b.nabc_lines → a.macros ≡ b.macros → is_in_front a.part ≡ true → PartKeeps b.nabc_lines b.macros b.part (in_text []) → is_in_comment b.part ≡ true
-      → (place : Place) (xs : List HeadEvent) → StandsAt place b.part → StandInLine place xs → running_events_left a (characters_in xs) ≡ running_events_left b (characters_in xs)
+      → (place : Place) (xs : List HeadEvent) → IsAt place b.part → AreInLine place xs → running_events_left a (characters_in xs) ≡ running_events_left b (characters_in xs)
   fronts_emit a b same_lines same_macros front keeps comment place xs stands line =
       ap (λ (p : BodyPart). events_from texts_by_stage a.nabc_lines a.macros (part_with p (characters_in xs)) (characters_in xs)) (front_is a.part front)
       ∙ ap (λ (l : ℕ). events_from texts_by_stage l a.macros InComment (characters_in xs)) same_lines

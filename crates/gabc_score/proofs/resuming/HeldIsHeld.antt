@@ -18,7 +18,7 @@ use Rattle.gabc_score.specs.Events.{texts_by_definition, text_from, events_from}
 use Rattle.gabc_score.specs.HeldAgain.{MayBeHeld}
 use Rattle.gabc_score.specs.Resumed.{BeginsText}
 use Rattle.gabc_score.specs.ScoreEvents.{first_place}
-use Rattle.gabc_score.specs.ScoreTells.{before_with, held_in_body, held_of, reading_in_body}
+use Rattle.gabc_score.specs.ScoreReports.{before_with, held_in_body, held_of, reading_in_body}
 use Rattle.gabc_score.specs.Syllable.{UnplacedSyllable}
 use Rattle.gabc_score.specs.machine.BodyBuilder.{with_all}
 use Rattle.gabc_score.specs.machine.Gatherer.{Gathered}

@@ -22,8 +22,8 @@ use Rattle.gabc_score.specs.Body.{is_longer, is_none, events_onto, findings_of}
 use Rattle.gabc_score.specs.Canonical.{canonical}
 use Rattle.gabc_score.specs.Events.{texts_by_definition, text_from, events_from}
 use Rattle.gabc_score.specs.Before.{preceding_of, most}
-use Rattle.gabc_score.specs.ToldWithin.{written_behind}
-use Rattle.gabc_score.specs.HeldAgain.{LeavesOpen, emitted_first, emitted_behind, MayBeHeld}
+use Rattle.gabc_score.specs.ReportedWithin.{written_after}
+use Rattle.gabc_score.specs.HeldAgain.{LeavesOpen, emitted_first, emitted_after, MayBeHeld}
 use Rattle.gabc_score.specs.ScoreEvents.{findings_now, first_place}
 use Rattle.gabc_score.specs.Syllable.{UnplacedSyllable, all_syllables, since_close, kept_of}
 use Rattle.gabc_score.specs.machine.BodyBuilder.{with_all, code_in}
@@ -167,21 +167,21 @@ module _ (limits : Limits) (b : Before) (g : Gathered) (limit : g.limit ≡ limi
   whole : emitted_first b.nabc_lines b.macros first_place text (length text) ≡ concat_of lists
   whole = emitted (length text) (omega arith) ∙ ap (concat_of {T = BodyEvent}) (take_all (length text) lists (omega (arith, each)))
 
-  starts : (m : UnplacedSyllable) → size_of g.follows m ≡ min (length (written_behind (preceding_of b) m)) most
+  starts : (m : UnplacedSyllable) → size_of g.follows m ≡ min (length (written_after (preceding_of b) m)) most
   starts m = ap (λ f. min (length (canonical (not f || m.text.word_start) m)) most) follows ∙ ap (λ f. min (length (canonical (f || m.text.word_start) m)) most) (not_some b.syllables)
 
   module _ (before : List BodyEvent) (leaves : LeavesOpen b.spans before) where
-    made_then : (n : ℕ) → n ≤ length text → all_syllables (emitted_behind b.nabc_lines b.macros first_place text before n) ≡ all_syllables before ++ (with_all g (concat_of (take n lists))).made
+    made_then : (n : ℕ) → n ≤ length text → all_syllables (emitted_after b.nabc_lines b.macros first_place text before n) ≡ all_syllables before ++ (with_all g (concat_of (take n lists))).made
     made_then n h =
         ap (λ (es : List BodyEvent). all_syllables (events_onto es before)) (emitted n h)
         ∙ (made_behind g b.spans nothing eu nlba none before leaves limits.syllable small (concat_of (take n lists))).made
 
-    made_whole : all_syllables (emitted_behind b.nabc_lines b.macros first_place text before (length text)) ≡ all_syllables before ++ (with_all g (concat_of lists)).made
+    made_whole : all_syllables (emitted_after b.nabc_lines b.macros first_place text before (length text)) ≡ all_syllables before ++ (with_all g (concat_of lists)).made
     made_whole =
         ap (λ (es : List BodyEvent). all_syllables (events_onto es before)) whole
         ∙ (made_behind g b.spans nothing eu nlba none before leaves limits.syllable small (concat_of lists)).made
 
-    kept_then : (n : ℕ) → n ≤ length text → kept_of (since_close (emitted_behind b.nabc_lines b.macros first_place text before n)) ≡ (with_all g (concat_of (take n lists))).builder.kept
+    kept_then : (n : ℕ) → n ≤ length text → kept_of (since_close (emitted_after b.nabc_lines b.macros first_place text before n)) ≡ (with_all g (concat_of (take n lists))).builder.kept
     kept_then n h =
         ap (λ (es : List BodyEvent). kept_of (since_close (events_onto es before))) (emitted n h)
         ∙ sym (ap (λ o. o.kept) (made_behind g b.spans nothing eu nlba none before leaves limits.syllable small (concat_of (take n lists))).read.builder)
@@ -189,7 +189,7 @@ module _ (limits : Limits) (b : Before) (g : Gathered) (limit : g.limit ≡ limi
   counted : (n : ℕ) → Counts g (with_all g (concat_of (take n lists)))
   counted n = counts_from g none (concat_of (take n lists))
 
-  errors : list_any is_error (findings_of (emitted_behind b.nabc_lines b.macros first_place text [] (length text))) ≡ list_any is_error (findings_now (concat_of lists))
+  errors : list_any is_error (findings_of (emitted_after b.nabc_lines b.macros first_place text [] (length text))) ≡ list_any is_error (findings_now (concat_of lists))
   errors = ap (λ (es : List BodyEvent). list_any is_error (findings_of (events_onto es []))) whole
 
   -- one that is found
@@ -227,7 +227,7 @@ module _ (limits : Limits) (b : Before) (g : Gathered) (limit : g.limit ≡ limi
             none_earlier = λ n h. made_then before leaves n (omega (arith, h)) ∙ ap (λ ms. all_syllables before ++ ms) (a.earlier n (omega (arith, h, each))) ∙ append-nil (all_syllables before);
             one = made_whole before leaves ∙ ap (λ ms. all_syllables before ++ ms) one.1;
             few = λ n h. rw (kept_then before leaves n h) (few_kept a n h);
-            warnings = warn (findings_of (emitted_behind b.nabc_lines b.macros first_place text [] (length text))) (errors ∙ a.fine);
+            warnings = warn (findings_of (emitted_after b.nabc_lines b.macros first_place text [] (length text))) (errors ∙ a.fine);
           };
           kept = let k = passed.0 in grind (arith, nat_tests, k, limit);
           short = let k = passed.1 in grind (arith, nat_tests, k, limit, size, small);

@@ -1,6 +1,5 @@
 -- A machine in the body reads the next character of a kept text again: it passes no limit, and stays in the body.
-use Rattle.std.proofs.Common.{◌≡◌, ◌⊎◌, inl, inr, ◌&&◌, ◌||◌, ◌==◌, not, ℕ, zero, suc, ◌+◌, ◌≤◌, ◌<◌, nat_lt, Bool, true, false, cond, List, [], ◌∷◌, ◌++◌, length, Option, Some, None, is_some, encode_utf8, encode_utf8_all, refl, sym, ap, subst, ◌∙◌, arith, append-nil, append_assoc, length-append}
-use Rattle.std.specs.List.{All}
+use Rattle.std.proofs.Common.{◌≡◌, ◌⊎◌, inl, inr, ◌&&◌, ◌||◌, not, ℕ, zero, suc, ◌+◌, ◌≤◌, ◌<◌, nat_lt, Bool, true, false, cond, List, [], ◌∷◌, ◌++◌, length, Option, Some, None, is_some, encode_utf8, encode_utf8_all, refl, sym, ap, subst, ◌∙◌, arith, append-nil, append_assoc, length-append}
 use Rattle.std.proofs.lemmas.Bool.{true≢false}
 use Rattle.std.proofs.lemmas.Bool.Decides.{nat_tests}
 use Rattle.std.proofs.lemmas.Str.{cons_from_encodes, encodes_same}
@@ -16,39 +15,31 @@ use Rattle.gabc_text.specs.declared.text_event.TextEvent.TheVariants as text_out
 use Rattle.gabc_text.specs.declared.text_event.TextPart.TheVariants as text_part
 use Rattle.gabc_notes.specs.declared.stage.NoteEnd.TheVariants as note_end
 use Rattle.gabc_notes.specs.declared.stage.NoteEvent.TheVariants as note
-use Rattle.gabc_score.specs.declared.before.Spans.{Spans}
 use Rattle.gabc_score.specs.declared.body_stage.BodyPart.{BodyPart}
 use Rattle.gabc_score.specs.declared.body_stage.BodyPart.TheVariants as part
 use Rattle.gabc_score.specs.declared.events.BodyEvent.{BodyEvent}
 use Rattle.gabc_score.specs.declared.events.BodyEvent.TheVariants as event
 use Rattle.gabc_score.specs.declared.score_machine.ScoreMachine.{ScoreMachine}
 use Rattle.gabc_score.specs.declared.score_machine.ScorePart.TheVariants as score_part
-use Rattle.gabc_score.specs.Before.{with_each}
 use Rattle.gabc_score.specs.Body.{is_longer, is_none}
 use Rattle.gabc_score.specs.declared.body_tells.Openers.{Openers}
-use Rattle.gabc_score.specs.ScoreTells.{is_in_comment, is_in_front, moved_part}
+use Rattle.gabc_score.specs.ScoreReports.{is_in_comment, is_in_front, moved_part}
 use Rattle.gabc_score.specs.Syllable.{UnplacedSyllable}
-use Rattle.gabc_score.specs.machine.HeldWithin.{AreWritten}
-use Rattle.gabc_score.specs.machine.PartMakes.{HoldUnits}
-use Rattle.gabc_score.proofs.score_events.HeldWithinLimits.{file_now}
 use Rattle.gabc_score.specs.machine.BodyBuilder.{code_in, with_all}
 use Rattle.gabc_score.specs.machine.Gatherer.{Gathered, with_event}
-use Rattle.gabc_score.specs.machine.PartCounts.{CountsHold, PartGoesOn}
-use Rattle.gabc_score.specs.machine.PartFronts.{PartLeavesFront}
-use Rattle.gabc_score.specs.machine.PartKeeps.{KeptParts, in_text, in_notes, joined, IsReading, PartKeeps, PartKeepsOn}
-use Rattle.gabc_score.specs.machine.Preceded.{IsPreceded}
+use Rattle.gabc_score.specs.machine.PartKeeps.{KeptParts, in_text, in_notes, joined, PartKeeps}
 use Rattle.gabc_score.specs.machine.ReadAgain.{Adds, BeginsComment, BeginsIn, HasPassed, IsNext, IsToldBy, PassesAgain, Reads, StandsSo, TakesAgain, inner_of, moved, outer_of, place_in}
-use Rattle.gabc_score.specs.machine.ScoreMachine.{IsInBody, IsShort}
+use Rattle.gabc_score.specs.machine.ReadsChar.{Gathers}
 use Rattle.gabc_score.specs.machine.SlotPair.{SlotPairState, is_made}
 use Rattle.gabc_score.specs.machine.StageLaws.{Again, Ends}
 use Rattle.gabc_score.specs.witness.BodyStage.{BodyStageState}
-use Rattle.gabc_score.proofs.building.PartsOfKeptText.{stays}
 use Rattle.gabc_score.proofs.resuming.StagesMove.{TextStays, comment_moved, open_moved, place_moved, stands_moved}
+use Rattle.gabc_score.proofs.resuming.CharactersGathered.{few_is, held_all}
+use Rattle.gabc_score.proofs.score_events.CharactersAreRead.{HasTurned}
 use Rattle.gabc_score.proofs.resuming.NextIsKept.{next_is}
 use Rattle.gabc_score.proofs.resuming.PartsAreOne.{parts_are_one}
-use Rattle.gabc_score.proofs.score_events.EventsStayWithinBounds.{limit_stays, within}
-use Rattle.gabc_score.proofs.score_events.FewAndShortAreLent.{not_over, short_now}
-use Rattle.gabc_score.proofs.score_events.WhatPrecedes.{preceded_all}
+use Rattle.gabc_score.proofs.score_events.EventsStayWithinBounds.{limit_stays}
+use Rattle.gabc_score.proofs.score_events.FewAndShortAreLent.{not_over}
 
 -- ---- what is counted, where no syllable becomes whole
 
@@ -107,52 +98,11 @@ no_code limits g h none made total over few =
 
 -- ---- a machine past a character at which nothing became whole
 
-pub in_body_past : (m : ScoreMachine) (b : BodyStageState) (p : SlotPairState) (f : BoundedList Finding) (now : List BodyEvent) → IsInBody m → p.gathered ≡ with_all m.pair.gathered now → is_made p.used ≡ false
-    → nat_lt (length m.pair.gathered.made) (length p.gathered.made) ≡ false → code_in m.limits p.gathered ≡ None → f.items ≡ [] → 9 ≤ f.limit → b.nabc_lines ≡ m.body.nabc_lines → b.macros ≡ m.body.macros
-    → PartGoesOn m.body.part b.part now → PartKeepsOn m.body.nabc_lines m.body.macros m.body.part b.part now → PartLeavesFront m.body.part b.part now → IsInBody (record m { body = b; pair = p; found = f })
-in_body_past m b p f now h is used fewer none items room lines macros goes keeps leaves = record {
-  rests = record {
-    none = items;
-    room = room;
-    limit = limit;
-    used = used;
-    over = not_over m.limits p.gathered none;
-    short = subst (λ (k : Gathered). All (IsShort m.limits.syllable) k.made) (sym is) (short_now m.limits g now h.rests.limit h.rests.over h.rests.short none_then);
-  };
-  counts = subst (λ (k : Gathered). CountsHold b.part k.builder) (sym is) (goes.counts g h.counts);
-  kept = let few = within m.limits p.gathered none in omega (arith, few, limit);
-  preceded = subst (λ (k : Gathered). IsPreceded m.bounds.before k) (sym is) (preceded_all m.bounds.before g now h.preceded);
-  behind = h.behind ∙ ap (with_each m.bounds.before) (sym made);
-  lent = h.lent;
-  code = none;
-  reading =
-      subst (λ (l : ℕ). IsReading l b.macros b.part spans p.gathered) (sym lines)
-      (subst (λ (l : ℕ). IsReading m.body.nabc_lines l b.part spans p.gathered) (sym macros)
-      (subst (λ (k : Gathered). IsReading m.body.nabc_lines m.body.macros b.part spans k) (sym is)
-      (subst (λ (s : Spans). IsReading m.body.nabc_lines m.body.macros b.part s (with_all g now)) (stays spans g (with_all g now) same)
-      (keeps spans g (let few = h.kept in let most = m.limits.in_range.syllable_most in omega (arith, few, most)) h.reading))));
-  units = subst (λ (l : ℕ). HoldUnits l m.bounds.before p.gathered.made) (sym lines) (subst (HoldUnits m.body.nabc_lines m.bounds.before) (sym made) h.units);
-  within = record { written = subst (AreWritten m.limits.syllable (m.bounds.before.syllables == 0)) (sym made) h.within.written; file = file_now m.limits p.gathered none; outset = h.within.outset };
-  front = λ e. let was = h.front (leaves e).0 in record { none_before = was.none_before; none_made = made ∙ was.none_made };
-}
+pub none_turned : {m : ScoreMachine} {x : Char} {b : BodyStageState} {p : SlotPairState} {f : BoundedList Finding} → Gathers m x b p f → nat_lt (length p.held) (length p.gathered.made) ≡ false → is_made p.used ≡ false → HasTurned p false false p
+none_turned {p = p} a fewer used = record { whole_is = sym fewer; gave_is = sym (few_is (length p.gathered.made) few); gathered = sym (held_all p.gathered few); used = used }
   where
-    g : Gathered
-    g = m.pair.gathered
-
-    spans : Spans
-    spans = m.bounds.behind.spans
-
-    none_then : code_in m.limits (with_all g now) ≡ None
-    none_then = sym (ap (code_in m.limits) is) ∙ none
-
-    limit : p.gathered.limit ≡ m.limits.syllable
-    limit = ap (λ (k : Gathered). k.limit) is ∙ limit_stays g now ∙ h.rests.limit
-
-    made : p.gathered.made ≡ g.made
-    made = none_made g p.gathered now is fewer
-
-    same : (with_all g now).made ≡ g.made
-    same = ap (λ (k : Gathered). k.made) (sym is) ∙ made
+    few : length p.gathered.made ≤ 1
+    few = let held = ap (λ (ms : List UnplacedSyllable). length ms) a.held in grind (arith, nat_tests, fewer, held, a.one)
 
 -- ---- the next character
 
@@ -163,7 +113,7 @@ past_prefix (d ∷ q) cs rest c e =
     let h = past_prefix q k.0 rest c k.2 in
     (h.0, k.1 ∙ ap (λ (l : List ℕ). d ∷ l) h.1)
 
--- where a comment is told, a `%` begins one
+-- where a comment is reported, a `%` begins one
 module _ (again : Again) (ends : Ends) (lines macros : ℕ) where
   pub begins : (told : BodyPart) (p : KeptParts) → PartKeeps lines macros told p → is_in_front told ≡ false → is_in_comment told ≡ true → BeginsComment lines p
   begins part.Comment p keeps front comment_open = absurd (true≢false front)

@@ -1,4 +1,4 @@
--- A machine that reads a kept text again tells what is told of it.
+-- A machine that reads a kept text again reports what is reported of it.
 use Rattle.std.proofs.Common.{◌≡◌, ℕ, List, [], ◌∷◌, ◌++◌, Bool, true, false, cond, is_some, encode_utf8, encode_utf8_all, refl, sym, ap, subst, ◌∙◌, append-nil, append_assoc, IsUtf8}
 use Rattle.std.specs.Str.{chars}
 use Rattle.std.proofs.lemmas.Bool.{true≢false}
@@ -11,9 +11,9 @@ use Rattle.gabc_score.specs.declared.body_tells.Openers.{Openers}
 use Rattle.gabc_score.specs.declared.score_machine.ScoreMachine.{ScoreMachine}
 use Rattle.gabc_score.specs.declared.score_machine.ScorePart.{ScorePart}
 use Rattle.gabc_score.specs.declared.score_machine.ScorePart.TheVariants as score_part
-use Rattle.gabc_score.specs.ReadAgain.{StandsBefore, TellsOfReading, TellsTheSameBut}
-use Rattle.gabc_score.specs.ScoreTells.{before_of, before_with, in_body, is_in_comment, is_in_front, moved_to, openers_of, reading_of}
-use Rattle.gabc_score.specs.ToldWithin.{AreOpenersBefore, IsPlace, TellsOfText}
+use Rattle.gabc_score.specs.ReadAgain.{ComesBefore, ReportsReading, ReportsTheSameBut}
+use Rattle.gabc_score.specs.ScoreReports.{before_of, before_with, in_body, is_in_comment, is_in_front, moved_to, openers_of, reading_of}
+use Rattle.gabc_score.specs.ReportedWithin.{AreOpenersBefore, IsPlace, ReportsText}
 use Rattle.gabc_score.specs.machine.PartKeeps.{joined, PartKeeps}
 use Rattle.gabc_score.specs.machine.ReadAgain.{HasReadKept, IsRunAlike, IsSameBut, IsToldBy, OpenAt, ReadsKept, ReadsThrough, StandsSo, inner_of, outer_of}
 use Rattle.gabc_score.specs.machine.ScoreMachine.{IsInBody, IsScore, IsScoreAt, shown}
@@ -45,13 +45,13 @@ same_through m n o (c ∷ cs) t body =
 told_alike : (a b : ScoreMachine) (told : BodyPart) (kept : List ℕ) → IsRunAlike a b → IsToldBy a.body.nabc_lines a.body.macros a.limits.syllable told kept → IsToldBy b.body.nabc_lines b.body.macros b.limits.syllable told kept
 told_alike a b told kept h t = rw (h.limits, h.lines, h.macros) t
 
--- ---- what is told
+-- ---- what is reported
 
 pub in_body_by : {A : Type 0} (p : ScorePart) (x : A) → is_some (in_body p x) ≡ true → p ≡ score_part.Body
 in_body_by {A = A} score_part.Body x e = refl
 in_body_by {A = A} _ x e = absurd (true≢false (sym e))
 
--- a text that is told of another stage, behind the same and under the same limits
+-- a text that is reported of another stage, after the same and under the same limits
 is_told : (told : ScoreStageState) (m : ScoreMachine) (kept : List ℕ) → CanBeReadAgain told → told.limits ≡ m.limits → before_of told ≡ before_of (shown m) → m.part ≡ score_part.Body → reading_of told ≡ kept
     → IsToldBy m.body.nabc_lines m.body.macros m.limits.syllable told.body.part kept
 is_told told m kept can limits before body reading =
@@ -62,7 +62,7 @@ is_told told m kept can limits before body reading =
 
 module _ (ends : Ends) where
   -- before a syllable a machine stands so
-  stands_before : (m : ScoreMachine) (openers : Openers) → IsScore m → StandsBefore (shown m) → StandsSo m openers [] false
+  stands_before : (m : ScoreMachine) (openers : Openers) → IsScore m → ComesBefore (shown m) → StandsSo m openers [] false
   stands_before m openers rests before = record { body = body; kept_is = none; comment_is = before.outside; front = nothing.0; opens = nothing.1 }
     where
       body : m.part ≡ score_part.Body
@@ -80,7 +80,7 @@ module _ (ends : Ends) where
           (encodes_same [] (joined h.reading.parts) (sym none ∙ h.reading.kept)) before.outside
 
   module _ (again : Again) (stays : TextStays) where
-    -- ---- through a text that is told
+    -- ---- through a text that is reported
 
     module _ (told : BodyPart) (kept : List ℕ) (o : Openers) where
       abbrev IsTold : ScoreMachine → Type 0
@@ -105,9 +105,9 @@ module _ (ends : Ends) where
           by false e a = subst (λ (k : ScoreMachine). StandsSo k o kept false) a.steps a.stands
           by true e a = subst (λ (k : ScoreMachine). StandsSo k o kept true) a.steps.1.1 (takes_percent again ends stays a.m 37 o a.steps.0 a.steps.1.0 kept a.stands told a.told_is front e refl)
 
-    -- Behind the text it tells what is told of it.
+    -- After the text it reports what is reported of it.
     tells_so : (m : ScoreMachine) (told : BodyPart) (openers : Openers) (kept : List ℕ) (comment : Bool) (next : Place) → IsScore m → IsToldBy m.body.nabc_lines m.body.macros m.limits.syllable told kept
-        → is_in_front told ≡ false → openers_of told ≡ openers → StandsSo m openers kept comment → TellsOfReading (moved_to next (shown m)) kept openers comment
+        → is_in_front told ≡ false → openers_of told ≡ openers → StandsSo m openers kept comment → ReportsReading (moved_to next (shown m)) kept openers comment
     tells_so m told openers kept comment next rests t front openers_are stood = record {
       front = front_moved next m.body.part ∙ stood.front;
       reading = reads_in_body m.part m.pair.gathered.builder.kept stood.body ∙ stood.kept_is;
@@ -127,9 +127,9 @@ module _ (ends : Ends) where
             parts_are_one again m.body.nabc_lines m.body.macros m.body.part told h.reading.parts t.parts h.reading.keeps t.keeps
             (encodes_same (joined h.reading.parts) (joined t.parts) (sym h.reading.kept ∙ stood.kept_is ∙ t.is))
 
--- ---- what a machine tells that has read a kept text again
+-- ---- what a machine says that has read a kept text again
 
-told_the_same : (old m : ScoreMachine) (next : Place) → m.part ≡ score_part.Body → IsSameBut old m → IsRunAlike old m → TellsTheSameBut (shown old) (moved_to next (shown m)) next
+told_the_same : (old m : ScoreMachine) (next : Place) → m.part ≡ score_part.Body → IsSameBut old m → IsRunAlike old m → ReportsTheSameBut (shown old) (moved_to next (shown m)) next
 told_the_same old m next body s k = record {
   before_same = rw (body, s.body, k.lines, k.macros, s.bounds) refl;
   held_same = rw (body, s.body, s.made) refl;
@@ -147,17 +147,17 @@ module _ {old new : ScoreMachine} {kept : List ℕ} {openers : Openers} {comment
   same : (good : result ≡ true) → IsSameBut old (has_read good).m
   same good = let h = has_read good in same_through old h.m openers _ h.steps (h.body good)
 
-  pub tells_the_same : result ≡ true → TellsTheSameBut (shown old) (shown new) next
-  tells_the_same good = let h = has_read good in subst (λ (t : ScoreStageState). TellsTheSameBut (shown old) t next) (sym (h.there good)) (told_the_same old h.m next (h.body good) (same good) (run good))
+  pub tells_the_same : result ≡ true → ReportsTheSameBut (shown old) (shown new) next
+  tells_the_same good = let h = has_read good in subst (λ (t : ScoreStageState). ReportsTheSameBut (shown old) t next) (sym (h.there good)) (told_the_same old h.m next (h.body good) (same good) (run good))
 
-  pub tells_of_text : result ≡ true → IsPlace next → AreOpenersBefore next (openers_of new.body.part) → IsText (reading_of (shown new)) → TellsOfText (shown old) → TellsOfText (shown new)
+  pub tells_of_text : result ≡ true → IsPlace next → AreOpenersBefore next (openers_of new.body.part) → IsText (reading_of (shown new)) → ReportsText (shown old) → ReportsText (shown new)
   tells_of_text good is =
       let h = has_read good in
-      subst (λ (t : ScoreStageState). AreOpenersBefore next (openers_of t.body.part) → IsText (reading_of t) → TellsOfText (shown old) → TellsOfText t) (sym (h.there good))
+      subst (λ (t : ScoreStageState). AreOpenersBefore next (openers_of t.body.part) → IsText (reading_of t) → ReportsText (shown old) → ReportsText t) (sym (h.there good))
       (told_again old h.m next (same good) (run good) (h.body good) is)
 
-  pub tells_again : Ends → Again → TextStays → IsUtf8 kept → (told : ScoreStageState) → CanBeReadAgain told → told.limits ≡ old.limits → before_of told ≡ before_of (shown old) → TellsOfReading told kept openers comment → StandsBefore (shown old)
-      → (result ≡ true) × TellsOfReading (shown new) kept openers comment
+  pub tells_again : Ends → Again → TextStays → IsUtf8 kept → (told : ScoreStageState) → CanBeReadAgain told → told.limits ≡ old.limits → before_of told ≡ before_of (shown old) → ReportsReading told kept openers comment → ComesBefore (shown old)
+      → (result ≡ true) × ReportsReading (shown new) kept openers comment
   tells_again ends again stays utf8 told can limits before tells first =
       let start = stands_before ends old openers r.rests first in
       let h = r.read start.body in
@@ -165,6 +165,6 @@ module _ {old new : ScoreMachine} {kept : List ℕ} {openers : Openers} {comment
       let stood = reads_all ends again stays told.body.part kept openers old h.m comment utf8 tells.front tells.comment_is t start h.steps in
       let good = h.good stood.body in (
         good,
-        subst (λ (s : ScoreStageState). TellsOfReading s kept openers comment) (sym (h.there good))
+        subst (λ (s : ScoreStageState). ReportsReading s kept openers comment) (sym (h.there good))
             (tells_so ends again stays h.m told.body.part openers kept comment next h.rests (told_alike old h.m told.body.part kept (run_through old h.m openers _ h.steps) t) tells.front tells.openers_are stood),
       )

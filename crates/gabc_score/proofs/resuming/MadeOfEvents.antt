@@ -1,4 +1,4 @@
--- What is made of events, behind whatever was emitted before: the syllables, and what they count.
+-- What is made of events, after whatever was emitted before: the syllables, and what they count.
 use Rattle.std.proofs.Common.{◌≡◌, ℕ, ◌+◌, ◌-◌, ◌<◌, ◌^◌, ◌||◌, not, min, nat_lt, Bool, List, [], ◌∷◌, ◌++◌, length, refl, sym, ap, subst, ◌∙◌, append_assoc, append-nil}
 use Rattle.gabc_text.specs.declared.text_event.TextEnd.TheVariants as text_end
 use Rattle.gabc_text.specs.declared.text_event.TextEvent.TheVariants as text
@@ -51,7 +51,7 @@ all_made (e ∷ es) ps g h r = all_made es ps (with_event g e) (with_event h e) 
 abbrev pub open_of : List BodyEvent → OpenSyllable
 open_of events = record { kept = kept_of events; from = length (ended_parts_of events); view = view_of events; snippets = snippets_of events }
 
--- behind events that leave these spans open, and where nothing is read
+-- after events that leave these spans open, and where nothing is read
 module _ (g : Gathered) (spans : Spans) (nothing : g.builder ≡ nothing_open) (eu : g.eu ≡ spans.eu) (nlba : g.nlba ≡ spans.nlba) (none : g.made ≡ []) (before : List BodyEvent) (leaves : LeavesOpen spans before) where
   begin_alike : (limit head : ℕ) → MadeAlike (all_syllables before) g (gathered limit head before)
   begin_alike limit head = record {
@@ -64,11 +64,11 @@ module _ (g : Gathered) (spans : Spans) (nothing : g.builder ≡ nothing_open) (
 
 -- ---- what they count
 
--- the bytes of the first one, behind the syllables before it
+-- the bytes of the first one, after the syllables before it
 abbrev pub size_of : Bool → UnplacedSyllable → ℕ
 size_of follows m = min (length (canonical (not follows || m.text.word_start) m)) most
 
--- of what was gathered behind g, where none was made before it, and then none or one
+-- of what was gathered after g, where none was made before it, and then none or one
 pub record Counts (g h : Gathered) : Type 0 where
   pub limit : h.limit ≡ g.limit
   pub none : h.made ≡ [] → (h.over ≡ g.over) × ((h.total ≡ g.total) × (h.follows ≡ g.follows))

@@ -1,4 +1,4 @@
--- Where a part keeps the beginning of a kept text, the character behind it is kept again, or ends what is read.
+-- Where a part keeps the beginning of a kept text, the character after it is kept again, or ends what is read.
 use Rattle.std.proofs.Common.{◌≡◌, inl, inr, ◌==◌, ◌&&◌, ℕ, zero, suc, nat_lt, List, [], ◌∷◌, ◌++◌, Bool, true, false, refl, sym, ap, ◌∙◌, subst, append_assoc}
 use Rattle.std.proofs.lemmas.Bool.{eqb-true}
 use Rattle.gabc_patterns.specs.LongestItems.{IsSnippet}
@@ -71,7 +71,7 @@ module _ (again : Again) (lines macros : ℕ) where
   next_of_ended k t u c rest kept ended same = by (split_at c 40 k t rest u same) kept
     where
       by : Split c 40 k t rest u → AreKept again lines macros (in_text k) → IsNext lines (in_text k) c
-      by (inl h) kept = inr (h.1, ap text.ends_behind h.0 ∙ ended.ends)
+      by (inl h) kept = inr (h.1, ap text.ends_after_it h.0 ∙ ended.ends)
       by (inr (inl h)) kept = text_next ended.stage k h.0 c (subst (text.Keeps ended.stage) h.1 ended.keeps)
       by (inr (inr h)) (inl none) = absurd (nothing_marked t h.0 40 (sym none ∙ h.1))
       by (inr (inr h)) (inr s) = absurd (no_notes again lines macros s.0 t h.0 ended.ends (subst (text.Keeps s.0) h.1 s.1))
@@ -90,6 +90,6 @@ module _ (again : Again) (lines macros : ℕ) where
       by (inr (inl h)) = absurd (no_notes again lines macros hp.0.stage t h.0 hq.0.ends (subst (text.Keeps hp.0.stage) h.1 hp.0.keeps))
       by (inr (inr h)) = absurd (no_notes again lines macros hq.0.stage u h.0 hp.0.ends (subst (text.Keeps hq.0.stage) h.1 hq.0.keeps))
 
-  -- Behind what the one part keeps the character c of the other's kept text comes next.
+  -- After what the one part keeps the character c of the other's kept text comes next.
   pub next_is : (a b : BodyPart) (q p : KeptParts) (c : ℕ) (rest : List ℕ) → PartKeeps lines macros a q → PartKeeps lines macros b p → joined q ++ c ∷ rest ≡ joined p → IsNext lines q c
   next_is a b q p c rest hq hp same = next_by q p c rest (kept_by again lines macros a q hq) (kept_by again lines macros b p hp) same

@@ -1,4 +1,4 @@
--- A text that is read by itself behind the same is one syllable, whatever was emitted before it.
+-- A text that is read by itself after the same is one syllable, whatever was emitted before it.
 use Rattle.std.proofs.Common.{◌≡◌, ℕ, List, [], ◌∷◌, length, refl, sym, ◌∙◌, arith}
 use Rattle.std.proofs.lemmas.List.{append_cancel_left}
 use Rattle.gabc_places.specs.declared.limits.Limits.{Limits}

@@ -22,7 +22,7 @@ kept (c ∷ cs) = Text (Kept (kept_char c)) ∷ kept cs
 mark : ℕ → ℕ → BodyEvent
 mark from to = Text (Part (part.Piece (record { kind = Mark; styles = no_styles; span = record { from = from; to = to } })))
 
--- the nearest first: `<eu>` and `<nlba>` from the end, each behind its characters
+-- the nearest first: `<eu>` and `<nlba>` from the end, each after its characters
 eu_events : Bool → List BodyEvent
 eu_events true = mark 0 4 ∷ kept (62 ∷ 117 ∷ 101 ∷ 60 ∷ [])
 eu_events false = []

@@ -1,18 +1,18 @@
--- Behind a kept text that is read again what is open began where it is told.
+-- After a kept text that is read again what is open began where it is reported.
 use Rattle.std.proofs.Common.{◌≡◌, ℕ, [], ◌∷◌, ◌++◌, Bool, true, false, Option, Some, None, is_some, unwrap_or, refl, sym, ap, ◌∙◌, append_assoc, if◌then◌else◌}
 use Rattle.std.proofs.lemmas.Bool.{true≢false}
 use Rattle.gabc_places.specs.declared.place.Place.{Place}
-use Rattle.gabc_text.specs.StageTells as text_tells
+use Rattle.gabc_text.specs.StageReports as text_tells
 use Rattle.gabc_text.specs.witness.Keeps as text
 use Rattle.gabc_notes.specs.Events.{in_raw}
-use Rattle.gabc_notes.specs.StageTells as tells
+use Rattle.gabc_notes.specs.StageReports as tells
 use Rattle.gabc_notes.specs.declared.stage.NoteStage.{NoteStage}
 use Rattle.gabc_notes.specs.witness.ItemMachine.{example}
 use Rattle.gabc_score.specs.declared.body_stage.BodyPart.{BodyPart}
 use Rattle.gabc_score.specs.declared.body_stage.BodyPart.TheVariants as part
 use Rattle.gabc_score.specs.declared.body_tells.Openers.{Openers}
 use Rattle.gabc_score.specs.ScoreEvents.{first_place}
-use Rattle.gabc_score.specs.ScoreTells.{is_in_comment, is_in_front, openers_of}
+use Rattle.gabc_score.specs.ScoreReports.{is_in_comment, is_in_front, openers_of}
 use Rattle.gabc_score.specs.machine.PartKeeps.{KeptParts, in_text, in_notes, barred, joined, PartKeeps}
 use Rattle.gabc_score.specs.machine.ReadAgain.{OpenAt, inner_of, outer_of}
 use Rattle.gabc_score.specs.machine.StageLaws.{Ends}
@@ -28,7 +28,7 @@ same_option (Some o) None e at = absurd (true≢false e)
 abbrev openers_by : Option Place → Option Place → Openers
 openers_by notes inner = record { notes = notes; inner = inner }
 
--- a bracket of GABC is open behind one kept text, or none
+-- a bracket of GABC is open after one kept text, or none
 some_raw : (b : Bool) (p : Place) → is_some (if b then Some p else None) ≡ b
 some_raw true p = refl
 some_raw false p = refl
@@ -37,7 +37,7 @@ raw_same : (s t : NoteStage) → s.state ≡ t.state → is_some (tells.opener_o
 raw_same s t e = some_raw (in_raw (example s.state)) s.before.place ∙ ap (λ st. in_raw (example st)) e ∙ sym (some_raw (in_raw (example t.state)) t.before.place)
 
 module _ (ends : Ends) (lines macros : ℕ) where
-  -- A part that keeps what another keeps, where all that is open began as that one tells, tells the same openers.
+  -- A part that keeps what another keeps, where all that is open began as that one reports, reports the same openers.
   pub openers_told : (a b : BodyPart) (p : KeptParts) → PartKeeps lines macros a p → PartKeeps lines macros b p → is_in_front a ≡ false → is_in_front b ≡ false
       → OpenAt (outer_of (openers_of b)) (inner_of (openers_of b)) a → openers_of a ≡ openers_of b
   openers_told (part.Text s) (part.Text t) (in_text k) ha hb front other began =
@@ -55,8 +55,8 @@ module _ (ends : Ends) (lines macros : ℕ) where
   openers_told (part.Nabc line o s) _ (in_text k) ha hb front other began = absurd ha
   openers_told _ _ _ ha hb front other began = absurd hb
 
-  nothing_open : text.is_open_behind [] ≡ false
-  unfolding text.is_open_behind
+  nothing_open : text.is_open_after_text [] ≡ false
+  unfolding text.is_open_after_text
   nothing_open = refl
 
   none_open : (x : Option Place) → is_some x ≡ false → (o : Place) → x ≡ Some o → ⊥
@@ -69,7 +69,7 @@ module _ (ends : Ends) (lines macros : ℕ) where
     refl,
     record {
       notes_at = λ o e. absurd (none_open None refl o e);
-      inner_at = λ o e. absurd (none_open (text_tells.opener_of s) (ends.text_opener s k ha ∙ ap text.is_open_behind (sym none) ∙ nothing_open) o e);
+      inner_at = λ o e. absurd (none_open (text_tells.opener_of s) (ends.text_opener s k ha ∙ ap text.is_open_after_text (sym none) ∙ nothing_open) o e);
     },
   )
   nothing_is_open outer inner part.Comment p ha none outside = absurd (true≢false outside)

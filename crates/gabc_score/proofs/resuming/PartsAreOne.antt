@@ -1,5 +1,6 @@
 -- A kept text is cut into its parts in one way.
 use Rattle.std.proofs.Common.{◌≡◌, ◌⊎◌, inl, inr, ◌==◌, ◌&&◌, ◌||◌, not, ℕ, zero, suc, nat_lt, List, [], ◌∷◌, ◌++◌, Bool, true, false, refl, sym, ap, ◌∙◌, subst, append_assoc, codes}
+use Rattle.std.proofs.Math.Bool.{and-false}
 use Rattle.std.proofs.lemmas.Bool.{true≢false}
 use Rattle.gabc_patterns.specs.Derivative.{is_snippet}
 use Rattle.gabc_patterns.specs.LongestItems.{IsSnippet}
@@ -29,7 +30,7 @@ head_same a b s t e = cc
 pub tail_same : (a b : ℕ) (s t : List ℕ) → a ∷ s ≡ b ∷ t → s ≡ t
 tail_same a b s t e = cc
 
--- one of them is the other, or goes on behind it with its mark
+-- one of them is the other, or goes on after it with its mark
 abbrev pub Split : ℕ → ℕ → List ℕ → List ℕ → List ℕ → List ℕ → Type 0
 Split a b s t r u = ((s ≡ t) × (a ≡ b) × (r ≡ u)) ⊎ (Longer a s t ⊎ Longer b t s)
 
@@ -53,11 +54,7 @@ nothing_marked (x ∷ s) r mark e = cc
 
 -- a snippet of GABC lies outside raw
 pub outside : (t : List ℕ) → IsSnippet gabc t → in_raw t ≡ false
-outside t h = ap (λ (b : Bool). is_snippet gabc (t ++ codes "]") && not b) ((snippet_decides gabc refl t).1 h) ∙ and_false (is_snippet gabc (t ++ codes "]"))
-  where
-    and_false : (b : Bool) → (b && false) ≡ false
-    and_false true = refl
-    and_false false = refl
+outside t h = ap (λ (b : Bool). is_snippet gabc (t ++ codes "]") && not b) ((snippet_decides gabc refl t).1 h) ∙ and-false (is_snippet gabc (t ++ codes "]"))
 
 -- What stages keep is kept again: of a text, and of a snippet of GABC. A `(` that ends a text is not.
 module _ (again : Again) (lines macros : ℕ) where
@@ -66,7 +63,7 @@ module _ (again : Again) (lines macros : ℕ) where
   IsKeptOn zero k = (s : NoteStage) × notes.Keeps (nat_lt 0 lines) macros s k
   IsKeptOn (suc line) k = (s : NabcStage) × nabc.Keeps s k
 
-  -- no stage keeps a `|` behind a snippet that ends there
+  -- no stage keeps a `|` after a snippet that ends there
   pub no_bar : (line : ℕ) (s v : List ℕ) → IsEndedOn lines macros line s → IsKeptOn line (s ++ 124 ∷ v) → ⊥
   no_bar zero s v ended kept = true≢false (sym (ends (nat_lt 0 lines) ended.0 (in_raw s) (outside s ended.1.whole)) ∙ (again.gabc_kept (nat_lt 0 lines) macros kept.0 s v 124 kept.1).goes_on)
     where
@@ -81,7 +78,7 @@ module _ (again : Again) (lines macros : ℕ) where
   part_of_whole zero s e = (e.1.rest, (e.1.stage, e.1.keeps))
   part_of_whole (suc line) s e = (e.rest, (e.stage, e.keeps))
 
-  -- nor does one that ends there go on behind it
+  -- nor does one that ends there go on after it
   pub no_longer : (line : ℕ) (s t : List ℕ) → IsEndedOn lines macros line s → IsEndedOn lines macros line t → Longer 124 s t → ⊥
   no_longer line s t ended other longer =
       let whole = part_of_whole line t other in
@@ -104,8 +101,8 @@ module _ (again : Again) (lines macros : ℕ) where
       by (inr (inl h)) later = absurd (no_longer line s t he.0 hf.0 h)
       by (inr (inr h)) later = absurd (no_longer line t s hf.0 he.0 h)
 
-  -- no stage keeps a `(` behind a text that ends there
-  pub no_notes : (s : TextStage) (t v : List ℕ) → text.ends_behind t ≡ true → text.Keeps s (t ++ 40 ∷ v) → ⊥
+  -- no stage keeps a `(` after a text that ends there
+  pub no_notes : (s : TextStage) (t v : List ℕ) → text.ends_after_it t ≡ true → text.Keeps s (t ++ 40 ∷ v) → ⊥
   no_notes s t v ends keeps = absurd (let e : 40 ∷ [] ≡ [] = sym (again.text_kept s t v 40 keeps) ∙ again.text_ends t ends in cc)
 
   -- parts that stand

@@ -1,5 +1,6 @@
 -- A part reads the next character of a kept text again, by what its stage does.
 use Rattle.std.proofs.Common.{◌≡◌, ◌≢◌, ◌⊎◌, inl, inr, ◌==◌, ◌&&◌, ◌||◌, not, ℕ, zero, suc, ◌+◌, ◌-◌, ◌^◌, ◌<◌, min, nat_lt, Bool, true, false, List, [], ◌∷◌, ◌++◌, length, Option, Some, None, encode_utf8, encode_utf8_all, refl, sym, ap, subst, ◌∙◌, append-nil, arith, if◌then◌else◌}
+use Rattle.std.proofs.Math.Bool.{and-false}
 use Rattle.std.proofs.lemmas.Bool.{true≢false}
 use Rattle.std.proofs.lemmas.List.{append_cancel_left}
 use Rattle.std.specs.List.{list_any}
@@ -10,14 +11,14 @@ use Rattle.gabc_patterns.specs.Function.{trim}
 use Rattle.gabc_patterns.specs.LongestItems.{IsSnippet}
 use Rattle.gabc_patterns.proofs.FunctionsMeetRelations.{trim_snippet}
 use Rattle.gabc_text.specs.BuiltText.{kept_in}
-use Rattle.gabc_text.specs.StageTells as text_tells
+use Rattle.gabc_text.specs.StageReports as text_tells
 use Rattle.gabc_text.specs.witness.StageReports as text_reports
 use Rattle.gabc_text.specs.witness.Keeps as text
 use Rattle.gabc_text.specs.declared.stage.TextStage.{TextStage}
 use Rattle.gabc_text.specs.declared.text_event.TextEvent.{TextEvent}
 use Rattle.gabc_notes.specs.Events.{end_by_mark, in_raw}
 use Rattle.gabc_notes.specs.SnippetRead.{kept_of, ends_of}
-use Rattle.gabc_notes.specs.StageTells as tells
+use Rattle.gabc_notes.specs.StageReports as tells
 use Rattle.gabc_notes.specs.Table.{gabc}
 use Rattle.gabc_notes.specs.witness.Keeps as notes
 use Rattle.gabc_notes.specs.declared.stage.NoteEnd.TheVariants as note_end
@@ -30,8 +31,8 @@ use Rattle.gabc_nabc.specs.declared.stage.NabcStage.{NabcStage}
 use Rattle.gabc_score.specs.declared.body_stage.BodyPart.{BodyPart}
 use Rattle.gabc_score.specs.declared.body_stage.BodyPart.TheVariants as part
 use Rattle.gabc_score.specs.declared.body_tells.Openers.{Openers}
-use Rattle.gabc_score.specs.Events.{behind_mark, is_close, is_next, is_text_end}
-use Rattle.gabc_score.specs.ScoreTells.{is_in_comment, is_in_front, openers_of}
+use Rattle.gabc_score.specs.Events.{after_mark, is_close, is_next, is_text_end}
+use Rattle.gabc_score.specs.ScoreReports.{is_in_comment, is_in_front, openers_of}
 use Rattle.gabc_score.specs.Syllable.{prefix_of}
 use Rattle.gabc_score.specs.machine.BodyBuilder.{with_all}
 use Rattle.gabc_score.specs.machine.Gatherer.{Gathered}
@@ -54,7 +55,7 @@ some_same p o e = cc
 none_some : (o : Place) → None ≡ Some o → ⊥
 none_some o e = cc
 
--- behind a `(` or a `|` no bracket is open yet
+-- after a `(` or a `|` no bracket is open yet
 begins_at : (outer inner opened : Place) (after : BodyPart) → openers_of after ≡ record { notes = Some opened; inner = None } → opened ≡ outer → OpenAt outer inner after
 begins_at outer inner opened after is at = record {
   notes_at = λ o e. some_same opened o (ap (λ (k : Openers). k.notes) (sym is) ∙ e) ∙ at;
@@ -86,11 +87,7 @@ module _ (lines macros : ℕ) (x : Char) (s t : TextStage) (es : List TextEvent)
       by true e = absurd (none_cons x.c (sym kept ∙ sym (on.kept k keeps plain) ∙ (on.ends k keeps e).kept))
 
   percent_goes_on : (k : List ℕ) → text.Keeps s k → x.c ≡ 37 → text.end_text es ≡ false
-  percent_goes_on k keeps is = on.end k keeps ∙ ap (λ (c : ℕ). not (text_tells.is_in_comment s) && (c == 40 && text.ends_behind k)) is ∙ none (not (text_tells.is_in_comment s))
-    where
-      none : (b : Bool) → (b && false) ≡ false
-      none true = refl
-      none false = refl
+  percent_goes_on k keeps is = on.end k keeps ∙ ap (λ (c : ℕ). not (text_tells.is_in_comment s) && (c == 40 && text.ends_after_it k)) is ∙ and-false (not (text_tells.is_in_comment s))
 
   text_goes : (k more : List ℕ) (comment : Bool) → text.Keeps s k → text.end_text es ≡ false → kept_in es ≡ more → text.comment_with k (text_tells.is_in_comment s) x.c ≡ comment
       → Reads (part.Text s) (in_text k) x more comment (part.Text t) (text_events es)
@@ -118,7 +115,7 @@ module _ (lines macros : ℕ) (x : Char) (s t : TextStage) (es : List TextEvent)
       next (in_text k) keeps plain (inr is) = absurd (true≢false (sym ended ∙ text_goes_on s t x.c es k on keeps goes_on))
         where
           ended : text.end_text es ≡ true
-          ended = on.end k keeps ∙ ap (λ (b : Bool). not b && (x.c == 40 && text.ends_behind k)) plain ∙ ap (λ (c : ℕ). c == 40 && text.ends_behind k) is.0 ∙ is.1
+          ended = on.end k keeps ∙ ap (λ (b : Bool). not b && (x.c == 40 && text.ends_after_it k)) plain ∙ ap (λ (c : ℕ). c == 40 && text.ends_after_it k) is.0 ∙ is.1
 
       comment : (p : KeptParts) → PartKeeps lines macros (part.Text s) p → text_tells.is_in_comment s ≡ false → x.c ≡ 37 → BeginsComment lines p → Reads (part.Text s) p x [] true (part.Text t) (text_events es)
       comment (in_notes u earlier k) keeps plain is begins = absurd keeps
@@ -126,7 +123,7 @@ module _ (lines macros : ℕ) (x : Char) (s t : TextStage) (es : List TextEvent)
           text_goes k [] true keeps (percent_goes_on k keeps is) (on.kept k keeps plain ∙ ap (text.kept_with k) is ∙ begins.1)
           (ap (λ (b : Bool). text.comment_with k b x.c) plain ∙ ap (λ (c : ℕ). c == 37 && text.begins_comment k) is ∙ begins.0)
 
-  -- the `(` behind it
+  -- the `(` after it
   pub text_end_reads : (after : BodyPart) → list_any is_text_end es ≡ true → openers_of after ≡ record { notes = Some x.place; inner = None } → is_in_comment after ≡ false
       → ReadsAgain lines macros x (part.Text s) after (text_events es)
   text_end_reads after over openers closed = record { next = next; comment = comment }
@@ -141,7 +138,7 @@ module _ (lines macros : ℕ) (x : Char) (s t : TextStage) (es : List TextEvent)
         openers = λ outer inner at stands began. begins_at outer inner x.place after openers at;
       }
         where
-          ends : text.EndsBehind k es t
+          ends : text.EndsAfter k es t
           ends = on.ends k keeps (ends_text es over)
 
           marked : (g : Gathered) → IsMarked g (with_all g (text_events es)) 40
@@ -153,7 +150,7 @@ module _ (lines macros : ℕ) (x : Char) (s t : TextStage) (es : List TextEvent)
 
 -- ---- a snippet
 
--- A snippet goes on behind a character with this kept more, and a comment is open behind it or not. The bracket that is open was so before, or
+-- A snippet goes on after a character with this kept more, and a comment is open after it or not. The bracket that is open was so before, or
 -- stands at the character.
 record GoesWith (es : List NoteEvent) (before after : BodyPart) (at : Place) (more : List ℕ) (comment : Bool) : Type 0 where
   no_end : ends_of es ≡ []
@@ -243,7 +240,7 @@ module _ (lines macros : ℕ) (opened : Place) (s t : NoteStage) (x : Char) (es 
           ∙ ap (λ (c : ℕ). not (c == 10) && (false || (not (in_raw k) && (c == 37)))) is
           ∙ ap (λ (r : Bool). not (37 == 10) && (false || (not r && (37 == 37)))) raw
 
-  gabc_bar : (k : List ℕ) → Keep k → tells.comment_of s ≡ false → x.c ≡ 124 → split ≡ true → IsSnippet gabc k → notes.EndsBehind k x.c es
+  gabc_bar : (k : List ℕ) → Keep k → tells.comment_of s ≡ false → x.c ≡ 124 → split ≡ true → IsSnippet gabc k → notes.EndsAfter k x.c es
   gabc_bar k keeps plain is splits snippet = on.ends split macros k keeps (
       ap (λ (b : Bool). notes.is_end_behind split k b x.c) plain
       ∙ ap (λ (c : ℕ). notes.is_end_behind split k false c) is
@@ -293,7 +290,7 @@ module _ (lines macros line : ℕ) (opened : Place) (s t : NabcStage) (x : Char)
       (ap (λ (b : Bool). nabc.kept_behind k b x.c) plain ∙ ap (λ (c : ℕ). nabc.kept_behind k false c) is ∙ sym (append-nil k))
       (ap (λ (b : Bool). comment_in b x.c) plain ∙ ap (λ (c : ℕ). comment_in false c) is)
 
-  nabc_bar : (k : List ℕ) → nabc.Keeps s k → nabc.comment_of s ≡ false → x.c ≡ 124 → nabc.EndsBehind k x.c es
+  nabc_bar : (k : List ℕ) → nabc.Keeps s k → nabc.comment_of s ≡ false → x.c ≡ 124 → nabc.EndsAfter k x.c es
   nabc_bar k keeps plain is = on.ends k keeps (ap (λ (b : Bool). nabc.is_end_behind b x.c) plain ∙ ap (λ (c : ℕ). nabc.is_end_behind false c) is)
 
   nabc_next : (l : ℕ) (k : List ℕ) → l ≢ 0 → nabc.Keeps s k → nabc.comment_of s ≡ false → ReadsNext lines l x (part.Nabc line opened s) (part.Nabc line opened t) es k
@@ -379,4 +376,4 @@ reads_again {lines} {macros} {x} (step.text_goes {s} {t} {es} h e) = text_reads 
 reads_again {lines} {macros} {x} (step.text_ends {s} {t} {es} {after} h e b) = text_end_reads lines macros x s t es h.keeps after e b.tells.0 b.tells.1
 reads_again {lines} {macros} (step.snippet_goes s n c) = goes_reads lines macros s n c
 reads_again {lines} {macros} (step.snippet_next {after = after} s n b) = next_reads lines macros s after n b.tells
-reads_again {lines} {macros} {x} (step.snippet_closes s n c) = close_reads lines macros s (part.Text (fresh_stage (behind_mark x.place))) c
+reads_again {lines} {macros} {x} (step.snippet_closes s n c) = close_reads lines macros s (part.Text (fresh_stage (after_mark x.place))) c

@@ -1,5 +1,6 @@
 -- A text that is read by itself, one character after the other.
 use Rattle.std.proofs.Common.{◌≡◌, ℕ, suc, ◌&&◌, not, Bool, true, false, List, [], ◌∷◌, length, take, refl, sym, ap, ◌∙◌, arith}
+use Rattle.std.proofs.Math.Bool.{and-false}
 use Rattle.std.proofs.lemmas.List.{length-take-le}
 use Rattle.gabc_places.specs.Place.{next_place, placed_characters_from}
 use Rattle.gabc_places.specs.StageLaw.{concat_of}
@@ -53,11 +54,7 @@ module _ (m n : ScoreMachine) (at : Place) (c : ℕ) (cs : List ℕ) (fine : Boo
       ∙ ap (λ (h : Gathered). is_alone n.limits h (lists_from n (next_place at c) cs)) (sym g.gathered)
 
   pub not_alone : fine ≡ false → is_alone m.limits m.pair.gathered (lists_from m at (c ∷ cs)) ≡ false
-  not_alone bad = fine_then ∙ ap (λ b. is_none m.pair.gathered.made && (b && is_alone m.limits (with_all m.pair.gathered r.now) later)) bad ∙ none (is_none m.pair.gathered.made)
-    where
-      none : (b : Bool) → (b && false) ≡ false
-      none true = refl
-      none false = refl
+  not_alone bad = fine_then ∙ ap (λ b. is_none m.pair.gathered.made && (b && is_alone m.limits (with_all m.pair.gathered r.now) later)) bad ∙ and-false (is_none m.pair.gathered.made)
 
   pub gathered_on : fine ≡ true → with_all m.pair.gathered (concat_of (lists_from m at (c ∷ cs))) ≡ with_all n.pair.gathered (concat_of (lists_from n (next_place at c) cs))
   gathered_on good =

@@ -1,4 +1,4 @@
--- What a stage tells that goes on behind syllables is that of a text, where what it went on with is.
+-- What a stage says that goes on after syllables is that of a text, where what it went on with is.
 use Rattle.std.proofs.Common.{◌≡◌, refl, sym, subst, arith}
 use Rattle.std.specs.List.{All}
 use Rattle.std.proofs.lemmas.List.Elements.{All-nil}
@@ -9,11 +9,11 @@ use Rattle.gabc_score.specs.declared.before.Before.{Before}
 use Rattle.gabc_score.specs.declared.body_stage.BodyPart.{BodyPart}
 use Rattle.gabc_score.specs.declared.score_machine.ScoreMachine.{ScoreMachine}
 use Rattle.gabc_score.specs.declared.score_machine.ScorePart.TheVariants as score_part
-use Rattle.gabc_score.specs.Resumed.{StandsBehind}
+use Rattle.gabc_score.specs.Resumed.{IsAfterSyllables}
 use Rattle.gabc_score.specs.ScoreEvents.{first_place}
-use Rattle.gabc_score.specs.ScoreTells.{before_with, moved_to, openers_of, reading_of}
+use Rattle.gabc_score.specs.ScoreReports.{before_with, moved_to, openers_of, reading_of}
 use Rattle.gabc_places.specs.TextOfAnInput.{IsText}
-use Rattle.gabc_score.specs.ToldWithin.{AreCountsWithin, AreOpenersBefore, IsPlace, TellsOfText}
+use Rattle.gabc_score.specs.ReportedWithin.{AreCountsWithin, AreOpenersBefore, IsPlace, ReportsText}
 use Rattle.gabc_score.specs.machine.PartOnly.{HasText}
 use Rattle.gabc_score.specs.machine.ReadAgain.{IsRunAlike, IsSameBut}
 use Rattle.gabc_score.specs.machine.ScoreMachine.{shown}
@@ -28,13 +28,13 @@ first_is_place = record { line = omega arith; column = omega arith; in_64_bits =
 
 -- a kept text that was read again is a text
 pub told_again : (old m : ScoreMachine) (next : Place) → IsSameBut old m → IsRunAlike old m → m.part ≡ score_part.Body → (let new = moved_to next (shown m) in IsPlace next → AreOpenersBefore next (openers_of new.body.part)
-    → IsText (reading_of new) → TellsOfText (shown old) → TellsOfText new)
+    → IsText (reading_of new) → ReportsText (shown old) → ReportsText new)
 told_again old m next same run now is openers text told body =
     let t = told same.body in
     record { counts = rw (run.limits, run.lines, run.macros, same.bounds) t.counts; next = is; openers = openers; reading = rw now at text; held = rw same.made t.held }
 
 -- so it is where nothing was read yet
-pub told_behind : (limits : Limits) (before : Before) (s : ScoreStageState) → StandsBehind limits before s → AreCountsWithin limits before.nabc_lines before.macros before.canonical → TellsOfText s
+pub told_behind : (limits : Limits) (before : Before) (s : ScoreStageState) → IsAfterSyllables limits before s → AreCountsWithin limits before.nabc_lines before.macros before.canonical → ReportsText s
 unfolding fresh_events.events_left
 told_behind limits before s stands counts body =
     let b = stands.begins in

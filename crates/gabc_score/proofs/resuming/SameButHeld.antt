@@ -1,5 +1,6 @@
 -- What a stage gives does not depend on the syllable that it holds, but for that syllable itself.
 use Rattle.std.proofs.Common.{◌≡◌, inl, inr, ℕ, zero, suc, ◌+◌, ◌-◌, ◌==◌, ◌&&◌, ◌||◌, not, nat_lt, List, [], ◌∷◌, ◌++◌, map, length, take, drop, Bool, true, false, cond, Option, Some, None, is_some, refl, sym, ap, ◌∙◌, subst, arith}
+use Rattle.std.proofs.Math.Bool.{or-false}
 use Rattle.std.proofs.lemmas.Bool.{true≢false}
 use Rattle.std.specs.Option.{option_map}
 use Rattle.gabc_places.specs.declared.code.Code.{Code}
@@ -31,7 +32,7 @@ use Rattle.gabc_score.specs.ScoreEvents.{ScoreOutput, Found, Stop, Syllable, End
 use Rattle.gabc_score.specs.Syllable.{UnplacedSyllable, PlacedSyllable, text_at}
 use Rattle.gabc_score.specs.machine.BodyBuilder.{with_all, code_in, end_fault, end_fault_by, end_findings}
 use Rattle.gabc_score.specs.machine.Gatherer.{Gathered, first_past, span_of, with_event, with_syllable, with_no_notes, with_last}
-use Rattle.gabc_score.specs.machine.HeldAside.{ComeAlike, AreMadeAlike, IsAside}
+use Rattle.gabc_score.specs.machine.HeldAside.{AreInputsAlike, AreMadeAlike, IsEquivalentAside}
 use Rattle.gabc_score.specs.machine.SyllableBuilder.{past_snippet}
 use Rattle.gabc_score.specs.machine.ScoreStage.{HeldScore, placed_behind, held_outputs, stop_outputs, point_outputs, with_held, score_past, end_outputs_by, end_outputs, left_by, body_left}
 
@@ -57,7 +58,7 @@ pub all_stay : (now : List BodyEvent) (g : Gathered) → is_some g.first_kind �
 all_stay [] g h = refl
 all_stay (e ∷ now) g h = let s = event_stays g e h in all_stay now (with_event g e) (ap (λ (k : Option ItemKind). is_some k) s ∙ h) ∙ s
 
-kind_comes : (a b : Option ItemKind) (line : ℕ) (span : Span) (kept : List ℕ) → ComeAlike a b → ComeAlike (first_past a line span kept) (first_past b line span kept)
+kind_comes : (a b : Option ItemKind) (line : ℕ) (span : Span) (kept : List ℕ) → AreInputsAlike a b → AreInputsAlike (first_past a line span kept) (first_past b line span kept)
 kind_comes a b line span kept (inl e) = inl (ap (λ (k : Option ItemKind). first_past k line span kept) e)
 kind_comes a b line span kept (inr e) = inr (stays a e.0, stays b e.1)
   where
@@ -78,10 +79,6 @@ event_but _ g ms = (ms, refl)
 kind_but : (now : List BodyEvent) (g : Gathered) (ms : List UnplacedSyllable) → (with_all (record g { made = ms }) now).first_kind ≡ (with_all g now).first_kind
 kind_but [] g ms = refl
 kind_but (e ∷ now) g ms = let b = event_but e g ms in ap (λ (h : Gathered). (with_all h now).first_kind) b.1 ∙ kind_but now (with_event g e) b.0
-
-or_false : (x : Bool) → (x || false) ≡ x
-or_false true = refl
-or_false false = refl
 
 module _ (m n : UnplacedSyllable) where
   -- ---- outputs that are the same
@@ -111,23 +108,23 @@ module _ (m n : UnplacedSyllable) where
   made_more l ms ns k (inl e) = inl (ap (λ (ks : List UnplacedSyllable). ks ++ k ∷ []) e)
   made_more l ms ns k (inr s) = inr (record { rest = s.rest ++ k ∷ []; one = rw s.one refl; other = rw s.other refl; twins = s.twins })
 
-  event_at : (e : BodyEvent) (l : Bool) (a : Gathered) (ns : List UnplacedSyllable) (k : Option ItemKind) → ComeAlike a.first_kind k → AreMadeAlike m n l a.made ns → IsAside m n l (with_event a e) (with_event (record a { made = ns; first_kind = k }) e)
+  event_at : (e : BodyEvent) (l : Bool) (a : Gathered) (ns : List UnplacedSyllable) (k : Option ItemKind) → AreInputsAlike a.first_kind k → AreMadeAlike m n l a.made ns → IsEquivalentAside m n l (with_event a e) (with_event (record a { made = ns; first_kind = k }) e)
   event_at (event.Text (text.Part part.WordStart)) l a ns k c h = record { comes = c; made = h; same = refl }
   event_at (event.Text (text.Ended text_end.Notes)) l a ns k c h = record { comes = c; made = h; same = refl }
   event_at (event.Notes line (note.Ended note_end.Next i)) l a ns k c h = record { comes = kind_comes a.first_kind k line (span_of a.builder line i) (past_snippet a.builder line i 124).kept c; made = h; same = refl }
   event_at (event.Notes line (note.Ended note_end.Close i)) l a ns k c h = record { comes = kind_comes a.first_kind k line (span_of a.builder line i) (past_snippet a.builder line i 41).kept c; made = made_more l a.made ns _ h; same = refl }
   event_at _ l a ns k c h = record { comes = c; made = h; same = refl }
 
-  all_aside : (now : List BodyEvent) (l : Bool) (a b : Gathered) → IsAside m n l a b → IsAside m n l (with_all a now) (with_all b now)
+  all_aside : (now : List BodyEvent) (l : Bool) (a b : Gathered) → IsEquivalentAside m n l a b → IsEquivalentAside m n l (with_all a now) (with_all b now)
   all_aside [] l a b h = h
-  all_aside (e ∷ now) l a b h = all_aside now l (with_event a e) (with_event b e) (subst (λ (x : Gathered). IsAside m n l (with_event a e) (with_event x e)) (sym h.same) (event_at e l a b.made b.first_kind h.comes h.made))
+  all_aside (e ∷ now) l a b h = all_aside now l (with_event a e) (with_event b e) (subst (λ (x : Gathered). IsEquivalentAside m n l (with_event a e) (with_event x e)) (sym h.same) (event_at e l a b.made b.first_kind h.comes h.made))
 
   -- the last text
-  last_aside : (l : Bool) (a b : Gathered) → IsAside m n l a b → IsAside m n l (with_last a) (with_last b)
-  last_aside l a b h = subst (λ (x : Gathered). IsAside m n l (with_last a) (with_last x)) (sym h.same) (by b.made b.first_kind h.comes h.made (has_text a.builder.view))
+  last_aside : (l : Bool) (a b : Gathered) → IsEquivalentAside m n l a b → IsEquivalentAside m n l (with_last a) (with_last b)
+  last_aside l a b h = subst (λ (x : Gathered). IsEquivalentAside m n l (with_last a) (with_last x)) (sym h.same) (by b.made b.first_kind h.comes h.made (has_text a.builder.view))
     where
-      by : (ns : List UnplacedSyllable) (k : Option ItemKind) → ComeAlike a.first_kind k → AreMadeAlike m n l a.made ns → (t : Bool)
-          → IsAside m n l (cond t (with_syllable (with_no_notes a)) a) (cond t (with_syllable (with_no_notes (record a { made = ns; first_kind = k }))) (record a { made = ns; first_kind = k }))
+      by : (ns : List UnplacedSyllable) (k : Option ItemKind) → AreInputsAlike a.first_kind k → AreMadeAlike m n l a.made ns → (t : Bool)
+          → IsEquivalentAside m n l (cond t (with_syllable (with_no_notes a)) a) (cond t (with_syllable (with_no_notes (record a { made = ns; first_kind = k }))) (record a { made = ns; first_kind = k }))
       by ns k c h true = record { comes = c; made = made_more l a.made ns _ h; same = refl }
       by ns k c h false = record { comes = c; made = h; same = refl }
 
@@ -155,12 +152,12 @@ module _ (m n : UnplacedSyllable) where
   length_same l ms ns (inl e) = (ap length e, ap is_none e)
   length_same l ms ns (inr s) = (ap length s.other ∙ sym (ap length s.one), ap is_none s.other ∙ sym (ap is_none s.one))
 
-  code_same : (l : Bool) (limits : Limits) (a b : Gathered) → IsAside m n l a b → code_in limits b ≡ code_in limits a
+  code_same : (l : Bool) (limits : Limits) (a b : Gathered) → IsEquivalentAside m n l a b → code_in limits b ≡ code_in limits a
   code_same l limits a b h =
       ap (code_in limits) h.same
       ∙ ap (λ (x : Bool). cond (is_longer a.limit a.builder.kept || a.over) (Some F5) (cond (not x && nat_lt limits.input (a.total + 1)) (Some F7) None)) (length_same l a.made b.made h.made).1
 
-  fault_same : (l : Bool) (limits : Limits) (at : Place) (a b : Gathered) → IsAside m n l a b → end_fault limits at b ≡ end_fault limits at a
+  fault_same : (l : Bool) (limits : Limits) (at : Place) (a b : Gathered) → IsEquivalentAside m n l a b → end_fault limits at b ≡ end_fault limits at a
   fault_same l limits at a b h = ap (end_fault_by limits at b) (ap (λ (x : Gathered). x.cut) h.same) ∙ by a.cut
     where
       by : (o : Option Place) → end_fault_by limits at b o ≡ end_fault_by limits at a o
@@ -168,20 +165,20 @@ module _ (m n : UnplacedSyllable) where
       by None = ap (option_map (fault_at at)) (code_same l limits a b h)
 
   -- what is found of them at a point
-  first_same : (l : Bool) (a b : Gathered) (now : List BodyEvent) (p : Place) → IsAside m n l a b → found_first b.first_kind (with_all b now).first_kind p ≡ found_first a.first_kind (with_all a now).first_kind p
+  first_same : (l : Bool) (a b : Gathered) (now : List BodyEvent) (p : Place) → IsEquivalentAside m n l a b → found_first b.first_kind (with_all b now).first_kind p ≡ found_first a.first_kind (with_all a now).first_kind p
   first_same l a b now p h = by h.comes
     where
-      by : ComeAlike a.first_kind b.first_kind → found_first b.first_kind (with_all b now).first_kind p ≡ found_first a.first_kind (with_all a now).first_kind p
+      by : AreInputsAlike a.first_kind b.first_kind → found_first b.first_kind (with_all b now).first_kind p ≡ found_first a.first_kind (with_all a now).first_kind p
       by (inr e) = not_first b.first_kind _ p e.1 ∙ sym (not_first a.first_kind _ p e.0)
       by (inl e) =
           let is : b ≡ record a { made = b.made } = h.same ∙ ap (λ (k : Option ItemKind). record a { made = b.made; first_kind = k }) (sym e) in
           ap (λ (k : Option ItemKind). found_first k (with_all b now).first_kind p) (sym e)
           ∙ ap (λ (k : Option ItemKind). found_first a.first_kind k p) (ap (λ (g : Gathered). (with_all g now).first_kind) is ∙ kind_but now a b.made)
 
-  -- ---- behind a character
+  -- ---- after a character
 
   -- where another is whole the one held is given
-  held_aside : (l : Bool) (a b : Gathered) → IsAside m n l a b → IsAside m n (l || nat_lt 1 (length a.made)) (with_held a) (with_held b)
+  held_aside : (l : Bool) (a b : Gathered) → IsEquivalentAside m n l a b → IsEquivalentAside m n (l || nat_lt 1 (length a.made)) (with_held a) (with_held b)
   held_aside l a b h = record { comes = h.comes; made = by a.made b.made h.made; same = ap with_held h.same }
     where
       one_less : (k : ℕ) → suc (suc k) - 1 ≡ suc k
@@ -195,17 +192,17 @@ module _ (m n : UnplacedSyllable) where
       by ms ns (inr s) = rw (s.one, s.other) (behind s.rest)
         where
           behind : (rest : List UnplacedSyllable) → AreMadeAlike m n (l || nat_lt 1 (length (m ∷ rest))) (drop (length (m ∷ rest) - 1) (m ∷ rest)) (drop (length (n ∷ rest) - 1) (n ∷ rest))
-          behind [] = inr (record { rest = []; one = refl; other = refl; twins = rw or_false s.twins })
+          behind [] = inr (record { rest = []; one = refl; other = refl; twins = rw or-false s.twins })
           behind (y ∷ ys) = inl (dropped n y ys ∙ sym (dropped m y ys))
 
-  stop_same : (s : HeldScore) (b : Gathered) (fault : Fault) → IsAside m n s.has_lent s.gathered b → AreSameOutputs m n (stop_outputs s fault) (stop_outputs (record s { gathered = b }) fault)
+  stop_same : (s : HeldScore) (b : Gathered) (fault : Fault) → IsEquivalentAside m n s.has_lent s.gathered b → AreSameOutputs m n (stop_outputs s fault) (stop_outputs (record s { gathered = b }) fault)
   stop_same s b fault h = same_append (held_outputs s) (held_outputs (record s { gathered = b })) (Stop fault ∷ []) (Stop fault ∷ []) (placed_same s.has_lent s.gathered.made b.made h.made) (refl, tt)
 
-  module _ (limits : Limits) (s : HeldScore) (b : Gathered) (now : List BodyEvent) (h : IsAside m n s.has_lent s.gathered b) where
+  module _ (limits : Limits) (s : HeldScore) (b : Gathered) (now : List BodyEvent) (h : IsEquivalentAside m n s.has_lent s.gathered b) where
     abbrev g : Gathered
     g = with_all s.gathered now
 
-    aside_now : IsAside m n s.has_lent g (with_all b now)
+    aside_now : IsEquivalentAside m n s.has_lent g (with_all b now)
     aside_now = all_aside now s.has_lent s.gathered b h
 
     end_same : AreSameOutputs m n (end_outputs limits s now) (end_outputs limits (record s { gathered = b }) now)
@@ -213,7 +210,7 @@ module _ (m n : UnplacedSyllable) where
         subst (λ (o : Option Fault). AreSameOutputs m n (end_outputs limits s now) (end_outputs_by (record s { gathered = b }) now o)) (sym (fault_same s.has_lent limits s.next (with_last g) (with_last (with_all b now)) v))
         (by (end_fault limits s.next (with_last g)))
       where
-        v : IsAside m n s.has_lent (with_last g) (with_last (with_all b now))
+        v : IsEquivalentAside m n s.has_lent (with_last g) (with_last (with_all b now))
         v = last_aside s.has_lent g (with_all b now) aside_now
 
         found_same : findings_now now ++ end_findings s.next (has_text (with_all b now).builder.view) ((with_last (with_all b now)).eu || (with_last (with_all b now)).nlba)
@@ -232,7 +229,7 @@ module _ (m n : UnplacedSyllable) where
         (rw (length_same s.has_lent g.made (with_all b now).made aside_now.made).0 (taken_same (length g.made - 1) _ _ (placed_same s.has_lent g.made (with_all b now).made aside_now.made)))
 
   -- What a body will still give is the same, but for the syllable that is held.
-  pub left_same : (limits : Limits) (xs : List HeadEvent) (lists : List (List BodyEvent)) (s : HeldScore) (b : Gathered) → IsAside m n s.has_lent s.gathered b
+  pub left_same : (limits : Limits) (xs : List HeadEvent) (lists : List (List BodyEvent)) (s : HeldScore) (b : Gathered) → IsEquivalentAside m n s.has_lent s.gathered b
       → AreSameLists m n (body_left limits s lists xs) (body_left limits (record s { gathered = b }) lists xs)
   left_same limits [] lists s b h = (placed_same s.has_lent s.gathered.made b.made h.made, tt)
   left_same limits (head_event.Found f ∷ xs) lists s b h = ((refl, tt), left_same limits xs lists s b h)
@@ -245,7 +242,7 @@ module _ (m n : UnplacedSyllable) where
       (sym (code_same s.has_lent limits (with_all s.gathered now) (with_all b now) w))
       (by (left_same limits xs lists (score_past s x now) (with_held (with_all b now)) (held_aside s.has_lent (with_all s.gathered now) (with_all b now) w)) (code_in limits (with_all s.gathered now)))
     where
-      w : IsAside m n s.has_lent (with_all s.gathered now) (with_all b now)
+      w : IsEquivalentAside m n s.has_lent (with_all s.gathered now) (with_all b now)
       w = aside_now limits s b now h
 
       past_is : score_past (record s { gathered = b }) x now ≡ record (score_past s x now) { gathered = with_held (with_all b now) }

@@ -1,4 +1,4 @@
--- Two stages over a score that hold and tell the same give the same, but for the syllable that is held.
+-- Two stages over a score that hold and report the same give the same, but for the syllable that is held.
 use Rattle.std.proofs.Common.{◌≡◌, inl, inr, ℕ, ◌≤◌, ◌==◌, ◌||◌, not, nat_lt, List, [], ◌∷◌, length, Bool, false, Option, Some, None, is_some, refl, sym, ap, ◌∙◌, arith}
 use Rattle.std.proofs.lemmas.Str.{encodes_same}
 use Rattle.gabc_places.specs.declared.limits.Limits.{Limits}
@@ -11,13 +11,13 @@ use Rattle.gabc_score.specs.declared.score_machine.ScoreMachine.{ScoreMachine}
 use Rattle.gabc_score.specs.declared.score_machine.ScorePart.{ScorePart}
 use Rattle.gabc_score.specs.declared.score_machine.ScorePart.TheVariants as score_part
 use Rattle.gabc_score.specs.Before.{sounds_in, with_each, preceding_of}
-use Rattle.gabc_score.specs.HeldAside.{MayStandFor, IsSameOutput, AreSameOutputs, AreSameLists, HoldTheSame, GiveTheSame}
+use Rattle.gabc_score.specs.HeldAside.{IsEquivalentSyllable, IsSameOutput, AreSameOutputs, AreSameLists, HoldTheSame, GiveTheSame}
 use Rattle.gabc_score.specs.ScoreEvents.{ScoreOutput, Found, Stop, Syllable, End, characters_in}
-use Rattle.gabc_score.specs.ScoreTells.{before_with, held_in_body, in_body, reading_in_body}
+use Rattle.gabc_score.specs.ScoreReports.{before_with, held_in_body, in_body, reading_in_body}
 use Rattle.gabc_score.specs.Syllable.{UnplacedSyllable}
 use Rattle.gabc_score.specs.machine.BodyBuilder.{with_all}
 use Rattle.gabc_score.specs.machine.Gatherer.{Gathered}
-use Rattle.gabc_score.specs.machine.HeldAside.{ComeAlike, AreMadeAlike, IsAside}
+use Rattle.gabc_score.specs.machine.HeldAside.{AreInputsAlike, AreMadeAlike, IsEquivalentAside}
 use Rattle.gabc_score.specs.machine.PartKeeps.{joined, said_by, begun, PartKeeps, ReadAlike}
 use Rattle.gabc_score.specs.machine.ScoreMachine.{held_score, IsInBody}
 use Rattle.gabc_score.specs.machine.ScoreStage.{body_left}
@@ -54,7 +54,7 @@ lists_are m _ _ h = absurd h
 
 -- ---- what was gathered
 
-come_alike : (x y : Option ItemKind) → is_some x ≡ is_some y → ComeAlike x y
+come_alike : (x y : Option ItemKind) → is_some x ≡ is_some y → AreInputsAlike x y
 come_alike None None e = inl refl
 come_alike (Some k) (Some l) e = inr (refl, refl)
 come_alike _ _ e = absurd (cc)
@@ -62,12 +62,12 @@ come_alike _ _ e = absurd (cc)
 pub same_but : (g h : Gathered) → g.limit ≡ h.limit → ReadAlike g h → g.follows ≡ h.follows → g.total ≡ h.total → g.over ≡ h.over → g.cut ≡ h.cut → h ≡ record g { made = h.made; first_kind = h.first_kind }
 same_but g h limit read follows total over cut = rw (limit, read.builder, read.eu, read.nlba, follows, total, over, cut) refl
 
--- ---- syllables that say the same, behind the same
+-- ---- syllables that say the same, after the same
 
-says_behind : (p : Preceding) (m n : UnplacedSyllable) → MayStandFor (p.syllables == 0) m n → with_each p (m ∷ []) ≡ with_each p (n ∷ [])
+says_behind : (p : Preceding) (m n : UnplacedSyllable) → IsEquivalentSyllable (p.syllables == 0) m n → with_each p (m ∷ []) ≡ with_each p (n ∷ [])
 says_behind p m n s = rw (s.canonical, s.eu, s.nlba, s.sounds) refl
 
--- held syllables, at most one each, that may stand for one another
+-- held syllables, at most one each, that are equivalent
 abbrev pub HeldAlike : Bool → List UnplacedSyllable → List UnplacedSyllable → Type 0
 HeldAlike first ms ns = (length ms ≤ 1) × ((length ns ≤ 1) × HoldTheSame first (held_in_body score_part.Body ms) (held_in_body score_part.Body ns))
 
@@ -78,7 +78,7 @@ each_same p (m ∷ k ∷ ms) ns h = absurd (omega (arith, h.0))
 each_same p (m ∷ []) (n ∷ k ∷ ns) h = absurd (omega (arith, h.1.0))
 each_same p _ _ h = absurd h.1.1
 
--- ---- what is told in the body
+-- ---- what is reported in the body
 
 pub reads_in_body : (p : ScorePart) (kept : List ℕ) → p ≡ score_part.Body → reading_in_body p kept ≡ kept
 reads_in_body p kept e = ap (λ (k : ScorePart). reading_in_body k kept) e
@@ -137,7 +137,7 @@ module _ (again : Again) (a b : ScoreMachine) (ra : IsInBody a) (rb : IsInBody b
     lent_same : a.has_lent ≡ b.has_lent
     lent_same = ra.lent ∙ ap (λ (p : Preceding). nat_lt 0 p.syllables) same_before ∙ sym rb.lent
 
-    aside : (m n : UnplacedSyllable) → AreMadeAlike m n a.has_lent a.pair.gathered.made b.pair.gathered.made → IsAside m n a.has_lent a.pair.gathered b.pair.gathered
+    aside : (m n : UnplacedSyllable) → AreMadeAlike m n a.has_lent a.pair.gathered.made b.pair.gathered.made → IsEquivalentAside m n a.has_lent a.pair.gathered b.pair.gathered
     aside m n made = record {
       comes = come_alike a.pair.gathered.first_kind b.pair.gathered.first_kind sounds_same;
       made = made;
@@ -161,7 +161,7 @@ module _ (again : Again) (a b : ScoreMachine) (ra : IsInBody a) (rb : IsInBody b
         left : (m n : UnplacedSyllable) → AreMadeAlike m n a.has_lent a.pair.gathered.made b.pair.gathered.made → AreSameLists m n (left_of_one xs) (left_of_other xs)
         left m n made = rw (sym same_limits, sym next, sym lent_same, sym events) (left_same m n a.limits xs (running_events_left a.body (characters_in xs)) (held_score a) b.pair.gathered (aside m n made))
 
-        twins : (m n : UnplacedSyllable) → MayStandFor (a.bounds.before.syllables == 0) m n → (not a.has_lent || m.text.word_start) ≡ (not a.has_lent || n.text.word_start)
+        twins : (m n : UnplacedSyllable) → IsEquivalentSyllable (a.bounds.before.syllables == 0) m n → (not a.has_lent || m.text.word_start) ≡ (not a.has_lent || n.text.word_start)
         twins m n s = rw (ap not ra.lent ∙ not_some a.bounds.before.syllables) s.starts
 
         by : (ms ns : List UnplacedSyllable) → a.pair.gathered.made ≡ ms → b.pair.gathered.made ≡ ns → HeldAlike (a.bounds.before.syllables == 0) ms ns

@@ -1,16 +1,16 @@
--- Two stages over a body whose parts keep the same and tell the same emit the same.
+-- Two stages over a body whose parts keep the same and report the same emit the same.
 use Rattle.std.proofs.Common.{◌≡◌, ℕ, nat_lt, List, Bool, true, false, not, ◌&&◌, Option, Some, None, is_some, refl, sym, ap, ◌∙◌}
 use Rattle.std.proofs.lemmas.Bool.{true≢false}
 use Rattle.gabc_places.specs.declared.place.Char.{Char}
 use Rattle.gabc_places.specs.declared.place.Place.{Place}
 use Rattle.gabc_text.specs.Events.{codes_of}
-use Rattle.gabc_text.specs.StageTells as text_tells
+use Rattle.gabc_text.specs.StageReports as text_tells
 use Rattle.gabc_text.specs.witness.StageReports as text_reports
 use Rattle.gabc_text.specs.declared.stage.TextStage.{TextStage}
 use Rattle.gabc_text.specs.declared.text_event.TextEvent.{TextEvent}
 use Rattle.gabc_text.specs.witness.EventsLeft as text_events
 use Rattle.gabc_text.specs.witness.Keeps as text
-use Rattle.gabc_notes.specs.StageTells as note_tells
+use Rattle.gabc_notes.specs.StageReports as note_tells
 use Rattle.gabc_notes.specs.declared.stage.NoteEvent.{NoteEvent}
 use Rattle.gabc_notes.specs.declared.stage.NoteStage.{NoteStage}
 use Rattle.gabc_notes.specs.witness.ItemMachine as note_events
@@ -22,7 +22,7 @@ use Rattle.gabc_score.specs.declared.body_stage.BodyPart.{BodyPart}
 use Rattle.gabc_score.specs.declared.body_stage.BodyPart.TheVariants as part
 use Rattle.gabc_score.specs.declared.body_tells.Openers.{Openers}
 use Rattle.gabc_score.specs.Events.{PartAhead, InText, InNotes, events_from}
-use Rattle.gabc_score.specs.ScoreTells.{StandsAt, is_in_comment, is_in_front, openers_of}
+use Rattle.gabc_score.specs.ScoreReports.{IsAt, is_in_comment, is_in_front, openers_of}
 use Rattle.gabc_score.specs.machine.PartKeeps.{KeptParts, in_text, in_notes, AreBehind, PartKeeps}
 use Rattle.gabc_score.specs.witness.BodyStage.{BodyStageState, part_with, running_events_left, texts_by_stage}
 
@@ -37,8 +37,8 @@ abbrev pub next_in : BodyPart → Option Place
 next_in (part.Text stage) = Some (text_reports.next_of stage)
 next_in part = None
 
--- two parts of bodies tell the same, beside their kept texts
-pub record TellTheSame (a b : BodyPart) : Type 0 where
+-- two parts of bodies report the same, beside their kept texts
+pub record ReportTheSame (a b : BodyPart) : Type 0 where
   pub openers : openers_of a ≡ openers_of b
   pub comment : is_in_comment a ≡ is_in_comment b
   pub front : is_in_front a ≡ is_in_front b
@@ -48,7 +48,7 @@ abbrev same : Bool → Bool → Bool
 same true b = b
 same false b = not b
 
--- one of two tests tells them apart
+-- one of two tests reports them apart
 differ : {A : Type 0} {a b x y : Bool} → a ≡ b → x ≡ y → (same a b && same x y) ≡ false → A
 differ {a = true} {b = true} {x = true} {y = true} e f g = absurd (true≢false g)
 differ {a = true} {b = true} {x = false} {y = false} e f g = absurd (true≢false g)
@@ -63,7 +63,7 @@ some_is p q e = cc e
 two_lines : {A : Type 0} (lines macros line : ℕ) (t : List ℕ) (earlier : List (List ℕ)) → AreBehind lines macros 0 t earlier → AreBehind lines macros line t earlier → (line ≡ 0 → ⊥) → A
 two_lines lines macros line t earlier h g other = absurd (other (sym g.line_is ∙ h.line_is))
 
--- Stages over a part that keep one text and tell the same emit the same.
+-- Stages over a part that keep one text and report the same emit the same.
 pub record StagesAgree : Type 0 where
   pub texts : (s t : TextStage) (k : List ℕ) → text.Keeps s k → text.Keeps t k → text_tells.opener_of s ≡ text_tells.opener_of t → text_tells.is_in_comment s ≡ text_tells.is_in_comment t → text_reports.next_of s ≡ text_reports.next_of t
       → (u : List ℕ) → text_events.events_left s u ≡ text_events.events_left t u
@@ -72,7 +72,7 @@ pub record StagesAgree : Type 0 where
   pub nabc_lines : (s t : NabcStage) (k : List ℕ) → nabc.Keeps s k → nabc.Keeps t k → nabc.comment_of s ≡ nabc.comment_of t → (xs : List Char) → nabc_events.events_left s xs ≡ nabc_events.events_left t xs
 
 -- what is left of the parts is the same
-ahead_agree : StagesAgree → (lines macros : ℕ) (p q : BodyPart) (parts : KeptParts) → PartKeeps lines macros p parts → PartKeeps lines macros q parts → TellTheSame p q → (xs : List Char) → part_with p xs ≡ part_with q xs
+ahead_agree : StagesAgree → (lines macros : ℕ) (p q : BodyPart) (parts : KeptParts) → PartKeeps lines macros p parts → PartKeeps lines macros q parts → ReportTheSame p q → (xs : List Char) → part_with p xs ≡ part_with q xs
 ahead_agree law lines macros part.Comment part.Comment parts h g told xs = refl
 ahead_agree law lines macros (part.Text s) (part.Text t) (in_text k) h g told xs =
     ap (λ (lists : List (List TextEvent)). InText lists) (law.texts s t k h g (ap (λ (o : Openers). o.inner) told.openers) told.comment (some_is _ _ told.next) (codes_of xs))
@@ -90,7 +90,7 @@ ahead_agree law lines macros (part.Notes opened s) _ (in_text k) h g told xs = a
 ahead_agree law lines macros (part.Nabc line opened s) _ (in_text k) h g told xs = absurd h
 ahead_agree law lines macros _ _ _ h g told xs = differ told.front (ap (λ (o : Openers). is_some o.notes) told.openers) refl
 
-pub bodies_agree : StagesAgree → (a b : BodyStageState) → a.nabc_lines ≡ b.nabc_lines → a.macros ≡ b.macros → KeepTheSame a.nabc_lines a.macros a.part b.part → TellTheSame a.part b.part
+pub bodies_agree : StagesAgree → (a b : BodyStageState) → a.nabc_lines ≡ b.nabc_lines → a.macros ≡ b.macros → KeepTheSame a.nabc_lines a.macros a.part b.part → ReportTheSame a.part b.part
     → (xs : List Char) → running_events_left a xs ≡ running_events_left b xs
 bodies_agree law a b same_lines same_macros keep told xs =
     ap (λ (p : PartAhead). events_from texts_by_stage a.nabc_lines a.macros p xs) (ahead_agree law a.nabc_lines a.macros a.part b.part keep.parts keep.one keep.other told xs)
@@ -98,7 +98,7 @@ bodies_agree law a b same_lines same_macros keep told xs =
     ∙ ap (λ (l : ℕ). events_from texts_by_stage b.nabc_lines l (part_with b.part xs) xs) same_macros
 
 -- The place of the next character is the same, where both texts have counted it.
-pub next_is_told : (p q : BodyPart) (at place : Place) → at ≡ place → StandsAt at p → StandsAt place q → openers_of p ≡ openers_of q → is_in_front p ≡ is_in_front q → next_in p ≡ next_in q
+pub next_is_told : (p q : BodyPart) (at place : Place) → at ≡ place → IsAt at p → IsAt place q → openers_of p ≡ openers_of q → is_in_front p ≡ is_in_front q → next_in p ≡ next_in q
 next_is_told (part.Text s) (part.Text t) at place e h g openers front = ap (λ (p : Place). Some p) (h ∙ (e ∙ sym g))
 next_is_told (part.Text s) _ at place e h g openers front = differ front (ap (λ (o : Openers). is_some o.notes) openers) refl
 next_is_told _ (part.Text t) at place e h g openers front = differ front (ap (λ (o : Openers). is_some o.notes) openers) refl

@@ -1,7 +1,7 @@
 -- A part and a machine stay what they are where the next character is said to stand elsewhere.
 use Rattle.std.proofs.Common.{◌≡◌, ℕ, Option, None, refl, sym, ap, subst, ◌∙◌}
 use Rattle.gabc_places.specs.declared.place.Place.{Place}
-use Rattle.gabc_text.specs.StageTells as text_tells
+use Rattle.gabc_text.specs.StageReports as text_tells
 use Rattle.gabc_text.specs.witness.StageReports as text_reports
 use Rattle.gabc_text.specs.declared.stage.TextStage.{TextStage}
 use Rattle.gabc_score.specs.declared.body_stage.BodyPart.{BodyPart}
@@ -10,7 +10,7 @@ use Rattle.gabc_score.specs.declared.body_tells.Openers.{Openers}
 use Rattle.gabc_score.specs.declared.score_machine.ScoreMachine.{ScoreMachine}
 use Rattle.gabc_score.specs.declared.score_machine.ScorePart.{ScorePart}
 use Rattle.gabc_score.specs.declared.score_machine.ScorePart.TheVariants as score_part
-use Rattle.gabc_score.specs.ScoreTells.{StandsAt, is_in_comment, is_in_front, moved_part, openers_of}
+use Rattle.gabc_score.specs.ScoreReports.{IsAt, is_in_comment, is_in_front, moved_part, openers_of}
 use Rattle.gabc_score.specs.machine.BodyBuilder.{with_all}
 use Rattle.gabc_score.specs.machine.PartCounts.{CountsHold}
 use Rattle.gabc_score.specs.machine.PartKeeps.{KeptParts, PartKeeps, ReadAlike, begun, said_by}
@@ -40,7 +40,7 @@ pub place_moved : (at outer inner : Place) (b : BodyPart) → place_in outer inn
 place_moved at outer inner part.Comment = refl
 place_moved at outer inner _ = refl
 
-pub stands_moved : (at : Place) (b : BodyPart) → StandsAt at (moved_part at b)
+pub stands_moved : (at : Place) (b : BodyPart) → IsAt at (moved_part at b)
 stands_moved at (part.Text s) = refl
 stands_moved at _ = tt
 

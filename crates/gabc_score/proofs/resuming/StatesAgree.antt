@@ -7,15 +7,15 @@ use Rattle.gabc_score.specs.declared.body_stage.BodyPart.{BodyPart}
 use Rattle.gabc_score.specs.declared.score_machine.ScoreMachine.{ScoreMachine}
 use Rattle.gabc_score.specs.HeldAside.{GiveTheSame, HoldTheSame}
 use Rattle.gabc_score.specs.ScoreEvents.{ScoreOutput, characters_in}
-use Rattle.gabc_score.specs.ScoreStage.{StandInLine}
-use Rattle.gabc_score.specs.ScoreTells.{before_of, before_with, held_of, is_in_comment, is_in_front}
-use Rattle.gabc_score.specs.StandAlike.{StandAlike}
+use Rattle.gabc_score.specs.ScoreStage.{AreInLine}
+use Rattle.gabc_score.specs.ScoreReports.{before_of, before_with, held_of, is_in_comment, is_in_front}
+use Rattle.gabc_score.specs.AreEquivalent.{AreEquivalent}
 use Rattle.gabc_score.specs.Syllable.{UnplacedSyllable}
 use Rattle.gabc_score.specs.machine.ScoreMachine.{shown}
 use Rattle.gabc_score.specs.machine.StageLaws.{Again}
 use Rattle.gabc_score.specs.machine.SyllableBuilder.{OpenSyllable}
 use Rattle.gabc_score.specs.witness.BodyStage.{running_events_left}
-use Rattle.gabc_score.specs.witness.MayStand.{MayStand}
+use Rattle.gabc_score.specs.witness.IsReachable.{IsReachable}
 use Rattle.gabc_score.specs.witness.ScoreStage.{ScoreStageState, left_of}
 use Rattle.gabc_score.proofs.resuming.BeginsAnywhere.{front_is, front_reads}
 use Rattle.gabc_score.proofs.resuming.FrontsAgree.{CommentsCountForNothing, fronts_emit}
@@ -37,7 +37,7 @@ give_back first _ None lists others e h given = absurd h
 give_back first _ (Some n) lists others e h given = absurd (cc e)
 
 -- the other way round, but for what is held
-turned : (one other : ScoreStageState) → held_of other ≡ None → StandAlike one other → StandAlike other one
+turned : (one other : ScoreStageState) → held_of other ≡ None → AreEquivalent one other → AreEquivalent other one
 turned one other none alike = record {
   runs = ap is_some (sym alike.before) ∙ alike.runs;
   limits = sym alike.limits;
@@ -54,7 +54,7 @@ turned one other none alike = record {
 -- ---- two machines
 
 module _ (again : Again) where
-  module _ (a b : ScoreMachine) (ra : IsRunning a) (rb : IsRunning b) (alike : StandAlike (shown a) (shown b)) where
+  module _ (a b : ScoreMachine) (ra : IsRunning a) (rb : IsRunning b) (alike : AreEquivalent (shown a) (shown b)) where
     before : before_with a.body a.bounds.before ≡ before_with b.body b.bounds.before
     before = before_is_told a.part b.part (before_with a.body a.bounds.before) (before_with b.body b.bounds.before) ra.part rb.part alike.before
 
@@ -73,12 +73,12 @@ module _ (again : Again) where
 
     module _ (front : is_in_front a.body.part ≡ true) (comment : is_in_comment b.body.part ≡ true) (law : CommentsCountForNothing) where
       -- the one stands in front of the first text
-      pub fronts_give : (xs : List HeadEvent) → StandInLine a.next xs → GiveTheSame (held_of (shown a)) (held_of (shown b)) (left_of (shown a) xs) (left_of (shown b) xs)
+      pub fronts_give : (xs : List HeadEvent) → AreInLine a.next xs → GiveTheSame (held_of (shown a)) (held_of (shown b)) (left_of (shown a) xs) (left_of (shown b) xs)
       fronts_give xs line =
           given_alike xs
           (fronts_emit law a.body b.body (ap (λ (k : Before). k.nabc_lines) before) (ap (λ (k : Before). k.macros) before) front
           (nothing_kept b.body.nabc_lines b.body.macros b.body.part b.bounds.behind.spans b.pair.gathered rb.body.reading (sym reading ∙ nothing))
-          comment b.next xs alike.other_stands (subst (λ (p : Place). StandInLine p xs) alike.next line))
+          comment b.next xs alike.other_stands (subst (λ (p : Place). AreInLine p xs) alike.next line))
         where
           nothing : a.pair.gathered.builder.kept ≡ []
           nothing = ap (λ (o : OpenSyllable). o.kept) (front_reads a.body.part a.pair.gathered.builder front ra.body.counts)
@@ -99,26 +99,26 @@ module _ (again : Again) where
   Agree one other = (xs : List HeadEvent) → GiveTheSame (held_of one) (held_of other) (left_of one xs) (left_of other xs)
 
   abbrev pub AgreeInLine : ScoreStageState → ScoreStageState → Type 0
-  AgreeInLine one other = (xs : List HeadEvent) → StandInLine one.held.next xs → GiveTheSame (held_of one) (held_of other) (left_of one xs) (left_of other xs)
+  AgreeInLine one other = (xs : List HeadEvent) → AreInLine one.held.next xs → GiveTheSame (held_of one) (held_of other) (left_of one xs) (left_of other xs)
 
-  pub states_agree : StagesAgree → (one other : ScoreStageState) → MayStand one → MayStand other → StandAlike one other → is_in_front one.body.part ≡ is_in_front other.body.part → Agree one other
+  pub states_agree : StagesAgree → (one other : ScoreStageState) → IsReachable one → IsReachable other → AreEquivalent one other → is_in_front one.body.part ≡ is_in_front other.body.part → Agree one other
   states_agree law one other h g alike =
-      both_in_body (λ (s t : ScoreStageState). StandAlike s t → is_in_front s.body.part ≡ is_in_front t.body.part → Agree s t)
+      both_in_body (λ (s t : ScoreStageState). AreEquivalent s t → is_in_front s.body.part ≡ is_in_front t.body.part → Agree s t)
       (λ a b ra rb like front. machines_give a b ra rb like law front)
       one other h g alike.runs (ap is_some (sym alike.before) ∙ alike.runs) alike
 
   module _ (law : CommentsCountForNothing)
-      (agree : (one other : ScoreStageState) → MayStand one → MayStand other → StandAlike one other → is_in_front one.body.part ≡ is_in_front other.body.part → Agree one other) where
+      (agree : (one other : ScoreStageState) → IsReachable one → IsReachable other → AreEquivalent one other → is_in_front one.body.part ≡ is_in_front other.body.part → Agree one other) where
     in_comment : (p : BodyPart) → is_in_front p ≡ true → is_in_comment p ≡ true
     in_comment p front = ap is_in_comment (front_is p front)
 
-    front_gives : (one other : ScoreStageState) → MayStand one → MayStand other → StandAlike one other → is_in_front one.body.part ≡ true → AgreeInLine one other
+    front_gives : (one other : ScoreStageState) → IsReachable one → IsReachable other → AreEquivalent one other → is_in_front one.body.part ≡ true → AgreeInLine one other
     front_gives one other h g alike =
-        both_in_body (λ (s t : ScoreStageState). StandAlike s t → is_in_front s.body.part ≡ true → AgreeInLine s t)
+        both_in_body (λ (s t : ScoreStageState). AreEquivalent s t → is_in_front s.body.part ≡ true → AgreeInLine s t)
         (λ a b ra rb like front. fronts_give a b ra rb like front (sym like.comment ∙ in_comment a.body.part front) law)
         one other h g alike.runs (ap is_some (sym alike.before) ∙ alike.runs) alike
 
-    pub states_agree_in_line : (none_held : (s : ScoreStageState) → MayStand s → is_some (before_of s) ≡ true → is_in_front s.body.part ≡ true → held_of s ≡ None) → (one other : ScoreStageState) → MayStand one → MayStand other → StandAlike one other → AgreeInLine one other
+    pub states_agree_in_line : (none_held : (s : ScoreStageState) → IsReachable s → is_some (before_of s) ≡ true → is_in_front s.body.part ≡ true → held_of s ≡ None) → (one other : ScoreStageState) → IsReachable one → IsReachable other → AreEquivalent one other → AgreeInLine one other
     states_agree_in_line none_held one other h g alike = by (is_in_front one.body.part) (is_in_front other.body.part) refl refl
       where
         by : (x y : Bool) → is_in_front one.body.part ≡ x → is_in_front other.body.part ≡ y → AgreeInLine one other
@@ -128,4 +128,4 @@ module _ (again : Again) where
         by false true e f = λ xs line.
             let none = none_held other g (ap is_some (sym alike.before) ∙ alike.runs) f in
             give_back (one.before.syllables == 0) (held_of one) (held_of other) (left_of one xs) (left_of other xs) none alike.held
-            (front_gives other one g h (turned one other none alike) f xs (subst (λ (p : Place). StandInLine p xs) alike.next line))
+            (front_gives other one g h (turned one other none alike) f xs (subst (λ (p : Place). AreInLine p xs) alike.next line))

@@ -1,5 +1,5 @@
 -- A machine that reads the last syllable of a run by itself holds it then.
-use Rattle.std.proofs.Common.{◌≡◌, ℕ, nat_lt, Bool, true, false, List, [], length, take, refl, sym, ap, subst, ◌∙◌, arith}
+use Rattle.std.proofs.Common.{◌≡◌, ℕ, nat_lt, Bool, true, List, [], length, take, refl, sym, ap, subst, ◌∙◌, arith}
 use Rattle.std.proofs.lemmas.Bool.{true≢false}
 use Rattle.std.proofs.lemmas.Bool.Decides.{nat_tests}
 use Rattle.std.proofs.lemmas.List.Elements.{All-nil}
@@ -16,7 +16,7 @@ use Rattle.gabc_score.specs.declared.events.BodyEvent.{BodyEvent}
 use Rattle.gabc_score.specs.declared.run.Found.{Found}
 use Rattle.gabc_score.specs.declared.score_machine.ScoreMachine.{ScoreMachine}
 use Rattle.gabc_score.specs.declared.score_machine.ScorePart.{ScorePart}
-use Rattle.gabc_score.specs.ScoreTells.{is_in_front}
+use Rattle.gabc_score.specs.ScoreReports.{is_in_front}
 use Rattle.gabc_score.specs.Syllable.{PlacedSyllable}
 use Rattle.gabc_score.specs.witness.BodyStage.{BodyStageState, running_events_left}
 use Rattle.gabc_score.specs.machine.Between.{lists_between, with_one as gathered_with}
@@ -26,7 +26,7 @@ use Rattle.gabc_score.specs.machine.PartCounts.{CountsHold}
 use Rattle.gabc_score.specs.machine.PartKeeps.{in_text, PartKeeps}
 use Rattle.gabc_score.specs.machine.PartOnly.{HasText, HoldsTexts}
 use Rattle.gabc_score.specs.machine.ReadAlone.{is_alone, lists_from, HasRead}
-use Rattle.gabc_score.specs.machine.Run.{IsFound, RunsBefore, StandsBetween}
+use Rattle.gabc_score.specs.machine.Run.{GoesBefore, IsFound, RunsBefore, StandsBetween}
 use Rattle.gabc_score.specs.machine.ScoreMachine.{IsInBody, IsScoreAt}
 use Rattle.gabc_score.specs.machine.SlotPair.{is_made}
 use Rattle.gabc_score.specs.machine.SyllableBuilder.{OpenSyllable, nothing_open}
@@ -37,21 +37,12 @@ use Rattle.gabc_score.proofs.runs.RunEnds.{EndsWith, before_last}
 use Rattle.gabc_score.proofs.runs.RunGives.{HoldsLast}
 use Rattle.gabc_score.proofs.score_events.TextsArePlain.{nothing_plain}
 
--- The machine goes on before a syllable of a run, where none is held.
-pub record GoesBefore (m : ScoreMachine) (p : Preceding) (at : Place) (on : ScoreMachine) : Type 0 where
-  pub gathered : on.pair.gathered ≡ before_last m p
-  pub used : is_made on.pair.used ≡ false
-  pub body : on.body ≡ record m.body { part = Text (fresh_stage at) }
-  pub counts : CountsHold on.body.part nothing_open
-  pub keeps : (lines macros : ℕ) → PartKeeps lines macros on.body.part (in_text [])
-  pub is : on ≡ record m { pair = on.pair; has_lent = true; bounds = record { before = p; behind = p }; body = on.body; next = at }
-
 module _ (m : ScoreMachine) (at : Place) (t : List ℕ) (given : List PlacedSyllable) (starts : Bool) (p : Preceding) (next : Place) (runs : RunsBefore m at t given starts p next)
     (stands : StandsBetween m at) (f : Found) (on : ScoreMachine) (goes : GoesBefore m p next on) where
   -- it rests there
   pub rests_there : IsInBody on
   rests_there = subst IsInBody (sym goes.is)
-      (rests_next m stands.rests p runs.some runs.sounded stands.between.nothing stands.between.follows on.pair on.body next next goes.gathered goes.used goes.body goes.counts goes.keeps)
+      (rests_next m stands.rests p runs.some runs.sounded stands.between.nothing stands.between.follows on.pair on.body next next goes.gathered (ap is_made goes.used) goes.body goes.counts goes.keeps)
 
   limits_there : on.limits ≡ m.limits
   limits_there = ap (λ (n : ScoreMachine). n.limits) goes.is

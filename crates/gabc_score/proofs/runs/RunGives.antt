@@ -19,9 +19,9 @@ use Rattle.gabc_score.specs.Before.{with_one, with_placed}
 use Rattle.gabc_score.specs.Events.{events_from}
 use Rattle.gabc_score.specs.GivesSyllables.{GivesSyllables, next_after, text_inputs}
 use Rattle.gabc_score.specs.ScoreEvents.{ScoreOutput, characters_in}
-use Rattle.gabc_score.specs.ScoreTells.{StandsAt, held_in_body, openers_of}
+use Rattle.gabc_score.specs.ScoreReports.{IsAt, held_in_body, openers_of}
 use Rattle.gabc_score.specs.Syllable.{UnplacedSyllable, PlacedSyllable}
-use Rattle.gabc_score.specs.ToldWithin.{AreOpenersBefore, HoldsIfAny, IsPlace, TellsOfText, whole_syllables}
+use Rattle.gabc_score.specs.ReportedWithin.{AreOpenersBefore, HoldsIfAny, IsPlace, ReportsText, whole_syllables}
 use Rattle.gabc_score.specs.witness.BodyStage.{part_with, texts_by_stage}
 use Rattle.gabc_score.specs.witness.ScoreStage.{ScoreStageState, left_of}
 use Rattle.gabc_score.specs.machine.Between.{left_between, with_one as gathered_with}
@@ -143,7 +143,7 @@ module _ (m : ScoreMachine) (at : Place) (t : List ℕ) (given : List PlacedSyll
         in_64_bits = omega (arith, k, few, e, column);
       }
 
-  told_is : at ≡ m.next → TellsOfText before → TellsOfText (shown after)
+  told_is : at ≡ m.next → ReportsText before → ReportsText (shown after)
   unfolding fresh_events.events_left
   told_is here told body =
       let was = told stands.part in
@@ -164,8 +164,8 @@ module _ (m : ScoreMachine) (at : Place) (t : List ℕ) (given : List PlacedSyll
   holds_is : HoldsIfAny (shown after)
   holds_is body none = absurd (cc (sym (ap (λ (q : ScorePart). held_in_body q after.pair.gathered.made) held.part ∙ ap (λ (g : Gathered). held_in_body score_part.Body g.made) held.gathered) ∙ none))
 
-  stands_there : (q : Place) → q ≡ past → StandsAt q after.body.part
-  stands_there q e = subst (StandsAt q) (sym held.begins) (sym e)
+  stands_there : (q : Place) → q ≡ past → IsAt q after.body.part
+  stands_there q e = subst (IsAt q) (sym held.begins) (sym e)
 
   -- what was given, and how it goes on
   pub run_gives : GivesSyllables before at text given (shown after)

@@ -26,19 +26,19 @@ use Rattle.gabc_score.specs.machine.PartCounts.{CountsHold}
 use Rattle.gabc_score.specs.machine.PartKeeps.{in_text, PartKeeps}
 use Rattle.gabc_score.specs.machine.PartOnly.{HoldsTexts}
 use Rattle.gabc_score.specs.machine.ReadAlone.{is_alone, lists_from, HasRead}
-use Rattle.gabc_score.specs.machine.Run.{IsFound, IsSamePair, IsSteady, StandsBetween, RunsBefore, RunsTo}
+use Rattle.gabc_score.specs.machine.Run.{GoesBefore, IsFound, IsSamePair, IsSteady, StandsBetween, RunsBefore, RunsTo}
 use Rattle.gabc_score.specs.machine.ScoreMachine.{shown, IsInBody, IsScoreAt}
 use Rattle.gabc_score.specs.machine.SlotPair.{SlotPairState, is_made}
 use Rattle.gabc_score.specs.machine.SyllableBuilder.{nothing_open}
 use Rattle.gabc_score.proofs.runs.FoundSyllable.{plain_is, utf8_is}
-use Rattle.gabc_score.proofs.runs.LastIsHeld.{GoesBefore, rests_there, is_alone_there, rests_then, holds_then}
+use Rattle.gabc_score.proofs.runs.LastIsHeld.{rests_there, is_alone_there, rests_then, holds_then}
 use Rattle.gabc_score.proofs.runs.RunBegins.{held_of, run_begins}
 use Rattle.gabc_score.proofs.runs.RunEnds.{EndsWith, run_ends}
 use Rattle.gabc_score.proofs.runs.RunGives.{run_gives}
 use Rattle.gabc_score.proofs.runs.RunGoesOn.{MakeSyllables, low_there}
 use Rattle.gabc_score.proofs.runs.SameStands.{moved_stands}
 
--- ---- what is lent does not count
+-- ---- what is borrowed does not count
 
 -- at no characters nothing is given
 pub gives_none : (s : ScoreStageState) (at : Place) (first second : PlacedSyllable) → GivesSyllables s at [] [] (record s { first = first; second = second })
@@ -103,8 +103,8 @@ module _ (m : ScoreMachine) (at : Place) (text : List ℕ) (first : Found) (stan
       }
 
   -- a run has given the syllable that was held, and has reached the first one that was found
-  pub run_to_first : (new : ScoreMachine) → IsSamePair m new → is_made new.pair.used ≡ false → RunsTo new at text given_first reached_first
-  run_to_first new same used = subst (λ (n : ScoreMachine). RunsTo n at text given_first reached_first) (sym same.is) (run_from new.pair same.gathered used)
+  pub run_to_first : (new : ScoreMachine) → IsSamePair m new → RunsTo new at text given_first reached_first
+  run_to_first new same = subst (λ (n : ScoreMachine). RunsTo n at text given_first reached_first) (sym same.is) (run_from new.pair same.gathered (ap is_made same.used))
 
 -- ---- the text of a run
 

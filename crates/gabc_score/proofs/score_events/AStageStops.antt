@@ -1,4 +1,4 @@
--- Behind a stop or the end a stage gives nothing.
+-- After a stop or the end a stage gives nothing.
 use Rattle.std.proofs.Common.{◌≡◌, true, List, [], ◌∷◌, ◌++◌, map, Option, Some, None, refl, sym, ap, subst, ◌∙◌}
 use Rattle.std.proofs.lemmas.List.{append_cancel_left}
 use Rattle.gabc_places.specs.BoundedList.{BoundedList, extended_by}
@@ -12,8 +12,8 @@ use Rattle.gabc_places.specs.declared.place.Char.{Char}
 use Rattle.gabc_headers.specs.declared.head_event.HeadEvent.{HeadEvent}
 use Rattle.gabc_headers.specs.declared.head_event.HeadEvent.TheVariants as head_event
 use Rattle.gabc_score.specs.declared.events.BodyEvent.{BodyEvent}
-use Rattle.gabc_score.specs.declared.score_event.LentSyllable.{LentSyllable}
-use Rattle.gabc_score.specs.declared.score_event.LentSyllable.TheVariants.{First, Second}
+use Rattle.gabc_score.specs.declared.score_event.BorrowedSyllable.{BorrowedSyllable}
+use Rattle.gabc_score.specs.declared.score_event.BorrowedSyllable.TheVariants.{First, Second}
 use Rattle.gabc_score.specs.declared.score_event.ScoreEvent.{ScoreEvent}
 use Rattle.gabc_score.specs.declared.score_machine.ScoreMachine.{ScoreMachine}
 use Rattle.gabc_score.specs.declared.score_machine.ScorePart.{ScorePart}
@@ -23,7 +23,7 @@ use Rattle.gabc_score.specs.witness.BodyStage.{BodyStageState, running_events_le
 use Rattle.gabc_score.specs.Events.{InComment, events_from}
 use Rattle.gabc_score.specs.NoteBeforeClef.{found_first}
 use Rattle.gabc_score.specs.ScoreEvents.{ScoreOutput, Found, Stop, Syllable, End, findings_now, characters_in}
-use Rattle.gabc_score.specs.ScoreStage.{events_lent, events_of, is_last_event}
+use Rattle.gabc_score.specs.ScoreStage.{events_borrowed, events_of, is_last_event}
 use Rattle.gabc_score.specs.witness.ScoreStage.{left_of}
 use Rattle.gabc_score.specs.machine.BodyBuilder.{with_all, code_in, end_fault}
 use Rattle.gabc_score.specs.machine.Gatherer.{with_last}
@@ -70,20 +70,20 @@ machine_ends m xs = left_ends m.limits m.part (record { next = m.next; gathered 
 
 -- ---- the same of events
 
-last_event : (l : LentSyllable) (outputs later : List ScoreOutput) (before behind : List ScoreEvent) (e : ScoreEvent) → Ends (outputs ++ later) → events_lent l outputs ≡ before ++ e ∷ behind → is_last_event e ≡ true
+last_event : (l : BorrowedSyllable) (outputs later : List ScoreOutput) (before behind : List ScoreEvent) (e : ScoreEvent) → Ends (outputs ++ later) → events_borrowed l outputs ≡ before ++ e ∷ behind → is_last_event e ≡ true
     → (behind ≡ []) × (later ≡ [])
 last_event l [] later [] behind e h k t = absurd (cc)
 last_event l [] later (p ∷ before) behind e h k t = absurd (cc)
 last_event l (Found f ∷ outputs) later [] behind e h k t = absurd (cc)
-last_event l (Found f ∷ outputs) later (p ∷ before) behind e h k t = let r : events_lent l outputs ≡ before ++ e ∷ behind = cc in last_event l outputs later before behind e h.1 r t
+last_event l (Found f ∷ outputs) later (p ∷ before) behind e h k t = let r : events_borrowed l outputs ≡ before ++ e ∷ behind = cc in last_event l outputs later before behind e h.1 r t
 last_event l (Syllable s ∷ outputs) later [] behind e h k t = absurd (cc)
-last_event l (Syllable s ∷ outputs) later (p ∷ before) behind e h k t = let r : events_lent Second outputs ≡ before ++ e ∷ behind = cc in last_event Second outputs later before behind e h.1 r t
+last_event l (Syllable s ∷ outputs) later (p ∷ before) behind e h k t = let r : events_borrowed Second outputs ≡ before ++ e ∷ behind = cc in last_event Second outputs later before behind e h.1 r t
 last_event l (Stop fault ∷ outputs) later [] behind e h k t =
-    let n = both_empty outputs later (h.0 refl) in let r : events_lent l outputs ≡ behind = cc in (sym r ∙ ap (events_lent l) n.0, n.1)
-last_event l (Stop fault ∷ outputs) later (p ∷ before) behind e h k t = let r : events_lent l outputs ≡ before ++ e ∷ behind = cc in last_event l outputs later before behind e h.1 r t
+    let n = both_empty outputs later (h.0 refl) in let r : events_borrowed l outputs ≡ behind = cc in (sym r ∙ ap (events_borrowed l) n.0, n.1)
+last_event l (Stop fault ∷ outputs) later (p ∷ before) behind e h k t = let r : events_borrowed l outputs ≡ before ++ e ∷ behind = cc in last_event l outputs later before behind e h.1 r t
 last_event l (End ∷ outputs) later [] behind e h k t =
-    let n = both_empty outputs later (h.0 refl) in let r : events_lent l outputs ≡ behind = cc in (sym r ∙ ap (events_lent l) n.0, n.1)
-last_event l (End ∷ outputs) later (p ∷ before) behind e h k t = let r : events_lent l outputs ≡ before ++ e ∷ behind = cc in last_event l outputs later before behind e h.1 r t
+    let n = both_empty outputs later (h.0 refl) in let r : events_borrowed l outputs ≡ behind = cc in (sym r ∙ ap (events_borrowed l) n.0, n.1)
+last_event l (End ∷ outputs) later (p ∷ before) behind e h k t = let r : events_borrowed l outputs ≡ before ++ e ∷ behind = cc in last_event l outputs later before behind e h.1 r t
 
 -- no outputs are no events
 pub no_events : (lists : List (List ScoreOutput)) → concat_of lists ≡ [] → concat_of (map (λ outputs. events_of outputs) lists) ≡ []
@@ -107,6 +107,6 @@ stops_last m outputs after old new law e none before behind o h t =
     let events = added old new (events_of outputs) (before ++ o ∷ behind) e h in
     ((last_event First outputs [] before behind o (subst (λ lists. Ends (concat_of lists)) law (machine_ends m [])) events t).0, none)
 
--- behind its last event a machine gives nothing
+-- after its last event a machine gives nothing
 pub over_is_silent : (m : ScoreMachine) → m.part ≡ score_part.Over → EmitsNothing (λ (xs : List HeadEvent). map (λ outputs. events_of outputs) (left_of (shown m) xs))
 over_is_silent m e xs = no_events (left_of (shown m) xs) (ap (λ part. concat_of (outputs_left m.limits part (shown m).held m.body xs)) e ∙ joined_silence xs)

@@ -1,4 +1,4 @@
--- What is emitted behind the headers says what the body says.
+-- What is emitted after the headers says what the body says.
 use Rattle.std.proofs.Common.{◌≡◌, ℕ, ◌+◌, Bool, true, false, cond, List, [], ◌∷◌, ◌++◌, map, length, Option, Some, None, refl, sym, ap, ◌∙◌, arith, append_assoc, append-nil}
 use Rattle.gabc_places.specs.StageLaw.{concat_of, silence}
 use Rattle.gabc_places.proofs.PushesAreOne.{joined_silence}
@@ -23,7 +23,7 @@ use Rattle.gabc_score.proofs.building.EventsOfOnePoint.{found_on, made_after}
 use Rattle.gabc_score.proofs.score_events.GivenSyllables.{given_then}
 use Rattle.gabc_score.proofs.score_events.WhatOutputsSay.{said_by, said_before, said_of}
 
--- The outputs say what a result does behind what was found, and behind the syllables that were given before.
+-- The outputs say what a result does after what was found, and after the syllables that were given before.
 pub record Says (found : List Finding) (before : List UnplacedSyllable) (ending : InputEnding) (outputs : List ScoreOutput) (w : BodyResult) : Type 0 where
   pub later : List UnplacedSyllable
   pub syllables : w.syllables ≡ with_positions (before ++ later)
@@ -31,10 +31,16 @@ pub record Says (found : List Finding) (before : List UnplacedSyllable) (ending 
   pub all_findings : w.findings ≡ found ++ findings
   pub result_is : said_by outputs ≡ record { findings = findings; syllables = not_given (length before) (before ++ later); fault = w.fault; ended = is_whole ending w.fault }
 
--- the place behind these characters
+-- the place after these characters
 abbrev pub end_place : Place → List Char → Place
 end_place at [] = at
 end_place at (x ∷ xs) = end_place (next_place x.place x.c) xs
+
+-- a run that stops is not whole
+pub no_end : (ending : InputEnding) (fault : Fault) → is_whole ending (Some fault) ≡ false
+no_end Whole fault = refl
+no_end Broken fault = refl
+no_end (At other) fault = refl
 
 module _ (limits : Limits) (head : ℕ) (found : List Finding) where
   -- ---- the stop
@@ -42,11 +48,6 @@ module _ (limits : Limits) (head : ℕ) (found : List Finding) where
   said_stop : (before : List BodyEvent) (fault : Fault) (silent : List ScoreOutput) → silent ≡ []
       → said_by (outputs_at_stop before fault ++ silent) ≡ record { findings = []; syllables = not_given (count_made before) (all_syllables before); fault = Some fault; ended = false }
   said_stop before fault silent e = ap (λ outputs. said_by (outputs_at_stop before fault ++ outputs)) e ∙ ap said_by (append-nil (outputs_at_stop before fault)) ∙ said_of [] (not_given (count_made before) (all_syllables before)) (Stop fault ∷ []) ∙ ap (λ ss. record { findings = []; syllables = ss; fault = Some fault; ended = false }) (append-nil (not_given (count_made before) (all_syllables before)))
-
-  no_end : (ending : InputEnding) (fault : Fault) → is_whole ending (Some fault) ≡ false
-  no_end Whole fault = refl
-  no_end Broken fault = refl
-  no_end (At other) fault = refl
 
   stop_says : (ending : InputEnding) (before : List BodyEvent) (fault : Fault) (silent : List ScoreOutput) → silent ≡ []
       → Says (found ++ findings_of before) (all_syllables before) ending (outputs_at_stop before fault ++ silent) (result_stopped found before (Some fault))

@@ -1,4 +1,4 @@
--- The counts that a machine tells stay within the limits, past a point.
+-- The counts that a machine reports stay within the limits, past a point.
 use Rattle.std.proofs.Common.{◌≡◌, ◌⊎◌, inl, inr, ℕ, zero, suc, ◌++◌, None, ◌-◌, ◌≤◌, ◌<◌, ◌^◌, Bool, true, false, List, [], ◌∷◌, take, drop, map, length, refl, sym, ap, subst, ◌∙◌, arith}
 use Rattle.std.proofs.lemmas.Bool.{true≢false}
 use Rattle.std.specs.List.{All}
@@ -12,7 +12,7 @@ use Rattle.gabc_score.specs.declared.before.Preceding.{Preceding}
 use Rattle.gabc_score.specs.declared.body_stage.BodyPart.TheVariants as part
 use Rattle.gabc_score.specs.declared.events.BodyEvent.{BodyEvent}
 use Rattle.gabc_score.specs.declared.score_machine.ScorePart.TheVariants as score_part
-use Rattle.gabc_score.specs.ScoreTells.{held_in_body}
+use Rattle.gabc_score.specs.ScoreReports.{held_in_body}
 use Rattle.gabc_score.specs.declared.bounds.Bounds.{Bounds}
 use Rattle.gabc_score.specs.Before.{with_one, with_each, with_placed}
 use Rattle.gabc_score.specs.Body.{is_none}
@@ -20,7 +20,7 @@ use Rattle.gabc_score.specs.Syllable.{UnplacedSyllable, PlacedSyllable}
 use Rattle.gabc_score.specs.ScoreEvents.{first_place}
 use Rattle.gabc_score.specs.ScoreStage.{MayCome}
 use Rattle.gabc_places.specs.TextOfAnInput.{IsText}
-use Rattle.gabc_score.specs.ToldWithin.{IsPlace, AreCountsWithin, IsToldOfText}
+use Rattle.gabc_score.specs.ReportedWithin.{IsPlace, AreCountsWithin, IsReportOfText}
 use Rattle.gabc_score.specs.witness.BodyStage.{BodyStageState}
 use Rattle.gabc_score.specs.witness.ScoreStage.{ScoreStageState}
 use Rattle.gabc_score.proofs.score_events.TextsArePlain.{nothing_plain}
@@ -52,7 +52,7 @@ held_some g e = by g.made e
     by [] e = refl
     by (m ∷ ms) e = absurd (true≢false (sym e ∙ short (length (m ∷ ms) - 1) m ms (omega arith)))
 
--- what stands before what is held is below the limit of the input, as what stands behind it is
+-- what stands before what is held is below the limit of the input, as what stands after it is
 pub counts_past : (limits : Limits) (lines macros : ℕ) (before behind : Preceding) (has_lent : Bool) (h turned : Gathered) → behind ≡ with_placed before (take (length h.made - 1) (placed_behind has_lent h.made)) → turned ≡ with_held h
     → IsPreceded behind turned → HoldsWithin limits behind turned → AreCountsWithin limits lines macros before.canonical → AreCountsWithin limits lines macros behind.canonical
 counts_past limits lines macros before behind has_lent h turned there turns preceded within c = record {
@@ -101,10 +101,10 @@ none_past before behind has_lent g h turned now last there turns is was none =
     old (inl same) e = sym same ∙ e
     old (inr c) e = absurd (some g.made c.m (sym c.made ∙ e))
 
--- behind the headers the counts are those that they give
+-- after the headers the counts are those that they give
 pub begins_of_text : (limits : Limits) (next : Place) (input : HeadEvent) (lines macros canonical : ℕ) (body : BodyStageState) (bounds : Bounds) → input ≡ head_event.Heads lines macros canonical
     → body ≡ record { nabc_lines = lines; macros = macros; part = part.Comment; over = false; events = [] } → bounds ≡ behind_headers canonical → MayCome limits next input
-    → (s : ScoreStageState) → s.limits ≡ limits → s.body ≡ body → s.before ≡ bounds.before → s.held.next ≡ first_place → s.held.gathered.builder.kept ≡ [] → s.held.gathered.made ≡ [] → IsToldOfText s
+    → (s : ScoreStageState) → s.limits ≡ limits → s.body ≡ body → s.before ≡ bounds.before → s.held.next ≡ first_place → s.held.gathered.builder.kept ≡ [] → s.held.gathered.made ≡ [] → IsReportOfText s
 begins_of_text limits next input lines macros canonical body bounds is at begun may s l b p n none empty =
     let counts : AreCountsWithin limits lines macros canonical = subst (MayCome limits next) is may in
     record {

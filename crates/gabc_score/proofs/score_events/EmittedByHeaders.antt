@@ -1,6 +1,6 @@
 -- What a score is given of a text is what a stage of headers gives of it.
 use Rattle.std.proofs.Common.{◌≡◌, ℕ, zero, suc, ◌+◌, Bool, true, false, List, [], ◌∷◌, ◌++◌, map, take, drop, Result, Ok, Err, refl, sym, ap, ◌∙◌, append_assoc, append-nil}
-use Rattle.gabc_places.specs.Place.{placed_characters_behind}
+use Rattle.gabc_places.specs.Place.{placed_characters_after}
 use Rattle.gabc_places.specs.declared.limits.Limits.{Limits}
 use Rattle.gabc_places.specs.declared.place.Char.{Char}
 use Rattle.gabc_headers.specs.declared.heads.Heads.{Heads}
@@ -8,18 +8,18 @@ use Rattle.gabc_headers.specs.declared.heads.HeadFault.{HeadFault}
 use Rattle.gabc_headers.specs.declared.head_event.HeadEvent.TheVariants as head_event
 use Rattle.gabc_headers.specs.Heads.{heads_of, head_len}
 use Rattle.gabc_headers.specs.declared.head_event.HeadEvent.{HeadEvent}
-use Rattle.gabc_headers.specs.HeadEvents.{event_of_book, events_of_heads, events_of_broken, events_of_stopped, body_characters as characters_behind}
+use Rattle.gabc_headers.specs.HeadEvents.{event_of_book, events_of_heads, events_of_broken, events_of_stopped, body_characters as characters_after}
 use Rattle.gabc_score.specs.declared.ending.InputEnding.{InputEnding}
 use Rattle.gabc_score.specs.declared.ending.InputEnding.TheVariants.{Whole, Broken, At}
 use Rattle.gabc_score.specs.Score.{head_fault_by}
 use Rattle.gabc_score.specs.ScoreEvents.{stop_events, head_events_by, head_events}
 use Rattle.gabc_score.specs.SyllablesOfUnits.{body_characters}
 
--- the characters from some point on stand behind those before it
-placed_on : (n : ℕ) (prefix t : List ℕ) → drop n (placed_characters_behind prefix t) ≡ placed_characters_behind (prefix ++ take n t) (drop n t)
-placed_on zero prefix t = ap (λ p. placed_characters_behind p t) (sym (append-nil prefix))
+-- the characters from some point on stand after those before it
+placed_on : (n : ℕ) (prefix t : List ℕ) → drop n (placed_characters_after prefix t) ≡ placed_characters_after (prefix ++ take n t) (drop n t)
+placed_on zero prefix t = ap (λ p. placed_characters_after p t) (sym (append-nil prefix))
 placed_on (suc n) prefix [] = refl
-placed_on (suc n) prefix (c ∷ cs) = placed_on n (prefix ++ c ∷ []) cs ∙ ap (λ p. placed_characters_behind p (drop n cs)) (append_assoc prefix (c ∷ []) (take n cs))
+placed_on (suc n) prefix (c ∷ cs) = placed_on n (prefix ++ c ∷ []) cs ∙ ap (λ p. placed_characters_after p (drop n cs)) (append_assoc prefix (c ∷ []) (take n cs))
 
 -- what a stage of headers gives of a text that ended so
 abbrev pub given_of : InputEnding → List ℕ → Result Heads HeadFault → List HeadEvent
@@ -29,7 +29,7 @@ given_of (At fault) t r = events_of_stopped fault t r
 
 module _ (t : List ℕ) where
   -- the characters of the body, from the text's first character or from the body's
-  same_body : body_characters t ≡ characters_behind t
+  same_body : body_characters t ≡ characters_after t
   same_body = sym (placed_on (head_len t + 2) [] t)
 
   heads_given : (ending : InputEnding) (heads : Heads) → head_events_by ending t (Ok heads) ≡ given_of ending t (Ok heads)

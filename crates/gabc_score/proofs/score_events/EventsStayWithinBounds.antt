@@ -62,7 +62,7 @@ found_one found (event.Notes line (note.Found f)) = let l = length-append found 
 found_one found (event.Notes line (note.Ended e n)) = omega arith
 
 -- no more is found than is emitted
-found_few : (now before : List BodyEvent) → length (findings_of (events_onto now before)) ≤ length (findings_of before) + length now
+pub found_few : (now before : List BodyEvent) → length (findings_of (events_onto now before)) ≤ length (findings_of before) + length now
 found_few [] before = omega arith
 found_few (t ∷ now) before = let h = found_few now (t ∷ before) in let o = found_one (findings_of before) t in omega (arith, h, o)
 

@@ -1,4 +1,4 @@
--- What is lent at a point is within the limits: syllables that were made without passing one.
+-- What is borrowed at a point is within the limits: syllables that were made without passing one.
 use Rattle.std.proofs.Common.{◌≡◌, ℕ, ◌+◌, ◌-◌, ◌≤◌, ◌<◌, ◌^◌, ◌||◌, ◌&&◌, min, not, nat_lt, Bool, true, false, cond, List, [], ◌∷◌, ◌++◌, map, take, length, Option, Some, None, refl, sym, ap, ◌∙◌, subst, arith, append_assoc, length-take}
 use Rattle.std.proofs.lemmas.Bool.Decides.{nat_tests}
 use Rattle.std.specs.List.{All}
@@ -110,7 +110,7 @@ short_at_end limits g now e over short none =
     subst (λ (n : ℕ). All (IsShort n) (with_last (with_all g now)).made) same
     (short_last (with_all g now) (omega (arith, stays, small)) (short_all g now small (λ o. subst (λ (n : ℕ). All (IsShort n) g.made) (sym e) short)) (not_over limits (with_last (with_all g now)) none))
 
--- ---- what is lent
+-- ---- what is borrowed
 
 -- a short syllable is within the limits wherever it stands in its word
 pub short_within : (limits : Limits) (p : Position) (m : UnplacedSyllable) → IsShort limits.syllable m → IsWithin limits (record { made = m; position = p })
@@ -134,7 +134,7 @@ pub given_syllables : (ss : List PlacedSyllable) (tail : List ScoreOutput) → s
 given_syllables [] tail h = h
 given_syllables (s ∷ ss) tail h = ap (λ (l : List PlacedSyllable). s ∷ l) (given_syllables ss tail h)
 
--- behind one syllable there is none
+-- after one syllable there is none
 pub one_at_most : (ss : List PlacedSyllable) → length ss ≤ 1 → OnlyFirstHasNotes ss
 one_at_most [] few = tt
 one_at_most (s ∷ []) few = All-nil (λ (t : PlacedSyllable). has_no_notes t.made ≡ true)
@@ -169,6 +169,6 @@ no_code limits at g h = by g.cut refl h
         none None h = refl
         none (Some code) h = absurd (cc h)
 
--- nothing is lent
+-- nothing is borrowed
 pub lends_none : (limits : Limits) (most : ℕ) (outputs : List ScoreOutput) → syllables_in outputs ≡ [] → Lends limits most outputs
 lends_none limits most outputs e = record { few = let n = ap length e in omega (arith, n); later = subst OnlyFirstHasNotes (sym e) tt; within = subst (All (IsWithin limits)) (sym e) (All-nil (IsWithin limits)) }

@@ -10,7 +10,7 @@ use Rattle.gabc_score.specs.declared.score_machine.ScoreMachine.{ScoreMachine}
 use Rattle.gabc_score.specs.declared.score_machine.ScorePart.{ScorePart}
 use Rattle.gabc_score.specs.declared.score_machine.ScorePart.TheVariants as score_part
 use Rattle.gabc_score.specs.Before.{with_placed}
-use Rattle.gabc_score.specs.ScoreTells.{StandsInFront, held_in_body, is_in_comment, is_in_front, moved_part, reading_in_body}
+use Rattle.gabc_score.specs.ScoreReports.{IsInFront, held_in_body, is_in_comment, is_in_front, moved_part, reading_in_body}
 use Rattle.gabc_score.specs.Syllable.{UnplacedSyllable}
 use Rattle.gabc_score.specs.machine.BodyBuilder.{with_all}
 use Rattle.gabc_score.specs.machine.Gatherer.{Gathered}
@@ -38,7 +38,7 @@ front_moved at (part.Text s) = refl
 front_moved at (part.Notes opened s) = refl
 front_moved at (part.Nabc line opened s) = refl
 
--- Behind a character the comment is still open only where nothing has come.
+-- After a character the comment is still open only where nothing has come.
 pub front_past : (before after : BodyPart) (p behind : Preceding) (has_lent : _) (g h turned : Gathered) (now : List BodyEvent) → PartLeavesFront before after now → (is_in_front before ≡ true → NoneIsWhole p g)
     → h ≡ with_all g now → behind ≡ with_placed p (take (length h.made - 1) (placed_behind has_lent h.made)) → turned ≡ with_held h → is_in_front after ≡ true → NoneIsWhole behind turned
 front_past before after p behind has_lent g h turned now leaves was is there turns front = record {
@@ -50,7 +50,7 @@ front_past before after p behind has_lent g h turned now leaves was is there tur
     none = ap (λ (k : Gathered). k.made) is ∙ ap (λ (es : List BodyEvent). (with_all g es).made) (leaves front).1 ∙ (was (leaves front).0).none_made
 
 -- a machine in front has read nothing
-pub stands_there : (m : ScoreMachine) → m.part ≡ score_part.Body → IsInBody m → is_in_front m.body.part ≡ true → StandsInFront (shown m)
+pub stands_there : (m : ScoreMachine) → m.part ≡ score_part.Body → IsInBody m → is_in_front m.body.part ≡ true → IsInFront (shown m)
 stands_there m body h front =
     let none = h.front front in
     record {

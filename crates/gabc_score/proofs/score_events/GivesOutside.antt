@@ -7,12 +7,12 @@ use Rattle.gabc_headers.specs.declared.head_event.HeadEvent.TheVariants as head_
 use Rattle.gabc_score.specs.declared.score_event.ScoreEvent.{ScoreEvent}
 use Rattle.gabc_score.specs.declared.score_machine.ScorePart.TheVariants as score_part
 use Rattle.gabc_score.specs.ScoreEvents.{ScoreOutput, is_last}
-use Rattle.gabc_score.specs.ScoreStage.{GivesAt, GivesOutputs, Lends, PassesOn, is_final, most_lent, part_past}
+use Rattle.gabc_score.specs.ScoreStage.{GivesAt, GivesOutputs, Lends, PassesOn, is_final, most_borrowed, part_past}
 use Rattle.gabc_score.specs.witness.ScoreStage.{ScoreStageState, left_of}
 
 -- what is asked wherever the stage stands then
 pub record GivesThere (before : ScoreStageState) (x : HeadEvent) (after : ScoreStageState) (old new : BoundedList ScoreEvent) (outputs : List ScoreOutput) : Type 0 where
-  pub lends : Lends before.limits (most_lent x) outputs
+  pub lends : Lends before.limits (most_borrowed x) outputs
   pub limits : after.limits ≡ before.limits
   pub part : after.part ≡ part_past before.part x outputs
   pub last : (before.part ≡ score_part.Over → ⊥) → is_final x ≡ true → list_any is_last outputs ≡ true

@@ -7,14 +7,14 @@ use Rattle.gabc_score.specs.declared.before.Preceding.{Preceding}
 use Rattle.gabc_score.specs.declared.score_machine.ScorePart.{ScorePart}
 use Rattle.gabc_score.specs.declared.score_machine.ScorePart.TheVariants as score_part
 use Rattle.gabc_score.specs.Canonical.{canonical}
-use Rattle.gabc_score.specs.ScoreTells.{held_in_body}
+use Rattle.gabc_score.specs.ScoreReports.{held_in_body}
 use Rattle.gabc_score.specs.Syllable.{UnplacedSyllable}
 use Rattle.gabc_places.specs.TextOfAnInput.{IsText}
-use Rattle.gabc_score.specs.ToldWithin.{written_behind}
+use Rattle.gabc_score.specs.ReportedWithin.{written_after}
 use Rattle.gabc_score.specs.UnitRead.{HoldsSomeUnit}
 
 pub held_is_text : ((lines : ℕ) (m : UnplacedSyllable) → HoldsSomeUnit lines m → IsText m.kept → (starts : Bool) → IsText (canonical starts m)) → (lines : ℕ) (p : Preceding) (part : ScorePart) (made : List UnplacedSyllable)
-    → (part ≡ score_part.Body → All (λ (m : UnplacedSyllable). IsText m.kept) made) → IfSome (held_in_body part made) (HoldsSomeUnit lines) → IfSome (held_in_body part made) (λ m. IsText (written_behind p m))
+    → (part ≡ score_part.Body → All (λ (m : UnplacedSyllable). IsText m.kept) made) → IfSome (held_in_body part made) (HoldsSomeUnit lines) → IfSome (held_in_body part made) (λ m. IsText (written_after p m))
 held_is_text law lines p score_part.Heads made told unit = tt
 held_is_text law lines p score_part.Over made told unit = tt
 held_is_text law lines p score_part.Body [] told unit = tt

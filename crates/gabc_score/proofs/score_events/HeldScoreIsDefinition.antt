@@ -132,7 +132,7 @@ module _ (limits : Limits) (head : ℕ) (small : limits.syllable < 2 ^ 64 - 1) (
   by_code at before now x xs left later e (Some code) = ap (λ outputs. outputs ∷ silence xs) (stop_is before now at (fault_at x.place code))
   by_code at before now x xs left later e None = ap (λ outputs. outputs ∷ left) (point_is before now at x) ∙ ap (λ lists. outputs_at before (with_first before x now) ∷ lists) e
 
-  -- the place behind a character, where no count reaches its last value
+  -- the place after a character, where no count reaches its last value
   abbrev bounded_place : Char → Bool → Place
   bounded_place x b = cond b (record { line = count_plus x.place.line 1; column = 1 }) (record { line = x.place.line; column = count_plus x.place.column 1 })
 

@@ -22,7 +22,7 @@ use Rattle.gabc_score.specs.machine.BodyBuilder.{with_all, code_in}
 abbrev pub without : ℕ → Gathered → Gathered
 without k g = record g { made = drop k g.made }
 
--- what is left tells whether any was made
+-- what is left says whether any was made
 pub record MayGo (k : ℕ) (g : Gathered) : Type 0 where
   pub few : k ≤ length g.made
   pub some : is_none (drop k g.made) ≡ is_none g.made
@@ -92,24 +92,24 @@ but_last_goes g = record { few = omega arith; some = by g.made }
 
 -- ---- positions
 
--- behind so many, the first is no longer the first of all
-first_behind : ℕ → Bool → Bool
-first_behind zero first = first
-first_behind (suc k) first = false
+-- after n, the first is no longer the first of all
+first_after : ℕ → Bool → Bool
+first_after zero first = first
+first_after (suc k) first = false
 
-no_first : (k : ℕ) → first_behind k false ≡ false
-unfolding first_behind
+no_first : (k : ℕ) → first_after k false ≡ false
+unfolding first_after
 no_first zero = refl
 no_first (suc k) = refl
 
-placed_drop : (k : ℕ) (first : Bool) (ms : List UnplacedSyllable) → drop k (placed_syllables_by first ms) ≡ placed_syllables_by (first_behind k first) (drop k ms)
-unfolding first_behind
+placed_drop : (k : ℕ) (first : Bool) (ms : List UnplacedSyllable) → drop k (placed_syllables_by first ms) ≡ placed_syllables_by (first_after k first) (drop k ms)
+unfolding first_after
 placed_drop zero first ms = refl
 placed_drop (suc k) first [] = refl
 placed_drop (suc k) first (m ∷ ms) = placed_drop k false ms ∙ ap (λ b. placed_syllables_by b (drop k ms)) (no_first k)
 
-first_is : (n : ℕ) → first_behind (n - 1) true ≡ not (nat_lt 1 n)
-unfolding first_behind
+first_is : (n : ℕ) → first_after (n - 1) true ≡ not (nat_lt 1 n)
+unfolding first_after
 first_is zero = refl
 first_is (suc zero) = refl
 first_is (suc (suc n)) =

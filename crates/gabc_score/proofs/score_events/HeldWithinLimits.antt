@@ -17,7 +17,7 @@ use Rattle.gabc_score.specs.Before.{no_syllable, with_each, with_one, with_place
 use Rattle.gabc_score.specs.Body.{is_longer, is_none}
 use Rattle.gabc_score.specs.Canonical.{canonical}
 use Rattle.gabc_score.specs.Syllable.{UnplacedSyllable, PlacedSyllable}
-use Rattle.gabc_score.specs.ToldWithin.{IsAtOutset}
+use Rattle.gabc_score.specs.ReportedWithin.{IsAtOutset}
 use Rattle.gabc_score.specs.machine.BodyBuilder.{with_all, code_in}
 use Rattle.gabc_score.specs.machine.Gatherer.{Gathered, with_event, with_made, with_snippet}
 use Rattle.gabc_score.specs.machine.HeldWithin.{AreWritten, HoldsWithin}
@@ -148,6 +148,6 @@ within_none limits before g outset none = record {
   outset = outset;
 }
 
--- nothing was behind the headers
+-- nothing was after the headers
 pub within_begun : (limits : Limits) (head : ℕ) (before : Preceding) (g : Gathered) → before ≡ no_syllable head → g.made ≡ [] → HoldsWithin limits before g
 within_begun limits head before g is none = within_none limits before g (λ e. is ∙ ap no_syllable (sym (ap (λ (p : Preceding). p.canonical) is))) none

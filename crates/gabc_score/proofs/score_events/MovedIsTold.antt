@@ -1,14 +1,14 @@
--- What a stage tells is still that of a text where its next character stands there or later.
+-- What a stage reports is still that of a text where its next character stands there or later.
 use Rattle.std.proofs.Common.{◌≡◌, Option, None, refl, sym, ap, subst}
 use Rattle.gabc_places.specs.declared.place.Place.{Place}
 use Rattle.gabc_places.specs.Findings.{IsUpTo}
-use Rattle.gabc_text.specs.StageTells as text_tells
+use Rattle.gabc_text.specs.StageReports as text_tells
 use Rattle.gabc_text.specs.witness.StageReports as text_reports
 use Rattle.gabc_text.specs.declared.stage.TextStage.{TextStage}
 use Rattle.gabc_score.specs.declared.body_stage.BodyPart.{BodyPart}
 use Rattle.gabc_score.specs.declared.body_stage.BodyPart.TheVariants as part
-use Rattle.gabc_score.specs.ScoreTells.{moved_part, moved_to, openers_of}
-use Rattle.gabc_score.specs.ToldWithin.{IsPlace, AreOpenersBefore, TellsOfText}
+use Rattle.gabc_score.specs.ScoreReports.{moved_part, moved_to, openers_of}
+use Rattle.gabc_score.specs.ReportedWithin.{IsPlace, AreOpenersBefore, ReportsText}
 use Rattle.gabc_score.specs.witness.ScoreStage.{ScoreStageState}
 use Rattle.gabc_score.proofs.score_events.OpenersInOrder.{openers_moved}
 
@@ -19,7 +19,7 @@ module _ (text_stays : (s : TextStage) (at : Place) → text_tells.opener_of (te
   openers_stay at (part.Nabc line opened s) = refl
   openers_stay at (part.Text s) = ap (λ (o : Option Place). record { notes = None; inner = o }) (text_stays s at)
 
-  pub moved_is_told : (at : Place) (s : ScoreStageState) → IsUpTo s.held.next at → IsPlace at → TellsOfText s → TellsOfText (moved_to at s)
+  pub moved_is_told : (at : Place) (s : ScoreStageState) → IsUpTo s.held.next at → IsPlace at → ReportsText s → ReportsText (moved_to at s)
   moved_is_told at s up is told body =
       let t = told body in
       record {

@@ -1,4 +1,4 @@
--- Behind a stop a stage of scores gives nothing.
+-- After a stop a stage of scores gives nothing.
 use Rattle.std.proofs.Common.{◌≡◌, List, [], ◌∷◌, ◌++◌, ap}
 use Rattle.gabc_places.specs.StageLaw.{concat_of}
 use Rattle.gabc_places.specs.declared.code.Fault.{Fault}

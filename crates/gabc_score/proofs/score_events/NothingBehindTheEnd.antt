@@ -1,4 +1,4 @@
--- Behind a stop or the end nothing is emitted.
+-- After a stop or the end nothing is emitted.
 use Rattle.std.proofs.Common.{◌≡◌, ℕ, true, List, [], ◌∷◌, ◌++◌, map, Option, Some, None, sym, ap, subst, ◌∙◌, append_assoc}
 use Rattle.gabc_places.specs.StageLaw.{concat_of, silence}
 use Rattle.gabc_places.proofs.PushesAreOne.{joined_silence}
@@ -18,7 +18,7 @@ use Rattle.gabc_score.specs.Events.{Texts, InComment, events_from}
 use Rattle.gabc_score.specs.NoteBeforeClef.{with_first_each}
 use Rattle.gabc_score.specs.ScoreEvents.{ScoreOutput, Found, Stop, Syllable, End, is_last, not_given, given_now, count_made, findings_now, outputs_of, outputs_at_end, outputs_by, characters_in, body_outputs, first_place, score_outputs}
 
--- behind the first stop or end among these nothing stands
+-- after the first stop or end among these nothing stands
 abbrev pub Ends : List ScoreOutput → Type 0
 Ends [] = Unit {0}
 Ends (o ∷ outputs) = (is_last o ≡ true → outputs ≡ []) × Ends outputs
@@ -34,7 +34,7 @@ given_end : (ss : List PlacedSyllable) (outputs : List ScoreOutput) → Ends out
 given_end [] outputs h = h
 given_end (s ∷ ss) outputs h = (λ l. absurd (cc), given_end ss outputs h)
 
--- what comes behind findings and syllables
+-- what comes after findings and syllables
 pub then_end : (fs : List Finding) (ss : List PlacedSyllable) (outputs : List ScoreOutput) → Ends outputs → Ends (outputs_of fs ss ++ outputs)
 then_end fs ss outputs h = subst Ends (sym (append_assoc (map (λ f. Found f) fs) (map (λ s. Syllable s) ss) outputs)) (found_ends fs (map (λ s. Syllable s) ss ++ outputs) (given_end ss outputs h))
 

@@ -1,4 +1,4 @@
--- What is open stands in its order before the next character, behind each character.
+-- What is open stands in its order before the next character, after each character.
 use Rattle.std.proofs.Common.{◌≡◌, ◌⊎◌, inl, inr, ℕ, ◌+◌, ◌-◌, ◌<◌, ◌^◌, min, Bool, true, false, Option, Some, None, refl, sym, subst, arith, if◌then◌else◌}
 use Rattle.std.specs.Prelude.{IfSome}
 use Rattle.std.proofs.lemmas.Bool.Decides.{nat_tests}
@@ -7,7 +7,7 @@ use Rattle.gabc_places.specs.Findings.{IsUpTo}
 use Rattle.gabc_places.specs.Place.{is_line_feed, saturating_next_place}
 use Rattle.gabc_score.specs.declared.body_tells.Openers.{Openers}
 use Rattle.gabc_places.specs.PlacesInOrder.{IsEarlier, LiesBefore, AreInOrder}
-use Rattle.gabc_score.specs.ToldWithin.{IsPlace, AreOpenersBefore}
+use Rattle.gabc_score.specs.ReportedWithin.{IsPlace, AreOpenersBefore}
 use Rattle.gabc_score.specs.machine.PartOpens.{OpensOn}
 
 earlier_then : (p q r : Place) → IsEarlier p q → IsEarlier q r → IsEarlier p r
@@ -53,12 +53,12 @@ module _ (at next : Place) (on : IsEarlier at next) where
         order (inl same) (inr (inl e)) = subst (λ (o : Option Place). AreInOrder o after.inner) (sym same) (subst (AreInOrder before.notes) (sym e) h.in_order)
         order (inl same) (inr (inr e)) = subst (λ (o : Option Place). AreInOrder o after.inner) (sym same) (subst (AreInOrder before.notes) (sym e) (order_here before.notes h.notes))
 
--- the place behind a character
+-- the place after a character
 abbrev behind_by : Place → Bool → Place
 behind_by at b = if b then record { line = min (at.line + 1) (2 ^ 64 - 1); column = 1 } else record { line = at.line; column = min (at.column + 1) (2 ^ 64 - 1) }
 
-pub place_behind : (at : Place) (c : ℕ) → IsPlace at → at.line + 1 < 2 ^ 64 → at.column + 1 < 2 ^ 64 → IsPlace (saturating_next_place at c) × IsEarlier at (saturating_next_place at c)
-place_behind at c is l k = by (is_line_feed c)
+pub place_after_input : (at : Place) (c : ℕ) → IsPlace at → at.line + 1 < 2 ^ 64 → at.column + 1 < 2 ^ 64 → IsPlace (saturating_next_place at c) × IsEarlier at (saturating_next_place at c)
+place_after_input at c is l k = by (is_line_feed c)
   where
     by : (b : Bool) → IsPlace (behind_by at b) × IsEarlier at (behind_by at b)
     by true = (record { line = grind (arith, nat_tests); column = omega arith; in_64_bits = omega arith }, inl (grind (arith, nat_tests, l)))

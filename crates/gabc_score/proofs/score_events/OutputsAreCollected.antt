@@ -3,11 +3,11 @@ use Rattle.std.proofs.Common.{◌≡◌, ◌⊎◌, inl, inr, ℕ, zero, suc, �
 use Rattle.std.proofs.lemmas.List.{take_more}
 use Rattle.gabc_places.specs.declared.code.Fault.{Fault}
 use Rattle.gabc_score.specs.declared.body_result.BodyResult.{BodyResult}
-use Rattle.gabc_score.specs.declared.score_event.LentSyllable.{LentSyllable}
-use Rattle.gabc_score.specs.declared.score_event.LentSyllable.TheVariants.{First, Second}
+use Rattle.gabc_score.specs.declared.score_event.BorrowedSyllable.{BorrowedSyllable}
+use Rattle.gabc_score.specs.declared.score_event.BorrowedSyllable.TheVariants.{First, Second}
 use Rattle.gabc_score.specs.declared.score_event.ScoreEvent.{ScoreEvent}
 use Rattle.gabc_score.specs.ScoreEvents.{ScoreOutput, Found, Stop, Syllable, End, findings_in, syllables_in, fault_in}
-use Rattle.gabc_score.specs.ScoreStage.{events_lent, events_of}
+use Rattle.gabc_score.specs.ScoreStage.{events_borrowed, events_of}
 use Rattle.gabc_score.specs.Syllable.{PlacedSyllable}
 use Rattle.gabc_score.specs.machine.Collected.{fault_then, result_with, result_past, result_past_all}
 
@@ -46,7 +46,7 @@ fault_more (Stop f ∷ a) b = refl
 fault_more (Syllable s ∷ a) b = fault_more a b
 fault_more (End ∷ a) b = fault_more a b
 
--- outputs behind outputs
+-- outputs after outputs
 pub with_more : (r : BodyResult) (a b : List ScoreOutput) → result_with (result_with r a) b ≡ result_with r (a ++ b)
 with_more r a b =
     ap (λ ss. record { syllables = ss; findings = (r.findings ++ findings_in a) ++ findings_in b; fault = fault_then (fault_then r.fault (fault_in a)) (fault_in b) })
@@ -58,7 +58,7 @@ with_more r a b =
 
 module _ (first second : PlacedSyllable) where
   -- the syllables that these names stand for from here on
-  abbrev AreAhead : LentSyllable → List PlacedSyllable → Type 0
+  abbrev AreAhead : BorrowedSyllable → List PlacedSyllable → Type 0
   AreAhead First ahead = ahead ≡ first ∷ second ∷ []
   AreAhead Second ahead = (ahead ≡ second ∷ []) ⊎ (ahead ≡ [])
 
@@ -66,8 +66,8 @@ module _ (first second : PlacedSyllable) where
   none_of zero = refl
   none_of (suc n) = refl
 
-  collected_from : (l : LentSyllable) (ahead : List PlacedSyllable) (outputs : List ScoreOutput) (n : ℕ) → AreAhead l ahead → syllables_in outputs ≡ take n ahead → (r : BodyResult)
-      → result_past_all first second r (events_lent l outputs) ≡ result_with r outputs
+  collected_from : (l : BorrowedSyllable) (ahead : List PlacedSyllable) (outputs : List ScoreOutput) (n : ℕ) → AreAhead l ahead → syllables_in outputs ≡ take n ahead → (r : BodyResult)
+      → result_past_all first second r (events_borrowed l outputs) ≡ result_with r outputs
   collected_from l ahead [] n h e r = sym (with_none r)
   collected_from l ahead (Found f ∷ outputs) n h e r = collected_from l ahead outputs n h e (record r { findings = r.findings ++ f ∷ [] }) ∙ ap (λ fs. record { syllables = r.syllables ++ syllables_in outputs; findings = fs; fault = fault_then r.fault (fault_in outputs) }) (append_assoc r.findings (f ∷ []) (findings_in outputs))
   collected_from l ahead (Stop f ∷ outputs) n h e r = collected_from l ahead outputs n h e (record r { fault = fault_then r.fault (Some f) }) ∙ ap (λ o. record { syllables = r.syllables ++ syllables_in outputs; findings = r.findings ++ findings_in outputs; fault = o }) (then_assoc r.fault (Some f) (fault_in outputs))

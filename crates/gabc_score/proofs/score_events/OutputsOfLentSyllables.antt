@@ -3,19 +3,19 @@ use Rattle.std.proofs.Common.{◌≡◌, ℕ, zero, suc, ◌≤◌, Bool, true, 
 use Rattle.std.proofs.lemmas.List.{length-map, map-append}
 use Rattle.gabc_places.specs.declared.code.Finding.{Finding}
 use Rattle.gabc_places.specs.BoundedList.{BoundedList, extended_by}
-use Rattle.gabc_score.specs.declared.score_event.LentSyllable.{LentSyllable}
-use Rattle.gabc_score.specs.declared.score_event.LentSyllable.TheVariants.{First, Second}
+use Rattle.gabc_score.specs.declared.score_event.BorrowedSyllable.{BorrowedSyllable}
+use Rattle.gabc_score.specs.declared.score_event.BorrowedSyllable.TheVariants.{First, Second}
 use Rattle.gabc_score.specs.declared.score_event.ScoreEvent.{ScoreEvent}
 use Rattle.gabc_score.specs.declared.score_event.ScoreEvent.TheVariants as event
 use Rattle.gabc_score.specs.ScoreEvents.{ScoreOutput, Found, Syllable, outputs_of, syllables_in}
-use Rattle.gabc_score.specs.ScoreStage.{events_lent, events_of, GivesOutputs}
+use Rattle.gabc_score.specs.ScoreStage.{events_borrowed, events_of, GivesOutputs}
 use Rattle.gabc_score.specs.Syllable.{PlacedSyllable}
 use Rattle.gabc_score.specs.machine.SlotPair.{lent_of}
 
 abbrev pub found_events : List Finding → List ScoreEvent
 found_events fs = map (λ (f : Finding). event.Found f) fs
 
-found_lent : (l : LentSyllable) (fs : List Finding) (outputs : List ScoreOutput) → events_lent l (map (λ f. Found f) fs ++ outputs) ≡ found_events fs ++ events_lent l outputs
+found_lent : (l : BorrowedSyllable) (fs : List Finding) (outputs : List ScoreOutput) → events_borrowed l (map (λ f. Found f) fs ++ outputs) ≡ found_events fs ++ events_borrowed l outputs
 found_lent l [] outputs = refl
 found_lent l (f ∷ fs) outputs = ap (λ es. event.Found f ∷ es) (found_lent l fs outputs)
 
@@ -23,7 +23,7 @@ pub found_syllables : (fs : List Finding) (outputs : List ScoreOutput) → sylla
 found_syllables [] outputs = refl
 found_syllables (f ∷ fs) outputs = found_syllables fs outputs
 
-module _ (fs : List Finding) (tail : List ScoreOutput) (last : List ScoreEvent) (none : syllables_in tail ≡ []) (last_is : (l : LentSyllable) → events_lent l tail ≡ last) (first second : PlacedSyllable) where
+module _ (fs : List Finding) (tail : List ScoreOutput) (last : List ScoreEvent) (none : syllables_in tail ≡ []) (last_is : (l : BorrowedSyllable) → events_borrowed l tail ≡ last) (first second : PlacedSyllable) where
   abbrev outs_of : ℕ → List ScoreOutput
   outs_of n = outputs_of fs (take n (first ∷ second ∷ [])) ++ tail
 
@@ -73,7 +73,7 @@ module _ (fs : List Finding) (tail : List ScoreOutput) (last : List ScoreEvent) 
         lent = all_syllables n h ∙ ap (λ k. take k (first ∷ second ∷ [])) (sym (ap length (all_syllables n h) ∙ count_is n h));
       })
 
--- without anything behind the syllables
+-- without anything after the syllables
 pub now_emitted : (fs : List Finding) (first second : PlacedSyllable) (n : ℕ) (ss : List PlacedSyllable) → take n (first ∷ second ∷ []) ≡ ss → n ≤ 2 → length fs ≤ 10 → (old new : BoundedList ScoreEvent)
     → new ≡ extended_by old (found_events fs ++ lent_of n) → GivesOutputs (outputs_of fs ss) old new first second
 now_emitted fs first second n ss e h few old new k =
@@ -85,7 +85,7 @@ now_emitted fs first second n ss e h few old new k =
 pub then_more : {T : Type 0} (old mid new : BoundedList T) (a b : List T) → mid ≡ extended_by old a → new ≡ extended_by mid b → new ≡ extended_by old (a ++ b)
 then_more old mid new a b h k = k ∙ ap (λ r. extended_by r b) h ∙ ap (λ xs. record old { items = xs }) (append_assoc old.items a b)
 
--- what is found at the end stands behind what was found before
+-- what is found at the end stands after what was found before
 pub found_then : (old first second third : BoundedList ScoreEvent) (fs gs hs : List Finding) → first ≡ extended_by old (found_events fs) → second ≡ extended_by first (found_events gs) → third ≡ extended_by second (found_events hs)
     → third ≡ extended_by old (found_events (fs ++ (gs ++ hs)))
 found_then old first second third fs gs hs a b c =

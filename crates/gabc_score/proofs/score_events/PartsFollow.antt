@@ -1,5 +1,5 @@
--- Where a machine stands behind what it gives.
-use Rattle.std.proofs.Common.{◌≡◌, ◌||◌, Bool, true, false, List, [], ◌∷◌, ◌++◌, refl, ap, sym, ◌∙◌}
+-- Where a machine stands after what it gives.
+use Rattle.std.proofs.Common.{◌≡◌, ◌⊎◌, inl, inr, ◌||◌, Bool, true, false, List, [], ◌∷◌, ◌++◌, refl, ap, sym, ◌∙◌}
 use Rattle.std.proofs.Math.Bool.{or-true}
 use Rattle.std.specs.List.{list_any}
 use Rattle.gabc_places.specs.declared.code.Finding.{Finding}
@@ -10,7 +10,12 @@ use Rattle.gabc_score.specs.ScoreEvents.{ScoreOutput, is_last, outputs_of}
 use Rattle.gabc_score.specs.ScoreStage.{part_past}
 use Rattle.gabc_score.specs.Syllable.{PlacedSyllable}
 
--- with a stop or the end behind them
+-- it is one of the others
+pub outside : (p : ScorePart) → (p ≡ score_part.Heads) ⊎ (p ≡ score_part.Over) → p ≡ score_part.Body → ⊥
+outside p (inl e) f = cc (sym e ∙ f)
+outside p (inr e) f = cc (sym e ∙ f)
+
+-- with a stop or the end after them
 pub last_behind : (outputs : List ScoreOutput) (o : ScoreOutput) → is_last o ≡ true → list_any is_last (outputs ++ o ∷ []) ≡ true
 last_behind [] o e = ap (λ (b : Bool). b || false) e
 last_behind (x ∷ outputs) o e = ap (λ (b : Bool). is_last x || b) (last_behind outputs o e) ∙ or-true (is_last x)

@@ -1,7 +1,7 @@
 -- A score without what is found beside its body: it has the same book, syllables and fault.
 use Rattle.std.proofs.Common.{◌≡◌, ℕ, List, Result, Ok, Err, refl}
 use Rattle.gabc_places.specs.declared.limits.Limits.{Limits}
-use Rattle.gabc_places.specs.Place.{place_after, placed_characters_behind}
+use Rattle.gabc_places.specs.Place.{place_after, placed_characters_after}
 use Rattle.gabc_headers.specs.declared.heads.Heads.{Heads}
 use Rattle.gabc_headers.specs.declared.heads.HeadFault.{HeadFault}
 use Rattle.gabc_headers.specs.Book.{nabc_lines_of, macros_of}
@@ -13,12 +13,12 @@ use Rattle.gabc_score.specs.declared.ending.InputEnding.{InputEnding}
 use Rattle.gabc_score.specs.declared.score.Score.{Score}
 use Rattle.gabc_score.specs.Body.{body_of}
 use Rattle.gabc_score.specs.Events.{body_events}
-use Rattle.gabc_score.specs.Score.{heads_text, behind_heads, with_body, score_by, score_of}
+use Rattle.gabc_score.specs.Score.{heads_text, after_heads, with_body, score_by, score_of}
 use Rattle.gabc_score.proofs.score_events.FirstNotes.{body_alike}
 
 abbrev pub plain_in : Limits → InputEnding → List ℕ → Heads → BodyResult
 plain_in limits ending t heads =
-    let xs = placed_characters_behind (heads_text t) (behind_heads t) in
+    let xs = placed_characters_after (heads_text t) (after_heads t) in
     body_of limits (bytes_len (canonical_heads heads.book)) heads.findings (place_after t) ending xs (body_events (nabc_lines_of heads.book) (macros_of heads.book) xs)
 
 abbrev pub plain_by : Limits → InputEnding → List ℕ → Result Heads HeadFault → Score
@@ -36,7 +36,7 @@ pub record ScoresAlike (r s : Score) : Type 0 where
 pub alike_by : (limits : Limits) (ending : InputEnding) (t : List ℕ) (r : Result Heads HeadFault) → ScoresAlike (score_by limits ending t r) (plain_by limits ending t r)
 alike_by limits ending t (Err stop) = record { book = refl; syllables = refl; fault = refl }
 alike_by limits ending t (Ok heads) =
-    let xs = placed_characters_behind (heads_text t) (behind_heads t) in
+    let xs = placed_characters_after (heads_text t) (after_heads t) in
     let s = body_alike limits (bytes_len (canonical_heads heads.book)) heads.findings (place_after t) ending xs (body_events (nabc_lines_of heads.book) (macros_of heads.book) xs) in
     record { book = refl; syllables = s.syllables; fault = s.fault }
 

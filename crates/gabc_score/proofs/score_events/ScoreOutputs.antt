@@ -2,7 +2,7 @@
 use Rattle.std.proofs.Common.{◌≡◌, ℕ, ◌+◌, ◌||◌, Bool, true, false, cond, List, [], ◌∷◌, ◌++◌, map, Option, Some, None, Result, Ok, Err, option_map, refl, sym, ap, ◌∙◌, ◌⊎◌, inl, inr, append-nil, take-append-drop}
 use Rattle.gabc_places.specs.StageLaw.{concat_of}
 use Rattle.gabc_places.proofs.PlacesOfAText.{placed_behind, behind_after}
-use Rattle.gabc_places.specs.Place.{next_place, place_after, place_past, placed_characters_from, placed_characters_behind}
+use Rattle.gabc_places.specs.Place.{next_place, place_after, place_past, placed_characters_from, placed_characters_after}
 use Rattle.gabc_places.specs.declared.code.Code.TheVariants.{F5}
 use Rattle.gabc_places.specs.declared.code.Finding.{Finding}
 use Rattle.gabc_places.specs.declared.code.Fault.{Fault}
@@ -25,12 +25,12 @@ use Rattle.gabc_score.specs.declared.score.Score.{Score}
 use Rattle.gabc_score.specs.Body.{fault_at, code_by, events_to_stop, events_onto, result_by_fault, result_by}
 use Rattle.gabc_score.specs.Events.{Texts, InComment, events_from, texts_by_definition, body_events}
 use Rattle.gabc_score.specs.NoteBeforeClef.{with_first_each, score_events}
-use Rattle.gabc_score.specs.Score.{heads_text, behind_heads, head_fault_by, score_by, score_of}
+use Rattle.gabc_score.specs.Score.{heads_text, after_heads, head_fault_by, score_by, score_of}
 use Rattle.gabc_score.specs.SyllablesOfUnits.{body_characters}
 use Rattle.gabc_score.specs.ScoreEvents.{ScoreOutput, Found, Stop, characters_in, body_outputs, first_place, score_outputs, ending_events, stop_events, head_events_by, outputs_of_text, findings_in, syllables_in, fault_in, has_end, is_whole}
 use Rattle.gabc_score.proofs.building.EndOfBody.{none_longer}
 use Rattle.gabc_score.proofs.building.OneListEachCharacter.{events_each}
-use Rattle.gabc_score.proofs.score_events.BodyOutputs.{Says, end_place, body_says}
+use Rattle.gabc_score.proofs.score_events.BodyOutputs.{Says, end_place, body_says, no_end}
 use Rattle.gabc_score.proofs.score_events.FirstNotes.{first_each}
 use Rattle.gabc_score.proofs.score_events.WhatOutputsSay.{Said, said_by, said_before, found_first}
 
@@ -53,7 +53,7 @@ pub ends_past : (p : Place) (cs : List ℕ) → end_place p (placed_characters_f
 ends_past p [] = refl
 ends_past p (c ∷ cs) = ends_past (next_place p c) cs
 
-ends_after : (prefix cs : List ℕ) (xs : List Char) → xs ≡ placed_characters_behind prefix cs → (at : Place) → (xs ≡ []) ⊎ (end_place at xs ≡ place_after (prefix ++ cs))
+ends_after : (prefix cs : List ℕ) (xs : List Char) → xs ≡ placed_characters_after prefix cs → (at : Place) → (xs ≡ []) ⊎ (end_place at xs ≡ place_after (prefix ++ cs))
 ends_after prefix [] xs e at = inl e
 ends_after prefix (c ∷ cs) xs e at =
     inr (ap (end_place at) (e ∙ sym (placed_behind prefix (c ∷ cs))) ∙ ends_past (next_place (place_after prefix) c) cs ∙ behind_after prefix (c ∷ cs))
@@ -77,7 +77,7 @@ module _ (limits : Limits) (head lines macros : ℕ) (found : List Finding) wher
   anywhere Broken at other = refl
   anywhere (At fault) at other = refl
 
-  pub at_the_end : (ending : InputEnding) (prefix cs : List ℕ) (xs : List Char) → xs ≡ placed_characters_behind prefix cs → (at : Place)
+  pub at_the_end : (ending : InputEnding) (prefix cs : List ℕ) (xs : List Char) → xs ≡ placed_characters_after prefix cs → (at : Place)
       → result_to ending xs (end_place at xs) ≡ result_to ending xs (place_after (prefix ++ cs))
   at_the_end ending prefix cs xs e at = by (ends_after prefix cs xs e at)
     where
@@ -90,11 +90,6 @@ module _ (limits : Limits) (head lines macros : ℕ) (found : List Finding) wher
 -- what outputs are to say
 abbrev said_of_score : InputEnding → Score → Said
 said_of_score ending score = record { findings = score.findings; syllables = score.syllables; fault = score.fault; ended = is_whole ending score.fault }
-
-stopped_whole : (ending : InputEnding) (fault : Fault) → is_whole ending (Some fault) ≡ false
-stopped_whole Whole fault = refl
-stopped_whole Broken fault = refl
-stopped_whole (At other) fault = refl
 
 -- and of a body
 abbrev said_of_body : InputEnding → BodyResult → Said
@@ -120,7 +115,7 @@ module _ (limits : Limits) (ending : InputEnding) (t : List ℕ) (h : Heads) whe
       ∙ ap (λ ys. said_before h.findings [] (said_by (body_from ys))) (characters_are ending xs)
       ∙ by (body_says limits size h.findings ending first_place [] xs (score_events (nabc_lines_of h.book) (macros_of h.book) xs)
       (first_each [] xs (body_events (nabc_lines_of h.book) (macros_of h.book) xs) (events_each texts_by_definition (nabc_lines_of h.book) (macros_of h.book) InComment xs)))
-      ∙ ap (said_of_body ending) (at_the_end limits size (nabc_lines_of h.book) (macros_of h.book) h.findings ending (heads_text t) (behind_heads t) xs refl first_place)
+      ∙ ap (said_of_body ending) (at_the_end limits size (nabc_lines_of h.book) (macros_of h.book) h.findings ending (heads_text t) (after_heads t) xs refl first_place)
       ∙ ap (λ u. said_of_body ending (result_to limits size (nabc_lines_of h.book) (macros_of h.book) h.findings ending xs (place_after u))) (take-append-drop (head_len t + 2) t)
     where
       by : {w : BodyResult} → Says (h.findings ++ []) [] ending (body_from xs) w
@@ -143,7 +138,7 @@ stopped_says limits ending fs (Some fault) e =
 
 -- headers that are stopped at the end are not whole
 not_whole : (ending : InputEnding) (at_end : Bool) (fault : Fault) → is_whole ending (head_fault_by ending at_end fault) ≡ false
-not_whole ending false fault = stopped_whole ending fault
+not_whole ending false fault = no_end ending fault
 not_whole Whole true fault = refl
 not_whole Broken true fault = refl
 not_whole (At other) true fault = refl

@@ -24,7 +24,7 @@ use Rattle.gabc_score.specs.declared.events.BodyEvent.{BodyEvent}
 use Rattle.gabc_score.specs.witness.BodyStage.{texts_by_stage}
 use Rattle.gabc_score.specs.Events.{Texts, InComment, events_from, texts_by_definition}
 use Rattle.gabc_score.specs.NoteBeforeClef.{with_first_each}
-use Rattle.gabc_score.specs.Score.{heads_text, behind_heads, head_fault_by}
+use Rattle.gabc_score.specs.Score.{heads_text, after_heads, head_fault_by}
 use Rattle.gabc_score.specs.ScoreEvents.{ScoreOutput, Found, characters_in, body_outputs, first_place, score_outputs, stop_events, head_events_by, head_events}
 use Rattle.gabc_score.specs.ScoreStage.{AreCountsBelow}
 use Rattle.gabc_score.specs.SyllablesOfUnits.{body_characters}
@@ -59,14 +59,14 @@ stop_alike one other limits (Some fault) = refl
 -- ---- the body
 
 module _ (limits : Limits) (ending : InputEnding) (t : List ℕ) (few : length (encodes t) < 2 ^ 63) where
-  fits : CountsFit (place_after (heads_text t)) (behind_heads t)
+  fits : CountsFit (place_after (heads_text t)) (after_heads t)
   fits = body_fits t few
 
-  placed : placed_characters_from (place_after (heads_text t)) (behind_heads t) ≡ body_characters t
-  placed = placed_behind (heads_text t) (behind_heads t)
+  placed : placed_characters_from (place_after (heads_text t)) (after_heads t) ≡ body_characters t
+  placed = placed_behind (heads_text t) (after_heads t)
 
   body_below : AreCountsBelow (to_come ending (body_characters t))
-  body_below = subst (λ xs. AreCountsBelow (to_come ending xs)) placed (counts_below ending (place_after (heads_text t)) (behind_heads t) fits.line fits.column)
+  body_below = subst (λ xs. AreCountsBelow (to_come ending xs)) placed (counts_below ending (place_after (heads_text t)) (after_heads t) fits.line fits.column)
 
   below_by : (short : (heads : Heads) → heads_of limits t ≡ Ok heads → bytes_len (canonical_heads heads.book) + 1 ≤ limits.input) (r : Result Heads HeadFault) → heads_of limits t ≡ r
       → AreCountsBelow (head_events_by ending t r)
@@ -83,7 +83,7 @@ module _ (limits : Limits) (ending : InputEnding) (t : List ℕ) (few : length (
     body_alike : (lines macros : ℕ) → events_from texts_by_stage lines macros InComment (body_characters t) ≡ events_from texts_by_definition lines macros InComment (body_characters t)
     body_alike lines macros =
         subst (λ xs. events_from texts_by_stage lines macros InComment xs ≡ events_from texts_by_definition lines macros InComment xs) placed
-        (same_emitted step lines macros (place_after (heads_text t)) (behind_heads t) InComment fits)
+        (same_emitted step lines macros (place_after (heads_text t)) (after_heads t) InComment fits)
 
     heads_alike : (book : List (List ℕ × List ℕ)) → let xs = event_of_book book ∷ to_come ending (body_characters t) in score_outputs texts_by_stage limits xs ≡ score_outputs texts_by_definition limits xs
     heads_alike book =

@@ -1,15 +1,15 @@
--- What a machine tells in the body is within its limits.
+-- What a machine reports in the body is within its limits.
 use Rattle.std.proofs.Common.{◌≡◌, ℕ, ◌+◌, ◌-◌, ◌≤◌, ◌<◌, ◌^◌, ◌||◌, ◌==◌, nat_lt, min, Bool, true, false, Option, Some, None, is_some, List, [], ◌∷◌, ◌++◌, cond, length, codes, option_to_list, refl, sym, ◌∙◌, subst, arith, length-append}
 use Rattle.std.specs.Prelude.{IfSome}
 use Rattle.std.proofs.lemmas.Bool.Decides.{nat_tests}
 use Rattle.gabc_places.specs.declared.limits.Limits.{Limits}
 use Rattle.gabc_places.specs.declared.place.Place.{Place}
 use Rattle.gabc_text.specs.Canonical.{canonical_text}
-use Rattle.gabc_text.specs.StageTells as text_tells
+use Rattle.gabc_text.specs.StageReports as text_tells
 use Rattle.gabc_text.specs.declared.stage.TextStage.{TextStage}
 use Rattle.gabc_text.specs.witness.Keeps as text
 use Rattle.gabc_notes.specs.Events.{in_raw}
-use Rattle.gabc_notes.specs.StageTells.{comment_of, opener_of}
+use Rattle.gabc_notes.specs.StageReports.{comment_of, opener_of}
 use Rattle.gabc_notes.specs.declared.stage.NoteStage.{NoteStage}
 use Rattle.gabc_notes.specs.witness.Keeps as notes
 use Rattle.gabc_score.specs.declared.body_stage.BodyPart.{BodyPart}
@@ -20,9 +20,9 @@ use Rattle.gabc_score.specs.declared.score_machine.ScorePart.{ScorePart}
 use Rattle.gabc_score.specs.declared.score_machine.ScorePart.TheVariants as score_part
 use Rattle.gabc_score.specs.Before.{with_each}
 use Rattle.gabc_score.specs.Canonical.{canonical, translation_text, with_bars}
-use Rattle.gabc_score.specs.ScoreTells.{held_in_body, reading_in_body}
+use Rattle.gabc_score.specs.ScoreReports.{held_in_body, reading_in_body}
 use Rattle.gabc_score.specs.Syllable.{UnplacedSyllable}
-use Rattle.gabc_score.specs.ToldWithin.{HasNoCommentInside, IsHeldWithin, IsToldWithin}
+use Rattle.gabc_score.specs.ReportedWithin.{HasNoCommentInside, IsHeldWithin, ReportsWithin}
 use Rattle.gabc_score.specs.machine.Gatherer.{Gathered}
 use Rattle.gabc_score.specs.machine.HeldWithin.{HoldsWithin}
 use Rattle.gabc_score.specs.machine.PartKeeps.{KeptParts, in_text, in_notes, PartKeeps}
@@ -63,9 +63,9 @@ is_none None e = refl
 is_none (Some p) e = absurd (cc e)
 
 -- No comment is open inside an inner opener: in a text, where one is open, nothing else is, and a snippet of GABC has an opener only inside raw.
-pub no_comment_inside : ((s : TextStage) (k : List ℕ) → text.Keeps s k → is_some (text_tells.opener_of s) ≡ text.is_open_behind k)
+pub no_comment_inside : ((s : TextStage) (k : List ℕ) → text.Keeps s k → is_some (text_tells.opener_of s) ≡ text.is_open_after_text k)
     → ((s : TextStage) (k : List ℕ) → text.Keeps s k → text_tells.is_in_comment s ≡ true → text.begins_comment k ≡ true)
-    → ((k : List ℕ) → text.begins_comment k ≡ true → text.is_open_behind k ≡ false)
+    → ((k : List ℕ) → text.begins_comment k ≡ true → text.is_open_after_text k ≡ false)
     → ((split : Bool) (macros : ℕ) (s : NoteStage) (k : List ℕ) → notes.Keeps split macros s k → is_some (opener_of s) ≡ in_raw k)
     → ((split : Bool) (macros : ℕ) (s : NoteStage) (k : List ℕ) → notes.Keeps split macros s k → comment_of s ≡ true → in_raw k ≡ false)
     → (lines macros : ℕ) (p : BodyPart) (parts : KeptParts) → PartKeeps lines macros p parts → HasNoCommentInside p
@@ -77,7 +77,7 @@ no_comment_inside text_opener text_comment text_apart opener comment lines macro
     is_none (opener_of s) (opener (nat_lt 0 lines) macros s k h.1 ∙ comment (nat_lt 0 lines) macros s k h.1 open_is)
 no_comment_inside text_opener text_comment text_apart opener comment lines macros (part.Nabc line opened s) parts h open_is = refl
 
-pub tells_in_body : (m : ScoreMachine) → m.part ≡ score_part.Body → IsInBody m → length m.pair.gathered.made ≤ 1 → HasNoCommentInside m.body.part → IsToldWithin (shown m)
+pub tells_in_body : (m : ScoreMachine) → m.part ≡ score_part.Body → IsInBody m → length m.pair.gathered.made ≤ 1 → HasNoCommentInside m.body.part → ReportsWithin (shown m)
 tells_in_body m body h few comment = record {
   reading = subst (λ (k : ScorePart). length (reading_in_body k m.pair.gathered.builder.kept) ≤ m.limits.syllable) (sym body) h.kept;
   held = subst (λ (k : ScorePart). IfSome (held_in_body k m.pair.gathered.made) (IsHeldWithin m.limits m.bounds.before)) (sym body) (held_by m.limits m.bounds.before m.pair.gathered h.preceded h.within few m.pair.gathered.made refl);

@@ -12,7 +12,7 @@ use Rattle.gabc_text.specs.TextRead.{view_in}
 use Rattle.gabc_text.specs.View.{kept}
 use Rattle.gabc_text.specs.ViewFacts.{StandsForView}
 use Rattle.gabc_text.specs.declared.stage.TextStage.{TextStage}
-use Rattle.gabc_text.specs.witness.Keeps.{Keeps, ends_behind}
+use Rattle.gabc_text.specs.witness.Keeps.{Keeps, ends_after_it}
 use Rattle.gabc_text.specs.witness.SaidInFull.{IsSaidInFull}
 use Rattle.gabc_notes.specs.Ends.{IsMarkOf}
 use Rattle.gabc_notes.specs.ReadAgain.{IsReadAgain}
@@ -33,7 +33,7 @@ use Rattle.gabc_score.specs.Before.{with_one, with_each, with_placed}
 use Rattle.gabc_score.specs.Canonical.{placed_syllables_by}
 use Rattle.gabc_score.specs.Holding.{IsSnippetOf, kept_on_line}
 use Rattle.gabc_score.specs.ScoreStage.{IsWithinAnywhere}
-use Rattle.gabc_score.specs.ScoreTells.{held_in_body}
+use Rattle.gabc_score.specs.ScoreReports.{held_in_body}
 use Rattle.gabc_score.specs.SpansPast.{FollowsSpans}
 use Rattle.gabc_score.specs.Syllable.{UnplacedSyllable}
 use Rattle.gabc_score.specs.UnitRead.{HoldsSomeUnit}
@@ -112,7 +112,7 @@ held_within m score_part.Body h = by m.pair.gathered.made h.rests.short
 abbrev nowhere : Place
 nowhere = record { line = 0; column = 0 }
 
-pub laws_hold : ((s : TextStage) (k rest : List ℕ) → Keeps s k → ends_behind k ≡ true → CountsFit nowhere (k ++ 40 ∷ rest) → IsSaidInFull k rest) → ((t : List ℕ) → StandsForView (kept t) (view_in t) t)
+pub laws_hold : ((s : TextStage) (k rest : List ℕ) → Keeps s k → ends_after_it k ≡ true → CountsFit nowhere (k ++ 40 ∷ rest) → IsSaidInFull k rest) → ((t : List ℕ) → StandsForView (kept t) (view_in t) t)
     → ((split : Bool) (macros : ℕ) (at : Place) (how : NoteEnd) (t rest : List ℕ) (mark : ℕ) → IsSnippet gabc t → IsMarkOf split how mark → IsReadAgain split macros at t mark rest)
     → ((at : Place) (how : NoteEnd) (t rest : List ℕ) (mark : ℕ) → IsSnippet nabc_table t → IsMarkOf true how mark → IsNabcReadAgain at t mark rest) → PartLaws
 laws_hold said stands gabc_again nabc_again = record {

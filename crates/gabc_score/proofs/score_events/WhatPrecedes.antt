@@ -1,10 +1,11 @@
--- What was gathered behind the syllables given stays what these tell, with each event more.
+-- What was gathered after the syllables given stays what these report, with each event more.
 use Rattle.std.proofs.Common.{◌≡◌, ℕ, suc, ◌+◌, ◌-◌, ◌≤◌, ◌<◌, ◌==◌, ◌&&◌, ◌||◌, ◌⊎◌, inl, inr, min, not, nat_le, nat_lt, Bool, true, false, cond, List, [], ◌∷◌, ◌++◌, map, length, take, drop, encode_utf8, Option, Some, None, refl, sym, ap, subst, ◌∙◌, arith, append-nil, length-append, length-drop, length-take}
 use Rattle.std.specs.Prelude.{is_some}
 use Rattle.std.specs.List.{All}
 use Rattle.std.proofs.lemmas.Bool.Decides.{nat_tests}
 use Rattle.std.proofs.lemmas.List.{drop-append-le, take-append-le, take-append-drop}
 use Rattle.std.proofs.lemmas.List.Elements.{All-nil, All-cons, All-head, All-tail, All-append}
+use Rattle.std.proofs.Math.Bool.{or-false}
 use Rattle.std.proofs.lemmas.List.Folds.{list_any-append}
 use Rattle.gabc_places.specs.declared.place.Span.{Span}
 use Rattle.gabc_places.specs.declared.code.Finding.{Finding}
@@ -38,7 +39,7 @@ use Rattle.gabc_score.proofs.score_events.FewAndShortAreLent.{given_syllables}
 use Rattle.gabc_score.proofs.score_events.OutputsOfLentSyllables.{found_syllables}
 use Rattle.gabc_score.specs.machine.SyllableBuilder.{OpenSyllable, made_from, past_text, snippet_from, nothing_open}
 
--- ---- a snippet that has ended sounds the same with more text behind it
+-- ---- a snippet that has ended sounds the same with more text after it
 
 seam_before : (n : ℕ) (kept more : List ℕ) → n < length kept → is_seam (drop n (kept ++ more)) ≡ is_seam (drop n kept)
 seam_before n kept more h = ap is_seam (drop-append-le n kept more (omega (arith, h))) ∙ by (drop n kept) (length-drop n kept)
@@ -247,7 +248,7 @@ pub preceded_all : (before : Preceding) (g : Gathered) (now : List BodyEvent) �
 preceded_all before g [] h = h
 preceded_all before g (t ∷ now) h = preceded_all before (with_event g t) now (preceded_with before g t h)
 
--- ---- behind a point at which at most one syllable has become whole
+-- ---- after a point at which at most one syllable has become whole
 
 -- one syllable more was made last, and nothing is read of the next one
 pub record Closed (g h : Gathered) : Type 0 where
@@ -284,7 +285,7 @@ same_or_closed g (event.Notes line (note.Ended note_end.Next n) ∷ now) c = let
 same_or_closed g (event.Notes line (note.Ended note_end.Close n) ∷ now) c = inr (closed_last g line n now (c.0 refl))
 same_or_closed g (event.Notes line (note.Ended (note_end.Cut p) n) ∷ now) c = let k = with_event g (event.Notes line (note.Ended (note_end.Cut p) n)) in after g k now refl (same_or_closed k now c.1)
 
--- what is behind it then
+-- what is after it then
 behind_is : (before : Preceding) (h : Gathered) (ms : List UnplacedSyllable) (m : UnplacedSyllable) → IsPreceded before h → h.made ≡ ms ++ m ∷ [] → m.eu ≡ h.eu → m.nlba ≡ h.nlba → h.builder ≡ nothing_open
     → behind_gathered (with_each before ms).syllables h ≡ with_each before h.made
 behind_is before h ms m p made eu nlba builder =
@@ -302,7 +303,7 @@ behind_is before h ms m p made eu nlba builder =
     by_fields : ℕ → ℕ → Bool → Bool → Bool → Preceding
     by_fields syllables canonical_bytes eu_is nlba_is sounded_is = record { syllables = syllables; canonical = canonical_bytes; spans = record { eu = eu_is; nlba = nlba_is }; sounded = sounded_is }
 
--- What stands before and behind what is held then tells of what was gathered, where the one held before is given or not.
+-- What stands before and after what is held then reports of what was gathered, where the one held before is given or not.
 pub record Turns (b : Bounds) (h : Gathered) (has_lent whole gave : Bool) : Type 0 where
   pub preceded : IsPreceded (before_past whole gave b) (with_held h)
   pub behind : (past_point whole gave b h).behind ≡ with_each (before_past whole gave b) (with_held h).made
@@ -342,7 +343,7 @@ module _ (before : Preceding) (h : Gathered) (has_lent : Bool) (p : IsPreceded b
     given = rw e refl;
   }
 
-  -- one behind another has
+  -- one after another has
   next_whole : (s m : UnplacedSyllable) → h.made ≡ s ∷ m ∷ [] → m.eu ≡ h.eu → m.nlba ≡ h.nlba → h.builder ≡ nothing_open → Turns (bounds before (with_one before s)) h has_lent true true
   next_whole s m e eu nlba builder = record {
     preceded = rw e (given_one before h s m (turns_by (s ∷ m ∷ []) e refl));
@@ -413,16 +414,8 @@ each_some p (m ∷ ms) h = each_some (with_one p m) ms (omega (arith, h))
 -- one was exactly if one stands before the syllable that is held
 pub lent_past : (before passed : Preceding) (has_lent gave : Bool) (made : List UnplacedSyllable) → has_lent ≡ nat_lt 0 before.syllables → passed ≡ with_placed before (take (length made - 1) (placed_behind has_lent made))
     → gave ≡ nat_lt 1 (length made) → (has_lent || gave) ≡ nat_lt 0 passed.syllables
-lent_past before passed has_lent gave [] l p g = rw (g, p) (or_none has_lent ∙ l)
-  where
-    or_none : (b : Bool) → (b || false) ≡ b
-    or_none true = refl
-    or_none false = refl
-lent_past before passed has_lent gave (m ∷ []) l p g = rw (g, p) (or_none has_lent ∙ l)
-  where
-    or_none : (b : Bool) → (b || false) ≡ b
-    or_none true = refl
-    or_none false = refl
+lent_past before passed has_lent gave [] l p g = rw (g, p) (or-false has_lent ∙ l)
+lent_past before passed has_lent gave (m ∷ []) l p g = rw (g, p) (or-false has_lent ∙ l)
 lent_past before passed has_lent gave (m ∷ n ∷ made) l p g =
     ap (λ b. has_lent || b) (g ∙ more) ∙ or_some has_lent ∙ sym (ap (λ (k : Preceding). nat_lt 0 k.syllables) p ∙ ap (λ k. nat_lt 0 (with_placed before (take k (placed_behind has_lent (m ∷ n ∷ made)))).syllables) count ∙ some)
   where

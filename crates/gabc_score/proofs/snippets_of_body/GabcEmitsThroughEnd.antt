@@ -12,7 +12,7 @@ use Rattle.gabc_notes.specs.declared.stage.NoteEnd.TheVariants as note_end
 use Rattle.gabc_notes.specs.declared.stage.NoteEvent.{NoteEvent}
 use Rattle.gabc_notes.specs.declared.stage.NoteEvent.TheVariants as note
 use Rattle.gabc_notes.specs.SnippetRead.{kept_of, ends_of}
-use Rattle.gabc_notes.specs.Events.{is_in_raw, Point, in_raw, outside_comments, with_comments, kept, is_comment, is_end, is_over, is_fused, is_unpaired, is_missing, item_at, macro_of, opener, finding_event, end_by_mark, bytes_of, warnings, at_end, cut_events, events_at, note_events_behind}
+use Rattle.gabc_notes.specs.Events.{is_in_raw, Point, in_raw, outside_comments, with_comments, kept, is_comment, is_end, is_over, is_fused, is_unpaired, is_missing, item_at, macro_of, opener, finding_event, end_by_mark, bytes_of, warnings, at_end, cut_events, events_at, note_events_after}
 use Rattle.gabc_score.proofs.snippets_of_body.SnippetsEndAlike.{Goes, Stops, Cuts, IsMark, Grammar, lists, run, few_one}
 
 abbrev point : List Char → Char → Point
@@ -130,11 +130,11 @@ module _ (split : Bool) (macros : ℕ) where
     cuts = λ back r. cuts_by back (is_over split back) r;
   }
 
-  pub emits_lists : (back xs : List Char) → note_events_behind split macros back xs ≡ lists gabc_grammar back xs
+  pub emits_lists : (back xs : List Char) → note_events_after split macros back xs ≡ lists gabc_grammar back xs
   emits_lists back [] = refl
   emits_lists back (x ∷ xs) = ap (λ ls. said_of back x ∷ ls) (emits_lists (x ∷ back) xs)
 
-  -- the state behind characters
+  -- the state after characters
   pub run_gabc : (back xs : List Char) → run gabc_grammar back xs ≡ reverse xs ++ back
   run_gabc back [] = refl
   run_gabc back (x ∷ xs) = run_gabc (x ∷ back) xs ∙ sym (append_assoc (reverse xs) (x ∷ []) back) ∙ ap (λ ys. ys ++ back) (sym (reverse_onto xs x []))

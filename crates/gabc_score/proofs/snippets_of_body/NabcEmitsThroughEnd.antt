@@ -9,7 +9,7 @@ use Rattle.gabc_patterns.specs.Function.{keep, trim}
 use Rattle.gabc_patterns.proofs.FunctionsMeetRelations.{keep_append}
 use Rattle.gabc_text.specs.Events.{codes_of}
 use Rattle.gabc_nabc.specs.Table.{nabc}
-use Rattle.gabc_nabc.specs.Events.{in_comment, is_character, is_end, characters_behind, has_end_behind, has_end, kept_of, bytes_in, first_of, is_missing, end_events, events_at, cut_events, nabc_events_behind}
+use Rattle.gabc_nabc.specs.Events.{in_comment, is_character, is_end, characters_after, has_end_after, has_end, kept_of, bytes_in, first_of, is_missing, end_events, events_at, cut_events, nabc_events_after}
 use Rattle.gabc_notes.specs.Events.{finding_event, end_by_mark}
 use Rattle.gabc_notes.specs.declared.stage.NoteEnd.TheVariants as note_end
 use Rattle.gabc_notes.specs.declared.stage.NoteEvent.{NoteEvent}
@@ -23,11 +23,11 @@ or_assoc : (a b c : Bool) → ((a || b) || c) ≡ (a || (b || c))
 or_assoc true b c = refl
 or_assoc false b c = refl
 
-end_more : (prefix t : List ℕ) (c : ℕ) → has_end_behind prefix (t ++ c ∷ []) ≡ (has_end_behind prefix t || is_end (prefix ++ t) c)
+end_more : (prefix t : List ℕ) (c : ℕ) → has_end_after prefix (t ++ c ∷ []) ≡ (has_end_after prefix t || is_end (prefix ++ t) c)
 end_more prefix [] c = or-false (is_end prefix c) ∙ ap (λ s. is_end s c) (sym (append-nil prefix))
 end_more prefix (d ∷ t) c =
-    ap (λ b. is_end prefix d || b) (end_more (prefix ++ d ∷ []) t c ∙ ap (λ s. has_end_behind (prefix ++ d ∷ []) t || is_end s c) (append_assoc prefix (d ∷ []) t))
-    ∙ sym (or_assoc (is_end prefix d) (has_end_behind (prefix ++ d ∷ []) t) (is_end (prefix ++ d ∷ t) c))
+    ap (λ b. is_end prefix d || b) (end_more (prefix ++ d ∷ []) t c ∙ ap (λ s. has_end_after (prefix ++ d ∷ []) t || is_end s c) (append_assoc prefix (d ∷ []) t))
+    ∙ sym (or_assoc (is_end prefix d) (has_end_after (prefix ++ d ∷ []) t) (is_end (prefix ++ d ∷ t) c))
 
 abbrev one_if : Bool → ℕ → List ℕ
 one_if b c = if b then c ∷ [] else []
@@ -36,21 +36,21 @@ after_if : (b : Bool) (c : ℕ) (s t : List ℕ) → (if b then c ∷ (s ++ t) e
 after_if true c s t = refl
 after_if false c s t = refl
 
-characters_more : (prefix t : List ℕ) (c : ℕ) → characters_behind prefix (t ++ c ∷ []) ≡ characters_behind prefix t ++ one_if (is_character (prefix ++ t) c) c
+characters_more : (prefix t : List ℕ) (c : ℕ) → characters_after prefix (t ++ c ∷ []) ≡ characters_after prefix t ++ one_if (is_character (prefix ++ t) c) c
 characters_more prefix [] c = ap (λ s. one_if (is_character s c) c) (sym (append-nil prefix))
 characters_more prefix (d ∷ t) c =
     ap (λ (s : List ℕ). if is_character prefix d then d ∷ s else s)
-    (characters_more (prefix ++ d ∷ []) t c ∙ ap (λ s. characters_behind (prefix ++ d ∷ []) t ++ one_if (is_character s c) c) (append_assoc prefix (d ∷ []) t))
-    ∙ after_if (is_character prefix d) d (characters_behind (prefix ++ d ∷ []) t) (one_if (is_character (prefix ++ d ∷ t) c) c)
+    (characters_more (prefix ++ d ∷ []) t c ∙ ap (λ s. characters_after (prefix ++ d ∷ []) t ++ one_if (is_character s c) c) (append_assoc prefix (d ∷ []) t))
+    ∙ after_if (is_character prefix d) d (characters_after (prefix ++ d ∷ []) t) (one_if (is_character (prefix ++ d ∷ t) c) c)
 
 kept_by : (t : List ℕ) (c : ℕ) (character viable : Bool) → is_character t c ≡ character → is_viable nabc (kept_of t ++ c ∷ []) ≡ viable
     → kept_of (t ++ c ∷ []) ≡ (if character then (if viable then kept_of t ++ c ∷ [] else kept_of t) else kept_of t)
 kept_by t c true viable h v =
-    ap (keep nabc) (characters_more [] t c ∙ ap (λ b. characters_behind [] t ++ one_if b c) h)
-    ∙ keep_append nabc [] (characters_behind [] t) (c ∷ [])
+    ap (keep nabc) (characters_more [] t c ∙ ap (λ b. characters_after [] t ++ one_if b c) h)
+    ∙ keep_append nabc [] (characters_after [] t) (c ∷ [])
     ∙ ap (λ b. cond b (kept_of t ++ c ∷ []) (kept_of t)) v
 kept_by t c false viable h v =
-    ap (keep nabc) (characters_more [] t c ∙ ap (λ b. characters_behind [] t ++ one_if b c) h ∙ append-nil (characters_behind [] t))
+    ap (keep nabc) (characters_more [] t c ∙ ap (λ b. characters_after [] t ++ one_if b c) h ∙ append-nil (characters_after [] t))
 
 -- ---- what is emitted
 
@@ -137,11 +137,11 @@ nabc_grammar = record {
   cuts = cuts_nabc;
 }
 
-pub events_lists : (t : List ℕ) (xs : List Char) → nabc_events_behind t xs ≡ lists nabc_grammar t xs
+pub events_lists : (t : List ℕ) (xs : List Char) → nabc_events_after t xs ≡ lists nabc_grammar t xs
 events_lists t [] = refl
 events_lists t (x ∷ xs) = ap (λ ls. events_at t x ∷ ls) (events_lists (t ++ x.c ∷ []) xs)
 
--- the state behind characters
+-- the state after characters
 pub run_nabc : (t : List ℕ) (xs : List Char) → run nabc_grammar t xs ≡ t ++ codes_of xs
 run_nabc t [] = sym (append-nil t)
 run_nabc t (x ∷ xs) = run_nabc (t ++ x.c ∷ []) xs ∙ append_assoc t (x.c ∷ []) (codes_of xs)

@@ -19,7 +19,7 @@ use Rattle.gabc_nabc.specs.Events.{kept_of as nabc_kept, bytes_in, nabc_events a
 use Rattle.gabc_score.specs.declared.events.BodyEvent.{BodyEvent}
 use Rattle.gabc_score.specs.declared.events.BodyEvent.TheVariants.{Notes}
 use Rattle.gabc_score.specs.Events.{InNotes, note_event, snippet_from}
-use Rattle.gabc_score.specs.Units.{Mark, events_through, Endless, EndsBehind}
+use Rattle.gabc_score.specs.Units.{Mark, events_through, Endless, EndsAfter}
 use Rattle.gabc_score.specs.Holding.{IsSnippetOf, kept_on_line}
 use Rattle.gabc_score.proofs.texts_of_body.SeamsOfCharacters.{size, size_append, size_is_sum}
 use Rattle.gabc_score.proofs.snippets_of_body.SnippetsEndAlike.{IsMark, run, Grammar, Marks, EndEmitted, CutEmitted, lists, ended, endless}
@@ -107,18 +107,18 @@ module _ (lines macros : ℕ) (opened : Place) where
 
   -- a snippet that ends at a mark
   pub line_emitted : (line : ℕ) (prefix : List Char) (end : Char) (rest : List Char) (mark : Mark) → size (codes_of prefix) < 2 ^ 63
-      → EndsBehind lines (snippet_from lines macros line opened (prefix ++ end ∷ rest)) prefix mark
+      → EndsAfter lines (snippet_from lines macros line opened (prefix ++ end ∷ rest)) prefix mark
       → LineEmitted lines line opened prefix end mark (concat_of (events_through (snippet_from lines macros line opened (prefix ++ end ∷ rest)) prefix))
   line_emitted zero prefix end rest mark fits h =
       let xs = prefix ++ end ∷ rest in
       subst (λ ls. LineEmitted lines 0 opened prefix end mark (concat_of (events_through (InNotes 0 opened ls) prefix))) (sym (emits_are xs))
       (trimmed_emitted gabc lines 0 opened (gabc_grammar split macros) [] prefix end mark _ fits refl (λ t k. gabc_count (trim gabc t) k) gabc_trims (λ t k. k) (gabc_keeps prefix)
-      (ended lines 0 opened (gabc_grammar split macros) [] prefix end rest mark refl (subst (λ ls. EndsBehind lines (InNotes 0 opened ls) prefix mark) (emits_are xs) h)))
+      (ended lines 0 opened (gabc_grammar split macros) [] prefix end rest mark refl (subst (λ ls. EndsAfter lines (InNotes 0 opened ls) prefix mark) (emits_are xs) h)))
   line_emitted (suc line) prefix end rest mark fits h =
       let xs = prefix ++ end ∷ rest in
       subst (λ part. LineEmitted lines (suc line) opened prefix end mark (concat_of (events_through part prefix))) (sym (nabc_part line xs))
       (trimmed_emitted nabc lines (suc line) opened nabc_grammar [] prefix end mark _ fits refl (λ t k. nabc_count (trim nabc t) k) nabc_trims (λ t k. k) (ap (λ t. trim nabc (nabc_kept t)) (run_nabc [] prefix))
-      (ended lines (suc line) opened nabc_grammar [] prefix end rest mark refl (subst (λ part. EndsBehind lines part prefix mark) (nabc_part line xs) h)))
+      (ended lines (suc line) opened nabc_grammar [] prefix end rest mark refl (subst (λ part. EndsAfter lines part prefix mark) (nabc_part line xs) h)))
 
   -- a snippet that the end of the input cuts
   pub line_cut : (line : ℕ) (last : List Char) → Endless lines (snippet_from lines macros line opened last) last

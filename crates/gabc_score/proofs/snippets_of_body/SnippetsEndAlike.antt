@@ -16,7 +16,7 @@ use Rattle.gabc_notes.specs.SnippetRead.{kept_of, ends_of}
 use Rattle.gabc_score.specs.declared.events.BodyEvent.{BodyEvent}
 use Rattle.gabc_score.specs.declared.events.BodyEvent.TheVariants.{Notes}
 use Rattle.gabc_score.specs.Events.{PartAhead, InNotes, is_next, is_close, next_line, note_event}
-use Rattle.gabc_score.specs.Units.{Mark, Opens, Next, Closes, events_through, Endless, EndsBehind}
+use Rattle.gabc_score.specs.Units.{Mark, Opens, Next, Closes, events_through, Endless, EndsAfter}
 use Rattle.gabc_score.proofs.texts_of_body.SeamsOfCharacters.{size, size_append, size_of_one}
 
 -- ---- events without an end
@@ -32,7 +32,7 @@ few_one x more h = let one : size (x.c ∷ more) ≡ len_utf8 x.c = ap (λ ks. s
 
 -- ---- a grammar of snippets
 
--- What is emitted of a character in a state: no end, and what is kept is kept behind what was kept before.
+-- What is emitted of a character in a state: no end, and what is kept is kept after what was kept before.
 pub record Goes {S : Type 0} (Running : S → Type 0) (kept : S → List ℕ) (next : S → Char → S) (s : S) (x : Char) (emitted : List NoteEvent) : Type 0 where
   pub silent : ends_of emitted ≡ []
   pub kept_is : kept (next s x) ≡ kept s ++ kept_of emitted
@@ -75,7 +75,7 @@ abbrev pub lists : {S : Type 0} → Grammar S → S → List Char → List (List
 lists g s [] = g.cut s ∷ []
 lists g s (x ∷ xs) = g.emitted_at s x ∷ lists g (g.next s x) xs
 
--- the state behind these characters
+-- the state after these characters
 abbrev pub run : {S : Type 0} → Grammar S → S → List Char → S
 run g s [] = s
 run g s (x ∷ xs) = run g (g.next s x) xs
@@ -156,7 +156,7 @@ module _ (lines line : ℕ) (opened : Place) where
         ∙ map-append (note_event line opened) st.mids (note.Ended st.how count ∷ [])
         ∙ ap (λ t. map (note_event line opened) st.mids ++ t ∷ []) (mark_is_emitted st.how count c st.is_mark)
 
-    -- what is kept behind a character is kept behind what it keeps
+    -- what is kept after a character is kept after what it keeps
     kept_on : (s : S) (x : Char) (mids : List NoteEvent) → g.kept (g.next s x) ≡ g.kept s ++ kept_of (g.emitted_at s x) → g.kept (g.next s x) ++ kept_of mids ≡ g.kept s ++ kept_of (g.emitted_at s x ++ mids)
     kept_on s x mids h =
         ap (λ ks. ks ++ kept_of mids) h ∙ append_assoc (g.kept s) (kept_of (g.emitted_at s x)) (kept_of mids)
@@ -214,7 +214,7 @@ module _ (lines line : ℕ) (opened : Place) where
     }
     ended_on s x prefix end rest mark h (inr st) later = absurd (no_stop s x h st)
 
-    pub ended : (s : S) (prefix : List Char) (end : Char) (rest : List Char) (mark : Mark) → g.Running s → EndsBehind lines (part_at s (prefix ++ end ∷ rest)) prefix mark
+    pub ended : (s : S) (prefix : List Char) (end : Char) (rest : List Char) (mark : Mark) → g.Running s → EndsAfter lines (part_at s (prefix ++ end ∷ rest)) prefix mark
         → EndEmitted g lines line opened s prefix end mark (concat_of (events_through (part_at s (prefix ++ end ∷ rest)) prefix))
     ended s [] end rest mark r h = ended_here s end rest mark h (g.goes s end r)
     ended s (x ∷ prefix) end rest mark r h = ended_on s x prefix end rest mark h.0 (g.goes s x r) (λ k. ended (g.next s x) prefix end rest mark k h.1)

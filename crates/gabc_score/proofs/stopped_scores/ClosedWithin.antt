@@ -21,7 +21,7 @@ use Rattle.gabc_score.specs.declared.events.BodyEvent.TheVariants.{Text, Notes}
 use Rattle.gabc_score.specs.Syllable.{closes, since_close, all_syllables, syllable_by, is_eu, is_nlba}
 use Rattle.gabc_score.specs.Body.{events_onto}
 use Rattle.gabc_score.specs.Events.{PartAhead, InComment, InText, InNotes, is_next, is_close, note_event, first_list, events_in, texts_by_definition, snippet_from, next_line}
-use Rattle.gabc_score.specs.Units.{Mark, Opens, Next, Closes, CutPart, EndedPart, BodyUnit, LastUnit, JustText, OpenNotes, cut_part, whole, part_onward, events_through, mark_in, Endless, EndsBehind, snippets_with, last_pieces, units_pieces, part_following, Cuts, events_of_cutting}
+use Rattle.gabc_score.specs.Units.{Mark, Opens, Next, Closes, CutPart, EndedPart, BodyUnit, LastUnit, JustText, OpenNotes, cut_part, whole, part_onward, events_through, mark_in, Endless, EndsAfter, snippets_with, last_pieces, units_pieces, part_following, Cuts, events_of_cutting}
 use Rattle.gabc_score.specs.SyllablesOfUnits.{with_ends, characters_in, count_within}
 use Rattle.gabc_score.proofs.texts_of_body.SeamsOfCharacters.{size}
 use Rattle.gabc_score.proofs.snippets_of_body.SnippetsEndAlike.{Marks}
@@ -111,7 +111,7 @@ module _ (lines : ℕ) where
       omega arith
 
   -- before its end no syllable ends
-  before_end : (part : PartAhead) (prefix : List Char) (mark : Mark) → EndsBehind lines part prefix mark → (n : ℕ) → n ≤ length prefix → close_count (concat_of (take n (events_through part prefix))) ≡ 0
+  before_end : (part : PartAhead) (prefix : List Char) (mark : Mark) → EndsAfter lines part prefix mark → (n : ℕ) → n ≤ length prefix → close_count (concat_of (take n (events_through part prefix))) ≡ 0
   before_end part prefix mark h zero k = refl
   before_end part [] mark h (suc n) k = absurd (omega (arith, k))
   before_end part (x ∷ prefix) mark h (suc n) k = more_count part n (events_through (part_onward part) prefix) h.0 (before_end (part_onward part) prefix mark h.1 n (omega (arith, k)))
@@ -135,7 +135,7 @@ module _ (lines : ℕ) where
 
 -- ---- of parts
 
--- how many of these parts end a unit within so many characters
+-- how many of these parts end a unit within n characters
 abbrev pub pieces_within : ℕ → List CutPart → ℕ
 pieces_within n [] = 0
 pieces_within n (p ∷ pieces) =
@@ -170,19 +170,19 @@ module _ (lines macros : ℕ) where
   follows_begun Closes x xs = tt
 
   part_count : (part : PartAhead) (prefix : List Char) (end : Char) (rest : List Char) (mark : Mark) → IsBegun part (prefix ++ end ∷ rest) → size (codes_of prefix) < 2 ^ 63
-      → EndsBehind lines part prefix mark → close_count (concat_of (events_through part prefix)) ≡ mark_count mark
+      → EndsAfter lines part prefix mark → close_count (concat_of (events_through part prefix)) ≡ mark_count mark
   part_count InComment prefix end rest mark b fits h = absurd b
   part_count (InText lists) prefix end rest Opens b fits h = text_through lines lists prefix
   part_count (InText lists) prefix end rest (Next k o) b fits h = absurd (text_mark texts_by_definition lines macros lists prefix (Next k o) h)
   part_count (InText lists) prefix end rest Closes b fits h = absurd (text_mark texts_by_definition lines macros lists prefix Closes h)
   part_count (InNotes line opened lists) prefix end rest mark b fits h =
       ap (λ part. close_count (concat_of (events_through part prefix))) b
-      ∙ line_count lines line opened prefix end mark _ (line_emitted lines macros opened line prefix end rest mark fits (subst (λ part. EndsBehind lines part prefix mark) b h))
+      ∙ line_count lines line opened prefix end mark _ (line_emitted lines macros opened line prefix end rest mark fits (subst (λ part. EndsAfter lines part prefix mark) b h))
 
   abbrev lists_of : PartAhead → List CutPart → List Char → List (List BodyEvent)
   lists_of part pieces last = events_of_cutting texts_by_definition lines macros part pieces last
 
-  -- parts that end within so many characters
+  -- parts that end within n characters
   pub pieces_count : (part : PartAhead) (pieces : List CutPart) (last : List Char) → IsBegun part (whole pieces last) → size (codes_of (whole pieces last)) < 2 ^ 63 → Cuts texts_by_definition lines macros part pieces last
       → (n : ℕ) → n ≤ length (whole pieces last) → close_count (concat_of (take n (lists_of part pieces last))) ≡ pieces_within n pieces
   pieces_count part [] last b fits h n k = never_ends lines part last h n k

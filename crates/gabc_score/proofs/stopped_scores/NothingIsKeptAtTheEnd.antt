@@ -26,7 +26,7 @@ use Rattle.gabc_score.specs.declared.events.BodyEvent.{BodyEvent}
 use Rattle.gabc_score.specs.declared.events.BodyEvent.TheVariants as event
 use Rattle.gabc_score.specs.Syllable.{since_close, kept_of, all_syllables}
 use Rattle.gabc_score.specs.Body.{events_onto, events_to_stop, code_by, code_at}
-use Rattle.gabc_score.specs.Events.{PartAhead, InComment, InText, InNotes, is_text_end, is_next, is_close, note_event, first_list, other_lists, events_at_end, texts_by_definition, text_from, snippet_from, next_line, behind_mark, part_at, part_behind, events_from, body_events}
+use Rattle.gabc_score.specs.Events.{PartAhead, InComment, InText, InNotes, is_text_end, is_next, is_close, note_event, first_list, other_lists, events_at_end, texts_by_definition, text_from, snippet_from, next_line, after_mark, part_at, part_after_character, events_from, body_events}
 use Rattle.gabc_score.specs.Stops.{events_in_points, StopsAt, NeverStops}
 use Rattle.gabc_score.proofs.building.StopIsFirst.{stop_is_first}
 use Rattle.gabc_score.proofs.building.OneListEachCharacter.{events_each}
@@ -82,7 +82,7 @@ abbrev QuietText : List TextEvent → Type 0
 QuietText [] = Unit {0}
 QuietText (o ∷ emitted) = IsQuiet (event.Text o) × QuietText emitted
 
--- the list of the end is quiet, which stands behind those of the characters
+-- the list of the end is quiet, which stands after those of the characters
 abbrev TextEndsQuietly : List (List TextEvent) → List Char → Type 0
 TextEndsQuietly lists [] = QuietText (first_list lists)
 TextEndsQuietly lists (x ∷ xs) = TextEndsQuietly (other_lists lists) xs
@@ -187,11 +187,11 @@ notes_if : (b : Bool) (xs ys : List NoteEvent) → QuietNotes xs → QuietNotes 
 notes_if true xs ys h k = h
 notes_if false xs ys h k = k
 
-gabc_ends : (split : Bool) (macros : ℕ) (back xs : List Char) → NotesEndQuietly (notes.note_events_behind split macros back xs) xs
+gabc_ends : (split : Bool) (macros : ℕ) (back xs : List Char) → NotesEndQuietly (notes.note_events_after split macros back xs) xs
 gabc_ends split macros back [] = notes_if (notes.is_over split back) [] _ tt tt
 gabc_ends split macros back (x ∷ xs) = gabc_ends split macros (x ∷ back) xs
 
-nabc_ends : (t : List ℕ) (xs : List Char) → NotesEndQuietly (nabc.nabc_events_behind t xs) xs
+nabc_ends : (t : List ℕ) (xs : List Char) → NotesEndQuietly (nabc.nabc_events_after t xs) xs
 nabc_ends t [] = notes_if (nabc.has_end t) [] _ tt tt
 nabc_ends t (x ∷ xs) = nabc_ends (t ++ x.c ∷ []) xs
 
@@ -240,7 +240,7 @@ module _ (ends : (at : Place) (t : List ℕ) → EndsOnce at t) (lines macros : 
   standing_ends (InText lists) x xs h = h
   standing_ends (InNotes line opened lists) x xs h = h
 
-  behind_ends : (part : PartAhead) (x : Char) (xs : List Char) → EndsQuietly part (x ∷ xs) → EndsQuietly (part_behind texts_by_definition lines macros part x xs) xs
+  behind_ends : (part : PartAhead) (x : Char) (xs : List Char) → EndsQuietly part (x ∷ xs) → EndsQuietly (part_after_character texts_by_definition lines macros part x xs) xs
   behind_ends InComment x xs h = tt
   behind_ends (InText lists) x xs h = by (list_any is_text_end (first_list lists))
     where
@@ -249,9 +249,9 @@ module _ (ends : (at : Place) (t : List ℕ) → EndsOnce at t) (lines macros : 
       by false = h
   behind_ends (InNotes line opened lists) x xs h = by (list_any is_next (first_list lists)) (list_any is_close (first_list lists))
     where
-      by : (b d : Bool) → EndsQuietly (if b then snippet_from lines macros (next_line lines line) opened xs else if d then text_from texts_by_definition (behind_mark x.place) xs else InNotes line opened (other_lists lists)) xs
+      by : (b d : Bool) → EndsQuietly (if b then snippet_from lines macros (next_line lines line) opened xs else if d then text_from texts_by_definition (after_mark x.place) xs else InNotes line opened (other_lists lists)) xs
       by true d = snippet_here (next_line lines line) opened xs
-      by false true = text_here (behind_mark x.place) xs
+      by false true = text_here (after_mark x.place) xs
       by false false = h
 
   -- the list of the end
@@ -259,7 +259,7 @@ module _ (ends : (at : Place) (t : List ℕ) → EndsOnce at t) (lines macros : 
   events_ends part [] h = quiet_both (events_at_end part) [] (end_emitted_quiet part h) tt
   events_ends part (x ∷ xs) h =
       let now = part_at texts_by_definition part x xs in
-      events_ends (part_behind texts_by_definition lines macros now x xs) xs (behind_ends now x xs (standing_ends part x xs h))
+      events_ends (part_after_character texts_by_definition lines macros now x xs) xs (behind_ends now x xs (standing_ends part x xs h))
 
   module _ (limits : Limits) (head : ℕ) where
     pub none_at_first : code_at limits head [] ≡ None

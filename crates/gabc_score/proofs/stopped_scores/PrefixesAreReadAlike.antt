@@ -18,8 +18,8 @@ use Rattle.gabc_notes.specs.Events as notes
 use Rattle.gabc_nabc.specs.Events as nabc
 use Rattle.gabc_score.specs.declared.events.BodyEvent.{BodyEvent}
 use Rattle.gabc_score.specs.declared.events.BodyEvent.TheVariants.{Text}
-use Rattle.gabc_score.specs.Events.{PartAhead, InComment, InText, InNotes, is_text_end, is_next, is_close, note_event, first_list, other_lists, events_in, texts_by_definition, text_from, snippet_from, next_line, behind_mark}
-use Rattle.gabc_score.specs.Units.{Mark, Opens, Next, Closes, CutPart, EndedPart, BodyUnit, LastUnit, JustText, cut_part, whole, part_onward, events_through, mark_in, EndsBehind, snippets_with, units_pieces, last_characters, part_following, Cuts, events_of_cutting}
+use Rattle.gabc_score.specs.Events.{PartAhead, InComment, InText, InNotes, is_text_end, is_next, is_close, note_event, first_list, other_lists, events_in, texts_by_definition, text_from, snippet_from, next_line, after_mark}
+use Rattle.gabc_score.specs.Units.{Mark, Opens, Next, Closes, CutPart, EndedPart, BodyUnit, LastUnit, JustText, cut_part, whole, part_onward, events_through, mark_in, EndsAfter, snippets_with, units_pieces, last_characters, part_following, Cuts, events_of_cutting}
 use Rattle.gabc_score.proofs.texts_of_body.SeamsOfCharacters.{size, size_append}
 use Rattle.gabc_score.proofs.holding.SnippetsAreHeld.{bytes_are_size}
 use Rattle.gabc_score.proofs.holding.SyllablesHoldParts.{fits_back}
@@ -83,7 +83,7 @@ module _ (lines : ℕ) where
   agree_mark n (InNotes line opened ls) (InNotes k o ms) h =
       ap (mark_of_notes line opened) (same_first n ls ms h.1.1) ∙ ap (λ l. mark_of_notes l opened (first_list ms)) h.0 ∙ ap (λ p. mark_of_notes k p (first_list ms)) h.1.0
 
-  pub agree_ends : (part other : PartAhead) (prefix : List Char) (mark : Mark) → Agree (suc (length prefix)) part other → EndsBehind lines part prefix mark → EndsBehind lines other prefix mark
+  pub agree_ends : (part other : PartAhead) (prefix : List Char) (mark : Mark) → Agree (suc (length prefix)) part other → EndsAfter lines part prefix mark → EndsAfter lines other prefix mark
   agree_ends part other [] mark a h = sym (agree_mark 0 part other a) ∙ h
   agree_ends part other (x ∷ prefix) mark a h = (
     sym (agree_mark (suc (length prefix)) part other a) ∙ h.0,
@@ -200,7 +200,7 @@ module _ (fresh_is : (at : Place) (t : List ℕ) → CountsFit at t → events_l
     pub cuts : Cuts texts_by_definition lines macros other others []
     pub events : events_of_cutting texts_by_definition lines macros other others [] ≡ take (length (whole others [])) (events_of_cutting texts_by_definition lines macros part pieces last) ++ end_events
 
-  piece_prefix : (part other : PartAhead) (p : CutPart) (pieces others : List CutPart) (last : List Char) → Agree (suc (length p.characters)) part other → EndsBehind lines part p.characters p.mark
+  piece_prefix : (part other : PartAhead) (p : CutPart) (pieces others : List CutPart) (last : List Char) → Agree (suc (length p.characters)) part other → EndsAfter lines part p.characters p.mark
       → FrontOf (part_following texts_by_definition lines macros p.mark p.end (whole pieces last)) (part_following texts_by_definition lines macros p.mark p.end (whole others [])) pieces others last
       → FrontOf part other (p ∷ pieces) (p ∷ others) last
   piece_prefix part other p pieces others last a h f =
@@ -220,7 +220,7 @@ module _ (fresh_is : (at : Place) (t : List ℕ) → CountsFit at t → events_l
 
   notes_prefix : (line : ℕ) (opened : Place) (nexts : List EndedPart) (final : EndedPart) (more others : List CutPart) (last : List Char)
       → (let pieces = snippets_with lines line opened nexts (cut_part final Closes ∷ more) in let fronts = snippets_with lines line opened nexts (cut_part final Closes ∷ others) in
-      let at = behind_mark final.end.place in
+      let at = after_mark final.end.place in
       AllSmall (whole pieces last) → Cuts texts_by_definition lines macros (snippet_from lines macros line opened (whole pieces last)) pieces last
       → (AllSmall (whole more last) → SmallAt at (whole more last) → Cuts texts_by_definition lines macros (text_from texts_by_definition at (whole more last)) more last → FrontOf (text_from texts_by_definition at (whole more last)) (text_from texts_by_definition at (whole others [])) more others last)
       → size (codes_of (whole pieces last)) < 2 ^ 63
@@ -231,7 +231,7 @@ module _ (fresh_is : (at : Place) (t : List ℕ) → CountsFit at t → events_l
       let n : length (final.end ∷ rest) ≡ suc (length rest) = refl in
       let l = here.0 in
       let c = here.1.0 in
-      let at : SmallAt (behind_mark final.end.place) rest = record { line = omega arith; column = omega arith; bytes = fits_back (final.end ∷ []) rest (fits_back final.characters (final.end ∷ rest) fits) } in
+      let at : SmallAt (after_mark final.end.place) rest = record { line = omega arith; column = omega arith; bytes = fits_back (final.end ∷ []) rest (fits_back final.characters (final.end ∷ rest) fits) } in
       piece_prefix _ _ (cut_part final Closes) more others last (snippet_agrees line opened final.characters final.end rest (whole others [])) h.0 (on here.1.1 at h.1)
   notes_prefix line opened (e ∷ nexts) final more others last small h on fits =
       let next = next_line lines line in
@@ -242,7 +242,7 @@ module _ (fresh_is : (at : Place) (t : List ℕ) → CountsFit at t → events_l
       (notes_prefix next opened nexts final more others last (small_behind (e.end ∷ []) rest (small_behind e.characters (e.end ∷ rest) small)) h.1 on
       (fits_back (e.end ∷ []) rest (fits_back e.characters (e.end ∷ rest) fits)))
 
-  -- the characters of the first units, and what stands behind them
+  -- the characters of the first units, and what stands after them
   first_characters : (k : ℕ) (units : List BodyUnit) (last : LastUnit) → characters_from units last ≡ characters_from (take k units) (JustText []) ++ characters_from (drop k units) last
   first_characters zero units last = refl
   first_characters (suc k) [] last = refl
@@ -274,5 +274,5 @@ module _ (fresh_is : (at : Place) (t : List ℕ) → CountsFit at t → events_l
       small_prefix at (u.text.characters ++ u.text.end ∷ whole fronts []) tail (subst (SmallAt at) (first_whole (suc k) (u ∷ units) last) here) in
       piece_prefix _ _ (cut_part u.text Opens) pieces fronts end (text_agrees at u.text.characters u.text.end rest (whole fronts []) here prefix) h.0
       (notes_prefix 0 u.text.end.place u.nexts u.final more others end (small_behind (u.text.end ∷ []) rest (small_behind u.text.characters (u.text.end ∷ rest) small)) h.1
-      (λ s a c. units_prefix k units last (behind_mark u.final.end.place) s a c)
+      (λ s a c. units_prefix k units last (after_mark u.final.end.place) s a c)
       (fits_back (u.text.end ∷ []) rest (fits_back u.text.characters (u.text.end ∷ rest) here.bytes)))

@@ -5,7 +5,7 @@ use Rattle.std.specs.Char.{len_utf8}
 use Rattle.std.proofs.lemmas.Str.{len_utf8_bounds}
 use Rattle.std.proofs.Math.Seq.{take-append_seam, drop-append_seam}
 use Rattle.gabc_places.specs.StageLaw.{concat_of}
-use Rattle.gabc_places.specs.Place.{place_after, placed_characters_behind, place_past, placed_characters_from}
+use Rattle.gabc_places.specs.Place.{place_after, placed_characters_after, place_past, placed_characters_from}
 use Rattle.gabc_places.specs.declared.limits.Limits.{Limits}
 use Rattle.gabc_places.specs.declared.place.Place.{Place}
 use Rattle.gabc_places.specs.declared.place.Char.{Char}
@@ -34,11 +34,11 @@ use Rattle.gabc_score.specs.declared.ending.InputEnding.TheVariants.{Whole}
 use Rattle.gabc_score.specs.Body.{code_at, events_to_stop, body_of}
 use Rattle.gabc_score.specs.Canonical.{with_positions}
 use Rattle.gabc_score.specs.Events.{body_events}
-use Rattle.gabc_score.specs.Score.{heads_text, behind_heads, with_body}
+use Rattle.gabc_score.specs.Score.{heads_text, after_heads, with_body}
 use Rattle.gabc_score.specs.Stops.{events_in_points}
 use Rattle.gabc_score.specs.Syllable.{all_syllables}
 use Rattle.gabc_score.specs.Units.{Units, BodyCutting}
-use Rattle.gabc_score.specs.SyllablesOfUnits.{closed_units, count_in, whole_count, through_unit, whole_prefix, units_within, body_characters, IsBodyCut, StandBeforeStop, StandBeforeBodyStop}
+use Rattle.gabc_score.specs.SyllablesOfUnits.{closed_units, count_in, whole_count, through_unit, whole_prefix, units_within, body_characters, IsBodyCut, AreBeforeStop, AreBeforeBodyStop}
 use Rattle.gabc_score.proofs.score_events.PlainScores.{plain_by, plain_of}
 use Rattle.gabc_score.proofs.texts_of_body.SeamsOfCharacters.{size, size_append, size_of_one}
 use Rattle.gabc_places.proofs.PlacesOfAText.{placed_behind, behind_after, placed_append}
@@ -49,14 +49,14 @@ use Rattle.gabc_score.proofs.stopped_scores.StoppedScoreIsThatOfItsPrefix.{prefi
 
 -- ---- characters with their places
 
-placed_prefix : (f cs : List ℕ) (xs ys : List Char) → placed_characters_behind f cs ≡ xs ++ ys → placed_characters_behind f (codes_of xs) ≡ xs
+placed_prefix : (f cs : List ℕ) (xs ys : List Char) → placed_characters_after f cs ≡ xs ++ ys → placed_characters_after f (codes_of xs) ≡ xs
 placed_prefix f cs [] ys e = refl
 placed_prefix f [] (x ∷ xs) ys e = absurd (cc)
 placed_prefix f (c ∷ cs) (x ∷ xs) ys e =
     let here : Char = record { c = c; place = place_after f } in
     let first : here ≡ x = cc in
-    let rest : placed_characters_behind (f ++ c ∷ []) cs ≡ xs ++ ys = cc in
-    subst (λ (y : Char). placed_characters_behind f (y.c ∷ codes_of xs) ≡ y ∷ xs) first (ap (λ zs. here ∷ zs) (placed_prefix (f ++ c ∷ []) cs xs ys rest))
+    let rest : placed_characters_after (f ++ c ∷ []) cs ≡ xs ++ ys = cc in
+    subst (λ (y : Char). placed_characters_after f (y.c ∷ codes_of xs) ≡ y ∷ xs) first (ap (λ zs. here ∷ zs) (placed_prefix (f ++ c ∷ []) cs xs ys rest))
 
 some_bytes : (c : ℕ) → 1 ≤ size (c ∷ [])
 some_bytes c =
@@ -77,11 +77,11 @@ body_small t short =
     let few = few_characters t in
     let first : Place = record { line = 1; column = 1 } in
     let all : AllSmall (placed_characters_from first t) = small_placed first t (omega arith) (omega arith) in
-    let cut : t ≡ heads_text t ++ behind_heads t = sym (take-append-drop (head_len t + 2) t) in
+    let cut : t ≡ heads_text t ++ after_heads t = sym (take-append-drop (head_len t + 2) t) in
     subst AllSmall
-    (ap (λ p. placed_characters_from p (behind_heads t)) (behind_after [] (heads_text t)) ∙ placed_behind (heads_text t) (behind_heads t))
-    (small_behind (placed_characters_from first (heads_text t)) (placed_characters_from (place_past first (heads_text t)) (behind_heads t))
-    (subst AllSmall (ap (placed_characters_from first) cut ∙ placed_append first (heads_text t) (behind_heads t)) all))
+    (ap (λ p. placed_characters_from p (after_heads t)) (behind_after [] (heads_text t)) ∙ placed_behind (heads_text t) (after_heads t))
+    (small_behind (placed_characters_from first (heads_text t)) (placed_characters_from (place_past first (heads_text t)) (after_heads t))
+    (subst AllSmall (ap (placed_characters_from first) cut ∙ placed_append first (heads_text t) (after_heads t)) all))
 
 -- ---- the score
 
@@ -92,7 +92,7 @@ within_count m (Some u) =
     let few = within_few m u.closed in
     length-take-le (count_in m (Some u)) (closed_units u.closed u.last) (omega arith)
 
-none_before_stop : (limits : Limits) (head : ℕ) (xs : List Char) (lists : List (List BodyEvent)) (n : ℕ) → StandBeforeStop limits head xs lists n
+none_before_stop : (limits : Limits) (head : ℕ) (xs : List Char) (lists : List (List BodyEvent)) (n : ℕ) → AreBeforeStop limits head xs lists n
     → (i : ℕ) → i < n → code_at limits head (events_in_points [] lists (suc i)) ≡ None
 none_before_stop limits head xs lists n (inl h) i few = h.0.none i (omega (arith, h.1))
 none_before_stop limits head xs lists n (inr h) i few = h.0.none_earlier i (omega (arith, h.1))
@@ -103,7 +103,7 @@ module _ (ends : (at : Place) (t : List ℕ) → EndsOnce at t) (emits : (at : P
     (so_far : (s : TextStage) (t u v : List ℕ) → take (length t) (events_left s (t ++ u)) ≡ take (length t) (events_left s (t ++ v)))
     (notes_so_far : (split : Bool) (macros : ℕ) (xs ys zs : List Char) → take (length xs) (notes.note_events split macros (xs ++ ys)) ≡ take (length xs) (notes.note_events split macros (xs ++ zs)))
     (nabc_so_far : (xs ys zs : List Char) → take (length xs) (nabc.nabc_events (xs ++ ys)) ≡ take (length xs) (nabc.nabc_events (xs ++ zs)))
-    (behind_mark : (limits : Limits) (t : List ℕ) (heads : Heads) → heads_of limits t ≡ Ok heads → head_len t + 2 ≤ length t)
+    (after_mark : (limits : Limits) (t : List ℕ) (heads : Heads) → heads_of limits t ≡ Ok heads → head_len t + 2 ≤ length t)
     (same_len : (limits : Limits) (t more : List ℕ) (heads : Heads) → heads_of limits t ≡ Ok heads → head_len (take (head_len t + 2) t ++ more) ≡ head_len t)
     (same_book : (limits : Limits) (t more : List ℕ) (heads : Heads) → heads_of limits t ≡ Ok heads → (other : Heads) × (heads_of limits (take (head_len t + 2) t ++ more) ≡ Ok other) × (other.book ≡ heads.book))
     (limits : Limits) (ending : InputEnding) (t : List ℕ) (cut : BodyCutting) (n : ℕ) (short : size t < 2 ^ 63) where
@@ -116,7 +116,7 @@ module _ (ends : (at : Place) (t : List ℕ) → EndsOnce at t) (emits : (at : P
   abbrev IsAgain : Score → Type 0
   IsAgain score = let other = plain_of limits Whole again in (other.book ≡ score.book) × ((other.syllables ≡ score.syllables) × (other.fault ≡ None))
 
-  again_by : (heads : Heads) → heads_of limits t ≡ Ok heads → IsBodyCut heads.book t cut → StandBeforeBodyStop limits heads.book t n
+  again_by : (heads : Heads) → heads_of limits t ≡ Ok heads → IsBodyCut heads.book t cut → AreBeforeBodyStop limits heads.book t n
       → ¬ ((ending ≡ Whole) × ((plain_by limits ending t (Ok heads)).fault ≡ None)) → IsAgain (plain_by limits ending t (Ok heads))
   again_by heads ok h s stopped =
       let lines = nabc_lines_of heads.book in
@@ -129,14 +129,14 @@ module _ (ends : (at : Place) (t : List ℕ) → EndsOnce at t) (emits : (at : P
       let p = stop_reached limits head xs lists n s in
       let len = same_len limits t (codes_of through) heads ok in
       let o = same_book limits t (codes_of through) heads ok in
-      let behind : head_len t + 2 ≤ length t = behind_mark limits t heads ok in
+      let behind : head_len t + 2 ≤ length t = after_mark limits t heads ok in
       let front_len : length (heads_text t) ≡ head_len t + 2 = length-take-le (head_len t + 2) t behind in
       let prefix : heads_text again ≡ heads_text t =
       ap (λ m. take (m + 2) again) len ∙ ap (λ m. take m again) (sym front_len) ∙ take-append_seam (heads_text t) (codes_of through) in
-      let rest : behind_heads again ≡ codes_of through =
+      let rest : after_heads again ≡ codes_of through =
       ap (λ m. drop (m + 2) again) len ∙ ap (λ m. drop m again) (sym front_len) ∙ drop-append_seam (heads_text t) (codes_of through) in
       let characters : body_characters again ≡ through =
-      ap (λ f. placed_characters_behind f (behind_heads again)) prefix ∙ ap (placed_characters_behind (heads_text t)) rest ∙ placed_prefix (heads_text t) (behind_heads t) through w.behind w.all in
+      ap (λ f. placed_characters_after f (after_heads again)) prefix ∙ ap (placed_characters_after (heads_text t)) rest ∙ placed_prefix (heads_text t) (after_heads t) through w.behind w.all in
       let body : List (List ℕ × List ℕ) → List Char → BodyResult = λ b ys.
       body_of limits (bytes_len (canonical_heads b)) o.0.findings (place_after again) Whole ys (body_events (nabc_lines_of b) (macros_of b) ys) in
       let read : body o.0.book (body_characters again) ≡ body heads.book through = ap (λ b. body b (body_characters again)) o.2 ∙ ap (body heads.book) characters in
@@ -155,13 +155,13 @@ module _ (ends : (at : Place) (t : List ℕ) → EndsOnce at t) (emits : (at : P
         ),
       )
 
-  pub prefix_again : (book : List (List ℕ × List ℕ)) → (plain_of limits ending t).book ≡ Some book → IsBodyCut book t cut → StandBeforeBodyStop limits book t n
+  pub prefix_again : (book : List (List ℕ × List ℕ)) → (plain_of limits ending t).book ≡ Some book → IsBodyCut book t cut → AreBeforeBodyStop limits book t n
       → ¬ ((ending ≡ Whole) × ((plain_of limits ending t).fault ≡ None)) → IsAgain (plain_of limits ending t)
   prefix_again book = by (heads_of limits t) refl
     where
-      by : (r : Result Heads HeadFault) → heads_of limits t ≡ r → (plain_by limits ending t r).book ≡ Some book → IsBodyCut book t cut → StandBeforeBodyStop limits book t n
+      by : (r : Result Heads HeadFault) → heads_of limits t ≡ r → (plain_by limits ending t r).book ≡ Some book → IsBodyCut book t cut → AreBeforeBodyStop limits book t n
           → ¬ ((ending ≡ Whole) × ((plain_by limits ending t r).fault ≡ None)) → IsAgain (plain_by limits ending t r)
       by (Err stop) e b h s k = absurd (cc)
       by (Ok heads) e b h s k =
           let same : heads.book ≡ book = cc in
-          again_by heads e (subst (λ c. IsBodyCut c t cut) (sym same) h) (subst (λ c. StandBeforeBodyStop limits c t n) (sym same) s) k
+          again_by heads e (subst (λ c. IsBodyCut c t cut) (sym same) h) (subst (λ c. AreBeforeBodyStop limits c t n) (sym same) s) k

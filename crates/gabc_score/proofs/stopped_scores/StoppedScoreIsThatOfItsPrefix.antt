@@ -296,7 +296,7 @@ module _ (ends : (at : Place) (t : List ℕ) → EndsOnce at t) (emits : (at : P
         count = ap (λ b. length (all_syllables b)) same ∙ made ∙ as_units ∙ as_closed ∙ as_taken;
       }
 
-  -- the prefix through the last unit that ends within so many characters
+  -- the prefix through the last unit that ends within n characters
   pub prefix_is : (xs : List Char) (cut : BodyCutting) (n : ℕ) → IsCut texts_by_definition lines macros xs cut → AllSmall xs → size (codes_of xs) < 2 ^ 63
       → IsWholeFront xs (through_unit (whole_count n cut) cut) n (whole_count n cut)
   prefix_is xs cut n h small fits = by cut.units h (whole_count n cut) refl

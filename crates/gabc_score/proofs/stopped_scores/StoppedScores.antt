@@ -30,7 +30,7 @@ use Rattle.gabc_score.specs.Events.{InComment, body_events, text_from, texts_by_
 use Rattle.gabc_score.specs.Stops.{events_in_points, StopsAt, NeverStops}
 use Rattle.gabc_score.specs.Syllable.{UnplacedSyllable, all_syllables}
 use Rattle.gabc_score.specs.Units.{BodyUnit, LastUnit, Units, BodyCutting, whole, last_pieces, units_pieces, last_characters, events_of_cutting, cutting_of, Cuts, IsCutFrom, IsCut, events_of_parts}
-use Rattle.gabc_score.specs.SyllablesOfUnits.{span_tags, characters_in, ScoreUnit, closed_units, count_within, units_within, AreSyllablesOf, body_characters, IsBodyCut, StandBeforeStop, StandBeforeBodyStop}
+use Rattle.gabc_score.specs.SyllablesOfUnits.{span_tags, characters_in, ScoreUnit, closed_units, count_within, units_within, AreSyllablesOf, body_characters, IsBodyCut, AreBeforeStop, AreBeforeBodyStop}
 use Rattle.gabc_score.proofs.score_events.PlainScores.{plain_by, plain_of}
 use Rattle.gabc_score.proofs.texts_of_body.SeamsOfCharacters.{size}
 use Rattle.gabc_score.proofs.building.EventsOfSyllableParts.{onto_append}
@@ -99,7 +99,7 @@ module _ (ends : (at : Place) (t : List ℕ) → EndsOnce at t) (emits : (at : P
   abbrev pub PointGives : List ScoreUnit → List BodyEvent → Type 0
   PointGives us before = (made : List UnplacedSyllable) × ((all_syllables before ≡ made) × AreMade lines false false us made)
 
-  -- so many syllables of all are made, where so many `)` are events
+  -- n syllables of all are made, where n `)` are events
   first_are : (us : List ScoreUnit) (now later all : List BodyEvent) (ms extra : List UnplacedSyllable) (k : ℕ) → events_onto later (events_onto now []) ≡ all → all_syllables all ≡ ms ++ extra → AreMade lines false false us ms
       → close_count now ≡ k → k ≤ length us → PointGives (take k us) (events_onto now [])
   first_are us now later all ms extra k e m h c few =
@@ -167,7 +167,7 @@ module _ (ends : (at : Place) (t : List ℕ) → EndsOnce at t) (emits : (at : P
 
 -- ---- a score
 
-pub stop_reached : (limits : Limits) (head : ℕ) (xs : List Char) (lists : List (List BodyEvent)) (n : ℕ) → StandBeforeStop limits head xs lists n
+pub stop_reached : (limits : Limits) (head : ℕ) (xs : List Char) (lists : List (List BodyEvent)) (n : ℕ) → AreBeforeStop limits head xs lists n
     → (n ≤ length xs) × ((events_to_stop limits head [] xs lists).before ≡ events_in_points [] lists n)
 stop_reached limits head xs lists n (inl h) = (omega (arith, h.1), h.0.before ∙ ap (events_in_points [] lists) (sym h.1))
 stop_reached limits head xs lists n (inr h) =
@@ -178,7 +178,7 @@ stop_reached limits head xs lists n (inr h) =
 module _ (ends : (at : Place) (t : List ℕ) → EndsOnce at t) (emits : (at : Place) (t : List ℕ) → with_events empty_text (concat_of (events_by_point at t)) ≡ text_built_at at t)
     (spans : (t : List ℕ) → StandsForView (kept t) (view_in t) t) (in_order : (at : Place) (t : List ℕ) → concat_of (events_by_point at t) ≡ events_of at t)
     (limits : Limits) (ending : InputEnding) (t : List ℕ) (book : List (List ℕ × List ℕ)) (cut : BodyCutting) (n : ℕ) (short : size t < 2 ^ 63) where
-  stopped_by_heads : (r : Result Heads HeadFault) → (plain_by limits ending t r).book ≡ Some book → IsBodyCut book t cut → StandBeforeBodyStop limits book t n
+  stopped_by_heads : (r : Result Heads HeadFault) → (plain_by limits ending t r).book ≡ Some book → IsBodyCut book t cut → AreBeforeBodyStop limits book t n
       → ¬ ((ending ≡ Whole) × ((plain_by limits ending t r).fault ≡ None)) → AreSyllablesOf (nabc_lines_of book) (units_within (n - length cut.comment) cut.units) (plain_by limits ending t r).syllables
   stopped_by_heads (Err stop) b h s k = absurd (cc)
   stopped_by_heads (Ok heads) b h s k =
@@ -189,19 +189,19 @@ module _ (ends : (at : Place) (t : List ℕ) → EndsOnce at t) (emits : (at : P
       let lists = body_events lines macros xs in
       let head = bytes_len (canonical_heads heads.book) in
       let r = events_to_stop limits head [] xs lists in
-      let p = stop_reached limits head xs lists n (subst (λ c. StandBeforeBodyStop limits c t n) (sym same) s) in
+      let p = stop_reached limits head xs lists n (subst (λ c. AreBeforeBodyStop limits c t n) (sym same) s) in
       let us = units_within (n - length cut.comment) cut.units in
       let g = point_emits ends emits spans in_order lines macros xs cut n (subst (λ c. IsBodyCut c t cut) (sym same) h) (behind_short ends emits spans limits ending t short) p.0 in
       subst (λ c. AreSyllablesOf (nabc_lines_of c) us (plain_by limits ending t (Ok heads)).syllables) same
       (subst (AreSyllablesOf lines us) (sym (stopped_read limits head heads.findings (place_after t) ending r.before r.last r.fault k ∙ ap (λ a. with_positions (all_syllables a)) p.1 ∙ ap with_positions g.1.0))
       (placed_are lines us g.0 g.1.1))
 
-  pub stopped_syllables : (plain_of limits ending t).book ≡ Some book → IsBodyCut book t cut → StandBeforeBodyStop limits book t n
+  pub stopped_syllables : (plain_of limits ending t).book ≡ Some book → IsBodyCut book t cut → AreBeforeBodyStop limits book t n
       → ¬ ((ending ≡ Whole) × ((plain_of limits ending t).fault ≡ None)) → AreSyllablesOf (nabc_lines_of book) (units_within (n - length cut.comment) cut.units) (plain_of limits ending t).syllables
   stopped_syllables = stopped_by_heads (heads_of limits t)
 
 -- each body has a stop, or all of it stands before its end
-pub stop_stands : (limits : Limits) (book : List (List ℕ × List ℕ)) (t : List ℕ) → (n : ℕ) × StandBeforeBodyStop limits book t n
+pub stop_stands : (limits : Limits) (book : List (List ℕ × List ℕ)) (t : List ℕ) → (n : ℕ) × AreBeforeBodyStop limits book t n
 stop_stands limits book t =
     let xs = body_characters t in
     let lines = nabc_lines_of book in
@@ -209,6 +209,6 @@ stop_stands limits book t =
     by (stop_is_first limits (bytes_len (canonical_heads book)) [] xs (body_events lines macros xs) (events_each texts_by_definition lines macros InComment xs))
   where
     by : (let xs = body_characters t in let lists = body_events (nabc_lines_of book) (macros_of book) xs in let head = bytes_len (canonical_heads book) in let r = events_to_stop limits head [] xs lists in
-        NeverStops limits head [] xs lists r ⊎ StopsAt limits head [] xs lists r → (n : ℕ) × StandBeforeStop limits head xs lists n)
+        NeverStops limits head [] xs lists r ⊎ StopsAt limits head [] xs lists r → (n : ℕ) × AreBeforeStop limits head xs lists n)
     by (inl s) = (length (body_characters t), inl (s, refl))
     by (inr s) = (length s.prefix, inr (s, refl))

@@ -5,7 +5,7 @@ use Rattle.std.proofs.lemmas.List.{take-append-drop}
 use Rattle.std.proofs.Math.Seq.{take-append_seam}
 use Rattle.gabc_places.specs.declared.place.Char.{Char}
 use Rattle.gabc_text.specs.Events.{codes_of}
-use Rattle.gabc_score.specs.Score.{behind_heads, heads_text}
+use Rattle.gabc_score.specs.Score.{after_heads, heads_text}
 use Rattle.gabc_score.specs.SyllablesOfUnits.{body_characters, characters_from, characters_in, first_characters, through_unit, unit_characters, whole_count, whole_prefix}
 use Rattle.gabc_score.specs.Units.{BodyCutting, BodyUnit, LastUnit, Units}
 use Rattle.gabc_score.proofs.holding.ScoreHoldsParts.{codes_placed}
@@ -32,8 +32,8 @@ pub prefix_is_front : (t : List ℕ) (cut : BodyCutting) (n : ℕ) → body_char
 prefix_is_front t cut n characters =
     let through = through_unit (whole_count n cut) cut in
     let rest = through_first (whole_count n cut) cut.comment cut.units in
-    let behind : behind_heads t ≡ codes_of through ++ codes_of rest.0 =
-    sym (codes_placed (heads_text t) (behind_heads t)) ∙ (ap codes_of (characters ∙ rest.1) ∙ codes_append through rest.0) in
+    let behind : after_heads t ≡ codes_of through ++ codes_of rest.0 =
+    sym (codes_placed (heads_text t) (after_heads t)) ∙ (ap codes_of (characters ∙ rest.1) ∙ codes_append through rest.0) in
     let all : t ≡ whole_prefix t cut n ++ codes_of rest.0 =
     sym (take-append-drop _ t) ∙ (ap (λ (l : List ℕ). heads_text t ++ l) behind ∙ sym (append_assoc (heads_text t) (codes_of through) (codes_of rest.0))) in
     let front = whole_prefix t cut n in

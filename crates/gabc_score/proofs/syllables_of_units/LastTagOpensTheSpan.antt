@@ -1,4 +1,4 @@
--- A span is open behind texts if the last of its two tags in them opens it.
+-- A span is open after texts if the last of its two tags in them opens it.
 use Rattle.std.proofs.Common.{◌≡◌, ℕ, ◌&&◌, not, List, [], ◌∷◌, ◌++◌, map, Bool, true, false, cond, Option, Some, None, ◌⊎◌, inl, inr, refl, sym, ap, subst, ◌∙◌, append_assoc, append-nil, bytes_eq, reverse}
 use Rattle.std.specs.Prelude.{◌≢◌, filter, IsTrue, ◌↔◌}
 use Rattle.std.specs.List.{All}
@@ -73,7 +73,7 @@ tags_but_blank (p ∷ q ∷ ps) =
     tags_one p (but_blank (q ∷ ps)) ∙ ap (λ ts. tags_of (p ∷ []) ++ ts) (tags_but_blank (q ∷ ps)) ∙ sym (tags_one p (q ∷ ps))
 
 module _ (opening closing : List ℕ) where
-  -- a span is open behind a tag, and behind tags, if it was open or not
+  -- a span is open after a tag, and after tags, if it was open or not
   abbrev pub behind_tag : Bool → List ℕ → Bool
   behind_tag was tag = cond (bytes_eq (encodes tag) opening) true (cond (bytes_eq (encodes tag) closing) false was)
 
@@ -298,7 +298,7 @@ module _ (opening closing : List ℕ) where
       ap open_at (events_append found (centre ++ last) ts ∙ events_append centre last (events_onto (text_events found) ts))
       ∙ end_centre (centre_of bs) (events_onto (text_events found) ts) ∙ end_found (findings_at_end at bs) ts
 
-  -- behind a text a span is open by the tags of the text, and by what was before
+  -- after a text a span is open by the tags of the text, and by what was before
   pub text_opens_span : (at : Place) (t : List ℕ) (ts : List BodyEvent) → since_close ts ≡ [] → open_at (events_onto (text_events (events_of at t)) ts) ≡ behind_tags (open_at ts) (span_tags t)
   text_opens_span at t ts h =
       let tokens_events = along (events_at at) [] (tokens t) in

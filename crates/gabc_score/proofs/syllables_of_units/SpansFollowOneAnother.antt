@@ -1,4 +1,4 @@
--- Which spans are open behind a syllable follows from those that are open behind the one before it.
+-- Which spans are open after a syllable follows from those that are open after the one before it.
 use Rattle.std.proofs.Common.{◌≡◌, ℕ, zero, suc, ◌+◌, ◌<◌, Bool, true, false, List, [], ◌∷◌, ◌++◌, length, length-append, append_assoc, refl, sym, ap, ◌∙◌, arith, codes}
 use Rattle.std.specs.Prelude.{IsTrue, ◌↔◌}
 use lib.Utf8.{encodes}
@@ -20,7 +20,7 @@ module _ (opening closing : List ℕ) (same : encodes opening ≡ opening) (othe
   by_tags : (tags : List (List ℕ)) (b : Bool) → IsTrue b ↔ IsLeftOpen opening closing tags → b ≡ behind_tags opening closing false tags
   by_tags tags b h = same_bool (IsLeftOpen opening closing tags) b (behind_tags opening closing false tags) h (last_tag_opens opening closing same other tags (behind_tags opening closing false tags) refl)
 
-  -- a unit behind others, behind which the span is open so
+  -- a unit after others, after which the span is open so
   pub one_past : (us : List ScoreUnit) (v : ScoreUnit) (m : UnplacedSyllable) (was now : Bool) → HoldsUnit lines v m → was ≡ behind_tags opening closing false (tags_in us)
       → IsTrue now ↔ IsLeftOpen opening closing (tags_in (us ++ v ∷ [])) → now ≡ open_past opening closing m.kept m.text.pieces was
   one_past us v m was now holds h k =
@@ -36,7 +36,7 @@ module _ (opening closing : List ℕ) (same : encodes opening ≡ opening) (othe
 
 -- ---- syllables of units
 
--- so many units, and the one behind them
+-- n units, and the one after them
 record Split (n : ℕ) (units : List ScoreUnit) : Type 0 where
   before : List ScoreUnit
   one : ScoreUnit

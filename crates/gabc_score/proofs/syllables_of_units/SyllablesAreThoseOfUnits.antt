@@ -34,7 +34,7 @@ use Rattle.gabc_score.proofs.syllables_of_units.UnitsGiveSyllables.{eu_behind, n
 -- ---- the last text
 
 module _ (lines : ℕ) where
-  -- what is made of a last text, behind the syllables that were made before it
+  -- what is made of a last text, after the syllables that were made before it
   abbrev LastGives : List ScoreUnit → List BodyEvent → List BodyEvent → Type 0
   LastGives us before all = (made : List UnplacedSyllable) × ((all_units all ≡ all_syllables before ++ made) × AreMade lines (is_eu before) (is_nlba before) us made)
 

@@ -46,7 +46,7 @@ each_notes = refl
 each_snippet : map (λ (u : ScoreUnit). map codes_of u.snippets) units ≡ (codes "f" ∷ codes "g" ∷ []) ∷ (codes "h" ∷ []) ∷ [] ∷ []
 each_snippet = refl
 
--- a text behind the last `)` that says nothing is no unit
+-- a text after the last `)` that says nothing is no unit
 no_last : map (λ (u : ScoreUnit). u.notes) (score_units (Some (record { closed = first ∷ []; last = JustText (chars (codes " ")) }))) ≡ codes "(f|g)" ∷ []
 no_last = refl
 

@@ -24,7 +24,7 @@ use Rattle.gabc_notes.specs.ReadAgain.{IsWarning}
 use Rattle.gabc_notes.specs.SnippetRead.{findings_of as notes_found}
 use Rattle.gabc_score.specs.declared.events.BodyEvent.{BodyEvent}
 use Rattle.gabc_score.specs.Body.{events_onto, findings_of, cut_of}
-use Rattle.gabc_score.specs.Events.{PartAhead, texts_by_definition, text_from, snippet_from, next_line, behind_mark, events_from}
+use Rattle.gabc_score.specs.Events.{PartAhead, texts_by_definition, text_from, snippet_from, next_line, after_mark, events_from}
 use Rattle.gabc_score.specs.FoundInParts.{TextWarns, SnippetsWarn, snippet_events}
 use Rattle.gabc_score.specs.Syllable.{UnplacedSyllable, closes, since_close, kept_of, all_syllables, syllable_by, is_eu, is_nlba, slice, is_mark, is_open_after}
 use Rattle.gabc_score.specs.WithinLimits.{KeepsWithin}
@@ -102,7 +102,7 @@ made_few limit (t ∷ ts) before h =
       few = All-append (λ (m : UnplacedSyllable). length m.kept ≤ limit) one.more r.more one.few r.few;
     }
 
--- what stands behind a list is known from all
+-- what stands after a list is known from all
 rest_same : (ms xs ys : List UnplacedSyllable) → ms ++ xs ≡ ms ++ ys → xs ≡ ys
 rest_same ms xs ys e = sym (drop_at ms xs (length ms) refl) ∙ ap (drop (length ms)) e ∙ drop_at ms ys (length ms) refl
 
@@ -141,7 +141,7 @@ module _ (opening closing whole : List ℕ) where
       by true = refl
       by false = refl
 
-  -- behind pieces a span is open as behind the tags among what they say
+  -- after pieces a span is open as after the tags among what they say
   pieces_past : (ps : List Piece) (qs : List PieceFacts) (was : Bool) → ArePiecesOf whole ps qs → open_past opening closing (encodes whole) ps was ≡ behind_tags opening closing was (tags_of qs)
   pieces_past [] [] was h = refl
   pieces_past [] (q ∷ qs) was h = absurd h
@@ -151,11 +151,11 @@ module _ (opening closing whole : List ℕ) where
       ∙ ap (λ (b : Bool). behind_tags opening closing b (tags_of qs)) (piece_past p q was h.0.kind_is (bytes_stand whole p.span (kept_of_piece q) h.0.stands))
       ∙ tags_past was q qs
 
--- behind the pieces of a view that stand for a text a span is open as behind the tags of the text
+-- after the pieces of a view that stand for a text a span is open as after the tags of the text
 pub view_past : (opening closing whole t : List ℕ) (v : ViewContent) (was : Bool) → StandsForView whole v t → open_past opening closing (encodes whole) v.pieces was ≡ behind_tags opening closing was (span_tags t)
 view_past opening closing whole t v was h = pieces_past opening closing whole v.pieces _ was h.pieces
 
--- so behind a syllable of a unit
+-- so after a syllable of a unit
 pub unit_past : (opening closing : List ℕ) (lines : ℕ) (u : ScoreUnit) (m : UnplacedSyllable) (was : Bool) → HoldsUnit lines u m
     → open_past opening closing m.kept m.text.pieces was ≡ behind_tags opening closing was (span_tags u.text)
 unit_past opening closing lines u m was h =
@@ -177,7 +177,7 @@ module _ (all_found : (at : Place) (t : List ℕ) → found_in (concat_of (event
   notes_front : (nexts : List EndedPart) (final : EndedPart) (more : List CutPart) (last : List Char) (line : ℕ) (opened : Place)
       → (let pieces = snippets_with lines line opened nexts (cut_part final Closes ∷ more) in
       Front (length (with_ends (nexts ++ final ∷ []))) (SnippetsWarn lines macros line (nexts ++ final ∷ []) (whole more last)) (lists_of (snippet_from lines macros line opened (whole pieces last)) pieces last)
-      (lists_of (text_from texts_by_definition (behind_mark final.end.place) (whole more last)) more last))
+      (lists_of (text_from texts_by_definition (after_mark final.end.place) (whole more last)) more last))
   notes_front [] final more last line opened =
       let xs = final.characters ++ final.end ∷ whole more last in
       let part = snippet_from lines macros line opened xs in
@@ -216,7 +216,7 @@ module _ (all_found : (at : Place) (t : List ℕ) → found_in (concat_of (event
   unit_front : (at : Place) (u : BodyUnit) (more : List CutPart) (last : List Char)
       → (let pieces = cut_part u.text Opens ∷ snippets_with lines 0 u.text.end.place u.nexts (cut_part u.final Closes ∷ more) in
       Front (length (characters_in u)) (TextWarns (score_unit u (whole more last)).text × SnippetsWarn lines macros 0 (snippets_in u) (whole more last)) (lists_of (text_from texts_by_definition at (whole pieces last)) pieces last)
-      (lists_of (text_from texts_by_definition (behind_mark u.final.end.place) (whole more last)) more last))
+      (lists_of (text_from texts_by_definition (after_mark u.final.end.place) (whole more last)) more last))
   unit_front at u more last =
       let pieces = snippets_with lines 0 u.text.end.place u.nexts (cut_part u.final Closes ∷ more) in
       let xs = u.text.characters ++ u.text.end ∷ whole pieces last in
@@ -331,7 +331,7 @@ module _ (ends : (at : Place) (t : List ℕ) → EndsOnce at t) (emits : (at : P
 
     abbrev parts : Front (length (characters_in u)) (TextWarns (score_unit u (whole more end)).text × SnippetsWarn lines macros 0 (snippets_in u) (whole more end))
         (lists_of all_found lines macros (text_from texts_by_definition at (whole pieces end)) pieces end)
-        (lists_of all_found lines macros (text_from texts_by_definition (behind_mark u.final.end.place) (whole more end)) more end)
+        (lists_of all_found lines macros (text_from texts_by_definition (after_mark u.final.end.place) (whole more end)) more end)
     parts = unit_front all_found lines macros at u more end
 
     emitted_is : first_events lines macros at all (length (characters_in u)) ≡ concat_of parts.front
@@ -345,11 +345,11 @@ module _ (ends : (at : Place) (t : List ℕ) → EndsOnce at t) (emits : (at : P
     pub one_syllable : (before : List BodyEvent) → since_close before ≡ [] → GivesOneSyllable lines macros at u behind before
     one_syllable before since =
         let g = unit_emits ends emits spans in_order lines macros at u more end before since short cut in
-        let later = concat_of (lists_of all_found lines macros (text_from texts_by_definition (behind_mark u.final.end.place) (whole more end)) more end) in
+        let later = concat_of (lists_of all_found lines macros (text_from texts_by_definition (after_mark u.final.end.place) (whole more end)) more end) in
         let mid_is : events_onto (first_events lines macros at all (length (characters_in u))) before ≡ g.mid =
         ap (λ (ts : List BodyEvent). events_onto ts before) emitted_is
         ∙ onto_cancel later (events_onto (concat_of parts.front) before) g.mid
-        (sym (through_more parts.front (lists_of all_found lines macros (text_from texts_by_definition (behind_mark u.final.end.place) (whole more end)) more end) before)
+        (sym (through_more parts.front (lists_of all_found lines macros (text_from texts_by_definition (after_mark u.final.end.place) (whole more end)) more end) before)
         ∙ ap (λ (ls : List (List BodyEvent)). events_onto (concat_of ls) before) (sym parts.all_is) ∙ g.events_are) in
         let holds : HoldsUnit lines (score_unit u behind) g.step.made = subst (λ (ys : List Char). HoldsUnit lines (score_unit u ys) g.step.made) behind_is g.step.holds in
         let tags : span_tags (score_unit u (whole more end)).text ≡ span_tags (score_unit u behind).text = ap (λ (ys : List Char). span_tags (score_unit u ys).text) behind_is in

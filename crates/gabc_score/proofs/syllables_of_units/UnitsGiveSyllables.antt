@@ -24,8 +24,8 @@ use Rattle.gabc_score.specs.declared.events.BodyEvent.{BodyEvent}
 use Rattle.gabc_score.specs.declared.events.BodyEvent.TheVariants.{Text, Notes}
 use Rattle.gabc_score.specs.Syllable.{UnplacedSyllable, since_close, all_syllables, is_eu, is_nlba, is_open}
 use Rattle.gabc_score.specs.Body.{events_onto, cut_of}
-use Rattle.gabc_score.specs.Events.{Texts, PartAhead, InText, note_event, texts_by_definition, text_from, snippet_from, next_line, behind_mark}
-use Rattle.gabc_score.specs.Units.{Mark, Opens, Next, Closes, CutPart, EndedPart, BodyUnit, LastUnit, JustText, OpenNotes, cut_part, whole, events_through, snippets_with, last_pieces, units_pieces, last_characters, EndsBehind, Cuts, events_of_cutting, Units, BodyCutting, cutting_of, IsCutFrom, IsCut}
+use Rattle.gabc_score.specs.Events.{Texts, PartAhead, InText, note_event, texts_by_definition, text_from, snippet_from, next_line, after_mark}
+use Rattle.gabc_score.specs.Units.{Mark, Opens, Next, Closes, CutPart, EndedPart, BodyUnit, LastUnit, JustText, OpenNotes, cut_part, whole, events_through, snippets_with, last_pieces, units_pieces, last_characters, EndsAfter, Cuts, events_of_cutting, Units, BodyCutting, cutting_of, IsCutFrom, IsCut}
 use Rattle.gabc_score.specs.Holding.{ReadSnippet, bracket_with}
 use Rattle.gabc_score.specs.SyllablesOfUnits.{with_ends, snippets_in, characters_in, last_in, characters_from, unit_characters, ScoreUnit, score_unit, closed_units, span_tags, tags_in, HoldsUnit}
 use Rattle.gabc_score.specs.machine.PartKeeps.{text_events}
@@ -182,14 +182,14 @@ module _ (lines macros : ℕ) where
   abbrev pub all_events : PartAhead → List CutPart → List Char → List BodyEvent → List BodyEvent
   all_events part pieces last before = events_onto (concat_of (events_of_cutting texts_by_definition lines macros part pieces last)) before
 
-  -- behind the unit the text goes on with `more`
+  -- after the unit the text goes on with `more`
   pub record Continues (u : ScoreUnit) (tags : List (List ℕ)) (part : PartAhead) (pieces more : List CutPart) (last : List Char) (at : Place) (before : List BodyEvent) : Type 0 where
     pub mid : List BodyEvent
     pub step : UnitGives lines u tags before mid
     pub events_are : all_events part pieces last before ≡ all_events (text_from texts_by_definition at (whole more last)) more last mid
     pub cuts : Cuts texts_by_definition lines macros (text_from texts_by_definition at (whole more last)) more last
 
-  -- behind the units stands what is behind the last `)`
+  -- after the units stands what is after the last `)`
   pub record GoesOn (us : List ScoreUnit) (part : PartAhead) (pieces : List CutPart) (last : LastUnit) (before : List BodyEvent) : Type 0 where
     pub at : Place
     pub mid : List BodyEvent
@@ -207,7 +207,7 @@ module _ (ends : (at : Place) (t : List ℕ) → EndsOnce at t) (emits : (at : P
       (far : SoFar text lines line xs (since_close before)) → u.text ≡ far.text → map (λ (s : ReadSnippet). s.characters) far.earlier ≡ characters_of done
       → bracket_with codes_in far.earlier ≡ codes_of (o ∷ with_ends done) → u.notes ≡ codes_of (o ∷ with_ends (done ++ (nexts ++ final ∷ []))) → u.snippets ≡ characters_of (done ++ (nexts ++ final ∷ []))
       → (ys : List Char) (yss : List (List Char)) → u.snippets ≡ ys ∷ yss
-      → size (codes_of xs) < 2 ^ 63 → Cuts texts_by_definition lines macros part pieces last → Continues lines macros u [] part pieces more last (behind_mark final.end.place) before)
+      → size (codes_of xs) < 2 ^ 63 → Cuts texts_by_definition lines macros part pieces last → Continues lines macros u [] part pieces more last (after_mark final.end.place) before)
   notes_give u o text done [] final more last line opened_at before far t d od n s ys yss some fits h =
       let rest = whole more last in
       let part = snippet_from lines macros line opened_at (final.characters ++ final.end ∷ rest) in
@@ -237,7 +237,7 @@ module _ (ends : (at : Place) (t : List ℕ) → EndsOnce at t) (emits : (at : P
           uncut = line_uncut lines line opened_at final.characters final.end Closes events l before;
           since = c.4;
         };
-        events_are = through_more (events_through part final.characters) (events_of_cutting texts_by_definition lines macros (text_from texts_by_definition (behind_mark final.end.place) rest) more last) before;
+        events_are = through_more (events_through part final.characters) (events_of_cutting texts_by_definition lines macros (text_from texts_by_definition (after_mark final.end.place) rest) more last) before;
         cuts = h.1;
       }
   notes_give u o text done (e ∷ nexts) final more last line opened_at before far t d od n s ys yss some fits h =
@@ -296,7 +296,7 @@ module _ (ends : (at : Place) (t : List ℕ) → EndsOnce at t) (emits : (at : P
   module _ (opening closing : List ℕ) where
     -- a text opens and closes spans by its tags
     text_spans : (at : Place) (prefix : List Char) (end : Char) (rest : List Char) (mark : Mark) (before : List BodyEvent) → since_close before ≡ []
-        → (let xs = prefix ++ end ∷ rest in let part = InText (texts_by_definition at xs) in EndsBehind lines part prefix mark
+        → (let xs = prefix ++ end ∷ rest in let part = InText (texts_by_definition at xs) in EndsAfter lines part prefix mark
         → is_open opening closing (events_onto (concat_of (events_through part prefix)) before) ≡ behind_tags opening closing (is_open opening closing before) (span_tags (codes_of xs)))
     text_spans at prefix end rest mark before since h =
         let xs = prefix ++ end ∷ rest in
@@ -308,7 +308,7 @@ module _ (ends : (at : Place) (t : List ℕ) → EndsOnce at t) (emits : (at : P
       → (let pieces = cut_part u.text Opens ∷ snippets_with lines 0 u.text.end.place u.nexts (cut_part u.final Closes ∷ more) in let xs = whole pieces last in
       let v = score_unit u (whole more last) in
       size (codes_of xs) < 2 ^ 63 → Cuts texts_by_definition lines macros (text_from texts_by_definition at xs) pieces last
-      → Continues lines macros v (span_tags v.text) (text_from texts_by_definition at xs) pieces more last (behind_mark u.final.end.place) before)
+      → Continues lines macros v (span_tags v.text) (text_from texts_by_definition at xs) pieces more last (after_mark u.final.end.place) before)
   unit_emits at u more last before since fits h =
       let prefix = u.text.characters in
       let end = u.text.end in
@@ -374,7 +374,7 @@ module _ (ends : (at : Place) (t : List ℕ) → EndsOnce at t) (emits : (at : P
       let nlba_is : is_nlba one.mid ≡ nlba_behind (is_nlba before) (span_tags v.text) = g.nlba ∙ ap (nlba_behind (is_nlba before)) tags in
       let behind_fits : size (codes_of (whole more ends_with)) < 2 ^ 63 =
       fits_back (characters_in u) (whole more ends_with) (subst (λ cs. size (codes_of cs) < 2 ^ 63) (unit_whole lines u more ends_with) fits) in
-      let r = units_give units last (behind_mark u.final.end.place) one.mid g.since behind_fits one.cuts in
+      let r = units_give units last (after_mark u.final.end.place) one.mid g.since behind_fits one.cuts in
       record {
         at = r.at;
         mid = r.mid;

@@ -1,4 +1,4 @@
--- The prefix of a text and the body behind it, by characters and by bytes.
+-- The prefix of a text and the body after it, by characters and by bytes.
 use Rattle.std.proofs.Common.{◌≡◌, ℕ, zero, suc, ◌+◌, List, [], ◌∷◌, ◌++◌, length, take, drop, refl, sym, ap, subst, ◌∙◌, IsUtf8}
 use Rattle.std.specs.Str.{chars, IsCharBoundary}
 use Rattle.std.proofs.lemmas.List.{take_at, drop_at, take-append-drop}
@@ -8,7 +8,7 @@ use Rattle.gabc_headers.proofs.entries.TextsAsBytes.{length-encodes}
 use Rattle.gabc_places.specs.declared.limits.Limits.{Limits}
 use Rattle.gabc_places.specs.declared.place.Place.{Place}
 use Rattle.gabc_places.specs.declared.place.Char.{Char}
-use Rattle.gabc_places.specs.Place.{place_after, placed_characters_behind, place_past, placed_characters_from}
+use Rattle.gabc_places.specs.Place.{place_after, placed_characters_after, place_past, placed_characters_from}
 use Rattle.gabc_headers.specs.declared.heads.Heads.{Heads}
 use Rattle.gabc_headers.specs.Lines.{bytes_len}
 use Rattle.gabc_headers.specs.Book.{nabc_lines_of, macros_of}
@@ -19,7 +19,7 @@ use Rattle.gabc_score.specs.declared.ending.InputEnding.{InputEnding}
 use Rattle.gabc_score.specs.Events.{body_events}
 use Rattle.gabc_score.specs.Body.{body_of}
 use Rattle.gabc_score.specs.NoteBeforeClef.{with_first_each, score_events}
-use Rattle.gabc_score.specs.Score.{heads_text, behind_heads, body_in}
+use Rattle.gabc_score.specs.Score.{heads_text, after_heads, body_in}
 use Rattle.gabc_places.proofs.PlacesOfAText.{placed_behind, behind_after}
 
 utf8_behind : (t : List ℕ) (n : ℕ) → IsUtf8 (encodes t) → IsUtf8 (encodes (drop n t))
@@ -47,8 +47,8 @@ module _ (t bytes : List ℕ) (whole : bytes ≡ encodes t) (utf8 : IsUtf8 bytes
   prefix_bytes : take at bytes ≡ encodes (take n t)
   prefix_bytes = ap (take at) seam ∙ take_at (encodes (take n t)) (encodes (drop n t)) at size
 
-  behind_bytes : drop at bytes ≡ encodes (drop n t)
-  behind_bytes = ap (drop at) seam ∙ drop_at (encodes (take n t)) (encodes (drop n t)) at size
+  after_bytes : drop at bytes ≡ encodes (drop n t)
+  after_bytes = ap (drop at) seam ∙ drop_at (encodes (take n t)) (encodes (drop n t)) at size
 
   pub chars_prefix : chars (take at bytes) ≡ take n t
   chars_prefix = encodes_same (chars (take at bytes)) (take n t) (encodes-chars (take at bytes) (IsUtf8-take bytes at utf8 boundary_here) ∙ prefix_bytes)
@@ -57,21 +57,21 @@ module _ (t bytes : List ℕ) (whole : bytes ≡ encodes t) (utf8 : IsUtf8 bytes
   utf8_here = IsUtf8-drop bytes at utf8 boundary_here
 
   pub chars_behind : chars (drop at bytes) ≡ drop n t
-  chars_behind = encodes_same (chars (drop at bytes)) (drop n t) (encodes-chars (drop at bytes) utf8_here ∙ behind_bytes)
+  chars_behind = encodes_same (chars (drop at bytes)) (drop n t) (encodes-chars (drop at bytes) utf8_here ∙ after_bytes)
 
 module _ (limits : Limits) (ending : InputEnding) (t : List ℕ) (heads : Heads) (rest : List Char → List (List BodyEvent)) (lines macros head : ℕ) (at : Place) (prefix behind : List ℕ) where
   pub body_is : rest (placed_characters_from at behind) ≡ body_events lines macros (placed_characters_from at behind) → lines ≡ nabc_lines_of heads.book → macros ≡ macros_of heads.book → head ≡ bytes_len (canonical_heads heads.book)
-      → at ≡ place_past (record { line = 1; column = 1 }) prefix → prefix ≡ heads_text t → behind ≡ behind_heads t
+      → at ≡ place_past (record { line = 1; column = 1 }) prefix → prefix ≡ heads_text t → behind ≡ after_heads t
       → body_of limits head heads.findings (place_past at behind) ending (placed_characters_from at behind) (with_first_each [] (placed_characters_from at behind) (rest (placed_characters_from at behind))) ≡ body_in limits ending t heads
   body_is law l m h p f b =
       let place : at ≡ place_after (heads_text t) = p ∙ ap (place_past (record { line = 1; column = 1 })) f ∙ behind_after [] (heads_text t) in
-      let xs : placed_characters_from at behind ≡ placed_characters_behind (heads_text t) (behind_heads t) =
-      ap (λ q. placed_characters_from q behind) place ∙ ap (placed_characters_from (place_after (heads_text t))) b ∙ placed_behind (heads_text t) (behind_heads t) in
+      let xs : placed_characters_from at behind ≡ placed_characters_after (heads_text t) (after_heads t) =
+      ap (λ q. placed_characters_from q behind) place ∙ ap (placed_characters_from (place_after (heads_text t))) b ∙ placed_behind (heads_text t) (after_heads t) in
       let end : place_past at behind ≡ place_after t =
-      ap (λ q. place_past q behind) place ∙ ap (place_past (place_after (heads_text t))) b ∙ behind_after (heads_text t) (behind_heads t) ∙ ap place_after (take-append-drop (head_len t + 2) t) in
+      ap (λ q. place_past q behind) place ∙ ap (place_past (place_after (heads_text t))) b ∙ behind_after (heads_text t) (after_heads t) ∙ ap place_after (take-append-drop (head_len t + 2) t) in
       ap (λ lists. body_of limits head heads.findings (place_past at behind) ending (placed_characters_from at behind) (with_first_each [] (placed_characters_from at behind) lists)) law
       ∙ ap (λ k. body_of limits k heads.findings (place_past at behind) ending (placed_characters_from at behind) (score_events lines macros (placed_characters_from at behind))) h
       ∙ ap (λ q. body_of limits (bytes_len (canonical_heads heads.book)) heads.findings q ending (placed_characters_from at behind) (score_events lines macros (placed_characters_from at behind))) end
       ∙ ap (λ ys. body_of limits (bytes_len (canonical_heads heads.book)) heads.findings (place_after t) ending ys (score_events lines macros ys)) xs
-      ∙ ap (λ k. body_of limits (bytes_len (canonical_heads heads.book)) heads.findings (place_after t) ending (placed_characters_behind (heads_text t) (behind_heads t)) (score_events k macros (placed_characters_behind (heads_text t) (behind_heads t)))) l
-      ∙ ap (λ k. body_of limits (bytes_len (canonical_heads heads.book)) heads.findings (place_after t) ending (placed_characters_behind (heads_text t) (behind_heads t)) (score_events (nabc_lines_of heads.book) k (placed_characters_behind (heads_text t) (behind_heads t)))) m
+      ∙ ap (λ k. body_of limits (bytes_len (canonical_heads heads.book)) heads.findings (place_after t) ending (placed_characters_after (heads_text t) (after_heads t)) (score_events k macros (placed_characters_after (heads_text t) (after_heads t)))) l
+      ∙ ap (λ k. body_of limits (bytes_len (canonical_heads heads.book)) heads.findings (place_after t) ending (placed_characters_after (heads_text t) (after_heads t)) (score_events (nabc_lines_of heads.book) k (placed_characters_after (heads_text t) (after_heads t)))) m

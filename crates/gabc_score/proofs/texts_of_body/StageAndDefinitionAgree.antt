@@ -16,11 +16,11 @@ use Rattle.gabc_text.specs.View.{bytes_of}
 use Rattle.gabc_text.specs.witness.EventsLeft.{events_left}
 use Rattle.gabc_text.specs.TextStage.{fresh_stage}
 use Rattle.gabc_score.specs.declared.events.BodyEvent.{BodyEvent}
-use Rattle.gabc_score.specs.Events.{PartAhead, InComment, InText, InNotes, is_next, is_close, first_list, other_lists, events_in, snippet_from, next_line, behind_mark, part_at, part_behind, events_from, texts_by_definition}
+use Rattle.gabc_score.specs.Events.{PartAhead, InComment, InText, InNotes, is_next, is_close, first_list, other_lists, events_in, snippet_from, next_line, after_mark, part_at, part_after_character, events_from, texts_by_definition}
 use Rattle.gabc_score.specs.witness.BodyStage.{texts_by_stage}
-use Rattle.gabc_score.specs.Score.{heads_text, behind_heads}
+use Rattle.gabc_score.specs.Score.{heads_text, after_heads}
 
--- the text behind a character fits if the text from it on does
+-- the text after a character fits if the text from it on does
 fits_by : (at : Place) (c : ℕ) (t : List ℕ) (b : Bool) → CountsFit at (c ∷ t)
     → CountsFit (if b then record { line = at.line + 1; column = 1 } else record { line = at.line; column = at.column + 1 }) t
 fits_by at c t true f = record { line = omega (arith, f.line); column = omega (arith, f.column); bytes = omega (arith, f.bytes) }
@@ -29,14 +29,14 @@ fits_by at c t false f = record { line = omega (arith, f.line); column = omega (
 fits_next : (at : Place) (c : ℕ) (t : List ℕ) → CountsFit at (c ∷ t) → CountsFit (next_place at c) t
 fits_next at c t f = fits_by at c t (is_line_feed c) f
 
-fits_behind : (at : Place) (c : ℕ) (t : List ℕ) → CountsFit at (c ∷ t) → CountsFit (behind_mark at) t
+fits_behind : (at : Place) (c : ℕ) (t : List ℕ) → CountsFit at (c ∷ t) → CountsFit (after_mark at) t
 fits_behind at c t f = record { line = omega (arith, f.line); column = omega (arith, f.column); bytes = omega (arith, f.bytes) }
 
 pub bytes_encodes : (t : List ℕ) → bytes_of t ≡ length (encodes t)
 bytes_encodes [] = refl
 bytes_encodes (c ∷ t) = rw (bytes_encodes t, length-append (encode c) (encodes t), length-encode c) refl
 
--- a body fits behind a prefix if the bytes of both are few, and the place behind the prefix counts no more than the prefix has
+-- a body fits after a prefix if the bytes of both are few, and the place after the prefix counts no more than the prefix has
 pub fits_behind_prefix : (at : Place) (prefix bytes : List ℕ) → IsUtf8 bytes → at.line ≤ 1 + length prefix → at.column ≤ 1 + length prefix
     → length prefix + length bytes < 2 ^ 63 → CountsFit at (chars bytes)
 fits_behind_prefix at prefix bytes utf8 line column few =
@@ -52,13 +52,13 @@ fits_past : (at : Place) (prefix t : List ℕ) → CountsFit at (prefix ++ t) �
 fits_past at [] t f = f
 fits_past at (c ∷ prefix) t f = fits_past (next_place at c) prefix t (fits_next at c (prefix ++ t) f)
 
--- the body of a text fits behind its headers if the text has few bytes
-pub body_fits : (t : List ℕ) → length (encodes t) < 2 ^ 63 → CountsFit (place_after (heads_text t)) (behind_heads t)
+-- the body of a text fits after its headers if the text has few bytes
+pub body_fits : (t : List ℕ) → length (encodes t) < 2 ^ 63 → CountsFit (place_after (heads_text t)) (after_heads t)
 body_fits t few =
     let less = length-le-encodes t in
     let whole : CountsFit (place_after []) t = record { line = omega (arith, few, less); column = omega (arith, few, less); bytes = omega (arith, few, bytes_encodes t) } in
-    subst (λ p. CountsFit p (behind_heads t)) (behind_after [] (heads_text t))
-    (fits_past (place_after []) (heads_text t) (behind_heads t) (subst (CountsFit (place_after [])) (sym (take-append-drop (head_len t + 2) t)) whole))
+    subst (λ p. CountsFit p (after_heads t)) (behind_after [] (heads_text t))
+    (fits_past (place_after []) (heads_text t) (after_heads t) (subst (CountsFit (place_after [])) (sym (take-append-drop (head_len t + 2) t)) whole))
 
 module _ (step : (at : Place) (t : List ℕ) → CountsFit at t → events_left (fresh_stage at) t ≡ events_by_point at t) (lines macros : ℕ) where
   pub same_texts : (at from : Place) (t : List ℕ) → CountsFit at t → texts_by_stage at (placed_characters_from from t) ≡ texts_by_definition at (placed_characters_from from t)
@@ -72,8 +72,8 @@ module _ (step : (at : Place) (t : List ℕ) → CountsFit at t → events_left 
   same_standing at c t (InNotes line opened lists) f = refl
 
   same_behind : (at : Place) (c : ℕ) (t : List ℕ) (part : PartAhead) → CountsFit at (c ∷ t)
-      → part_behind texts_by_stage lines macros part (record { c = c; place = at }) (placed_characters_from (next_place at c) t)
-      ≡ part_behind texts_by_definition lines macros part (record { c = c; place = at }) (placed_characters_from (next_place at c) t)
+      → part_after_character texts_by_stage lines macros part (record { c = c; place = at }) (placed_characters_from (next_place at c) t)
+      ≡ part_after_character texts_by_definition lines macros part (record { c = c; place = at }) (placed_characters_from (next_place at c) t)
   same_behind at c t InComment f = refl
   same_behind at c t (InText lists) f = refl
   same_behind at c t (InNotes line opened lists) f =
@@ -81,7 +81,7 @@ module _ (step : (at : Place) (t : List ℕ) → CountsFit at t → events_left 
       if list_any is_next (first_list lists) then snippet_from lines macros (next_line lines line) opened (placed_characters_from (next_place at c) t) else
       if list_any is_close (first_list lists) then InText text else
       InNotes line opened (other_lists lists))
-      (same_texts (behind_mark at) (next_place at c) t (fits_behind at c t f))
+      (same_texts (after_mark at) (next_place at c) t (fits_behind at c t f))
 
   pub same_emitted : (at : Place) (t : List ℕ) (part : PartAhead) → CountsFit at t
       → events_from texts_by_stage lines macros part (placed_characters_from at t) ≡ events_from texts_by_definition lines macros part (placed_characters_from at t)
@@ -90,6 +90,6 @@ module _ (step : (at : Place) (t : List ℕ) → CountsFit at t → events_left 
       let x : Char = record { c = c; place = at } in
       let xs = placed_characters_from (next_place at c) t in
       let here = part_at texts_by_definition part x xs in
-      ap (λ (p : PartAhead). events_in p ∷ events_from texts_by_stage lines macros (part_behind texts_by_stage lines macros p x xs) xs) (same_standing at c t part f)
+      ap (λ (p : PartAhead). events_in p ∷ events_from texts_by_stage lines macros (part_after_character texts_by_stage lines macros p x xs) xs) (same_standing at c t part f)
       ∙ ap (λ (p : PartAhead). events_in here ∷ events_from texts_by_stage lines macros p xs) (same_behind at c t here f)
-      ∙ ap (λ (lists : List (List BodyEvent)). events_in here ∷ lists) (same_emitted (next_place at c) t (part_behind texts_by_definition lines macros here x xs) (fits_next at c t f))
+      ∙ ap (λ (lists : List (List BodyEvent)). events_in here ∷ lists) (same_emitted (next_place at c) t (part_after_character texts_by_definition lines macros here x xs) (fits_next at c t f))

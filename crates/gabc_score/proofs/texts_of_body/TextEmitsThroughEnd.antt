@@ -21,7 +21,7 @@ use Rattle.gabc_text.specs.TextRead.{view_in}
 use Rattle.gabc_score.specs.declared.events.BodyEvent.{BodyEvent}
 use Rattle.gabc_score.specs.declared.events.BodyEvent.TheVariants.{Text}
 use Rattle.gabc_score.specs.Events.{InText, is_text_end, texts_by_definition}
-use Rattle.gabc_score.specs.Units.{Mark, Opens, events_through, Endless, EndsBehind}
+use Rattle.gabc_score.specs.Units.{Mark, Opens, events_through, Endless, EndsAfter}
 use Rattle.gabc_score.specs.machine.PartKeeps.{text_events}
 
 -- ---- events without an end
@@ -62,7 +62,7 @@ module _ (lines : ℕ) where
   abbrev mark_by : Bool → Option Mark
   mark_by b = if b then Some Opens else None
 
-  nothing_ends : (rest : List ℕ) (xs : List Char) (mark : Mark) → EndsBehind lines (InText (no_events_each rest)) xs mark → ⊥
+  nothing_ends : (rest : List ℕ) (xs : List Char) (mark : Mark) → EndsAfter lines (InText (no_events_each rest)) xs mark → ⊥
   nothing_ends [] [] mark h = cc
   nothing_ends (c ∷ rest) [] mark h = cc
   nothing_ends [] (x ∷ xs) mark h = nothing_ends [] xs mark h.1
@@ -102,7 +102,7 @@ module _ (lines : ℕ) where
   no_last_mark (text_end.Cut place) h = tt
 
   pub ends_through : (before : List (List TextEvent)) (last : List TextEvent) (how : TextEnd) (rest : List ℕ) (prefix : List Char) (mark : Mark)
-      → ends_in (concat_of before) ≡ [] → ends_in last ≡ [] → EndsBehind lines (InText (all_lists before last how rest)) prefix mark
+      → ends_in (concat_of before) ≡ [] → ends_in last ≡ [] → EndsAfter lines (InText (all_lists before last how rest)) prefix mark
       → (concat_of (events_through (InText (all_lists before last how rest)) prefix) ≡ through before last how) × ((how ≡ text_end.Notes) × (mark ≡ Opens))
   ends_through [] last how rest [] mark n l h = (last_through last how, last_mark how mark (ap mark_by (sym (any_after last (text.Ended how ∷ []) l)) ∙ h))
   ends_through [] last how rest (x ∷ xs) mark n l h = absurd (nothing_ends rest xs mark h.1)
@@ -113,7 +113,7 @@ module _ (lines : ℕ) where
 
   -- the end stands where the `(` stands
   ends_at : (before : List (List TextEvent)) (last : List TextEvent) (how : TextEnd) (rest : List ℕ) (prefix : List Char) (mark : Mark)
-      → ends_in (concat_of before) ≡ [] → EndsBehind lines (InText (all_lists before last how rest)) prefix mark → length prefix ≡ length before
+      → ends_in (concat_of before) ≡ [] → EndsAfter lines (InText (all_lists before last how rest)) prefix mark → length prefix ≡ length before
   ends_at [] last how rest [] mark n h = refl
   ends_at [] last how rest (x ∷ xs) mark n h = absurd (nothing_ends rest xs mark h.1)
   ends_at (b ∷ before) last how rest [] mark n h = absurd (let e = ap mark_by (none_ends b (ends_apart b (concat_of before) n).0) in cc)
@@ -179,22 +179,22 @@ module _ (ends : (at : Place) (t : List ℕ) → EndsOnce at t) (emits : (at : P
 
   -- a text that ends at its `(`
   pub text_ended : (prefix : List Char) (end : Char) (rest : List Char) (mark : Mark) → (let xs = prefix ++ end ∷ rest in
-      EndsBehind lines (InText (texts_by_definition at xs)) prefix mark → TextEmitted (codes_of xs) text_end.Notes (concat_of (events_through (InText (texts_by_definition at xs)) prefix)) × (mark ≡ Opens))
+      EndsAfter lines (InText (texts_by_definition at xs)) prefix mark → TextEmitted (codes_of xs) text_end.Notes (concat_of (events_through (InText (texts_by_definition at xs)) prefix)) × (mark ≡ Opens))
   text_ended prefix end rest mark h =
       let xs = prefix ++ end ∷ rest in
       let e = ends at (codes_of xs) in
-      let through_is = ends_through lines e.before e.last e.how e.rest prefix mark e.none_before e.none_in_last (subst (λ ls. EndsBehind lines (InText ls) prefix mark) e.events_are h) in (
+      let through_is = ends_through lines e.before e.last e.how e.rest prefix mark e.none_before e.none_in_last (subst (λ ls. EndsAfter lines (InText ls) prefix mark) e.events_are h) in (
         subst (λ how. TextEmitted (codes_of xs) how (concat_of (events_through (InText (texts_by_definition at xs)) prefix))) through_is.1.0
             (text_emitted_by (codes_of xs) (concat_of (events_through (InText (texts_by_definition at xs)) prefix)) (ap (λ ls. concat_of (events_through (InText ls) prefix)) e.events_are ∙ through_is.0)),
         through_is.1.1,
       )
 
   -- that character is a `(`
-  pub text_mark : (prefix : List Char) (end : Char) (rest : List Char) (mark : Mark) → EndsBehind lines (InText (texts_by_definition at (prefix ++ end ∷ rest))) prefix mark → end.c ≡ 40
+  pub text_mark : (prefix : List Char) (end : Char) (rest : List Char) (mark : Mark) → EndsAfter lines (InText (texts_by_definition at (prefix ++ end ∷ rest))) prefix mark → end.c ≡ 40
   text_mark prefix end rest mark h =
       let xs = prefix ++ end ∷ rest in
       let e = ends at (codes_of xs) in
-      let k : EndsBehind lines (InText (all_lists lines e.before e.last e.how e.rest)) prefix mark = subst (λ ls. EndsBehind lines (InText ls) prefix mark) e.events_are h in
+      let k : EndsAfter lines (InText (all_lists lines e.before e.last e.how e.rest)) prefix mark = subst (λ ls. EndsAfter lines (InText ls) prefix mark) e.events_are h in
       let notes : e.how ≡ text_end.Notes = (ends_through lines e.before e.last e.how e.rest prefix mark e.none_before e.none_in_last k).1.0 in
       let left : e.rest ≡ 40 ∷ drop 1 e.rest = subst (λ how. Leaves how e.rest) notes e.leaves in
       let size : length (codes_of prefix) ≡ length e.prefix = length_of_codes prefix ∙ ends_at lines e.before e.last e.how e.rest prefix mark e.none_before k ∙ e.one_each in
@@ -236,12 +236,12 @@ module _ (ends : (at : Place) (t : List ℕ) → EndsOnce at t) (emits : (at : P
       ∙ ap text_events (sym (joined_all e.before e.last e.how e.rest) ∙ ap concat_of (sym e.events_are))
 
   pub ended_emits : (prefix : List Char) (end : Char) (rest : List Char) (mark : Mark) → (let xs = prefix ++ end ∷ rest in
-      EndsBehind lines (InText (texts_by_definition at xs)) prefix mark → concat_of (events_through (InText (texts_by_definition at xs)) prefix) ≡ text_events (concat_of (events_by_point at (codes_of xs))))
+      EndsAfter lines (InText (texts_by_definition at xs)) prefix mark → concat_of (events_through (InText (texts_by_definition at xs)) prefix) ≡ text_events (concat_of (events_by_point at (codes_of xs))))
   ended_emits prefix end rest mark h =
       let xs = prefix ++ end ∷ rest in
       let e = ends at (codes_of xs) in
       ap (λ ls. concat_of (events_through (InText ls) prefix)) e.events_are
-      ∙ (ends_through lines e.before e.last e.how e.rest prefix mark e.none_before e.none_in_last (subst (λ ls. EndsBehind lines (InText ls) prefix mark) e.events_are h)).0
+      ∙ (ends_through lines e.before e.last e.how e.rest prefix mark e.none_before e.none_in_last (subst (λ ls. EndsAfter lines (InText ls) prefix mark) e.events_are h)).0
       ∙ events_all (codes_of xs)
 
   pub endless_emits : (xs : List Char) → Endless lines (InText (texts_by_definition at xs)) xs → concat_of (events_through (InText (texts_by_definition at xs)) xs) ≡ text_events (concat_of (events_by_point at (codes_of xs)))

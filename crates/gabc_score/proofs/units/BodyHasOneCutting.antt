@@ -7,8 +7,8 @@ use Rattle.gabc_text.specs.declared.text_event.TextEvent.{TextEvent}
 use Rattle.gabc_notes.specs.declared.stage.NoteEvent.{NoteEvent}
 use Rattle.gabc_places.specs.declared.place.Char.{Char}
 use Rattle.gabc_score.specs.declared.events.BodyEvent.{BodyEvent}
-use Rattle.gabc_score.specs.Events.{PartAhead, InComment, InText, InNotes, Texts, is_text_end, is_next, is_close, first_list, other_lists, next_line, behind_mark, text_from, snippet_from, part_behind, events_from, events_in, events_at_end}
-use Rattle.gabc_score.specs.Units.{Mark, Opens, Next, Closes, CutPart, Cutting, EndedPart, BodyUnit, LastUnit, JustText, OpenNotes, Units, BodyCutting, cut_part, snippets_with, units_pieces, last_characters, cutting_of, whole, part_onward, NoLf, BeginsWithLf, events_through, mark_in, Endless, EndsBehind, part_following, Cuts, events_of_cutting, first_text, IsCutFrom, IsCut, events_of_parts, events_of_body_cutting}
+use Rattle.gabc_score.specs.Events.{PartAhead, InComment, InText, InNotes, Texts, is_text_end, is_next, is_close, first_list, other_lists, next_line, after_mark, text_from, snippet_from, part_after_character, events_from, events_in, events_at_end}
+use Rattle.gabc_score.specs.Units.{Mark, Opens, Next, Closes, CutPart, Cutting, EndedPart, BodyUnit, LastUnit, JustText, OpenNotes, Units, BodyCutting, cut_part, snippets_with, units_pieces, last_characters, cutting_of, whole, part_onward, NoLf, BeginsWithLf, events_through, mark_in, Endless, EndsAfter, part_following, Cuts, events_of_cutting, first_text, IsCutFrom, IsCut, events_of_parts, events_of_body_cutting}
 
 -- a body that is cut into parts
 record FlatBody : Type 0 where
@@ -62,7 +62,7 @@ module _ (texts : Texts) (lines macros : ℕ) where
       ap (λ o. cut_by x o (λ mark. cut (part_following texts lines macros mark x xs) xs) (cut (part_onward part) xs)) h.0
       ∙ ap (grow x) (endless_is (part_onward part) xs h.1)
 
-  ends_is : (part : PartAhead) (prefix : List Char) (mark : Mark) (end : Char) (rest : List Char) → EndsBehind lines part prefix mark
+  ends_is : (part : PartAhead) (prefix : List Char) (mark : Mark) (end : Char) (rest : List Char) → EndsAfter lines part prefix mark
       → cut part (prefix ++ end ∷ rest) ≡ push (record { characters = prefix; end = end; mark = mark }) (cut (part_following texts lines macros mark end rest) rest)
   ends_is part [] mark end rest h = ap (λ o. cut_by end o (λ m. cut (part_following texts lines macros m end rest) rest) (cut (part_onward part) rest)) h
   ends_is part (x ∷ prefix) mark end rest h =
@@ -190,7 +190,7 @@ module _ (texts : Texts) (lines macros : ℕ) where
   point_emitted (InNotes line opened lists) h x xs = by (list_any is_next (first_list lists)) (list_any is_close (first_list lists))
     where
       by : (b d : Bool) → events_in (InNotes line opened lists) ∷ events_from texts lines macros
-          (if b then snippet_from lines macros (next_line lines line) opened xs else if d then text_from texts (behind_mark x.place) xs else InNotes line opened (other_lists lists)) xs
+          (if b then snippet_from lines macros (next_line lines line) opened xs else if d then text_from texts (after_mark x.place) xs else InNotes line opened (other_lists lists)) xs
           ≡ by_events (InNotes line opened lists) x xs (if b then Some (Next (next_line lines line) opened) else if d then Some Closes else None)
       by true d = refl
       by false true = refl
@@ -202,7 +202,7 @@ module _ (texts : Texts) (lines macros : ℕ) where
       point_emitted part k x xs ∙ ap (by_events part x xs) h.0
       ∙ ap (λ ls. events_in part ∷ ls) (endless_emitted (part_onward part) xs (onward_read part k) h.1)
 
-  pub ends_emitted : (part : PartAhead) (prefix : List Char) (mark : Mark) (end : Char) (rest : List Char) → IsPastComment part → EndsBehind lines part prefix mark
+  pub ends_emitted : (part : PartAhead) (prefix : List Char) (mark : Mark) (end : Char) (rest : List Char) → IsPastComment part → EndsAfter lines part prefix mark
       → events_from texts lines macros part (prefix ++ end ∷ rest) ≡ events_through part prefix ++ events_from texts lines macros (part_following texts lines macros mark end rest) rest
   ends_emitted part [] mark end rest k h = point_emitted part k end rest ∙ ap (by_events part end rest) h
   ends_emitted part (x ∷ prefix) mark end rest k h =
@@ -220,7 +220,7 @@ module _ (texts : Texts) (lines macros : ℕ) where
   abbrev comment_by : Char → List Char → Bool → List (List BodyEvent)
   comment_by x xs b =
       let part = if b then text_from texts x.place (x ∷ xs) else InComment in
-      events_in part ∷ events_from texts lines macros (part_behind texts lines macros part x xs) xs
+      events_in part ∷ events_from texts lines macros (part_after_character texts lines macros part x xs) xs
 
   no_lf_emitted : (comment : List Char) → NoLf comment → events_from texts lines macros InComment comment ≡ map (λ (x : Char). []) comment ++ events_at_end InComment ∷ []
   no_lf_emitted [] h = refl
@@ -249,7 +249,7 @@ module _ (texts : Texts) (lines macros : ℕ) where
 
 -- ---- units
 
--- parts that begin in notes: through their `)` and behind it, or without one
+-- parts that begin in notes: through their `)` and after it, or without one
 data Noted : Type 0 where
   Never : List EndedPart → List Char → Noted
   Closed : List EndedPart → EndedPart → Units → Noted
@@ -310,11 +310,11 @@ module _ (texts : Texts) (lines macros : ℕ) where
       by false true = tt
       by false false = tt
 
-  pub text_mark : (lists : List (List TextEvent)) (prefix : List Char) (mark : Mark) → EndsBehind lines (InText lists) prefix mark → IsOpens mark
+  pub text_mark : (lists : List (List TextEvent)) (prefix : List Char) (mark : Mark) → EndsAfter lines (InText lists) prefix mark → IsOpens mark
   text_mark lists [] mark h = subst OfText h (of_text lists)
   text_mark lists (x ∷ xs) mark h = text_mark (other_lists lists) xs mark h.1
 
-  notes_mark : (line : ℕ) (opened : Place) (lists : List (List NoteEvent)) (prefix : List Char) (mark : Mark) → EndsBehind lines (InNotes line opened lists) prefix mark → IsOfNotes line opened mark
+  notes_mark : (line : ℕ) (opened : Place) (lists : List (List NoteEvent)) (prefix : List Char) (mark : Mark) → EndsAfter lines (InNotes line opened lists) prefix mark → IsOfNotes line opened mark
   notes_mark line opened lists [] mark h = subst (OfNotes line opened) h (of_notes line opened lists)
   notes_mark line opened lists (x ∷ xs) mark h = notes_mark line opened (other_lists lists) xs mark h.1
 
@@ -340,7 +340,7 @@ module _ (texts : Texts) (lines macros : ℕ) where
   Regroups (InText lists) c g = the_cutting g.as_text ≡ c
   Regroups (InNotes line opened lists) c g = noted line opened g.as_notes ≡ c
 
-  regroups_by : (part : PartAhead) (e : EndedPart) (mark : Mark) (xs : List Char) (c : Cutting) (g : Grouped) → EndsBehind lines part e.characters mark
+  regroups_by : (part : PartAhead) (e : EndedPart) (mark : Mark) (xs : List Char) (c : Cutting) (g : Grouped) → EndsAfter lines part e.characters mark
       → Regroups (part_following texts lines macros mark e.end xs) c g → Regroups part (push (cut_part e mark) c) (group_by mark e g)
   regroups_by InComment e mark xs c g h k = tt
   regroups_by (InText lists) e Opens xs c g h k = opened_is e g.as_notes ∙ ap (push (cut_part e Opens)) k

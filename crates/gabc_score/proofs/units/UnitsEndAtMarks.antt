@@ -23,8 +23,8 @@ use Rattle.gabc_notes.specs.declared.stage.NoteEnd.TheVariants as note_end
 use Rattle.gabc_notes.specs.declared.stage.NoteEvent.{NoteEvent}
 use Rattle.gabc_notes.specs.declared.stage.NoteEvent.TheVariants as note_out
 use Rattle.gabc_nabc.specs.Events as nabc
-use Rattle.gabc_score.specs.Events.{PartAhead, InText, InNotes, is_text_end, is_next, is_close, text_from, snippet_from, next_line, behind_mark, texts_by_definition}
-use Rattle.gabc_score.specs.Units.{Opens, Next, Closes, EndedPart, BodyUnit, LastUnit, JustText, OpenNotes, Units, BodyCutting, CutPart, cut_part, whole, snippets_with, units_pieces, last_characters, cutting_of, EndsBehind, Cuts, first_text, BeginsWithLf, IsCutFrom, IsCut}
+use Rattle.gabc_score.specs.Events.{PartAhead, InText, InNotes, is_text_end, is_next, is_close, text_from, snippet_from, next_line, after_mark, texts_by_definition}
+use Rattle.gabc_score.specs.Units.{Opens, Next, Closes, EndedPart, BodyUnit, LastUnit, JustText, OpenNotes, Units, BodyCutting, CutPart, cut_part, whole, snippets_with, units_pieces, last_characters, cutting_of, EndsAfter, Cuts, first_text, BeginsWithLf, IsCutFrom, IsCut}
 use Rattle.gabc_score.specs.Body.{has_text}
 use Rattle.gabc_score.specs.SyllablesOfUnits.{ScoreUnit, snippets_in, characters_from, score_unit, closed_units, last_units, score_units}
 use Rattle.gabc_text.specs.TextRead.{view_in}
@@ -85,14 +85,14 @@ Marked split (events ∷ lists) (x ∷ xs) = EndAtMost split x.c events × Marke
 
 module _ (lines : ℕ) where
   next_at : (split : Bool) (line k : ℕ) (opened p : Place) (lists : List (List NoteEvent)) (prefix : List Char) (end : Char) (rest : List Char)
-      → Marked split lists (prefix ++ end ∷ rest) → EndsBehind lines (InNotes line opened lists) prefix (Next k p) → (end.c ≡ 124) × (split ≡ true)
+      → Marked split lists (prefix ++ end ∷ rest) → EndsAfter lines (InNotes line opened lists) prefix (Next k p) → (end.c ≡ 124) × (split ≡ true)
   next_at split line k opened p [] [] end rest m h = elim m [ ]
   next_at split line k opened p [] (x ∷ prefix) end rest m h = elim m [ ]
   next_at split line k opened p (events ∷ lists) [] end rest m h = next_mark split end.c events m.0 (next_read (list_any is_next events) (list_any is_close events) (next_line lines line) k opened p h)
   next_at split line k opened p (events ∷ lists) (x ∷ prefix) end rest m h = next_at split line k opened p lists prefix end rest m.1 h.1
 
   close_at : (split : Bool) (line : ℕ) (opened : Place) (lists : List (List NoteEvent)) (prefix : List Char) (end : Char) (rest : List Char)
-      → Marked split lists (prefix ++ end ∷ rest) → EndsBehind lines (InNotes line opened lists) prefix Closes → end.c ≡ 41
+      → Marked split lists (prefix ++ end ∷ rest) → EndsAfter lines (InNotes line opened lists) prefix Closes → end.c ≡ 41
   close_at split line opened [] [] end rest m h = elim m [ ]
   close_at split line opened [] (x ∷ prefix) end rest m h = elim m [ ]
   close_at split line opened (events ∷ lists) [] end rest m h = close_mark split end.c events m.0 (close_read (list_any is_next events) (list_any is_close events) (next_line lines line) opened h)
@@ -105,16 +105,16 @@ opens_read true e = refl
 opens_read false e = absurd (cc)
 
 module _ (lines : ℕ) where
-  quiet : (rest : List ℕ) (prefix : List Char) → EndsBehind lines (InText (no_events_each rest)) prefix Opens → ⊥
+  quiet : (rest : List ℕ) (prefix : List Char) → EndsAfter lines (InText (no_events_each rest)) prefix Opens → ⊥
   quiet [] [] h = cc
   quiet (c ∷ rest) [] h = cc
   quiet [] (x ∷ prefix) h = quiet [] prefix h.1
   quiet (c ∷ rest) (x ∷ prefix) h = quiet rest prefix h.1
 
-  -- what is left of a text behind its end begins with the `(`
+  -- what is left of a text after its end begins with the `(`
   opens_at : (before : List (List TextEvent)) (last : List TextEvent) (how : TextEnd) (codes rest : List ℕ) (prefix : List Char) (end : Char) (more : List Char)
       → length before ≡ length codes → codes_of (prefix ++ end ∷ more) ≡ codes ++ rest → ends_in (concat_of before) ≡ [] → ends_in last ≡ [] → Leaves how rest
-      → EndsBehind lines (InText (before ++ (last ++ text_out.Ended how ∷ []) ∷ no_events_each rest)) prefix Opens → end.c ≡ 40
+      → EndsAfter lines (InText (before ++ (last ++ text_out.Ended how ∷ []) ∷ no_events_each rest)) prefix Opens → end.c ≡ 40
   opens_at [] last how (d ∷ codes) rest prefix end more n t e l v h = absurd (omega arith)
   opens_at (b ∷ before) last how [] rest prefix end more n t e l v h = absurd (omega arith)
   opens_at [] last how [] rest (x ∷ prefix) end more n t e l v h = absurd (quiet rest prefix h.1)
@@ -134,7 +134,7 @@ module _ (lines : ℕ) where
 
 -- ---- the units
 
--- the first text begins at the LF behind the comment
+-- the first text begins at the LF after the comment
 pub first_is : (ys : List Char) → BeginsWithLf ys → (at : Place) × (first_text texts_by_definition ys ≡ text_from texts_by_definition at ys)
 first_is [] h = elim h [ ]
 first_is (x ∷ ys) h = (x.place, refl)
@@ -144,11 +144,11 @@ IsSingle u = length u.snippets ≤ 1
 
 module _ (ends_once : (at : Place) (t : List ℕ) → EndsOnce at t) (gabc_ends : (split : Bool) (macros : ℕ) (p : notes.Point) → EndAtMost split p.here.c (notes.events_at split macros p))
     (nabc_ends : (t : List ℕ) (x : Char) → EndAtMost true x.c (nabc.events_at t x)) (lines macros : ℕ) where
-  gabc_marked : (split : Bool) (back xs : List Char) → Marked split (notes.note_events_behind split macros back xs) xs
+  gabc_marked : (split : Bool) (back xs : List Char) → Marked split (notes.note_events_after split macros back xs) xs
   gabc_marked split back [] = tt
   gabc_marked split back (x ∷ xs) = (gabc_ends split macros (record { back = back; here = x }), gabc_marked split (x ∷ back) xs)
 
-  nabc_marked : (t : List ℕ) (xs : List Char) → Marked true (nabc.nabc_events_behind t xs) xs
+  nabc_marked : (t : List ℕ) (xs : List Char) → Marked true (nabc.nabc_events_after t xs) xs
   nabc_marked t [] = tt
   nabc_marked t (x ∷ xs) = (nabc_ends t x, nabc_marked (t ++ x.c ∷ []) xs)
 
@@ -160,18 +160,18 @@ module _ (ends_once : (at : Place) (t : List ℕ) → EndsOnce at t) (gabc_ends 
       by true = (nat_lt 0 lines, gabc_marked (nat_lt 0 lines) [] xs)
       by false = (true, nabc_marked [] xs)
 
-  text_ends : (at : Place) (e : EndedPart) (rest : List Char) → EndsBehind lines (text_from texts_by_definition at (e.characters ++ e.end ∷ rest)) e.characters Opens → e.end.c ≡ 40
+  text_ends : (at : Place) (e : EndedPart) (rest : List Char) → EndsAfter lines (text_from texts_by_definition at (e.characters ++ e.end ∷ rest)) e.characters Opens → e.end.c ≡ 40
   text_ends at e rest h =
       let o = ends_once at (codes_of (e.characters ++ e.end ∷ rest)) in
       opens_at lines o.before o.last o.how o.prefix o.rest e.characters e.end rest o.one_each o.text_is o.none_before o.none_in_last o.leaves
-      (subst (λ (lists : List (List TextEvent)). EndsBehind lines (InText lists) e.characters Opens) o.events_are h)
+      (subst (λ (lists : List (List TextEvent)). EndsAfter lines (InText lists) e.characters Opens) o.events_are h)
 
-  next_ends : (line k : ℕ) (opened p : Place) (e : EndedPart) (rest : List Char) → EndsBehind lines (snippet_from lines macros line opened (e.characters ++ e.end ∷ rest)) e.characters (Next k p) → e.end.c ≡ 124
+  next_ends : (line k : ℕ) (opened p : Place) (e : EndedPart) (rest : List Char) → EndsAfter lines (snippet_from lines macros line opened (e.characters ++ e.end ∷ rest)) e.characters (Next k p) → e.end.c ≡ 124
   next_ends line k opened p e rest h =
       let m = snippet_marked line (e.characters ++ e.end ∷ rest) in
       (next_at lines m.0 line k opened p _ e.characters e.end rest m.1 h).0
 
-  pub final_ends : (line : ℕ) (opened : Place) (e : EndedPart) (rest : List Char) → EndsBehind lines (snippet_from lines macros line opened (e.characters ++ e.end ∷ rest)) e.characters Closes → e.end.c ≡ 41
+  pub final_ends : (line : ℕ) (opened : Place) (e : EndedPart) (rest : List Char) → EndsAfter lines (snippet_from lines macros line opened (e.characters ++ e.end ∷ rest)) e.characters Closes → e.end.c ≡ 41
   final_ends line opened e rest h =
       let m = snippet_marked line (e.characters ++ e.end ∷ rest) in
       close_at lines m.0 line opened _ e.characters e.end rest m.1 h
@@ -193,7 +193,7 @@ module _ (ends_once : (at : Place) (t : List ℕ) → EndsOnce at t) (gabc_ends 
   all_end (u ∷ units) last at h =
       let more = cut_part u.final Closes ∷ units_pieces lines units last in
       let n = snippets_end 0 u.text.end.place u.nexts more (last_characters last) h.1 in
-      let r = all_end units last (behind_mark u.final.end.place) n.1.1.1 in (
+      let r = all_end units last (after_mark u.final.end.place) n.1.1.1 in (
         (
           record {
             text = text_ends at u.text (whole (snippets_with lines 0 u.text.end.place u.nexts more) (last_characters last)) h.0;
@@ -218,10 +218,10 @@ module _ (ends_once : (at : Place) (t : List ℕ) → EndsOnce at t) (gabc_ends 
   -- ---- without NABC lines
 
   -- a snippet of GABC ends at a `|` only where notes are split
-  next_splits : (k : ℕ) (opened p : Place) (e : EndedPart) (rest : List Char) → EndsBehind lines (snippet_from lines macros 0 opened (e.characters ++ e.end ∷ rest)) e.characters (Next k p) → nat_lt 0 lines ≡ true
+  next_splits : (k : ℕ) (opened p : Place) (e : EndedPart) (rest : List Char) → EndsAfter lines (snippet_from lines macros 0 opened (e.characters ++ e.end ∷ rest)) e.characters (Next k p) → nat_lt 0 lines ≡ true
   unfolding notes.note_events
   next_splits k opened p e rest h =
-      (next_at lines (nat_lt 0 lines) 0 k opened p (notes.note_events_behind (nat_lt 0 lines) macros [] (e.characters ++ e.end ∷ rest)) e.characters e.end rest (gabc_marked (nat_lt 0 lines) [] (e.characters ++ e.end ∷ rest)) h).1
+      (next_at lines (nat_lt 0 lines) 0 k opened p (notes.note_events_after (nat_lt 0 lines) macros [] (e.characters ++ e.end ∷ rest)) e.characters e.end rest (gabc_marked (nat_lt 0 lines) [] (e.characters ++ e.end ∷ rest)) h).1
 
   none_next : lines ≡ 0 → (opened : Place) (nexts : List EndedPart) (more : List CutPart) (last : List Char)
       → Cuts texts_by_definition lines macros (snippet_from lines macros 0 opened (whole (snippets_with lines 0 opened nexts more) last)) (snippets_with lines 0 opened nexts more) last → nexts ≡ []
@@ -239,7 +239,7 @@ module _ (ends_once : (at : Place) (t : List ℕ) → EndsOnce at t) (gabc_ends 
       let none : u.nexts ≡ [] = none_next z u.text.end.place u.nexts more (last_characters last) h.1 in
       let n = snippets_end 0 u.text.end.place u.nexts more (last_characters last) h.1 in
       let one : length (map (λ (e : EndedPart). e.characters) (snippets_in u)) ≡ 1 = ap (λ (nexts : List EndedPart). length (map (λ (e : EndedPart). e.characters) (nexts ++ u.final ∷ []))) none in
-      All-cons IsSingle (score_unit u (characters_from units last)) (closed_units units last) (omega (arith, one)) (all_single z units last (behind_mark u.final.end.place) n.1.1.1)
+      All-cons IsSingle (score_unit u (characters_from units last)) (closed_units units last) (omega (arith, one)) (all_single z units last (after_mark u.final.end.place) n.1.1.1)
 
   last_single : (last : LastUnit) → All IsSingle (last_units last)
   last_single (JustText xs) = by (has_text (view_in (codes_of xs)))

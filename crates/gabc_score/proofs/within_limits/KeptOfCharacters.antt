@@ -35,9 +35,9 @@ use Rattle.gabc_notes.specs.declared.stage.NoteEvent.TheVariants as note
 use Rattle.gabc_nabc.specs.Events as of_nabc
 use Rattle.gabc_nabc.specs.Table.{nabc}
 use Rattle.gabc_score.specs.Body.{events_onto}
-use Rattle.gabc_score.specs.HeldAgain.{IsOneSyllable, emitted_behind, emitted_first}
+use Rattle.gabc_score.specs.HeldAgain.{IsOneSyllable, emitted_after, emitted_first}
 use Rattle.gabc_score.specs.declared.before.Spans.{Spans}
-use Rattle.gabc_score.specs.Events.{PartAhead, InComment, InText, InNotes, first_list, other_lists, is_text_end, is_next, is_close, note_event, events_in, part_at, part_behind, text_from, snippet_from, next_line, behind_mark, events_from, texts_by_definition}
+use Rattle.gabc_score.specs.Events.{PartAhead, InComment, InText, InNotes, first_list, other_lists, is_text_end, is_next, is_close, note_event, events_in, part_at, part_after_character, text_from, snippet_from, next_line, after_mark, events_from, texts_by_definition}
 use Rattle.gabc_score.specs.Syllable.{UnplacedSyllable, all_syllables, closes, is_eu, is_nlba, kept_of, since_close, syllable_by}
 use Rattle.gabc_score.specs.declared.events.BodyEvent.{BodyEvent}
 use Rattle.gabc_score.specs.declared.events.BodyEvent.TheVariants as event
@@ -234,7 +234,7 @@ module _ (line : ℕ) (opened : Place) where
       by true = omega arith
       by false = omega arith
 
-  notes_few : (split : Bool) (macros : ℕ) (back xs : List Char) → FewNotes (of_notes.note_events_behind split macros back xs)
+  notes_few : (split : Bool) (macros : ℕ) (back xs : List Char) → FewNotes (of_notes.note_events_after split macros back xs)
   notes_few split macros back [] = (cut_few split back, tt)
   notes_few split macros back (x ∷ xs) = (note_few split macros (record { back = back; here = x }), notes_few split macros (x ∷ back) xs)
 
@@ -277,7 +277,7 @@ module _ (line : ℕ) (opened : Place) where
       by true = omega arith
       by false = omega arith
 
-  nabc_few : (t : List ℕ) (xs : List Char) → FewNotes (of_nabc.nabc_events_behind t xs)
+  nabc_few : (t : List ℕ) (xs : List Char) → FewNotes (of_nabc.nabc_events_after t xs)
   nabc_few t [] = (cut_nabc_few t, tt)
   nabc_few t (x ∷ xs) = (nabc_event_few t x, nabc_few (t ++ x.c ∷ []) xs)
 
@@ -320,7 +320,7 @@ other_notes_few : (line : ℕ) (opened : Place) (lists : List (List NoteEvent)) 
 other_notes_few line opened [] h = h
 other_notes_few line opened (os ∷ lists) h = h.1
 
-behind_few : (lines macros : ℕ) (part : PartAhead) (x : Char) (xs : List Char) → PartFew part → PartFew (part_behind texts_by_definition lines macros part x xs)
+behind_few : (lines macros : ℕ) (part : PartAhead) (x : Char) (xs : List Char) → PartFew part → PartFew (part_after_character texts_by_definition lines macros part x xs)
 behind_few lines macros InComment x xs h = tt
 behind_few lines macros (InText lists) x xs h = by (list_any is_text_end (first_list lists))
   where
@@ -329,18 +329,18 @@ behind_few lines macros (InText lists) x xs h = by (list_any is_text_end (first_
     by false = others_few lists h
 behind_few lines macros (InNotes line opened lists) x xs h = by (list_any is_next (first_list lists)) (list_any is_close (first_list lists))
   where
-    by : (a b : Bool) → PartFew (if a then snippet_from lines macros (next_line lines line) opened xs else if b then text_from texts_by_definition (behind_mark x.place) xs else InNotes line opened (other_lists lists))
+    by : (a b : Bool) → PartFew (if a then snippet_from lines macros (next_line lines line) opened xs else if b then text_from texts_by_definition (after_mark x.place) xs else InNotes line opened (other_lists lists))
     by true b = snippet_few lines macros (next_line lines line) opened xs
-    by false true = texts_few (behind_mark x.place) xs
+    by false true = texts_few (after_mark x.place) xs
     by false false = other_notes_few line opened lists h
 
--- so many characters keep at most five times as many bytes
+-- n characters keep at most five times as many bytes
 pub first_keep : (lines macros n : ℕ) (part : PartAhead) (xs : List Char) → PartFew part → n ≤ length xs → all_kept (concat_of (take n (events_from texts_by_definition lines macros part xs))) ≤ 5 * n
 first_keep lines macros zero part xs h few = omega arith
 first_keep lines macros (suc n) part [] h few = absurd (omega (arith, few))
 first_keep lines macros (suc n) part (x ∷ xs) h few =
     let here = at_few part x xs h in
-    let next = part_behind texts_by_definition lines macros (part_at texts_by_definition part x xs) x xs in
+    let next = part_after_character texts_by_definition lines macros (part_at texts_by_definition part x xs) x xs in
     let rest = first_keep lines macros n next xs (behind_few lines macros (part_at texts_by_definition part x xs) x xs here) (omega (arith, few)) in
     let one = here_few (part_at texts_by_definition part x xs) here in
     let lists : List (List BodyEvent) = take n (events_from texts_by_definition lines macros next xs) in
@@ -350,7 +350,7 @@ first_keep lines macros (suc n) part (x ∷ xs) h few =
 
 -- ---- the syllables that some events give
 
--- the syllables that these events give behind others, none of which keeps more than that
+-- the syllables that these events give after others, none of which keeps more than that
 record GivesFew (ts before : List BodyEvent) (limit : ℕ) : Type 0 where
   made : List UnplacedSyllable
   given : all_syllables (events_onto ts before) ≡ all_syllables before ++ made
@@ -401,11 +401,11 @@ one_syllable_alike lines macros at t spans limit other m enough o =
     keeps : (n : ℕ) → n ≤ length t → all_kept (emitted_first lines macros at t n) ≤ 5 * n
     keeps n h = first_keep lines macros n (text_from texts_by_definition at xs) xs (texts_few at xs) (omega (arith, size, h))
 
-    few : (n : ℕ) → n ≤ length t → length (kept_of (since_close (emitted_behind lines macros at t o.before n))) ≤ other
+    few : (n : ℕ) → n ≤ length t → length (kept_of (since_close (emitted_after lines macros at t o.before n))) ≤ other
     few n h =
         let k = keeps n h in
         let on = since_on (emitted_first lines macros at t n) o.before in
-        let all = kept_few (since_close (emitted_behind lines macros at t o.before n)) in
+        let all = kept_few (since_close (emitted_after lines macros at t o.before n)) in
         omega (arith, k, on, all, nothing, enough, h)
 
     g : GivesFew (emitted_first lines macros at t (length t)) o.before other

@@ -124,7 +124,7 @@ module _ (same : (limits larger : Limits) (t : List ℕ) → AreNoLess limits la
     → ((stop : HeadFault) → heads_of limits t ≡ Err stop → is_too_long stop.fault.code ≡ false) → heads_of larger t ≡ heads_of limits t)
     (inside : (limits : Limits) (t : List ℕ) (stop : HeadFault) → heads_of limits t ≡ Err stop → is_too_long stop.fault.code ≡ true → stop.at_end ≡ false)
     (limits larger : Limits) (ending : InputEnding) (t : List ℕ) (less : AreNoLess limits larger) (input : limits.input ≡ larger.input) where
-  -- headers that are too long are so before the end, so that the score tells it
+  -- headers that are too long are so before the end, so that the score reports it
   told : (stop : HeadFault) → heads_of limits t ≡ Err stop → is_stopped_too_long (head_fault_by ending stop.at_end stop.fault) ≡ false → is_too_long stop.fault.code ≡ false
   told stop e h = by (is_too_long stop.fault.code) refl
     where

@@ -23,7 +23,7 @@ use Rattle.gabc_notes.specs.SnippetRead.{kept_of as kept_in_notes, ends_of}
 use Rattle.gabc_score.specs.declared.events.BodyEvent.{BodyEvent}
 use Rattle.gabc_score.specs.declared.events.BodyEvent.TheVariants.{Text, Notes}
 use Rattle.gabc_score.specs.Body.{events_onto}
-use Rattle.gabc_score.specs.Events.{InText, note_event, texts_by_definition, text_from, snippet_from, next_line, behind_mark}
+use Rattle.gabc_score.specs.Events.{InText, note_event, texts_by_definition, text_from, snippet_from, next_line, after_mark}
 use Rattle.gabc_score.specs.Syllable.{since_close}
 use Rattle.gabc_score.specs.SyllablesOfUnits.{score_unit, with_ends, snippets_in, characters_in, closed_units, characters_from}
 use Rattle.gabc_score.specs.Units.{Mark, Opens, Next, Closes, CutPart, EndedPart, BodyUnit, LastUnit, cut_part, whole, events_through, snippets_with, last_pieces, units_pieces, last_characters, Cuts, events_of_cutting}
@@ -92,7 +92,7 @@ line_few lines line opened prefix end mark events l =
     let few = l.few in
     omega arith
 
--- behind a `)` nothing is kept
+-- after a `)` nothing is kept
 closed_since : (lines line : ℕ) (opened : Place) (prefix : List Char) (end : Char) (events before : List BodyEvent) → LineEmitted lines line opened prefix end Closes events → since_close (events_onto events before) ≡ []
 closed_since lines line opened prefix end events before l =
     ap (λ ts. since_close (events_onto ts before)) l.emitted_are
@@ -112,7 +112,7 @@ size_with_end xs x ys =
     let some : 1 ≤ length (encode x.c) = one_byte x.c in
     omega arith
 
--- behind these parts the text goes on with `more`, and so far no more is kept than that
+-- after these parts the text goes on with `more`, and so far no more is kept than that
 record StaysOn (lines macros limit : ℕ) (all : List BodyEvent) (more : List CutPart) (last : List Char) (at : Place) : Type 0 where
   mid : List BodyEvent
   stays : StaysWithin limit mid
@@ -125,7 +125,7 @@ module _ (ends : (at : Place) (t : List ℕ) → EndsOnce at t) (emits : (at : P
       → (let pieces = snippets_with lines line opened_at nexts (cut_part final Closes ∷ more) in let xs = whole pieces last in let part = snippet_from lines macros line opened_at xs in
       size (codes_of xs) < 2 ^ 63 → Cuts texts_by_definition lines macros part pieces last → StaysWithin limit before
       → all_kept (since_close before) + size (codes_of (with_ends (nexts ++ final ∷ []))) ≤ limit
-      → StaysOn lines macros limit (all_events lines macros part pieces last before) more last (behind_mark final.end.place))
+      → StaysOn lines macros limit (all_events lines macros part pieces last before) more last (after_mark final.end.place))
   notes_stay [] final more last line opened_at before fits h stays few =
       let rest = whole more last in
       let part = snippet_from lines macros line opened_at (final.characters ++ final.end ∷ rest) in
@@ -137,7 +137,7 @@ module _ (ends : (at : Place) (t : List ℕ) → EndsOnce at t) (emits : (at : P
         mid = events_onto events before;
         stays = stays_on limit events before stays (omega arith);
         since = closed_since lines line opened_at final.characters final.end events before l;
-        events_are = through_more (events_through part final.characters) (events_of_cutting texts_by_definition lines macros (text_from texts_by_definition (behind_mark final.end.place) rest) more last) before;
+        events_are = through_more (events_through part final.characters) (events_of_cutting texts_by_definition lines macros (text_from texts_by_definition (after_mark final.end.place) rest) more last) before;
         cuts = h.1;
       }
   notes_stay (e ∷ nexts) final more last line opened_at before fits h stays few =
@@ -164,7 +164,7 @@ module _ (ends : (at : Place) (t : List ℕ) → EndsOnce at t) (emits : (at : P
   unit_stays : (at : Place) (u : BodyUnit) (more : List CutPart) (last : List Char) (before : List BodyEvent) → since_close before ≡ []
       → (let pieces = cut_part u.text Opens ∷ snippets_with lines 0 u.text.end.place u.nexts (cut_part u.final Closes ∷ more) in let xs = whole pieces last in
       size (codes_of xs) < 2 ^ 63 → Cuts texts_by_definition lines macros (text_from texts_by_definition at xs) pieces last → StaysWithin limit before → KeepsWithin limit (score_unit u (whole more last))
-      → StaysOn lines macros limit (all_events lines macros (text_from texts_by_definition at xs) pieces last before) more last (behind_mark u.final.end.place))
+      → StaysOn lines macros limit (all_events lines macros (text_from texts_by_definition at xs) pieces last before) more last (after_mark u.final.end.place))
   unit_stays at u more last before since fits h stays few =
       let prefix = u.text.characters in
       let end = u.text.end in
@@ -191,7 +191,7 @@ module _ (ends : (at : Place) (t : List ℕ) → EndsOnce at t) (emits : (at : P
         cuts = r.cuts;
       }
 
-  -- behind all units stands what is behind the last `)`
+  -- after all units stands what is after the last `)`
   pub record UnitsStay (all : List BodyEvent) (last : LastUnit) : Type 0 where
     pub at : Place
     pub mid : List BodyEvent
@@ -214,5 +214,5 @@ module _ (ends : (at : Place) (t : List ℕ) → EndsOnce at t) (emits : (at : P
       let one = unit_stays at u more ends_with before since fits h stays (subst (KeepsWithin limit) (sym same) (All-head (KeepsWithin limit) v (closed_units units last) few)) in
       let behind_fits : size (codes_of (whole more ends_with)) < 2 ^ 63 =
       fits_back (characters_in u) (whole more ends_with) (subst (λ cs. size (codes_of cs) < 2 ^ 63) (unit_whole lines u more ends_with) fits) in
-      let r = units_stay units last (behind_mark u.final.end.place) one.mid one.since behind_fits one.cuts one.stays (All-tail (KeepsWithin limit) v (closed_units units last) few) in
+      let r = units_stay units last (after_mark u.final.end.place) one.mid one.since behind_fits one.cuts one.stays (All-tail (KeepsWithin limit) v (closed_units units last) few) in
       record { at = r.at; mid = r.mid; stays = r.stays; since = r.since; events_are = one.events_are ∙ r.events_are; cuts = r.cuts }

@@ -5,7 +5,7 @@ use Rattle.gabc_places.specs.declared.place.Char.{Char}
 use Rattle.gabc_headers.specs.declared.head_event.HeadEvent.{HeadEvent}
 use Rattle.gabc_headers.specs.declared.head_event.HeadEvent.TheVariants as head_event
 use Rattle.gabc_score.specs.declared.body_result.BodyResult.{BodyResult}
-use Rattle.gabc_score.specs.declared.score_event.LentSyllable.TheVariants.{First, Second}
+use Rattle.gabc_score.specs.declared.score_event.BorrowedSyllable.TheVariants.{First, Second}
 use Rattle.gabc_score.specs.declared.score_event.ScoreEvent.{ScoreEvent}
 use Rattle.gabc_score.specs.declared.score_event.ScoreEvent.TheVariants as event
 use Rattle.gabc_places.specs.BoundedList.{BoundedList}
@@ -25,7 +25,7 @@ fault_then None later = later
 abbrev pub result_with : BodyResult → List ScoreOutput → BodyResult
 result_with r outputs = record { syllables = r.syllables ++ syllables_in outputs; findings = r.findings ++ findings_in outputs; fault = fault_then r.fault (fault_in outputs) }
 
--- a result past events, where these two syllables are lent
+-- a result past events, where these two syllables are borrowed
 module _ (first second : PlacedSyllable) where
   abbrev pub result_past : BodyResult → ScoreEvent → BodyResult
   result_past r (event.Found f) = record r { findings = r.findings ++ f ∷ [] }

@@ -24,9 +24,9 @@ use Rattle.gabc_score.specs.Canonical.{canonical}
 use Rattle.gabc_score.specs.Body.{is_longer, empty_snippet, has_text}
 use Rattle.gabc_score.specs.machine.SyllableBuilder.{OpenSyllable, nothing_open, with_kept, past_text, snippet_from, past_snippet, made_from}
 
--- What was gathered: `follows` tells whether a syllable stands before the one that is read, `total`
+-- What was gathered: `follows` says whether a syllable stands before the one that is read, `total`
 -- counts the canonical bytes of the headers and of the syllables that stand before, and `over`
--- tells whether one that was made is longer than the limit. `first_kind` tells which came first in
+-- says whether one that was made is longer than the limit. `first_kind` says which came first in
 -- the GABC snippets that have ended, a note or a clef.
 pub record Gathered : Type 0 where
   pub limit : ℕ

@@ -5,8 +5,8 @@ use Rattle.gabc_score.specs.Syllable.{UnplacedSyllable}
 use Rattle.gabc_score.specs.machine.Gatherer.{Gathered}
 
 -- the same, or both have come
-abbrev pub ComeAlike : Option ItemKind → Option ItemKind → Type 0
-ComeAlike a b = (a ≡ b) ⊎ ((is_some a ≡ true) × (is_some b ≡ true))
+abbrev pub AreInputsAlike : Option ItemKind → Option ItemKind → Type 0
+AreInputsAlike a b = (a ≡ b) ⊎ ((is_some a ≡ true) × (is_some b ≡ true))
 
 module _ (m n : UnplacedSyllable) where
   -- n stands in place of m as the first that is not given, and begins a word as m does where it
@@ -22,7 +22,7 @@ module _ (m n : UnplacedSyllable) where
   AreMadeAlike has_lent ms ns = (ns ≡ ms) ⊎ IsSwapped has_lent ms ns
 
   -- else b has gathered what a has
-  pub record IsAside (has_lent : Bool) (a b : Gathered) : Type 0 where
-    pub comes : ComeAlike a.first_kind b.first_kind
+  pub record IsEquivalentAside (has_lent : Bool) (a b : Gathered) : Type 0 where
+    pub comes : AreInputsAlike a.first_kind b.first_kind
     pub made : AreMadeAlike has_lent a.made b.made
     pub same : b ≡ record a { made = b.made; first_kind = b.first_kind }

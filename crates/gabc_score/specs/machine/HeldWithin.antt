@@ -5,10 +5,10 @@ use Rattle.gabc_score.specs.declared.before.Preceding.{Preceding}
 use Rattle.gabc_score.specs.Body.{is_none}
 use Rattle.gabc_score.specs.Canonical.{canonical}
 use Rattle.gabc_score.specs.Syllable.{UnplacedSyllable}
-use Rattle.gabc_score.specs.ToldWithin.{IsAtOutset}
+use Rattle.gabc_score.specs.ReportedWithin.{IsAtOutset}
 use Rattle.gabc_score.specs.machine.Gatherer.{Gathered}
 
--- the canonical texts of these syllables are within the limit; `first` tells that the first of a
+-- the canonical texts of these syllables are within the limit; `first` says that the first of a
 -- score is among them
 abbrev pub AreWritten : ℕ → Bool → List UnplacedSyllable → Type 0
 AreWritten limit first [] = Unit {0}

@@ -2,7 +2,7 @@
 use Rattle.std.specs.Prelude.{◌≡◌, List, [], true}
 use Rattle.gabc_score.specs.declared.body_stage.BodyPart.{BodyPart}
 use Rattle.gabc_score.specs.declared.events.BodyEvent.{BodyEvent}
-use Rattle.gabc_score.specs.ScoreTells.{is_in_front}
+use Rattle.gabc_score.specs.ScoreReports.{is_in_front}
 
 -- the comment in front is open only where it was, and then nothing is emitted
 abbrev pub PartLeavesFront : BodyPart → BodyPart → List BodyEvent → Type 0

@@ -20,7 +20,7 @@ use Rattle.gabc_score.specs.declared.body_stage.BodyPart.TheVariants as part
 use Rattle.gabc_score.specs.declared.events.BodyEvent.{BodyEvent}
 use Rattle.gabc_score.specs.declared.events.BodyEvent.TheVariants as event
 use Rattle.gabc_score.specs.Events.{next_line}
-use Rattle.gabc_score.specs.ScoreTells.{StandsAt}
+use Rattle.gabc_score.specs.ScoreReports.{IsAt}
 use Rattle.gabc_score.specs.machine.BodyBuilder.{with_all}
 use Rattle.gabc_score.specs.machine.Gatherer.{Gathered, nothing_gathered}
 use Rattle.gabc_score.specs.machine.Preceded.{spans_of}
@@ -89,7 +89,7 @@ said_by lines (in_notes t earlier k) = events_before lines t earlier ++ snippet_
 pub record IsEndedText (t : List ℕ) : Type 0 where
   pub stage : TextStage
   pub keeps : text.Keeps stage t
-  pub ends : text.ends_behind t ≡ true
+  pub ends : text.ends_after_it t ≡ true
 
 -- A snippet of a table has ended at its `|`: of the text that a stage kept it is what stands before
 -- an unfinished end.
@@ -161,4 +161,4 @@ PartKeepsOn lines macros before after now =
 -- where a part stands that keeps a text, it stands after the character x with it
 abbrev pub PartStandsOn : ℕ → ℕ → Char → BodyPart → BodyPart → Type 0
 PartStandsOn lines macros x before after =
-    (p : KeptParts) → PartKeeps lines macros before p → StandsAt x.place before → StandsAt (saturating_next_place x.place x.c) after
+    (p : KeptParts) → PartKeeps lines macros before p → IsAt x.place before → IsAt (saturating_next_place x.place x.c) after

@@ -31,13 +31,13 @@ pub record PartLaws : Type 0 where
   pub stands : (t : List ℕ) → StandsForView (kept t) (view_in t) t
   pub kept_again : (line : ℕ) (s : List ℕ) → IsSnippetOf line s → s ≡ kept_on_line line (characters_of s)
 
--- which spans are open after each of these follows from those before it, where p tells what stands
--- before the first
+-- which spans are open after each of these follows from those before it, where p reports what
+-- stands before the first
 unfoldable pub FollowEach : Preceding → List UnplacedSyllable → Type 0
 FollowEach p [] = Unit {0}
 FollowEach p (m ∷ ms) = FollowsSpans p.spans m × FollowEach (with_one p m) ms
 
--- after what p tells each of these syllables holds some unit, and their spans follow one another
+-- after what p reports each of these syllables holds some unit, and their spans follow one another
 pub record AreHeld (lines : ℕ) (p : Preceding) (made : List UnplacedSyllable) : Type 0 where
   pub units : All (HoldsSomeUnit lines) made
   pub follow : FollowEach p made

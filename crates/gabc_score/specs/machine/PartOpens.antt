@@ -4,7 +4,7 @@ use Rattle.gabc_places.specs.declared.place.Char.{Char}
 use Rattle.gabc_places.specs.declared.place.Place.{Place}
 use Rattle.gabc_score.specs.declared.body_stage.BodyPart.{BodyPart}
 use Rattle.gabc_score.specs.declared.body_tells.Openers.{Openers}
-use Rattle.gabc_score.specs.ScoreTells.{StandsAt, is_in_comment, openers_of}
+use Rattle.gabc_score.specs.ScoreReports.{IsAt, is_in_comment, openers_of}
 use Rattle.gabc_score.specs.machine.PartKeeps.{KeptParts, PartKeeps}
 
 -- After a character at this place the notes are the same, or nothing is open inside them. What is
@@ -16,7 +16,7 @@ pub record OpensOn (at : Place) (before after : Openers) : Type 0 where
 -- so it is where a part stands that keeps parts of a kept text
 abbrev pub PartOpensOn : ℕ → ℕ → Char → BodyPart → BodyPart → Type 0
 PartOpensOn lines macros x before after =
-    (p : KeptParts) → PartKeeps lines macros before p → StandsAt x.place before → OpensOn x.place (openers_of before) (openers_of after)
+    (p : KeptParts) → PartKeeps lines macros before p → IsAt x.place before → OpensOn x.place (openers_of before) (openers_of after)
 
 -- nor is a comment open after an LF
 abbrev pub PartEndsLine : ℕ → ℕ → Char → BodyPart → BodyPart → Type 0

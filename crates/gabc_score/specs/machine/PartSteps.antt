@@ -4,45 +4,26 @@ use Rattle.std.specs.Prelude.{◌≡◌, ◌≢◌, ◌≤◌, ℕ, List, [], �
 use Rattle.std.specs.List.{list_any}
 use Rattle.gabc_places.specs.declared.place.Char.{Char}
 use Rattle.gabc_places.specs.declared.place.Place.{Place}
-use Rattle.gabc_text.specs.Events.{codes_of}
 use Rattle.gabc_text.specs.PiecesOwed.{PiecesArePaid}
 use Rattle.gabc_text.specs.TextStage.{fresh_stage}
 use Rattle.gabc_text.specs.declared.stage.TextStage.{TextStage}
 use Rattle.gabc_text.specs.declared.text_event.TextEvent.{TextEvent}
-use Rattle.gabc_text.specs.witness.EventsLeft as text_rest
-use Rattle.gabc_text.specs.witness.Keeps as text
+use Rattle.gabc_text.specs.witness.Steps as text
 use Rattle.gabc_notes.specs.declared.stage.NoteEvent.{NoteEvent}
 use Rattle.gabc_notes.specs.declared.stage.NoteStage.{NoteStage}
-use Rattle.gabc_notes.specs.witness.ItemMachine as gabc_rest
 use Rattle.gabc_notes.specs.witness.Keeps as gabc
 use Rattle.gabc_nabc.specs.declared.stage.NabcStage.{NabcStage}
-use Rattle.gabc_nabc.specs.witness.DescriptorMachine as nabc_rest
 use Rattle.gabc_nabc.specs.witness.Keeps as nabc
 use Rattle.gabc_score.specs.declared.body_stage.BodyPart.{BodyPart}
 use Rattle.gabc_score.specs.declared.body_stage.BodyPart.TheVariants as part
 use Rattle.gabc_score.specs.declared.events.BodyEvent.{BodyEvent}
-use Rattle.gabc_score.specs.Events.{behind_mark, is_close, is_next, is_text_end, next_line, note_event, snippet_from}
+use Rattle.gabc_score.specs.Events.{after_mark, is_close, is_next, is_text_end, next_line, note_event, snippet_from}
 use Rattle.gabc_score.specs.machine.PartKeeps.{BeginsSnippet, text_events}
 use Rattle.gabc_score.specs.machine.PartPushes.{EndsLast}
 use Rattle.gabc_score.specs.machine.ReadAgain.{OpensNotes}
 use Rattle.gabc_score.specs.witness.BodyStage.{part_with}
 
 -- ---- a stage
-
--- A text takes a character with these events.
-pub record TextSteps (before : TextStage) (x : Char) (events : List TextEvent) (after : TextStage) : Type 0 where
-  pub law : (xs : List Char) → text_rest.events_left before (codes_of (x ∷ xs)) ≡ events ∷ text_rest.events_left after (codes_of xs)
-  pub keeps : text.KeepsOn before x.c events after
-
--- A snippet of GABC takes a character with these events.
-pub record GabcSteps (before : NoteStage) (x : Char) (events : List NoteEvent) (after : NoteStage) : Type 0 where
-  pub law : (xs : List Char) → gabc_rest.events_left before (x ∷ xs) ≡ events ∷ gabc_rest.events_left after xs
-  pub keeps : gabc.KeepsOn before x events after
-
--- A snippet of NABC takes a character with these events.
-pub record NabcSteps (before : NabcStage) (x : Char) (events : List NoteEvent) (after : NabcStage) : Type 0 where
-  pub law : (xs : List Char) → nabc_rest.events_left before (x ∷ xs) ≡ events ∷ nabc_rest.events_left after xs
-  pub keeps : nabc.KeepsOn before x events after
 
 -- The events of a text are few, and its pieces no more than what is kept.
 pub record TextBounds (before : TextStage) (events : List TextEvent) (after : TextStage) : Type 0 where
@@ -64,23 +45,23 @@ pub record Begins (lines macros line : ℕ) (opened : Place) (part : BodyPart) :
 
 -- A part that reads a snippet of that line takes a character with these events.
 pub data SnippetSteps (x : Char) : ℕ → Place → BodyPart → List NoteEvent → BodyPart → Type 0 where
-  in_gabc : {opened : Place} {s t : NoteStage} {es : List NoteEvent} → GabcSteps s x es t → SnippetSteps x 0 opened (part.Notes opened s) es (part.Notes opened t)
-  in_nabc : {line : ℕ} {opened : Place} {s t : NabcStage} {es : List NoteEvent} → NabcSteps s x es t → SnippetSteps x line opened (part.Nabc line opened s) es (part.Nabc line opened t)
+  in_gabc : {opened : Place} {s t : NoteStage} {es : List NoteEvent} → gabc.Steps s x es t → SnippetSteps x 0 opened (part.Notes opened s) es (part.Notes opened t)
+  in_nabc : {line : ℕ} {opened : Place} {s t : NabcStage} {es : List NoteEvent} → nabc.Steps s x es t → SnippetSteps x line opened (part.Nabc line opened s) es (part.Nabc line opened t)
 
 -- A part takes the character x with these events, and the other part reads the next one: the same
 -- goes on, or the next begins. The comment in front goes on up to an LF.
 pub data PartSteps (lines macros : ℕ) (x : Char) : BodyPart → List BodyEvent → BodyPart → Type 0 where
   in_front : x.c ≢ 10 → PartSteps lines macros x part.Comment [] part.Comment
   leaves_front : {now : List BodyEvent} {after : BodyPart} → x.c ≡ 10 → PartSteps lines macros x (part.Text (fresh_stage x.place)) now after → PartSteps lines macros x part.Comment now after
-  text_goes : {s t : TextStage} {es : List TextEvent} → TextSteps s x es t → list_any is_text_end es ≡ false → PartSteps lines macros x (part.Text s) (text_events es) (part.Text t)
-  text_ends : {s t : TextStage} {es : List TextEvent} {after : BodyPart} → TextSteps s x es t → list_any is_text_end es ≡ true → Begins lines macros 0 x.place after
+  text_goes : {s t : TextStage} {es : List TextEvent} → text.Steps s x es t → list_any is_text_end es ≡ false → PartSteps lines macros x (part.Text s) (text_events es) (part.Text t)
+  text_ends : {s t : TextStage} {es : List TextEvent} {after : BodyPart} → text.Steps s x es t → list_any is_text_end es ≡ true → Begins lines macros 0 x.place after
       → PartSteps lines macros x (part.Text s) (text_events es) after
   snippet_goes : {line : ℕ} {opened : Place} {before after : BodyPart} {es : List NoteEvent} → SnippetSteps x line opened before es after → list_any is_next es ≡ false → list_any is_close es ≡ false
       → PartSteps lines macros x before (map (note_event line opened) es) after
   snippet_next : {line : ℕ} {opened : Place} {before same after : BodyPart} {es : List NoteEvent} → SnippetSteps x line opened before es same → list_any is_next es ≡ true → Begins lines macros (next_line lines line) opened after
       → PartSteps lines macros x before (map (note_event line opened) es) after
   snippet_closes : {line : ℕ} {opened : Place} {before same : BodyPart} {es : List NoteEvent} → SnippetSteps x line opened before es same → list_any is_next es ≡ false → list_any is_close es ≡ true
-      → PartSteps lines macros x before (map (note_event line opened) es) (part.Text (fresh_stage (behind_mark x.place)))
+      → PartSteps lines macros x before (map (note_event line opened) es) (part.Text (fresh_stage (after_mark x.place)))
 
 -- the events of a part with which it takes a character are within their bounds
 abbrev pub IsBounded : {lines macros : ℕ} {x : Char} {before after : BodyPart} {now : List BodyEvent} → PartSteps lines macros x before now after → Type 0

@@ -12,7 +12,7 @@ use Rattle.gabc_score.specs.machine.Gatherer.{Gathered}
 abbrev pub spans_of : Gathered → Spans
 spans_of g = record { eu = g.eu; nlba = g.nlba }
 
--- what stands after all that was gathered, where so many syllables stand before the one that was
+-- what stands after all that was gathered, where n syllables stand before the one that was
 -- made last
 abbrev pub behind_gathered : ℕ → Gathered → Preceding
 behind_gathered syllables g = record { syllables = min (syllables + 1) most; canonical = g.total; spans = spans_of g; sounded = is_some g.first_kind }
@@ -29,15 +29,15 @@ past_point whole gave b g = record {
   behind = if whole then behind_gathered (before_past whole gave b).syllables g else b.behind;
 }
 
--- before the first syllable, where the canonical headers have so many bytes
+-- before the first syllable, where the canonical headers have n bytes
 abbrev pub behind_headers : ℕ → Bounds
 behind_headers head = record { before = no_syllable head; behind = no_syllable head }
 
--- a snippet ends before so many bytes
+-- a snippet ends before n bytes
 abbrev pub EndsBefore : ℕ → Snippet → Type 0
 EndsBefore n s = s.span.to < n
 
--- After the syllables given, of which `before` tells, what was gathered counts and sounds as those
+-- After the syllables given, that `before` reports, what was gathered counts and sounds as those
 -- that were made and are not given, and the snippets that have ended of the syllable that is read.
 pub record IsPreceded (before : Preceding) (g : Gathered) : Type 0 where
   pub follows : g.follows ≡ nat_lt 0 (with_each before g.made).syllables

@@ -18,7 +18,7 @@ use Rattle.gabc_score.specs.declared.events.BodyEvent.{BodyEvent}
 use Rattle.gabc_score.specs.declared.score_machine.ScoreMachine.{ScoreMachine}
 use Rattle.gabc_score.specs.declared.score_machine.ScorePart.TheVariants as score_part
 use Rattle.gabc_score.specs.ScoreEvents.{first_place}
-use Rattle.gabc_score.specs.ScoreTells.{StandsAt, before_of, is_in_comment, is_in_front, moved_part, moved_to, openers_of}
+use Rattle.gabc_score.specs.ScoreReports.{IsAt, before_of, is_in_comment, is_in_front, moved_part, moved_to, openers_of}
 use Rattle.gabc_score.specs.machine.BodyBuilder.{with_all, code_in}
 use Rattle.gabc_score.specs.machine.Gatherer.{Gathered}
 use Rattle.gabc_score.specs.machine.PartKeeps.{KeptParts, in_text, in_notes, text_before, joined, line_behind, PartKeeps}
@@ -35,7 +35,7 @@ IsNextIn lines (suc line) k c = nabc.IsKeptAgain k c ⊎ ((c ≡ 124) × IsSnipp
 -- After these parts of a kept text the character c is kept again, or it ends the text or the
 -- snippet that is read.
 abbrev pub IsNext : ℕ → KeptParts → ℕ → Type 0
-IsNext lines (in_text k) c = ((text.kept_with k c ≡ c ∷ []) × ((c == 37 && text.begins_comment k) ≡ false)) ⊎ ((c ≡ 40) × (text.ends_behind k ≡ true))
+IsNext lines (in_text k) c = ((text.kept_with k c ≡ c ∷ []) × ((c == 37 && text.begins_comment k) ≡ false)) ⊎ ((c ≡ 40) × (text.ends_after_it k ≡ true))
 IsNext lines (in_notes t earlier k) c = IsNextIn lines (line_behind lines 0 earlier) k c
 
 -- a `%` after them begins a comment
@@ -85,7 +85,7 @@ pub record Reads (before : BodyPart) (p : KeptParts) (x : Char) (more : List ℕ
   pub adds : (g : Gathered) → g.builder.kept ≡ encode_utf8_all (joined p) → g.builder.from ≡ length (encode_utf8_all (text_before p)) → length g.builder.kept < 2 ^ 64 → Adds g (with_all g now) more
   pub comment_is : is_in_comment after ≡ comment
   pub front : is_in_front after ≡ false
-  pub openers : (outer inner : Place) → x.place ≡ place_in outer inner before → StandsAt x.place before → OpenAt outer inner before → OpenAt outer inner after
+  pub openers : (outer inner : Place) → x.place ≡ place_in outer inner before → IsAt x.place before → OpenAt outer inner before → OpenAt outer inner after
 
 -- Outside a comment a part keeps what is kept again, and a comment begins at its `%`.
 pub record ReadsAgain (lines macros : ℕ) (x : Char) (before after : BodyPart) (now : List BodyEvent) : Type 0 where
@@ -156,7 +156,7 @@ ReadsThrough before openers [] after = before ≡ after
 ReadsThrough before openers (c ∷ cs) after = (m : ScoreMachine) × (TakesAgain before c openers m × ReadsThrough m openers cs after)
 
 -- In the body a kept text is read, and the `%` of a comment after it where one is open. Then the
--- next character is said to stand at `next`. The result tells whether the reading is not over.
+-- next character is said to stand at `next`. The result says whether the reading is not over.
 pub record HasReadKept (before : ScoreMachine) (kept : List ℕ) (openers : Openers) (comment : Bool) (next : Place) (result : Bool) (after : ScoreMachine) : Type 0 where
   pub m : ScoreMachine
   pub rests : IsScore m

@@ -1,9 +1,9 @@
 -- What becomes of a text that is read by itself: whether it is one syllable, after which no limit
 -- is passed.
-use Rattle.std.specs.Prelude.{◌≡◌, ℕ, ◌+◌, ◌<◌, ◌^◌, ◌&&◌, ◌≤◌, not, List, [], ◌∷◌, ◌++◌, Bool, true, false, None, is_some, length, take}
+use Rattle.std.specs.Prelude.{◌≡◌, ℕ, ◌+◌, ◌<◌, ◌^◌, ◌&&◌, ◌≤◌, not, List, [], ◌∷◌, Bool, true, false, None, is_some, length, take}
 use Rattle.std.specs.List.{All, list_any}
 use Rattle.std.specs.Str.{chars}
-use Rattle.gabc_places.specs.BoundedList.{BoundedList, extended_by}
+use Rattle.gabc_places.specs.BoundedList.{BoundedList}
 use Rattle.gabc_places.specs.Place.{placed_characters_from}
 use Rattle.gabc_places.specs.StageLaw.{concat_of}
 use Rattle.gabc_places.specs.declared.place.Place.{Place}
@@ -21,46 +21,17 @@ use Rattle.gabc_score.specs.declared.score_machine.ScorePart.TheVariants as scor
 use Rattle.gabc_places.specs.TextOfAnInput.{IsText}
 use Rattle.gabc_score.specs.Body.{is_none}
 use Rattle.gabc_score.specs.HeldAgain.{MayBeHeld}
-use Rattle.gabc_score.specs.NoteBeforeClef.{found_first}
-use Rattle.gabc_score.specs.ScoreEvents.{findings_now, first_place, outputs_of}
+use Rattle.gabc_score.specs.ScoreEvents.{findings_now, first_place}
 use Rattle.gabc_score.specs.Resumed.{BeginsText, HoldsAgain}
-use Rattle.gabc_score.specs.ScoreStage.{events_of}
-use Rattle.gabc_score.specs.ScoreTells.{before_of, before_with, held_of}
+use Rattle.gabc_score.specs.ScoreReports.{before_of, before_with, held_of}
 use Rattle.gabc_score.specs.Syllable.{UnplacedSyllable}
-use Rattle.gabc_score.specs.ToldWithin.{TellsOfText}
+use Rattle.gabc_score.specs.ReportedWithin.{ReportsText}
 use Rattle.gabc_score.specs.machine.BodyBuilder.{with_all, code_in}
 use Rattle.gabc_score.specs.machine.Gatherer.{Gathered}
 use Rattle.gabc_score.specs.machine.PartOnly.{HoldsTexts, IsKeptOf, kept_codes}
-use Rattle.gabc_score.specs.machine.PartPushes.{ClosesLast}
 use Rattle.gabc_score.specs.machine.ScoreMachine.{IsInBody, IsScore, shown}
-use Rattle.gabc_score.specs.machine.ScoreStage.{with_held}
 use Rattle.gabc_score.specs.machine.SyllableBuilder.{nothing_open}
 use Rattle.gabc_score.specs.witness.BodyStage.{BodyStageState, running_events_left}
-
--- ---- a character
-
--- at a character where no limit is passed the machine gathers what the body emits, gives what is
--- found, and goes on
-pub record Gathers (old new : ScoreMachine) (x : Char) (now : List BodyEvent) (after : BodyStageState) (given left : BoundedList ScoreEvent) : Type 0 where
-  pub part : new.part ≡ score_part.Body
-  pub body : new.body ≡ after
-  pub gathered : new.pair.gathered ≡ with_held (with_all old.pair.gathered now)
-  pub lines : new.body.nabc_lines ≡ old.body.nabc_lines
-  pub macros : new.body.macros ≡ old.body.macros
-  pub before : length (with_all old.pair.gathered now).made ≤ 1 → new.bounds.before ≡ old.bounds.before
-  pub found : length (with_all old.pair.gathered now).made ≤ 1 → left ≡ extended_by given (events_of (outputs_of
-      (findings_now now ++ found_first old.pair.gathered.first_kind (with_all old.pair.gathered now).first_kind x.place) []))
-
--- else it stops
-pub record Reads (old new : ScoreMachine) (x : Char) (given left : BoundedList ScoreEvent) : Type 0 where
-  pub now : List BodyEvent
-  pub after : BodyStageState
-  pub law : (xs : List Char) → running_events_left old.body (x ∷ xs) ≡ now ∷ running_events_left after xs
-  pub last : ClosesLast now
-  pub only : All (IsKeptOf x.c) (kept_codes now)
-  pub limits : new.limits ≡ old.limits
-  pub gathers : code_in old.limits (with_all old.pair.gathered now) ≡ None → Gathers old new x now after given left
-  pub stops : (code_in old.limits (with_all old.pair.gathered now) ≡ None → ⊥) → new.part ≡ score_part.Over
 
 -- ---- characters that are fine
 
@@ -135,7 +106,7 @@ pub record HasRoomFor (at : Place) (n : ℕ) : Type 0 where
   pub line : at.line + n < 2 ^ 64
   pub column : at.column + n < 2 ^ 64
 
--- A text was read whose first character stands there. The result tells whether it is one syllable.
+-- A text was read whose first character stands there. The result says whether it is one syllable.
 pub record ReadsAll (old : ScoreMachine) (at : Place) (text : List ℕ) (result : Bool) (new : ScoreMachine) : Type 0 where
   pub texts : result ≡ true → IsText text → HoldsTexts old.pair.gathered → HoldsTexts new.pair.gathered
   pub alone : result ≡ is_alone old.limits old.pair.gathered (lists_from old at (chars text))
@@ -147,11 +118,11 @@ pub record BeginsAlone (m : ScoreMachine) : Type 0 where
   pub begins : BeginsText (shown m)
   pub none : held_of (shown m) ≡ None
 
--- A text was read so, and is held if the result tells that it is one syllable. Else the reading is
+-- A text was read so, and is held if the result says that it is one syllable. Else the reading is
 -- over.
 pub record HoldsAlone (old : ScoreMachine) (text : List ℕ) (result : Bool) (new : ScoreMachine) : Type 0 where
   pub held : result ≡ true → HoldsAgain (chars text) (shown old) (shown new)
-  pub told : result ≡ true → IsText text → TellsOfText (shown old) → TellsOfText (shown new)
+  pub told : result ≡ true → IsText text → ReportsText (shown old) → ReportsText (shown new)
   pub refused : result ≡ false → (m : UnplacedSyllable) → MayBeHeld old.limits (before_with old.body old.bounds.before) (chars text) m → ⊥
   pub over : result ≡ false → before_of (shown new) ≡ None
   pub ends : result ≡ false → new.part ≡ score_part.Over

@@ -1,5 +1,5 @@
 -- How far a regular syllable goes that a text begins with.
-use Rattle.std.specs.Prelude.{◌≡◌, ◌≢◌, ℕ, ◌+◌, ◌<◌, ◌≤◌, List, [], ◌∷◌, ◌++◌, Bool, true, false, not, ◌&&◌, ◌||◌, ◌==◌, nat_lt, length, take, drop, codes, cond, encode_utf8_all, Option, Some, None}
+use Rattle.std.specs.Prelude.{◌≡◌, ◌≢◌, ℕ, ◌+◌, ◌<◌, ◌≤◌, List, [], ◌∷◌, ◌++◌, Bool, true, false, not, ◌&&◌, ◌||◌, ◌==◌, nat_lt, length, take, drop, codes, cond, encode_utf8_all, if◌then◌else◌, slice_index, Option, Some, None}
 use Rattle.std.specs.List.{All, starts_with}
 use Rattle.std.specs.Str.{chars, IsAscii, IsUtf8}
 use Rattle.std.specs.String.Boundary.{IsSplitPoint}
@@ -50,6 +50,10 @@ mark_at bytes =
     (cond (begins (tag_of ClosesNlba) bytes) (Some ClosesNlba)
     None)))
 
+-- the first byte of the name of a tag, which may stand after a `/`
+abbrev pub name_of_tag : List ℕ → ℕ
+name_of_tag bytes = if slice_index bytes 1 == 47 then slice_index bytes 2 else slice_index bytes 1
+
 -- the spans that are open after it, where these are open before it
 abbrev pub past_mark : Option SpanMark → Spans → Spans
 past_mark None spans = spans
@@ -77,7 +81,7 @@ BeginsWithTag (Some x) t = (rest : List ℕ) × (t ≡ tag_of x ++ rest)
 
 -- ---- what stands before a text
 
--- blanks and comments that have ended, of ASCII that may stand in an input
+-- blanks and comments that have ended, of ASCII that an input may have
 pub record IsPlainGap (bytes : List ℕ) : Type 0 where
   pub is : is_gap bytes ≡ true
   pub ascii : IsAscii bytes
@@ -117,7 +121,7 @@ pub record BeginsWithSnippets (lines : ℕ) (text : List ℕ) (n : ℕ) : Type 0
 -- ---- the syllable
 
 -- The text begins with a regular syllable, which has so long a gap, has its `(` there and is so
--- long. Its characters may stand in a text of an input, and no span mark stands among the bytes
+-- long. Its characters may be those of an input's text, and no span mark stands among the bytes
 -- that are kept of it but one with which its text begins.
 pub record BeginsRegularly (lines : ℕ) (text : List ℕ) (n : RegularLen) : Type 0 where
   pub syllable : SyllableParts

@@ -1,13 +1,14 @@
 -- What two slots gather after syllables which another pair has read.
 use Rattle.std.specs.Prelude.{nat_lt, Bool, true, false, Option, Some, None}
 use Rattle.gabc_notes.specs.declared.item.ItemKind.{ItemKind}
-use Rattle.gabc_notes.specs.declared.item.ItemKind.TheVariants.{Clef}
 use Rattle.gabc_score.specs.declared.before.Before.{Before}
+use Rattle.gabc_score.specs.declared.first_sound.FirstSound.TheVariants.{Either}
+use Rattle.gabc_score.specs.machine.FirstSound.{kind_of}
 use Rattle.gabc_score.specs.machine.Gatherer.{Gathered}
 
--- Where a note or a clef has come, no note before any clef is found any more: as after a clef.
+-- Where a note or a clef has come, it is not known which.
 abbrev pub first_sounded : Bool → Option ItemKind
-first_sounded true = Some Clef
+first_sounded true = kind_of (Some Either)
 first_sounded false = None
 
 -- nothing is gathered, and this stands before it

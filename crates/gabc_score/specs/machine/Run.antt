@@ -1,7 +1,8 @@
 -- A run of regular syllables that a machine over a score takes from a text.
-use Rattle.std.specs.Prelude.{◌≡◌, ℕ, ◌+◌, ◌≤◌, ◌<◌, ◌^◌, ◌||◌, ◌&&◌, ◌==◌, not, nat_lt, min, List, [], ◌∷◌, ◌++◌, Bool, length, take, drop, encode_utf8_all, if◌then◌else◌, Option, is_some}
+use Rattle.std.specs.Prelude.{◌≡◌, ℕ, ◌+◌, ◌≤◌, ◌<◌, ◌^◌, ◌||◌, ◌&&◌, ◌==◌, not, nat_lt, min, List, [], ◌∷◌, ◌++◌, Bool, length, take, drop, encode_utf8_all, if◌then◌else◌, Option, is_some, true}
 use Rattle.std.specs.List.{All, list_any}
 use Rattle.std.specs.Str.{IsUtf8, chars}
+use Rattle.std.specs.String.Boundary.{IsSplitPoint}
 use Rattle.gabc_places.specs.declared.limits.Limits.{Limits}
 use Rattle.gabc_places.specs.declared.place.Place.{Place}
 use Rattle.gabc_places.specs.Place.{place_past}
@@ -12,15 +13,17 @@ use Rattle.gabc_notes.specs.Items.{items_of}
 use Rattle.gabc_notes.specs.declared.item.ItemKind.{ItemKind}
 use Rattle.gabc_score.specs.declared.before.Preceding.{Preceding}
 use Rattle.gabc_score.specs.declared.body_stage.BodyPart.TheVariants.{Text}
+use Rattle.gabc_score.specs.declared.give.Run.{Run}
 use Rattle.gabc_score.specs.declared.regular.RegularLen.{RegularLen}
 use Rattle.gabc_score.specs.declared.regular.SpanMark.{SpanMark}
 use Rattle.gabc_score.specs.declared.run.Found.{Found}
 use Rattle.gabc_score.specs.declared.run.Reached.{Reached}
 use Rattle.gabc_score.specs.declared.score_machine.ScoreMachine.{ScoreMachine}
 use Rattle.gabc_score.specs.declared.score_machine.ScorePart.TheVariants as score_part
+use Rattle.gabc_score.specs.declared.slot_pair.SlotUse.TheVariants.{Filling}
 use Rattle.gabc_score.specs.Before.{most, with_placed}
 use Rattle.gabc_score.specs.Canonical.{canonical_in_place, position_by, translation_text}
-use Rattle.gabc_score.specs.GivesSyllables.{spelled_canonical}
+use Rattle.gabc_score.specs.GivesSyllables.{GivesSyllables, Runs, spelled_canonical}
 use Rattle.gabc_score.specs.RegularSyllable.{SyllableParts, kept_spelled, snippet_texts, with_lines}
 use Rattle.gabc_text.specs.Canonical.{canonical_text}
 use Rattle.gabc_score.specs.declared.before.Spans.{Spans}
@@ -30,8 +33,11 @@ use Rattle.gabc_score.specs.ScoreStage.{IsWithin}
 use Rattle.gabc_score.specs.Syllable.{UnplacedSyllable, PlacedSyllable}
 use Rattle.gabc_score.specs.machine.Between.{IsBetween, GoesThrough, SoundsNoMore}
 use Rattle.gabc_score.specs.machine.RegularLen.{BeginsRegularly, IsClearByte, mark_at, past_mark}
-use Rattle.gabc_score.specs.machine.ScoreMachine.{held_score, IsInBody}
+use Rattle.gabc_score.specs.machine.PartCounts.{CountsHold}
+use Rattle.gabc_score.specs.machine.PartKeeps.{in_text, PartKeeps}
+use Rattle.gabc_score.specs.machine.ScoreMachine.{held_score, shown, IsInBody, IsScore}
 use Rattle.gabc_score.specs.machine.ScoreStage.{HeldScore}
+use Rattle.gabc_score.specs.machine.SyllableBuilder.{nothing_open}
 
 -- ---- a syllable that is found
 
@@ -137,7 +143,38 @@ pub record RunsMore {Taker : Type 0} (given_by : Taker → List PlacedSyllable �
 
 -- ---- what is between two syllables
 
--- only what is lent, and how the slot is used that reads, may be otherwise
+-- Only what is borrowed may be otherwise, and the slot that reads is being filled.
 pub record IsSamePair (old new : ScoreMachine) : Type 0 where
   pub gathered : new.pair.gathered ≡ old.pair.gathered
+  pub used : new.pair.used ≡ Filling
   pub is : new ≡ record old { pair = new.pair }
+
+-- The machine goes on before a syllable of a run, where none is held.
+pub record GoesBefore (m : ScoreMachine) (p : Preceding) (at : Place) (on : ScoreMachine) : Type 0 where
+  pub gathered : on.pair.gathered ≡ record m.pair.gathered { made = []; total = p.canonical; eu = p.spans.eu; nlba = p.spans.nlba }
+  pub used : on.pair.used ≡ Filling
+  pub body : on.body ≡ record m.body { part = Text (fresh_stage at) }
+  pub counts : CountsHold on.body.part nothing_open
+  pub keeps : (lines macros : ℕ) → PartKeeps lines macros on.body.part (in_text [])
+  pub is : on ≡ record m { pair = on.pair; has_lent = true; bounds = record { before = p; behind = p }; body = on.body; next = at }
+
+-- ---- the end of a run
+
+-- A run of whole characters from the front of this text, none of them a CR or U+FEFF, and the place
+-- after them.
+pub record IsFrontOf (text : List ℕ) (at : Place) (run : Run) : Type 0 where
+  pub within : IsSplitPoint text run.bytes
+  pub plain : All IsPlain (chars (take run.bytes text))
+  pub next : run.next ≡ place_past at (chars (take run.bytes text))
+
+-- A run that has reached a syllable ends with it.
+pub record EndsRun (m : ScoreMachine) (at : Place) (text : List ℕ) (reached : Reached) (run : Run) (after : ScoreMachine) : Type 0 where
+  pub front : IsFrontOf text at run
+  pub gives : (given : List PlacedSyllable) → RunsTo m at text given reached → GivesSyllables (shown m) at (chars (take run.bytes text)) given (shown after)
+  pub rests : IsScore after
+
+-- A run is taken, or nothing is.
+pub record TakesRun {Taker : Type 0} (given_by : Taker → List PlacedSyllable → Taker) (m : ScoreMachine) (at : Place) (text : List ℕ) (run : Run) (after : ScoreMachine) (old new : Taker) : Type 0 where
+  pub front : IsFrontOf text at run
+  pub runs : Runs given_by (shown m) at (chars (take run.bytes text)) (shown after) old new
+  pub rests : IsScore after

@@ -4,7 +4,7 @@ use Rattle.std.specs.List.{All}
 use Rattle.gabc_score.specs.declared.before.Preceding.{Preceding}
 use Rattle.gabc_score.specs.Before.{with_each}
 use Rattle.gabc_score.specs.Canonical.{canonical}
-use Rattle.gabc_score.specs.ScoreTells.{is_in_front}
+use Rattle.gabc_score.specs.ScoreReports.{is_in_front}
 use Rattle.gabc_score.specs.Syllable.{UnplacedSyllable}
 use Rattle.gabc_score.specs.declared.score_machine.ScoreMachine.{ScoreMachine}
 use Rattle.gabc_score.specs.declared.score_machine.ScorePart.{ScorePart}

@@ -24,7 +24,7 @@ use Rattle.gabc_score.specs.machine.BodyBuilder.{with_all, code_in, end_fault, e
 use Rattle.gabc_score.specs.machine.Gatherer.{Gathered, nothing_gathered, with_last}
 
 -- The place of the next character, and what was gathered: of the syllables made, those not given
--- yet, of which the last is held. And whether one was lent before.
+-- yet, of which the last is held. And whether one was borrowed before.
 pub record HeldScore : Type 0 where
   pub next : Place
   pub gathered : Gathered
@@ -82,7 +82,7 @@ body_left limits s lists (head_event.Heads lines macros canonical ∷ xs) = [] �
 
 -- ---- the stage
 
--- nothing was read of a body whose canonical headers have so many bytes
+-- nothing was read of a body whose canonical headers have n bytes
 abbrev pub begun_score : Limits → Place → ℕ → HeldScore
 begun_score limits at head = record { next = at; gathered = nothing_gathered limits.syllable head; has_lent = false }
 

@@ -1,11 +1,11 @@
 -- Two slots: a syllable that is read, and the last whole one, which is held.
-use Rattle.std.specs.Prelude.{ℕ, List, [], ◌∷◌, Bool, true, false, take}
+use Rattle.std.specs.Prelude.{◌≡◌, ◌≤◌, ℕ, List, [], ◌∷◌, Bool, true, false, take}
 use Rattle.gabc_notes.specs.declared.stage.NoteEvent.{NoteEvent}
 use Rattle.gabc_score.specs.Events.{is_close}
 use Rattle.gabc_score.specs.declared.slot_pair.SlotUse.{SlotUse}
 use Rattle.gabc_score.specs.declared.slot_pair.SlotUse.TheVariants.{Filling, Made, Lent}
 use Rattle.gabc_score.specs.Syllable.{UnplacedSyllable, PlacedSyllable}
-use Rattle.gabc_score.specs.declared.score_event.LentSyllable.TheVariants.{First, Second}
+use Rattle.gabc_score.specs.declared.score_event.BorrowedSyllable.TheVariants.{First, Second}
 use Rattle.gabc_score.specs.declared.score_event.ScoreEvent.{ScoreEvent}
 use Rattle.gabc_score.specs.declared.score_event.ScoreEvent.TheVariants as event
 use Rattle.gabc_score.specs.machine.Gatherer.{Gathered}
@@ -13,13 +13,19 @@ use Rattle.gabc_score.specs.machine.Slot.{ReadSyllable, made_in, placed_in}
 use Rattle.gabc_score.specs.machine.SyllableBuilder.{OpenSyllable, nothing_open}
 
 -- what was gathered, the whole syllable that is held, if one is, how the slot is used that reads,
--- and the two that may be lent
+-- and the two that may be borrowed
 pub record SlotPairState : Type 0 where
   pub gathered : Gathered
   pub held : List UnplacedSyllable
   pub used : SlotUse
   pub first : PlacedSyllable
   pub second : PlacedSyllable
+
+-- This was gathered, and the slot that reads is used so. What is held stays.
+pub record HasGathered (before : SlotPairState) (g : Gathered) (used_so : SlotUse) (after : SlotPairState) : Type 0 where
+  pub gathered : after.gathered ≡ g
+  pub held : after.held ≡ before.held
+  pub used : after.used ≡ used_so
 
 -- nothing is read where the slot holds a whole syllable
 abbrev pub reading_in : SlotUse → ReadSyllable → OpenSyllable
@@ -37,7 +43,7 @@ made_last Made s = made_in s ∷ []
 made_last Filling s = []
 made_last Lent s = []
 
--- the first that may be lent is the one held, or what was held when it was given for the next
+-- the first that may be borrowed is the one held, or what was held when it was given for the next
 abbrev pub first_in : SlotUse → ReadSyllable → ReadSyllable → PlacedSyllable
 first_in Lent now other = placed_in now
 first_in Filling now other = placed_in other
@@ -56,10 +62,16 @@ used_by false = Filling
 abbrev pub used_past : NoteEvent → SlotUse
 used_past e = used_by (is_close e)
 
--- so many of the two are given
+-- n of the two are given
 abbrev pub lent_syllables : ℕ → SlotPairState → List PlacedSyllable
 lent_syllables n s = take n (s.first ∷ s.second ∷ [])
 
 -- the events that give them
 abbrev pub lent_of : ℕ → List ScoreEvent
 lent_of n = take n (event.Syllable First ∷ event.Syllable Second ∷ [])
+
+-- These syllables are borrowed, n at most, and none is read any more.
+pub record LendsLast (before : SlotPairState) (syllables : List PlacedSyllable) (bound count : ℕ) (after : SlotPairState) : Type 0 where
+  pub limit : after.gathered.limit ≡ before.gathered.limit
+  pub lends : lent_syllables count after ≡ syllables
+  pub most : count ≤ bound

@@ -98,7 +98,7 @@ pub bytes_past_append : (n : ℕ) (s t : List ℕ) → bytes_past n (s ++ t) ≡
 bytes_past_append n [] t = refl
 bytes_past_append n (c ∷ s) t = bytes_past_append (count_plus n (len_utf8 c)) s t
 
--- behind a token, which is not counted yet
+-- after a token, which is not counted yet
 abbrev pub behind : TextFacts → Progress → TokenKind → List ℕ → Progress
 behind facts progress k cs = record progress { next = past progress.next cs; kept = kept_behind facts progress k cs }
 

@@ -12,7 +12,7 @@ use Rattle.gabc_text.specs.declared.progress.Progress.{Progress}
 use Rattle.gabc_text.specs.Token.{Token}
 use Rattle.gabc_text.specs.View.{effect, piece_kind, is_space, has_word, follows_blank, place_of, bytes_of, begin_of, end_of, count_pieces, piece_of, PieceFacts, open_styles}
 use Rattle.gabc_text.specs.Events.{kept_of, piece_at, waiting_blank, is_blank_at}
-use Rattle.gabc_text.specs.witness.EventsLeft.{piece_by, piece_there, count_behind, waiting_behind}
+use Rattle.gabc_text.specs.witness.EventsLeft.{piece_by, piece_there, count_after, waiting_behind}
 use Rattle.gabc_text.specs.machine.TextStage.{progress_after}
 use Rattle.gabc_text.proofs.machine.FactsOfTokens.{facts_of}
 use Rattle.gabc_text.proofs.tokens.CountsOfTexts.{up_is}
@@ -40,7 +40,7 @@ module _ (at : Place) (before : List Token) (k : Token) (p : Place) (small : cou
   facts_here d (Some q) = piece_of before k (Some q)
   facts_here d None = cond (is_space d && has_word before && not (follows_blank before)) (record { kind = piece.Blank; styles = open_styles before; text = [] } ∷ []) []
 
-  pieces_emitted : (d : TokenKind) (s : TagEffect) → count_behind (count_pieces before) (piece_by (facts_of before) d s) ≡ count_pieces before + length (facts_here d (piece_kind d s))
+  pieces_emitted : (d : TokenKind) (s : TagEffect) → count_after (count_pieces before) (piece_by (facts_of before) d s) ≡ count_pieces before + length (facts_here d (piece_kind d s))
   pieces_emitted kind.Letter s = up_is (count_pieces before) 1 small
   pieces_emitted kind.Raw s = up_is (count_pieces before) 1 small
   pieces_emitted kind.Tag Mark = up_is (count_pieces before) 1 small
@@ -50,7 +50,7 @@ module _ (at : Place) (before : List Token) (k : Token) (p : Place) (small : cou
   pieces_emitted kind.Tag (Begins r) = omega arith
   pieces_emitted kind.Blank s = by (has_word before && not (follows_blank before))
     where
-      by : (b : Bool) → count_behind (count_pieces before) (cond b (Some piece.Blank) None) ≡ count_pieces before + length {A = PieceFacts} (cond b (record { kind = piece.Blank; styles = open_styles before; text = [] } ∷ []) [])
+      by : (b : Bool) → count_after (count_pieces before) (cond b (Some piece.Blank) None) ≡ count_pieces before + length {A = PieceFacts} (cond b (record { kind = piece.Blank; styles = open_styles before; text = [] } ∷ []) [])
       by true = up_is (count_pieces before) 1 small
       by false = omega arith
   pieces_emitted _ s = omega arith

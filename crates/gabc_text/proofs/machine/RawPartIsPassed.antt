@@ -83,7 +83,7 @@ events_raw t s (c ∷ cs) h none =
     ∙ events_raw (record t { kept = t.kept ++ encode c }) (push_stage s c) cs (raw_step s c h none.0) none.1
     ∙ ap (λ (x : List ℕ). record t { kept = x }) (append_assoc t.kept (encode c) (encodes cs))
 
--- a text is added behind what is kept, if there is memory
+-- a text is added after what is kept, if there is memory
 pub events_passed : {E : Type 0} (r : Result (Unit {0}) E) (t : BuiltText) (s : TextStage) (bs more : List ℕ) → IsUtf8 bs → is_in_raw s ≡ true → NonePass (λ x. x == 60) (chars bs)
     → more ≡ cond (is_ok r) (t.kept ++ bs) t.kept → OnOk r (record t { kept = more } ≡ with_events t (events_of_pushes s (chars bs)))
 events_passed (Ok x) t s bs more u h none e =

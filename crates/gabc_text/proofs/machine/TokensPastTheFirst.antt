@@ -91,7 +91,7 @@ module _ (read : List ℕ) (s : TextStage) (k : Token) where
       ∙ ap (λ (y : Progress). lists_by (facts_at [] next_state before) y (read_at read s (before ++ k ∷ [])) owes x) (progress_on read s k before)
       ∙ ap (λ (y : List ℕ). lists_by (facts_at [] next_state before) (progress_at [] next_state before) y owes x) (read_on read s before k)
 
-  -- behind a token more
+  -- after a token more
   on_more : (ks : List Token) (j : Token) (before : List Token) (rest : List ℕ) → lists_from read s (j ∷ (before ++ k ∷ [])) ks rest ≡ lists_from [] next_state (j ∷ before) ks rest
   on_more [] j before rest =
       ap (λ (x : List TextEvent). (x ++ end_events_by (facts_at read s (j ∷ (before ++ k ∷ []))) (progress_at read s (j ∷ (before ++ k ∷ []))) (is_open_kind j.kind) (end_at_text read s (j ∷ (before ++ k ∷ [])) rest)) ∷ no_events_each rest) (owed_on j before)
@@ -104,7 +104,7 @@ module _ (read : List ℕ) (s : TextStage) (k : Token) where
       ∙ ap (λ (l : List (List TextEvent)). l ++ lists_from [] next_state (x ∷ j ∷ before) ks rest) (lists_on (j ∷ before) x (owed_events_at read s (j ∷ (before ++ k ∷ []))) ∙ ap (λ (o : List TextEvent). lists_by (facts_at [] next_state (j ∷ before)) (progress_at [] next_state (j ∷ before)) [] o x) (owed_on j before))
       ∙ sym (append_assoc (lists_past [] next_state (j ∷ before) x) (along (lists_past [] next_state) (x ∷ j ∷ before) ks) _)
 
-  -- behind the first token, which is ended: what it owes, and what is emitted from the state past it
+  -- after the first token, which is ended: what it owes, and what is emitted from the state past it
   behind_first : (ks : List Token) (rest : List ℕ) → is_open_kind k.kind ≡ false → lists_from read s (k ∷ []) ks rest ≡ with_first (owed_events_at read s (k ∷ [])) (lists_from [] next_state [] ks rest)
   behind_first [] rest e =
       rw (e) (
@@ -117,7 +117,7 @@ module _ (read : List ℕ) (s : TextStage) (k : Token) where
       ∙ owed_first (facts_at [] next_state []) (progress_at [] next_state []) (owed_events_at read s (k ∷ [])) x (lists_from [] next_state (x ∷ []) ks rest)
       ∙ ap (with_first (owed_events_at read s (k ∷ []))) (sym (append_assoc (lists_past [] next_state [] x) (along (lists_past [] next_state) (x ∷ []) ks) _))
 
-  -- the first token, and what is emitted behind it
+  -- the first token, and what is emitted after it
   pub first_token : (ks : List Token) (rest : List ℕ) → is_open_kind k.kind ≡ false
       → lists_from read s [] (k ∷ ks) rest ≡ lists_past read s [] k ++ with_first (owed_events_at read s (k ∷ [])) (lists_from [] next_state [] ks rest)
   first_token ks rest e =

@@ -2,7 +2,7 @@
 use Rattle.std.proofs.Common.{◌≡◌, ℕ, ◌+◌, ◌<◌, ◌==◌, ◌&&◌, not, List, [], ◌∷◌, ◌++◌, Bool, true, false, cond, refl, sym, ◌∙◌, subst, append_assoc, map, arith, inl, inr, ◌⊎◌}
 use Rattle.std.specs.List.{list_any}
 use Rattle.gabc_places.specs.Place.{next_place, place_past}
-use Rattle.gabc_places.specs.Findings.{StandsBefore, StandBehind, AreInOrder}
+use Rattle.gabc_places.specs.Findings.{ComesBefore, ComeAfter, AreInOrder}
 use Rattle.gabc_places.specs.declared.place.Place.{Place}
 use Rattle.gabc_places.specs.declared.code.Code.{Code}
 use Rattle.gabc_places.specs.declared.code.Code.TheVariants.{W3, W4}
@@ -60,11 +60,11 @@ from_earlier : (p q : Place) (fs : List Finding) → Earlier p q → AllFrom q f
 from_earlier p q [] h g = tt
 from_earlier p q (f ∷ fs) h g = (inr (earlier_or p q f.place h g.0), from_earlier p q fs h g.1)
 
-stands : (f g : Finding) → Earlier f.place g.place → StandsBefore f g
+stands : (f g : Finding) → Earlier f.place g.place → ComesBefore f g
 stands f g (inl h) = inl h
 stands f g (inr h) = inr (h.0, inl h.1)
 
-behind : (f : Finding) (q : Place) (fs : List Finding) → Earlier f.place q → AllFrom q fs → AreInOrder fs → StandBehind f fs
+behind : (f : Finding) (q : Place) (fs : List Finding) → Earlier f.place q → AllFrom q fs → AreInOrder fs → ComeAfter f fs
 behind f q [] h g o = tt
 behind f q (x ∷ fs) h g o = (stands f x (earlier_or f.place q x.place h g.0), o)
 

@@ -56,7 +56,7 @@ module _ (at : Place) where
   both : (p : Place) (xs ys : List TextEvent) → LieBetween at p (found_in xs) → LieBetween at p (found_in ys) → LieBetween at p (found_in (xs ++ ys))
   both p xs ys h g = rw (found_more xs ys) (lie_append at p (found_in xs) (found_in ys) h g)
 
-  -- what is emitted through the character behind the prefix
+  -- what is emitted through the character after the prefix
   walked : (p : Place) (prefix rest : List ℕ) (lists : List (List TextEvent)) → Walk p (prefix ++ rest) lists → LieBetween at (place_past p prefix) (found_in (concat_of (take (suc (length prefix)) lists)))
   walked p prefix rest [] h = tt
   walked p [] [] (xs ∷ lists) h = both p xs [] h.0 tt

@@ -138,8 +138,8 @@ says_behind b g t rest h r =
 
 -- ---- where it ends
 
-pub ends_behind : (g t rest : List ℕ) → is_gap g ≡ true → IsRegularText t → after_tokens (g ++ (t ++ 40 ∷ rest)) ≡ 40 ∷ rest
-ends_behind g t rest h r =
+pub ends_after_it : (g t rest : List ℕ) → is_gap g ≡ true → IsRegularText t → after_tokens (g ++ (t ++ 40 ∷ rest)) ≡ 40 ∷ rest
+ends_after_it g t rest h r =
     let f = gap_of g h in
     let text : text_of_tokens (front f.parts ++ tokens t) ≡ g ++ t =
     written_append (front f.parts) (tokens t) ∙ ap₂ (λ (x y : List ℕ). x ++ y) f.spelled (ap text_of_tokens (own_tokens t r) ∙ own_form t r) in

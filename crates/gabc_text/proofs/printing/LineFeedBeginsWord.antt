@@ -26,7 +26,7 @@ begins_word t = stays (tokens_after 0 t) (gap 10 ∷ []) refl
 
 -- ---- two lists of tokens that say the same, but for the blank before all of them
 
--- behind a piece they follow a blank alike
+-- after a piece they follow a blank alike
 pub record Alike (b c : List Token) : Type 0 where
   pub styles : (s : Style) → is_open s b ≡ is_open s c
   pub word : has_word b ≡ has_word c

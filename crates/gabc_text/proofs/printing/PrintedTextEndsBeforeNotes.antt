@@ -1,4 +1,4 @@
--- A printed text ends before the `(` that stands behind it.
+-- A printed text ends before the `(` that stands after it.
 use Rattle.std.proofs.Common.{◌≡◌, ℕ, ◌+◌, List, [], ◌∷◌, ◌++◌, refl, sym, ap, ◌∙◌, length, length-append, drop}
 use Rattle.gabc_text.specs.Token.{Token, spelling}
 use Rattle.gabc_text.specs.Events.{after_tokens}

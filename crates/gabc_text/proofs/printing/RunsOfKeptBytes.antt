@@ -21,7 +21,7 @@ bytes_within kept s h k = grind (arith, common_steps)
 no_bytes : (kept : List ℕ) (s : Span) → s.from ≡ s.to → span_bytes kept s ≡ []
 no_bytes kept s h = grind (arith, common_steps)
 
--- what lies between a and c lies up to b or behind it
+-- what lies between a and c lies up to b or after it
 slices_join : (xs : List ℕ) (a b c : ℕ) → a ≤ b → b ≤ c → slice_range xs a b ++ slice_range xs b c ≡ slice_range xs a c
 slices_join xs zero b c h k =
     let first : b - 0 ≡ b = omega arith in
@@ -46,7 +46,7 @@ spans_join kept s t u o m p w f g =
     rw (bytes_within kept s o within, bytes_within kept t p w, bytes_within kept u long ends, ← m, f, g)
     (slices_join kept s.from s.to t.to o (omega arith))
 
--- a piece that goes on where a run ends, behind the same styles and no brace, with nothing but its kept bytes
+-- a piece that goes on where a run ends, after the same styles and no brace, with nothing but its kept bytes
 run_goes_on : (kept : List ℕ) (run longer : Span) (old : Styles) (p : Piece) (middle rest : List ℕ)
     → run.from ≤ run.to → run.to ≡ p.span.from → p.span.from ≤ p.span.to → p.span.to ≤ length kept
     → longer.from ≡ run.from → longer.to ≡ p.span.to → old ≡ p.styles → middle ≡ [] → piece_text kept p ≡ span_bytes kept p.span
@@ -85,6 +85,6 @@ taken_in_turn taken both out o1 o2 middle text left rest e1 e2 =
     sym (both o2 left rest) ∙ rw (e2, e1) (both (taken out middle) text rest ∙ both out middle (text ++ rest))
 
 -- before the first piece
-pub first_behind : (v : TextView) (kept : List ℕ) (old : Styles) (r : Run) → r.span.from ≡ r.span.to → r.next ≡ 0 → listed_styles old ≡ []
+pub first_after : (v : TextView) (kept : List ℕ) (old : Styles) (r : Run) → r.span.from ≡ r.span.to → r.next ≡ 0 → listed_styles old ≡ []
     → text_behind v kept old r ≡ canonical_text (content_of v) kept
-first_behind v kept old r e n none = rw (no_bytes kept r.span e, n, none) refl
+first_after v kept old r e n none = rw (no_bytes kept r.span e, n, none) refl

@@ -9,7 +9,7 @@ use Rattle.gabc_text.specs.Canonical.{span_bytes, braces, listed_styles}
 use Rattle.gabc_text.specs.TextSpan.{GoOnAt, GoesOnAt}
 use Rattle.gabc_text.proofs.printing.BehindTheLastPiece.{last_text}
 
--- behind the last piece, with no style open and no brace there, nothing is put
+-- after the last piece, with no style open and no brace there, nothing is put
 nothing_behind : (v : TextView) (kept : List ℕ) (old : Styles) (i : ℕ) → listed_styles old ≡ [] → length v.pieces.items ≤ i → braces v.centre i ≡ []
     → text_at v kept old i ≡ []
 nothing_behind v kept old i none behind no_braces = last_text v.centre kept i (listed_styles old) v.pieces.items behind ∙ rw (none, no_braces) refl
@@ -19,7 +19,7 @@ pub one_span : (v : TextView) (kept : List ℕ) (old : Styles) (r : Run) → lis
 one_span v kept old r none behind no_braces =
     ap (λ (x : List ℕ). span_bytes kept r.span ++ x) (nothing_behind v kept old r.next none behind no_braces) ∙ append-nil (span_bytes kept r.span)
 
--- pieces that go on: the first of them, and those behind it
+-- pieces that go on: the first of them, and those after it
 pub next_of_all : (kept : List ℕ) (old : Styles) (at i : ℕ) (ps : List Piece) (d : Piece) → i < length ps → GoOnAt kept old at (drop i ps)
     → GoesOnAt kept old at (get_or ps i d) × GoOnAt kept old (get_or ps i d).span.to (drop (i + 1) ps)
 next_of_all kept old at i ps d h g =

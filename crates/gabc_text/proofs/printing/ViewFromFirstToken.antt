@@ -1,4 +1,4 @@
--- What a text says, told from its first token on.
+-- What a text says, reported from its first token on.
 use Rattle.std.proofs.Common.{ℕ, ◌-◌, List, [], ◌∷◌, cond, not, ◌&&◌, Option, Some, None, length, take, min, reverse}
 use Rattle.gabc_places.specs.declared.place.Span.{Span}
 use Rattle.gabc_text.specs.declared.token.TokenKind.{TokenKind}

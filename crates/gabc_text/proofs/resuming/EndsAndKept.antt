@@ -23,7 +23,7 @@ use Rattle.gabc_text.specs.End.{is_end}
 use Rattle.gabc_text.specs.Events.{option_list_of, count_by}
 use Rattle.gabc_text.specs.witness.EventsLeft.{findings_there, codes_last, parts_by}
 use Rattle.gabc_text.specs.witness.Keeps.{said, end_text, EndsInNotes}
-use Rattle.gabc_text.specs.machine.StageTells.{is_comment}
+use Rattle.gabc_text.specs.machine.StageReports.{is_comment}
 use Rattle.gabc_text.specs.View.{piece_kind, centre_by}
 use Rattle.gabc_text.specs.machine.Resuming.{kept_at}
 use Rattle.gabc_text.specs.machine.TokenState.{settled_kind, next_step, keep, is_plain}

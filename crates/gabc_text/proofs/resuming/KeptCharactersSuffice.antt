@@ -21,7 +21,7 @@ use Rattle.gabc_text.specs.View.{piece_kind}
 use Rattle.gabc_text.specs.witness.EventsLeft.{piece_by, parts_by, begin_behind, end_behind}
 use Rattle.gabc_text.specs.declared.view.PieceKind.TheVariants as piece
 use Rattle.gabc_text.specs.machine.TextFacts.{facts_after}
-use Rattle.gabc_text.specs.machine.StageTells.{is_comment}
+use Rattle.gabc_text.specs.machine.StageReports.{is_comment}
 use Rattle.gabc_text.specs.machine.Resuming.{placed, outside, uncommented, IsAlike, kept_at, IsReached}
 use Rattle.gabc_text.specs.machine.TagPrefix.{next_name}
 use Rattle.gabc_text.specs.machine.TokenState.{first_step, step_at_tag_end, wanted_char, keep}
@@ -279,7 +279,7 @@ module _ (at next : Place) (facts : TextFacts) (p : Progress) where
           by_case 91 c (λ x. (x == 40) ≡ false → StepAlike here x there (keep facts Plain x)) (λ _. as_it_is at next here 91 refl) (λ b n.
           others n d e t b)))) n
 
--- ---- behind a `$`
+-- ---- after a `$`
 
 -- a character that is a blank, by itself and no escape
 record IsBlankBehind (w : ℕ) : Type 0 where
@@ -354,7 +354,7 @@ module _ (facts : TextFacts) (p : Progress) where
         dollar_said other more w b ∙ sym (dollar_said at next 32 (record { whole = refl; plain = refl; no_notes = refl; no_comment = refl; blank = refl; no_translation = refl })),
       )
 
-  -- an escape, or a letter behind the `$`
+  -- an escape, or a letter after the `$`
   dollar_letter : (at next other more : Place) (c : ℕ) → is_blank c ≡ false → (push_stage (in_dollar other more) c).done ≡ false
       → StepAlike (in_dollar other more) c (in_dollar at next) (kept_at (in_dollar other more) c)
   dollar_letter at next other more c no_blank goes = by (is_special c) refl
@@ -388,7 +388,7 @@ module _ (facts : TextFacts) (p : Progress) where
 pub comment_kept : (s : TextStage) (c : ℕ) → s.state ≡ Comment → (c == 10) ≡ false → kept_at s c ≡ None
 comment_kept s c e n = rw (e, n) refl
 
--- the LF behind a comment stands between tokens
+-- the LF after a comment stands between tokens
 comment_ends : (facts : TextFacts) (p : Progress) → p.start ≡ p.kept
     → push_stage (record { state = Comment; facts = facts; progress = p; done = false }) 10 ≡ push_stage (placed p.next p.next (record { state = Plain; facts = facts; progress = p; done = false })) 10
 comment_ends facts p start = rw start refl

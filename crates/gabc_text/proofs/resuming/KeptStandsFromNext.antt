@@ -8,10 +8,9 @@ use Rattle.gabc_places.specs.declared.place.Char.{Char}
 use Rattle.gabc_places.specs.declared.place.Place.{Place}
 use Rattle.gabc_text.specs.BuiltText.{kept_chars_in, kept_in}
 use Rattle.gabc_text.specs.Events.{count_by, option_list_of}
-use Rattle.gabc_text.specs.StageTells.{IsNext, KeptStands}
+use Rattle.gabc_text.specs.StageReports.{IsNext, KeptIsPlaced}
 use Rattle.gabc_text.specs.witness.StageReports.{next_of}
 use Rattle.gabc_text.specs.View.{centre_by, piece_kind}
-use Rattle.gabc_places.specs.declared.code.Code.{Code}
 use Rattle.gabc_places.specs.declared.place.Span.{Span}
 use Rattle.gabc_text.specs.declared.progress.Progress.{Progress}
 use Rattle.gabc_text.specs.declared.stage.TextStage.{TextStage}
@@ -31,7 +30,7 @@ use Rattle.gabc_text.specs.machine.TextFacts.{early_at, facts_after}
 use Rattle.gabc_text.specs.machine.TextStage.{char_event, end_by, events_of_end, events_of_finish, events_of_finish_by, events_of_push, events_of_reading, events_of_settling_by, events_of_step, events_of_token, is_cut_end, progress_after, push_stage, settle_stage, settle_stage_by, stage_past_char}
 use Rattle.gabc_text.specs.machine.TokenState.{is_plain, keep, kind_at_end, next_step, settled_kind}
 use Rattle.gabc_text.specs.witness.EventsLeft.{codes_by, codes_last, end_events_by, events_left, findings_there, parts_by, whole_events_by}
-use Rattle.gabc_text.proofs.events.EventsBuildText.{kept_more, none_kept}
+use Rattle.gabc_text.proofs.events.EventsBuildText.{kept_more}
 use Rattle.gabc_text.proofs.machine.EventsLeftAreThoseAhead.{rest_is}
 use Rattle.gabc_text.proofs.machine.EventsStepByStep.{stepwise}
 use Rattle.gabc_text.proofs.resuming.EndsAndKept.{no_found_kept, no_kept, settling_kept}
@@ -126,32 +125,32 @@ stays_ended s c e = rw e refl
 keeps_none : (s : TextStage) (c : ℕ) → s.done ≡ true → kept_chars_in (events_of_push s c) ≡ []
 keeps_none s c e = rw e refl
 
-finish_stands : (p : Place) (s : TextStage) → KeptStands p [] (stepwise s [])
+finish_stands : (p : Place) (s : TextStage) → KeptIsPlaced p [] (stepwise s [])
 finish_stands p s = no_chars (events_of_finish s ++ []) (kept_more (events_of_finish s) [] ∙ rw (finish_kept s) refl)
 
-ended_stands : (p : Place) (s : TextStage) (t : List ℕ) → s.done ≡ true → KeptStands p t (stepwise s t)
+ended_stands : (p : Place) (s : TextStage) (t : List ℕ) → s.done ≡ true → KeptIsPlaced p t (stepwise s t)
 ended_stands p s [] e = finish_stands p s
 ended_stands p s (c ∷ t) e = (
   subst (λ (xs : List Char). All (λ (x : Char). x.place ≡ p) xs) (sym (keeps_none s c e)) (All-nil (λ (x : Char). x.place ≡ p)),
   ended_stands (saturating_next_place p c) (push_stage s c) t (stays_ended s c e),
 )
 
-going_stands : (s : TextStage) (t : List ℕ) → s.done ≡ false → KeptStands (next_of s) t (stepwise s t)
+going_stands : (s : TextStage) (t : List ℕ) → s.done ≡ false → KeptIsPlaced (next_of s) t (stepwise s t)
 going_stands s [] e = finish_stands (next_of s) s
 going_stands s (c ∷ t) e = (push_stands s c, by (push_stage s c).done refl (going_stands (push_stage s c) t))
   where
-    by : (d : Bool) → (push_stage s c).done ≡ d → ((push_stage s c).done ≡ false → KeptStands (next_of (push_stage s c)) t (stepwise (push_stage s c) t))
-        → KeptStands (saturating_next_place (next_of s) c) t (stepwise (push_stage s c) t)
+    by : (d : Bool) → (push_stage s c).done ≡ d → ((push_stage s c).done ≡ false → KeptIsPlaced (next_of (push_stage s c)) t (stepwise (push_stage s c) t))
+        → KeptIsPlaced (saturating_next_place (next_of s) c) t (stepwise (push_stage s c) t)
     by true f later = ended_stands (saturating_next_place (next_of s) c) (push_stage s c) t f
-    by false f later = subst (λ (p : Place). KeptStands p t (stepwise (push_stage s c) t)) (next_goes s c e f) (later f)
+    by false f later = subst (λ (p : Place). KeptIsPlaced p t (stepwise (push_stage s c) t)) (next_goes s c e f) (later f)
 
-stands : (s : TextStage) (t : List ℕ) (d : Bool) → s.done ≡ d → KeptStands (next_of s) t (stepwise s t)
+stands : (s : TextStage) (t : List ℕ) (d : Bool) → s.done ≡ d → KeptIsPlaced (next_of s) t (stepwise s t)
 stands s t true e = ended_stands (next_of s) s t e
 stands s t false e = going_stands s t e
 
 -- the next character stands where the stage says
 pub is_next : (s : TextStage) → IsNext s (next_of s)
-is_next s t = subst (λ (lists : List (List TextEvent)). KeptStands (next_of s) t lists) (sym (rest_is s t)) (stands s t s.done refl)
+is_next s t = subst (λ (lists : List (List TextEvent)). KeptIsPlaced (next_of s) t lists) (sym (rest_is s t)) (stands s t s.done refl)
 
 -- ---- one place
 
@@ -159,7 +158,7 @@ head_stands : (p : Place) (x : Char) (xs ys : List Char) → ys ≡ x ∷ xs →
 head_stands p x xs ys e all = All-head (λ (y : Char). y.place ≡ p) x xs (subst (λ (zs : List Char). All (λ (y : Char). y.place ≡ p) zs) e all)
 
 first_stands : (p : Place) (c : ℕ) (x : Char) (xs : List Char) (lists : List (List TextEvent)) → kept_chars_in (concat_of (take 1 lists)) ≡ x ∷ xs
-    → KeptStands p (c ∷ []) lists → x.place ≡ p
+    → KeptIsPlaced p (c ∷ []) lists → x.place ≡ p
 first_stands p c x xs [] e stand = absurd stand
 first_stands p c x xs (events ∷ lists) e stand =
     head_stands p x xs (kept_chars_in events) (ap kept_chars_in (sym (append-nil events)) ∙ e) stand.0

@@ -7,7 +7,7 @@ use Rattle.gabc_text.specs.declared.text_event.TextEvent.{TextEvent}
 use Rattle.gabc_text.specs.declared.stage.TextStage.{TextStage}
 use Rattle.gabc_text.specs.BuiltText.{kept_in}
 use Rattle.gabc_text.specs.witness.Keeps.{Keeps, KeepsOn, GoesOn, end_text, begins_comment, kept_with}
-use Rattle.gabc_text.specs.StageTells.{opener_of, is_in_comment}
+use Rattle.gabc_text.specs.StageReports.{opener_of, is_in_comment}
 use Rattle.gabc_text.specs.witness.StageReports.{moved_to}
 use Rattle.gabc_text.proofs.resuming.StagesKeep.{kept_again, comment_not_kept, comment_open, comment_alone, opener_open, moved_keeps}
 use Rattle.gabc_text.proofs.resuming.ToldByEvents.{opener_moved, comment_moved}
@@ -69,7 +69,7 @@ module _ (place : Place) (k : List ℕ) (s : TextStage) (back : IsBack place k f
       keeps_same : Keeps after k
       keeps_same = subst (Keeps after) (ap (λ (t : List ℕ). k ++ t) (on.kept k back.keeps back.comment_is ∙ comment_not_kept k begins) ∙ append-nil k) goes.keeps
 
--- what is open in two stages behind one text
+-- what is open in two stages after one text
 pub opener_back : (place : Place) (k : List ℕ) (comment : Bool) (whole s : TextStage) (other : Place) → Keeps whole k → place ≡ unwrap_or (opener_of whole) other → IsBack place k comment s → opener_of s ≡ opener_of whole
 opener_back place k comment whole s other keeps at back = by (opener_of s) (opener_of whole) refl at (opener_open s k back.keeps ∙ sym (opener_open whole k keeps))
   where

@@ -14,7 +14,7 @@ use Rattle.gabc_text.specs.Ends.{ends_in}
 use Rattle.gabc_text.specs.Events.{CountsFit, events_by_point}
 use Rattle.gabc_text.specs.TextStage.{fresh_stage}
 use Rattle.gabc_text.specs.TextView.{ViewContent}
-use Rattle.gabc_text.specs.witness.Keeps.{said, end_text, EndsInNotes, stage_behind, Keeps, said_of, ends_behind, said_at_end}
+use Rattle.gabc_text.specs.witness.Keeps.{said, end_text, EndsInNotes, stage_behind, Keeps, said_of, ends_after_it, said_at_end}
 use Rattle.gabc_text.specs.witness.SaidInFull.{IsSaidInFull}
 use Rattle.gabc_text.specs.machine.RawPart.{stage_past, events_of_pushes}
 use Rattle.gabc_text.specs.machine.Resuming.{nowhere, kept_at, kept_past}
@@ -74,7 +74,7 @@ view_said b d (out.Ended h ∷ es) e = view_said (with_event b (out.Ended h)) (w
 abbrev parts_out : List TextPart → List TextEvent
 parts_out ps = map (λ (p : TextPart). out.Part p) ps
 
-pub said_in_full : (s : TextStage) (k rest : List ℕ) → Keeps s k → ends_behind k ≡ true → CountsFit nowhere (k ++ 40 ∷ rest) → IsSaidInFull k rest
+pub said_in_full : (s : TextStage) (k rest : List ℕ) → Keeps s k → ends_after_it k ≡ true → CountsFit nowhere (k ++ 40 ∷ rest) → IsSaidInFull k rest
 said_in_full s k rest keeps ends fits = record {
   mids = mids;
   said_are = ap (λ (es : List TextEvent). said_of k ++ es) notes.is ∙ sym (append_assoc (said_of k) (parts_out notes.parts) (out.Ended ending.Notes ∷ []));

@@ -80,7 +80,7 @@ reading_said t c =
     ∙ ap (λ (os : List TextEvent). os ++ said (events_of_step (stage_past_char t c) (next_step t.state c) t.progress.kept)) (char_said t.progress.next (keep t.facts t.state c))
     ∙ ap (λ (os : List TextEvent). said_of_char (keep t.facts t.state c) ++ os) (step_said (stage_past_char t c) (next_step t.state c) t.progress.kept)
 
--- what the end says behind its findings
+-- what the end says after its findings
 abbrev ending_events : TextStage → List TextEvent
 ending_events u = map (λ (c : Span). out.Part (part.Centre c)) (option_list_of (centre_by (count_by u.progress.pieces u.progress.blank) u.progress.begin u.progress.end)) ++ out.Ended text_ending.Notes ∷ []
 

@@ -14,7 +14,7 @@ use Rattle.gabc_text.specs.declared.stage.TextStage.{TextStage}
 use Rattle.gabc_text.specs.Token.{single, effect_of}
 use Rattle.gabc_text.specs.witness.FactsPast.{leaves_out}
 use Rattle.gabc_text.specs.witness.StageReports.{moved_to}
-use Rattle.gabc_text.specs.machine.StageTells.{is_open, is_comment}
+use Rattle.gabc_text.specs.machine.StageReports.{is_open, is_comment}
 use Rattle.gabc_text.specs.TextStage.{fresh_stage}
 use Rattle.gabc_text.specs.machine.TagPrefix.{next_name}
 use Rattle.gabc_text.specs.machine.RawPart.{stage_past}

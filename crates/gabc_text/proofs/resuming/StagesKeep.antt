@@ -10,10 +10,10 @@ use Rattle.gabc_text.specs.declared.text_event.TextEnd.TheVariants as text_endin
 use Rattle.gabc_text.specs.declared.stage.TextStage.{TextStage}
 use Rattle.gabc_text.specs.BuiltText.{kept_in}
 use Rattle.gabc_text.specs.witness.EventsLeft.{events_left}
-use Rattle.gabc_text.specs.witness.Keeps.{IsKeptOf, said, end_text, EndsInNotes, stage_behind, Keeps, said_of, is_open_behind, begins_comment, kept_with, ends_behind, said_at_end, comment_with, GoesOn, EndsBehind, KeepsOn}
-use Rattle.gabc_text.specs.StageTells.{opener_of, is_in_comment}
+use Rattle.gabc_text.specs.witness.Keeps.{IsKeptOf, said, end_text, EndsInNotes, stage_behind, Keeps, said_of, is_open_after_text, begins_comment, kept_with, ends_after_it, said_at_end, comment_with, GoesOn, EndsAfter, KeepsOn}
+use Rattle.gabc_text.specs.StageReports.{opener_of, is_in_comment}
 use Rattle.gabc_text.specs.witness.StageReports.{next_of, moved_to, place_told, told}
-use Rattle.gabc_text.specs.machine.StageTells.{is_open, is_comment, opener_in, comment_in}
+use Rattle.gabc_text.specs.machine.StageReports.{is_open, is_comment, opener_in, comment_in}
 use Rattle.gabc_text.specs.TextStage.{fresh_stage}
 use Rattle.gabc_text.specs.machine.RawPart.{stage_past, events_of_pushes}
 use Rattle.gabc_text.specs.machine.Resuming.{nowhere, placed, outside, IsAlike, kept_at, kept_past}
@@ -71,8 +71,8 @@ pub said_is : (k : List ℕ) → said_of k ≡ said (events_of_pushes (fresh_sta
 unfolding said_of
 said_is k = refl
 
-open_is : (k : List ℕ) → is_open_behind k ≡ is_open (stage_behind k).state
-unfolding is_open_behind
+open_is : (k : List ℕ) → is_open_after_text k ≡ is_open (stage_behind k).state
+unfolding is_open_after_text
 open_is k = refl
 
 pub begins_is : (k : List ℕ) → begins_comment k ≡ is_plain (stage_behind k).state
@@ -83,8 +83,8 @@ pub kept_with_is : (k : List ℕ) (c : ℕ) → kept_with k c ≡ kept_in (event
 unfolding kept_with
 kept_with_is k c = refl
 
-pub ends_are : (k : List ℕ) → ends_behind k ≡ (push_stage (stage_behind k) 40).done
-unfolding ends_behind
+pub ends_are : (k : List ℕ) → ends_after_it k ≡ (push_stage (stage_behind k) 40).done
+unfolding ends_after_it
 ends_are k = refl
 
 pub last_is : (k : List ℕ) → said_at_end k ≡ said (events_of_push (stage_behind k) 40)
@@ -107,21 +107,21 @@ module _ (s : TextStage) (c : ℕ) (k : List ℕ) (keeps : Keeps s k) where
       ∙ ap (λ (x : TextStage). kept_in (events_of_push x c)) (sym (placed_alike e))
       ∙ sym (kept_with_is k c)
 
-  ends_same : comment_in s ≡ false → c ≡ 40 → ends_behind k ≡ (push_stage s c).done
+  ends_same : comment_in s ≡ false → c ≡ 40 → ends_after_it k ≡ (push_stage s c).done
   ends_same e f =
       ends_are k
       ∙ ap (λ (x : TextStage). (push_stage x 40).done) (placed_alike e)
       ∙ ap (λ (x : TextStage). x.done) (push_placed keeps.alike.place keeps.alike.next s 40).same
       ∙ ap (λ (x : ℕ). (push_stage s x).done) (sym f)
 
-  end_here : (d : Bool) → (push_stage s c).done ≡ d → d ≡ (not (comment_in s) && (c == 40 && ends_behind k))
+  end_here : (d : Bool) → (push_stage s c).done ≡ d → d ≡ (not (comment_in s) && (c == 40 && ends_after_it k))
   end_here true f =
       let at : EndsAt s c = ended_at s c keeps.goes_on f in
       let mark : (c == 40) ≡ true = ap (λ (x : ℕ). x == 40) at.mark in
       rw (at.no_comment, mark, ends_same at.no_comment at.mark ∙ f) refl
   end_here false f = sym (by (comment_in s) (c == 40) refl refl)
     where
-      by : (a b : Bool) → comment_in s ≡ a → (c == 40) ≡ b → (not a && (b && ends_behind k)) ≡ false
+      by : (a b : Bool) → comment_in s ≡ a → (c == 40) ≡ b → (not a && (b && ends_after_it k)) ≡ false
       by true b g h = refl
       by false false g h = refl
       by false true g h = ends_same g (eqb-true c 40 h) ∙ f
@@ -189,7 +189,7 @@ module _ (s : TextStage) (c : ℕ) (k : List ℕ) (keeps : Keeps s k) where
               ∙ kept_said (events_of_push s c)
               ∙ f
 
-  ended_behind : end_text (events_of_push s c) ≡ true → EndsBehind k (events_of_push s c) (push_stage s c)
+  ended_behind : end_text (events_of_push s c) ≡ true → EndsAfter k (events_of_push s c) (push_stage s c)
   ended_behind e = record {
     kept = none_kept_at_end s c keeps.goes_on over;
     said = said_last;
@@ -238,7 +238,7 @@ only_kept s c on = by (push_stage s c).done refl
 -- what a push does
 pub push_keeps : (s next : TextStage) (c : ℕ) (events : List TextEvent) → next ≡ push_stage s c → events ≡ events_of_push s c → KeepsOn s c events next
 push_keeps s next c events e f = rw (e, f) (record {
-  end = λ k h. sym (done_is s c h.goes_on) ∙ end_here s c k h (push_stage s c).done refl ∙ ap (λ (b : Bool). not b && (c == 40 && ends_behind k)) (sym (comment_told s h.goes_on));
+  end = λ k h. sym (done_is s c h.goes_on) ∙ end_here s c k h (push_stage s c).done refl ∙ ap (λ (b : Bool). not b && (c == 40 && ends_after_it k)) (sym (comment_told s h.goes_on));
   kept = λ k h e. kept_here s c k h (sym (comment_told s h.goes_on) ∙ e);
   goes = λ k h. goes_behind s c k h;
   ends = λ k h. ended_behind s c k h;
@@ -253,7 +253,7 @@ moved_keeps at s k h = record { goes_on = h.goes_on; reached = moved_reached at 
 state_alike : (s : TextStage) (k : List ℕ) → Keeps s k → (stage_behind k).state ≡ outside s.state
 state_alike s k h = ap (λ (x : TextStage). x.state) h.alike.same
 
-pub opener_open : (s : TextStage) (k : List ℕ) → Keeps s k → is_some (opener_of s) ≡ is_open_behind k
+pub opener_open : (s : TextStage) (k : List ℕ) → Keeps s k → is_some (opener_of s) ≡ is_open_after_text k
 opener_open s k h = ap (λ (o : Option Place). is_some o) (opener_told s h.goes_on) ∙ by (is_open s.state) ∙ sym (open_is k ∙ ap is_open (state_alike s k h) ∙ still s.state)
   where
     by : (b : Bool) → is_some (if b then Some s.progress.place else None) ≡ b
@@ -279,7 +279,7 @@ comment_is Translation e = absurd (false≢true e)
 pub comment_open : (s : TextStage) (k : List ℕ) → Keeps s k → is_in_comment s ≡ true → begins_comment k ≡ true
 comment_open s k h e = begins_is k ∙ ap is_plain (state_alike s k h ∙ ap outside (comment_is s.state (sym (comment_told s h.goes_on) ∙ e)))
 
-pub comment_alone : (k : List ℕ) → begins_comment k ≡ true → is_open_behind k ≡ false
+pub comment_alone : (k : List ℕ) → begins_comment k ≡ true → is_open_after_text k ≡ false
 comment_alone k e = open_is k ∙ by (stage_behind k).state (sym (begins_is k) ∙ e)
   where
     by : (m : TokenState) → is_plain m ≡ true → is_open m ≡ false
@@ -336,14 +336,14 @@ comment_not_kept k e = kept_with_is k 37 ∙ by (stage_behind k).state (stage_be
     by (Raw part m) d h = absurd (false≢true h)
     by Translation d h = absurd (false≢true h)
 
-pub end_not_kept : (k : List ℕ) → ends_behind k ≡ true → kept_with k 40 ≡ []
+pub end_not_kept : (k : List ℕ) → ends_after_it k ≡ true → kept_with k 40 ≡ []
 end_not_kept k e = kept_with_is k 40 ∙ by (stage_behind k).done refl
   where
     by : (d : Bool) → (stage_behind k).done ≡ d → kept_in (events_of_push (stage_behind k) 40) ≡ []
     by true f = ap (λ (x : Bool). kept_in (cond x [] (events_of_settling (stage_behind k) 40 ++ events_of_settled_push (settle_stage (stage_behind k) 40) 40))) f
     by false f = none_kept_at_end (stage_behind k) 40 f (sym (ends_are k) ∙ e)
 
--- ---- stages that keep and tell the same
+-- ---- stages that keep and report the same
 
 state_same : (m n : TokenState) → outside m ≡ outside n → is_comment m ≡ is_comment n → m ≡ n
 state_same m n e f = by (is_comment m) refl
@@ -352,7 +352,7 @@ state_same m n e f = by (is_comment m) refl
     by true g = comment_is m g ∙ sym (comment_is n (sym f ∙ g))
     by false g = sym (stays_outside m g) ∙ e ∙ stays_outside n (sym f ∙ g)
 
--- what is told of places
+-- what is reported of places
 place_same : (m : TokenState) (p q n : Place) → (is_plain m ≡ true → p ≡ n) → (is_plain m ≡ true → q ≡ n) → (if is_open m then Some p else None) ≡ (if is_open m then Some q else None)
     → place_told m p n ≡ place_told m q n
 place_same Plain p q n a b e = a refl ∙ sym (b refl)

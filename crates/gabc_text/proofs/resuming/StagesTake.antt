@@ -9,8 +9,8 @@ use Rattle.gabc_text.specs.declared.token_state.TokenState.TheVariants.{Plain, D
 use Rattle.gabc_text.specs.declared.text_event.TextEvent.{TextEvent}
 use Rattle.gabc_text.specs.declared.stage.TextStage.{TextStage}
 use Rattle.gabc_text.specs.BuiltText.{kept_in}
-use Rattle.gabc_text.specs.StageTells.{opener_of, is_in_comment}
-use Rattle.gabc_text.specs.machine.StageTells.{is_open}
+use Rattle.gabc_text.specs.StageReports.{opener_of, is_in_comment}
+use Rattle.gabc_text.specs.machine.StageReports.{is_open}
 use Rattle.gabc_text.specs.witness.Keeps.{Keeps, OpensThere, Takes, begins_comment, comment_with, kept_with, stage_behind, GoesOn}
 use Rattle.gabc_text.specs.machine.Resuming.{kept_at, outside}
 use Rattle.gabc_text.specs.machine.TokenState.{is_plain}

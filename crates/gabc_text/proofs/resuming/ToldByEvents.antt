@@ -6,10 +6,10 @@ use Rattle.gabc_text.specs.declared.stage.TextStage.{TextStage}
 use Rattle.gabc_text.specs.declared.text_event.TextEvent.{TextEvent}
 use Rattle.gabc_text.specs.Events.{no_events_each}
 use Rattle.gabc_text.specs.ExampleTexts.{stands_for}
-use Rattle.gabc_text.specs.StageTells.{begins_silently, opener_of, is_in_comment, cut_place}
+use Rattle.gabc_text.specs.StageReports.{begins_silently, opener_of, is_in_comment, cut_place}
 use Rattle.gabc_text.specs.witness.StageReports.{moved_to}
 use Rattle.gabc_text.specs.TextStage.{fresh_stage}
-use Rattle.gabc_text.specs.machine.StageTells.{is_open, opener_in, comment_in}
+use Rattle.gabc_text.specs.machine.StageReports.{is_open, opener_in, comment_in}
 use Rattle.gabc_text.specs.witness.EventsLeft.{lists_ahead}
 use Rattle.gabc_text.proofs.NothingBehindTheEnd.{opener_told, comment_told}
 use Rattle.gabc_text.proofs.machine.EventsLeftAreThoseAhead.{rest_by}

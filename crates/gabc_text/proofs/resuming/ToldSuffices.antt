@@ -1,4 +1,4 @@
--- What a stage tells suffices for what it will emit.
+-- What a stage reports suffices for what it will emit.
 use Rattle.std.proofs.Common.{◌≡◌, ◌==◌, ℕ, List, [], ◌∷◌, Bool, true, false, refl, sym, ap, ◌∙◌}
 use Rattle.gabc_text.specs.declared.token_state.TokenState.{TokenState}
 use Rattle.gabc_text.specs.declared.token_state.TokenState.TheVariants.{Plain, Dollar, Comment, Tag, Raw, Translation}
@@ -53,6 +53,6 @@ steps_told s (c ∷ t) =
     ap (λ (os : List TextEvent). os ∷ stepwise (push_stage s c) t) h.0
     ∙ ap (λ (lists : List (List TextEvent)). events_of_push (told s) c ∷ lists) (steps_told (push_stage s c) t ∙ ap (λ (x : TextStage). stepwise x t) h.1 ∙ sym (steps_told (push_stage (told s) c) t))
 
--- stages that tell the same emit the same
+-- stages that report the same emit the same
 pub told_suffices : (s r : TextStage) (t : List ℕ) → told s ≡ told r → events_left s t ≡ events_left r t
 told_suffices s r t e = rest_is s t ∙ steps_told s t ∙ ap (λ (x : TextStage). stepwise x t) e ∙ sym (steps_told r t) ∙ sym (rest_is r t)

@@ -1,4 +1,4 @@
--- What a stage tells behind a character.
+-- What a stage reports after a character.
 use Rattle.std.proofs.lemmas.Bool.{eqb-true, true≢false, false≢true}
 use Rattle.std.proofs.Common.{◌≡◌, ◌==◌, ◌&&◌, ℕ, [], Bool, true, false, cond, Option, Some, None, refl, sym, ap, ◌∙◌, if◌then◌else◌}
 use Rattle.gabc_places.specs.declared.place.Place.{Place}
@@ -10,7 +10,7 @@ use Rattle.gabc_text.specs.declared.token_state.TokenState.{TokenState}
 use Rattle.gabc_text.specs.declared.token_state.TokenState.TheVariants.{Plain, Dollar, Comment, Tag, Raw, Translation}
 use Rattle.gabc_text.specs.declared.stage.TextStage.{TextStage}
 use Rattle.gabc_text.specs.witness.StageReports.{next_of}
-use Rattle.gabc_text.specs.machine.StageTells.{is_open, is_comment, opener_in, comment_in}
+use Rattle.gabc_text.specs.machine.StageReports.{is_open, is_comment, opener_in, comment_in}
 use Rattle.gabc_text.specs.machine.Resuming.{IsReached}
 use Rattle.gabc_text.specs.machine.TokenState.{settled_kind, next_step, is_plain}
 use Rattle.gabc_text.specs.machine.TextStage.{settle_stage, settle_stage_by, token_stage, stage_past_char, stage_after_step, read_stage, end_stage, settled_push_stage, push_stage}

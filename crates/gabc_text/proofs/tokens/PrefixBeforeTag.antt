@@ -70,7 +70,7 @@ prefix_some bs prefix at u first is f =
     first.before k (omega arith) short (rw (get_or-take at bs k 0 short) at is)) in
     ap chars f ∙ sym (ap (before_first 60) (whole ∙ ap (λ (x : List ℕ). chars (take at bs) ++ x) back) ∙ before_lacks 60 (chars (take at bs)) (chars (drop (at + 1) bs)) (lacks_none (chars (take at bs)) none))
 
--- ---- a text that is cut behind a prefix
+-- ---- a text that is cut after a prefix
 
 shorter : (bs prefix : List ℕ) → prefix ≡ take (length prefix) bs → length prefix ≤ length bs
 shorter bs prefix f = omega (arith, ap (length {A = ℕ}) f, length-take (length prefix) bs)
@@ -93,7 +93,7 @@ some_prefix bs [] cs c e n f =
     no_test false h = refl
 some_prefix bs (b ∷ prefix) cs c e n f = omega arith
 
--- ---- a text that is cut behind its first character
+-- ---- a text that is cut after its first character
 
 pub no_more : (n : ℕ) → 0 + n ≡ n
 no_more n = omega arith

@@ -4,7 +4,7 @@ use Rattle.gabc_places.specs.declared.place.Place.{Place}
 use Rattle.gabc_text.specs.declared.token_state.TokenState.{TokenState}
 use Rattle.gabc_text.specs.declared.token_state.TokenState.TheVariants.{Plain, Comment}
 use Rattle.gabc_text.specs.declared.stage.TextStage.{TextStage}
-use Rattle.gabc_text.specs.machine.StageTells.{is_comment}
+use Rattle.gabc_text.specs.machine.StageReports.{is_comment}
 use Rattle.gabc_text.specs.machine.TokenState.{keep, is_plain}
 use Rattle.gabc_text.specs.machine.TextStage.{settle_stage, push_stage}
 

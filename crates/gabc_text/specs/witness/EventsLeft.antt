@@ -65,7 +65,7 @@ abbrev pub from_by : ℕ → PieceKind → ℕ → ℕ
 from_by start piece.Char last = last
 from_by start _ last = start
 
--- a piece of this kind, where so many bytes are kept before the token's last character, and so many
+-- a piece of this kind, where n bytes are kept before the token's last character, and m
 -- after it
 abbrev pub piece_there : TextFacts → Progress → PieceKind → ℕ → ℕ → Piece
 piece_there facts progress kind last to = record { kind = kind; styles = facts.styles; span = record { from = from_by progress.start kind last; to = to } }
@@ -86,7 +86,7 @@ codes_by facts k so = late_codes_by (has_style facts.styles) facts.begun facts.e
 abbrev pub findings_there : Place → List Code → List TextEvent
 findings_there p cs = map (λ (c : Code). out.Found (record { place = p; code = c })) cs
 
--- what is emitted of it as a whole, where so many bytes are kept before its last character, and so
+-- what is emitted of it as a whole, where n bytes are kept before its last character, and so
 -- many after it: its parts and its findings
 abbrev pub whole_events_by : TextFacts → Progress → TokenKind → TagEffect → ℕ → ℕ → List TextEvent
 whole_events_by facts progress k so last to =
@@ -104,8 +104,8 @@ early_events_by facts p (c ∷ read) k = []
 -- ---- what is counted after a token
 
 -- the pieces, if it is this piece or none
-abbrev pub count_behind : ℕ → Option PieceKind → ℕ
-count_behind n o = if is_some o then count_plus n 1 else n
+abbrev pub count_after : ℕ → Option PieceKind → ℕ
+count_after n o = if is_some o then count_plus n 1 else n
 
 -- the blank that waits: a blank does, and any other piece takes it along
 abbrev pub waiting_behind : Piece → Option Piece → Option PieceKind → Option Piece
@@ -185,7 +185,7 @@ module _ (read : List ℕ) (s : TextStage) where
   -- how many pieces there are, with a blank that waits
   abbrev pub count_at : List Token → ℕ
   count_at [] = s.progress.pieces
-  count_at (k ∷ before) = count_behind (count_at before) (piece_at before k)
+  count_at (k ∷ before) = count_after (count_at before) (piece_at before k)
 
   -- the token, as a piece that is a blank
   abbrev pub blank_piece : List Token → Token → Piece

@@ -10,8 +10,8 @@ use Rattle.gabc_text.specs.declared.text_event.TextEvent.TheVariants as out
 use Rattle.gabc_text.specs.declared.stage.TextStage.{TextStage}
 use Rattle.gabc_text.specs.BuiltText.{kept_in}
 use Rattle.gabc_text.specs.End.{is_end}
-use Rattle.gabc_text.specs.StageTells.{opener_of, is_in_comment}
-use Rattle.gabc_text.specs.machine.StageTells.{is_open}
+use Rattle.gabc_text.specs.StageReports.{opener_of, is_in_comment}
+use Rattle.gabc_text.specs.machine.StageReports.{is_open}
 use Rattle.gabc_text.specs.witness.StageReports.{next_of}
 use Rattle.gabc_text.specs.TextStage.{fresh_stage}
 use Rattle.gabc_text.specs.machine.RawPart.{stage_past, events_of_pushes}
@@ -52,8 +52,8 @@ unfoldable pub said_of : List ℕ → List TextEvent
 said_of k = said (events_of_pushes (fresh_stage nowhere) k)
 
 -- a tag, a raw part or a translation is open after it
-unfoldable pub is_open_behind : List ℕ → Bool
-is_open_behind k = is_open (stage_behind k).state
+unfoldable pub is_open_after_text : List ℕ → Bool
+is_open_after_text k = is_open (stage_behind k).state
 
 -- a `%` after it begins a comment
 unfoldable pub begins_comment : List ℕ → Bool
@@ -64,8 +64,8 @@ unfoldable pub kept_with : List ℕ → ℕ → List ℕ
 kept_with k c = kept_in (events_of_push (stage_behind k) c)
 
 -- a `(` after it ends the text, where no comment is open, and what is said with it
-unfoldable pub ends_behind : List ℕ → Bool
-ends_behind k = (push_stage (stage_behind k) 40).done
+unfoldable pub ends_after_it : List ℕ → Bool
+ends_after_it k = (push_stage (stage_behind k) 40).done
 
 unfoldable pub said_at_end : List ℕ → List TextEvent
 said_at_end k = said (events_of_push (stage_behind k) 40)
@@ -91,7 +91,7 @@ pub record EndsInNotes (events : List TextEvent) : Type 0 where
   pub is : events ≡ map (λ (p : TextPart). out.Part p) parts ++ out.Ended ending.Notes ∷ []
 
 -- It ends with it: nothing is kept, and the stage keeps no text any more.
-pub record EndsBehind (k : List ℕ) (events : List TextEvent) (after : TextStage) : Type 0 where
+pub record EndsAfter (k : List ℕ) (events : List TextEvent) (after : TextStage) : Type 0 where
   pub kept : kept_in events ≡ []
   pub said : said events ≡ said_at_end k
   pub notes : EndsInNotes (said_at_end k)
@@ -104,10 +104,10 @@ IsKeptOf c d = (d ≡ c) ⊎ (d ≡ 32)
 -- By the text that a stage keeps, whether a character ends it, what is kept of it, and which of the
 -- two it does.
 pub record KeepsOn (before : TextStage) (c : ℕ) (events : List TextEvent) (after : TextStage) : Type 0 where
-  pub end : (k : List ℕ) → Keeps before k → end_text events ≡ (not (is_in_comment before) && (c == 40 && ends_behind k))
+  pub end : (k : List ℕ) → Keeps before k → end_text events ≡ (not (is_in_comment before) && (c == 40 && ends_after_it k))
   pub kept : (k : List ℕ) → Keeps before k → is_in_comment before ≡ false → kept_in events ≡ kept_with k c
   pub goes : (k : List ℕ) → Keeps before k → end_text events ≡ false → GoesOn before k c events after
-  pub ends : (k : List ℕ) → Keeps before k → end_text events ≡ true → EndsBehind k events after
+  pub ends : (k : List ℕ) → Keeps before k → end_text events ≡ true → EndsAfter k events after
   pub only : (k : List ℕ) → Keeps before k → All (IsKeptOf c) (kept_in events)
 
 -- The stage takes a character: with these events it stands there, and emits from then on what

@@ -5,7 +5,7 @@ use Rattle.gabc_places.specs.declared.place.Place.{Place}
 use Rattle.gabc_text.specs.declared.token_state.TokenState.{TokenState}
 use Rattle.gabc_text.specs.declared.token_state.TokenState.TheVariants.{Dollar, Comment}
 use Rattle.gabc_text.specs.declared.stage.TextStage.{TextStage}
-use Rattle.gabc_text.specs.machine.StageTells.{is_open}
+use Rattle.gabc_text.specs.machine.StageReports.{is_open}
 
 -- it has emitted the end of its text
 abbrev pub has_ended : TextStage → Bool

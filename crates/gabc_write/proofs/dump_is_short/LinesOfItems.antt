@@ -15,7 +15,7 @@ use Rattle.gabc_neumes.specs.Cut.{glyphs_of}
 use Rattle.gabc_neumes.specs.Elements.{joins_segment, is_in_element, is_in_segment, notes_in}
 use Rattle.gabc_neumes.specs.InForce.{InForce}
 use Rattle.gabc_neumes.specs.Words.{shape_word}
-use Rattle.gabc_write.specs.DumpOfNotes.{line_of_item, is_behind_element, element_line, line_of_glyph_at, notes_before, notes_behind, line_of_first_glyph, is_note, glyph_line, in_force_at, lines_behind}
+use Rattle.gabc_write.specs.DumpOfNotes.{line_of_item, is_after_element, element_line, line_of_glyph_at, notes_before, notes_after, line_of_first_glyph, is_note, glyph_line, in_force_at, lines_after}
 use Rattle.gabc_write.proofs.dump_is_short.LineOfItem.{shape_short, line_short}
 use Rattle.gabc_write.proofs.dump_is_short.LineOfGlyph.{size_of, sizes_of, AreSized}
 use Rattle.gabc_write.proofs.dump_is_short.LinesOfGlyphs.{glyphs_short, lines_at, at_most_once}
@@ -59,10 +59,10 @@ module _ (outset : InForce) (kept : List ℕ) where
   in_some : (i : Item) (is : List Item) (n : Note) → note_in kept i ≡ Some n → notes_in kept (i ∷ is) ≡ n ∷ notes_in kept is
   in_some i is n e = rw (e) refl
 
-  behind_none : (i : Item) (is : List Item) → is_in_segment i ≡ false → notes_behind kept (i ∷ is) ≡ []
+  behind_none : (i : Item) (is : List Item) → is_in_segment i ≡ false → notes_after kept (i ∷ is) ≡ []
   behind_none i is e = ap (λ (x : List Item). notes_in kept x) (take_while-cons is_in_segment i is ∙ ap (λ b. cond b (i ∷ take_while is_in_segment is) []) e)
 
-  behind_some : (i : Item) (is : List Item) → is_in_segment i ≡ true → notes_behind kept (i ∷ is) ≡ notes_in kept (i ∷ take_while is_in_segment is)
+  behind_some : (i : Item) (is : List Item) → is_in_segment i ≡ true → notes_after kept (i ∷ is) ≡ notes_in kept (i ∷ take_while is_in_segment is)
   behind_some i is e = ap (λ (x : List Item). notes_in kept x) (take_while-cons is_in_segment i is ∙ ap (λ b. cond b (i ∷ take_while is_in_segment is) []) e)
 
   before_none : (i : Item) (before : List Item) → is_in_segment i ≡ false → notes_before kept (i ∷ before) ≡ []
@@ -98,7 +98,7 @@ module _ (outset : InForce) (kept : List ℕ) where
   -- ---- the lines from a place on
 
   element_short : (before : List Item) (i : Item) → length (element_line kept before i) ≤ 8
-  element_short before i = by (is_in_element kept i && not (is_behind_element kept before))
+  element_short before i = by (is_in_element kept i && not (is_after_element kept before))
     where
       by : (b : Bool) → length (if b then codes "element\n" else []) ≤ 8
       by true = omega arith
@@ -106,23 +106,23 @@ module _ (outset : InForce) (kept : List ℕ) where
 
   -- the lines of glyphs that are still to come in the segment of that place
   abbrev lines_left : List Item → List Item → ℕ
-  lines_left before items = lines_at (glyphs_of (notes_before kept before ++ notes_behind kept items)) (length (notes_before kept before)) (length (notes_behind kept items))
+  lines_left before items = lines_at (glyphs_of (notes_before kept before ++ notes_after kept items)) (length (notes_before kept before)) (length (notes_after kept items))
 
   -- the bound of the lines from a place on
   abbrev IsBounded : List Item → List Item → Type 0
   IsBounded before items =
-      length (lines_behind outset kept before items) + 20 * sizes_of (notes_behind kept items)
+      length (lines_after outset kept before items) + 20 * sizes_of (notes_after kept items)
       ≤ 41 * items_size items + (20 * sizes_of (notes_in kept items) + lines_left before items)
 
   line_of : (before : List Item) (i : Item) (is : List Item)
-      → length (lines_behind outset kept before (i ∷ is))
-      ≡ length (element_line kept before i) + (length (glyph_line kept before i is) + (length (line_of_item (in_force_at outset kept before) kept i) + length (lines_behind outset kept (i ∷ before) is)))
+      → length (lines_after outset kept before (i ∷ is))
+      ≡ length (element_line kept before i) + (length (glyph_line kept before i is) + (length (line_of_item (in_force_at outset kept before) kept i) + length (lines_after outset kept (i ∷ before) is)))
   line_of before i is =
       omega (
         arith,
-        length-append (element_line kept before i) (glyph_line kept before i is ++ (line_of_item (in_force_at outset kept before) kept i ++ lines_behind outset kept (i ∷ before) is)),
-        length-append (glyph_line kept before i is) (line_of_item (in_force_at outset kept before) kept i ++ lines_behind outset kept (i ∷ before) is),
-        length-append (line_of_item (in_force_at outset kept before) kept i) (lines_behind outset kept (i ∷ before) is),
+        length-append (element_line kept before i) (glyph_line kept before i is ++ (line_of_item (in_force_at outset kept before) kept i ++ lines_after outset kept (i ∷ before) is)),
+        length-append (glyph_line kept before i is) (line_of_item (in_force_at outset kept before) kept i ++ lines_after outset kept (i ∷ before) is),
+        length-append (line_of_item (in_force_at outset kept before) kept i) (lines_after outset kept (i ∷ before) is),
       )
 
   item_line_short : (f : InForce) (i : Item) → 1 ≤ item_size i → length (line_of_item f kept i) ≤ 33 * item_size i
@@ -135,19 +135,19 @@ module _ (outset : InForce) (kept : List ℕ) where
   a_glyph before i is e = ap (λ b. if b then line_of_first_glyph kept before (i ∷ is) else []) e
 
   -- in a segment that begins here, the glyphs' lines are short
-  all_left : (before items : List Item) → notes_before kept before ≡ [] → AreSized (notes_behind kept items) → sizes_of (notes_behind kept items) < 2 ^ 64
-      → lines_left before items ≤ 20 * sizes_of (notes_behind kept items)
+  all_left : (before items : List Item) → notes_before kept before ≡ [] → AreSized (notes_after kept items) → sizes_of (notes_after kept items) < 2 ^ 64
+      → lines_left before items ≤ 20 * sizes_of (notes_after kept items)
   all_left before items e h l =
-      subst (λ (x : List Note). lines_at (glyphs_of (x ++ notes_behind kept items)) (length x) (length (notes_behind kept items)) ≤ 20 * sizes_of (notes_behind kept items)) (sym e)
-      (omega (arith, at_most_once (glyphs_of (notes_behind kept items)) 0 (length (notes_behind kept items)), glyphs_short (notes_behind kept items) h l))
+      subst (λ (x : List Note). lines_at (glyphs_of (x ++ notes_after kept items)) (length x) (length (notes_after kept items)) ≤ 20 * sizes_of (notes_after kept items)) (sym e)
+      (omega (arith, at_most_once (glyphs_of (notes_after kept items)) 0 (length (notes_after kept items)), glyphs_short (notes_after kept items) h l))
 
   taken : (m : ℕ) (is : List Item) → HaveBytes is → HaveBytes (take m is) × (items_size (take m is) ≤ items_size is)
   taken zero is h = (tt, omega arith)
   taken (suc m) [] h = (tt, omega arith)
   taken (suc m) (i ∷ is) (a, h) = let t = taken m is h in let l = t.1 in ((a, t.0), omega arith)
 
-  -- the notes of the segment behind a place are sized
-  behind_sized : (is : List Item) → HaveBytes is → AreSized (notes_behind kept is) × (sizes_of (notes_behind kept is) ≤ items_size is)
+  -- the notes of the segment after a place are sized
+  behind_sized : (is : List Item) → HaveBytes is → AreSized (notes_after kept is) × (sizes_of (notes_after kept is) ≤ items_size is)
   behind_sized is h =
       let t = taken (prefix_len is_in_segment is) is h in
       let s = notes_sized (take_while is_in_segment is) t.0 in
@@ -161,27 +161,27 @@ module _ (outset : InForce) (kept : List ℕ) where
       let s = behind_sized is h in
       let few = s.1 in
       let left = all_left (i ∷ before) is (before_none i before j) s.0 (omega arith) in
-      let now : sizes_of (notes_behind kept (i ∷ is)) ≡ 0 = ap sizes_of (behind_none i is j) in
+      let now : sizes_of (notes_after kept (i ∷ is)) ≡ 0 = ap sizes_of (behind_none i is j) in
       let same : sizes_of (notes_in kept (i ∷ is)) ≡ sizes_of (notes_in kept is) = ap sizes_of (in_none i is e) in
       omega (arith, line_of before i is, element_short before i, no_glyph before i is m, item_line_short (in_force_at outset kept before) i a, left, now, same, later)
 
-  -- the glyphs that are left, by the notes before a place and those behind it
+  -- the glyphs that are left, by the notes before a place and those after it
   abbrev left_by : List Note → List Note → ℕ
   left_by x y = lines_at (glyphs_of (x ++ y)) (length x) (length y)
 
   inside_step : (before : List Item) (i : Item) (is : List Item) → HaveBytes (i ∷ is)
       → is_in_segment i ≡ true → is_note i.kind ≡ false → note_in kept i ≡ None → IsBounded (i ∷ before) is → IsBounded before (i ∷ is)
   inside_step before i is (a, h) j m e later =
-      let behind : notes_behind kept (i ∷ is) ≡ notes_behind kept is = behind_some i is j ∙ in_none i (take_while is_in_segment is) e in
+      let behind : notes_after kept (i ∷ is) ≡ notes_after kept is = behind_some i is j ∙ in_none i (take_while is_in_segment is) e in
       let front : notes_before kept (i ∷ before) ≡ notes_before kept before =
       before_some i before j ∙ (ap (λ (x : List Note). notes_before kept before ++ x) (in_none i [] e) ∙ append-nil (notes_before kept before)) in
-      let now : sizes_of (notes_behind kept (i ∷ is)) ≡ sizes_of (notes_behind kept is) = ap sizes_of behind in
+      let now : sizes_of (notes_after kept (i ∷ is)) ≡ sizes_of (notes_after kept is) = ap sizes_of behind in
       let same : sizes_of (notes_in kept (i ∷ is)) ≡ sizes_of (notes_in kept is) = ap sizes_of (in_none i is e) in
       let left : lines_left before (i ∷ is) ≡ lines_left (i ∷ before) is =
-      ap (λ (y : List Note). left_by (notes_before kept before) y) behind ∙ ap (λ (x : List Note). left_by x (notes_behind kept is)) (sym front) in
+      ap (λ (y : List Note). left_by (notes_before kept before) y) behind ∙ ap (λ (x : List Note). left_by x (notes_after kept is)) (sym front) in
       omega (arith, line_of before i is, element_short before i, no_glyph before i is m, item_line_short (in_force_at outset kept before) i a, left, now, same, later)
 
-  -- the first of the notes behind a place has its glyph's line there
+  -- the first of the notes after a place has its glyph's line there
   first_left : (x : List Note) (n : Note) (y : List Note) → left_by x (n ∷ y) ≡ length (line_of_glyph_at (glyphs_of (x ++ n ∷ y)) (length x)) + left_by (x ++ n ∷ []) y
   first_left x n y =
       let all : (x ++ n ∷ []) ++ y ≡ x ++ n ∷ y = append_assoc x (n ∷ []) y in
@@ -194,11 +194,11 @@ module _ (outset : InForce) (kept : List ℕ) where
       → is_in_segment i ≡ true → is_note i.kind ≡ true → note_in kept i ≡ Some n → n.span ≡ i.span → IsBounded (i ∷ before) is → IsBounded before (i ∷ is)
   note_step before i is n (a, h) j m e s later =
       let x = notes_before kept before in
-      let y = notes_behind kept is in
+      let y = notes_after kept is in
       let size : size_of n ≡ item_size i = ap (λ (z : Span). z.to - z.from) s in
-      let behind : notes_behind kept (i ∷ is) ≡ n ∷ y = behind_some i is j ∙ in_some i (take_while is_in_segment is) n e in
+      let behind : notes_after kept (i ∷ is) ≡ n ∷ y = behind_some i is j ∙ in_some i (take_while is_in_segment is) n e in
       let front : notes_before kept (i ∷ before) ≡ x ++ n ∷ [] = before_some i before j ∙ ap (λ (z : List Note). x ++ z) (in_some i [] n e) in
-      let now : sizes_of (notes_behind kept (i ∷ is)) ≡ size_of n + sizes_of y = ap sizes_of behind in
+      let now : sizes_of (notes_after kept (i ∷ is)) ≡ size_of n + sizes_of y = ap sizes_of behind in
       let same : sizes_of (notes_in kept (i ∷ is)) ≡ size_of n + sizes_of (notes_in kept is) = ap sizes_of (in_some i is n e) in
       let here : lines_left before (i ∷ is) ≡ left_by x (n ∷ y) = ap (λ (z : List Note). left_by x z) behind in
       let next : lines_left (i ∷ before) is ≡ left_by (x ++ n ∷ []) y = ap (λ (z : List Note). left_by z y) front in
@@ -215,7 +215,7 @@ module _ (outset : InForce) (kept : List ℕ) where
       by (inside j m e) later = inside_step before i is (a, h) j m e later
       by (a_note n j m e s short) later = note_step before i is n (a, h) j m e s later
 
-  pub items_short : (items : List Item) → HaveBytes items → items_size items < 2 ^ 64 → length (lines_behind outset kept [] items) ≤ 61 * items_size items
+  pub items_short : (items : List Item) → HaveBytes items → items_size items < 2 ^ 64 → length (lines_after outset kept [] items) ≤ 61 * items_size items
   items_short items h l =
       let s = behind_sized items h in
       let few = s.1 in

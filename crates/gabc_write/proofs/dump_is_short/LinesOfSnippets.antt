@@ -19,7 +19,7 @@ use Rattle.gabc_nabc.specs.Table.{nabc}
 use Rattle.gabc_nabc.specs.declared.code.GlyphCode.{GlyphCode}
 use Rattle.gabc_nabc.specs.declared.descriptor.Descriptor.{Descriptor}
 use Rattle.gabc_write.specs.DumpLines.{escaped}
-use Rattle.gabc_write.specs.DumpOfNotes.{last_text, lines_behind, lines_of_notes}
+use Rattle.gabc_write.specs.DumpOfNotes.{last_text, lines_after, lines_of_notes}
 use Rattle.gabc_write.specs.DumpOfNabc.{name_or_letters, name_of_code, names_of, line_of_part, lines_of_nabc}
 use Rattle.gabc_write.proofs.DumpOfHeadersIsShort.{escaped_short}
 use Rattle.gabc_write.proofs.dump_is_short.LineOfItem.{last_short}
@@ -42,7 +42,7 @@ notes_short outset kept u l =
     let size = h.1 in
     let few = p.1 in
     let whole = ap (length {A = ℕ}) (encodes-chars kept u) in
-    omega (arith, length-append (last_text kept) (lines_behind outset kept [] (items_of kept)), last_short kept, items.items_short outset kept (items_of kept) h.0 (omega arith), size, few, whole)
+    omega (arith, length-append (last_text kept) (lines_after outset kept [] (items_of kept)), last_short kept, items.items_short outset kept (items_of kept) h.0 (omega arith), size, few, whole)
 
 -- ---- NABC
 

@@ -50,16 +50,16 @@ outside_plain (x ∷ back) h =
     by here earlier true = earlier
     by here earlier false = append is_plain (notes.outside_comments (notes.with_comments back)) (x.c ∷ []) earlier here
 
-characters_plain : (t cs : List ℕ) → plain cs ≡ true → plain (nabc.characters_behind t cs) ≡ true
+characters_plain : (t cs : List ℕ) → plain cs ≡ true → plain (nabc.characters_after t cs) ≡ true
 characters_plain t [] h = refl
 characters_plain t (c ∷ cs) h =
     let g = and_parts (is_plain c) (plain cs) h in
     by g.0 (characters_plain (t ++ c ∷ []) cs g.1) (nabc.is_character t c)
   where
-    by : is_plain c ≡ true → plain (nabc.characters_behind (t ++ c ∷ []) cs) ≡ true → (b : Bool) → plain (if b then c ∷ nabc.characters_behind (t ++ c ∷ []) cs else nabc.characters_behind (t ++ c ∷ []) cs) ≡ true
-    by here later true = and_from (is_plain c) (plain (nabc.characters_behind (t ++ c ∷ []) cs)) here later
+    by : is_plain c ≡ true → plain (nabc.characters_after (t ++ c ∷ []) cs) ≡ true → (b : Bool) → plain (if b then c ∷ nabc.characters_after (t ++ c ∷ []) cs else nabc.characters_after (t ++ c ∷ []) cs) ≡ true
+    by here later true = and_from (is_plain c) (plain (nabc.characters_after (t ++ c ∷ []) cs)) here later
     by here later false = later
 
 pub kept_plain : (line : ℕ) (xs : List Char) → plain (codes_of xs) ≡ true → plain (kept_on_line line xs) ≡ true
 kept_plain zero xs h = trim_plain gabc [] [] (notes.kept (reverse xs)) refl refl (keep_plain gabc [] (notes.outside_comments (notes.with_comments (reverse xs))) refl (outside_plain (reverse xs) (reversed_plain xs h)))
-kept_plain (suc line) xs h = trim_plain nabc [] [] (nabc.kept_of (codes_of xs)) refl refl (keep_plain nabc [] (nabc.characters_behind [] (codes_of xs)) refl (characters_plain [] (codes_of xs) h))
+kept_plain (suc line) xs h = trim_plain nabc [] [] (nabc.kept_of (codes_of xs)) refl refl (keep_plain nabc [] (nabc.characters_after [] (codes_of xs)) refl (characters_plain [] (codes_of xs) h))

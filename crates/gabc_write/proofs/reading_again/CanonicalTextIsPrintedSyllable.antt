@@ -63,7 +63,7 @@ module _ (printed : (whole t : List ℕ) → StandsForView whole (view_in t) t �
   translation_is K (Some o) None h = absurd h
   translation_is K (Some o) (Some s) h = ap (λ (x : List ℕ). codes "[" ++ (x ++ codes "]")) (sliced K o s h ∙ sym (spanned K o s h))
 
-  -- the text of a syllable, and what stands behind it
+  -- the text of a syllable, and what stands after it
   bytes_are : (m : UnplacedSyllable) (K t : List ℕ) (ss : List (List ℕ)) → m.kept ≡ encodes K → m.text ≡ view_in t → StandsForView K m.text t
       → map (λ (s : Snippet). slice s.span m.kept) m.snippets ≡ map encodes ss → canonical m.text.word_start m ≡ encodes (printed_syllable (view_facts t) ss)
   bytes_are m K t ss kept_is view_is stands texts =
@@ -91,7 +91,7 @@ module _ (printed : (whole t : List ℕ) → StandsForView whole (view_in t) t �
 
   module _ (lines : ℕ) (K text : List ℕ) (all : List ReadSnippet)
       (each : (before after : List ReadSnippet) (s : ReadSnippet) → all ≡ before ++ s ∷ after → IsHeld lines K text before s) where
-    -- so many stand before these
+    -- n stand before these
     held_texts : (before rs : List ReadSnippet) → all ≡ before ++ rs
         → (map (λ (s : Snippet). slice s.span (encodes K)) (map (λ (s : ReadSnippet). s.snippet) rs) ≡ map encodes (map (λ (s : ReadSnippet). s.kept) rs))
         × AreSnippetsFrom lines (length before % (lines + 1)) (map (λ (s : ReadSnippet). s.kept) rs)

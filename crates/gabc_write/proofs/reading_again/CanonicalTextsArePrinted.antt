@@ -41,7 +41,7 @@ module _ (begins : (t : List ℕ) → (view_facts (10 ∷ t)).word_start ≡ tru
       by true = feed_begins xs h
       by false = tt
 
-  -- the text of the first unit begins with the LF behind the comment
+  -- the text of the first unit begins with the LF after the comment
   pub first_text_begins : (lines macros : ℕ) (xs : List Char) (cut : BodyCutting) → IsCut texts_by_definition lines macros xs cut → FirstTextBeginsWord (score_units cut.units)
   first_text_begins lines macros xs cut h = by cut.units h
     where
@@ -60,7 +60,7 @@ joined s t h k = is_text (s ++ t) (append is_plain s t (text_plain s h) (text_pl
 
 module _ (lines : ℕ) (one : (u : ScoreUnit) (m : UnplacedSyllable) → HoldsUnit lines u m → (lines ≡ 0 → length u.snippets ≤ 1) → IsPrinted lines u m)
     (all : List ScoreUnit) (made : List PlacedSyllable) (syllables : AreSyllablesOf lines all made) (first : FirstTextBeginsWord all) where
-  -- those behind so many
+  -- those after n
   record Behind (units : List ScoreUnit) (ss : List PlacedSyllable) : Type 0 where
     facts : List SyllableFacts
     are_syllables : AreSyllables lines facts

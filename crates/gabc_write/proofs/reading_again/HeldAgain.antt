@@ -1,4 +1,4 @@
--- The text of a syllable may be held again behind what stands before it, and what may be held with it may stand for that syllable.
+-- The text of a syllable may be held again after what stands before it, and what may be held with it is equivalent to that syllable.
 use Rattle.std.proofs.Common.{◌≡◌, ℕ, ◌+◌, ◌<◌, ◌≤◌, ◌==◌, ◌||◌, ◌&&◌, Bool, true, false, List, [], ◌∷◌, ◌++◌, length, get_or, map, is_some, encode_utf8_all, Option, Some, None, IfSome, refl, sym, ap, ap₂, subst, ◌∙◌, arith}
 use Rattle.std.specs.List.{All, list_any}
 use Rattle.std.proofs.lemmas.List.{append_cancel_left}
@@ -13,12 +13,12 @@ use Rattle.gabc_score.specs.declared.syllable.Position.TheVariants.{One}
 use Rattle.gabc_score.specs.Before.{preceding_of, sounds, sounds_in}
 use Rattle.gabc_score.specs.Canonical.{canonical}
 use Rattle.gabc_score.specs.HeldAgain.{CanBeOpen, MayBeHeld}
-use Rattle.gabc_score.specs.HeldAside.{MayStandFor}
+use Rattle.gabc_score.specs.HeldAside.{IsEquivalentSyllable}
 use Rattle.gabc_score.specs.Holding.{HasWholeSnippets}
 use Rattle.gabc_score.specs.ScoreEvents.{first_place}
 use Rattle.gabc_score.specs.SpansPast.{FollowsSpans, eu_past, nlba_past}
 use Rattle.gabc_score.specs.Syllable.{UnplacedSyllable, all_syllables}
-use Rattle.gabc_score.specs.ToldWithin.{IsHeldWithin, written_behind}
+use Rattle.gabc_score.specs.ReportedWithin.{IsHeldWithin, written_after}
 use Rattle.gabc_score.specs.UnitRead.{HoldsSomeUnit}
 use Rattle.gabc_write.specs.SetDown.{MayBeHeldByItsText, SayTheSame}
 use Rattle.gabc_write.specs.SyllableMeaning.{SyllableMeaning, meaning_of}
@@ -44,7 +44,7 @@ same_sound n m whole_n whole_m says =
 last_one : {A : Type 0} → (xs : List A) (x y : A) → xs ++ x ∷ [] ≡ xs ++ y ∷ [] → x ≡ y
 last_one xs x y e = ap (λ l. get_or l 0 x) (append_cancel_left xs (x ∷ []) (y ∷ []) e)
 
--- ---- behind what stands before it
+-- ---- after what stands before it
 
 starts_again : (first : Bool) (m n : UnplacedSyllable) → n.text.word_start ≡ (first || m.text.word_start) → (first || n.text.word_start) ≡ n.text.word_start
 starts_again true m n e = sym e
@@ -58,21 +58,21 @@ module _ (limits : Limits) (before : Before) (m : UnplacedSyllable) (own : IsRea
   starts_are n says = starts_again first m n (ap (λ (s : SyllableMeaning). s.word_start) (says One))
 
   -- one that says the same, with the same text, has the same canonical text there
-  behind_is : (n : UnplacedSyllable) → SaysTheSame n (as_it_stands first m) → canonical n.text.word_start n ≡ written_behind (preceding_of before) m → written_behind (preceding_of before) n ≡ written_behind (preceding_of before) m
+  behind_is : (n : UnplacedSyllable) → SaysTheSame n (as_it_stands first m) → canonical n.text.word_start n ≡ written_after (preceding_of before) m → written_after (preceding_of before) n ≡ written_after (preceding_of before) m
   behind_is n says e = ap (λ (b : Bool). canonical b n) (starts_are n says) ∙ e
 
-  pub bytes_behind : written_behind (preceding_of before) m ≡ encode_utf8_all own.text
+  pub bytes_behind : written_after (preceding_of before) m ≡ encode_utf8_all own.text
   bytes_behind = own.bytes
 
-  module _ (opened : CanBeOpen before.spans) (short : length (written_behind (preceding_of before) m) ≤ limits.syllable)
-      (file : before.canonical + length (written_behind (preceding_of before) m) < limits.input) where
+  module _ (opened : CanBeOpen before.spans) (short : length (written_after (preceding_of before) m) ≤ limits.syllable)
+      (file : before.canonical + length (written_after (preceding_of before) m) < limits.input) where
     read : IsReadByItself before.nabc_lines before.macros (as_it_stands first m) own.text first_place opened.before
     read = own.read first_place opened.before opened.leaves.nothing
 
     few : length (encode_utf8_all own.text) ≤ limits.syllable
     few = subst (λ (t : List ℕ). length t ≤ limits.syllable) bytes_behind short
 
-    again_behind : written_behind (preceding_of before) read.again ≡ written_behind (preceding_of before) m
+    again_behind : written_after (preceding_of before) read.again ≡ written_after (preceding_of before) m
     again_behind = behind_is read.again read.says read.same_text
 
     again_may_be_held : MayBeHeld limits before own.text read.again
@@ -102,7 +102,7 @@ module _ (limits : Limits) (before : Before) (m : UnplacedSyllable) (own : IsRea
     one : IsReadByItself before.nabc_lines before.macros (as_it_stands first m) own.text first_place h.read.before
     one = own.read first_place h.read.before h.read.leaves.nothing
 
-    one_stands : MayStandFor first m one.again
+    one_stands : IsEquivalentSyllable first m one.again
     one_stands =
         record {
           starts = sym (starts_are one.again one.says ∙ ap (λ (s : SyllableMeaning). s.word_start) (one.says One));
@@ -115,8 +115,8 @@ module _ (limits : Limits) (before : Before) (m : UnplacedSyllable) (own : IsRea
     one_is : one.again ≡ n
     one_is = last_one (all_syllables h.read.before) one.again n (sym one.one ∙ h.read.one)
 
-    pub stands_for : MayStandFor first m n
-    stands_for = subst (MayStandFor first m) one_is one_stands
+    pub stands_for : IsEquivalentSyllable first m n
+    stands_for = subst (IsEquivalentSyllable first m) one_is one_stands
 
     pub says_again : SayTheSame first (Some m) (Some n)
     says_again position =

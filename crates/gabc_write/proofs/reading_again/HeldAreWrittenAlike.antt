@@ -1,8 +1,8 @@
--- Held syllables that may stand for one another and say the same are written alike.
+-- Held syllables that are equivalent and say the same are written alike.
 use Rattle.std.proofs.Common.{◌≡◌, ℕ, ◌||◌, Bool, false, List, [], ◌∷◌, ◌++◌, cond, Option, Some, None, IfSome, sym, ap, ◌∙◌}
 use Rattle.std.proofs.lemmas.List.{append_cancel_left}
 use Rattle.gabc_score.specs.Canonical.{canonical, starts_word}
-use Rattle.gabc_score.specs.HeldAside.{HoldTheSame, MayStandFor}
+use Rattle.gabc_score.specs.HeldAside.{HoldTheSame, IsEquivalentSyllable}
 use Rattle.gabc_score.specs.Holding.{HasWholeSnippets}
 use Rattle.gabc_score.specs.Syllable.{UnplacedSyllable}
 use Rattle.gabc_score.specs.UnitRead.{HoldsSomeUnit}
@@ -10,8 +10,8 @@ use Rattle.gabc_score.specs.declared.syllable.Position.{Position}
 use Rattle.gabc_write.specs.DumpOfSyllables.{HaveOneDump}
 use Rattle.gabc_write.specs.SetDown.{SayTheSame, AreWrittenAlike}
 
--- what stands behind the LF before a word is the same
-canonical_alike : (first : Bool) (m n : UnplacedSyllable) → MayStandFor first m n → (starts : Bool) → canonical starts m ≡ canonical starts n
+-- what stands after the LF before a word is the same
+canonical_alike : (first : Bool) (m n : UnplacedSyllable) → IsEquivalentSyllable first m n → (starts : Bool) → canonical starts m ≡ canonical starts n
 canonical_alike first m n h starts = ap (λ (t : List ℕ). cond starts (10 ∷ []) [] ++ t) behind
   where
     begins : Bool

@@ -1,4 +1,4 @@
--- Two syllables that are held behind the same and have one canonical text there may stand for one another.
+-- Two syllables that are held after the same and have one canonical text there are equivalent.
 use Rattle.std.proofs.Common.{◌≡◌, ℕ, ◌==◌, Bool, true, List, Option, Some, None, IfSome, is_some, sym, ap, subst, ◌∙◌}
 use Rattle.std.specs.Option.{option_map}
 use Rattle.std.specs.Prelude.{IsUtf8}
@@ -10,25 +10,25 @@ use Rattle.gabc_score.specs.declared.before.Spans.{Spans}
 use Rattle.gabc_score.specs.Before.{preceding_of}
 use Rattle.gabc_score.specs.HeldAgain.{CanBeOpen, MayBeHeld}
 use Rattle.gabc_headers.specs.declared.head_event.HeadEvent.{HeadEvent}
-use Rattle.gabc_score.specs.HeldAside.{GiveTheSame, HoldTheSame, MayStandFor}
+use Rattle.gabc_score.specs.HeldAside.{GiveTheSame, HoldTheSame, IsEquivalentSyllable}
 use Rattle.gabc_score.specs.Holding.{HasWholeSnippets}
-use Rattle.gabc_score.specs.ScoreStage.{StandInLine}
-use Rattle.gabc_score.specs.ScoreTells.{before_of, held_of}
+use Rattle.gabc_score.specs.ScoreStage.{AreInLine}
+use Rattle.gabc_score.specs.ScoreReports.{before_of, held_of}
 use Rattle.gabc_score.specs.SpansPast.{FollowsSpans}
-use Rattle.gabc_score.specs.StandAlike.{StandAlike}
+use Rattle.gabc_score.specs.AreEquivalent.{AreEquivalent}
 use Rattle.gabc_score.specs.Syllable.{UnplacedSyllable}
 use Rattle.gabc_places.specs.TextOfAnInput.{IsText}
-use Rattle.gabc_score.specs.ToldWithin.{IsHeldWithin, written_behind}
+use Rattle.gabc_score.specs.ReportedWithin.{IsHeldWithin, written_after}
 use Rattle.gabc_score.specs.UnitRead.{HoldsSomeUnit}
 use Rattle.gabc_score.specs.witness.ScoreStage.{ScoreStageState, left_of}
 use Rattle.gabc_write.specs.SavedAlike.{AreSavedAlike}
-use Rattle.gabc_write.specs.SetDown.{GoesOnAlikeInLine, SayTheSame}
+use Rattle.gabc_write.specs.SetDown.{GoesOnEquivalentlyInLine, SayTheSame}
 use Rattle.gabc_write.specs.SyllableRead.{as_it_stands, IsReadFromItsText, IsReadWhereItStands}
 use Rattle.gabc_write.proofs.reading_again.HeldAgain.{bytes_behind, may_be_held, says_again, stands_for}
 use Rattle.gabc_write.proofs.reading_again.StageHoldsAgain.{told_before, told_in_body}
 
--- both may stand for a third
-both_stand : (first : Bool) (m n k : UnplacedSyllable) → MayStandFor first m k → MayStandFor first n k → MayStandFor first m n
+-- both is equivalent to a third
+both_stand : (first : Bool) (m n k : UnplacedSyllable) → IsEquivalentSyllable first m k → IsEquivalentSyllable first n k → IsEquivalentSyllable first m n
 both_stand first m n k h g = record {
   starts = h.starts ∙ sym g.starts;
   canonical = h.canonical ∙ sym g.canonical;
@@ -40,7 +40,7 @@ both_stand first m n k h g = record {
 both_say : (first : Bool) (m n k : UnplacedSyllable) → SayTheSame first (Some m) (Some k) → SayTheSame first (Some n) (Some k) → SayTheSame first (Some m) (Some n)
 both_say first m n k h g position = h position ∙ sym (g position)
 
--- what is known of a syllable that is held behind these
+-- what is known of a syllable that is held after these
 pub record IsHeldThere (before : Before) (m : UnplacedSyllable) : Type 0 where
   pub own : IsReadWhereItStands before.nabc_lines before.macros m
   pub spans : FollowsSpans before.spans m
@@ -50,8 +50,8 @@ module _ (opened : (spans : Spans) → CanBeOpen spans) (whole : (lines : ℕ) (
   abbrev first : Bool
   first = before.syllables == 0
 
-  module _ (m n : UnplacedSyllable) (h : IsHeldThere before m) (g : IsHeldThere before n) (within : IsHeldWithin limits (preceding_of before) m) (utf8 : IsUtf8 (written_behind (preceding_of before) m))
-      (same : written_behind (preceding_of before) m ≡ written_behind (preceding_of before) n) where
+  module _ (m n : UnplacedSyllable) (h : IsHeldThere before m) (g : IsHeldThere before n) (within : IsHeldWithin limits (preceding_of before) m) (utf8 : IsUtf8 (written_after (preceding_of before) m))
+      (same : written_after (preceding_of before) m ≡ written_after (preceding_of before) n) where
     own : IsReadFromItsText before.nabc_lines before.macros (as_it_stands first m)
     own = h.own first
 
@@ -60,8 +60,8 @@ module _ (opened : (spans : Spans) → CanBeOpen spans) (whole : (lines : ℕ) (
 
     text_is : own.text ≡ other.text
     text_is =
-        chars_from_encodes own.text (written_behind (preceding_of before) m) utf8 (sym (bytes_behind limits before m own))
-        ∙ sym (chars_from_encodes other.text (written_behind (preceding_of before) m) utf8 (sym (same ∙ bytes_behind limits before n other)))
+        chars_from_encodes own.text (written_after (preceding_of before) m) utf8 (sym (bytes_behind limits before m own))
+        ∙ sym (chars_from_encodes other.text (written_after (preceding_of before) m) utf8 (sym (same ∙ bytes_behind limits before n other)))
 
     -- the one syllable that is read from the text of both
     k : (x : UnplacedSyllable) × MayBeHeld limits before own.text x
@@ -70,20 +70,20 @@ module _ (opened : (spans : Spans) → CanBeOpen spans) (whole : (lines : ℕ) (
     k_again : MayBeHeld limits before other.text k.0
     k_again = subst (λ (t : List ℕ). MayBeHeld limits before t k.0) text_is k.1
 
-    pub stand_for_one : MayStandFor first m n
+    pub stand_for_one : IsEquivalentSyllable first m n
     stand_for_one = both_stand first m n k.0 (stands_for limits before m own h.spans h.holds whole k.0 k.1) (stands_for limits before n other g.spans g.holds whole k.0 k_again)
 
     pub say_one : SayTheSame first (Some m) (Some n)
     say_one = both_say first m n k.0 (says_again limits before m own h.spans h.holds whole k.0 k.1) (says_again limits before n other g.spans g.holds whole k.0 k_again)
 
   -- in the same way where at most one is held
-  pub both : (o p : Option UnplacedSyllable) → IfSome o (IsHeldThere before) → IfSome p (IsHeldThere before) → IfSome o (IsHeldWithin limits (preceding_of before)) → IfSome o (λ m. IsUtf8 (written_behind (preceding_of before) m))
-      → option_map (written_behind (preceding_of before)) o ≡ option_map (written_behind (preceding_of before)) p → HoldTheSame first o p × SayTheSame first o p
+  pub both : (o p : Option UnplacedSyllable) → IfSome o (IsHeldThere before) → IfSome p (IsHeldThere before) → IfSome o (IsHeldWithin limits (preceding_of before)) → IfSome o (λ m. IsUtf8 (written_after (preceding_of before) m))
+      → option_map (written_after (preceding_of before)) o ≡ option_map (written_after (preceding_of before)) p → HoldTheSame first o p × SayTheSame first o p
   both None None h g within utf8 same = (tt, tt)
   both None (Some n) h g within utf8 same = absurd (cc)
   both (Some m) None h g within utf8 same = absurd (cc)
   both (Some m) (Some n) h g within utf8 same =
-      let texts : written_behind (preceding_of before) m ≡ written_behind (preceding_of before) n = some_is _ _ same in
+      let texts : written_after (preceding_of before) m ≡ written_after (preceding_of before) n = some_is _ _ same in
       (stand_for_one m n h g within utf8 texts, say_one m n h g within utf8 texts)
     where
       some_is : (s t : List ℕ) → Some s ≡ Some t → s ≡ t
@@ -102,7 +102,7 @@ pub record IsKnown (s : ScoreStageState) : Type 0 where
   pub spans : IfSome (held_of s) (FollowsSpans s.before.spans)
   pub holds : IfSome (held_of s) (HoldsSomeUnit s.body.nabc_lines)
 
-are_utf8 : (p : Preceding) (o : Option UnplacedSyllable) → IfSome o (λ m. IsText (written_behind p m)) → IfSome o (λ m. IsUtf8 (written_behind p m))
+are_utf8 : (p : Preceding) (o : Option UnplacedSyllable) → IfSome o (λ m. IsText (written_after p m)) → IfSome o (λ m. IsUtf8 (written_after p m))
 are_utf8 p None h = tt
 are_utf8 p (Some m) h = h.utf8
 
@@ -114,20 +114,20 @@ module _ (opened : (spans : Spans) → CanBeOpen spans) (whole : (lines : ℕ) (
       some_is : Some (told_before other) ≡ Some (told_before one) → told_before other ≡ told_before one
       some_is e = cc e
 
-  pub hold_alike : IsKnown one → IsKnown other → IfSome (held_of one) (IsHeldWithin one.limits one.before) → IfSome (held_of one) (λ m. IsText (written_behind one.before m))
-      → option_map (written_behind one.before) (held_of one) ≡ option_map (written_behind other.before) (held_of other)
+  pub hold_alike : IsKnown one → IsKnown other → IfSome (held_of one) (IsHeldWithin one.limits one.before) → IfSome (held_of one) (λ m. IsText (written_after one.before m))
+      → option_map (written_after one.before) (held_of one) ≡ option_map (written_after other.before) (held_of other)
       → HoldTheSame (one.before.syllables == 0) (held_of one) (held_of other) × SayTheSame (one.before.syllables == 0) (held_of one) (held_of other)
   hold_alike h g within texts same =
       both opened whole one.limits (told_before one) (held_of one) (held_of other)
       (held_there (told_before one) (held_of one) h.own h.spans h.holds)
       (subst (λ (b : Before). IfSome (held_of other) (IsHeldThere b)) before_one (held_there (told_before other) (held_of other) g.own g.spans g.holds))
       within (are_utf8 one.before (held_of one) texts)
-      (same ∙ ap (λ (b : Before). option_map (written_behind (preceding_of b)) (held_of other)) before_one)
+      (same ∙ ap (λ (b : Before). option_map (written_after (preceding_of b)) (held_of other)) before_one)
 
 -- so two of which the same is saved go on alike
 pub goes_on_in_line : (one other : ScoreStageState) → AreSavedAlike one other → HoldTheSame (one.before.syllables == 0) (held_of one) (held_of other) → SayTheSame (one.before.syllables == 0) (held_of one) (held_of other)
-    → (StandAlike one other → (xs : List HeadEvent) → StandInLine one.held.next xs → GiveTheSame (held_of one) (held_of other) (left_of one xs) (left_of other xs))
-    → GoesOnAlikeInLine one other
+    → (AreEquivalent one other → (xs : List HeadEvent) → AreInLine one.held.next xs → GiveTheSame (held_of one) (held_of other) (left_of one xs) (left_of other xs))
+    → GoesOnEquivalentlyInLine one other
 goes_on_in_line one other saved held says agree = record {
   held = held;
   says = says;

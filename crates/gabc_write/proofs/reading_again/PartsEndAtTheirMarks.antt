@@ -19,7 +19,7 @@ use Rattle.gabc_notes.specs.declared.stage.NoteEvent.{NoteEvent}
 use Rattle.gabc_notes.specs.declared.stage.NoteEvent.TheVariants as note_out
 use Rattle.gabc_notes.specs.SnippetRead.{ends_of}
 use Rattle.gabc_score.specs.Events.{InText, InNotes, is_text_end, is_next, is_close, next_line}
-use Rattle.gabc_score.specs.Units.{Mark, Opens, Next, Closes, EndsBehind}
+use Rattle.gabc_score.specs.Units.{Mark, Opens, Next, Closes, EndsAfter}
 
 -- ---- texts
 
@@ -32,7 +32,7 @@ text_ended (x ∷ events) = by (is_text_end x) (text_ended events)
     by false e = e
 
 text_behind : (lines : ℕ) (before : List (List TextEvent)) (l : List TextEvent) (after : List (List TextEvent)) (xs : List Char) → ends_in (concat_of before) ≡ []
-    → length before ≡ length xs → list_any is_text_end l ≡ true → EndsBehind lines (InText (before ++ l ∷ after)) xs Opens
+    → length before ≡ length xs → list_any is_text_end l ≡ true → EndsAfter lines (InText (before ++ l ∷ after)) xs Opens
 text_behind lines [] l after [] e n h = ap (λ (b : Bool). if b then Some Opens else None) h
 text_behind lines [] l after (x ∷ xs) e n h = absurd (omega (arith, n))
 text_behind lines (b ∷ before) l after [] e n h = absurd (omega (arith, n))
@@ -42,14 +42,14 @@ text_behind lines (b ∷ before) l after (x ∷ xs) e n h =
 
 -- a text that leaves a `(` and what follows ends there
 pub text_ends : (lines : ℕ) (at : Place) (t rest : List ℕ) (xs : List Char) → EndsOnce at (t ++ 40 ∷ rest) → after_tokens (t ++ 40 ∷ rest) ≡ 40 ∷ rest → length xs ≡ length t
-    → EndsBehind lines (InText (events_by_point at (t ++ 40 ∷ rest))) xs Opens
+    → EndsAfter lines (InText (events_by_point at (t ++ 40 ∷ rest))) xs Opens
 text_ends lines at t rest xs ends left n =
     let behind : ends.rest ≡ 40 ∷ rest = ends.rest_is ∙ left in
     let whole : length (t ++ 40 ∷ rest) ≡ length (ends.prefix ++ ends.rest) = ap (length {A = ℕ}) ends.text_is in
     let same : length (ends.rest) ≡ length (40 ∷ rest) = ap (length {A = ℕ}) behind in
     let long : length ends.before ≡ length xs = omega (arith, whole, same, length-append t (40 ∷ rest), length-append ends.prefix ends.rest, ends.one_each, n) in
     let notes : ends.how ≡ text_end.Notes = by ends.how ends.leaves behind in
-    subst (λ (lists : List (List TextEvent)). EndsBehind lines (InText lists) xs Opens) (sym ends.events_are)
+    subst (λ (lists : List (List TextEvent)). EndsAfter lines (InText lists) xs Opens) (sym ends.events_are)
     (text_behind lines ends.before (ends.last ++ text_out.Ended ends.how ∷ []) (no_events_each ends.rest) xs ends.none_before long
     (ap (λ (how : TextEnd). list_any is_text_end (ends.last ++ text_out.Ended how ∷ [])) notes ∙ text_ended ends.last))
   where
@@ -100,7 +100,7 @@ one_mark lines line opened how n (note_out.Ended end m ∷ events) e =
 
 -- the lists before have no end, and that of the mark has one
 pub snippet_ends : (lines line : ℕ) (opened : Place) (mark : Mark) (lists : List (List NoteEvent)) (xs : List Char) (how : NoteEnd) (n : ℕ) → mark_of lines line opened how ≡ Some mark
-    → ends_of (concat_of (take (length xs) lists)) ≡ [] → ends_of (concat_of (take (suc (length xs)) lists)) ≡ (how, n) ∷ [] → EndsBehind lines (InNotes line opened lists) xs mark
+    → ends_of (concat_of (take (length xs) lists)) ≡ [] → ends_of (concat_of (take (suc (length xs)) lists)) ≡ (how, n) ∷ [] → EndsAfter lines (InNotes line opened lists) xs mark
 snippet_ends lines line opened mark [] [] how n m e f = absurd (cc)
 snippet_ends lines line opened mark [] (x ∷ xs) how n m e f = absurd (cc)
 snippet_ends lines line opened mark (l ∷ lists) [] how n m e f = one_mark lines line opened how n l (sym (ap ends_of (append-nil l)) ∙ f) ∙ m

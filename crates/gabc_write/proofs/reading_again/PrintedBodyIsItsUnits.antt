@@ -1,4 +1,4 @@
--- The printed syllables of a body, with an LF behind them, are its units.
+-- The printed syllables of a body, with an LF after them, are its units.
 use Rattle.std.proofs.Common.{◌≡◌, ℕ, List, [], ◌∷◌, ◌++◌, length, length-append, Bool, true, if◌then◌else◌, Some, None, refl, sym, ap, subst, ◌∙◌, arith}
 use Rattle.gabc_score.proofs.texts_of_body.TextEmitsThroughEnd.{ends_apart, none_ends}
 use Rattle.gabc_score.proofs.syllables_of_units.UnitsGiveSyllables.{units_whole}
@@ -11,7 +11,7 @@ use Rattle.gabc_text.specs.Ends.{EndsOnce, ends_in}
 use Rattle.gabc_text.specs.Events.{codes_of, after_tokens, events_by_point}
 use Rattle.gabc_text.specs.Printed.{print, text_tokens, translation_tokens, text_of_tokens, word_break}
 use Rattle.gabc_text.specs.ViewFacts.{ViewFacts, view_facts}
-use Rattle.gabc_score.specs.Events.{InText, texts_by_definition, text_from, behind_mark}
+use Rattle.gabc_score.specs.Events.{InText, texts_by_definition, text_from, after_mark}
 use Rattle.gabc_score.specs.Units.{Opens, BodyUnit, JustText, Endless, units_pieces, whole, Cuts, BeginsWithLf, first_text}
 use Rattle.gabc_score.specs.SyllablesOfUnits.{last_units}
 use Rattle.gabc_write.specs.SyllableAgain.{barred, printed_syllable, AreSnippets, AreUnitsFrom, SaysAgain, IsOneUnit}
@@ -65,8 +65,8 @@ module _ (ends_once : (at : Place) (t : List ℕ) → EndsOnce at t) (lines macr
   units_from at (s ∷ ss) h =
       let o : IsOneUnit lines macros at s.view s.snippets (printed_body ss) = subst (λ (v : ViewFacts). IsOneUnit lines macros at v s.snippets (printed_body ss)) (sym h.0.0.1) (one_unit at h.0.0.0 s.snippets (printed_body ss) h.0.1) in
       let r = units_from (place_past at (printed_syllable s.view s.snippets)) ss h.1 in
-      let behind : AreUnitsFrom lines macros (behind_mark o.unit.final.end.place) o.behind r.units (JustText r.last) =
-      subst (λ (xs : List Char). AreUnitsFrom lines macros (behind_mark o.unit.final.end.place) xs r.units (JustText r.last)) (sym o.behind_is) (r.cut (behind_mark o.unit.final.end.place)) in
+      let behind : AreUnitsFrom lines macros (after_mark o.unit.final.end.place) o.behind r.units (JustText r.last) =
+      subst (λ (xs : List Char). AreUnitsFrom lines macros (after_mark o.unit.final.end.place) xs r.units (JustText r.last)) (sym o.behind_is) (r.cut (after_mark o.unit.final.end.place)) in
       record {
         units = o.unit ∷ r.units;
         last = r.last;

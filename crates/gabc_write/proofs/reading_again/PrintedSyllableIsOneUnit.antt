@@ -19,8 +19,8 @@ use Rattle.gabc_notes.specs.Ends.{IsMarkOf}
 use Rattle.gabc_notes.specs.ReadAgain.{IsReadAgain}
 use Rattle.gabc_nabc.specs.Table.{nabc}
 use Rattle.gabc_nabc.specs.ReadAgain.{IsNabcReadAgain}
-use Rattle.gabc_score.specs.Events.{InText, texts_by_definition, text_from, snippet_from, behind_mark}
-use Rattle.gabc_score.specs.Units.{Opens, Closes, BodyUnit, LastUnit, CutPart, cut_part, snippets_with, last_characters, units_pieces, whole, EndsBehind, Cuts}
+use Rattle.gabc_score.specs.Events.{InText, texts_by_definition, text_from, snippet_from, after_mark}
+use Rattle.gabc_score.specs.Units.{Opens, Closes, BodyUnit, LastUnit, CutPart, cut_part, snippets_with, last_characters, units_pieces, whole, EndsAfter, Cuts}
 use Rattle.gabc_score.specs.SyllablesOfUnits.{with_ends, snippets_in, characters_in}
 use Rattle.gabc_write.specs.SyllableAgain.{barred, printed_syllable, AreSnippets, AreSnippetsFrom, AreUnitsFrom, IsOneUnit}
 use Rattle.gabc_places.proofs.PlacesOfAText.{place_append, placed_append}
@@ -51,7 +51,7 @@ module _ (ends_once : (at : Place) (t : List ℕ) → EndsOnce at t)
     abbrev all : List ℕ
     all = printed_syllable (view_facts t) (s ∷ ss)
 
-    -- behind the `(`
+    -- after the `(`
     abbrev later : List ℕ
     later = barred (s ∷ ss) ++ 41 ∷ rest
 
@@ -99,19 +99,19 @@ module _ (ends_once : (at : Place) (t : List ℕ) → EndsOnce at t)
         snippets_spelled notes s ss [] ∙ sym (ends_with unit.nexts unit.final []) ∙ append-nil (with_ends (snippets_in unit)) in
         ap (λ (x : List ℕ). 40 ∷ x) (ap codes_of (sym spelled_all) ∙ codes_placed notes (barred (s ∷ ss) ++ 41 ∷ []))
 
-    text_cut : (begins : Place) → EndsBehind lines (text_from texts_by_definition begins (placed_characters_from at (all ++ rest))) unit.text.characters Opens
+    text_cut : (begins : Place) → EndsAfter lines (text_from texts_by_definition begins (placed_characters_from at (all ++ rest))) unit.text.characters Opens
     text_cut begins =
         let e : codes_of (placed_characters_from at (all ++ rest)) ≡ text ++ 40 ∷ later = codes_placed at (all ++ rest) ∙ text_is in
-        subst (λ (x : List ℕ). EndsBehind lines (InText (events_by_point begins x)) unit.text.characters Opens) (sym e)
+        subst (λ (x : List ℕ). EndsAfter lines (InText (events_by_point begins x)) unit.text.characters Opens) (sym e)
         (text_ends lines begins text later unit.text.characters (ends_once begins (text ++ 40 ∷ later)) (ends t later) (length_placed at text))
 
-    one_more : (begins : Place) (units : List BodyUnit) (last : LastUnit) → AreUnitsFrom lines macros (behind_mark unit.final.end.place) behind units last
+    one_more : (begins : Place) (units : List BodyUnit) (last : LastUnit) → AreUnitsFrom lines macros (after_mark unit.final.end.place) behind units last
         → AreUnitsFrom lines macros begins (placed_characters_from at (all ++ rest)) (unit ∷ units) last
     one_more begins units last h =
         let pieces : List CutPart = units_pieces lines units last in
         let parts : List CutPart = snippets_with lines 0 opening unit.nexts (cut_part unit.final Closes ∷ pieces) in
         let rest_is : whole pieces (last_characters last) ≡ behind = units_whole lines units last ∙ sym h.characters in
-        let onward = subst (λ (xs : List Char). Cuts texts_by_definition lines macros (text_from texts_by_definition (behind_mark unit.final.end.place) xs) pieces (last_characters last)) (sym rest_is) h.cut in
+        let onward = subst (λ (xs : List Char). Cuts texts_by_definition lines macros (text_from texts_by_definition (after_mark unit.final.end.place) xs) pieces (last_characters last)) (sym rest_is) h.cut in
         let notes_cut = snippets_cut gabc_again nabc_again lines macros 0 opening notes s ss rest pieces (last_characters last) (several (s ∷ ss) single) each (rest_is ∙ behind_is) onward in
         let parts_are : placed_characters_from notes later ≡ whole parts (last_characters last) =
         notes_are ∙ ap (λ (xs : List Char). spelled unit.nexts unit.final xs) (sym rest_is) ∙ sym (whole_nexts lines 0 opening unit.nexts (cut_part unit.final Closes ∷ pieces) (last_characters last)) in

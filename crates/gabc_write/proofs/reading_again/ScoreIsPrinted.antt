@@ -23,10 +23,10 @@ use Rattle.gabc_score.specs.declared.ending.InputEnding.{InputEnding}
 use Rattle.gabc_score.specs.declared.ending.InputEnding.TheVariants.{Whole, Broken, At}
 use Rattle.gabc_score.specs.Body.{has_text}
 use Rattle.gabc_score.specs.Events.{Texts, texts_by_definition}
-use Rattle.gabc_score.specs.Score.{heads_text, behind_heads, score_by, score_of}
+use Rattle.gabc_score.specs.Score.{heads_text, after_heads, score_by, score_of}
 use Rattle.gabc_score.specs.Syllable.{PlacedSyllable}
 use Rattle.gabc_score.specs.Units.{BodyUnit, LastUnit, JustText, OpenNotes, Units, BodyCutting, IsCut}
-use Rattle.gabc_score.specs.SyllablesOfUnits.{ScoreUnit, with_ends, snippets_in, characters_in, last_in, characters_from, unit_characters, closed_units, last_units, score_units, count_within, units_within, AreSyllablesOf, body_characters, IsBodyCut, StandBeforeBodyStop}
+use Rattle.gabc_score.specs.SyllablesOfUnits.{ScoreUnit, with_ends, snippets_in, characters_in, last_in, characters_from, unit_characters, closed_units, last_units, score_units, count_within, units_within, AreSyllablesOf, body_characters, IsBodyCut, AreBeforeBodyStop}
 use Rattle.gabc_write.specs.PlainText.{IsText, AreUnitTexts}
 use Rattle.gabc_places.specs.Text.{decoded_of}
 use Rattle.gabc_places.specs.TextOfAnInput.{IsPlain}
@@ -134,16 +134,16 @@ module _ (one : (texts : Texts) (lines macros : ℕ) (xs : List Char) → (cut :
     → (score_of limits Whole t).book ≡ Some book → IsBodyCut book t cut → (score_of limits Whole t).fault ≡ None
     → AreSyllablesOf (nabc_lines_of book) (score_units cut.units) (score_of limits Whole t).syllables)
     (stopped : (limits : Limits) (ending : InputEnding) (t : List ℕ) (book : List (List ℕ × List ℕ)) (cut : BodyCutting) (n : ℕ) → length (encodes t) < 2 ^ 63
-    → (score_of limits ending t).book ≡ Some book → IsBodyCut book t cut → StandBeforeBodyStop limits book t n → ¬ ((ending ≡ Whole) × ((score_of limits ending t).fault ≡ None))
+    → (score_of limits ending t).book ≡ Some book → IsBodyCut book t cut → AreBeforeBodyStop limits book t n → ¬ ((ending ≡ Whole) × ((score_of limits ending t).fault ≡ None))
     → AreSyllablesOf (nabc_lines_of book) (units_within (n - length cut.comment) cut.units) (score_of limits ending t).syllables)
-    (stop : (limits : Limits) (book : List (List ℕ × List ℕ)) (t : List ℕ) → (n : ℕ) × StandBeforeBodyStop limits book t n)
+    (stop : (limits : Limits) (book : List (List ℕ × List ℕ)) (t : List ℕ) → (n : ℕ) × AreBeforeBodyStop limits book t n)
     (printed : (lines : ℕ) (units : List ScoreUnit) (syllables : List PlacedSyllable) → AreSyllablesOf lines units syllables → FirstTextBeginsWord units
     → (lines ≡ 0 → All (λ (u : ScoreUnit). length u.snippets ≤ 1) units) → ArePrinted lines units syllables) where
   module _ (limits : Limits) (t : List ℕ) (book : List (List ℕ × List ℕ)) (cut : BodyCutting) (is_cut : IsBodyCut book t cut) (short : length (encodes t) < 2 ^ 63) where
     units_plain : IsText t → plain_characters (unit_characters cut.units)
     units_plain h =
-        let behind : IsText (behind_heads t) = record { scalars = All-drop IsScalar _ t h.scalars; plain = All-drop IsPlain _ t h.plain } in
-        let body : plain_characters (body_characters t) = ap plain (codes_placed (heads_text t) (behind_heads t)) ∙ text_plain (behind_heads t) behind in
+        let behind : IsText (after_heads t) = record { scalars = All-drop IsScalar _ t h.scalars; plain = All-drop IsPlain _ t h.plain } in
+        let body : plain_characters (body_characters t) = ap plain (codes_placed (heads_text t) (after_heads t)) ∙ text_plain (after_heads t) behind in
         (halves cut.comment (unit_characters cut.units) (subst plain_characters (characters texts_by_definition (nabc_lines_of book) (macros_of book) (body_characters t) cut is_cut) body)).1
 
     begins : FirstTextBeginsWord (score_units cut.units)

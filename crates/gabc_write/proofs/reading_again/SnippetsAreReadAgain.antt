@@ -20,9 +20,9 @@ use Rattle.gabc_nabc.specs.Table.{nabc}
 use Rattle.gabc_nabc.specs.Events as nabc
 use Rattle.gabc_nabc.specs.ReadAgain.{IsNabcReadAgain}
 use Rattle.gabc_nabc.specs.SnippetRead.{kept_before}
-use Rattle.gabc_score.specs.Events.{texts_by_definition, text_from, snippet_from, next_line, behind_mark}
+use Rattle.gabc_score.specs.Events.{texts_by_definition, text_from, snippet_from, next_line, after_mark}
 use Rattle.gabc_score.specs.Units as unit
-use Rattle.gabc_score.specs.Units.{EndedPart, CutPart, cut_part, snippets_with, whole, EndsBehind, Cuts}
+use Rattle.gabc_score.specs.Units.{EndedPart, CutPart, cut_part, snippets_with, whole, EndsAfter, Cuts}
 use Rattle.gabc_score.specs.Holding.{IsSnippetOf, kept_on_line}
 use Rattle.gabc_score.specs.SyllablesOfUnits.{with_ends}
 use Rattle.gabc_score.specs.FoundInParts.{snippet_events}
@@ -132,7 +132,7 @@ module _ (gabc_again : (split : Bool) (macros : ℕ) (at : Place) (how : NoteEnd
 
   -- it is a part that ends at its mark
   part_ends : (line : ℕ) (opened p : Place) (s : List ℕ) (mark : ℕ) (how : NoteEnd) (rest : List ℕ) (end : unit.Mark) → ReadAgain lines macros line p s mark how rest
-      → mark_of lines line opened how ≡ Some end → EndsBehind lines (snippet_from lines macros line opened (placed_characters_from p (s ++ mark ∷ rest))) (placed_characters_from p s) end
+      → mark_of lines line opened how ≡ Some end → EndsAfter lines (snippet_from lines macros line opened (placed_characters_from p (s ++ mark ∷ rest))) (placed_characters_from p s) end
   part_ends line opened p s mark how rest end r m =
       let lists : List (List NoteEvent) = snippet_events lines macros line (placed_characters_from p (s ++ mark ∷ rest)) in
       snippet_ends lines line opened end lists (placed_characters_from p s) how r.bytes m
@@ -169,7 +169,7 @@ module _ (gabc_again : (split : Bool) (macros : ℕ) (at : Place) (how : NoteEnd
 
   pub snippets_cut : (line : ℕ) (opened p : Place) (s : List ℕ) (ss : List (List ℕ)) (rest : List ℕ) (pieces : List CutPart) (last : List Char) → Several (s ∷ ss) → AreSnippetsFrom lines line (s ∷ ss)
       → whole pieces last ≡ placed_characters_from (place_past p (barred (s ∷ ss) ++ 41 ∷ [])) rest
-      → Cuts texts_by_definition lines macros (text_from texts_by_definition (behind_mark (final_of p (s ∷ ss)).end.place) (whole pieces last)) pieces last
+      → Cuts texts_by_definition lines macros (text_from texts_by_definition (after_mark (final_of p (s ∷ ss)).end.place) (whole pieces last)) pieces last
       → Cuts texts_by_definition lines macros (snippet_from lines macros line opened (placed_characters_from p (barred (s ∷ ss) ++ 41 ∷ rest)))
       (snippets_with lines line opened (nexts_of p (s ∷ ss)) (cut_part (final_of p (s ∷ ss)) unit.Closes ∷ pieces)) last
   snippets_cut line opened p s [] rest pieces last several h w cut =
@@ -185,7 +185,7 @@ module _ (gabc_again : (split : Bool) (macros : ℕ) (at : Place) (how : NoteEnd
       let all : placed_characters_from q later ≡ whole parts last = snippets_spelled q t ss rest
       ∙ ap (λ (xs : List Char). spelled (nexts_of q (t ∷ ss)) (final_of q (t ∷ ss)) xs) (sym behind)
       ∙ sym (whole_nexts lines (next_line lines line) opened (nexts_of q (t ∷ ss)) (cut_part (final_of q (t ∷ ss)) unit.Closes ∷ pieces) last) in (
-        subst (λ (u : List ℕ). EndsBehind lines (snippet_from lines macros line opened (placed_characters_from p u)) (placed_characters_from p s) (unit.Next (next_line lines line) opened))
+        subst (λ (u : List ℕ). EndsAfter lines (snippet_from lines macros line opened (placed_characters_from p u)) (placed_characters_from p s) (unit.Next (next_line lines line) opened))
             (sym (append_assoc s (124 ∷ barred (t ∷ ss)) (41 ∷ rest)))
             (part_ends line opened p s 124 Next later (unit.Next (next_line lines line) opened) (read_again line p s 124 Next later h.0 (dividing (several s t ss refl))) refl),
         subst (λ (xs : List Char). Cuts texts_by_definition lines macros (snippet_from lines macros (next_line lines line) opened xs) parts last) all more,

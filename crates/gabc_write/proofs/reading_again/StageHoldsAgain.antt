@@ -1,4 +1,4 @@
--- A stage that stands behind the same holds by its text what may stand for the syllable that is held.
+-- A stage that stands after the same holds by its text what is equivalent to the syllable that is held.
 use Rattle.std.proofs.Common.{◌≡◌, ℕ, Bool, true, false, List, Option, Some, IfSome, is_some, refl, sym, ap, subst, ◌∙◌}
 use Rattle.std.specs.Prelude.{IsUtf8, ◌==◌}
 use Rattle.std.specs.Str.{chars}
@@ -8,13 +8,13 @@ use Rattle.gabc_score.specs.declared.before.Before.{Before}
 use Rattle.gabc_score.specs.declared.score_machine.ScorePart.{ScorePart}
 use Rattle.gabc_score.specs.declared.score_machine.ScorePart.TheVariants as score_part
 use Rattle.gabc_score.specs.HeldAgain.{MayBeHeld}
-use Rattle.gabc_score.specs.HeldAside.{HoldTheSame, MayStandFor}
+use Rattle.gabc_score.specs.HeldAside.{HoldTheSame, IsEquivalentSyllable}
 use Rattle.gabc_score.specs.Holding.{HasWholeSnippets}
-use Rattle.gabc_score.specs.Resumed.{HoldsAgain, StandsBehind}
-use Rattle.gabc_score.specs.ScoreTells.{before_of, before_with, held_of, in_body}
+use Rattle.gabc_score.specs.Resumed.{HoldsAgain, IsAfterSyllables}
+use Rattle.gabc_score.specs.ScoreReports.{before_of, before_with, held_of, in_body}
 use Rattle.gabc_score.specs.SpansPast.{FollowsSpans}
 use Rattle.gabc_score.specs.Syllable.{UnplacedSyllable}
-use Rattle.gabc_score.specs.ToldWithin.{IsHeldWithin, written_behind}
+use Rattle.gabc_score.specs.ReportedWithin.{IsHeldWithin, written_after}
 use Rattle.gabc_score.specs.UnitRead.{HoldsSomeUnit}
 use Rattle.gabc_score.specs.witness.ScoreStage.{ScoreStageState}
 use Rattle.gabc_write.specs.SetDown.{MayBeHeldByItsText, SayTheSame}
@@ -25,7 +25,7 @@ use Rattle.gabc_write.proofs.reading_again.HeldAgain.{bytes_behind, says_again, 
 abbrev pub told_before : ScoreStageState → Before
 told_before s = before_with s.body s.before
 
--- in the body a stage tells what stands before
+-- in the body a stage reports what stands before
 pub told_in_body : {A : Type 0} → (p : ScorePart) (a : A) → is_some (in_body p a) ≡ true → in_body p a ≡ Some a
 told_in_body score_part.Heads a h = absurd (cc h)
 told_in_body score_part.Body a h = refl
@@ -34,7 +34,7 @@ told_in_body score_part.Over a h = absurd (cc h)
 pub some_held : (P : UnplacedSyllable → Type 0) (o : Option UnplacedSyllable) (m : UnplacedSyllable) → o ≡ Some m → IfSome o P → P m
 some_held P o m is h = subst (λ (x : Option UnplacedSyllable). IfSome x P) is h
 
-module _ (told old : ScoreStageState) (runs : is_some (before_of told) ≡ true) (stands : StandsBehind told.limits (told_before told) old) where
+module _ (told old : ScoreStageState) (runs : is_some (before_of told) ≡ true) (stands : IsAfterSyllables told.limits (told_before told) old) where
   before_told : before_of told ≡ Some (told_before told)
   before_told = told_in_body told.part (told_before told) runs
 
@@ -44,7 +44,7 @@ module _ (told old : ScoreStageState) (runs : is_some (before_of told) ≡ true)
       some_is : Some (told_before old) ≡ Some (told_before told) → told_before old ≡ told_before told
       some_is e = cc e
 
-  module _ (m : UnplacedSyllable) (is : held_of told ≡ Some m) (within : IsHeldWithin told.limits told.before m) (held : List ℕ) (text : held ≡ written_behind told.before m) where
+  module _ (m : UnplacedSyllable) (is : held_of told ≡ Some m) (within : IsHeldWithin told.limits told.before m) (held : List ℕ) (text : held ≡ written_after told.before m) where
     -- the text may be held there
     pub is_held : IsUtf8 held → MayBeHeldByItsText told.limits (told_before told) m → (result : Bool)
         → (result ≡ false → (n : UnplacedSyllable) → MayBeHeld old.limits (told_before old) (chars held) n → ⊥) → result ≡ true
@@ -66,7 +66,7 @@ module _ (told old : ScoreStageState) (runs : is_some (before_of told) ≡ true)
           subst (λ (limits : Limits). MayBeHeld limits (told_before told) own.text h.m) stands.limits_are
           (subst (λ (b : Before). MayBeHeld old.limits b own.text h.m) before_old
           (subst (λ (t : List ℕ). MayBeHeld old.limits (told_before old) t h.m) (sym text_is) h.may)) in
-          let stand : MayStandFor (told.before.syllables == 0) m h.m = stands_for told.limits (told_before told) m own spans holds whole h.m may in
+          let stand : IsEquivalentSyllable (told.before.syllables == 0) m h.m = stands_for told.limits (told_before told) m own spans holds whole h.m may in
           let says : SayTheSame (told.before.syllables == 0) (Some m) (Some h.m) = says_again told.limits (told_before told) m own spans holds whole h.m may in
           record {
             holds = record {

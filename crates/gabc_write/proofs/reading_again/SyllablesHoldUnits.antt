@@ -17,7 +17,7 @@ use Rattle.gabc_score.specs.SyllablesOfUnits.{ScoreUnit, NotesAre}
 use Rattle.gabc_score.specs.UnitRead.{HoldsSomeUnit}
 use Rattle.gabc_write.proofs.reading_again.ScoreIsPrinted.{UnitsAre}
 
--- behind n others stands this one
+-- after n others stands this one
 record Split {A : Type 0} (n : ℕ) (all : List A) : Type 0 where
   before : List A
   one : A

@@ -138,7 +138,7 @@ module _ (starts : (t : List ℕ) → (view_in t).word_start ≡ (view_facts t).
 
   -- ---- all syllables
 
-  -- by the facts before it and behind it
+  -- by the facts before it and after it
   record IsSaid (before : List SyllableFacts) (f : SyllableFacts) (after : List SyllableFacts) (s : PlacedSyllable) : Type 0 where
     said_is : meaning_of s ≡ said_by lines f (position_by f.view.word_start (next_begins after)) s.made.eu s.made.nlba
     eu_is : IsTrue s.made.eu ↔ IsLeftOpen (codes "<eu>") (codes "</eu>") (all_tags (before ++ f ∷ []))

@@ -8,7 +8,7 @@ use Rattle.gabc_neumes.specs.Elements.{is_in_element}
 use Rattle.gabc_neumes.specs.InForce.{InForce}
 use Rattle.gabc_neumes.specs.declared.glyph.GlyphKind.{GlyphKind}
 use Rattle.gabc_neumes.specs.declared.sound.Sound.{Sound}
-use Rattle.gabc_write.specs.DumpOfNotes.{notes_behind, is_note, line_of_glyph, line_of_note, line_of_item, lines_behind}
+use Rattle.gabc_write.specs.DumpOfNotes.{notes_after, is_note, line_of_glyph, line_of_note, line_of_item, lines_after}
 use Rattle.gabc_write.specs.declared.dump_notes.ItemPlace.{ItemPlace}
 
 -- the first glyph of a segment's notes from a place on: its kind, and how many notes it has
@@ -17,11 +17,11 @@ glyph_of notes = longest_glyph (length notes) notes
 
 -- the notes of a segment from this one on, which these items stand after
 abbrev pub notes_from : List ℕ → Note → List Item → List Note
-notes_from kept first behind = first ∷ notes_behind kept behind
+notes_from kept first behind = first ∷ notes_after kept behind
 
 -- the first glyph of the notes of the segment at the head of the items
 abbrev pub glyph_at : List ℕ → List Item → Option (GlyphKind × ℕ)
-glyph_at kept items = glyph_of (notes_behind kept items)
+glyph_at kept items = glyph_of (notes_after kept items)
 
 -- at a note the line of the glyph that begins with it: one does where none of the notes of the
 -- glyph before are left
@@ -43,15 +43,15 @@ lines_at force kept place i behind =
     ++ ((if is_note i.kind then line_of_next place.left (glyph_at kept (i ∷ behind)) else []) ++ line_of_item force kept i)
 
 -- the place after it
-abbrev pub place_behind : List ℕ → ItemPlace → Item → List Item → ItemPlace
-place_behind kept place i behind = record {
+abbrev pub place_after_input : List ℕ → ItemPlace → Item → List Item → ItemPlace
+place_after_input kept place i behind = record {
   in_element = is_in_element kept i;
   left = if is_note i.kind then left_after place.left (glyph_at kept (i ∷ behind)) else place.left;
 }
 
 -- the lines of all items of a text
 abbrev pub lines_of_items : InForce → List ℕ → List ℕ
-lines_of_items outset kept = lines_behind outset kept [] (items_of kept)
+lines_of_items outset kept = lines_after outset kept [] (items_of kept)
 
 -- the lines of a snippet that is one small pitch, which sounds so
 abbrev pub lines_of_pitch : Sound → ℕ → List ℕ

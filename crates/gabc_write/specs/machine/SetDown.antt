@@ -1,13 +1,28 @@
--- A stage on its way to be set down again.
-use Rattle.std.specs.Prelude.{◌≡◌, ◌==◌, false}
+-- A stage on its way to be restored.
+use Rattle.std.specs.Prelude.{◌≡◌, ◌==◌, ◌≤◌, ℕ, List, [], IfSome, is_some, false, true}
+use Rattle.gabc_places.specs.BoundedList.{BoundedList}
 use Rattle.gabc_score.specs.HeldAside.{HoldTheSame}
 use Rattle.gabc_score.specs.Resumed.{BeginsText}
-use Rattle.gabc_score.specs.ScoreTells.{StandsAt, before_of, held_of, is_in_comment, is_in_front, openers_of, reading_of}
+use Rattle.gabc_score.specs.ScoreReports.{IsAt, before_of, held_of, is_in_comment, is_in_front, openers_of, reading_of}
+use Rattle.gabc_score.specs.ReportedWithin.{ReportsWithin, written_after}
+use Rattle.gabc_score.specs.declared.score_event.ScoreEvent.{ScoreEvent}
 use Rattle.gabc_score.specs.witness.ScoreStage.{ScoreStageState}
 use Rattle.gabc_write.specs.SetDown.{SayTheSame}
 
--- It stands after the same under the same limits, and holds what may stand for the syllable that is
--- held.
+-- In the body it reports what is within its limits, and this is the canonical text of the syllable
+-- that it holds, if it holds one.
+pub record HasHeldText (told : ScoreStageState) (text : List ℕ) : Type 0 where
+  pub runs : is_some (before_of told) ≡ true
+  pub within : ReportsWithin told
+  pub is : IfSome (held_of told) (λ m. text ≡ written_after told.before m)
+
+-- Nothing stands in it, and there is room for what a stage finds with a character.
+pub record IsFreeRoom (room : BoundedList ScoreEvent) : Type 0 where
+  pub empty : room.items ≡ []
+  pub wide : 16 ≤ room.limit
+
+-- It stands after the same under the same limits, and holds what is equivalent to the syllable that
+-- is held.
 pub record HoldsAlike (told s : ScoreStageState) : Type 0 where
   pub limits_are : s.limits ≡ told.limits
   pub before_is : before_of s ≡ before_of told
@@ -27,4 +42,4 @@ pub record TellsAlike (told s : ScoreStageState) : Type 0 where
   pub comment : is_in_comment told.body.part ≡ is_in_comment s.body.part
   pub front : is_in_front s.body.part ≡ false
   pub next : told.held.next ≡ s.held.next
-  pub stands : StandsAt s.held.next s.body.part
+  pub stands : IsAt s.held.next s.body.part

@@ -4,9 +4,9 @@ use Rattle.std.proofs.lemmas.Grind.{flat_map-append}
 use Rattle.gabc_write.specs.DumpLines.{escaped, escaped_byte}
 
 -- the line has begun after these bytes: there are some, or it had before
-abbrev pub begun_behind : Bool → List ℕ → Bool
-begun_behind begun [] = begun
-begun_behind begun (c ∷ t) = true
+abbrev pub begun_after : Bool → List ℕ → Bool
+begun_after begun [] = begun
+begun_after begun (c ∷ t) = true
 
 -- what these bytes add to the line: the first of them its word
 abbrev pub line_part : Bool → List ℕ → List ℕ
@@ -19,12 +19,12 @@ line_end begun = if begun then codes "\n" else []
 
 -- ---- two parts are one
 
-pub begun_is_one : (begun : Bool) (a b : List ℕ) → begun_behind (begun_behind begun a) b ≡ begun_behind begun (a ++ b)
+pub begun_is_one : (begun : Bool) (a b : List ℕ) → begun_after (begun_after begun a) b ≡ begun_after begun (a ++ b)
 begun_is_one begun [] b = refl
 begun_is_one begun (c ∷ a) [] = refl
 begun_is_one begun (c ∷ a) (d ∷ b) = refl
 
-pub parts_are_one : (begun : Bool) (a b : List ℕ) → line_part begun a ++ line_part (begun_behind begun a) b ≡ line_part begun (a ++ b)
+pub parts_are_one : (begun : Bool) (a b : List ℕ) → line_part begun a ++ line_part (begun_after begun a) b ≡ line_part begun (a ++ b)
 parts_are_one begun [] b = refl
 parts_are_one begun (c ∷ a) [] = search (rules, append-nil)
 parts_are_one begun (c ∷ a) (d ∷ b) =

@@ -1,4 +1,4 @@
--- A score that is told where its body begins goes on as it would have.
+-- A score that is reported where its body begins goes on as it would have.
 use Rattle.std.proofs.Common.{◌≡◌, ℕ, ◌⊎◌, inl, inr, List, Bool, true, false, is_none, Result, Ok, Err, refl, ap, sym, subst, ◌∙◌}
 use Rattle.gabc_places.specs.DecoderMachine.{DecoderState}
 use Rattle.gabc_places.specs.declared.code.Fault.{Fault}
@@ -9,9 +9,9 @@ use Rattle.gabc_headers.specs.witness.HeadEvents.{HeaderStageState, IsBehind}
 use Rattle.gabc_score.specs.declared.body_stage.BodyPart.{BodyPart}
 use Rattle.gabc_score.specs.declared.body_stage.BodyPart.TheVariants as part
 use Rattle.gabc_score.specs.ScoreEvents.{ScoreOutput}
-use Rattle.gabc_score.specs.ScoreTells.{StandsAt, StandsInFront, is_in_front, moved_part}
+use Rattle.gabc_score.specs.ScoreReports.{IsAt, IsInFront, is_in_front, moved_part}
 use Rattle.gabc_score.specs.witness.ScoreStage.{ScoreStageState, left_of}
-use Rattle.gregorio.specs.Streams.{Streams, behind_bytes}
+use Rattle.gregorio.specs.Streams.{Streams, after_bytes}
 use Rattle.gregorio.specs.witness.Engine.{Written, book_behind, head_events_left, streams_from}
 use Rattle.gregorio.specs.machine.Engine.{GoTogether, IsSettled, WritesItems}
 use Rattle.gregorio.specs.machine.InStep.{HasForce, RunsInStep, StayInStep}
@@ -43,13 +43,13 @@ steady_begun item headed old s a = record {
 }
 
 -- in front no text has counted a place
-none_counts : (place at : Place) (b : BodyPart) → is_in_front b ≡ true → StandsAt place (moved_part at b)
+none_counts : (place at : Place) (b : BodyPart) → is_in_front b ≡ true → IsAt place (moved_part at b)
 none_counts place at part.Comment front = tt
 none_counts place at (part.Text stage) front = absurd (cc front)
 none_counts place at (part.Notes opened stage) front = absurd (cc front)
 none_counts place at (part.Nabc line opened stage) front = absurd (cc front)
 
-step_begun : (item : Result Char Fault) (headed : Bool) (d : DecoderState) (h : HeaderStageState) (s : ScoreStageState) (w : Written) → (headed ≡ true → StandsInFront s) → RunsInStep d h s w
+step_begun : (item : Result Char Fault) (headed : Bool) (d : DecoderState) (h : HeaderStageState) (s : ScoreStageState) (w : Written) → (headed ≡ true → IsInFront s) → RunsInStep d h s w
     → RunsInStep d h (begun item headed s) w
 step_begun (Ok x) true d h s w front r = record {
   runs = r.runs;
@@ -103,10 +103,10 @@ module _ (item : Result Char Fault) (old new : ScoreWriterState) (b : BeginsBody
     messages = ap (λ (v : RunWriterState). v.messages) same_writer ∙ a.messages;
     law = λ ending more.
         a.law ending more
-        ∙ ap (λ (s : Streams). behind_bytes a.output a.lines s) (sym (same_streams (book_behind now more) (head_events_left now ending more)));
+        ∙ ap (λ (s : Streams). after_bytes a.output a.lines s) (sym (same_streams (book_behind now more) (head_events_left now ending more)));
   }
 
-  pub stay_begun : (h now : HeaderStageState) (first : ScoreWriterState) (items : List (Result Char Fault)) → (old.writer.written.headed ≡ true → StandsInFront old.score) → StayInStep h first items now old
+  pub stay_begun : (h now : HeaderStageState) (first : ScoreWriterState) (items : List (Result Char Fault)) → (old.writer.written.headed ≡ true → IsInFront old.score) → StayInStep h first items now old
       → StayInStep h first items now new
   stay_begun h now first items front stay = record {
     force = λ had. subst (λ (v : RunWriterState). HasForce v.written) (sym same_writer) (stay.force had);

@@ -1,11 +1,11 @@
 -- What is written in two steps is what is written in one.
-use Rattle.std.proofs.Common.{◌≡◌, ℕ, List, [], ◌++◌, ap, sym, ◌∙◌, append_assoc, append-nil}
+use Rattle.std.proofs.Common.{◌≡◌, ℕ, List, [], ◌++◌, ap, ◌∙◌, append_assoc}
 use Rattle.std.proofs.lemmas.List.{append_cancel_left}
 use Rattle.gabc_places.specs.BoundedList.{BoundedList, extended_by}
-use Rattle.gregorio.specs.Streams.{Streams, behind_bytes}
+use Rattle.gregorio.specs.Streams.{Streams, after_bytes}
 
-pub behind_both : (output lines more_output more_lines : List ℕ) (s : Streams) → behind_bytes (output ++ more_output) (lines ++ more_lines) s ≡ behind_bytes output lines (behind_bytes more_output more_lines s)
-behind_both output lines more_output more_lines s =
+pub with_both_after : (output lines more_output more_lines : List ℕ) (s : Streams) → after_bytes (output ++ more_output) (lines ++ more_lines) s ≡ after_bytes output lines (after_bytes more_output more_lines s)
+with_both_after output lines more_output more_lines s =
     ap (λ (o : List ℕ). record s { output = o; messages = (lines ++ more_lines) ++ s.messages }) (append_assoc output more_output s.output)
     ∙ ap (λ (l : List ℕ). record s { output = output ++ (more_output ++ s.output); messages = l }) (append_assoc lines more_lines s.messages)
 
@@ -13,20 +13,13 @@ pub same_streams : (s t : Streams) → s.output ≡ t.output → s.messages ≡ 
 same_streams s t output messages status fault =
     λ i. record { output = output i; messages = messages i; status = status i; fault = fault i }
 
--- what stands behind the same bytes is the same
-pub behind_same : (output lines : List ℕ) (s t : Streams) → behind_bytes output lines s ≡ behind_bytes output lines t → s ≡ t
+-- what stands after the same bytes is the same
+pub behind_same : (output lines : List ℕ) (s t : Streams) → after_bytes output lines s ≡ after_bytes output lines t → s ≡ t
 behind_same output lines s t e = same_streams s t
     (append_cancel_left output s.output t.output (ap (λ (x : Streams). x.output) e))
     (append_cancel_left lines s.messages t.messages (ap (λ (x : Streams). x.messages) e))
     (ap (λ (x : Streams). x.status) e)
     (ap (λ (x : Streams). x.fault) e)
-
-pub extended_by_none : {T : Type 0} (r : BoundedList T) → r ≡ extended_by r []
-extended_by_none r = ap (λ (xs : List _). record r { items = xs }) (sym (append-nil r.items))
-
-pub extended_by_both : {T : Type 0} (r s t : BoundedList T) (xs ys : List T) → s ≡ extended_by r xs → t ≡ extended_by s ys → t ≡ extended_by r (xs ++ ys)
-extended_by_both r s t xs ys first second =
-    second ∙ (ap (λ (x : BoundedList _). extended_by x ys) first ∙ ap (λ (items : List _). record r { items = items }) (append_assoc r.items xs ys))
 
 -- what waits where nothing waited is what was written
 pub waits_now : (old new : BoundedList ℕ) (text : List ℕ) → old.items ≡ [] → new ≡ extended_by old text → new.items ≡ text

@@ -1,5 +1,5 @@
 -- A byte that an engine takes brings what was to come for it, and so do the bytes of a piece.
-use Rattle.std.proofs.Common.{◌≡◌, ℕ, ◌+◌, ◌≤◌, ◌||◌, List, [], ◌∷◌, ◌++◌, length, take, drop, length-take, take-add, take-take, subst, Bool, true, false, not, Option, Some, None, IfSome, is_none, is_some, Result, refl, ap, append_assoc, sym, ◌∙◌, arith}
+use Rattle.std.proofs.Common.{◌≡◌, ℕ, ◌≤◌, ◌||◌, List, [], ◌∷◌, ◌++◌, length, take, length-take, take-take, Bool, true, false, not, Option, Some, None, IfSome, is_none, is_some, Result, refl, ap, append_assoc, sym, ◌∙◌, arith}
 use Rattle.std.specs.List.{list_any}
 use Rattle.gabc_places.specs.BoundedList.{BoundedList}
 use Rattle.gabc_places.specs.StageLaw.{concat_of}
@@ -16,12 +16,12 @@ use Rattle.gregorio.specs.declared.source_ending.SourceEnding.{SourceEnding}
 use Rattle.gregorio.specs.declared.source_ending.SourceEnding.TheVariants.{Whole as Ended, Broken}
 use Rattle.gregorio.specs.Engine.{Brings, NothingWaits, is_running, with_waiting}
 use Rattle.gregorio.specs.witness.Engine.{EngineState, Written, book_behind, ended_by, head_events_left, items_left, streams_left}
-use Rattle.gregorio.specs.Streams.{Streams, behind_bytes}
+use Rattle.gregorio.specs.Streams.{Streams, after_bytes}
 use Rattle.gregorio.specs.Outcome.{is_error_finding, is_whole, status_by}
 use Rattle.gregorio.specs.machine.RunWriter.{line_room, most_waiting, out_room}
 use Rattle.gregorio.specs.machine.ScoreWriter.{ScoreWriterState, IsOver, IsReserved, IsSteady}
 use Rattle.gregorio.specs.machine.Engine.{WritesItems, streams_of_items}
-use Rattle.gregorio.proofs.pieces.BytesAreJoined.{behind_both}
+use Rattle.gregorio.proofs.pieces.BytesAreJoined.{with_both_after}
 use Rattle.gregorio_jobs.specs.declared.job.Format.{Format}
 use Rattle.gregorio.specs.declared.run_ending.RunEnding.{RunEnding}
 use Rattle.gregorio_jobs.specs.declared.job.Status.TheVariants.{ReadFault}
@@ -48,14 +48,14 @@ still_reserved old new steady reserved =
 
 -- What was to come of these items waits, after what waited before, and the rest is still to come.
 pub items_taken : (h now : HeaderStageState) (w new : ScoreWriterState) (items more : List (Result Char Fault)) (ending : SourceEnding) → WritesItems h w items now new
-    → behind_bytes w.writer.out.items w.writer.messages.items (streams_of_items h w ending (items ++ more))
-    ≡ behind_bytes new.writer.out.items new.writer.messages.items (streams_of_items now new ending more)
+    → after_bytes w.writer.out.items w.writer.messages.items (streams_of_items h w ending (items ++ more))
+    ≡ after_bytes new.writer.out.items new.writer.messages.items (streams_of_items now new ending more)
 items_taken h now w new items more ending a =
     let later = streams_of_items now new ending more in
-    ap (λ (s : Streams). behind_bytes w.writer.out.items w.writer.messages.items s) (a.law ending more)
-    ∙ (sym (behind_both w.writer.out.items w.writer.messages.items a.output a.lines later)
-    ∙ (ap (λ (o : BoundedList ℕ). behind_bytes o.items (w.writer.messages.items ++ a.lines) later) (sym a.out)
-    ∙ ap (λ (l : BoundedList ℕ). behind_bytes new.writer.out.items l.items later) (sym a.messages)))
+    ap (λ (s : Streams). after_bytes w.writer.out.items w.writer.messages.items s) (a.law ending more)
+    ∙ (sym (with_both_after w.writer.out.items w.writer.messages.items a.output a.lines later)
+    ∙ (ap (λ (o : BoundedList ℕ). after_bytes o.items (w.writer.messages.items ++ a.lines) later) (sym a.out)
+    ∙ ap (λ (l : BoundedList ℕ). after_bytes new.writer.out.items l.items later) (sym a.messages)))
 
 items_next : (d e : DecoderState) (byte : ℕ) (bytes : List ℕ) (items : List (Result Char Fault)) (ending : SourceEnding) → decoder.events_left d (byte ∷ bytes) ≡ items ∷ decoder.events_left e bytes
     → emitted_by (is_whole ending) (byte ∷ bytes) (decoder.events_left d (byte ∷ bytes)) ≡ items ++ emitted_by (is_whole ending) bytes (decoder.events_left e bytes)
@@ -65,11 +65,11 @@ items_next d e byte bytes items Broken law = ap (λ (lists : List (List (Result 
 pub byte_taken : (d e : DecoderState) (h now : HeaderStageState) (w new : ScoreWriterState) (byte : ℕ) (items : List (Result Char Fault))
     → ((bytes : List ℕ) → decoder.events_left d (byte ∷ bytes) ≡ items ∷ decoder.events_left e bytes)
     → WritesItems h w items now new → (bytes : List ℕ) (ending : SourceEnding)
-    → behind_bytes w.writer.out.items w.writer.messages.items (streams_of_items h w ending (emitted_by (is_whole ending) (byte ∷ bytes) (decoder.events_left d (byte ∷ bytes))))
-    ≡ behind_bytes new.writer.out.items new.writer.messages.items (streams_of_items now new ending (emitted_by (is_whole ending) bytes (decoder.events_left e bytes)))
+    → after_bytes w.writer.out.items w.writer.messages.items (streams_of_items h w ending (emitted_by (is_whole ending) (byte ∷ bytes) (decoder.events_left d (byte ∷ bytes))))
+    ≡ after_bytes new.writer.out.items new.writer.messages.items (streams_of_items now new ending (emitted_by (is_whole ending) bytes (decoder.events_left e bytes)))
 byte_taken d e h now w new byte items law a bytes ending =
     let rest = emitted_by (is_whole ending) bytes (decoder.events_left e bytes) in
-    ap (λ (xs : List (Result Char Fault)). behind_bytes w.writer.out.items w.writer.messages.items (streams_of_items h w ending xs)) (items_next d e byte bytes items ending (law bytes))
+    ap (λ (xs : List (Result Char Fault)). after_bytes w.writer.out.items w.writer.messages.items (streams_of_items h w ending xs)) (items_next d e byte bytes items ending (law bytes))
     ∙ items_taken h now w new items rest ending a
 
 -- ---- a piece
@@ -79,7 +79,7 @@ goes_on None running = refl
 goes_on (Some how) running = absurd (cc running)
 
 pub none_wait : (s : EngineState) → NothingWaits s → (rest : Streams) → with_waiting s rest ≡ rest
-none_wait s waits rest = ap (λ (o : List ℕ). behind_bytes o s.messages rest) waits.output ∙ ap (λ (l : List ℕ). behind_bytes [] l rest) waits.messages
+none_wait s waits rest = ap (λ (o : List ℕ). after_bytes o s.messages rest) waits.output ∙ ap (λ (l : List ℕ). after_bytes [] l rest) waits.messages
 
 -- what bytes bring and bytes after them is what both bring
 pub brings_both : (old mid new : EngineState) (xs ys : List ℕ) → Brings old xs mid → Brings mid ys new → Brings old (xs ++ ys) new
@@ -89,13 +89,6 @@ brings_both old mid new xs ys first second more ending =
 -- a front of a front of a piece is a front of the piece
 pub front_of_front : (count most : ℕ) (piece : List ℕ) → count ≤ length (take most piece) → take count (take most piece) ≡ take count piece
 front_of_front count most piece within = let l = length-take most piece in take-take count most piece (omega (arith, within, l))
-
--- bytes behind bytes that were taken
-pub brings_more : (first now new : EngineState) (piece rest : List ℕ) (count more : ℕ) → rest ≡ drop count piece → Brings first (take count piece) now → Brings now (take more rest) new
-    → Brings first (take (count + more) piece) new
-brings_more first now new piece rest count more is so_far next =
-    subst (λ (xs : List ℕ). Brings first xs new) (sym (take-add count more piece ∙ ap (λ (xs : List ℕ). take count piece ++ take more xs) (sym is)))
-    (brings_both first now new (take count piece) (take more rest) so_far next)
 
 pub found_over : (o : Option RunEnding) (w : Written) (score : ScoreStageState) → is_some o ≡ true → IfSome o (λ how. IsOver w score how) → (how : RunEnding) × IsOver w score how
 found_over (Some how) w score is over = (how, over)

@@ -14,11 +14,11 @@ use Rattle.gabc_score.specs.ScoreStage.{part_past, preceding_past}
 use Rattle.gabc_score.specs.Syllable.{PlacedSyllable}
 use Rattle.gabc_score.specs.witness.ScoreStage.{ScoreStageState}
 use Rattle.gabc_write.specs.DumpOfSyllables.{steps_of_syllable}
-use Rattle.gregorio.specs.Streams.{force_behind}
+use Rattle.gregorio.specs.Streams.{force_after}
 use Rattle.gregorio.specs.machine.ClefInForce.{HasClefOfSounds, IsClefIn}
 use Rattle.gregorio.specs.machine.InStep.{PassesOn, given_in_heads}
 use Rattle.gregorio.specs.machine.ScoreWriter.{ScoreWriterState}
-use Rattle.gregorio.specs.witness.Engine.{Written, behind_output, behind_outputs}
+use Rattle.gregorio.specs.witness.Engine.{Written, after_output, after_outputs}
 use Rattle.gregorio.proofs.pieces.PartsStayInStep.{body_goes}
 use Rattle.gregorio.proofs.pieces.WrittenGoesOn.{went_on_past}
 use Rattle.gregorio_jobs.specs.declared.job.Format.{Format}
@@ -29,25 +29,25 @@ use Rattle.gregorio_jobs.specs.declared.job.Format.TheVariants.{Gabc, Dump}
 abbrev pub LeavesClef : Type 0
 LeavesClef = (outset : InForce) (s : PlacedSyllable) → sounds s.made ≡ false → (passed outset (steps_of_syllable s)).clef ≡ outset.clef
 
-clef_behind : LeavesClef → (format : Format) (force : InForce) (s : PlacedSyllable) → sounds s.made ≡ false → (force_behind format force s).clef ≡ force.clef
+clef_behind : LeavesClef → (format : Format) (force : InForce) (s : PlacedSyllable) → sounds s.made ≡ false → (force_after format force s).clef ≡ force.clef
 clef_behind law Gabc force s silent = refl
 clef_behind law Dump force s silent = law force s silent
 
 silent_on : LeavesClef → (outputs : List ScoreOutput) (w : Written) (p : Preceding) → (p.sounded ≡ false → w.force.clef ≡ None) → (with_placed p (syllables_in outputs)).sounded ≡ false
-    → (behind_outputs w outputs).force.clef ≡ None
+    → (after_outputs w outputs).force.clef ≡ None
 silent_on law [] w p before silent = before silent
-silent_on law (Found f ∷ outputs) w p before silent = silent_on law outputs (behind_output w (Found f)) p before silent
-silent_on law (Stop fault ∷ outputs) w p before silent = silent_on law outputs (behind_output w (Stop fault)) p before silent
-silent_on law (End ∷ outputs) w p before silent = silent_on law outputs (behind_output w End) p before silent
-silent_on law (Syllable s ∷ outputs) w p before silent = silent_on law outputs (behind_output w (Syllable s)) (with_placed p (s ∷ [])) (λ both. by (or_parts p.sounded (sounds s.made) both) w.headed) silent
+silent_on law (Found f ∷ outputs) w p before silent = silent_on law outputs (after_output w (Found f)) p before silent
+silent_on law (Stop fault ∷ outputs) w p before silent = silent_on law outputs (after_output w (Stop fault)) p before silent
+silent_on law (End ∷ outputs) w p before silent = silent_on law outputs (after_output w End) p before silent
+silent_on law (Syllable s ∷ outputs) w p before silent = silent_on law outputs (after_output w (Syllable s)) (with_placed p (s ∷ [])) (λ both. by (or_parts p.sounded (sounds s.made) both) w.headed) silent
   where
-    by : (p.sounded ≡ false) × (sounds s.made ≡ false) → (headed : Bool) → (if headed then force_behind w.format w.force s else w.force).clef ≡ None
+    by : (p.sounded ≡ false) × (sounds s.made ≡ false) → (headed : Bool) → (if headed then force_after w.format w.force s else w.force).clef ≡ None
     by both true = clef_behind law w.format w.force s both.1 ∙ before both.0
     by both false = before both.0
 
 -- ---- an event
 
-same_in_heads : (w : Written) (x : HeadEvent) → (behind_outputs w (given_in_heads x)).force.clef ≡ w.force.clef
+same_in_heads : (w : Written) (x : HeadEvent) → (after_outputs w (given_in_heads x)).force.clef ≡ w.force.clef
 same_in_heads w (head_event.Found f) = refl
 same_in_heads w (head_event.Stop fault) = refl
 same_in_heads w head_event.End = refl
@@ -70,7 +70,7 @@ module _ (law : LeavesClef) (old : ScoreStageState) (w : Written) (x : HeadEvent
   clef_by score_part.Heads e was =
       no_clef_in new.score.part new.score.before.sounded new.writer.written.force.clef
       (ap (λ (v : Written). v.force.clef) p.written
-      ∙ (ap (λ (outputs : List ScoreOutput). (behind_outputs w outputs).force.clef) (p.in_heads e) ∙ (same_in_heads w x ∙ was)))
+      ∙ (ap (λ (outputs : List ScoreOutput). (after_outputs w outputs).force.clef) (p.in_heads e) ∙ (same_in_heads w x ∙ was)))
   clef_by score_part.Body e was =
       let on = went_on_past old w x new p running in
       let body : new.score.part ≡ score_part.Body = p.part ∙ body_goes x p.outputs old.part e on.none_last in

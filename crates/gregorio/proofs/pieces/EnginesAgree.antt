@@ -2,24 +2,24 @@
 use Rattle.std.proofs.Common.{◌≡◌, ℕ, List, Bool, true, false, is_some, Result, refl, ap, subst, ◌∙◌}
 use Rattle.gabc_places.specs.DecoderMachine.{DecoderState, IsPartial}
 use Rattle.gabc_places.specs.BoundedList.{BoundedList}
-use Rattle.gabc_places.specs.DecoderTells.{MayBeTold, TellTheSame, is_after_cr}
+use Rattle.gabc_places.specs.DecoderReports.{MayBeReported, ReportTheSame, is_after_cr}
 use Rattle.gabc_places.specs.declared.code.Fault.{Fault}
 use Rattle.gabc_places.specs.declared.place.Char.{Char}
 use Rattle.gabc_places.specs.witness.DecoderEvents as decoder
 use Rattle.gabc_headers.specs.declared.head_event.HeadEvent.{HeadEvent}
 use Rattle.gabc_headers.specs.witness.HeadEvents.{HeaderStageState, IsBehind, events_left, reading, text_held}
-use Rattle.gabc_score.specs.ScoreTells.{before_of, held_of}
-use Rattle.gabc_score.specs.ToldWithin.{IsToldWithin}
-use Rattle.gabc_score.specs.witness.MayStand.{MayStand}
+use Rattle.gabc_score.specs.ScoreReports.{before_of, held_of}
+use Rattle.gabc_score.specs.ReportedWithin.{ReportsWithin}
+use Rattle.gabc_score.specs.witness.IsReachable.{IsReachable}
 use Rattle.gabc_score.specs.witness.ScoreStage.{ScoreStageState, left_of}
-use Rattle.gabc_write.specs.SetDown.{AreWrittenAlike, GoesOnAlikeInLine}
+use Rattle.gabc_write.specs.SetDown.{AreWrittenAlike, GoesOnEquivalentlyInLine}
 use Rattle.gregorio.specs.declared.source_ending.SourceEnding.{SourceEnding}
 use Rattle.gregorio.specs.Engine.{is_running}
 use Rattle.gregorio.specs.Saved.{state_of}
 use Rattle.gregorio.specs.machine.Engine.{IsEngine}
 use Rattle.gregorio.specs.machine.ScoreWriter.{ScoreWriterState}
 use Rattle.gregorio.specs.witness.Engine.{EngineState, head_events_left, items_left, streams_left}
-use Rattle.gregorio.specs.witness.MayRun.{MayRun}
+use Rattle.gregorio.specs.witness.CanRun.{CanRun}
 use Rattle.gabc_write.specs.SavedAlike.{AreSavedAlike}
 use Rattle.gregorio.proofs.pieces.SavedInBodies.{bodies_agree, come_in_line, here, saved_in_body, there, written_in_body}
 use Rattle.gregorio.proofs.pieces.SavedInHeaders.{decoders_alike, heads_agree, saved_in_heads, shown}
@@ -28,17 +28,17 @@ use Rattle.gregorio.proofs.pieces.WritesAlike.{given_is_written_alike}
 
 -- the laws of the parts
 pub record PartsAgree : Type 0 where
-  pub decoders : (one other : DecoderState) → one.running ≡ true → other.running ≡ true → one.limit ≡ other.limit → IsPartial one.pending → TellTheSame one other
+  pub decoders : (one other : DecoderState) → one.running ≡ true → other.running ≡ true → one.limit ≡ other.limit → IsPartial one.pending → ReportTheSame one other
       → (bytes : List ℕ) → decoder.events_left one bytes ≡ decoder.events_left other bytes
   pub heads : (one other : HeaderStageState) → one.limits ≡ other.limits → one.progress ≡ reading (text_held one.progress) → other.progress ≡ reading (text_held other.progress)
       → text_held one.progress ≡ text_held other.progress → (items : List (Result Char Fault)) → events_left one.limits one.progress items ≡ events_left other.limits other.progress items
   pub behind : (one other : HeaderStageState) → IsBehind one.progress → IsBehind other.progress
       → (items : List (Result Char Fault)) → events_left one.limits one.progress items ≡ events_left other.limits other.progress items
-  pub within : (s : ScoreStageState) → MayStand s → is_some (before_of s) ≡ true → IsToldWithin s
-  pub scores : (one other : ScoreStageState) → MayStand one → MayStand other → AreSavedAlike one other → GoesOnAlikeInLine one other
-  pub written : (one other : ScoreStageState) → MayStand one → MayStand other → GoesOnAlikeInLine one other → AreWrittenAlike (held_of one) (held_of other)
+  pub within : (s : ScoreStageState) → IsReachable s → is_some (before_of s) ≡ true → ReportsWithin s
+  pub scores : (one other : ScoreStageState) → IsReachable one → IsReachable other → AreSavedAlike one other → GoesOnEquivalentlyInLine one other
+  pub written : (one other : ScoreStageState) → IsReachable one → IsReachable other → GoesOnEquivalentlyInLine one other → AreWrittenAlike (held_of one) (held_of other)
 
-module _ (parts : PartsAgree) (one other : EngineState) (may : MayRun one) (may_too : MayRun other) (name : one.written.name ≡ other.written.name) (same : state_of one ≡ state_of other) where
+module _ (parts : PartsAgree) (one other : EngineState) (may : CanRun one) (may_too : CanRun other) (name : one.written.name ≡ other.written.name) (same : state_of one ≡ state_of other) where
   abbrev Agree : Type 0
   Agree = (ending : SourceEnding) (bytes : List ℕ) → streams_left one ending bytes ≡ streams_left other ending bytes
 
@@ -77,10 +77,10 @@ module _ (parts : PartsAgree) (one other : EngineState) (may : MayRun one) (may_
 -- ---- an engine shows its parts
 
 pub may_run : (d : DecoderState) (h : HeaderStageState) (from_heads : BoundedList HeadEvent) (w : ScoreWriterState) (e : EngineState) → IsEngine d h from_heads w → shown d h w ≡ e → is_running e ≡ true
-    → MayBeTold d.limit d.taken d.place d.pending (is_after_cr d) → MayStand w.score → MayRun e
+    → MayBeReported d.limit d.taken d.place d.pending (is_after_cr d) → IsReachable w.score → CanRun e
 may_run d h from_heads w e is view running decoder score =
     let runs = ap (λ (s : EngineState). is_running s) view ∙ running in
-    subst MayRun view (record {
+    subst CanRun view (record {
       runs = runs;
       step = is.step.runs runs;
       force = is.step.force;

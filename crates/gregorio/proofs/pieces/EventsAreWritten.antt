@@ -5,15 +5,17 @@ use Rattle.gabc_headers.specs.declared.head_event.HeadEvent.{HeadEvent}
 use Rattle.gabc_headers.specs.declared.head_event.HeadEvent.TheVariants as head_event
 use Rattle.gabc_score.specs.ScoreEvents.{ScoreOutput}
 use Rattle.gabc_score.specs.witness.ScoreStage.{left_of}
-use Rattle.gregorio.specs.Streams.{Streams, behind_bytes}
-use Rattle.gregorio.specs.witness.Engine.{Written, behind_outputs, is_before_heads, is_heads, lines_of_outputs, streams_from, text_of_heads, texts_of_outputs, writes_heads}
+use Rattle.gabc_headers.proofs.stages.CharactersOfAStage.{nothing_added}
+use Rattle.gabc_score.proofs.score_events.OutputsOfLentSyllables.{then_more}
+use Rattle.gregorio.specs.Streams.{Streams, after_bytes}
+use Rattle.gregorio.specs.witness.Engine.{Written, after_outputs, is_before_heads, is_heads, lines_of_outputs, streams_from, text_of_heads, texts_of_outputs, writes_heads}
 use Rattle.gregorio.specs.machine.InStep.{PassesAll, TakesEvent, TakesEvents, written_at}
 use Rattle.gregorio.specs.machine.RunWriter.{RunWriterState, heads_at}
 use Rattle.gregorio.specs.machine.ScoreWriter.{ScoreWriterState, FitsEvents, IsBookAt, IsSteady, WritesAt, streams_of}
 use Rattle.gregorio.specs.machine.Engine.{WritesAll, headed_past}
 use Rattle.gregorio.proofs.StreamsOfOutputs.{headed_stays}
 use Rattle.gregorio.proofs.pieces.RoomIsLeft.{room_for_first}
-use Rattle.gregorio.proofs.pieces.BytesAreJoined.{behind_both, extended_by_none, extended_by_both}
+use Rattle.gregorio.proofs.pieces.BytesAreJoined.{with_both_after}
 use Rattle.gregorio.proofs.pieces.WrittenGoesOn.{not_written, steady_past}
 
 -- ---- an event
@@ -45,12 +47,12 @@ module _ (x : HeadEvent) (read : List (List ℕ × List ℕ)) (old new : ScoreWr
       record {
         output = heads ++ texts;
         lines = lines;
-        out = extended_by_both old.writer.out (heads_at old.writer x read).out new.writer.out heads texts refl (ap (λ (u : RunWriterState). u.out) t.writer);
+        out = then_more old.writer.out (heads_at old.writer x read).out new.writer.out heads texts refl (ap (λ (u : RunWriterState). u.out) t.writer);
         messages = ap (λ (u : RunWriterState). u.messages) t.writer;
         law = λ book from_heads same.
             ap (λ (lists : List (List ScoreOutput)). streams_from w book (x ∷ from_heads) lists) (t.law from_heads)
-            ∙ (ap (λ (text : List ℕ). behind_bytes (text ++ texts) lines (streams_from (behind_outputs v outputs) book from_heads (left_of new.score from_heads))) (same_text x w book read same)
-            ∙ ap (λ (u : Written). behind_bytes (heads ++ texts) lines (streams_from u book from_heads (left_of new.score from_heads))) (sym t.passes.written));
+            ∙ (ap (λ (text : List ℕ). after_bytes (text ++ texts) lines (streams_from (after_outputs v outputs) book from_heads (left_of new.score from_heads))) (same_text x w book read same)
+            ∙ ap (λ (u : Written). after_bytes (heads ++ texts) lines (streams_from u book from_heads (left_of new.score from_heads))) (sym t.passes.written));
       }
 
 -- ---- events
@@ -77,8 +79,8 @@ writes_none : (w : ScoreWriterState) (read : List (List ℕ × List ℕ)) → Wr
 writes_none w read = record {
   output = [];
   lines = [];
-  out = extended_by_none w.writer.out;
-  messages = extended_by_none w.writer.messages;
+  out = nothing_added w.writer.out;
+  messages = nothing_added w.writer.messages;
   law = λ book from_heads same. refl;
 }
 
@@ -86,18 +88,18 @@ writes_next : (x : HeadEvent) (events : List HeadEvent) (read : List (List ℕ �
 writes_next x events read old mid new a b = record {
   output = a.output ++ b.output;
   lines = a.lines ++ b.lines;
-  out = extended_by_both old.writer.out mid.writer.out new.writer.out a.output b.output a.out b.out;
-  messages = extended_by_both old.writer.messages mid.writer.messages new.writer.messages a.lines b.lines a.messages b.messages;
+  out = then_more old.writer.out mid.writer.out new.writer.out a.output b.output a.out b.out;
+  messages = then_more old.writer.messages mid.writer.messages new.writer.messages a.lines b.lines a.messages b.messages;
   law = λ book from_heads same. a.law book (events ++ from_heads) same.0
-      ∙ (ap (λ (s : Streams). behind_bytes a.output a.lines s) (b.law book from_heads same.1)
-      ∙ sym (behind_both a.output a.lines b.output b.lines (streams_of new book from_heads)));
+      ∙ (ap (λ (s : Streams). after_bytes a.output a.lines s) (b.law book from_heads same.1)
+      ∙ sym (with_both_after a.output a.lines b.output b.lines (streams_of new book from_heads)));
 }
 
 pub writes_all : (events : List HeadEvent) (read : List (List ℕ × List ℕ)) (old new : ScoreWriterState) → TakesEvents old events read new → WritesAll old events read new
 writes_all [] read old new all = subst (λ (s : ScoreWriterState). WritesAll old [] read s) all (writes_none old read)
 writes_all (x ∷ events) read old new all = writes_next x events read old all.0 new (writes_event x read old all.0 all.1.0) (writes_all events read all.0 new all.1.1)
 
--- where the headers are not written at an event, and none come behind it
+-- where the headers are not written at an event, and none come after it
 unheaded_later : (headed before heads later now : Bool) → now ≡ (headed || (heads && before)) → (headed || (heads || later)) ≡ false → (now || later) ≡ false
 unheaded_later false before false later now is h = ap (λ (b : Bool). b || later) is ∙ h
 unheaded_later false before true later now is h = absurd (cc h)

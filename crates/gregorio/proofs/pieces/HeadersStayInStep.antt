@@ -3,7 +3,7 @@ use Rattle.std.proofs.Common.{◌≡◌, ℕ, ◌+◌, ◌||◌, not, List, [], 
 use Rattle.std.proofs.lemmas.Bool.{false≢true}
 use Rattle.std.specs.List.{list_any}
 use Rattle.gabc_places.specs.DecoderMachine.{DecoderState}
-use Rattle.gabc_places.specs.DecoderTells.{MovesOn}
+use Rattle.gabc_places.specs.DecoderReports.{MovesOn}
 use Rattle.gabc_places.specs.declared.code.Fault.{Fault}
 use Rattle.gabc_places.specs.declared.code.Finding.{Finding}
 use Rattle.gabc_places.specs.declared.limits.Limits.{Limits}
@@ -24,10 +24,10 @@ use Rattle.gabc_score.specs.declared.score_machine.ScorePart.TheVariants as scor
 use Rattle.gabc_score.specs.Before.{no_syllable, with_placed}
 use Rattle.gabc_score.specs.ScoreEvents.{ScoreOutput, is_last, syllables_in}
 use Rattle.gabc_score.specs.ScoreStage.{Counts, most_whole, part_past}
-use Rattle.gabc_score.specs.ToldWithin.{whole_syllables}
+use Rattle.gabc_score.specs.ReportedWithin.{whole_syllables}
 use Rattle.gregorio.specs.declared.run_ending.RunEnding.{RunEnding}
 use Rattle.gregorio.specs.witness.Engine.{Written, is_heads}
-use Rattle.gabc_score.specs.ScoreTells.{StandsInFront}
+use Rattle.gabc_score.specs.ScoreReports.{IsInFront}
 use Rattle.gabc_score.specs.witness.ScoreStage.{ScoreStageState}
 use Rattle.gregorio.specs.machine.Telling.{TellsOn}
 use Rattle.gregorio.specs.machine.TellsInStep.{InHeads, IsInHeads}
@@ -263,5 +263,5 @@ headers_end h old new item limits unheaded part all headed =
     ends_with h.limits old new (record { yet = λ running. part running unheaded; unheaded = unheaded; same = sym limits }) headed h.progress item all
     (λ none. false≢true (sym (unheaded_all events old new all (ap (λ (b : Bool). b || list_any is_heads events) unheaded ∙ none)) ∙ headed))
 
-pub stands_in_front : (limits : Limits) (progress : HeadProgress) (item : Result Char Fault) (s : ScoreStageState) → HeadersEnd limits progress item s → StandsInFront s
+pub stands_in_front : (limits : Limits) (progress : HeadProgress) (item : Result Char Fault) (s : ScoreStageState) → HeadersEnd limits progress item s → IsInFront s
 stands_in_front limits progress item s e = e.end.tells.front e.end.part _ _ _ refl

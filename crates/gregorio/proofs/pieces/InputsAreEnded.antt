@@ -14,10 +14,11 @@ use Rattle.gabc_headers.specs.declared.heads.HeadFault.{HeadFault}
 use Rattle.gabc_headers.specs.Heads.{heads_of}
 use Rattle.gabc_headers.specs.declared.head_event.HeadEvent.{HeadEvent}
 use Rattle.gabc_headers.specs.witness.HeadEvents.{HeaderStageState, HeadProgress, reading, behind, over, events_at_end, events_of_end, stage_at}
+use Rattle.gabc_score.proofs.score_events.OutputsOfLentSyllables.{then_more}
 use Rattle.gregorio.specs.declared.source_ending.SourceEnding.{SourceEnding}
 use Rattle.gregorio.specs.declared.source_ending.SourceEnding.TheVariants.{Whole as Ended}
 use Rattle.gregorio.specs.declared.run_ending.RunEnding.{RunEnding}
-use Rattle.gregorio.specs.Streams.{Streams, behind_bytes, ended_with}
+use Rattle.gregorio.specs.Streams.{Streams, after_bytes, ended_with}
 use Rattle.gregorio.specs.Engine.{fault_of}
 use Rattle.gregorio.specs.witness.Engine.{EngineState, ceased_ending, ended_by, fault_of_ending, status_of_ending, streams_left}
 use Rattle.gregorio.specs.machine.ScoreWriter.{ScoreWriterState, IsOver, IsReserved, IsSteady, WritesLast, streams_of}
@@ -25,7 +26,7 @@ use Rattle.gregorio.specs.machine.Engine.{AreBooksAt, GoTogether, IsEngine, IsNo
 use Rattle.gregorio.proofs.StreamsOfOutputs.{over_is_last}
 use Rattle.gregorio.specs.machine.InStep.{HasForce}
 use Rattle.gregorio.proofs.pieces.BytesAreTaken.{over_left}
-use Rattle.gregorio.proofs.pieces.BytesAreJoined.{behind_both, extended_by_both, waits_now}
+use Rattle.gregorio.proofs.pieces.BytesAreJoined.{with_both_after, waits_now}
 use Rattle.gregorio_jobs.specs.declared.job.Status.{Status}
 
 -- these streams are what was written between two states, and nothing follows
@@ -34,31 +35,31 @@ pub record EndsWith (s : Streams) (old new : ScoreWriterState) (how : RunEnding)
   pub lines : List ℕ
   pub out : new.writer.out ≡ extended_by old.writer.out output
   pub messages : new.writer.messages ≡ extended_by old.writer.messages lines
-  pub law : s ≡ behind_bytes output lines (ended_by how)
+  pub law : s ≡ after_bytes output lines (ended_by how)
 
-ends_behind : (s t : Streams) (old mid new : ScoreWriterState) (how : RunEnding) (output lines : List ℕ) → mid.writer.out ≡ extended_by old.writer.out output
-    → mid.writer.messages ≡ extended_by old.writer.messages lines → s ≡ behind_bytes output lines t → EndsWith t mid new how → EndsWith s old new how
-ends_behind s t old mid new how output lines out messages law e = record {
+ends_after_it : (s t : Streams) (old mid new : ScoreWriterState) (how : RunEnding) (output lines : List ℕ) → mid.writer.out ≡ extended_by old.writer.out output
+    → mid.writer.messages ≡ extended_by old.writer.messages lines → s ≡ after_bytes output lines t → EndsWith t mid new how → EndsWith s old new how
+ends_after_it s t old mid new how output lines out messages law e = record {
   output = output ++ e.output;
   lines = lines ++ e.lines;
-  out = extended_by_both old.writer.out mid.writer.out new.writer.out output e.output out e.out;
-  messages = extended_by_both old.writer.messages mid.writer.messages new.writer.messages lines e.lines messages e.messages;
-  law = law ∙ (ap (λ (x : Streams). behind_bytes output lines x) e.law ∙ sym (behind_both output lines e.output e.lines (ended_by how)));
+  out = then_more old.writer.out mid.writer.out new.writer.out output e.output out e.out;
+  messages = then_more old.writer.messages mid.writer.messages new.writer.messages lines e.lines messages e.messages;
+  law = law ∙ (ap (λ (x : Streams). after_bytes output lines x) e.law ∙ sym (with_both_after output lines e.output e.lines (ended_by how)));
 }
 
 pub ends_last : (w new : ScoreWriterState) (how : RunEnding) (book : List (List ℕ × List ℕ)) → WritesLast w new how → EndsWith (streams_of w book []) w new how
 ends_last w new how book a = record { output = a.output; lines = a.lines; out = a.out; messages = a.messages; law = a.law book }
 
 pub ends_now : (s : Streams) (w new : ScoreWriterState) (how : RunEnding) → EndsWith s w new how → w.writer.out.items ≡ [] → w.writer.messages.items ≡ []
-    → s ≡ behind_bytes new.writer.out.items new.writer.messages.items (ended_by how)
+    → s ≡ after_bytes new.writer.out.items new.writer.messages.items (ended_by how)
 ends_now s w new how e output messages =
     e.law
-    ∙ (ap (λ (o : List ℕ). behind_bytes o e.lines (ended_by how)) (sym (waits_now w.writer.out new.writer.out e.output output e.out))
-    ∙ ap (λ (l : List ℕ). behind_bytes new.writer.out.items l (ended_by how)) (sym (waits_now w.writer.messages new.writer.messages e.lines messages e.messages)))
+    ∙ (ap (λ (o : List ℕ). after_bytes o e.lines (ended_by how)) (sym (waits_now w.writer.out new.writer.out e.output output e.out))
+    ∙ ap (λ (l : List ℕ). after_bytes new.writer.out.items l (ended_by how)) (sym (waits_now w.writer.messages new.writer.messages e.lines messages e.messages)))
 
--- ---- behind the end
+-- ---- after the end
 
--- the status and the fault of a run that is over tell how it ended
+-- the status and the fault of a run that is over say how it ended
 pub ended_as : (how : RunEnding) (status : Status) (ended : Option RunEnding) → status ≡ status_of_ending how → ended ≡ Some how → ended_by how ≡ ended_with status (fault_of_ending (ceased_ending ended))
 ended_as how status ended told is =
     ap (λ (s : Status). ended_with s (fault_of_ending how)) (sym told) ∙ ap (λ (o : Option RunEnding). ended_with status (fault_of_ending (ceased_ending o))) (sym is)
@@ -80,7 +81,7 @@ over_together h old new how together steady o = record {
   short = together.short;
 }
 
--- with that stage behind its last event too
+-- with that stage after its last event too
 pub over_stage : (h : HeaderStageState) (old new : ScoreWriterState) (how : RunEnding) → GoTogether h old → IsSteady old new → IsOver new.writer.written new.score how → GoTogether (stage_at h over) new
 over_stage h old new how together steady o = record { limits = together.limits ∙ sym steady.limits; headed = λ e. inr (over_is_settled new how o); book = tt; short = together.short }
 
@@ -113,7 +114,7 @@ no_books_at_end limits over book read = tt
 pub ends_given : (h : HeaderStageState) (w mid new : ScoreWriterState) (how : RunEnding) (from_heads : List HeadEvent) (read : List (List ℕ × List ℕ)) → from_heads ≡ events_of_end h.limits h.progress
     → WritesAll w from_heads read mid → WritesLast mid new how → EndsWith (streams_of_items h w Ended []) w new how
 ends_given h w mid new how from_heads read is a last =
-    ends_behind (streams_of_items h w Ended []) (streams_of mid h.book []) w mid new how a.output a.lines a.out a.messages
+    ends_after_it (streams_of_items h w Ended []) (streams_of mid h.book []) w mid new how a.output a.lines a.out a.messages
     (ap (λ (events : List HeadEvent). streams_of w h.book (events ++ [])) (sym is)
     ∙ a.law h.book [] (subst (λ (events : List HeadEvent). AreBooksAt events h.book read) (sym is) (no_books_at_end h.limits h.progress h.book read)))
     (ends_last mid new how h.book last)
@@ -122,7 +123,7 @@ pub ends_items : (d : DecoderState) (h now : HeaderStageState) (w mid new : Scor
     → decoder.events_left d [] ≡ items ∷ [] → WritesItems h w items now mid → EndsWith (streams_of_items now mid Ended []) mid new how
     → EndsWith (streams_of_items h w Ended (concat_of (decoder.events_left d []))) w new how
 ends_items d h now w mid new how items law a e =
-    ends_behind (streams_of_items h w Ended (concat_of (decoder.events_left d []))) (streams_of_items now mid Ended []) w mid new how a.output a.lines a.out a.messages
+    ends_after_it (streams_of_items h w Ended (concat_of (decoder.events_left d []))) (streams_of_items now mid Ended []) w mid new how a.output a.lines a.out a.messages
     (ap (λ (lists : List (List (Result Char Fault))). streams_of_items h w Ended (concat_of lists)) law ∙ a.law Ended [])
     e
 

@@ -1,4 +1,4 @@
--- An item that is read, by way of the stage of headers or behind the line `%%` without it, brings what was to come for it.
+-- An item that is read, by way of the stage of headers or after the line `%%` without it, brings what was to come for it.
 use Rattle.std.proofs.Common.{◌≡◌, ℕ, ◌⊎◌, inl, inr, List, [], ◌∷◌, ◌++◌, map, Bool, true, false, ◌||◌, cond, Result, Ok, Err, refl, ap, sym, ◌∙◌, subst}
 use Rattle.std.proofs.lemmas.Bool.{true≢false}
 use Rattle.std.specs.List.{list_any}
@@ -16,14 +16,15 @@ use Rattle.gabc_headers.specs.Heads.{heads_of}
 use Rattle.gabc_headers.specs.HeadEvents.{event_of_book}
 use Rattle.gabc_headers.specs.witness.HeadEvents.{HeaderStageState, HeadProgress, reading, behind, over, IsBehind, book_at, events_by, events_of_input, new_findings, progress_after, progress_by, stage_after, stage_past}
 use Rattle.gabc_score.specs.witness.ScoreStage.{ScoreStageState, left_of}
+use Rattle.gabc_headers.proofs.stages.CharactersOfAStage.{nothing_added}
 use Rattle.gregorio.specs.declared.source_ending.SourceEnding.{SourceEnding}
 use Rattle.gregorio.specs.declared.source_ending.SourceEnding.TheVariants.{Whole as Ended, Broken}
-use Rattle.gregorio.specs.Streams.{Streams, behind_bytes}
+use Rattle.gregorio.specs.Streams.{Streams, after_bytes}
 use Rattle.gregorio.specs.witness.Engine.{book_behind, head_events_left, is_heads, streams_in}
 use Rattle.gregorio.specs.machine.ScoreWriter.{ScoreWriterState, IsBookAt, IsShortBook, IsSteady, WritesAt, streams_of}
 use Rattle.gregorio.specs.machine.Engine.{AreBooksAt, GoTogether, IsBookRead, IsSettled, WritesAll, WritesItems, event_of_item, headed_past}
 use Rattle.gregorio.proofs.StreamsOfOutputs.{in_body}
-use Rattle.gregorio.proofs.pieces.BytesAreJoined.{behind_same, extended_by_none}
+use Rattle.gregorio.proofs.pieces.BytesAreJoined.{behind_same}
 
 -- ---- the stage of headers
 
@@ -42,12 +43,12 @@ past_behind limits hasher book (Ok c ∷ items) = past_behind limits hasher book
 past_behind limits hasher book (Err fault ∷ items) = past_over limits hasher book items
 
 -- each character is an input of the body
-pub inputs_behind : (limits : Limits) (hasher : DefaultHasher) (book : List (List ℕ × List ℕ)) (cs : List Char) (ending : SourceEnding) (more : List (Result Char Fault))
+pub inputs_after : (limits : Limits) (hasher : DefaultHasher) (book : List (List ℕ × List ℕ)) (cs : List Char) (ending : SourceEnding) (more : List (Result Char Fault))
     → (let h : HeaderStageState = record { limits = limits; progress = behind book; book = book; hasher = hasher } in
     head_events_left h ending (map (λ (c : Char). Ok c) cs ++ more) ≡ map (λ (c : Char). head_event.Body c) cs ++ head_events_left h ending more)
-inputs_behind limits hasher book [] ending more = refl
-inputs_behind limits hasher book (c ∷ cs) Ended more = ap (λ (events : List HeadEvent). head_event.Body c ∷ events) (inputs_behind limits hasher book cs Ended more)
-inputs_behind limits hasher book (c ∷ cs) Broken more = ap (λ (events : List HeadEvent). head_event.Body c ∷ events) (inputs_behind limits hasher book cs Broken more)
+inputs_after limits hasher book [] ending more = refl
+inputs_after limits hasher book (c ∷ cs) Ended more = ap (λ (events : List HeadEvent). head_event.Body c ∷ events) (inputs_after limits hasher book cs Ended more)
+inputs_after limits hasher book (c ∷ cs) Broken more = ap (λ (events : List HeadEvent). head_event.Body c ∷ events) (inputs_after limits hasher book cs Broken more)
 
 found_books : (fs : List Finding) (rest : List HeadEvent) (book read : List (List ℕ × List ℕ)) → AreBooksAt rest book read → AreBooksAt (map (λ f. head_event.Found f) fs ++ rest) book read
 found_books [] rest book read h = h
@@ -95,7 +96,7 @@ pub just_found : (fs : List Finding) → list_any is_heads (map (λ f. head_even
 just_found [] = refl
 just_found (f ∷ fs) = just_found fs
 
--- the stage of headers is behind the line `%%`, or no headers are whole among what it gives
+-- the stage of headers is after the line `%%`, or no headers are whole among what it gives
 behind_by : (t : List ℕ) (found : List Finding) (r : Result Heads HeadFault) → IsBehind (progress_by t r) ⊎ (list_any is_heads (events_by found r) ≡ false)
 behind_by t found (Ok heads) = inl tt
 behind_by t found (Err stopped) = inr (by stopped.at_end)
@@ -156,7 +157,7 @@ short_stage_after h w item heads_short together =
 
 -- ---- the body
 
--- behind a stop a stage of scores gives nothing
+-- after a stop a stage of scores gives nothing
 abbrev pub IsStopLast : Type 0
 IsStopLast = (s : ScoreStageState) (fault : Fault) (from_heads : List HeadEvent) → concat_of (left_of s (head_event.Stop fault ∷ from_heads)) ≡ concat_of (left_of s (head_event.Stop fault ∷ []))
 
@@ -172,7 +173,7 @@ no_book : (item : Result Char Fault) (book read : List (List ℕ × List ℕ)) �
 no_book (Ok c) book read = tt
 no_book (Err fault) book read = tt
 
--- where it is no matter what comes behind an event, it is none later
+-- where it is no matter what comes after an event, it is none later
 settled_behind : (w new : ScoreWriterState) (item : Result Char Fault) → WritesAt w (event_of_item item) [] new
     → ((book other : List (List ℕ × List ℕ)) (from_heads more : List HeadEvent) → streams_of w book (event_of_item item ∷ from_heads) ≡ streams_of w other (event_of_item item ∷ more)) → IsSettled new
 settled_behind w new item a same = λ book other from_heads more.
@@ -196,7 +197,7 @@ module _ (w new : ScoreWriterState) (item : Result Char Fault) (a : WritesAt w (
           law = λ ending more.
               settled (book_behind h (item ∷ more)) [] (head_events_left h ending (item ∷ more)) (event_of_item item ∷ [])
               ∙ (a.law [] [] (no_book item [] [])
-              ∙ ap (λ (s : Streams). behind_bytes a.output a.lines s) (after [] (book_behind h more) [] (head_events_left h ending more)));
+              ∙ ap (λ (s : Streams). after_bytes a.output a.lines s) (after [] (book_behind h more) [] (head_events_left h ending more)));
         };
         together = record { limits = together.limits ∙ sym steady.limits; headed = λ e. inr after; book = together.book; short = together.short };
       }
@@ -227,7 +228,7 @@ stop_read last h book w new fault progress a settled = record {
       ap (λ (from_heads : List HeadEvent). streams_of w (book_behind h (Err fault ∷ more)) from_heads)
       (given_next h ending (Err fault) more ∙ ap (λ (p : HeadProgress). events_of_input h.limits p (Err fault) ++ rest) progress)
       ∙ (a.law (book_behind h (Err fault ∷ more)) rest tt
-      ∙ ap (λ (s : Streams). behind_bytes a.output a.lines s) (settled (book_behind h (Err fault ∷ more)) (book_behind h more) rest (head_events_left h ending more)));
+      ∙ ap (λ (s : Streams). after_bytes a.output a.lines s) (settled (book_behind h (Err fault ∷ more)) (book_behind h more) rest (head_events_left h ending more)));
 }
 
 module _ (last : IsStopLast) (limits : Limits) (hasher : DefaultHasher) (w new : ScoreWriterState) (headed : w.writer.written.headed ≡ true) (steady : IsSteady w new) where
@@ -261,7 +262,7 @@ pub no_items : (h : HeaderStageState) (w : ScoreWriterState) → WritesItems h w
 no_items h w = record {
   output = [];
   lines = [];
-  out = extended_by_none w.writer.out;
-  messages = extended_by_none w.writer.messages;
+  out = nothing_added w.writer.out;
+  messages = nothing_added w.writer.messages;
   law = λ ending more. refl;
 }

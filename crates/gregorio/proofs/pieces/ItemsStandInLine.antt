@@ -1,4 +1,4 @@
--- The characters that an engine will still read stand one behind the other.
+-- The characters that an engine will still read stand one after the other.
 use Rattle.std.proofs.Common.{◌≡◌, ℕ, ◌+◌, ◌≤◌, ◌==◌, List, [], ◌∷◌, ◌++◌, length, take, drop, Bool, true, false, not, ◌&&◌, if◌then◌else◌, Option, Some, None, Result, Ok, Err, refl, sym, subst, arith}
 use Rattle.std.proofs.lemmas.Bool.Decides.{nat_tests}
 use Rattle.std.specs.Str.Lossy.{utf8_valid_len, utf8_error_len}
@@ -14,7 +14,7 @@ use Rattle.gabc_places.specs.declared.place.Place.{Place}
 use Rattle.gabc_places.specs.witness.DecoderEvents.{DecoderStep, events_left as decoded_left, stop_with, take_byte, take_end, take_pending}
 use Rattle.gabc_headers.specs.HeadEvents.{emitted_by}
 use Rattle.gabc_headers.specs.witness.HeadEvents.{HeadProgress, reading, behind, over, IsBehind, events_left}
-use Rattle.gabc_score.specs.ScoreStage.{StandInLine}
+use Rattle.gabc_score.specs.ScoreStage.{AreInLine}
 use Rattle.gregorio.specs.declared.source_ending.SourceEnding.{SourceEnding}
 use Rattle.gregorio.specs.declared.source_ending.SourceEnding.TheVariants.{Whole as Ended, Broken}
 use Rattle.gregorio.specs.Outcome.{is_whole}
@@ -55,7 +55,7 @@ module _ (rest : DecoderState → List (Result Char Fault)) (later : GoesOnInLin
       let near = h.near.near in
       record { near = record { column = h.near.column; near = omega (arith, near) }; within = below; most = h.most }
 
-  -- where a character is left out, and behind one that is given
+  -- where a character is left out, and after one that is given
   abbrev left_out : ℕ → DecoderState → DecoderState
   left_out c s = record (with_byte s) { previous = c }
 
@@ -122,37 +122,37 @@ decoded_in_line : (ending : SourceEnding) (bytes : List ℕ) (s : DecoderState) 
 decoded_in_line Ended bytes s h = all_in_line bytes s h
 decoded_in_line Broken bytes s h = first_in_line bytes s h
 
--- ---- what a stage behind the headers gives
+-- ---- what a stage after the headers gives
 
-over_in_line : (limits : Limits) (items : List (Result Char Fault)) (place : Place) → StandInLine place (concat_of (events_left limits over items))
+over_in_line : (limits : Limits) (items : List (Result Char Fault)) (place : Place) → AreInLine place (concat_of (events_left limits over items))
 over_in_line limits [] place = tt
 over_in_line limits (x ∷ items) place = over_in_line limits items place
 
-first_over_in_line : (limits : Limits) (items : List (Result Char Fault)) (place : Place) → StandInLine place (concat_of (take (length items) (events_left limits over items)))
+first_over_in_line : (limits : Limits) (items : List (Result Char Fault)) (place : Place) → AreInLine place (concat_of (take (length items) (events_left limits over items)))
 first_over_in_line limits [] place = tt
 first_over_in_line limits (x ∷ items) place = first_over_in_line limits items place
 
-body_in_line : (limits : Limits) (book : List (List ℕ × List ℕ)) (items : List (Result Char Fault)) (place : Place) → ItemsInLine place items → StandInLine place (concat_of (events_left limits (behind book) items))
+body_in_line : (limits : Limits) (book : List (List ℕ × List ℕ)) (items : List (Result Char Fault)) (place : Place) → ItemsInLine place items → AreInLine place (concat_of (events_left limits (behind book) items))
 body_in_line limits book [] place h = (tt, tt)
 body_in_line limits book (Ok x ∷ items) place h = (h.0, body_in_line limits book items (saturating_next_place x.place x.c) h.1)
 body_in_line limits book (Err fault ∷ items) place h = (tt, over_in_line limits items place)
 
 first_body_in_line : (limits : Limits) (book : List (List ℕ × List ℕ)) (items : List (Result Char Fault)) (place : Place) → ItemsInLine place items
-    → StandInLine place (concat_of (take (length items) (events_left limits (behind book) items)))
+    → AreInLine place (concat_of (take (length items) (events_left limits (behind book) items)))
 first_body_in_line limits book [] place h = tt
 first_body_in_line limits book (Ok x ∷ items) place h = (h.0, first_body_in_line limits book items (saturating_next_place x.place x.c) h.1)
 first_body_in_line limits book (Err fault ∷ items) place h = (tt, first_over_in_line limits items place)
 
 given_in_line : (limits : Limits) (progress : HeadProgress) (ending : SourceEnding) (items : List (Result Char Fault)) (place : Place) → IsBehind progress → ItemsInLine place items
-    → StandInLine place (emitted_by (is_whole ending) items (events_left limits progress items))
+    → AreInLine place (emitted_by (is_whole ending) items (events_left limits progress items))
 given_in_line limits (behind book) Ended items place is h = body_in_line limits book items place h
 given_in_line limits (behind book) Broken items place is h = first_body_in_line limits book items place h
 given_in_line limits (reading t) ending items place is h = absurd is
 given_in_line limits over ending items place is h = absurd is
 
--- Behind the headers the first of the characters stands where the decoder does.
+-- After the headers the first of the characters stands where the decoder does.
 pub left_in_line : (e : EngineState) → IsNear e.decoder.place e.decoder.taken → e.decoder.taken ≤ e.decoder.limit → e.decoder.limit ≤ 4294967295 → IsBehind e.heads.progress → (ending : SourceEnding) (bytes : List ℕ)
-    → StandInLine e.decoder.place (head_events_left e.heads ending (items_left e ending bytes))
+    → AreInLine e.decoder.place (head_events_left e.heads ending (items_left e ending bytes))
 left_in_line e near within most is ending bytes =
     given_in_line e.heads.limits e.heads.progress ending (items_left e ending bytes) e.decoder.place is
     (decoded_in_line ending bytes e.decoder (record { near = near; within = within; most = most }))

@@ -2,7 +2,7 @@
 use Rattle.std.proofs.Common.{rules, ◌≡◌, ℕ, ◌+◌, ◌-◌, ◌<◌, ◌≤◌, ◌⊎◌, ◌||◌, inl, inr, IsSome, List, [], ◌∷◌, ◌++◌, length, map, take, drop, Bool, true, false, if◌then◌else◌, Option, Some, None, Result, Ok, Err, codes, refl, ap, sym, subst, ◌∙◌, arith, append-nil, length-append, take-add}
 use Rattle.std.specs.List.{All, flat_map}
 use Rattle.gabc_score.specs.Syllable.{PlacedSyllable}
-use Rattle.gabc_score.specs.UnitRead.{HoldsSomeUnit}
+use Rattle.gabc_write.specs.SyllableRead.{IsWrittenAsOne}
 use Rattle.gabc_places.specs.StageLaw.{concat_of}
 use Rattle.gabc_places.specs.declared.code.Fault.{Fault}
 use Rattle.gabc_places.specs.declared.code.Finding.{Finding}
@@ -24,8 +24,8 @@ use Rattle.gregorio_jobs.specs.declared.job.Status.TheVariants.{ReadFault}
 use Rattle.gregorio.specs.declared.source_ending.SourceEnding.TheVariants.{Broken}
 use Rattle.gregorio.specs.Outcome.{fault_line, shown_line}
 use Rattle.gregorio.specs.Engine.{Brings, IsHeldText, IsPrompt, NothingWaits, is_running}
-use Rattle.gregorio.specs.witness.Engine.{EngineState, Written, behind_heads, behind_output, behind_outputs, book_behind, ceased_ending, first_list, head_events_left, items_left, lines_of_outputs, status_of_ending, streams_from, streams_left, writes_heads}
-use Rattle.gregorio.specs.Streams.{Streams, count_behind, last_text, texts_behind}
+use Rattle.gregorio.specs.witness.Engine.{EngineState, Written, after_heads, after_output, after_outputs, book_behind, ceased_ending, first_list, head_events_left, items_left, lines_of_outputs, status_of_ending, streams_from, streams_left, writes_heads}
+use Rattle.gregorio.specs.Streams.{Streams, count_after, last_text, texts_after}
 use Rattle.gregorio.specs.machine.ScoreWriter.{IsOver, IsSilent}
 use Rattle.gregorio.proofs.StreamsOfOutputs.{concat_first, first_false, said, second_empty, second_false}
 use Rattle.gregorio.proofs.pieces.BytesAreTaken.{GivesNoLast, broken_is_said, goes_on, none_wait, over_left}
@@ -33,19 +33,20 @@ use Rattle.gregorio.proofs.pieces.BytesAreTaken.{GivesNoLast, broken_is_said, go
 -- ---- what is held
 
 -- where the headers are not written, nothing is
-held_text : (lines : ℕ) (headed : Bool) (w : Written) (outputs : List ScoreOutput) → w.headed ≡ headed → has_end outputs ≡ false → length (syllables_in outputs) ≤ 1
-    → All (λ (s : PlacedSyllable). HoldsSomeUnit lines s.made) (syllables_in outputs)
+held_text : (lines macros : ℕ) (headed : Bool) (w : Written) (outputs : List ScoreOutput) → w.headed ≡ headed → has_end outputs ≡ false → length (syllables_in outputs) ≤ 1
+    → All (λ (s : PlacedSyllable). IsWrittenAsOne lines macros s.made) (syllables_in outputs)
     → ((said w outputs).output ≡ []) ⊎ IsHeldText w.format (said w outputs).output
-held_text lines false w outputs headed end few noted = inl (ap (λ (b : Bool). if b then texts_behind w.format w.count w.force (syllables_in outputs) ++ last_text w.format (has_end outputs) (count_behind w.count (syllables_in outputs)) else []) headed)
-held_text lines true w outputs headed end few noted = inr (record {
+held_text lines macros false w outputs headed end few one = inl (ap (λ (b : Bool). if b then texts_after w.format w.count w.force (syllables_in outputs) ++ last_text w.format (has_end outputs) (count_after w.count (syllables_in outputs)) else []) headed)
+held_text lines macros true w outputs headed end few one = inr (record {
   count = w.count;
   force = w.force;
   held = syllables_in outputs;
   few = few;
   lines = lines;
-  noted = noted;
-  is = ap (λ (b : Bool). if b then texts_behind w.format w.count w.force (syllables_in outputs) ++ last_text w.format (has_end outputs) (count_behind w.count (syllables_in outputs)) else []) headed
-      ∙ ap (λ (whole : Bool). texts_behind w.format w.count w.force (syllables_in outputs) ++ last_text w.format whole (count_behind w.count (syllables_in outputs))) end;
+  macros = macros;
+  one = one;
+  is = ap (λ (b : Bool). if b then texts_after w.format w.count w.force (syllables_in outputs) ++ last_text w.format (has_end outputs) (count_after w.count (syllables_in outputs)) else []) headed
+      ∙ ap (λ (whole : Bool). texts_after w.format w.count w.force (syllables_in outputs) ++ last_text w.format whole (count_after w.count (syllables_in outputs))) end;
 })
 
 -- where a run is over, nothing is held
@@ -54,9 +55,9 @@ prompt_where_over s how is =
     subst (λ (streams : Streams). IsPrompt s.written.format streams) (sym (over_left s how is Broken [])) (record { messages = refl; output = inl refl })
 
 pub prompt_now : (s : EngineState) → GivesNoLast (concat_of (left_of s.score [])) → length (syllables_in (concat_of (left_of s.score []))) ≤ 1
-    → All (λ (p : PlacedSyllable). HoldsSomeUnit s.score.body.nabc_lines p.made) (syllables_in (concat_of (left_of s.score []))) → (IsSome s.written.ended → IsSilent s.score)
+    → All (λ (p : PlacedSyllable). IsWrittenAsOne s.score.body.nabc_lines s.score.body.macros p.made) (syllables_in (concat_of (left_of s.score []))) → (IsSome s.written.ended → IsSilent s.score)
     → IsPrompt s.written.format (streams_left s Broken [])
-prompt_now s gives few noted silent = by s.written.ended refl
+prompt_now s gives few one silent = by s.written.ended refl
   where
     by : (ended : Option RunEnding) → s.written.ended ≡ ended → IsPrompt s.written.format (streams_left s Broken [])
     by (Some how) ended = prompt_where_over s how (record { ended = ended; silent = silent (subst IsSome (sym ended) (search rules)) })
@@ -67,44 +68,40 @@ prompt_now s gives few noted silent = by s.written.ended refl
           messages =
               ap (λ (fs : List Finding). flat_map (shown_line w.name w.all_warnings) fs ++ fault_line w.name (fault_in outputs)) gives.findings
               ∙ ap (λ (fault : Option Fault). fault_line w.name fault) gives.stop;
-          output = held_text s.score.body.nabc_lines w.headed w outputs refl gives.end few noted;
+          output = held_text s.score.body.nabc_lines s.score.body.macros w.headed w outputs refl gives.end few one;
         })
 
 -- ---- the last byte
 
-one_less : (count more : ℕ) → 0 < more → count + more - 1 ≡ count + (more - 1)
-one_less count more some = omega (arith, some)
-
 -- the bytes before the last one of those taken after `count` bytes
-before_last : (piece rest : List ℕ) (count more : ℕ) → rest ≡ drop count piece → 0 < more → take (count + more - 1) piece ≡ take count piece ++ take (more - 1) rest
-before_last piece rest count more is some =
-    ap (λ (n : ℕ). take n piece) (one_less count more some) ∙ (take-add count (more - 1) piece ∙ ap (λ (xs : List ℕ). take count piece ++ take (more - 1) xs) (sym is))
+before_last : (piece : List ℕ) (count more : ℕ) → 0 < more → take (count + more - 1) piece ≡ take count piece ++ take (more - 1) (drop count piece)
+before_last piece count more some = ap (λ (n : ℕ). take n piece) (omega (arith, some)) ∙ take-add count (more - 1) piece
 
 -- where nothing waited
-pub prompt_further : (first now : EngineState) (piece rest : List ℕ) (count more : ℕ) → rest ≡ drop count piece → Brings first (take count piece) now → NothingWaits first → NothingWaits now
-    → 0 < more → now.written.format ≡ first.written.format → IsPrompt now.written.format (streams_left now Broken (take (more - 1) rest))
+pub prompt_further : (first now : EngineState) (piece : List ℕ) (count more : ℕ) → Brings first (take count piece) now → NothingWaits first → NothingWaits now
+    → 0 < more → now.written.format ≡ first.written.format → IsPrompt now.written.format (streams_left now Broken (take (more - 1) (drop count piece)))
     → IsPrompt first.written.format (streams_left first Broken (take (count + more - 1) piece))
-prompt_further first now piece rest count more is so_far none waits some format prompt =
-    let before = take (more - 1) rest in
+prompt_further first now piece count more so_far none waits some format prompt =
+    let before = take (more - 1) (drop count piece) in
     let same : streams_left first Broken (take (count + more - 1) piece) ≡ streams_left now Broken before
-    = ap (λ (xs : List ℕ). streams_left first Broken xs) (before_last piece rest count more is some)
+    = ap (λ (xs : List ℕ). streams_left first Broken xs) (before_last piece count more some)
     ∙ (sym (none_wait first none (streams_left first Broken (take count piece ++ before))) ∙ (so_far before Broken ∙ none_wait now waits (streams_left now Broken before))) in
     subst (λ (f : Format). IsPrompt f (streams_left first Broken (take (count + more - 1) piece))) format
     (subst (λ (s : Streams). IsPrompt now.written.format s) (sym same) prompt)
 
 -- whatever waits, the run ends the same
-pub ends_further : (first now : EngineState) (piece rest : List ℕ) (count more : ℕ) → rest ≡ drop count piece → Brings first (take count piece) now → 0 < more
-    → (streams_left now Broken (take (more - 1) rest)).status ≡ ReadFault → (streams_left first Broken (take (count + more - 1) piece)).status ≡ ReadFault
-ends_further first now piece rest count more is so_far some fault =
-    ap (λ (xs : List ℕ). (streams_left first Broken xs).status) (before_last piece rest count more is some)
-    ∙ (ap (λ (s : Streams). s.status) (so_far (take (more - 1) rest) Broken) ∙ fault)
+pub ends_further : (first now : EngineState) (piece : List ℕ) (count more : ℕ) → Brings first (take count piece) now → 0 < more
+    → (streams_left now Broken (take (more - 1) (drop count piece))).status ≡ ReadFault → (streams_left first Broken (take (count + more - 1) piece)).status ≡ ReadFault
+ends_further first now piece count more so_far some fault =
+    ap (λ (xs : List ℕ). (streams_left first Broken xs).status) (before_last piece count more some)
+    ∙ (ap (λ (s : Streams). s.status) (so_far (take (more - 1) (drop count piece)) Broken) ∙ fault)
 
 -- where a loop over a piece stops before its first step, the piece is empty
 pub took_some : (P : Type 0) (count n : ℕ) → (0 < count) ⊎ P → (P → n ≤ count) → 0 < n → 0 < count
 took_some P count n (inl some) stops more = some
 took_some P count n (inr p) stops more = omega (arith, stops p, more)
 
--- ---- a fault is told
+-- ---- a fault is reported
 
 not_empty : (a : List ℕ) (x : ℕ) (later rest : List ℕ) → (a ++ (x ∷ later)) ++ rest ≡ [] → ⊥
 not_empty a x later rest e =
@@ -118,11 +115,11 @@ first_empty [] b e = refl
 first_empty (x ∷ a) b e = absurd (cc e)
 
 -- where no line is written, and there is no end, the run goes on
-no_fault : (w : Written) (outputs : List ScoreOutput) → lines_of_outputs w outputs ≡ [] → has_end outputs ≡ false → (behind_outputs w outputs).ended ≡ w.ended
+no_fault : (w : Written) (outputs : List ScoreOutput) → lines_of_outputs w outputs ≡ [] → has_end outputs ≡ false → (after_outputs w outputs).ended ≡ w.ended
 no_fault w [] none end = refl
-no_fault w (Found f ∷ outputs) none end = no_fault (behind_output w (Found f)) outputs (second_empty (shown_line w.name w.all_warnings f) _ none) end
-no_fault w (Stop fault ∷ outputs) none end = absurd (not_empty (w.name ++ codes ":" ++ message_text fault.place fault.code) 10 [] (lines_of_outputs (behind_output w (Stop fault)) outputs) none)
-no_fault w (Syllable s ∷ outputs) none end = no_fault (behind_output w (Syllable s)) outputs none end
+no_fault w (Found f ∷ outputs) none end = no_fault (after_output w (Found f)) outputs (second_empty (shown_line w.name w.all_warnings f) _ none) end
+no_fault w (Stop fault ∷ outputs) none end = absurd (not_empty (w.name ++ codes ":" ++ message_text fault.place fault.code) 10 [] (lines_of_outputs (after_output w (Stop fault)) outputs) none)
+no_fault w (Syllable s ∷ outputs) none end = no_fault (after_output w (Syllable s)) outputs none end
 no_fault w (End ∷ outputs) none end = absurd (cc end)
 
 no_end_in_both : (xs ys : List HeadEvent) → HasNoEnd xs → HasNoEnd ys → HasNoEnd (xs ++ ys)
@@ -175,11 +172,11 @@ told w book [] lists end runs none =
     let outputs = concat_of lists in
     ap (λ (o : Option RunEnding). status_of_ending (ceased_ending o)) (no_fault w outputs (sym (append-nil (lines_of_outputs w outputs)) ∙ none) end ∙ runs)
 told w book (x ∷ from_heads) lists end runs none =
-    let v = behind_heads w (writes_heads w x) in
+    let v = after_heads w (writes_heads w x) in
     let outputs = first_list lists in
-    let rest = streams_from (behind_outputs v outputs) book from_heads (drop 1 lists) in
+    let rest = streams_from (after_outputs v outputs) book from_heads (drop 1 lists) in
     let ends : (has_end outputs || has_end (concat_of (drop 1 lists))) ≡ false = sym (ap has_end (concat_first lists) ∙ first_has_end outputs (concat_of (drop 1 lists))) ∙ end in
-    told (behind_outputs v outputs) book from_heads (drop 1 lists) (second_false (has_end outputs) _ ends)
+    told (after_outputs v outputs) book from_heads (drop 1 lists) (second_false (has_end outputs) _ ends)
     (no_fault v outputs (first_empty (lines_of_outputs v outputs) rest.messages none) (first_false (has_end outputs) _ ends) ∙ runs)
     (second_empty (lines_of_outputs v outputs) rest.messages none)
 

@@ -3,7 +3,7 @@ use Rattle.std.proofs.Common.{◌≡◌, ℕ, ◌+◌, ◌-◌, ◌^◌, ◌≤�
 use Rattle.std.proofs.lemmas.Bool.{false≢true}
 use Rattle.std.specs.List.{list_any}
 use Rattle.gabc_places.specs.DecoderMachine.{DecoderState, fresh_decoder}
-use Rattle.gabc_places.specs.DecoderTells.{MovesOn}
+use Rattle.gabc_places.specs.DecoderReports.{MovesOn}
 use Rattle.gabc_places.specs.Place.{next_place, saturating_next_place, is_line_feed}
 use Rattle.gabc_places.specs.declared.code.Fault.{Fault}
 use Rattle.gabc_places.specs.declared.limits.Limits.{Limits}
@@ -18,7 +18,7 @@ use Rattle.gabc_score.specs.declared.score_machine.ScorePart.TheVariants as scor
 use Rattle.gabc_score.specs.Before.{with_placed}
 use Rattle.gabc_score.specs.ScoreEvents.{ScoreOutput, is_last, syllables_in}
 use Rattle.gabc_score.specs.ScoreStage.{Counts, most_whole, part_past, preceding_past}
-use Rattle.gabc_score.specs.ToldWithin.{whole_syllables}
+use Rattle.gabc_score.specs.ReportedWithin.{whole_syllables}
 use Rattle.gabc_score.specs.witness.ScoreStage.{ScoreStageState}
 use Rattle.gregorio.specs.witness.Engine.{Written}
 use Rattle.gregorio.specs.machine.Engine.{event_of_item}

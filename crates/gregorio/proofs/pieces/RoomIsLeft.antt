@@ -64,7 +64,7 @@ room_before_end w events room =
 
 -- ---- the room that is reserved
 
--- these have room in the rooms that are reserved, and if nothing comes behind them, so has their end
+-- these have room in the rooms that are reserved, and if nothing comes after them, so has their end
 pub record AreFew (format : Format) (limit : ℕ) (ends : Bool) (events : List HeadEvent) : Type 0 where
   pub count : length events ≤ 3
   pub room : events_room format limit ends events ≤ syllable_room format limit + room_without_notes format limit + 103
@@ -76,10 +76,6 @@ heads_within false most = omega arith
 -- where no more waits than may before a step
 pub room_where_few_wait : (w : ScoreWriterState) → IsReserved w → length w.writer.out.items ≤ most_waiting w.score.limits → length w.writer.messages.items ≤ most_waiting w.score.limits → HasRoom w
 room_where_few_wait w reserved few few_lines = record { out = omega (arith, reserved.out, few); messages = omega (arith, reserved.messages, few_lines) }
-
-pub room_where_none_waits : (w : ScoreWriterState) → IsReserved w → w.writer.out.items ≡ [] → w.writer.messages.items ≡ [] → HasRoom w
-room_where_none_waits w reserved output messages =
-    room_where_few_wait w reserved (omega (arith, ap (λ (xs : List ℕ). length xs) output)) (omega (arith, ap (λ (xs : List ℕ). length xs) messages))
 
 pub leaves_room : (s : EngineState) → NothingWaits s → LeavesRoom s
 leaves_room s waits = record { output = omega (arith, ap (λ (xs : List ℕ). length xs) waits.output); messages = omega (arith, ap (λ (xs : List ℕ). length xs) waits.messages) }
@@ -188,7 +184,7 @@ room_for_end w room = λ limits progress.
 pub room_for_last : (w : ScoreWriterState) → HasRoom w → FitsEvents w true []
 room_for_last w room = room_for_few w true [] room (none_are_few w.writer.written.format w.score.limits.syllable true)
 
--- a fault behind the headers, and the end
+-- a fault after the headers, and the end
 pub room_for_stop : (w : ScoreWriterState) (item : Result Char Fault) → HasRoom w → IsNoCharacter (item ∷ []) → (limits : Limits) (progress : HeadProgress)
     → FitsEvents w true (event_of_item item ∷ events_of_end limits progress)
 room_for_stop w (Ok x) room none limits progress = absurd none

@@ -1,13 +1,12 @@
 -- A text at which a run of syllables is written brings these, and all parts of an engine stay in step.
-use Rattle.std.proofs.Common.{◌≡◌, ℕ, ◌+◌, ◌≤◌, inl, List, [], ◌∷◌, ◌++◌, length, map, take, true, false, Result, Ok, refl, ap, sym, subst, ◌∙◌, length-append, arith, IsUtf8}
+use Rattle.std.proofs.Common.{◌≡◌, ℕ, ◌+◌, ◌≤◌, inl, List, [], ◌∷◌, ◌++◌, length, map, take, true, false, Result, Ok, refl, ap, sym, subst, ◌∙◌, length-append, arith}
 use Rattle.std.proofs.Math.Seq.{take-append-add}
 use Rattle.std.proofs.lemmas.Bool.{false≢true}
-use Rattle.std.proofs.lemmas.Str.{encodes-chars, length-le-encodes}
 use Rattle.std.specs.Str.{chars}
 use Rattle.std.specs.declared.hash.DefaultHasher.{DefaultHasher}
 use Rattle.gabc_places.proofs.PushesAreOne.{joined-append}
 use Rattle.gabc_places.specs.DecoderMachine.{DecoderState, IsReached}
-use Rattle.gabc_places.specs.DecoderTells.{is_after_cr}
+use Rattle.gabc_places.specs.DecoderReports.{is_after_cr}
 use Rattle.gabc_places.specs.Place.{place_past, placed_characters_from}
 use Rattle.gabc_places.specs.StageLaw.{concat_of}
 use Rattle.gabc_places.specs.declared.code.Fault.{Fault}
@@ -20,13 +19,13 @@ use Rattle.gabc_headers.specs.declared.head_event.HeadEvent.{HeadEvent}
 use Rattle.gabc_headers.specs.witness.HeadEvents.{HeaderStageState, HeadProgress, IsBehind, behind, over, reading}
 use Rattle.gabc_score.specs.GivesSyllables.{next_after}
 use Rattle.gabc_score.specs.ScoreStage.{Counts}
-use Rattle.gabc_score.specs.ScoreTells.{StandsAt}
+use Rattle.gabc_score.specs.ScoreReports.{IsAt}
 use Rattle.gabc_score.specs.ScoreEvents.{Syllable}
 use Rattle.gabc_score.specs.Syllable.{PlacedSyllable}
 use Rattle.gabc_score.specs.Before.{with_placed}
 use Rattle.gabc_score.specs.declared.before.Preceding.{Preceding}
 use Rattle.gregorio.specs.Outcome.{is_whole}
-use Rattle.gregorio.specs.Streams.{behind_bytes}
+use Rattle.gregorio.specs.Streams.{after_bytes}
 use Rattle.gregorio.specs.declared.source_ending.SourceEnding.{SourceEnding}
 use Rattle.gregorio.specs.declared.source_ending.SourceEnding.TheVariants.{Whole as Ended, Broken}
 use Rattle.gregorio.specs.machine.Engine.{GoTogether, WritesItems, streams_of_items}
@@ -36,9 +35,9 @@ use Rattle.gregorio.specs.machine.RunWriter.{RunWriterState, TakesRuns, outputs_
 use Rattle.gregorio.specs.machine.ScoreWriter.{ScoreWriterState, WritesRun, streams_of}
 use Rattle.gregorio.specs.machine.TellsInStep.{IsTelling}
 use Rattle.gabc_neumes.specs.InForce.{nothing_in_force}
-use Rattle.gregorio.specs.witness.Engine.{behind_output, behind_outputs, Written, book_behind, head_events_left, lines_of_outputs, texts_of_outputs}
+use Rattle.gregorio.specs.witness.Engine.{after_output, after_outputs, Written, book_behind, head_events_left, lines_of_outputs, texts_of_outputs}
 use Rattle.gregorio.proofs.pieces.BytesAreTaken.{items_taken}
-use Rattle.gregorio.proofs.pieces.ItemsAreRead.{inputs_behind, past_behind}
+use Rattle.gregorio.proofs.pieces.ItemsAreRead.{inputs_after, past_behind}
 use Rattle.gregorio.proofs.pieces.PartsStayInStep.{IsInBody, in_body, one_part}
 use Rattle.gregorio.proofs.pieces.RunIsWritten.{run_counted, run_law, same_force, syllables_of}
 use Rattle.gregorio.proofs.pieces.TextOfHeaders.{headed_read}
@@ -64,10 +63,6 @@ pub record SkipsText (d : DecoderState) (text : List ℕ) (e : DecoderState) : T
   pub runs : e.running ≡ d.running
   pub cr : is_after_cr e ≡ false
 
--- a character has a byte or more
-pub fewer_characters : (text : List ℕ) → IsUtf8 text → length (chars text) ≤ length text
-fewer_characters text u = subst (λ (bytes : List ℕ). length (chars text) ≤ length bytes) (encodes-chars text u) (length-le-encodes (chars text))
-
 module _ (bytes more : List ℕ) (lists rest : List (List (Result Char Fault))) (items : List (Result Char Fault)) (one_each : length lists ≡ length bytes) (all : concat_of lists ≡ items) where
   first_whole : concat_of (lists ++ rest) ≡ items ++ concat_of rest
   first_whole = joined-append lists rest ∙ ap (λ (xs : List (Result Char Fault)). xs ++ concat_of rest) all
@@ -91,26 +86,26 @@ module _ (w new : ScoreWriterState) (at : Place) (t : List ℕ) (r : WritesRun w
       → (let h : HeaderStageState = record { limits = limits; progress = behind book; book = book; hasher = hasher } in
       let outputs = outputs_of_syllables r.syllables in
       streams_of_items h w ending (items_of at t ++ more)
-      ≡ behind_bytes (texts_of_outputs w.writer.written outputs) (lines_of_outputs w.writer.written outputs) (streams_of_items h new ending more))
+      ≡ after_bytes (texts_of_outputs w.writer.written outputs) (lines_of_outputs w.writer.written outputs) (streams_of_items h new ending more))
   run_behind limits hasher book ending more =
       let h : HeaderStageState = record { limits = limits; progress = behind book; book = book; hasher = hasher } in
       let all = items_of at t ++ more in
       ap (λ (b : List (List ℕ × List ℕ)). streams_of w b (head_events_left h ending all)) (past_behind limits hasher book all ∙ sym (past_behind limits hasher book more))
-      ∙ (ap (λ (from_heads : List HeadEvent). streams_of w (book_behind h more) from_heads) (inputs_behind limits hasher book (placed_characters_from at t) ending more)
+      ∙ (ap (λ (from_heads : List HeadEvent). streams_of w (book_behind h more) from_heads) (inputs_after limits hasher book (placed_characters_from at t) ending more)
       ∙ run_law w at t new r headed (book_behind h more) (head_events_left h ending more))
 
   run_in_body : (limits : Limits) (hasher : DefaultHasher) (progress : HeadProgress) (book : List (List ℕ × List ℕ)) (ending : SourceEnding) (more : List (Result Char Fault)) → IsBehind progress
       → (let h : HeaderStageState = record { limits = limits; progress = progress; book = book; hasher = hasher } in
       let outputs = outputs_of_syllables r.syllables in
       GoTogether h w → streams_of_items h w ending (items_of at t ++ more)
-      ≡ behind_bytes (texts_of_outputs w.writer.written outputs) (lines_of_outputs w.writer.written outputs) (streams_of_items h new ending more))
+      ≡ after_bytes (texts_of_outputs w.writer.written outputs) (lines_of_outputs w.writer.written outputs) (streams_of_items h new ending more))
   run_in_body limits hasher (reading t) book ending more is together = absurd is
   run_in_body limits hasher over book ending more is together = absurd is
   run_in_body limits hasher (behind other) book ending more is together =
       subst (λ (b : List (List ℕ × List ℕ)). let h : HeaderStageState = record { limits = limits; progress = behind b; book = book; hasher = hasher } in
       let outputs = outputs_of_syllables r.syllables in
       streams_of_items h w ending (items_of at t ++ more)
-      ≡ behind_bytes (texts_of_outputs w.writer.written outputs) (lines_of_outputs w.writer.written outputs) (streams_of_items h new ending more))
+      ≡ after_bytes (texts_of_outputs w.writer.written outputs) (lines_of_outputs w.writer.written outputs) (streams_of_items h new ending more))
       (sym together.book) (run_behind limits hasher book ending more)
 
   run_of_items : (h : HeaderStageState) → IsBehind h.progress → GoTogether h w → WritesItems h w (items_of at t) h new
@@ -123,18 +118,18 @@ module _ (w new : ScoreWriterState) (at : Place) (t : List ℕ) (r : WritesRun w
   }
 
 -- a syllable more is counted
-one_counted : (v : Written) (s : PlacedSyllable) → v.headed ≡ true → 1 ≤ (behind_output v (Syllable s)).count
+one_counted : (v : Written) (s : PlacedSyllable) → v.headed ≡ true → 1 ≤ (after_output v (Syllable s)).count
 one_counted v s headed = rw headed (omega arith)
 
-some_counted : (ss : List PlacedSyllable) (v : Written) → v.headed ≡ true → 1 ≤ v.count → 1 ≤ (behind_outputs v (outputs_of_syllables ss)).count
+some_counted : (ss : List PlacedSyllable) (v : Written) → v.headed ≡ true → 1 ≤ v.count → 1 ≤ (after_outputs v (outputs_of_syllables ss)).count
 some_counted [] v headed some = some
-some_counted (s ∷ ss) v headed some = some_counted ss (behind_output v (Syllable s)) headed (one_counted v s headed)
+some_counted (s ∷ ss) v headed some = some_counted ss (after_output v (Syllable s)) headed (one_counted v s headed)
 
 -- where no syllable is counted, none was written
-outset_force : (ss : List PlacedSyllable) (v : Written) → v.headed ≡ true → (v.count ≡ 0 → v.force ≡ nothing_in_force) → (behind_outputs v (outputs_of_syllables ss)).count ≡ 0
-    → (behind_outputs v (outputs_of_syllables ss)).force ≡ nothing_in_force
+outset_force : (ss : List PlacedSyllable) (v : Written) → v.headed ≡ true → (v.count ≡ 0 → v.force ≡ nothing_in_force) → (after_outputs v (outputs_of_syllables ss)).count ≡ 0
+    → (after_outputs v (outputs_of_syllables ss)).force ≡ nothing_in_force
 outset_force [] v headed was none = was none
-outset_force (s ∷ ss) v headed was none = absurd (let some = some_counted ss (behind_output v (Syllable s)) headed (one_counted v s headed) in omega (arith, some, none))
+outset_force (s ∷ ss) v headed was none = absurd (let some = some_counted ss (after_output v (Syllable s)) headed (one_counted v s headed) in omega (arith, some, none))
 
 -- ---- what an engine writes
 
@@ -147,12 +142,12 @@ module _ (d e : DecoderState) (h : HeaderStageState) (w new : ScoreWriterState) 
   inside = in_body h.progress w.score.part w.writer.written.headed takes.headed was.parts
 
   pub text_taken : GoTogether h w → (more : List ℕ) (ending : SourceEnding)
-      → behind_bytes w.writer.out.items w.writer.messages.items (streams_of_items h w ending (emitted_by (is_whole ending) (text ++ more) (decoder.events_left d (text ++ more))))
-      ≡ behind_bytes new.writer.out.items new.writer.messages.items (streams_of_items h new ending (emitted_by (is_whole ending) more (decoder.events_left e more)))
+      → after_bytes w.writer.out.items w.writer.messages.items (streams_of_items h w ending (emitted_by (is_whole ending) (text ++ more) (decoder.events_left d (text ++ more))))
+      ≡ after_bytes new.writer.out.items new.writer.messages.items (streams_of_items h new ending (emitted_by (is_whole ending) more (decoder.events_left e more)))
   text_taken together more ending =
       let rest = decoder.events_left e more in
       let items = items_of d.place (chars text) in
-      ap (λ (xs : List (Result Char Fault)). behind_bytes w.writer.out.items w.writer.messages.items (streams_of_items h w ending xs))
+      ap (λ (xs : List (Result Char Fault)). after_bytes w.writer.out.items w.writer.messages.items (streams_of_items h w ending xs))
       (ap (λ (lists : List (List (Result Char Fault))). emitted_by (is_whole ending) (text ++ more) lists) (skips.joined more)
       ∙ emitted_first text more skips.lists rest items skips.one_each skips.all ending)
       ∙ items_taken h h w new items (emitted_by (is_whole ending) more rest) ending (run_of_items w new d.place (chars text) r takes.headed h inside.behind_them together)
@@ -226,7 +221,7 @@ module _ (d e : DecoderState) (h : HeaderStageState) (w new : ScoreWriterState) 
             let b = before.body takes.headed fewer in
             record {
               next = gives.next ∙ (next_place d.place w.score.held.next (chars text) b.next ∙ sym skips.place);
-              told = gives.told (sym b.next) (λ body. subst (λ (place : Place). StandsAt place w.score.body.part) (sym b.next) (was.counts fewer body)) b.told;
+              told = gives.told (sym b.next) (λ body. subst (λ (place : Place). IsAt place w.score.body.part) (sym b.next) (was.counts fewer body)) b.told;
               holds = gives.holds b.holds;
               comment = λ cr. absurd (false≢true (sym skips.cr ∙ cr));
             };

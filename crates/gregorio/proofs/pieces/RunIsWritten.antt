@@ -19,11 +19,11 @@ use Rattle.gabc_score.specs.witness.ScoreStage.{left_of}
 use Rattle.gregorio_jobs.specs.declared.job.Format.{Format}
 use Rattle.gregorio_jobs.specs.declared.job.Format.TheVariants.{Gabc, Dump}
 use Rattle.gregorio.specs.declared.run_ending.RunEnding.{RunEnding}
-use Rattle.gregorio.specs.Streams.{Streams, behind_bytes, force_behind}
+use Rattle.gregorio.specs.Streams.{Streams, after_bytes, force_after}
 use Rattle.gregorio.specs.machine.ClefInForce.{HasClefOfSounds, IsClefIn}
 use Rattle.gregorio.specs.machine.RunWriter.{RunWriterState, TakesRuns, outputs_of_syllables}
 use Rattle.gregorio.specs.machine.ScoreWriter.{IsSilent, IsSteady, ScoreWriterState, WritesRun, streams_of}
-use Rattle.gregorio.specs.witness.Engine.{Written, behind_output, behind_outputs, lines_of_outputs, streams_in, texts_of_outputs}
+use Rattle.gregorio.specs.witness.Engine.{Written, after_output, after_outputs, lines_of_outputs, streams_in, texts_of_outputs}
 use Rattle.gregorio.proofs.pieces.WrittenGoesOn.{steady_past}
 use Rattle.gregorio.proofs.StreamsOfOutputs.{headed_stays, in_body, some_and_rest}
 
@@ -35,10 +35,10 @@ pub record IsCounted (w v : Written) : Type 0 where
   pub force : InForce
   pub is : v ≡ record w { count = count; force = force }
 
-pub counted_on : (ss : List PlacedSyllable) (w : Written) → IsCounted w (behind_outputs w (outputs_of_syllables ss))
+pub counted_on : (ss : List PlacedSyllable) (w : Written) → IsCounted w (after_outputs w (outputs_of_syllables ss))
 counted_on [] w = record { count = w.count; force = w.force; is = refl }
 counted_on (s ∷ ss) w =
-    let c = counted_on ss (behind_output w (Syllable s)) in
+    let c = counted_on ss (after_output w (Syllable s)) in
     record { count = c.count; force = c.force; is = c.is }
 
 pub syllables_of : (ss : List PlacedSyllable) → syllables_in (outputs_of_syllables ss) ≡ ss
@@ -46,12 +46,12 @@ syllables_of [] = refl
 syllables_of (s ∷ ss) = ap (λ (l : List PlacedSyllable). s ∷ l) (syllables_of ss)
 
 -- in canonical form nothing is in force that was not
-pub same_force : (ss : List PlacedSyllable) (w : Written) → w.format ≡ Gabc → (behind_outputs w (outputs_of_syllables ss)).force ≡ w.force
+pub same_force : (ss : List PlacedSyllable) (w : Written) → w.format ≡ Gabc → (after_outputs w (outputs_of_syllables ss)).force ≡ w.force
 same_force [] w canonical = refl
-same_force (s ∷ ss) w canonical = same_force ss (behind_output w (Syllable s)) canonical ∙ by w.headed
+same_force (s ∷ ss) w canonical = same_force ss (after_output w (Syllable s)) canonical ∙ by w.headed
   where
-    by : (headed : Bool) → (if headed then force_behind w.format w.force s else w.force) ≡ w.force
-    by true = ap (λ (f : Format). force_behind f w.force s) canonical
+    by : (headed : Bool) → (if headed then force_after w.format w.force s else w.force) ≡ w.force
+    by true = ap (λ (f : Format). force_after f w.force s) canonical
     by false = refl
 
 -- where nothing sounds in syllables and before them, nothing sounds before them
@@ -64,13 +64,13 @@ abbrev pub ClefStays : Type 0
 ClefStays = (outset : InForce) (s : PlacedSyllable) → sounds s.made ≡ false → (passed outset (steps_of_syllable s)).clef ≡ outset.clef
 
 -- where nothing sounds in syllables, they leave it
-same_clef : ClefStays → (ss : List PlacedSyllable) (w : Written) (p : Preceding) → (with_placed p ss).sounded ≡ false → (behind_outputs w (outputs_of_syllables ss)).force.clef ≡ w.force.clef
+same_clef : ClefStays → (ss : List PlacedSyllable) (w : Written) (p : Preceding) → (with_placed p ss).sounded ≡ false → (after_outputs w (outputs_of_syllables ss)).force.clef ≡ w.force.clef
 same_clef stays [] w p silent = refl
 same_clef stays (s ∷ ss) w p silent =
-    same_clef stays ss (behind_output w (Syllable s)) (with_one p s.made) silent
+    same_clef stays ss (after_output w (Syllable s)) (with_one p s.made) silent
     ∙ by w.headed w.format (or_parts p.sounded (sounds s.made) (earlier_silent ss (with_placed p (s ∷ [])) silent)).1
   where
-    by : (headed : Bool) (format : Format) → sounds s.made ≡ false → (if headed then force_behind format w.force s else w.force).clef ≡ w.force.clef
+    by : (headed : Bool) (format : Format) → sounds s.made ≡ false → (if headed then force_after format w.force s else w.force).clef ≡ w.force.clef
     by true Gabc none = refl
     by true Dump none = stays w.force s none
     by false format none = refl
@@ -100,7 +100,7 @@ module _ (old : ScoreWriterState) (at : Place) (t : List ℕ) (new : ScoreWriter
     clef_in : (part : ScorePart) → old.score.part ≡ part → IsClefIn part old.score.before.sounded old.writer.written.force.clef → IsClefIn part (with_placed old.score.before r.syllables).sounded new.writer.written.force.clef
     clef_in score_part.Heads e was =
         ap (λ (w : RunWriterState). w.written.force.clef) r.taken
-        ∙ ap (λ (ss : List PlacedSyllable). (behind_outputs old.writer.written (outputs_of_syllables ss)).force.clef) (r.gives.in_heads e) ∙ was
+        ∙ ap (λ (ss : List PlacedSyllable). (after_outputs old.writer.written (outputs_of_syllables ss)).force.clef) (r.gives.in_heads e) ∙ was
     clef_in score_part.Body e was = λ silent.
         ap (λ (w : RunWriterState). w.written.force.clef) r.taken ∙ same_clef stays r.syllables old.writer.written old.score.before silent ∙ was (earlier_silent r.syllables old.score.before silent)
     clef_in score_part.Over e was = tt
@@ -121,15 +121,15 @@ module _ (old : ScoreWriterState) (at : Place) (t : List ℕ) (new : ScoreWriter
 
   pub run_law : old.writer.written.headed ≡ true → (book : List (List ℕ × List ℕ)) (from_heads : List HeadEvent)
       → streams_of old book (text_inputs at t ++ from_heads)
-      ≡ behind_bytes (texts_of_outputs old.writer.written outputs) (lines_of_outputs old.writer.written outputs) (streams_of new book from_heads)
+      ≡ after_bytes (texts_of_outputs old.writer.written outputs) (lines_of_outputs old.writer.written outputs) (streams_of new book from_heads)
   run_law headed book from_heads =
       let v = old.writer.written in
       let rest = concat_of (left_of new.score from_heads) in
-      let same : new.writer.written ≡ behind_outputs v outputs = ap (λ (w : RunWriterState). w.written) r.taken in
-      let later : streams_of new book from_heads ≡ streams_in (behind_outputs v outputs) rest =
+      let same : new.writer.written ≡ after_outputs v outputs = ap (λ (w : RunWriterState). w.written) r.taken in
+      let later : streams_of new book from_heads ≡ streams_in (after_outputs v outputs) rest =
       in_body new.writer.written book from_heads (left_of new.score from_heads) (ap (λ (u : Written). u.headed) same ∙ (headed_stays v outputs ∙ headed))
       ∙ ap (λ (u : Written). streams_in u rest) same in
       in_body v book (text_inputs at t ++ from_heads) (left_of old.score (text_inputs at t ++ from_heads)) headed
       ∙ (ap (streams_in v) (given_first from_heads)
       ∙ (some_and_rest v outputs rest
-      ∙ ap (λ (s : Streams). behind_bytes (texts_of_outputs v outputs) (lines_of_outputs v outputs) s) (sym later)))
+      ∙ ap (λ (s : Streams). after_bytes (texts_of_outputs v outputs) (lines_of_outputs v outputs) s) (sym later)))

@@ -9,10 +9,10 @@ use Rattle.gabc_places.specs.declared.limits.Limits.{Limits}
 use Rattle.gabc_places.specs.declared.place.Place.{Place}
 use Rattle.gabc_headers.specs.witness.HeadEvents.{HeadProgress, reading, behind, over, IsBehind, events_left}
 use Rattle.gabc_neumes.specs.InForce.{InForce}
-use Rattle.gabc_score.specs.ScoreStage.{StandInLine}
-use Rattle.gabc_score.specs.ScoreTells.{StandsAt, before_of, before_with, held_of, in_body as in_body_of, openers_of}
+use Rattle.gabc_score.specs.ScoreStage.{AreInLine}
+use Rattle.gabc_score.specs.ScoreReports.{IsAt, before_of, before_with, held_of, in_body as in_body_of, openers_of}
 use Rattle.gabc_score.specs.Syllable.{UnplacedSyllable}
-use Rattle.gabc_score.specs.ToldWithin.{IsHeldWithin, IsToldWithin, written_behind}
+use Rattle.gabc_score.specs.ReportedWithin.{IsHeldWithin, ReportsWithin, written_after}
 use Rattle.gabc_score.specs.declared.before.Before.{Before}
 use Rattle.gabc_score.specs.declared.before.Preceding.{Preceding}
 use Rattle.gabc_score.specs.declared.score_machine.ScorePart.{ScorePart}
@@ -20,7 +20,7 @@ use Rattle.gabc_score.specs.witness.ScoreStage.{ScoreStageState, left_of}
 use Rattle.gregorio_state.specs.Fields.{PhaseFields, ScoreFields, StateFields, InHeaders, InScore}
 use Rattle.gregorio.specs.declared.source_ending.SourceEnding.{SourceEnding}
 use Rattle.gregorio.specs.Saved.{held_count, held_text, phase_fields, score_fields, state_of}
-use Rattle.gregorio.specs.witness.MayRun.{MayRun}
+use Rattle.gregorio.specs.witness.CanRun.{CanRun}
 use Rattle.gregorio.specs.witness.Engine.{EngineState, book_behind, head_events_left, items_left, streams_left}
 use Rattle.gregorio.specs.machine.InStep.{AreInOnePart}
 use Rattle.gabc_write.specs.SavedAlike.{AreSavedAlike}
@@ -36,9 +36,9 @@ use Rattle.gregorio.proofs.pieces.StreamsAgree.{no_matter_which_book_behind, str
 
 module _ (p q : Preceding) where
   abbrev HasText : Preceding → Option UnplacedSyllable → Type 0
-  HasText before held = IfSome held (λ m. 2 ≤ length (written_behind before m))
+  HasText before held = IfSome held (λ m. 2 ≤ length (written_after before m))
 
-  same_text : (m n : Option UnplacedSyllable) → HasText p m → HasText q n → held_text p m ≡ held_text q n → option_map (written_behind p) m ≡ option_map (written_behind q) n
+  same_text : (m n : Option UnplacedSyllable) → HasText p m → HasText q n → held_text p m ≡ held_text q n → option_map (written_after p) m ≡ option_map (written_after q) n
   same_text None None h k e = refl
   same_text (Some m) (Some n) h k e = ap (λ text. Some text) e
   same_text None (Some n) h k e = let l = ap (λ (bytes : List ℕ). length bytes) e in absurd (omega (arith, k, l))
@@ -50,7 +50,7 @@ module _ (p q : Preceding) where
   same_count None (Some n) h k e = let l = ap (λ (bytes : List ℕ). length bytes) e in absurd (omega (arith, k, l))
   same_count (Some m) None h k e = let l = ap (λ (bytes : List ℕ). length bytes) e in absurd (omega (arith, h, l))
 
-has_text : (limits : Limits) (p : Preceding) (held : Option UnplacedSyllable) → IfSome held (IsHeldWithin limits p) → IfSome held (λ m. 2 ≤ length (written_behind p m))
+has_text : (limits : Limits) (p : Preceding) (held : Option UnplacedSyllable) → IfSome held (IsHeldWithin limits p) → IfSome held (λ m. 2 ≤ length (written_after p m))
 has_text limits p None h = tt
 has_text limits p (Some m) h = h.some
 
@@ -72,7 +72,7 @@ phase_in_body (reading t) force s h = absurd h
 phase_in_body (behind book) force s h = refl
 phase_in_body over force s h = absurd h
 
--- a stage of headers is behind them, and the headers are written
+-- a stage of headers is after them, and the headers are written
 record IsBehindHeads (progress : HeadProgress) (part : ScorePart) (headed : Bool) : Type 0 where
   pub inside : IsInBody progress part
   pub written : headed ≡ true
@@ -83,24 +83,24 @@ body_by_phase (reading t) part headed force s f is parts = absurd (false≢true 
 body_by_phase (behind book) part headed force s f is parts = record { inside = record { behind_them = tt; body = parts.in_part }; written = parts.written_so }
 body_by_phase over part headed force s f is parts = absurd parts
 
--- In the body it tells of a text.
+-- In the body it reports of a text.
 pub record TellsThere (e : EngineState) : Type 0 where
   pub inside : IsInBody e.heads.progress e.score.part
   pub headed : e.written.headed ≡ true
   pub tells : TellsInBody e.decoder e.score
-  pub stands : StandsAt e.score.held.next e.score.body.part
+  pub stands : IsAt e.score.held.next e.score.body.part
 
-tells_there : (e : EngineState) → MayRun e → IsBehindHeads e.heads.progress e.score.part e.written.headed → TellsThere e
+tells_there : (e : EngineState) → CanRun e → IsBehindHeads e.heads.progress e.score.part e.written.headed → TellsThere e
 tells_there e run is =
     let tells = run.tells.body is.written run.decoder.within in
     record {
       inside = is.inside;
       headed = is.written;
       tells = tells;
-      stands = subst (λ (at : Place). StandsAt at e.score.body.part) (sym tells.next) (run.step.counts run.decoder.within is.inside.body);
+      stands = subst (λ (at : Place). IsAt at e.score.body.part) (sym tells.next) (run.step.counts run.decoder.within is.inside.body);
     }
 
-module _ (one other : EngineState) (run : MayRun one) (other_run : MayRun other) (headed : one.written.headed ≡ true) (same : state_of one ≡ state_of other) where
+module _ (one other : EngineState) (run : CanRun one) (other_run : CanRun other) (headed : one.written.headed ≡ true) (same : state_of one ≡ state_of other) where
   abbrev fields : ScoreFields
   fields = score_fields one.written.force one.score
 
@@ -113,28 +113,28 @@ module _ (one other : EngineState) (run : MayRun one) (other_run : MayRun other)
   pub there : TellsThere other
   there = tells_there other other_run (body_by_phase other.heads.progress other.score.part other.written.headed other.written.force other.score fields phase other_run.step.parts)
 
-  -- the characters that come stand one behind the other
-  pub come_in_line : (ending : SourceEnding) (bytes : List ℕ) → StandInLine one.score.held.next (head_events_left one.heads ending (items_left one ending bytes))
+  -- the characters that come stand one after the other
+  pub come_in_line : (ending : SourceEnding) (bytes : List ℕ) → AreInLine one.score.held.next (head_events_left one.heads ending (items_left one ending bytes))
   come_in_line ending bytes =
       let limit = run.step.limit in
       let most = one.score.limits.in_range.input_most in
-      subst (λ (at : Place). StandInLine at (head_events_left one.heads ending (items_left one ending bytes))) (sym here.tells.next)
+      subst (λ (at : Place). AreInLine at (head_events_left one.heads ending (items_left one ending bytes))) (sym here.tells.next)
       (left_in_line one (record { column = run.step.column; near = run.step.near }) run.decoder.within (omega (arith, limit, most)) here.inside.behind_them ending bytes)
 
   same_fields : fields ≡ score_fields other.written.force other.score
   same_fields = sym (ap (fields_in fields) phase) ∙ ap (fields_in fields) (phase_in_body other.heads.progress other.written.force other.score there.inside.behind_them)
 
-  module _ (within : IsToldWithin one.score) (other_within : IsToldWithin other.score) where
+  module _ (within : ReportsWithin one.score) (other_within : ReportsWithin other.score) where
     abbrev held : Option UnplacedSyllable
     held = held_of one.score
 
     abbrev other_held : Option UnplacedSyllable
     other_held = held_of other.score
 
-    some : IfSome held (λ m. 2 ≤ length (written_behind one.score.before m))
+    some : IfSome held (λ m. 2 ≤ length (written_after one.score.before m))
     some = has_text one.score.limits one.score.before held within.held
 
-    other_some : IfSome other_held (λ m. 2 ≤ length (written_behind other.score.before m))
+    other_some : IfSome other_held (λ m. 2 ≤ length (written_after other.score.before m))
     other_some = has_text other.score.limits other.score.before other_held other_within.held
 
     text : held_text one.score.before held ≡ held_text other.score.before other_held

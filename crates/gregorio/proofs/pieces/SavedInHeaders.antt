@@ -7,7 +7,7 @@ use Rattle.std.specs.List.{All}
 use Rattle.std.specs.Str.{chars}
 use Rattle.gabc_places.proofs.texts.CharactersOfStrings.{chars-encode}
 use Rattle.gabc_places.specs.DecoderMachine.{DecoderState}
-use Rattle.gabc_places.specs.DecoderTells.{TellTheSame}
+use Rattle.gabc_places.specs.DecoderReports.{ReportTheSame}
 use Rattle.gabc_places.specs.witness.DecoderEvents as decoder
 use Rattle.gabc_places.specs.TextOfAnInput.{IsTextCharacter}
 use Rattle.gabc_places.specs.declared.code.Fault.{Fault}
@@ -25,7 +25,7 @@ use Rattle.gregorio_state.specs.Fields.{PhaseFields, StateFields, InHeaders, InS
 use Rattle.gregorio.specs.declared.source_ending.SourceEnding.{SourceEnding}
 use Rattle.gregorio.specs.Saved.{phase_fields, state_of}
 use Rattle.gregorio.specs.Engine.{StillRuns}
-use Rattle.gregorio.specs.witness.MayRun.{MayRun}
+use Rattle.gregorio.specs.witness.CanRun.{CanRun}
 use Rattle.gregorio.specs.witness.Engine.{EngineState, book_behind, head_events_left, items_left, streams_from, streams_left}
 use Rattle.gregorio.specs.machine.InStep.{AreInOnePart, RunsInStep}
 use Rattle.gregorio.specs.machine.ReadsHeaders.{IsReadSoFar}
@@ -57,7 +57,7 @@ written_saved one other same name runs other_runs headed count force =
 
 -- ---- the decoder
 
-pub decoders_saved : (one other : EngineState) → state_of one ≡ state_of other → TellTheSame one.decoder other.decoder
+pub decoders_saved : (one other : EngineState) → state_of one ≡ state_of other → ReportTheSame one.decoder other.decoder
 decoders_saved one other same = record {
   taken = ap (λ (s : StateFields). s.taken) same;
   place = ap (λ (s : StateFields). s.place) same;
@@ -96,7 +96,7 @@ heads_by_phase (reading t) part headed force s text is parts = record { reads = 
 heads_by_phase (behind book) part headed force s text is parts = absurd (false≢true (ap is_in_headers is))
 heads_by_phase over part headed force s text is parts = absurd parts
 
--- the bytes of a text of an input tell its characters
+-- the bytes of a text of an input report its characters
 chars_back : (t : List ℕ) → All IsTextCharacter t → chars (encode_utf8_all t) ≡ t
 chars_back [] text = chars-nil
 chars_back (c ∷ t) text =
@@ -114,12 +114,12 @@ same_heads one other limits part other_part from_heads =
     ∙ (ap (λ (l : Limits). left_of (record one { part = score_part.Heads; limits = l }) from_heads) limits
     ∙ ap (λ (p : ScorePart). left_of (record other { part = p }) from_heads) (sym other_part))
 
--- Two decoders run under one limit, and tell the same.
+-- Two decoders run under one limit, and report the same.
 pub record AreDecodersAlike (one other : DecoderState) : Type 0 where
   pub runs : one.running ≡ true
   pub other_runs : other.running ≡ true
   pub limit : one.limit ≡ other.limit
-  pub told : TellTheSame one other
+  pub told : ReportTheSame one other
 
 pub decoders_alike : (one other : EngineState) → RunsInStep one.decoder one.heads one.score one.written → RunsInStep other.decoder other.heads other.score other.written → state_of one ≡ state_of other
     → AreDecodersAlike one.decoder other.decoder
@@ -140,7 +140,7 @@ pub record AreAlikeInHeads (one other : EngineState) : Type 0 where
   pub text : text_held one.heads.progress ≡ text_held other.heads.progress
   pub gives : (from_heads : List HeadEvent) → WriteTheSame one.score other.score from_heads
 
-pub saved_in_heads : (one other : EngineState) → MayRun one → MayRun other → one.written.headed ≡ false → one.written.name ≡ other.written.name → state_of one ≡ state_of other → AreAlikeInHeads one other
+pub saved_in_heads : (one other : EngineState) → CanRun one → CanRun other → one.written.headed ≡ false → one.written.name ≡ other.written.name → state_of one ≡ state_of other → AreAlikeInHeads one other
 saved_in_heads one other run other_run headed name same =
     let first = heads_by_written one.heads.progress one.score.part one.written.headed headed run.step.parts in
     let phase : phase_fields other.heads.progress other.written.force other.score ≡ InHeaders (encode_utf8_all (text_held one.heads.progress)) =

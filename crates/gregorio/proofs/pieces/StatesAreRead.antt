@@ -9,9 +9,9 @@ use Rattle.gabc_headers.specs.witness.HeadEvents.{HeadProgress, reading, behind,
 use Rattle.gabc_neumes.specs.InForce.{InForce}
 use Rattle.gabc_score.specs.Before.{preceding_of}
 use Rattle.gabc_score.specs.HeldAgain.{MayBeHeld}
-use Rattle.gabc_score.specs.ScoreTells.{before_with, held_of, reading_of}
+use Rattle.gabc_score.specs.ScoreReports.{before_with, held_of, reading_of}
 use Rattle.gabc_score.specs.Syllable.{UnplacedSyllable}
-use Rattle.gabc_score.specs.ToldWithin.{written_behind}
+use Rattle.gabc_score.specs.ReportedWithin.{written_after}
 use Rattle.gabc_score.specs.declared.before.Before.{Before}
 use Rattle.gabc_score.specs.declared.score_machine.ScorePart.TheVariants as score_part
 use Rattle.gabc_score.specs.witness.ReadAgain.{CanBeReadAgain}
@@ -24,13 +24,13 @@ use Rattle.gregorio.specs.SavedState.{AreOfState, IsHeldRead, IsPhaseRead, IsSco
 use Rattle.gregorio.specs.witness.Engine.{EngineState}
 use Rattle.gregorio.specs.machine.InStep.{AreInOnePart}
 use Rattle.gregorio.specs.machine.ReadsHeaders.{IsReadSoFar}
-use Rattle.gregorio.specs.witness.MayRun.{MayRun}
+use Rattle.gregorio.specs.witness.CanRun.{CanRun}
 use Rattle.gregorio.proofs.setting_down.KeptAsReported.{KeptAgain, KeptShort, ReadInText, is_reported_so, kept_read}
 
 -- ---- the syllable that is held
 
 module _ (force : InForce) (s : ScoreStageState) where
-  -- what it tells where this is held
+  -- what it says where this is held
   abbrev fields_with : Option UnplacedSyllable → ScoreFields
   fields_with held = record (score_fields force s) {
     syllables = s.before.syllables + held_count held;
@@ -52,9 +52,9 @@ module _ (force : InForce) (s : ScoreStageState) where
   held_is_read (Some m) by utf8 some = record {
     m = by.again;
     may =
-        subst (λ (b : Before). MayBeHeld s.limits b (chars (written_behind s.before m)) by.again) (sym (before_again m))
-        (subst (λ (t : List ℕ). MayBeHeld s.limits before t by.again) (chars_from_encodes by.text (written_behind s.before m) utf8 (sym by.bytes)) by.may);
-    is = subst (λ (b : Before). written_behind (preceding_of b) by.again ≡ written_behind s.before m) (sym (before_again m)) by.same_text;
+        subst (λ (b : Before). MayBeHeld s.limits b (chars (written_after s.before m)) by.again) (sym (before_again m))
+        (subst (λ (t : List ℕ). MayBeHeld s.limits before t by.again) (chars_from_encodes by.text (written_after s.before m) utf8 (sym by.bytes)) by.may);
+    is = subst (λ (b : Before). written_after (preceding_of b) by.again ≡ written_after s.before m) (sym (before_again m)) by.same_text;
   }
 
 -- ---- the text that is kept
@@ -79,7 +79,7 @@ module _ (e : EngineState) where
   phase_is_read (behind book) parts fields read score = score parts.written_so
   phase_is_read over parts fields read score = absurd parts
 
-  pub state_is_read : MayRun e → AreStateFields (state_of e) → (e.written.headed ≡ true → IsScoreRead e.score.limits (score_fields e.written.force e.score)) → IsPhaseRead e.score.limits (state_of e) (state_of e).phase
+  pub state_is_read : CanRun e → AreStateFields (state_of e) → (e.written.headed ≡ true → IsScoreRead e.score.limits (score_fields e.written.force e.score)) → IsPhaseRead e.score.limits (state_of e) (state_of e).phase
   state_is_read may fields score =
       phase_is_read e.heads.progress may.step.parts fields.phase (subst (λ (limits : Limits). IsReadSoFar limits e.heads.progress e.decoder.place e.written.errors) may.limits may.read) score
 
@@ -90,7 +90,7 @@ module _ (e : EngineState) where
   texts_in (behind book) headed parts fields = (fields.held.is_text.utf8, fields.kept.utf8)
   texts_in over headed parts fields = absurd parts
 
-  pub texts_are_utf8 : MayRun e → e.written.headed ≡ true → AreStateFields (state_of e) → IsUtf8 (held_text e.score.before (held_of e.score)) × IsUtf8 (reading_of e.score)
+  pub texts_are_utf8 : CanRun e → e.written.headed ≡ true → AreStateFields (state_of e) → IsUtf8 (held_text e.score.before (held_of e.score)) × IsUtf8 (reading_of e.score)
   texts_are_utf8 may headed fields = texts_in e.heads.progress headed may.step.parts fields.phase
 
   pub is_a_state : AreStateFields (state_of e) → IsPhaseRead e.score.limits (state_of e) (state_of e).phase → AreOfState (state_of e)

@@ -5,24 +5,25 @@ use Rattle.std.specs.Str.{chars}
 use Rattle.std.proofs.lemmas.Bool.Decides.{nat_tests}
 use Rattle.std.proofs.lemmas.List.Elements.{All-cons, All-head, All-nil, All-tail}
 use Rattle.std.proofs.lemmas.Str.{IsUtf8-append, IsUtf8-encode, IsUtf8-nil, chars-append, chars-nil}
-use Rattle.gabc_places.specs.DecoderTells.{MayBeTold, is_after_cr}
+use Rattle.gabc_places.specs.DecoderReports.{MayBeReported, is_after_cr}
 use Rattle.gabc_places.specs.TextOfAnInput.{IsPlain, IsText, IsTextCharacter}
 use Rattle.gabc_places.specs.declared.limits.Limits.{Limits}
 use Rattle.gabc_places.specs.declared.place.Place.{Place}
 use Rattle.gabc_places.proofs.texts.CharactersOfStrings.{chars-encode}
 use Rattle.gabc_headers.specs.HeldText.{IsHeld, IsWithinHeaders}
 use Rattle.gabc_headers.specs.witness.HeadEvents.{HeadProgress, reading, behind, over, IsInHeaders}
+use Rattle.gabc_score.proofs.resuming.ScoresAgree.{reads_in_body}
 use Rattle.gabc_score.specs.Canonical.{canonical}
-use Rattle.gabc_score.specs.ScoreTells.{before_of, before_with, held_in_body, held_of, in_body as in_body_of, openers_of}
+use Rattle.gabc_score.specs.ScoreReports.{before_of, before_with, held_in_body, held_of, in_body as in_body_of, openers_of}
 use Rattle.gabc_score.specs.Syllable.{UnplacedSyllable}
-use Rattle.gabc_score.specs.ToldWithin as told
-use Rattle.gabc_score.specs.ToldWithin.{IsToldWithin, TellsOfText, whole_syllables, written_behind}
+use Rattle.gabc_score.specs.ReportedWithin as told
+use Rattle.gabc_score.specs.ReportedWithin.{ReportsWithin, ReportsText, whole_syllables, written_after}
 use Rattle.gabc_score.specs.declared.before.Preceding.{Preceding}
 use Rattle.gabc_score.specs.declared.body_tells.Openers.{Openers}
 use Rattle.gabc_score.specs.declared.score_machine.ScorePart.{ScorePart}
 use Rattle.gabc_score.specs.declared.score_machine.ScorePart.TheVariants as score_part
 use Rattle.gabc_score.specs.witness.BodyStage.{BodyStageState}
-use Rattle.gabc_score.specs.witness.MayStand.{MayStand}
+use Rattle.gabc_score.specs.witness.IsReachable.{IsReachable}
 use Rattle.gabc_score.specs.witness.ScoreStage.{ScoreStageState}
 use Rattle.gregorio_state.specs.Conditions.{AreBeforeHeld, AreCounts, AreOpeners, ArePhaseFields, AreScoreFields, AreStateFields, BeginsWithLf, IsHeldWithin}
 use Rattle.gregorio_state.specs.Fields.{ScoreFields}
@@ -32,8 +33,7 @@ use Rattle.gregorio.specs.machine.InStep.{AreInOnePart}
 use Rattle.gregorio.specs.machine.ReadsHeaders.{IsReadSoFar}
 use Rattle.gregorio.specs.machine.TellsInStep.{TellsInBody}
 use Rattle.gregorio.specs.witness.Engine.{EngineState}
-use Rattle.gregorio.specs.witness.MayRun.{MayRun}
-use Rattle.gregorio.proofs.setting_down.KeptAsReported.{kept_told}
+use Rattle.gregorio.specs.witness.CanRun.{CanRun}
 
 -- ---- the bytes of a text
 
@@ -70,7 +70,7 @@ module _ (limits : Limits) (p : Preceding) where
   abbrev Within : Option UnplacedSyllable → Type 0
   Within held = IfSome held (told.IsHeldWithin limits p)
 
-  held_is_text : (held : Option UnplacedSyllable) → IfSome held (λ m. IsText (written_behind p m)) → IsText (held_text p held)
+  held_is_text : (held : Option UnplacedSyllable) → IfSome held (λ m. IsText (written_after p m)) → IsText (held_text p held)
   held_is_text None t = no_text
   held_is_text (Some m) t = t
 
@@ -116,10 +116,10 @@ score_in_body s body = in_body_told s.part s.body s.before body
 -- the laws of the parts
 pub record PartsTell : Type 0 where
   pub headers : (limits : Limits) (t : List ℕ) → 1 ≤ limits.header → IsHeld limits t → IsWithinHeaders limits.header (encode_utf8_all t)
-  pub within : (s : ScoreStageState) → MayStand s → is_some (before_of s) ≡ true → IsToldWithin s
-  pub held : (s : ScoreStageState) → MayStand s → TellsOfText s → IfSome (held_of s) (λ m. IsText (written_behind s.before m))
+  pub within : (s : ScoreStageState) → IsReachable s → is_some (before_of s) ≡ true → ReportsWithin s
+  pub held : (s : ScoreStageState) → IsReachable s → ReportsText s → IfSome (held_of s) (λ m. IsText (written_after s.before m))
 
-module _ (parts : PartsTell) (e : EngineState) (may : MayRun e) (line : IfSome e.written.force.clef (λ clef. (1 ≤ clef.line) × (clef.line ≤ 5))) (heights : length e.written.force.alters ≡ 15)
+module _ (parts : PartsTell) (e : EngineState) (may : CanRun e) (line : IfSome e.written.force.clef (λ clef. (1 ≤ clef.line) × (clef.line ≤ 5))) (heights : length e.written.force.alters ≡ 15)
     (clef : HasClefOfSounds e.score e.written) where
   module _ (body : e.score.part ≡ score_part.Body) (headed : e.written.headed ≡ true) where
     abbrev f : ScoreFields
@@ -128,13 +128,13 @@ module _ (parts : PartsTell) (e : EngineState) (may : MayRun e) (line : IfSome e
     abbrev held : Option UnplacedSyllable
     held = held_of e.score
 
-    within : IsToldWithin e.score
+    within : ReportsWithin e.score
     within = parts.within e.score may.score (score_in_body e.score body)
 
     in_step : TellsInBody e.decoder e.score
     in_step = may.tells.body headed may.decoder.within
 
-    of_text : told.IsToldOfText e.score
+    of_text : told.IsReportOfText e.score
     of_text = in_step.told body
 
     any : held ≡ None → e.score.before.syllables ≡ 0
@@ -193,7 +193,7 @@ module _ (parts : PartsTell) (e : EngineState) (may : MayRun e) (line : IfSome e
       held = score_held;
       openers = score_openers;
       comment = record { cr = in_step.comment; inner = within.comment };
-      kept = subst IsText (sym (kept_told e.score.part e.score.held.gathered.builder.kept body)) of_text.reading;
+      kept = subst IsText (sym (reads_in_body e.score.part e.score.held.gathered.builder.kept body)) of_text.reading;
       kept_short = within.reading;
     }
 
@@ -208,7 +208,7 @@ module _ (parts : PartsTell) (e : EngineState) (may : MayRun e) (line : IfSome e
   pub state_is_whole : AreStateFields (state_of e)
   state_is_whole = record {
     limits = e.score.limits.in_range;
-    decoder = subst (λ (n : ℕ). MayBeTold n e.decoder.taken e.decoder.place e.decoder.pending (is_after_cr e.decoder)) may.step.limit may.decoder;
+    decoder = subst (λ (n : ℕ). MayBeReported n e.decoder.taken e.decoder.place e.decoder.pending (is_after_cr e.decoder)) may.step.limit may.decoder;
     phase = phase_is_whole e.heads.progress may.step.parts (subst (λ (limits : Limits). IsReadSoFar limits e.heads.progress e.decoder.place e.written.errors) may.limits may.read);
   }
 

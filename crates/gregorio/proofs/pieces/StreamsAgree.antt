@@ -61,14 +61,14 @@ any_hasher limits progress book hasher another [] = refl
 any_hasher limits progress book hasher another (x ∷ items) =
     let after = progress_after limits progress x in any_hasher limits after (book_at after book) hasher another items
 
--- behind the line `%%` the book is the one that was read, whatever was before
+-- after the line `%%` the book is the one that was read, whatever was before
 one_book : (limits : Limits) (hasher another : DefaultHasher) (progress : HeadProgress) (old other : List (List ℕ × List ℕ)) (items : List (Result Char Fault)) → IsBehind progress
     → (stage_past (record { limits = limits; progress = progress; book = book_at progress old; hasher = hasher }) items).book ≡ (stage_past (record { limits = limits; progress = progress; book = book_at progress other; hasher = another }) items).book
 one_book limits hasher another (behind book) old other items h = any_hasher limits (behind book) book hasher another items
 one_book limits hasher another (reading t) old other items h = absurd h
 one_book limits hasher another over old other items h = absurd h
 
--- of two stages that differ in their books alone: both have one book behind these, or no headers are whole among what they give
+-- of two stages that differ in their books alone: both have one book after these, or no headers are whole among what they give
 abbrev OneBookOrNone : Limits → DefaultHasher → DefaultHasher → HeadProgress → List (List ℕ × List ℕ) → List (List ℕ × List ℕ) → List (Result Char Fault) → Type 0
 OneBookOrNone limits hasher another progress old other items =
     ((stage_past (record { limits = limits; progress = progress; book = old; hasher = hasher }) items).book ≡ (stage_past (record { limits = limits; progress = progress; book = other; hasher = another }) items).book)

@@ -1,10 +1,10 @@
--- A score goes on telling of a text in step with its decoder.
+-- A score goes on reporting of a text in step with its decoder.
 use Rattle.std.proofs.Common.{◌≡◌, ℕ, ◌+◌, ◌^◌, ◌<◌, ◌≤◌, List, [], ◌∷◌, ◌++◌, map, Bool, true, false, is_none, Result, Ok, Err, if◌then◌else◌, refl, ap, sym, subst, ◌∙◌, arith}
 use Rattle.std.proofs.lemmas.Bool.{false≢true}
 use Rattle.std.proofs.lemmas.List.Elements.{All-head, All-tail}
 use Rattle.std.specs.List.{All}
 use Rattle.gabc_places.specs.DecoderMachine.{DecoderState, fresh_decoder}
-use Rattle.gabc_places.specs.DecoderTells.{MovesOn}
+use Rattle.gabc_places.specs.DecoderReports.{MovesOn}
 use Rattle.gabc_places.specs.Place.{next_place, saturating_next_place, is_line_feed}
 use Rattle.gabc_places.specs.declared.code.Fault.{Fault}
 use Rattle.gabc_places.specs.declared.code.Finding.{Finding}
@@ -23,8 +23,8 @@ use Rattle.gabc_score.specs.declared.body_stage.BodyPart.TheVariants as part
 use Rattle.gabc_score.specs.declared.score_machine.ScorePart.{ScorePart}
 use Rattle.gabc_score.specs.declared.score_machine.ScorePart.TheVariants as score_part
 use Rattle.gabc_score.specs.ScoreStage.{IsPlaceBelow, MayCome, next_past}
-use Rattle.gabc_score.specs.ScoreTells.{StandsAt, is_in_front, moved_part, moved_to, openers_of}
-use Rattle.gabc_score.specs.ToldWithin.{AreOpenersBefore, IsPlace, TellsOfText}
+use Rattle.gabc_score.specs.ScoreReports.{IsAt, is_in_front, moved_part, moved_to, openers_of}
+use Rattle.gabc_score.specs.ReportedWithin.{AreOpenersBefore, IsPlace, ReportsText}
 use Rattle.gabc_score.specs.witness.ScoreStage.{ScoreStageState}
 use Rattle.gregorio.specs.witness.Engine.{Written}
 use Rattle.gregorio.specs.machine.Engine.{event_of_item}
@@ -82,7 +82,7 @@ module _ (d e : DecoderState) (h : HeaderStageState) (old new : ScoreWriterState
       record {
         next = p.tells.next now.body ∙ (passed ∙ next_is);
         told = p.tells.told (moves.here ∙ sym t.next, (place_below, moves.plain))
-            (λ body. subst (λ (place : Place). StandsAt place old.score.body.part) (sym t.next) (was.counts were_within body)) t.told;
+            (λ body. subst (λ (place : Place). IsAt place old.score.body.part) (sym t.next) (was.counts were_within body)) t.told;
         holds = p.tells.holds t.holds;
         comment = λ cr. p.tells.line (moves.cr is.runs cr) now.body;
       }
@@ -120,7 +120,7 @@ front_opens_nothing next at (part.Notes opened stage) front = absurd (cc front)
 front_opens_nothing next at (part.Nabc line opened stage) front = absurd (cc front)
 
 -- in front the next character may stand anywhere
-told_anywhere : (at : Place) (s : ScoreStageState) → is_in_front s.body.part ≡ true → IsPlace at → TellsOfText s → TellsOfText (moved_to at s)
+told_anywhere : (at : Place) (s : ScoreStageState) → is_in_front s.body.part ≡ true → IsPlace at → ReportsText s → ReportsText (moved_to at s)
 told_anywhere at s front place told = λ body.
     let t = told body in
     record { counts = t.counts; next = place; openers = front_opens_nothing at at s.body.part front; reading = t.reading; held = t.held }
@@ -155,7 +155,7 @@ module _ (h now : HeaderStageState) (old mid : ScoreWriterState) (come : Headers
       let limit = is.limit in
       record { line = line; column = column; in_64_bits = omega (arith, near, most, limit, within) }
 
-  told_first : TellsOfText mid.score
+  told_first : ReportsText mid.score
   told_first = end.tells.told (headers_came come h.limits t x mid.score end) (λ body. absurd (cc (body, end.part))) (λ body. absurd (cc (body, end.part)))
 
   begins_in_step : TellsInBody e (moved_to (saturating_next_place x.place x.c) mid.score)

@@ -7,7 +7,7 @@ use Rattle.std.specs.List.{All, list_any}
 use Rattle.std.proofs.lemmas.List.Elements.{All-nil, All-push, All-weaker}
 use Rattle.std.proofs.lemmas.List.Folds.{list_any-append}
 use Rattle.gabc_places.specs.DecoderMachine.{DecoderState, fresh_decoder}
-use Rattle.gabc_places.specs.DecoderTells.{MovesOn}
+use Rattle.gabc_places.specs.DecoderReports.{MovesOn}
 use Rattle.gabc_places.specs.TextOfAnInput.{IsTextCharacter}
 use Rattle.gabc_places.specs.Place.{next_place}
 use Rattle.gabc_places.specs.declared.code.Fault.{Fault}
@@ -29,13 +29,13 @@ use Rattle.gregorio.specs.machine.InStep.{AreInOnePart, PassesAll, written_at}
 use Rattle.gregorio.specs.machine.ReadsHeaders.{IsReadAs, IsReadSoFar, ReadsHeaders, ReadsOn}
 use Rattle.gregorio.specs.machine.RunWriter.{RunWriterState}
 use Rattle.gregorio.specs.machine.ScoreWriter.{ScoreWriterState, begun_again}
-use Rattle.gregorio.specs.witness.Engine.{Written, behind_outputs}
+use Rattle.gregorio.specs.witness.Engine.{Written, after_outputs}
 use Rattle.gregorio.proofs.pieces.HeadersStayInStep.{HeadsYet, found_events, found_passed, in_heads}
 use Rattle.gregorio.proofs.pieces.WrittenGoesOn.{running_before, went_on_past}
 
 -- ---- what is found
 
--- in the headers the errors among findings are told
+-- in the headers the errors among findings are reported
 found_errors : (limits : Limits) (fs : List Finding) (old new : ScoreWriterState) → HeadsYet limits old → PassesAll old (found_events fs) new → is_none new.writer.written.ended ≡ true
     → new.writer.written.errors ≡ (old.writer.written.errors || list_any is_error_finding fs)
 found_errors limits [] old new yet all running = ap (λ (s : ScoreWriterState). s.writer.written.errors) (sym all) ∙ sym (or-false old.writer.written.errors)
@@ -46,7 +46,7 @@ found_errors limits (f ∷ fs) old new yet all running =
     let here = running_before (found_events fs) mid new all.1.1 running in
     let before = (went_on_past old.score w (head_event.Found f) mid passes here).before in
     let first : mid.writer.written.errors ≡ (old.writer.written.errors || is_error_finding f) =
-    ap (λ (v : Written). v.errors) passes.written ∙ ap (λ (outputs : List ScoreOutput). (behind_outputs w outputs).errors) (passes.in_heads (yet.yet before).part) in
+    ap (λ (v : Written). v.errors) passes.written ∙ ap (λ (outputs : List ScoreOutput). (after_outputs w outputs).errors) (passes.in_heads (yet.yet before).part) in
     found_errors limits fs mid new (found_passed limits f old mid passes yet) all.1.1 running
     ∙ (ap (λ (b : Bool). b || list_any is_error_finding fs) first
     ∙ or_assoc old.writer.written.errors (is_error_finding f) (list_any is_error_finding fs))
@@ -116,7 +116,7 @@ pub reads_begun : (h : HeaderStageState) (old mid new : ScoreWriterState) (item 
 reads_begun h old mid new item same reads d e moves ran were =
     subst (λ (v : RunWriterState). ReadsHeaders e (stage_after h item) v.written) (sym same) (reads d e moves ran were)
 
--- ---- behind the headers, and where nothing comes
+-- ---- after the headers, and where nothing comes
 
 -- where they are written nothing of them is read any more
 pub headed_read : (limits : Limits) (progress : HeadProgress) (part : ScorePart) (headed : Bool) (place : Place) (error : Bool) → headed ≡ true → AreInOnePart progress part headed → IsReadSoFar limits progress place error
@@ -133,7 +133,7 @@ pub nothing_reads_on : (h : HeaderStageState) (s : ScoreWriterState) → ReadsOn
 nothing_reads_on h s d e moves ran reads running =
     subst (λ (p : Place). IsReadSoFar h.limits h.progress p s.writer.written.errors) (sym moves.place) (reads running)
 
--- ---- before the first byte, and behind the last
+-- ---- before the first byte, and after the last
 
 pub fresh_reads : (v : Written) (limits : Limits) (d : DecoderState) (h : HeaderStageState) (w : Written) → ((limits : Limits) → IsHeld limits []) → d ≡ fresh_decoder limits.input → h ≡ fresh_stage limits h.hasher → w ≡ begun_again v
     → ReadsHeaders d h w

@@ -10,28 +10,28 @@ use Rattle.gabc_score.specs.declared.syllable.Position.{Position}
 use Rattle.gabc_write.specs.SetDown.{AreWrittenAlike, IsWrittenAlike}
 use Rattle.gregorio_jobs.specs.declared.job.Format.{Format}
 use Rattle.gregorio_jobs.specs.declared.job.Format.TheVariants.{Gabc, Dump}
-use Rattle.gregorio.specs.Streams.{Streams, behind_bytes, force_behind, next_number, syllable_text}
-use Rattle.gregorio.specs.witness.Engine.{Written, behind_heads, behind_output, behind_outputs, ceased, first_list, if_headed, lines_of_output, lines_of_outputs, streams_from, text_of_heads, text_of_output, texts_of_outputs, writes_heads}
+use Rattle.gregorio.specs.Streams.{Streams, after_bytes, force_after, next_number, syllable_text}
+use Rattle.gregorio.specs.witness.Engine.{Written, after_heads, after_output, after_outputs, ceased, first_list, if_headed, lines_of_output, lines_of_outputs, streams_from, text_of_heads, text_of_output, texts_of_outputs, writes_heads}
 
--- two syllables have one text in each format, and the same is in force behind them
+-- two syllables have one text in each format, and the same is in force after them
 record AreOneText (s t : PlacedSyllable) : Type 0 where
   text : (format : Format) (number : ℕ) (force : InForce) → syllable_text format number force s ≡ syllable_text format number force t
-  force : (format : Format) (force : InForce) → force_behind format force s ≡ force_behind format force t
+  force : (format : Format) (force : InForce) → force_after format force s ≡ force_after format force t
 
--- Two outputs are written alike whatever was written before, and the same is written behind them.
+-- Two outputs are written alike whatever was written before, and the same is written after them.
 record AreOneOutput (o p : ScoreOutput) : Type 0 where
   text : (w : Written) → text_of_output w o ≡ text_of_output w p
   lines : (w : Written) → lines_of_output w o ≡ lines_of_output w p
-  behind : (w : Written) → behind_output w o ≡ behind_output w p
+  behind : (w : Written) → after_output w o ≡ after_output w p
 
 -- so are two lists of outputs
 record AreOneList (os ps : List ScoreOutput) : Type 0 where
   texts : (w : Written) → texts_of_outputs w os ≡ texts_of_outputs w ps
   lines : (w : Written) → lines_of_outputs w os ≡ lines_of_outputs w ps
-  behind : (w : Written) → behind_outputs w os ≡ behind_outputs w ps
+  behind : (w : Written) → after_outputs w os ≡ after_outputs w ps
 
-syllable_behind : (w : Written) (s t : PlacedSyllable) → AreOneText s t → behind_output w (Syllable s) ≡ behind_output w (Syllable t)
-syllable_behind w s t one = ap (λ (force : InForce). record (behind_output w (Syllable s)) { force = if w.headed then force else w.force }) (one.force w.format w.force)
+syllable_behind : (w : Written) (s t : PlacedSyllable) → AreOneText s t → after_output w (Syllable s) ≡ after_output w (Syllable t)
+syllable_behind w s t one = ap (λ (force : InForce). record (after_output w (Syllable s)) { force = if w.headed then force else w.force }) (one.force w.format w.force)
 
 one_syllable : (s t : PlacedSyllable) → AreOneText s t → AreOneOutput (Syllable s) (Syllable t)
 one_syllable s t one = record {
@@ -44,18 +44,18 @@ one_output : (o p : ScoreOutput) → o ≡ p → AreOneOutput o p
 one_output o p e = record {
   text = λ w. ap (text_of_output w) e;
   lines = λ w. ap (lines_of_output w) e;
-  behind = λ w. ap (behind_output w) e;
+  behind = λ w. ap (after_output w) e;
 }
 
 one_more : (o p : ScoreOutput) (os ps : List ScoreOutput) → AreOneOutput o p → AreOneList os ps → AreOneList (o ∷ os) (p ∷ ps)
 one_more o p os ps one rest = record {
   texts = λ w.
-      ap (λ (text : List ℕ). text ++ texts_of_outputs (behind_output w o) os) (one.text w)
-      ∙ (ap (λ (v : Written). text_of_output w p ++ texts_of_outputs v os) (one.behind w) ∙ ap (λ (text : List ℕ). text_of_output w p ++ text) (rest.texts (behind_output w p)));
+      ap (λ (text : List ℕ). text ++ texts_of_outputs (after_output w o) os) (one.text w)
+      ∙ (ap (λ (v : Written). text_of_output w p ++ texts_of_outputs v os) (one.behind w) ∙ ap (λ (text : List ℕ). text_of_output w p ++ text) (rest.texts (after_output w p)));
   lines = λ w.
-      ap (λ (lines : List ℕ). lines ++ lines_of_outputs (behind_output w o) os) (one.lines w)
-      ∙ (ap (λ (v : Written). lines_of_output w p ++ lines_of_outputs v os) (one.behind w) ∙ ap (λ (lines : List ℕ). lines_of_output w p ++ lines) (rest.lines (behind_output w p)));
-  behind = λ w. ap (λ (v : Written). behind_outputs v os) (one.behind w) ∙ rest.behind (behind_output w p);
+      ap (λ (lines : List ℕ). lines ++ lines_of_outputs (after_output w o) os) (one.lines w)
+      ∙ (ap (λ (v : Written). lines_of_output w p ++ lines_of_outputs v os) (one.behind w) ∙ ap (λ (lines : List ℕ). lines_of_output w p ++ lines) (rest.lines (after_output w p)));
+  behind = λ w. ap (λ (v : Written). after_outputs v os) (one.behind w) ∙ rest.behind (after_output w p);
 }
 
 none_more : AreOneList [] []
@@ -66,7 +66,7 @@ module _ (m n : UnplacedSyllable) (alike : (position : Position) → IsWrittenAl
   placed_text position Gabc number force = (alike position).canonical
   placed_text position Dump number force = (alike position).dump.lines number force
 
-  placed_force : (position : Position) (format : Format) (force : InForce) → force_behind format force (record { made = m; position = position }) ≡ force_behind format force (record { made = n; position = position })
+  placed_force : (position : Position) (format : Format) (force : InForce) → force_after format force (record { made = m; position = position }) ≡ force_after format force (record { made = n; position = position })
   placed_force position Gabc force = refl
   placed_force position Dump force = ap (λ (steps : List ScoreStep). passed force steps) (alike position).dump.steps
 
@@ -133,18 +133,18 @@ module _ (m n : UnplacedSyllable) (alike : (position : Position) → IsWrittenAl
       → streams_from w book from_heads lists ≡ streams_from w book from_heads others
   lists_are_written_alike w book [] lists others h =
       let one = same_outputs (concat_of lists) (concat_of others) (same_joined lists others h) in
-      ap (λ (text : List ℕ). behind_bytes text (lines_of_outputs w (concat_of lists)) (ceased (behind_outputs w (concat_of lists)))) (one.texts w)
-      ∙ (ap (λ (lines : List ℕ). behind_bytes (texts_of_outputs w (concat_of others)) lines (ceased (behind_outputs w (concat_of lists)))) (one.lines w)
-      ∙ ap (λ (v : Written). behind_bytes (texts_of_outputs w (concat_of others)) (lines_of_outputs w (concat_of others)) (ceased v)) (one.behind w))
+      ap (λ (text : List ℕ). after_bytes text (lines_of_outputs w (concat_of lists)) (ceased (after_outputs w (concat_of lists)))) (one.texts w)
+      ∙ (ap (λ (lines : List ℕ). after_bytes (texts_of_outputs w (concat_of others)) lines (ceased (after_outputs w (concat_of lists)))) (one.lines w)
+      ∙ ap (λ (v : Written). after_bytes (texts_of_outputs w (concat_of others)) (lines_of_outputs w (concat_of others)) (ceased v)) (one.behind w))
   lists_are_written_alike w book (x ∷ from_heads) lists others h =
       let one = same_outputs (first_list lists) (first_list others) (same_first lists others h) in
-      let v = behind_heads w (writes_heads w x) in
+      let v = after_heads w (writes_heads w x) in
       let heads = text_of_heads w book (writes_heads w x) in
-      let later = lists_are_written_alike (behind_outputs v (first_list others)) book from_heads (drop 1 lists) (drop 1 others) (same_rest lists others h) in
-      ap (λ (text : List ℕ). behind_bytes (heads ++ text) (lines_of_outputs v (first_list lists)) (streams_from (behind_outputs v (first_list lists)) book from_heads (drop 1 lists))) (one.texts v)
-      ∙ (ap (λ (lines : List ℕ). behind_bytes (heads ++ texts_of_outputs v (first_list others)) lines (streams_from (behind_outputs v (first_list lists)) book from_heads (drop 1 lists))) (one.lines v)
-      ∙ (ap (λ (u : Written). behind_bytes (heads ++ texts_of_outputs v (first_list others)) (lines_of_outputs v (first_list others)) (streams_from u book from_heads (drop 1 lists))) (one.behind v)
-      ∙ ap (λ (s : Streams). behind_bytes (heads ++ texts_of_outputs v (first_list others)) (lines_of_outputs v (first_list others)) s) later))
+      let later = lists_are_written_alike (after_outputs v (first_list others)) book from_heads (drop 1 lists) (drop 1 others) (same_rest lists others h) in
+      ap (λ (text : List ℕ). after_bytes (heads ++ text) (lines_of_outputs v (first_list lists)) (streams_from (after_outputs v (first_list lists)) book from_heads (drop 1 lists))) (one.texts v)
+      ∙ (ap (λ (lines : List ℕ). after_bytes (heads ++ texts_of_outputs v (first_list others)) lines (streams_from (after_outputs v (first_list lists)) book from_heads (drop 1 lists))) (one.lines v)
+      ∙ (ap (λ (u : Written). after_bytes (heads ++ texts_of_outputs v (first_list others)) (lines_of_outputs v (first_list others)) (streams_from u book from_heads (drop 1 lists))) (one.behind v)
+      ∙ ap (λ (s : Streams). after_bytes (heads ++ texts_of_outputs v (first_list others)) (lines_of_outputs v (first_list others)) s) later))
 
 -- What is given is written alike, where the syllables that are held are.
 pub given_is_written_alike : (held other : Option UnplacedSyllable) → AreWrittenAlike held other → (w : Written) (book : List (List ℕ × List ℕ)) (from_heads : List HeadEvent)

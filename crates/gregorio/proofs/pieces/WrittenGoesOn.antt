@@ -12,72 +12,72 @@ use Rattle.gabc_score.specs.ScoreEvents.{ScoreOutput, Found, Stop, Syllable, End
 use Rattle.gabc_score.specs.Syllable.{PlacedSyllable}
 use Rattle.gabc_score.specs.witness.ScoreStage.{ScoreStageState}
 use Rattle.gregorio_jobs.specs.declared.job.Format.{Format}
-use Rattle.gregorio.specs.Streams.{force_behind, next_number}
-use Rattle.gregorio.specs.witness.Engine.{Written, behind_output, behind_outputs, is_before_heads, is_heads}
+use Rattle.gabc_headers.proofs.stages.CharactersOfAStage.{nothing_added}
+use Rattle.gregorio.specs.Streams.{force_after, next_number}
+use Rattle.gregorio.specs.witness.Engine.{Written, after_output, after_outputs, is_before_heads, is_heads}
 use Rattle.gregorio.specs.machine.InStep.{HasForce, PassesAll, PassesOn, written_at}
 use Rattle.gregorio.specs.machine.RunWriter.{RunWriterState, heads_at, past_end, past_outputs, with_book}
 use Rattle.gregorio.specs.machine.ScoreWriter.{IsSteady, ScoreWriterState}
 use Rattle.gregorio.proofs.StreamsOfOutputs.{job_stays}
-use Rattle.gregorio.proofs.pieces.BytesAreJoined.{extended_by_none}
 
 -- ---- what is written
 
-stays_over : (w : Written) (outputs : List ScoreOutput) → is_none w.ended ≡ false → is_none (behind_outputs w outputs).ended ≡ false
+stays_over : (w : Written) (outputs : List ScoreOutput) → is_none w.ended ≡ false → is_none (after_outputs w outputs).ended ≡ false
 stays_over w [] e = e
-stays_over w (Found f ∷ outputs) e = stays_over (behind_output w (Found f)) outputs e
-stays_over w (Stop fault ∷ outputs) e = stays_over (behind_output w (Stop fault)) outputs refl
-stays_over w (Syllable s ∷ outputs) e = stays_over (behind_output w (Syllable s)) outputs e
-stays_over w (End ∷ outputs) e = stays_over (behind_output w End) outputs refl
+stays_over w (Found f ∷ outputs) e = stays_over (after_output w (Found f)) outputs e
+stays_over w (Stop fault ∷ outputs) e = stays_over (after_output w (Stop fault)) outputs refl
+stays_over w (Syllable s ∷ outputs) e = stays_over (after_output w (Syllable s)) outputs e
+stays_over w (End ∷ outputs) e = stays_over (after_output w End) outputs refl
 
--- a run that goes on behind these went on before, and neither a stop nor the end is among them
+-- a run that goes on after these went on before, and neither a stop nor the end is among them
 pub record GoesOn (w : Written) (outputs : List ScoreOutput) : Type 0 where
   pub before : is_none w.ended ≡ true
   pub none_last : list_any is_last outputs ≡ false
 
-went_on : (w : Written) (outputs : List ScoreOutput) → is_none (behind_outputs w outputs).ended ≡ true → GoesOn w outputs
+went_on : (w : Written) (outputs : List ScoreOutput) → is_none (after_outputs w outputs).ended ≡ true → GoesOn w outputs
 went_on w [] e = record { before = e; none_last = refl }
-went_on w (Found f ∷ outputs) e = let g = went_on (behind_output w (Found f)) outputs e in record { before = g.before; none_last = g.none_last }
-went_on w (Stop fault ∷ outputs) e = absurd (false≢true (sym (stays_over (behind_output w (Stop fault)) outputs refl) ∙ e))
-went_on w (Syllable s ∷ outputs) e = let g = went_on (behind_output w (Syllable s)) outputs e in record { before = g.before; none_last = g.none_last }
-went_on w (End ∷ outputs) e = absurd (false≢true (sym (stays_over (behind_output w End) outputs refl) ∙ e))
+went_on w (Found f ∷ outputs) e = let g = went_on (after_output w (Found f)) outputs e in record { before = g.before; none_last = g.none_last }
+went_on w (Stop fault ∷ outputs) e = absurd (false≢true (sym (stays_over (after_output w (Stop fault)) outputs refl) ∙ e))
+went_on w (Syllable s ∷ outputs) e = let g = went_on (after_output w (Syllable s)) outputs e in record { before = g.before; none_last = g.none_last }
+went_on w (End ∷ outputs) e = absurd (false≢true (sym (stays_over (after_output w End) outputs refl) ∙ e))
 
 -- as many are written as are given
-pub counted : (outputs : List ScoreOutput) (w : Written) (p : Preceding) → w.headed ≡ true → w.count ≡ p.syllables → (behind_outputs w outputs).count ≡ (with_placed p (syllables_in outputs)).syllables
+pub counted : (outputs : List ScoreOutput) (w : Written) (p : Preceding) → w.headed ≡ true → w.count ≡ p.syllables → (after_outputs w outputs).count ≡ (with_placed p (syllables_in outputs)).syllables
 counted [] w p headed e = e
-counted (Found f ∷ outputs) w p headed e = counted outputs (behind_output w (Found f)) p headed e
-counted (Stop fault ∷ outputs) w p headed e = counted outputs (behind_output w (Stop fault)) p headed e
+counted (Found f ∷ outputs) w p headed e = counted outputs (after_output w (Found f)) p headed e
+counted (Stop fault ∷ outputs) w p headed e = counted outputs (after_output w (Stop fault)) p headed e
 counted (Syllable s ∷ outputs) w p headed e =
-    counted outputs (behind_output w (Syllable s)) (with_placed p (s ∷ [])) headed (rw headed (ap next_number e))
-counted (End ∷ outputs) w p headed e = counted outputs (behind_output w End) p headed e
+    counted outputs (after_output w (Syllable s)) (with_placed p (s ∷ [])) headed (rw headed (ap next_number e))
+counted (End ∷ outputs) w p headed e = counted outputs (after_output w End) p headed e
 
 -- before the headers none is
-pub none_counted : (outputs : List ScoreOutput) (w : Written) → w.headed ≡ false → (behind_outputs w outputs).count ≡ w.count
+pub none_counted : (outputs : List ScoreOutput) (w : Written) → w.headed ≡ false → (after_outputs w outputs).count ≡ w.count
 none_counted [] w headed = refl
-none_counted (Found f ∷ outputs) w headed = none_counted outputs (behind_output w (Found f)) headed
-none_counted (Stop fault ∷ outputs) w headed = none_counted outputs (behind_output w (Stop fault)) headed
-none_counted (Syllable s ∷ outputs) w headed = none_counted outputs (behind_output w (Syllable s)) headed ∙ rw headed refl
-none_counted (End ∷ outputs) w headed = none_counted outputs (behind_output w End) headed
+none_counted (Found f ∷ outputs) w headed = none_counted outputs (after_output w (Found f)) headed
+none_counted (Stop fault ∷ outputs) w headed = none_counted outputs (after_output w (Stop fault)) headed
+none_counted (Syllable s ∷ outputs) w headed = none_counted outputs (after_output w (Syllable s)) headed ∙ rw headed refl
+none_counted (End ∷ outputs) w headed = none_counted outputs (after_output w End) headed
 
 pub few_more : (ss : List PlacedSyllable) (p : Preceding) → (with_placed p ss).syllables ≤ p.syllables + length ss
 few_more [] p = omega arith
 few_more (s ∷ ss) p = let h = few_more ss (with_placed p (s ∷ [])) in omega (arith, h)
 
 syllable_forces : (w : Written) (s : PlacedSyllable) (headed : Bool) → HasForce w
-    → HasForce (record w { count = if headed then next_number w.count else w.count; force = if headed then force_behind w.format w.force s else w.force })
+    → HasForce (record w { count = if headed then next_number w.count else w.count; force = if headed then force_after w.format w.force s else w.force })
 syllable_forces w s false h = record { untracked = h.untracked; outset = h.outset }
 syllable_forces w s true h = record {
-  untracked = λ gabc. ap (λ (f : Format). force_behind f w.force s) gabc ∙ h.untracked gabc;
+  untracked = λ gabc. ap (λ (f : Format). force_after f w.force s) gabc ∙ h.untracked gabc;
   outset = λ none. absurd (omega (arith, none));
 }
 
-forces : (outputs : List ScoreOutput) (w : Written) → HasForce w → HasForce (behind_outputs w outputs)
+forces : (outputs : List ScoreOutput) (w : Written) → HasForce w → HasForce (after_outputs w outputs)
 forces [] w h = h
-forces (Found f ∷ outputs) w h = forces outputs (behind_output w (Found f)) (record { untracked = h.untracked; outset = h.outset })
-forces (Stop fault ∷ outputs) w h = forces outputs (behind_output w (Stop fault)) (record { untracked = h.untracked; outset = h.outset })
+forces (Found f ∷ outputs) w h = forces outputs (after_output w (Found f)) (record { untracked = h.untracked; outset = h.outset })
+forces (Stop fault ∷ outputs) w h = forces outputs (after_output w (Stop fault)) (record { untracked = h.untracked; outset = h.outset })
 forces (Syllable s ∷ outputs) w h =
     let g = syllable_forces w s w.headed h in
-    forces outputs (behind_output w (Syllable s)) (record { untracked = g.untracked; outset = g.outset })
-forces (End ∷ outputs) w h = forces outputs (behind_output w End) (record { untracked = h.untracked; outset = h.outset })
+    forces outputs (after_output w (Syllable s)) (record { untracked = g.untracked; outset = g.outset })
+forces (End ∷ outputs) w h = forces outputs (after_output w End) (record { untracked = h.untracked; outset = h.outset })
 
 forced_at : (w : Written) (x : HeadEvent) → HasForce w → HasForce (written_at w x)
 forced_at w x h = record { untracked = h.untracked; outset = h.outset }
@@ -115,7 +115,7 @@ pub not_written : (w : RunWriterState) (x : HeadEvent) (book : List (List ℕ ×
 not_written w x book none =
     ap (λ (b : Bool). with_book w book (b && is_before_heads w.written)) none
     ∙ (ap (λ (headed : Bool). record w { written = record w.written { headed = headed }; out = extended_by w.out [] }) (or-false w.written.headed)
-    ∙ ap (λ (out : BoundedList ℕ). record w { out = out }) (sym (extended_by_none w.out)))
+    ∙ ap (λ (out : BoundedList ℕ). record w { out = out }) (sym (nothing_added w.out)))
 
 pub went_on_past : (old : ScoreStageState) (w : Written) (x : HeadEvent) (new : ScoreWriterState) (p : PassesOn old w x new) → is_none new.writer.written.ended ≡ true → GoesOn w p.outputs
 went_on_past old w x new p running = went_on w p.outputs (subst (λ (v : Written). is_none v.ended ≡ true) p.written running)

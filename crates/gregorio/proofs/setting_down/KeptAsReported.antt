@@ -1,16 +1,16 @@
 -- What is said of the kept text by itself is what some stage reports of it.
 use Rattle.std.proofs.Common.{◌≡◌, ◌≤◌, ℕ, List, [], length, Bool, true, false, is_some, encode_utf8_all, refl, sym, ap, subst, ◌∙◌, arith}
-use Rattle.std.proofs.lemmas.Bool.{false≢true}
 use Rattle.std.specs.Prelude.{IsUtf8}
+use Rattle.std.proofs.lemmas.Str.{encodes-chars}
 use Rattle.std.specs.Str.{chars}
 use Rattle.gabc_places.specs.declared.limits.Limits.{Limits}
+use Rattle.gabc_score.proofs.resuming.BeginsAnywhere.{front_is}
+use Rattle.gabc_score.proofs.resuming.ScoresAgree.{reads_in_body}
 use Rattle.gabc_score.specs.KeptAgain.{IsKeptAgain}
 use Rattle.gabc_score.specs.Before.{no_syllable}
-use Rattle.gabc_score.specs.ReadAgain.{CanBeReadInText, IsReported, TellsOfReading, no_openers}
-use Rattle.gabc_score.specs.ScoreTells.{StandsInFront, before_of, is_in_comment, is_in_front, openers_of, reading_in_body}
-use Rattle.gabc_score.specs.declared.body_stage.BodyPart.{BodyPart}
+use Rattle.gabc_score.specs.ReadAgain.{CanBeReadInText, IsReported, ReportsReading, no_openers}
+use Rattle.gabc_score.specs.ScoreReports.{IsInFront, before_of, is_in_comment, is_in_front, openers_of}
 use Rattle.gabc_score.specs.declared.body_stage.BodyPart.TheVariants as part
-use Rattle.gabc_score.specs.declared.score_machine.ScorePart.{ScorePart}
 use Rattle.gabc_score.specs.declared.score_machine.ScorePart.TheVariants as score_part
 use Rattle.gabc_score.specs.declared.body_tells.Openers.{Openers}
 use Rattle.gabc_score.specs.witness.ReadAgain.{CanBeReadAgain}
@@ -18,14 +18,13 @@ use Rattle.gabc_score.specs.witness.ScoreStage.{ScoreStageState}
 use Rattle.gregorio_state.specs.Fields.{ScoreFields}
 use Rattle.gregorio.specs.SavedState.{IsKeptRead}
 use Rattle.gregorio.specs.machine.SettingDown.{HasRead, IsReportedSo, openers_told}
-use Rattle.gregorio.proofs.RestoredStands.{text_bytes}
 
 -- the two laws of kept texts
 abbrev pub KeptAgain : Type 0
-KeptAgain = (s : ScoreStageState) (t : List ℕ) (openers : Openers) (comment : Bool) → CanBeReadAgain s → TellsOfReading s (encode_utf8_all t) openers comment → IsKeptAgain s.body.nabc_lines s.body.macros t openers comment
+KeptAgain = (s : ScoreStageState) (t : List ℕ) (openers : Openers) (comment : Bool) → CanBeReadAgain s → ReportsReading s (encode_utf8_all t) openers comment → IsKeptAgain s.body.nabc_lines s.body.macros t openers comment
 
 abbrev pub KeptShort : Type 0
-KeptShort = (s : ScoreStageState) (t : List ℕ) (openers : Openers) (comment : Bool) → CanBeReadAgain s → TellsOfReading s (encode_utf8_all t) openers comment → length (encode_utf8_all t) ≤ s.limits.syllable
+KeptShort = (s : ScoreStageState) (t : List ℕ) (openers : Openers) (comment : Bool) → CanBeReadAgain s → ReportsReading s (encode_utf8_all t) openers comment → length (encode_utf8_all t) ≤ s.limits.syllable
 
 abbrev pub Reported : Type 0
 Reported = (limits : Limits) (lines macros : ℕ) (t : List ℕ) (openers : Openers) (comment : Bool) → IsKeptAgain lines macros t openers comment → length (encode_utf8_all t) ≤ limits.syllable
@@ -36,11 +35,11 @@ module _ (limits : Limits) (f : ScoreFields) (utf8 : IsUtf8 f.kept) where
   kept_read again short r = record {
     again = subst (λ (n : ℕ). IsKeptAgain n f.macros (chars f.kept) (openers_told f) f.in_comment) r.lines
         (subst (λ (n : ℕ). IsKeptAgain r.stage.body.nabc_lines n (chars f.kept) (openers_told f) f.in_comment) r.macros (again r.stage (chars f.kept) (openers_told f) f.in_comment r.keeps tells));
-    short = let size = ap length (text_bytes f.kept utf8) in let few = short r.stage (chars f.kept) (openers_told f) f.in_comment r.keeps tells in let same = ap (λ (l : Limits). l.syllable) r.limits_are in omega (arith, size, few, same);
+    short = let size = ap length (encodes-chars f.kept utf8) in let few = short r.stage (chars f.kept) (openers_told f) f.in_comment r.keeps tells in let same = ap (λ (l : Limits). l.syllable) r.limits_are in omega (arith, size, few, same);
   }
     where
-      tells : TellsOfReading r.stage (encode_utf8_all (chars f.kept)) (openers_told f) f.in_comment
-      tells = subst (λ (kept : List ℕ). TellsOfReading r.stage kept (openers_told f) f.in_comment) (sym (text_bytes f.kept utf8)) r.tells
+      tells : ReportsReading r.stage (encode_utf8_all (chars f.kept)) (openers_told f) f.in_comment
+      tells = subst (λ (kept : List ℕ). ReportsReading r.stage kept (openers_told f) f.in_comment) (sym (encodes-chars f.kept utf8)) r.tells
 
   pub reported_so : Reported → IsKeptRead limits f → IsReportedSo limits f
   reported_so reported k = record {
@@ -49,20 +48,13 @@ module _ (limits : Limits) (f : ScoreFields) (utf8 : IsUtf8 f.kept) where
     limits_are = r.limits_are;
     lines = r.lines_are;
     macros = r.macros_are;
-    tells = subst (λ (kept : List ℕ). TellsOfReading r.stage kept (openers_told f) f.in_comment) (text_bytes f.kept utf8) r.tells;
+    tells = subst (λ (kept : List ℕ). ReportsReading r.stage kept (openers_told f) f.in_comment) (encodes-chars f.kept utf8) r.tells;
   }
     where
       r : IsReported limits f.nabc_lines f.macros (chars f.kept) (openers_told f) f.in_comment
-      r = reported limits f.nabc_lines f.macros (chars f.kept) (openers_told f) f.in_comment k.again (let size = ap length (text_bytes f.kept utf8) in let short = k.short in omega (arith, size, short))
+      r = reported limits f.nabc_lines f.macros (chars f.kept) (openers_told f) f.in_comment k.again (let size = ap length (encodes-chars f.kept utf8) in let short = k.short in omega (arith, size, short))
 
 -- ---- what a stage in the body reports
-
--- nothing else is in front
-in_front : (p : BodyPart) → is_in_front p ≡ true → p ≡ part.Comment
-in_front part.Comment is = refl
-in_front (part.Text stage) is = absurd (false≢true is)
-in_front (part.Notes opened stage) is = absurd (false≢true is)
-in_front (part.Nabc line opened stage) is = absurd (false≢true is)
 
 -- nothing is kept there
 nothing_kept : (s : ScoreStageState) → CanBeReadAgain s → s.body.part ≡ part.Comment → s.held.gathered.builder.kept ≡ []
@@ -76,21 +68,17 @@ at_outset s = record s {
   held = record s.held { gathered = record s.held.gathered { made = []; builder = record s.held.gathered.builder { kept = [] } } };
 }
 
--- what is kept in the body is told
-pub kept_told : (p : ScorePart) (kept : List ℕ) → p ≡ score_part.Body → reading_in_body p kept ≡ kept
-kept_told p kept body = rw body refl
-
--- in front it is told in a text too
+-- in front it is reported in a text too
 abbrev pub ReadInText : Type 0
-ReadInText = (s : ScoreStageState) → is_some (before_of s) ≡ true → StandsInFront s → CanBeReadInText s
+ReadInText = (s : ScoreStageState) → is_some (before_of s) ≡ true → IsInFront s → CanBeReadInText s
 
 module _ (f : ScoreFields) (s : ScoreStageState) (limits : Limits) (limits_are : s.limits ≡ limits) (body : s.part ≡ score_part.Body) (lines : s.body.nabc_lines ≡ f.nabc_lines) (macros : s.body.macros ≡ f.macros)
     (read : HasRead f s) (can : CanBeReadAgain s) (law : ReadInText) where
   by_front : (front : Bool) → is_in_front s.body.part ≡ front → IsReportedSo limits f
   by_front true front =
       let in_text = law (at_outset s) refl (record { front = front; none_before = refl; none_held = refl; nothing_read = refl }) in
-      let comment : s.body.part ≡ part.Comment = in_front s.body.part front in
-      let kept : [] ≡ f.kept = sym (nothing_kept s can comment) ∙ sym (kept_told s.part s.held.gathered.builder.kept body) ∙ read.kept in
+      let comment : s.body.part ≡ part.Comment = front_is s.body.part front in
+      let kept : [] ≡ f.kept = sym (nothing_kept s can comment) ∙ sym (reads_in_body s.part s.held.gathered.builder.kept body) ∙ read.kept in
       let openers : no_openers ≡ openers_told f = sym (ap openers_of comment) ∙ read.openers_are in
       let comment_open : true ≡ f.in_comment = sym (ap is_in_comment comment) ∙ read.comment in
       record {
@@ -100,8 +88,8 @@ module _ (f : ScoreFields) (s : ScoreStageState) (limits : Limits) (limits_are :
         lines = in_text.lines ∙ lines;
         macros = in_text.macros ∙ macros;
         tells =
-            subst (λ (k : List ℕ). TellsOfReading in_text.told k (openers_told f) f.in_comment) kept
-            (subst (λ (o : Openers). TellsOfReading in_text.told [] o f.in_comment) openers (subst (λ (b : Bool). TellsOfReading in_text.told [] no_openers b) comment_open in_text.tells));
+            subst (λ (k : List ℕ). ReportsReading in_text.told k (openers_told f) f.in_comment) kept
+            (subst (λ (o : Openers). ReportsReading in_text.told [] o f.in_comment) openers (subst (λ (b : Bool). ReportsReading in_text.told [] no_openers b) comment_open in_text.tells));
       }
   by_front false front = record {
     stage = s;

@@ -3,10 +3,10 @@ use Rattle.std.proofs.Common.{◌≡◌, ◌+◌, ◌-◌, Bool, true, false, is
 use Rattle.gabc_places.specs.declared.place.Place.{Place}
 use Rattle.gabc_places.specs.TextOfAnInput.{IsText}
 use Rattle.gabc_score.specs.Before.{preceding_of}
-use Rattle.gabc_score.specs.ReadAgain.{StandsBefore, TellsOfReading, TellsTheSameBut}
-use Rattle.gabc_score.specs.ScoreTells.{before_of, before_with, in_body, is_in_comment, is_in_front, openers_of, reading_in_body}
+use Rattle.gabc_score.specs.ReadAgain.{ComesBefore, ReportsReading, ReportsTheSameBut}
+use Rattle.gabc_score.specs.ScoreReports.{before_of, before_with, in_body, is_in_comment, is_in_front, openers_of, reading_in_body}
 use Rattle.gabc_score.specs.Syllable.{UnplacedSyllable}
-use Rattle.gabc_score.specs.ToldWithin.{AreOpenersBefore, IsPlace, TellsOfText}
+use Rattle.gabc_score.specs.ReportedWithin.{AreOpenersBefore, IsPlace, ReportsText}
 use Rattle.gabc_score.specs.declared.before.Before.{Before}
 use Rattle.gabc_score.specs.declared.body_tells.Openers.{Openers}
 use Rattle.gabc_score.specs.declared.score_machine.ScorePart.{ScorePart}
@@ -22,7 +22,7 @@ use Rattle.gregorio.proofs.setting_down.HeldIsRead.{before_told, told_in_body}
 use Rattle.gregorio.proofs.setting_down.KeptAsReported.{ReadInText, is_reported_so}
 
 module _ (f : ScoreFields) (old : ScoreStageState) (holds : HoldsHeld f old) where
-  stands_before : is_in_comment old.body.part ≡ false → StandsBefore old
+  stands_before : is_in_comment old.body.part ≡ false → ComesBefore old
   stands_before outside = record {
     runs = ap (λ (b : Option Before). is_some b) holds.behind.before_is;
     nothing_read = holds.begins.nothing_read;
@@ -30,16 +30,16 @@ module _ (f : ScoreFields) (old : ScoreStageState) (holds : HoldsHeld f old) whe
   }
 
   module _ (o : Openers) (open_at : o ≡ openers_told f) (new : ScoreStageState) (result : Bool) where
-    -- what is read again where a stage tells of the kept text
+    -- what is read again where a stage reports of the kept text
     abbrev ReadsAgain : Type 0
-    ReadsAgain = (told : ScoreStageState) → CanBeReadAgain told → told.limits ≡ old.limits → before_of told ≡ before_of old → TellsOfReading told f.kept o f.in_comment → StandsBefore old
-        → (result ≡ true) × TellsOfReading new f.kept o f.in_comment
+    ReadsAgain = (told : ScoreStageState) → CanBeReadAgain told → told.limits ≡ old.limits → before_of told ≡ before_of old → ReportsReading told f.kept o f.in_comment → ComesBefore old
+        → (result ≡ true) × ReportsReading new f.kept o f.in_comment
 
     -- where the kept text is read so, all of it is kept
-    pub is_kept_again : is_in_comment old.body.part ≡ false → ReadsAgain → IsReportedSo old.limits f → (result ≡ true) × TellsOfReading new f.kept (openers_told f) f.in_comment
+    pub is_kept_again : is_in_comment old.body.part ≡ false → ReadsAgain → IsReportedSo old.limits f → (result ≡ true) × ReportsReading new f.kept (openers_told f) f.in_comment
     is_kept_again outside again kept =
-        let h = again told (record { body = kept.keeps.body; told = kept.keeps.told }) kept.limits_are same_before (subst (λ (x : Openers). TellsOfReading told f.kept x f.in_comment) (sym open_at) tells) (stands_before outside) in
-        (h.0, subst (λ (x : Openers). TellsOfReading new f.kept x f.in_comment) open_at h.1)
+        let h = again told (record { body = kept.keeps.body; told = kept.keeps.told }) kept.limits_are same_before (subst (λ (x : Openers). ReportsReading told f.kept x f.in_comment) (sym open_at) tells) (stands_before outside) in
+        (h.0, subst (λ (x : Openers). ReportsReading new f.kept x f.in_comment) open_at h.1)
       where
         told : ScoreStageState
         told = record kept.stage { before = preceding_of (before_held f) }
@@ -57,14 +57,14 @@ module _ (f : ScoreFields) (old : ScoreStageState) (holds : HoldsHeld f old) whe
         same_before : before_of told ≡ before_of old
         same_before = ap (λ (p : ScorePart). in_body p (before_with told.body told.before)) kept.keeps.body ∙ ap (λ (b : Before). Some b) before_there ∙ sym holds.behind.before_is
 
-        tells : TellsOfReading told f.kept (openers_told f) f.in_comment
+        tells : ReportsReading told f.kept (openers_told f) f.in_comment
         tells = record { front = kept.tells.front; reading = kept.tells.reading; openers_are = kept.tells.openers_are; comment_is = kept.tells.comment_is }
 
-  -- a stage that tells so has read it
-  pub has_read : (new : ScoreStageState) → TellsOfReading new f.kept (openers_told f) f.in_comment → HasRead f new
+  -- a stage that reports so has read it
+  pub has_read : (new : ScoreStageState) → ReportsReading new f.kept (openers_told f) f.in_comment → HasRead f new
   has_read new tells = record { kept = tells.reading; openers_are = tells.openers_are; comment = tells.comment_is }
 
-  module _ (place : Place) (new : ScoreStageState) (limits : new.limits ≡ old.limits) (same : TellsTheSameBut old new place) where
+  module _ (place : Place) (new : ScoreStageState) (limits : new.limits ≡ old.limits) (same : ReportsTheSameBut old new place) where
     new_before_of : before_of new ≡ Some (before_held f)
     new_before_of = same.before_same ∙ holds.behind.before_is
 
@@ -96,7 +96,7 @@ module _ (f : ScoreFields) (old : ScoreStageState) (holds : HoldsHeld f old) whe
       openers_there = subst (AreOpenersBefore place) (sym read.openers_are) (record { notes = open_there.notes; inner = open_there.inner; in_order = open_there.in_order })
 
       pub reads_on : is_in_front new.body.part ≡ false → IsPlace place → IsText f.kept
-          → (IsPlace place → AreOpenersBefore place (openers_of new.body.part) → IsText (reading_in_body new.part new.held.gathered.builder.kept) → TellsOfText old → TellsOfText new) → ReadsOn place f new
+          → (IsPlace place → AreOpenersBefore place (openers_of new.body.part) → IsText (reading_in_body new.part new.held.gathered.builder.kept) → ReportsText old → ReportsText new) → ReadsOn place f new
       reads_on front is_place is_text told = record {
         behind = record {
           before_is = new_before_of;

@@ -1,7 +1,7 @@
 -- What stands before the held text of a state is within its limits, and its texts are read.
 use Rattle.std.proofs.Common.{◌≡◌, ◌≢◌, ◌-◌, [], length, subst, ◌∙◌, arith}
 use Rattle.gabc_places.specs.declared.limits.Limits.{Limits}
-use Rattle.gabc_score.specs.ToldWithin.{AreCountsWithin}
+use Rattle.gabc_score.specs.ReportedWithin.{AreCountsWithin}
 use Rattle.gregorio_state.specs.Conditions.{AreScoreFields}
 use Rattle.gregorio_state.specs.Fields.{ScoreFields, StateFields}
 use Rattle.gregorio.specs.SavedState.{IsHeldRead, IsKeptRead, IsScoreRead}

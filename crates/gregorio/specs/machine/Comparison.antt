@@ -3,15 +3,15 @@ use Rattle.std.proofs.Common.{◌≡◌, ◌==◌, ℕ, List, [], ◌∷◌, ◌
 use Rattle.std.specs.Prelude.{if◌then◌else◌}
 
 -- what is left of a text after these bytes, if it begins with them
-abbrev pub left_behind : List ℕ → List ℕ → Option (List ℕ)
-left_behind [] text = Some text
-left_behind (b ∷ bytes) [] = None
-left_behind (b ∷ bytes) (c ∷ text) = if b == c then left_behind bytes text else None
+abbrev pub left_past : List ℕ → List ℕ → Option (List ℕ)
+left_past [] text = Some text
+left_past (b ∷ bytes) [] = None
+left_past (b ∷ bytes) (c ∷ text) = if b == c then left_past bytes text else None
 
 -- the rest of the text that has still to come, as long as what came is the text's
 abbrev pub compared_with : Option (List ℕ) → List ℕ → Option (List ℕ)
 compared_with None bytes = None
-compared_with (Some rest) bytes = left_behind bytes rest
+compared_with (Some rest) bytes = left_past bytes rest
 
 pub compared_with_none : (c : Option (List ℕ)) → compared_with c [] ≡ c
 compared_with_none None = refl
@@ -21,11 +21,11 @@ by_test : (same : Bool) (one both : Option (List ℕ)) (b : List ℕ) → compar
 by_test true one both b is = is
 by_test false one both b is = refl
 
-left_behind_both : (a b text : List ℕ) → compared_with (left_behind a text) b ≡ left_behind (a ++ b) text
-left_behind_both [] b text = refl
-left_behind_both (x ∷ a) b [] = refl
-left_behind_both (x ∷ a) b (c ∷ text) = by_test (x == c) (left_behind a text) (left_behind (a ++ b) text) b (left_behind_both a b text)
+left_past_both : (a b text : List ℕ) → compared_with (left_past a text) b ≡ left_past (a ++ b) text
+left_past_both [] b text = refl
+left_past_both (x ∷ a) b [] = refl
+left_past_both (x ∷ a) b (c ∷ text) = by_test (x == c) (left_past a text) (left_past (a ++ b) text) b (left_past_both a b text)
 
 pub compared_with_both : (c : Option (List ℕ)) (a b : List ℕ) → compared_with (compared_with c a) b ≡ compared_with c (a ++ b)
 compared_with_both None a b = refl
-compared_with_both (Some rest) a b = left_behind_both a b rest
+compared_with_both (Some rest) a b = left_past_both a b rest

@@ -7,7 +7,7 @@ use Rattle.gregorio.specs.declared.source_ending.SourceEnding.{SourceEnding}
 use Rattle.gregorio.specs.declared.source_ending.SourceEnding.TheVariants.{Broken}
 use Rattle.gregorio.specs.witness.Engine.{EngineState, streams_left}
 use Rattle.gregorio.specs.Engine.{IsPrompt}
-use Rattle.gregorio.specs.Streams.{Streams, behind_bytes, streams_of_outcome}
+use Rattle.gregorio.specs.Streams.{Streams, after_bytes, streams_of_outcome}
 use Rattle.gregorio.specs.Outcome.{outcome_of}
 use Rattle.gregorio.specs.Run.{Compiles, InTime, IsPointOf, OneFails, Use}
 use Rattle.gregorio.specs.SourceBytes.{ReadsSource}
@@ -22,7 +22,7 @@ pub record AreSent (out messages : Use) (output lines : List ℕ) : Type 0 where
   pub goes_on : GoesOn out.calls_old out.calls_new
   pub messages_go_on : GoesOn messages.calls_old messages.calls_new
 
--- So many bytes of both streams were written: at some point no less of the output, and no more of
+-- So far this was written of both streams: at some point no less of the output, and no more of
 -- the messages.
 pub record AreInOrder (IsPoint : List ℕ → List ℕ → Type 0) (output_count lines_count : ℕ) : Type 0 where
   pub output : List ℕ
@@ -53,7 +53,7 @@ pub record Knows (old : EngineState) (bytes : List ℕ) (ending : SourceEnding) 
   pub at : SourceEnding
   pub is_point : IsPointOf bytes ending front at
   pub left : Streams
-  pub known : streams_left old at front ≡ behind_bytes output lines left
+  pub known : streams_left old at front ≡ after_bytes output lines left
   pub prompt : IsPrompt old.written.format left
 
 -- A sink failed: each took a prefix of what an engine writes of these bytes, in order.
@@ -71,9 +71,9 @@ pub record IsFed (out messages : Use) (old new : EngineState) (bytes : List ℕ)
   pub lines : List ℕ
   pub sent : AreSent out messages output lines
   pub prompt : IsPromptAs old new
-  pub law : (rest : List ℕ) (ending : SourceEnding) → streams_left old ending (bytes ++ rest) ≡ behind_bytes output lines (streams_left new ending rest)
+  pub law : (rest : List ℕ) (ending : SourceEnding) → streams_left old ending (bytes ++ rest) ≡ after_bytes output lines (streams_left new ending rest)
 
--- Of a source so many bytes were taken without a failure, and an engine took them.
+-- Of a source n bytes were taken without a failure, and an engine took them.
 pub record IsFedFrom (source out messages : Use) (old new : EngineState) (count : ℕ) : Type 0 where
   pub bytes : List ℕ
   pub counted : length bytes ≡ count

@@ -10,7 +10,7 @@ use Rattle.gabc_headers.specs.declared.head_event.HeadEvent.{HeadEvent}
 use Rattle.gabc_headers.specs.declared.head_event.HeadEvent.TheVariants as head_event
 use Rattle.gabc_headers.specs.witness.HeadEvents.{HeaderStageState, HeadProgress, reading, behind, over, IsBehind}
 use Rattle.gregorio.specs.declared.source_ending.SourceEnding.{SourceEnding}
-use Rattle.gregorio.specs.Streams.{Streams, behind_bytes}
+use Rattle.gregorio.specs.Streams.{Streams, after_bytes}
 use Rattle.gregorio.specs.witness.Engine.{EngineState, book_behind, head_events_left, is_heads}
 use Rattle.gregorio.specs.machine.InStep.{IsInStep, StayInStep}
 use Rattle.gregorio.specs.machine.ReadsHeaders.{ReadsHeaders, ReadsOn}
@@ -32,7 +32,7 @@ pub record WritesAll (old : ScoreWriterState) (events : List HeadEvent) (read : 
   pub lines : List ℕ
   pub out : new.writer.out ≡ extended_by old.writer.out output
   pub messages : new.writer.messages ≡ extended_by old.writer.messages lines
-  pub law : (book : List (List ℕ × List ℕ)) (from_heads : List HeadEvent) → AreBooksAt events book read → streams_of old book (events ++ from_heads) ≡ behind_bytes output lines (streams_of new book from_heads)
+  pub law : (book : List (List ℕ × List ℕ)) (from_heads : List HeadEvent) → AreBooksAt events book read → streams_of old book (events ++ from_heads) ≡ after_bytes output lines (streams_of new book from_heads)
 
 -- after these the headers are written at most where they were before or are whole among these
 abbrev pub headed_past : Bool → List HeadEvent → Bool
@@ -61,7 +61,7 @@ pub record WritesItems (h : HeaderStageState) (old : ScoreWriterState) (items : 
   pub lines : List ℕ
   pub out : new.writer.out ≡ extended_by old.writer.out output
   pub messages : new.writer.messages ≡ extended_by old.writer.messages lines
-  pub law : (ending : SourceEnding) (more : List (Result Char Fault)) → streams_of_items h old ending (items ++ more) ≡ behind_bytes output lines (streams_of_items now new ending more)
+  pub law : (ending : SourceEnding) (more : List (Result Char Fault)) → streams_of_items h old ending (items ++ more) ≡ after_bytes output lines (streams_of_items now new ending more)
 
 -- ---- between two calls
 
@@ -106,6 +106,7 @@ pub record ReadsItems (h : HeaderStageState) (old : ScoreWriterState) (items : L
   pub tells : StayTelling h old items new
   pub room : IsNoCharacter items → FitsEnd new
   pub steady : IsSteady old new
+  pub hasher : now.hasher ≡ h.hasher
 
 -- There is room for the events of one call, the rooms of the writer are those of the limits, and
 -- all parts are in step.

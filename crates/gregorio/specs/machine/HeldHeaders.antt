@@ -15,7 +15,7 @@ abbrev pub is_error_event : HeadEvent → Bool
 is_error_event (Found f) = is_error_finding f
 is_error_event event = false
 
--- A stage that is still in the headers holds this text, and tells whether an error is found in it.
+-- A stage that is still in the headers holds this text, and says whether an error is found in it.
 pub record IsHeldSo (limits : Limits) (t : List ℕ) (error : Bool) (u : List ℕ) : Type 0 where
   pub text : u ≡ t
   pub held : IsHeld limits t
@@ -35,5 +35,5 @@ pub record IsPushed (limits : Limits) (hasher : DefaultHasher) (t : List ℕ) (h
   pub holds : HoldsSo limits t error h.progress
 
 -- after the line `%%` alone
-abbrev pub behind_mark : Limits → DefaultHasher → HeaderStageState
-behind_mark limits hasher = record { limits = limits; progress = behind []; book = []; hasher = hasher }
+abbrev pub after_mark : Limits → DefaultHasher → HeaderStageState
+after_mark limits hasher = record { limits = limits; progress = behind []; book = []; hasher = hasher }

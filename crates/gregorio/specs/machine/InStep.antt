@@ -2,7 +2,7 @@
 use Rattle.std.specs.Prelude.{◌≡◌, ℕ, ◌+◌, ◌≤◌, List, [], ◌∷◌, length, Bool, true, false, is_none, Result}
 use Rattle.std.specs.List.{list_any}
 use Rattle.gabc_places.specs.DecoderMachine.{DecoderState}
-use Rattle.gabc_places.specs.DecoderTells.{MovesOn}
+use Rattle.gabc_places.specs.DecoderReports.{MovesOn}
 use Rattle.gabc_places.specs.declared.code.Fault.{Fault}
 use Rattle.gabc_places.specs.declared.place.Char.{Char}
 use Rattle.gabc_places.specs.declared.place.Place.{Place}
@@ -13,10 +13,10 @@ use Rattle.gabc_neumes.specs.InForce.{nothing_in_force}
 use Rattle.gabc_score.specs.declared.score_machine.ScorePart.{ScorePart}
 use Rattle.gabc_score.specs.declared.score_machine.ScorePart.TheVariants as score_part
 use Rattle.gabc_score.specs.ScoreEvents.{ScoreOutput, Found, Stop, End, is_last, syllables_in}
-use Rattle.gabc_score.specs.ScoreStage.{Counts, StandsHere, is_final, most_lent, most_whole, part_past, place_behind, preceding_past}
-use Rattle.gabc_score.specs.ToldWithin.{whole_syllables}
+use Rattle.gabc_score.specs.ScoreStage.{Counts, IsHere, is_final, most_borrowed, most_whole, part_past, place_after_input, preceding_past}
+use Rattle.gabc_score.specs.ReportedWithin.{whole_syllables}
 use Rattle.gabc_score.specs.witness.ScoreStage.{ScoreStageState, left_of}
-use Rattle.gregorio.specs.witness.Engine.{Written, behind_heads, behind_outputs, writes_heads}
+use Rattle.gregorio.specs.witness.Engine.{Written, after_heads, after_outputs, writes_heads}
 use Rattle.gregorio.specs.machine.RunWriter.{RunWriterState, heads_at, past_outputs}
 use Rattle.gregorio.specs.machine.ScoreWriter.{ScoreWriterState}
 use Rattle.gregorio.specs.machine.Telling.{TellsOn}
@@ -35,19 +35,19 @@ given_in_heads (head_event.Heads lines macros canonical) = []
 -- At an event the score gave these, and what is written is what stands after them.
 pub record PassesOn (old : ScoreStageState) (w : Written) (x : HeadEvent) (new : ScoreWriterState) : Type 0 where
   pub outputs : List ScoreOutput
-  pub few : length (syllables_in outputs) ≤ most_lent x
+  pub few : length (syllables_in outputs) ≤ most_borrowed x
   pub part : new.score.part ≡ part_past old.part x outputs
   pub last : (old.part ≡ score_part.Over → ⊥) → is_final x ≡ true → list_any is_last outputs ≡ true
   pub before_held : new.score.part ≡ score_part.Body → new.score.before ≡ preceding_past old.part x outputs old.before
-  pub counts : (place : Place) → StandsHere x place → Counts place old → Counts (place_behind x place) new.score
+  pub counts : (place : Place) → IsHere x place → Counts place old → Counts (place_after_input x place) new.score
   pub whole : new.score.part ≡ score_part.Body → whole_syllables new.score ≤ most_whole old.part x (whole_syllables old)
-  pub written : new.writer.written ≡ behind_outputs w outputs
+  pub written : new.writer.written ≡ after_outputs w outputs
   pub in_heads : old.part ≡ score_part.Heads → outputs ≡ given_in_heads x
   pub tells : TellsOn old x new.score
 
 -- what is written where the headers are, if they are at this event
 abbrev pub written_at : Written → HeadEvent → Written
-written_at w x = behind_heads w (writes_heads w x)
+written_at w x = after_heads w (writes_heads w x)
 
 -- After what this writer has written it wrote what the score gave of an event, and the score goes
 -- on with what follows.

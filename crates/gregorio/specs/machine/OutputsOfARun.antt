@@ -3,7 +3,7 @@ use Rattle.std.proofs.Common.{◌≡◌, ℕ, List, [], ◌∷◌, ◌++◌, sym
 use Rattle.gabc_places.specs.BoundedList.{extended_by}
 use Rattle.gabc_score.specs.ScoreEvents.{ScoreOutput, Syllable}
 use Rattle.gabc_score.specs.Syllable.{PlacedSyllable}
-use Rattle.gregorio.specs.witness.Engine.{behind_output, lines_of_output, lines_of_outputs, text_of_output, texts_of_outputs}
+use Rattle.gregorio.specs.witness.Engine.{after_output, lines_of_output, lines_of_outputs, text_of_output, texts_of_outputs}
 use Rattle.gregorio.specs.machine.RunWriter.{RunWriterState, outputs_of_syllables, past_output, past_outputs, past_syllables}
 
 -- no output changes nothing
@@ -15,7 +15,7 @@ past_no_output w =
 -- an output, and then others
 pub one_then : (w : RunWriterState) (o : ScoreOutput) (rest : List ScoreOutput) → past_outputs (past_output w o) rest ≡ past_outputs w (o ∷ rest)
 one_then w o rest =
-    let v = behind_output w.written o in
+    let v = after_output w.written o in
     let p = past_outputs w (o ∷ rest) in
     ap (λ (text : List ℕ). record p { out = record w.out { items = text }; messages = extended_by (extended_by w.messages (lines_of_output w.written o)) (lines_of_outputs v rest) })
     (append_assoc w.out.items (text_of_output w.written o) (texts_of_outputs v rest))

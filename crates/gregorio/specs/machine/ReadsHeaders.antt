@@ -2,7 +2,7 @@
 use Rattle.std.specs.Prelude.{◌≡◌, ℕ, List, Bool, true, is_none, Result}
 use Rattle.std.specs.List.{All}
 use Rattle.gabc_places.specs.DecoderMachine.{DecoderState}
-use Rattle.gabc_places.specs.DecoderTells.{MovesOn}
+use Rattle.gabc_places.specs.DecoderReports.{MovesOn}
 use Rattle.gabc_places.specs.TextOfAnInput.{IsTextCharacter}
 use Rattle.gabc_places.specs.declared.code.Fault.{Fault}
 use Rattle.gabc_places.specs.declared.limits.Limits.{Limits}
@@ -14,7 +14,7 @@ use Rattle.gregorio.specs.machine.InStep.{RunsInStep}
 use Rattle.gregorio.specs.machine.ScoreWriter.{ScoreWriterState}
 use Rattle.gregorio.specs.witness.Engine.{Written}
 
--- a text of an input that gives this place and tells whether an error is found in it
+-- a text of an input that gives this place and says whether an error is found in it
 pub record IsReadAs (limits : Limits) (t : List ℕ) (place : Place) (error : Bool) : Type 0 where
   pub text : All IsTextCharacter t
   pub gives : GivesHeaders limits t place error

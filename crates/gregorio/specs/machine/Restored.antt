@@ -1,6 +1,7 @@
 -- What a run that goes on from a saved state has, part by part.
 use Rattle.std.specs.Prelude.{◌≡◌, ◌+◌, ◌-◌, ◌*◌, ◌≤◌, ℕ, List, [], true}
 use Rattle.std.specs.Str.{chars}
+use Rattle.std.specs.declared.hash.DefaultHasher.{DefaultHasher}
 use Rattle.gabc_places.specs.declared.limits.Limits.{Limits}
 use Rattle.gabc_headers.specs.HeldText.{holding}
 use Rattle.gabc_headers.specs.witness.HeadEvents.{HeaderStageState}
@@ -11,7 +12,7 @@ use Rattle.gregorio_state.specs.Fields.{PhaseFields, ScoreFields, StateFields, I
 use Rattle.gregorio.specs.Engine.{NothingWaits, RunsJob, is_running}
 use Rattle.gregorio.specs.Saved.{GivesHeaders, state_of}
 use Rattle.gregorio.specs.witness.Engine.{EngineState, Written}
-use Rattle.gregorio.specs.machine.HeldHeaders.{behind_mark}
+use Rattle.gregorio.specs.machine.HeldHeaders.{after_mark}
 use Rattle.gregorio.specs.machine.Restoring.{IsSetDown}
 use Rattle.gregorio.specs.machine.RunWriter.{RunWriterState, line_room, most_waiting, out_room}
 use Rattle.gregorio.specs.machine.ScoreWriter.{fresh_writer}
@@ -28,9 +29,9 @@ pub record StandInHeaders (s : StateFields) (text : List ℕ) (limits : Limits) 
   pub gives : GivesHeaders limits (chars text) s.place s.has_error
   pub part : score.part ≡ Heads
 
--- In the score one stage is after some headers, and the other one is set down.
+-- In the score one stage is after some headers, and the other one is restored.
 pub record StandInScore (s : StateFields) (f : ScoreFields) (limits : Limits) (h : HeaderStageState) (score : ScoreStageState) : Type 0 where
-  pub heads : h ≡ behind_mark limits h.hasher
+  pub heads : h ≡ after_mark limits h.hasher
   pub set_down : IsSetDown s f score
 
 abbrev pub StandIn : StateFields → PhaseFields → Limits → HeaderStageState → ScoreStageState → Type 0
@@ -42,12 +43,14 @@ pub record StandSo (s : StateFields) (limits : Limits) (h : HeaderStageState) (s
   pub limits_are : score.limits ≡ limits
   pub stand : StandIn s s.phase limits h score
 
--- An engine of this job under these limits has these fields of a state, and goes on.
-pub record GoesOn (job : Job) (limits : Limits) (s : StateFields) (e : EngineState) : Type 0 where
+-- An engine of this job under these limits has these fields of a state, hashes names from there on,
+-- and goes on.
+pub record GoesOn (job : Job) (limits : Limits) (s : StateFields) (hasher : DefaultHasher) (e : EngineState) : Type 0 where
   pub state : state_of e ≡ s
   pub job_is : RunsJob job limits e
   pub running : is_running e ≡ true
   pub waits : NothingWaits e
+  pub hasher_is : e.heads.hasher ≡ hasher
 
 -- nothing waits, and there is room for all that is written under these limits
 pub record HasEmptyRooms (limits : Limits) (w : RunWriterState) : Type 0 where

@@ -8,7 +8,7 @@ use Rattle.gabc_score.specs.ScoreEvents.{ScoreOutput, Found, Stop, Syllable, End
 use Rattle.gabc_places.specs.declared.limits.Limits.{Limits}
 use Rattle.gabc_score.specs.ScoreStage.{IsWithin}
 use Rattle.gabc_score.specs.Syllable.{PlacedSyllable}
-use Rattle.gregorio.specs.witness.Engine.{Written, behind_heads, behind_output, behind_outputs, ceased_ending, ceased_text, if_headed, is_before_heads, lines_of_output, lines_of_outputs, text_of_heads, text_of_output, texts_of_outputs, writes_heads}
+use Rattle.gregorio.specs.witness.Engine.{Written, after_heads, after_output, after_outputs, ceased_ending, ceased_text, if_headed, is_before_heads, lines_of_output, lines_of_outputs, text_of_heads, text_of_output, texts_of_outputs, writes_heads}
 use Rattle.gregorio.specs.Streams.{last_text}
 use Rattle.gregorio_jobs.specs.declared.job.Format.{Format}
 use Rattle.gregorio_jobs.specs.declared.job.Format.TheVariants.{Gabc, Dump}
@@ -25,7 +25,7 @@ with_bytes w text lines = record w { out = extended_by w.out text; messages = ex
 
 -- where it has written this book, if it writes it
 abbrev pub with_book : RunWriterState → List (List ℕ × List ℕ) → Bool → RunWriterState
-with_book w book writes = record w { written = behind_heads w.written writes; out = extended_by w.out (text_of_heads w.written book writes) }
+with_book w book writes = record w { written = after_heads w.written writes; out = extended_by w.out (text_of_heads w.written book writes) }
 
 abbrev pub with_heads : RunWriterState → List (List ℕ × List ℕ) → RunWriterState
 with_heads w book = with_book w book (is_before_heads w.written)
@@ -38,10 +38,10 @@ abbrev pub with_last : RunWriterState → Bool → RunWriterState
 with_last w whole = record w { out = extended_by w.out (if_headed w.written (last_text w.written.format whole w.written.count)) }
 
 abbrev pub past_output : RunWriterState → ScoreOutput → RunWriterState
-past_output w o = record (with_bytes w (text_of_output w.written o) (lines_of_output w.written o)) { written = behind_output w.written o }
+past_output w o = record (with_bytes w (text_of_output w.written o) (lines_of_output w.written o)) { written = after_output w.written o }
 
 abbrev pub past_outputs : RunWriterState → List ScoreOutput → RunWriterState
-past_outputs w outputs = record (with_bytes w (texts_of_outputs w.written outputs) (lines_of_outputs w.written outputs)) { written = behind_outputs w.written outputs }
+past_outputs w outputs = record (with_bytes w (texts_of_outputs w.written outputs) (lines_of_outputs w.written outputs)) { written = after_outputs w.written outputs }
 
 -- where its source has failed, if the run is not over
 abbrev pub past_end : RunWriterState → RunWriterState
@@ -122,7 +122,7 @@ abbrev pub texts_room : Format → ℕ → List ScoreOutput → ℕ
 texts_room format limit [] = 0
 texts_room format limit (o ∷ outputs) = text_room format limit o + texts_room format limit outputs
 
--- With what these bring, the messages and the output have at most so many bytes. The syllables are
+-- With what these bring, the messages and the output have at most n bytes. The syllables are
 -- within the limits.
 pub record IsInRoom (limits : Limits) (most_lines most_texts : ℕ) (w : RunWriterState) (outputs : List ScoreOutput) : Type 0 where
   pub lines : length w.messages.items + lines_room w.written.name outputs ≤ most_lines

@@ -14,13 +14,13 @@ use Rattle.gabc_score.specs.declared.score_machine.ScorePart.{ScorePart}
 use Rattle.gabc_score.specs.declared.score_machine.ScorePart.TheVariants as score_part
 use Rattle.gabc_score.specs.GivesSyllables.{Runs}
 use Rattle.gabc_score.specs.ScoreEvents.{ScoreOutput, Found, Stop, Syllable, End}
-use Rattle.gabc_score.specs.ScoreStage.{is_final, lent_in}
+use Rattle.gabc_score.specs.ScoreStage.{is_final, borrowed_in}
 use Rattle.gabc_places.specs.StageLaw.{concat_of}
 use Rattle.gabc_score.specs.witness.ScoreStage.{ScoreStageState, left_of}
 use Rattle.gregorio.specs.Outcome.{input_name}
 use Rattle.gregorio_jobs.specs.declared.job.Job.{Job}
 use Rattle.gregorio.specs.declared.run_ending.RunEnding.{RunEnding}
-use Rattle.gregorio.specs.Streams.{Streams, behind_bytes}
+use Rattle.gregorio.specs.Streams.{Streams, after_bytes}
 use Rattle.gregorio.specs.witness.Engine.{Written, ended_by, streams_from}
 use Rattle.gregorio.specs.machine.ClefInForce.{HasClefOfSounds}
 use Rattle.gregorio.specs.machine.RunWriter.{RunWriterState, past_syllables, line_room, syllable_room, room_without_notes, heads_room, last_room, most_waiting, out_room}
@@ -34,7 +34,7 @@ pub record ScoreWriterState : Type 0 where
 abbrev pub output_of_event : ScoreStageState → ScoreEvent → ScoreOutput
 output_of_event s (event.Found f) = Found f
 output_of_event s (event.Stop fault) = Stop fault
-output_of_event s (event.Syllable lent) = Syllable (lent_in lent s)
+output_of_event s (event.Syllable lent) = Syllable (borrowed_in lent s)
 output_of_event s event.End = End
 
 abbrev pub outputs_of_events : ScoreStageState → List ScoreEvent → List ScoreOutput
@@ -58,7 +58,7 @@ pub record WritesAt (old : ScoreWriterState) (x : HeadEvent) (read : List (List 
   pub lines : List ℕ
   pub out : new.writer.out ≡ extended_by old.writer.out output
   pub messages : new.writer.messages ≡ extended_by old.writer.messages lines
-  pub law : (book : List (List ℕ × List ℕ)) (from_heads : List HeadEvent) → IsBookAt x book read → streams_of old book (x ∷ from_heads) ≡ behind_bytes output lines (streams_of new book from_heads)
+  pub law : (book : List (List ℕ × List ℕ)) (from_heads : List HeadEvent) → IsBookAt x book read → streams_of old book (x ∷ from_heads) ≡ after_bytes output lines (streams_of new book from_heads)
 
 -- At these characters, the first of which stands at this place, it wrote syllables and nothing
 -- else, and it goes on with what follows.
@@ -71,7 +71,7 @@ pub record WritesLast (old new : ScoreWriterState) (how : RunEnding) : Type 0 wh
   pub lines : List ℕ
   pub out : new.writer.out ≡ extended_by old.writer.out output
   pub messages : new.writer.messages ≡ extended_by old.writer.messages lines
-  pub law : (book : List (List ℕ × List ℕ)) → streams_of old book [] ≡ behind_bytes output lines (ended_by how)
+  pub law : (book : List (List ℕ × List ℕ)) → streams_of old book [] ≡ after_bytes output lines (ended_by how)
 
 -- whatever comes, a stage gives nothing more
 abbrev pub IsSilent : ScoreStageState → Type 0
@@ -89,7 +89,7 @@ pub record IsScoreWriter (score : ScoreStageState) (events : BoundedList ScoreEv
   pub silent : IsSome writer.written.ended → IsSilent score
   pub clef : HasClefOfSounds score writer.written
 
--- what no call changes: the limits, the format, the name and whether warnings are told, and how
+-- what no call changes: the limits, the format, the name and whether warnings are reported, and how
 -- much the rooms take
 pub record IsSteady (old new : ScoreWriterState) : Type 0 where
   pub limits : new.score.limits ≡ old.score.limits

@@ -1,11 +1,11 @@
--- A stage over a score on its way to be set down from the fields of a state.
+-- A stage over a score on its way to be restored from the fields of a state.
 use Rattle.std.specs.Prelude.{◌≡◌, ◌+◌, ◌-◌, false, Some}
 use Rattle.gabc_places.specs.declared.limits.Limits.{Limits}
 use Rattle.gabc_places.specs.declared.place.Place.{Place}
-use Rattle.gabc_score.specs.ReadAgain.{TellsOfReading}
-use Rattle.gabc_score.specs.Resumed.{BeginsText}
-use Rattle.gabc_score.specs.ScoreTells.{StandsAt, before_of, held_of, is_in_comment, is_in_front, openers_of, reading_of}
-use Rattle.gabc_score.specs.ToldWithin.{TellsOfText}
+use Rattle.gabc_score.specs.ReadAgain.{ReportsReading}
+use Rattle.gabc_score.specs.Resumed.{BeginsText, IsAfterSyllables}
+use Rattle.gabc_score.specs.ScoreReports.{IsAt, before_of, held_of, is_in_comment, is_in_front, openers_of, reading_of}
+use Rattle.gabc_score.specs.ReportedWithin.{ReportsText}
 use Rattle.gabc_score.specs.declared.body_tells.Openers.{Openers}
 use Rattle.gabc_score.specs.witness.ReadAgain.{CanBeReadAgain}
 use Rattle.gabc_score.specs.witness.ScoreStage.{ScoreStageState}
@@ -16,6 +16,11 @@ use Rattle.gregorio.specs.SavedState.{before_held}
 -- the places of what is open
 abbrev pub openers_told : ScoreFields → Openers
 openers_told f = record { notes = f.notes_opener; inner = f.inner_opener }
+
+-- It stands after what stands before the syllable of the held text, and holds none yet.
+pub record IsResumed (limits : Limits) (f : ScoreFields) (stage : ScoreStageState) : Type 0 where
+  pub stands : IsAfterSyllables limits (before_held f) stage
+  pub told : ReportsText stage
 
 -- It stands after what stands before the syllable of the held text, and holds this syllable, if
 -- there is one.
@@ -28,7 +33,7 @@ pub record StandsBehindHeld (f : ScoreFields) (stage : ScoreStageState) : Type 0
 pub record HoldsHeld (f : ScoreFields) (stage : ScoreStageState) : Type 0 where
   pub behind : StandsBehindHeld f stage
   pub begins : BeginsText stage
-  pub told : TellsOfText stage
+  pub told : ReportsText stage
 
 -- In the body it has read this of a syllable.
 pub record HasRead (f : ScoreFields) (stage : ScoreStageState) : Type 0 where
@@ -44,7 +49,7 @@ pub record IsReportedSo (limits : Limits) (f : ScoreFields) : Type 0 where
   pub limits_are : stage.limits ≡ limits
   pub lines : stage.body.nabc_lines ≡ f.nabc_lines
   pub macros : stage.body.macros ≡ f.macros
-  pub tells : TellsOfReading stage f.kept (openers_told f) f.in_comment
+  pub tells : ReportsReading stage f.kept (openers_told f) f.in_comment
 
 -- It has read the kept text, after the comment in front, and the next character stands there.
 pub record ReadsOn (place : Place) (f : ScoreFields) (stage : ScoreStageState) : Type 0 where
@@ -52,5 +57,5 @@ pub record ReadsOn (place : Place) (f : ScoreFields) (stage : ScoreStageState) :
   pub read : HasRead f stage
   pub front : is_in_front stage.body.part ≡ false
   pub next : stage.held.next ≡ place
-  pub stands : StandsAt place stage.body.part
-  pub told : TellsOfText stage
+  pub stands : IsAt place stage.body.part
+  pub told : ReportsText stage

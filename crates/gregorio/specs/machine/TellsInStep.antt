@@ -1,15 +1,15 @@
--- What an engine that runs tells of its score: that of a text, at the place of its decoder.
+-- What an engine that runs reports of its score: that of a text, at the place of its decoder.
 use Rattle.std.specs.Prelude.{◌≡◌, ◌≤◌, List, Bool, true, false, is_none, Result, Ok, Err}
 use Rattle.gabc_places.specs.DecoderMachine.{DecoderState}
-use Rattle.gabc_places.specs.DecoderTells.{MovesOn, is_after_cr}
+use Rattle.gabc_places.specs.DecoderReports.{MovesOn, is_after_cr}
 use Rattle.gabc_places.specs.Place.{saturating_next_place}
 use Rattle.gabc_places.specs.declared.code.Fault.{Fault}
 use Rattle.gabc_places.specs.declared.place.Char.{Char}
 use Rattle.gabc_headers.specs.declared.head_event.HeadEvent.{HeadEvent}
 use Rattle.gabc_headers.specs.witness.HeadEvents.{HeaderStageState}
 use Rattle.gabc_score.specs.declared.score_machine.ScorePart.TheVariants as score_part
-use Rattle.gabc_score.specs.ScoreTells.{is_in_comment, moved_to}
-use Rattle.gabc_score.specs.ToldWithin.{HoldsIfAny, TellsOfText}
+use Rattle.gabc_score.specs.ScoreReports.{is_in_comment, moved_to}
+use Rattle.gabc_score.specs.ReportedWithin.{HoldsIfAny, ReportsText}
 use Rattle.gabc_score.specs.witness.ScoreStage.{ScoreStageState, left_of}
 use Rattle.gregorio.specs.witness.Engine.{Written}
 use Rattle.gregorio.specs.machine.InStep.{RunsInStep}
@@ -32,7 +32,7 @@ begun (Ok x) true s = moved_to (saturating_next_place x.place x.c) s
 begun (Ok x) false s = s
 begun (Err fault) headed s = s
 
--- It is told where the body begins, and writes what it would have written.
+-- It learns where the body begins, and writes what it would have written.
 pub record BeginsBody (item : Result Char Fault) (old new : ScoreWriterState) : Type 0 where
   pub is : new ≡ record old { score = begun item old.writer.written.headed old.score }
   pub left : (from_heads : List HeadEvent) → left_of new.score from_heads ≡ left_of old.score from_heads
@@ -43,7 +43,7 @@ pub record BeginsBody (item : Result Char Fault) (old new : ScoreWriterState) : 
 -- after a CR.
 pub record TellsInBody (d : DecoderState) (s : ScoreStageState) : Type 0 where
   pub next : s.held.next ≡ d.place
-  pub told : TellsOfText s
+  pub told : ReportsText s
   pub holds : HoldsIfAny s
   pub comment : is_after_cr d ≡ true → is_in_comment s.body.part ≡ false
 

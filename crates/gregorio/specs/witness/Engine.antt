@@ -22,7 +22,7 @@ use Rattle.gregorio_jobs.specs.declared.job.Format.{Format}
 use Rattle.gregorio_jobs.specs.declared.job.Status.{Status}
 use Rattle.gregorio_jobs.specs.declared.job.Status.TheVariants as run_status
 use Rattle.gabc_write.specs.Message.{line_of}
-use Rattle.gregorio.specs.Streams.{Streams, behind_bytes, ended_with, heads_text, syllable_text, force_behind, last_text, next_number}
+use Rattle.gregorio.specs.Streams.{Streams, after_bytes, ended_with, heads_text, syllable_text, force_after, last_text, next_number}
 
 -- What an engine writes: the format, what messages call the input, whether warnings are wanted;
 -- whether the headers were written; how many syllables were, a count that saturates; what is in
@@ -103,23 +103,23 @@ lines_of_output w (Syllable s) = []
 lines_of_output w End = []
 
 -- A stop or the end ends the run.
-abbrev pub behind_output : Written → ScoreOutput → Written
-behind_output w (Found f) = record w { errors = w.errors || is_error_finding f }
-behind_output w (Stop fault) = record w { ended = Some (run_ending.Fatal fault) }
-behind_output w (Syllable s) = record w { count = if w.headed then next_number w.count else w.count; force = if w.headed then force_behind w.format w.force s else w.force }
-behind_output w End = record w { ended = Some (ending_of_whole w.errors) }
+abbrev pub after_output : Written → ScoreOutput → Written
+after_output w (Found f) = record w { errors = w.errors || is_error_finding f }
+after_output w (Stop fault) = record w { ended = Some (run_ending.Fatal fault) }
+after_output w (Syllable s) = record w { count = if w.headed then next_number w.count else w.count; force = if w.headed then force_after w.format w.force s else w.force }
+after_output w End = record w { ended = Some (ending_of_whole w.errors) }
 
 abbrev pub texts_of_outputs : Written → List ScoreOutput → List ℕ
 texts_of_outputs w [] = []
-texts_of_outputs w (o ∷ outputs) = text_of_output w o ++ texts_of_outputs (behind_output w o) outputs
+texts_of_outputs w (o ∷ outputs) = text_of_output w o ++ texts_of_outputs (after_output w o) outputs
 
 abbrev pub lines_of_outputs : Written → List ScoreOutput → List ℕ
 lines_of_outputs w [] = []
-lines_of_outputs w (o ∷ outputs) = lines_of_output w o ++ lines_of_outputs (behind_output w o) outputs
+lines_of_outputs w (o ∷ outputs) = lines_of_output w o ++ lines_of_outputs (after_output w o) outputs
 
-abbrev pub behind_outputs : Written → List ScoreOutput → Written
-behind_outputs w [] = w
-behind_outputs w (o ∷ outputs) = behind_outputs (behind_output w o) outputs
+abbrev pub after_outputs : Written → List ScoreOutput → Written
+after_outputs w [] = w
+after_outputs w (o ∷ outputs) = after_outputs (after_output w o) outputs
 
 -- ---- the headers
 
@@ -138,8 +138,8 @@ writes_heads w x = is_heads x && is_before_heads w
 abbrev pub text_of_heads : Written → List (List ℕ × List ℕ) → Bool → List ℕ
 text_of_heads w book writes = if writes then heads_text w.format book else []
 
-abbrev pub behind_heads : Written → Bool → Written
-behind_heads w writes = record w { headed = w.headed || writes }
+abbrev pub after_heads : Written → Bool → Written
+after_heads w writes = record w { headed = w.headed || writes }
 
 -- ---- what comes
 
@@ -157,7 +157,7 @@ ceased w = record (ended_by (ceased_ending w.ended)) { output = ceased_text w.en
 
 -- the streams of these, after which the input ceases
 abbrev pub streams_in : Written → List ScoreOutput → Streams
-streams_in w outputs = behind_bytes (texts_of_outputs w outputs) (lines_of_outputs w outputs) (ceased (behind_outputs w outputs))
+streams_in w outputs = after_bytes (texts_of_outputs w outputs) (lines_of_outputs w outputs) (ceased (after_outputs w outputs))
 
 abbrev pub first_list : List (List ScoreOutput) → List ScoreOutput
 first_list [] = []
@@ -168,9 +168,9 @@ first_list (outputs ∷ lists) = outputs
 abbrev pub streams_from : Written → List (List ℕ × List ℕ) → List HeadEvent → List (List ScoreOutput) → Streams
 streams_from w book [] lists = streams_in w (concat_of lists)
 streams_from w book (x ∷ from_heads) lists =
-    let v = behind_heads w (writes_heads w x) in
-    behind_bytes (text_of_heads w book (writes_heads w x) ++ texts_of_outputs v (first_list lists)) (lines_of_outputs v (first_list lists))
-    (streams_from (behind_outputs v (first_list lists)) book from_heads (drop 1 lists))
+    let v = after_heads w (writes_heads w x) in
+    after_bytes (text_of_heads w book (writes_heads w x) ++ texts_of_outputs v (first_list lists)) (lines_of_outputs v (first_list lists))
+    (streams_from (after_outputs v (first_list lists)) book from_heads (drop 1 lists))
 
 -- What an engine will still write of these bytes, after which the input ends so, beside what waits.
 abbrev pub streams_left : EngineState → SourceEnding → List ℕ → Streams

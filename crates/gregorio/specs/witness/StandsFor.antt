@@ -9,13 +9,13 @@ use Rattle.gregorio.specs.Saved.{state_of}
 use Rattle.gregorio.specs.SavedState.{AreOfState}
 use Rattle.gregorio.specs.Streams.{Streams}
 use Rattle.gregorio.specs.witness.Engine.{EngineState, streams_left}
-use Rattle.gregorio.specs.witness.MayRun.{MayRun}
+use Rattle.gregorio.specs.witness.CanRun.{CanRun}
 
 -- These bytes are the saved state of a run of this job under these limits, which will still write
 -- this of whatever follows.
 pub record StandsFor (job : Job) (limits : Limits) (bytes : List ℕ) (left : SourceEnding → List ℕ → Streams) : Type 0 where
   pub engine : EngineState
-  pub may : MayRun engine
+  pub may : CanRun engine
   pub of_job : RunsJob job limits engine
   pub saved : bytes ≡ state_bytes (state_of engine)
   pub is_state : AreOfState (state_of engine)

@@ -3,14 +3,14 @@ use Rattle.std.specs.Prelude.{◌≡◌, ◌==◌, ℕ, List, ◌++◌, take, if
 use Rattle.gabc_places.specs.declared.limits.Limits.{Limits}
 use Rattle.gregorio_jobs.specs.declared.job.Job.{Job}
 use Rattle.gregorio.specs.declared.source_ending.SourceEnding.{SourceEnding}
-use Rattle.gregorio.specs.Streams.{behind_bytes}
+use Rattle.gregorio.specs.Streams.{after_bytes}
 use Rattle.gregorio.specs.witness.StandsFor.{StandsFor}
 use Rattle.gregorio_c.specs.InPieces.{PutsLast}
 use Rattle.gregorio_c.specs.Steps.{Writes, goes_on}
 use Rattle.gregorio_c.specs.declared.in_pieces.Fed.{Fed}
 use Rattle.gregorio_c.specs.declared.in_pieces.Fed.TheVariants.{On, Over}
 
--- where a run stands that answered this number, and whose state has so many bytes then
+-- where a run stands that answered this number, and whose state has n bytes then
 abbrev pub fed_as : ℕ → ℕ → Fed
 fed_as number len = if number == goes_on then On len else Over number
 
@@ -23,7 +23,7 @@ module _ {A B : Type 0} (takes : A → List ℕ → A) (takes_too : B → List �
     pub out_is : o_then ≡ takes o output
     pub lines_are : m_then ≡ takes_too m lines
     pub stands : StandsFor job limits state rest
-    pub law : (ending : SourceEnding) (more : List ℕ) → left ending (bytes ++ more) ≡ behind_bytes output lines (rest ending more)
+    pub law : (ending : SourceEnding) (more : List ℕ) → left ending (bytes ++ more) ≡ after_bytes output lines (rest ending more)
 
   abbrev pub PutsFed : Job → Limits → Writes → List ℕ → A → B → List ℕ → A → B → Fed → Type 0
   PutsFed job limits left piece o m state o_then m_then (On len) = PutsOn job limits left piece o m (take len state) o_then m_then

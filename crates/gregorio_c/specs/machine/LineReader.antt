@@ -20,7 +20,7 @@ next_field Text = Text
 abbrev pub with_digit : ℕ → ℕ → ℕ
 with_digit number byte = if (number == 0) && (byte == 48) then 2 ^ 64 - 1 else min (min (number * 10) (2 ^ 64 - 1) + (byte - 48)) (2 ^ 64 - 1)
 
--- the number of a severity after a byte of its word: `w`, `e` and `f` tell it
+-- the number of a severity after a byte of its word: `w`, `e` and `f` report it
 abbrev pub severity_with : ℕ → ℕ → ℕ
 severity_with severity byte = if byte == 119 then 0 else if byte == 101 then 1 else if byte == 102 then 2 else severity
 
@@ -47,14 +47,14 @@ before_line = record { field = Name; message = record { line = 0; column = 0; se
 abbrev pub ended_by : LineReader → ℕ → Option Message
 ended_by reader byte = if byte == 10 then Some reader.message else None
 
-abbrev pub behind_byte : LineReader → ℕ → LineReader
-behind_byte reader byte =
+abbrev pub past_byte : LineReader → ℕ → LineReader
+past_byte reader byte =
     if byte == 10 then before_line else if byte == 58 then record reader { field = next_field reader.field }
     else record reader { message = message_with reader.field reader.message byte }
 
-abbrev pub behind_bytes : LineReader → List ℕ → LineReader
-behind_bytes reader [] = reader
-behind_bytes reader (byte ∷ bytes) = behind_bytes (behind_byte reader byte) bytes
+abbrev pub after_bytes : LineReader → List ℕ → LineReader
+after_bytes reader [] = reader
+after_bytes reader (byte ∷ bytes) = after_bytes (past_byte reader byte) bytes
 
 abbrev pub with_message : Option Message → List Message → List Message
 with_message None messages = messages
@@ -63,7 +63,7 @@ with_message (Some message) messages = message ∷ messages
 -- the messages whose lines end in these bytes
 abbrev pub messages_in : LineReader → List ℕ → List Message
 messages_in reader [] = []
-messages_in reader (byte ∷ bytes) = with_message (ended_by reader byte) (messages_in (behind_byte reader byte) bytes)
+messages_in reader (byte ∷ bytes) = with_message (ended_by reader byte) (messages_in (past_byte reader byte) bytes)
 
 -- both numbers of the place are less than the last value of a `u64`
 abbrev pub has_place : Message → Bool
@@ -74,13 +74,13 @@ has_place message = nat_lt message.line (2 ^ 64 - 1) && nat_lt message.column (2
 abbrev pub counted_by : ℕ → Message → ℕ
 counted_by count message = if has_place message then min (count + 1) (2 ^ 64 - 1) else 2 ^ 64 - 1
 
-abbrev pub counted_behind : ℕ → List Message → ℕ
-counted_behind count [] = count
-counted_behind count (message ∷ messages) = counted_behind (counted_by count message) messages
+abbrev pub counted_after : ℕ → List Message → ℕ
+counted_after count [] = count
+counted_after count (message ∷ messages) = counted_after (counted_by count message) messages
 
--- so many messages stand in these lines, and each has a place
+-- n messages stand in these lines, and each has a place
 pub record AreCounted (count : ℕ) (lines : List ℕ) : Type 0 where
-  pub counted : count ≡ counted_behind 0 (messages_in before_line lines)
+  pub counted : count ≡ counted_after 0 (messages_in before_line lines)
   pub below : count < 2 ^ 64 - 1
 
 -- these stand at the head of a list, if it has room for them
@@ -89,20 +89,20 @@ pub record AreFirst (messages list : List Message) : Type 0 where
 
 -- ---- lines in two pieces, one after the other
 
-pub behind_both : (reader : LineReader) (a b : List ℕ) → behind_bytes (behind_bytes reader a) b ≡ behind_bytes reader (a ++ b)
-behind_both reader [] b = refl
-behind_both reader (byte ∷ a) b = behind_both (behind_byte reader byte) a b
+pub with_both_after : (reader : LineReader) (a b : List ℕ) → after_bytes (after_bytes reader a) b ≡ after_bytes reader (a ++ b)
+with_both_after reader [] b = refl
+with_both_after reader (byte ∷ a) b = with_both_after (past_byte reader byte) a b
 
 with_message_before : (message : Option Message) (a b : List Message) → with_message message (a ++ b) ≡ with_message message a ++ b
 with_message_before None a b = refl
 with_message_before (Some message) a b = refl
 
-pub messages_in_both : (reader : LineReader) (a b : List ℕ) → messages_in reader (a ++ b) ≡ messages_in reader a ++ messages_in (behind_bytes reader a) b
+pub messages_in_both : (reader : LineReader) (a b : List ℕ) → messages_in reader (a ++ b) ≡ messages_in reader a ++ messages_in (after_bytes reader a) b
 messages_in_both reader [] b = refl
 messages_in_both reader (byte ∷ a) b =
-    ap (with_message (ended_by reader byte)) (messages_in_both (behind_byte reader byte) a b)
-    ∙ with_message_before (ended_by reader byte) (messages_in (behind_byte reader byte) a) (messages_in (behind_bytes (behind_byte reader byte) a) b)
+    ap (with_message (ended_by reader byte)) (messages_in_both (past_byte reader byte) a b)
+    ∙ with_message_before (ended_by reader byte) (messages_in (past_byte reader byte) a) (messages_in (after_bytes (past_byte reader byte) a) b)
 
-pub counted_both : (count : ℕ) (a b : List Message) → counted_behind (counted_behind count a) b ≡ counted_behind count (a ++ b)
+pub counted_both : (count : ℕ) (a b : List Message) → counted_after (counted_after count a) b ≡ counted_after count (a ++ b)
 counted_both count [] b = refl
 counted_both count (message ∷ a) b = counted_both (counted_by count message) a b

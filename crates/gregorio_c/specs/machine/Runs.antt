@@ -20,7 +20,7 @@ pub record HasWritten (run : Run) (streams : Streams) : Type 0 where
   pub output_counted : run.output.counter < 2 ^ 64 - 1
   pub messages_counted : run.messages.counter < 2 ^ 64 - 1
 
--- so many messages are read of its lines, these are the first of them, and it ended so
+-- n messages are read of its lines, these are the first of them, and it ended so
 pub record AreToldBy (counted : Counted) (first : List Message) (streams : Streams) : Type 0 where
   pub first_are : AreFirst (messages_in before_line streams.messages) first
   pub are_counted : AreCounted counted.count streams.messages

@@ -5,7 +5,7 @@ use Rattle.gabc_places.specs.declared.limits.Limits.{Limits}
 use Rattle.gregorio_jobs.specs.declared.job.Job.{Job}
 use Rattle.gregorio_jobs.specs.declared.job.Status.{Status}
 use Rattle.gregorio.specs.declared.source_ending.SourceEnding.{SourceEnding}
-use Rattle.gregorio.specs.Streams.{behind_bytes}
+use Rattle.gregorio.specs.Streams.{after_bytes}
 use Rattle.gregorio.specs.witness.Engine.{EngineState, streams_left}
 use Rattle.gregorio.specs.witness.StandsFor.{StandsFor}
 use Rattle.gregorio_c.specs.declared.steps.Refusal.{Refusal}
@@ -15,7 +15,7 @@ use Rattle.gregorio_c.specs.Steps.{GoesOn, IsOver, IsStopped, Made, Writes, goes
 -- These bytes of the output and of the messages were written at a piece.
 abbrev pub Gathers : EngineState → List ℕ → List ℕ → List ℕ → EngineState → Type 0
 Gathers old piece output lines new =
-    (ending : SourceEnding) (more : List ℕ) → streams_left old ending (piece ++ more) ≡ behind_bytes output lines (streams_left new ending more)
+    (ending : SourceEnding) (more : List ℕ) → streams_left old ending (piece ++ more) ≡ after_bytes output lines (streams_left new ending more)
 
 -- Bytes stand for this, and for nothing else.
 pub record StandsAlone (job : Job) (limits : Limits) (bytes : List ℕ) (left : Writes) : Type 0 where

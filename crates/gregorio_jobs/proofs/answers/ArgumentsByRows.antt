@@ -21,7 +21,7 @@ is_used-rows f id = ap is_from_words (go (find (λ e. bytes_eq e.0.now id) f.ent
     go None = refl
     go (Some e) = refl
 
--- a text is there, behind a reference or not
+-- a text is there, after a reference or not
 pub is_some-texts : (o : Option (Bor Text)) → is_some (option_map (λ s. s.now) o) ≡ is_some o
 is_some-texts None = refl
 is_some-texts (Some s) = refl

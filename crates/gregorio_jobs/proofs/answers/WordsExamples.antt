@@ -58,7 +58,7 @@ dump_to_stdout : wants (codes "-F" ∷ codes "dump" ∷ codes "-s" ∷ [])
 unfolding clap_on_literals
 dump_to_stdout = refl
 
--- the value of an option may be written with it, flags may stand together, and behind `--` all words are files
+-- the value of an option may be written with it, flags may stand together, and after `--` all words are files
 all_given : wants (codes "-WFgabc" ∷ codes "-o=y" ∷ codes "-l" ∷ codes "m" ∷ codes "--" ∷ codes "-s" ∷ [])
     ≡ Ok (Run (record { format = Gabc; input = InputFile (codes "-s"); output = OutputFile (codes "y"); messages = Some (codes "m"); all_warnings = true }))
 unfolding clap_on_literals

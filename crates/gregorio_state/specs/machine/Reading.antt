@@ -30,7 +30,7 @@ byte_at (b ∷ bytes) = Some (b, bytes)
 unfoldable pub number_at : Width → List ℕ → Option (ℕ × List ℕ)
 number_at w bytes = if nat_lt (length bytes) (byte_len w) then None else Some (from_be_bytes w (take (byte_len w) bytes), drop (byte_len w) bytes)
 
--- so many bytes
+-- n bytes
 unfoldable pub front_at : ℕ → List ℕ → Option (List ℕ × List ℕ)
 front_at n bytes = if nat_lt (length bytes) n then None else Some (take n bytes, drop n bytes)
 

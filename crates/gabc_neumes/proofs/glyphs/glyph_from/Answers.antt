@@ -13,7 +13,7 @@ use Rattle.gabc_neumes.proofs.glyphs.glyph_from.Goals as goal
 abbrev ahead : List ℕ → List Item → List Note
 ahead kept items = notes_in kept (take_while is_in_segment items)
 
--- those behind an item lie in the text too
+-- those after an item lie in the text too
 rest_within : (kept : List ℕ) (items rest : List Item) (i : Item) → items ≡ i ∷ rest → AreWithin kept items → AreWithin kept rest
 rest_within kept items rest i e h = All-tail (λ (j : Item). (j.span.from ≤ j.span.to) × (j.span.to ≤ length kept)) i rest (subst (AreWithin kept) e h)
 

@@ -16,12 +16,12 @@ returns c = record {
     text_ends = c.a_kept_character_is_kept_again.ensures.ends;
     gabc_kept = c.a_kept_character_is_kept_again-2.ensures;
   };
-  moves = record { text_there = c.an_opener_may_stand_anywhere.ensures; gabc_there = c.an_opener_may_stand_anywhere-2.ensures };
+  moves = record { text_there = c.an_opener_may_be_anywhere.ensures; gabc_there = c.an_opener_may_be_anywhere-2.ensures };
   ends = record {
     text_comment = c.what_is_open_follows_from_the_kept_text.ensures.comment;
     text_opener = c.what_is_open_follows_from_the_kept_text.ensures.opener;
-    text_each = c.events_need_nothing_behind.ensures.each;
-    gabc_opener = c.an_opener_is_told_inside_raw.ensures.opener;
+    text_each = c.events_need_nothing_after.ensures.each;
+    gabc_opener = c.an_opener_is_reported_inside_raw.ensures.opener;
     gabc_cut = c.a_stage_takes_each_character-2.ensures.cut;
   };
 }

@@ -1,26 +1,13 @@
-use Rattle.std.proofs.Common.{◌∙◌, ap, arith}
-use Rattle.gabc_places.specs.declared.code.Finding.{Finding}
-use Rattle.gabc_places.specs.BoundedList.{BoundedList}
 use Rattle.gabc_score.specs.declared.events.BodyEvent.TheVariants.{Text as of_text}
-use Rattle.gabc_score.proofs.building.EachEventFits.{is_next}
-use Rattle.gabc_score.proofs.building.EventsOfOnePoint.{with_all_more, with_found_more}
+use Rattle.gabc_score.proofs.building.EventsAreHeld.{holds_next, holds_on}
 use Rattle.gabc_score.proofs.part_events.hold_text.Goals as goal
+
+pub hold_in_text-requires : goal.hold_in_text-requires
+hold_in_text-requires c = let t = c.loop-event-test.true in holds_next (λ o. of_text o) c.args.events.now c.loop-event.event-index _ t (c.loop-event.invariant.more t)
 
 pub loop-event-preserved : goal.loop-event-preserved
 loop-event-preserved c =
     let i = c.loop-event.invariant in
-    let h = c.hold_in_text.ensures in
-    let ts = c.args.events.now in
-    let k = c.loop-event.event-index in
     let t = c.loop-event-test.true in
-    let next = is_next (λ o. of_text o) ts k _ c.loop-event.pair.gathered c.hold_in_text.new.pair.gathered c.hold_in_text.new.pair.used t h.gathered h.used i.fits i.once in
-    record {
-      gathered = with_all_more (λ o. of_text o) c.args.pair.now.gathered c.loop-event.pair.gathered c.hold_in_text.new.pair.gathered ts k _ t i.gathered h.gathered;
-      held = h.held ∙ i.held;
-      fits = next.fits;
-      once = next.once;
-      reads = next.reads;
-      used = next.used_is;
-      found = with_found_more (λ o. of_text o) c.args.found.now c.loop-event.found c.hold_in_text.new.found ts k _ t i.found h.found;
-      room = omega (arith, i.room, h.few, t, ap (λ (r : BoundedList Finding). r.limit) h.found);
-    }
+    let h = holds_on (λ o. of_text o) c.args.events.now c.loop-event.event-index _ t i.done (i.more t) c.hold_in_text.ensures in
+    record { done = h.0; more = h.1 }

@@ -1,5 +1,5 @@
 use Rattle.std.specs.Prelude.{IfSome}
-use Rattle.gabc_score.specs.ScoreTells.{held_of}
+use Rattle.gabc_score.specs.ScoreReports.{held_of}
 use Rattle.gabc_score.specs.UnitRead.{HoldsSomeUnit}
 use Rattle.gabc_score.specs.witness.ScoreStage.{ScoreStageState}
 use Rattle.gabc_score.proofs.resuming.StatesStand.{at_state}

@@ -1,6 +1,6 @@
 use Rattle.std.specs.Prelude.{IfSome}
 use Rattle.gabc_score.specs.ScoreStage.{IsWithinAnywhere}
-use Rattle.gabc_score.specs.ScoreTells.{held_of}
+use Rattle.gabc_score.specs.ScoreReports.{held_of}
 use Rattle.gabc_score.specs.witness.ScoreStage.{ScoreStageState}
 use Rattle.gabc_score.proofs.resuming.StatesStand.{at_state}
 use Rattle.gabc_score.proofs.score_events.UnitsAreHeld.{held_within}

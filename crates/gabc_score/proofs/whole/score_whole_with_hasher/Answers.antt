@@ -6,7 +6,7 @@ use Rattle.gabc_headers.specs.Heads.{body_byte, heads_of_parts_by, stops_of_part
 use Rattle.gabc_headers.specs.Parts.{HeaderPart}
 use Rattle.gabc_score.proofs.whole.score_whole_with_hasher.Goals as goal
 
--- the body of headers that are read whole begins behind their `%%`
+-- the body of headers that are read whole begins after their `%%`
 body_is : (t : List ℕ) (ps : List HeaderPart) (o : Option Stop) (heads : Heads) → Ok heads ≡ heads_of_parts_by t ps o → heads.body ≡ body_byte t
 body_is t ps None heads e = cc e
 body_is t ps (Some s) heads e = absurd (cc e)

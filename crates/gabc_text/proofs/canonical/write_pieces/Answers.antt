@@ -2,12 +2,12 @@ use Rattle.std.proofs.Common.{sym, ap, ◌∙◌, ◌≤◌, length, arith}
 use Rattle.gabc_text.specs.Canonical.{listed_styles}
 use Rattle.gabc_text.proofs.printing.TagsOfStyleSets.{none_listed}
 use Rattle.gabc_text.proofs.printing.BehindTheLastPiece.{last_text}
-use Rattle.gabc_text.proofs.printing.RunsOfKeptBytes.{text_from_next, taken_in_turn, first_behind}
+use Rattle.gabc_text.proofs.printing.RunsOfKeptBytes.{text_from_next, taken_in_turn, first_after}
 use Rattle.gabc_text.proofs.canonical.write_pieces.Goals as goal
 
 pub loop-next-init : goal.loop-next-init
 loop-next-init g c = record {
-  text = c.put_run-next.ensures.text ∙ ap (g.S.Put.taken c.args.out.now) (first_behind c.args.view.now c.args.kept.now _ c.first_run.result c.first_run.ensures.empty c.first_run.ensures.first none_listed);
+  text = c.put_run-next.ensures.text ∙ ap (g.S.Put.taken c.args.out.now) (first_after c.args.view.now c.args.kept.now _ c.first_run.result c.first_run.ensures.empty c.first_run.ensures.first none_listed);
   within = rw c.as_slice-pieces.ensures c.put_run-next.ensures.within;
 }
 

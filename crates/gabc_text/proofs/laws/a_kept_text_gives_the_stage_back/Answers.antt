@@ -5,7 +5,7 @@ use Rattle.gabc_places.specs.BoundedList.{BoundedList}
 use Rattle.gabc_text.specs.declared.text_event.TextEvent.{TextEvent}
 use Rattle.gabc_text.specs.declared.stage.TextStage.{TextStage}
 use Rattle.gabc_text.specs.witness.Keeps.{Keeps, KeepsOn}
-use Rattle.gabc_text.specs.StageTells.{opener_of, is_in_comment}
+use Rattle.gabc_text.specs.StageReports.{opener_of, is_in_comment}
 use Rattle.gabc_text.specs.witness.StageReports.{next_of, moved_to}
 use Rattle.std.specs.Option.{unwrap_or}
 use Rattle.gabc_places.specs.declared.place.Place.{Place}
@@ -44,7 +44,7 @@ loop-c-preserved c =
       back = subst (λ (t : List ℕ). IsBack c.unwrap_or-place.result t false c.push.new.self) (sym (taken c.args.kept.now c.loop-c.c-index c.c-item.result c.loop-c-test.true c.c-item.is))
           (reads_on c.unwrap_or-place.result (take c.loop-c.c-index c.args.kept.now) c.loop-c.again i.back c.args.stage.now c.c-item.result (drop (c.loop-c.c-index + 1) c.args.kept.now) c.push.new.out.items c.push.new.self
           (subst (Keeps c.args.stage.now) (parted_at c.args.kept.now c.loop-c.c-index c.c-item.result c.loop-c-test.true c.c-item.is) c.requires.keeps)
-          (pushed c.go_to.new.self (moved_to c.unwrap_or-place.result c.loop-c.again) c.c-item.result c.push.new.self c.loop-c.room c.push.new.out i.empty c.go_to.ensures.moved c.push.ensures.keeps));
+          (pushed c.go_to.new.self (moved_to c.unwrap_or-place.result c.loop-c.again) c.c-item.result c.push.new.self c.loop-c.room c.push.new.out i.empty c.go_to.ensures.moved c.push.ensures.steps.keeps));
       empty = emptied c.loop-c.room c.push.new.out c.clear.new.self i.empty c.push.ensures.events.events c.push.ensures.events.out c.clear.ensures;
     }
 
@@ -56,7 +56,7 @@ back_behind c = elim c.if-in_comment.branch [
   | then-in_comment w ↦
       let comment = sym c.in_comment.ensures ∙ w.if-in_comment.true in
       rw (comment, w.again-is) (comment_back c.unwrap_or-place.result c.args.kept.now c.loop-c.again whole c.args.stage.now w.push-then-in_comment.new.out.items w.push-then-in_comment.new.self c.requires.keeps comment
-      (pushed c.loop-c.again c.loop-c.again 37 w.push-then-in_comment.new.self c.loop-c.room w.push-then-in_comment.new.out c.loop-c.invariant.empty refl w.push-then-in_comment.ensures.keeps))
+      (pushed c.loop-c.again c.loop-c.again 37 w.push-then-in_comment.new.self c.loop-c.room w.push-then-in_comment.new.out c.loop-c.invariant.empty refl w.push-then-in_comment.ensures.steps.keeps))
   | else-in_comment w ↦ rw (sym c.in_comment.ensures ∙ w.if-in_comment.false, w.again-is) whole
 ]
   where

@@ -3,7 +3,7 @@ use Rattle.std.proofs.Math.Seq.{drop-append_seam}
 use Rattle.gabc_places.specs.StageLaw.{concat_of}
 use Rattle.gabc_places.specs.declared.place.Place.{Place}
 use Rattle.gabc_text.specs.Events.{CountsFit, events_by_point}
-use Rattle.gabc_text.specs.StageTells.{opener_of, cut_place}
+use Rattle.gabc_text.specs.StageReports.{opener_of, cut_place}
 use Rattle.gabc_text.specs.TextStage.{fresh_stage}
 use Rattle.gabc_text.specs.declared.stage.TextStage.{TextStage}
 use Rattle.gabc_text.specs.declared.text_event.TextEvent.{TextEvent}

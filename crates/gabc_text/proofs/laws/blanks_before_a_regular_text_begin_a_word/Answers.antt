@@ -1,5 +1,5 @@
 use Rattle.std.proofs.Common.{◌∷◌}
-use Rattle.gabc_text.proofs.printing.BlanksBeforeRegularText.{says_behind, nothing_behind, ends_behind, kept_behind, printed_behind, canonical_behind}
+use Rattle.gabc_text.proofs.printing.BlanksBeforeRegularText.{says_behind, nothing_behind, ends_after_it, kept_behind, printed_behind, canonical_behind}
 use Rattle.gabc_text.proofs.laws.blanks_before_a_regular_text_begin_a_word.Goals as goal
 
 pub returns-clause-says : goal.returns-clause-says
@@ -9,7 +9,7 @@ pub returns-clause-found : goal.returns-clause-found
 returns-clause-found c at b gap t rest h r = nothing_behind at (b ∷ gap) t rest h r
 
 pub returns-clause-ends : goal.returns-clause-ends
-returns-clause-ends c b gap t rest h r = ends_behind (b ∷ gap) t rest h r
+returns-clause-ends c b gap t rest h r = ends_after_it (b ∷ gap) t rest h r
 
 pub returns-clause-kept : goal.returns-clause-kept
 returns-clause-kept c b gap t rest h r = kept_behind b gap t rest h r

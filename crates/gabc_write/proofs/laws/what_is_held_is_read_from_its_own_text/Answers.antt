@@ -1,4 +1,4 @@
-use Rattle.gabc_score.specs.ScoreTells.{held_of}
+use Rattle.gabc_score.specs.ScoreReports.{held_of}
 use Rattle.gabc_write.proofs.reading_again.HeldIsReadAgain.{held_is_read}
 use Rattle.gabc_write.proofs.laws.what_is_held_is_read_from_its_own_text.Goals as goal
 

@@ -8,9 +8,9 @@ use Rattle.gabc_score.specs.declared.body_tells.Openers.{Openers}
 use Rattle.gabc_score.specs.declared.score_machine.ScorePart.{ScorePart}
 use Rattle.gabc_score.specs.declared.score_machine.ScorePart.TheVariants as score_part
 use Rattle.gabc_score.specs.HeldAside.{HoldTheSame}
-use Rattle.gabc_score.specs.ReadAgain.{StandsBefore, TellsOfReading}
+use Rattle.gabc_score.specs.ReadAgain.{ComesBefore, ReportsReading}
 use Rattle.gabc_score.specs.ScoreEvents.{first_place}
-use Rattle.gabc_score.specs.ScoreTells.{StandsAt, before_of, held_of, in_body, is_in_comment, is_in_front, openers_of, reading_of}
+use Rattle.gabc_score.specs.ScoreReports.{IsAt, before_of, held_of, in_body, is_in_comment, is_in_front, openers_of, reading_of}
 use Rattle.gabc_score.specs.witness.ScoreStage.{ScoreStageState}
 use Rattle.gabc_write.specs.SetDown.{SayTheSame}
 use Rattle.gabc_write.specs.machine.SetDown.{BeginsAlike}
@@ -29,7 +29,7 @@ none_open = refl
 
 -- what a stage reports of the syllable that it reads, by what was asked of it
 reports : (told : ScoreStageState) (kept : List ℕ) (o : Openers) (comment : Bool) → is_in_front told.body.part ≡ false → kept ≡ reading_of told → Some o ≡ in_body told.part (openers_of told.body.part)
-    → Some comment ≡ in_body told.part (is_in_comment told.body.part) → TellsOfReading told kept o comment
+    → Some comment ≡ in_body told.part (is_in_comment told.body.part) → ReportsReading told kept o comment
 reports told kept o comment front reading openers inside = record {
   front = front;
   reading = sym reading;
@@ -38,7 +38,7 @@ reports told kept o comment front reading openers inside = record {
 }
 
 -- a stage that begins a text after the same stands before the syllable
-stands_before : (told s : ScoreStageState) → is_some (before_of told) ≡ true → BeginsAlike told s → StandsBefore s
+stands_before : (told s : ScoreStageState) → is_some (before_of told) ≡ true → BeginsAlike told s → ComesBefore s
 stands_before told s runs b = record {
   runs = ap (λ (o : Option Before). is_some o) b.holds.before_is ∙ runs;
   nothing_read = b.begins.nothing_read;
@@ -76,5 +76,5 @@ returns-clause-tells c =
       comment = was.comment_is ∙ sym is.comment_is;
       front = is.front;
       next = sym next ∙ there;
-      stands = subst (λ (p : Place). StandsAt p new.body.part) there same.stands;
+      stands = subst (λ (p : Place). IsAt p new.body.part) there same.stands;
     }

@@ -49,4 +49,5 @@ returns-clause-reads c =
           c.pass.ensures.room true (events_of_end limits progress)
           (subst (λ (y : HeadItem). FitsEvents w true (y ∷ events_of_end limits progress)) (sym c.body_event.ensures) (room_for_stop w item c.requires.room none limits progress));
       steady = steady;
+      hasher = refl;
     }

@@ -18,6 +18,7 @@ nothing_is_read h w together room = record {
   tells = nothing_stays_telling h w;
   room = λ none. room_for_end w room;
   steady = record { limits = refl; format = refl; name = refl; all_warnings = refl; out = refl; messages = refl };
+  hasher = refl;
 }
 
 pub returns-in_default-clause-reads : goal.returns-in_default-clause-reads

@@ -1,4 +1,4 @@
-use Rattle.std.proofs.Common.{◌≡◌, true, List, [], ◌∷◌, Result, sym, subst}
+use Rattle.std.proofs.Common.{◌≡◌, true, List, [], ◌∷◌, Result, refl, sym, subst}
 use Rattle.gabc_places.specs.declared.code.Fault.{Fault}
 use Rattle.gabc_places.specs.declared.place.Char.{Char}
 use Rattle.gabc_headers.specs.declared.head_event.HeadEvent.{HeadEvent as HeadItem}
@@ -72,4 +72,5 @@ returns-clause-reads c =
           room_of_begun item mid new begins true (events_of_end limits progress)
           (c.pass_on.ensures.room true (events_of_end limits progress) (room_with_end h w item c.slice.result.now given may.room none limits progress));
       steady = steady_of_begun item mid new begins w steady;
+      hasher = refl;
     })

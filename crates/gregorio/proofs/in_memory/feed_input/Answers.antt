@@ -2,7 +2,7 @@ use Rattle.std.proofs.Common.{ℕ, List, ◌++◌, take, length, length-drop, ap
 use Rattle.std.proofs.lemmas.List.{drop_all}
 use Rattle.gregorio.specs.witness.Engine.{streams_left}
 use Rattle.gregorio.specs.machine.InMemory.{TakeTheSame}
-use Rattle.gregorio.proofs.InputsArePut.{left_behind, more_taken, nothing_taken, runs_where_taken}
+use Rattle.gregorio.proofs.InputsArePut.{left_past, more_taken, nothing_taken, runs_where_taken}
 use Rattle.gregorio.proofs.PiecesAreSent.{IsTaken, all_behind, nothing_waits_behind, taken_from}
 use Rattle.gregorio.proofs.in_memory.feed_input.Goals as goal
 
@@ -20,7 +20,7 @@ loop-count-preserved g c =
     let all = all_behind c.loop-count.count c.args.input.now in
     let takes = c.fill-count.ensures.takes in
     let law = subst (λ (l : List ℕ). IsTaken c.loop-count.engine c.fill-count.new.self (take c.fill-count.result l)) all (taken_from c.loop-count.engine c.fill-count.new.self _ c.fill-count.result i.waits takes) in
-    let left = left_behind c.loop-count.engine c.fill-count.new.self c.put_waiting.new.engine c.args.input.now c.loop-count.count c.fill-count.result law c.put_waiting.ensures.forgets in
+    let left = left_past c.loop-count.engine c.fill-count.new.self c.put_waiting.new.engine c.args.input.now c.loop-count.count c.fill-count.result law c.put_waiting.ensures.forgets in
     record {
       within = omega (arith, i.within, takes.within, ap length all, length-drop c.loop-count.count c.args.input.now);
       waits = nothing_waits_behind c.fill-count.new.self c.put_waiting.new.engine c.put_waiting.ensures.forgets;

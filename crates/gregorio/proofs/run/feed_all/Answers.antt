@@ -11,7 +11,7 @@ loop-taken-init g c = record {
   within = omega arith;
   limit = omega arith;
   waits = c.requires.waits;
-  fed = from_nothing g.O.Sink.written g.O.Sink.calls g.M.Sink.written g.M.Sink.calls g.S.Source.remaining g.S.Source.calls _ _ _ _ c.keeps_nothing_back.ensures.prompt;
+  fed = from_nothing g.O.Sink.written g.O.Sink.calls g.M.Sink.written g.M.Sink.calls g.S.Source.remaining g.S.Source.calls _ _ _ _ c.nothing_is_kept_back.ensures.prompt;
 }
 
 pub returns-in_err-feed_piece-in-Ok-clause-cut : goal.returns-in_err-feed_piece-in-Ok-clause-cut

@@ -9,7 +9,7 @@ pub loop-count-init : goal.loop-count-init
 loop-count-init g c = record {
   within = omega arith;
   waits = c.requires.waits;
-  fed = fed_nothing g.O.Sink.written g.O.Sink.calls g.M.Sink.written g.M.Sink.calls _ _ _ c.keeps_nothing_back.ensures.prompt;
+  fed = fed_nothing g.O.Sink.written g.O.Sink.calls g.M.Sink.written g.M.Sink.calls _ _ _ c.nothing_is_kept_back.ensures.prompt;
 }
 
 pub loop-count-preserved : goal.loop-count-preserved

@@ -15,7 +15,7 @@ use Rattle.gregorio.proofs.score_writer.write_events.Goals as goal
 next_emitted : (score : ScoreStageState) (events : List ScoreEvent) (i : ℕ) (d : ScoreEvent) → i < length events → outputs_of_events score (drop i events) ≡ output_of_event score (slice_index_or events i d) ∷ outputs_of_events score (drop (i + 1) events)
 next_emitted score events i d h = at_drop_more (outputs_of_events score) events i d h
 
--- any event stands behind the last
+-- any event stands after the last
 abbrev no_event : ScoreEvent
 no_event = Found record { place = record { line = 0; column = 0 }; code = E1 }
 

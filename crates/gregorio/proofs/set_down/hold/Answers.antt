@@ -9,6 +9,6 @@ returns-clause-read c =
     let new = c.hold_again.new.self in
     let holds = c.hold_again.ensures.held c.if-not-hold_again.false in
     let some = some_text f.held c.if-is_empty.ensures in (
-      λ same _. is_read f old c.requires.stands new holds (c.is_held_text.ensures.0 same),
-      λ read. c.is_held_text.ensures.1 (has_the_text f old c.requires.stands new holds c.a_text_is_one_syllable.ensures (read some)),
+      λ same _. is_read f old c.requires.stands.stands new holds (c.is_held_text.ensures.0 same),
+      λ read. c.is_held_text.ensures.1 (has_the_text f old c.requires.stands.stands new holds c.a_text_is_one_syllable.ensures (read some)),
     )

@@ -2,7 +2,7 @@ use Rattle.std.proofs.Common.{ℕ, ◌+◌, List, drop, get_or, sym, ap, subst, 
 use Rattle.std.proofs.lemmas.List.{drop_more}
 use Rattle.gabc_places.specs.Filling.{filled, filled_len}
 use Rattle.gregorio_c.specs.declared.message.Message.{Message}
-use Rattle.gregorio_c.specs.machine.LineReader.{behind_bytes, counted_behind, messages_in}
+use Rattle.gregorio_c.specs.machine.LineReader.{after_bytes, counted_after, messages_in}
 use Rattle.gregorio_c.proofs.MessagesAreFilled.{IsTakenWith, taken_with_none, taken_with_some, messages_on}
 use Rattle.gregorio_c.proofs.message_ends.take_lines.Goals as goal
 use Rattle.gregorio_c.proofs.message_ends.take_lines.Goals.{in-Some, in_default}
@@ -28,8 +28,8 @@ loop-byte-preserved c =
     let read : List Message = messages_in c.read.new.self rest in
     let on = messages_on l.reader c.read.new.self byte rest c.read.result c.read.ensures.reader c.read.ensures.message ∙ sym (ap (messages_in l.reader) more) in
     record {
-      reader = ap (λ r. behind_bytes r rest) c.read.ensures.reader ∙ sym (ap (behind_bytes l.reader) more) ∙ l.invariant.reader;
-      count = is.counts read ∙ ap (counted_behind l.count) on ∙ l.invariant.count;
+      reader = ap (λ r. after_bytes r rest) c.read.ensures.reader ∙ sym (ap (after_bytes l.reader) more) ∙ l.invariant.reader;
+      count = is.counts read ∙ ap (counted_after l.count) on ∙ l.invariant.count;
       buf = is.fills read ∙ ap (filled l.buf l.len) on ∙ l.invariant.buf;
       len = is.goes_on read ∙ ap (filled_len l.buf l.len) on ∙ l.invariant.len;
     }

@@ -1,6 +1,7 @@
 use Rattle.std.proofs.Common.{ℕ, List, take, length, length-drop, ap, subst, arith}
-use Rattle.gregorio.specs.Engine.{Brings}
-use Rattle.gregorio_c.proofs.PiecesAreGathered.{all_behind, gathered, nothing_waits, still_runs}
+use Rattle.gregorio.proofs.InputsArePut.{runs_where_taken}
+use Rattle.gregorio.proofs.PiecesAreSent.{IsTaken, all_behind, nothing_waits_behind, taken_from}
+use Rattle.gregorio_c.proofs.PiecesAreGathered.{gathered}
 use Rattle.gregorio_c.proofs.steps.feed_piece.Goals as goal
 
 pub loop-texts-preserved : goal.loop-texts-preserved
@@ -14,11 +15,11 @@ loop-texts-preserved c =
     let piece = c.args.piece.now in
     let all = all_behind count piece in
     let takes = c.fill-count.ensures.takes in
-    let brings = subst (λ (l : List ℕ). Brings e (take c.fill-count.result l) f) all takes.brings in
+    let law = subst (λ (l : List ℕ). IsTaken e f (take c.fill-count.result l)) all (taken_from e f _ c.fill-count.result i.waits takes) in
     record {
       within = omega (arith, i.within, takes.within, ap length all, length-drop count piece);
-      waits = nothing_waits e f g forgets;
-      job = λ job limits runs. still_runs e f g forgets job limits (takes.job job limits (i.job job limits runs));
-      gathers = gathered e f g forgets piece count c.fill-count.result i.waits brings c.args.engine.now c.loop-texts.texts.output.items c.loop-texts.texts.messages.items
-          c.gather.new.texts.output.items c.gather.new.texts.messages.items i.gathers c.in_ok-gather.ensures.output c.in_ok-gather.ensures.messages;
+      waits = nothing_waits_behind f g forgets;
+      job = λ job limits runs. runs_where_taken f g job limits forgets (takes.job job limits (i.job job limits runs));
+      gathers = gathered c.args.engine.now e f g piece c.loop-texts.texts.output.items c.loop-texts.texts.messages.items c.gather.new.texts.output.items c.gather.new.texts.messages.items
+          count c.fill-count.result forgets law i.gathers c.in_ok-gather.ensures.output c.in_ok-gather.ensures.messages;
     }

@@ -1,4 +1,6 @@
-use Rattle.std.proofs.Common.{◌≤◌, ◌∷◌, ap, sym, Bool, true, false, cond, length, arith, Option, Some, None, []}
+use Rattle.std.proofs.Common.{◌≤◌, ◌∷◌, ap, sym, ◌∙◌, Bool, true, false, cond, length, drop, List, arith, Option, Some, None, []}
+use Rattle.std.proofs.Math.Seq.{drop-append_seam}
+use Rattle.gabc_places.specs.BoundedList.{BoundedList}
 use Rattle.gabc_notes.specs.declared.stage.NoteEvent.{NoteEvent}
 use Rattle.gabc_nabc.specs.witness.DescriptorMachine.{event_list, stage_events_at, events_left, events_in, role_at, facts_at}
 use Rattle.gabc_nabc.specs.declared.stage.NabcEvents.{NabcEvents}
@@ -30,8 +32,17 @@ returns-clause-events c =
 pub returns-clause-end : goal.returns-clause-end
 returns-clause-end c = push_stops c.args.self.now c.take.new.self c.args.x c.args.out.now c.take.new.out c.take.ensures.stage c.take.ensures.out
 
-pub returns-clause-keeps : goal.returns-clause-keeps
-returns-clause-keeps c = push_keeps_in c.args.self.now c.take.new.self c.args.x c.args.out.now c.take.new.out c.take.ensures.stage c.take.ensures.out
+pub returns-clause-steps : goal.returns-clause-steps
+returns-clause-steps c =
+    let st = c.args.self.now in
+    let next = c.take.new.self in
+    let x = c.args.x in
+    let out = c.args.out.now in record {
+      emits = λ xs.
+          ap (λ (n : NabcStage). stage_events_at st x ∷ events_left n xs) (sym c.take.ensures.stage)
+          ∙ ap (λ (events : List NoteEvent). events ∷ events_left next xs) (sym (ap (λ (room : BoundedList NoteEvent). drop (length out.items) room.items) c.take.ensures.out ∙ drop-append_seam out.items (stage_events_at st x)));
+      keeps = push_keeps_in st next x out c.take.new.out c.take.ensures.stage c.take.ensures.out;
+    }
 
 pub returns-clause-ended : goal.returns-clause-ended
 returns-clause-ended c = ended_as_before c.args.self.now c.take.new.self c.args.x.c c.take.ensures.stage

@@ -1,7 +1,7 @@
 use Rattle.std.proofs.Common.{◌≡◌, ◌<◌, ℕ, [], ◌∷◌, length, set, ap, ap₂, sym, ◌∙◌, subst, arith}
 use Rattle.gabc_notes.specs.Notes.{height_at}
 use Rattle.gabc_notes.specs.declared.item.ItemKind.TheVariants as kind
-use Rattle.gabc_neumes.specs.InForce.{InForce, AnItem, in_force_behind}
+use Rattle.gabc_neumes.specs.InForce.{InForce, AnItem, in_force_after}
 use Rattle.gabc_neumes.specs.Sound.{sign_of}
 use Rattle.gabc_neumes.specs.declared.sound.Alter.{Alter}
 use Rattle.gabc_neumes.proofs.StepsArePassed.{in_force, altered, past_the_heights}
@@ -14,7 +14,7 @@ returns-then-height-lt-HEIGHTS c =
     let alters = c.self.inside.alters in
     let height : height_at t < 15 = (let e = c.height_at-height.ensures in omega arith) in
     ap₂ (λ (h : ℕ) (a : Alter). in_force clef (set alters h a)) c.height_at-height.ensures c.sign_of.ensures
-    ∙ subst (λ (v : InForce). in_force clef (set alters (height_at t) (sign_of t)) ≡ in_force_behind v (AnItem kind.Alteration t ∷ [])) c.self.view_is
+    ∙ subst (λ (v : InForce). in_force clef (set alters (height_at t) (sign_of t)) ≡ in_force_after v (AnItem kind.Alteration t ∷ [])) c.self.view_is
     (altered (in_force clef alters) t c.self.invariant.0 height)
 
 pub returns-else-height-lt-HEIGHTS : goal.returns-else-height-lt-HEIGHTS

@@ -1,5 +1,5 @@
 use Rattle.std.proofs.Common.{◌≡◌, [], ◌∷◌, true, false, length, replicate, ap, sym, ◌∙◌, subst}
-use Rattle.gabc_neumes.specs.InForce.{InForce, AnItem, is_virgula, in_force_behind}
+use Rattle.gabc_neumes.specs.InForce.{InForce, AnItem, is_virgula, in_force_after}
 use Rattle.gabc_neumes.specs.declared.sound.Alter.{Alter}
 use Rattle.gabc_neumes.specs.declared.sound.Alter.TheVariants as alter
 use Rattle.gabc_notes.specs.declared.item.ItemKind.TheVariants as kind
@@ -17,5 +17,5 @@ returns-then-not-is_virgula c =
     let t = c.args.text.now in
     let clef = c.self.inside.clef in
     let bar : is_virgula t ≡ false = sym c.is_virgula.ensures ∙ c.if-not-is_virgula.true in
-    subst (λ (v : InForce). in_force clef (replicate 15 alter.None) ≡ in_force_behind v (AnItem kind.Bar t ∷ [])) c.self.view_is
+    subst (λ (v : InForce). in_force clef (replicate 15 alter.None) ≡ in_force_after v (AnItem kind.Bar t ∷ [])) c.self.view_is
     (bar_ends_all (in_force clef c.self.inside.alters) t bar)

@@ -7,7 +7,7 @@ use Rattle.gabc_places.specs.declared.place.Place.{Place}
 use Rattle.gabc_places.specs.Place.{place_past}
 use Rattle.gabc_places.specs.Skip.{most_skipped, text_events}
 use Rattle.gabc_places.specs.DecoderMachine.{DecoderState, IsReached}
-use Rattle.gabc_places.specs.DecoderTells.{MovesThrough, is_after_cr}
+use Rattle.gabc_places.specs.DecoderReports.{MovesThrough, is_after_cr}
 use Rattle.gabc_places.specs.witness.DecoderEvents.{events_left}
 use Rattle.gabc_places.specs.contracts.decoder.Decoder.{the_view}
 use Rattle.gabc_places.proofs.decoding.TextsAreEmitted.{one_each, all_emitted}

@@ -16,9 +16,8 @@ silent lines first r b e none = ap (λ x. is_some first || x) (sym e ∙ none) �
 sounded : (lines : ℕ) (first : Option ItemKind) (r : SyllableParts) → is_some first ≡ true → IsSteady lines first r
 sounded lines first r some = ap (λ x. x || sounds_among (with_lines lines 0 r.nexts r.final)) some ∙ sym some
 
-pub returns-then-is_none : goal.returns-then-is_none
-returns-then-is_none c = λ no is. silent c.args.lines c.args.self.now.pair.gathered.first_kind is.syllable c.sounds.result (c.sounds.ensures is) no
+pub returns-then-has_sounded : goal.returns-then-has_sounded
+returns-then-has_sounded c = λ no is. sounded c.args.lines c.args.self.now.pair.gathered.first_kind is.syllable (sym c.has_sounded.ensures ∙ c.if-has_sounded.true)
 
 pub returns : goal.returns
-returns c = λ no is.
-    sounded c.args.lines c.args.self.now.pair.gathered.first_kind is.syllable (ap (λ (k : Option ItemKind). is_some k) (sym c.first_kind.ensures) ∙ c.if-is_none.ensures)
+returns c = λ no is. silent c.args.lines c.args.self.now.pair.gathered.first_kind is.syllable c.sounds.result (c.sounds.ensures is) no

@@ -15,74 +15,87 @@ use Rattle.gabc_score.proofs.score_events.FewAndShortAreLent.{lends_none}
 use Rattle.gabc_score.proofs.score_events.GivesOutside.{gives_outside}
 use Rattle.gabc_score.proofs.score_machine.ScoreMachine.push_in_heads.Goals as goal
 
-pub returns-in-Found-clause-step : goal.returns-in-Found-clause-step
-returns-in-Found-clause-step c =
-    rw (c.requires.part, c.in-Found.is)
-    (gives_outside (Found c.in-Found.finding ∷ []) (λ body. absurd (cc body)) (λ heads lines macros canonical is. absurd (cc is))
-    (record { lends = lends_none c.args.self.now.limits _ (Found c.in-Found.finding ∷ []) refl; limits = refl; part = refl; last = λ other final. absurd (cc final); passes = λ other. refl; law = λ xs. refl; emitted = record { events = c.push.ensures; few = omega arith; lent = refl } }))
-
-pub returns-in-Stop-clause-step : goal.returns-in-Stop-clause-step
-returns-in-Stop-clause-step c =
-    rw (c.requires.part, c.in-Stop.is)
-    (gives_outside (Stop c.in-Stop.fault ∷ []) (λ body. absurd (cc body)) (λ heads lines macros canonical is. absurd (cc is))
-    (record { lends = lends_none c.args.self.now.limits _ (Stop c.in-Stop.fault ∷ []) refl; limits = refl; part = refl; last = λ other final. refl; passes = λ other. tt; law = λ xs. refl; emitted = record { events = c.push-in-Stop.ensures; few = omega arith; lent = refl } }))
-
-pub returns-in-End-clause-step : goal.returns-in-End-clause-step
-returns-in-End-clause-step c =
-    rw (c.requires.part, c.in-End.is)
-    (gives_outside (End ∷ []) (λ body. absurd (cc body)) (λ heads lines macros canonical is. absurd (cc is))
-    (record { lends = lends_none c.args.self.now.limits _ (End ∷ []) refl; limits = refl; part = refl; last = λ other final. refl; passes = λ other. tt; law = λ xs. refl; emitted = record { events = c.push-in-End.ensures; few = omega arith; lent = refl } }))
-
-pub returns-in-Body-clause-step : goal.returns-in-Body-clause-step
-returns-in-Body-clause-step c =
-    rw (c.requires.part, c.in-Body.is)
-    (gives_outside ([]) (λ body. absurd (cc body)) (λ heads lines macros canonical is. absurd (cc is))
-    (record { lends = lends_none c.args.self.now.limits _ ([]) refl; limits = refl; part = refl; last = λ other final. absurd (cc final); passes = λ other. tt; law = λ xs. refl; emitted = search rules }))
-
-pub returns-in-Heads-clause-step : goal.returns-in-Heads-clause-step
-returns-in-Heads-clause-step c = record {
-  outputs = [];
-  lends = lends_none c.args.self.now.limits _ [] refl;
-  limits = refl;
-  part = search rules;
-  last = λ other final. absurd (false≢true (sym (ap is_final c.in-Heads.is) ∙ final));
-  passes = λ other. rw c.in-Heads.is tt;
-  line = λ lf. absurd (subst EndsLine c.in-Heads.is lf);
-  counts = search rules;
-  before_held = search rules;
-  next = search rules;
-  stands = search rules;
-  whole = λ body. rw (c.requires.part, c.in-Heads.is)
-      (none_whole c.behind_headers-self.result c.in-Heads.canonical c.start.new.self.gathered c.behind_headers-self.ensures
-      (ap (λ (g : Gathered). g.made) (ap (λ (s : SlotPairState). s.gathered) c.start.ensures ∙ ap (λ (g : Gathered). record g { total = c.in-Heads.canonical }) c.requires.rests.nothing)));
-  told = λ may here was body. begins_of_text c.args.self.now.limits c.args.self.now.next c.args.input c.in-Heads.nabc_lines c.in-Heads.macros c.in-Heads.canonical c.restart.new.self c.behind_headers-self.result c.in-Heads.is
-      c.restart.ensures c.behind_headers-self.ensures may _ refl refl refl refl
-      (ap (λ (g : Gathered). g.builder.kept) (ap (λ (s : SlotPairState). s.gathered) c.start.ensures ∙ ap (λ (g : Gathered). record g { total = c.in-Heads.canonical }) c.requires.rests.nothing))
-      (ap (λ (g : Gathered). g.made) (ap (λ (s : SlotPairState). s.gathered) c.start.ensures ∙ ap (λ (g : Gathered). record g { total = c.in-Heads.canonical }) c.requires.rests.nothing));
-  holds = λ was body none. ap (λ (b : Bounds). b.before.syllables) c.behind_headers-self.ensures;
-  law = search rules;
-  emitted = search rules;
-  front = λ heads lines macros canonical is. search rules;
+pub returns-in-Found : goal.returns-in-Found
+returns-in-Found c = record {
+  step =
+      rw (c.requires.part, c.in-Found.is)
+      (gives_outside (Found c.in-Found.finding ∷ []) (λ body. absurd (cc body)) (λ heads lines macros canonical is. absurd (cc is))
+      (record { lends = lends_none c.args.self.now.limits _ (Found c.in-Found.finding ∷ []) refl; limits = refl; part = refl; last = λ other final. absurd (cc final); passes = λ other. refl; law = λ xs. refl; emitted = record { events = c.push.ensures; few = omega arith; lent = refl } }));
+  rests = search rules;
 }
 
-pub returns-in-Heads-clause-rests : goal.returns-in-Heads-clause-rests
-returns-in-Heads-clause-rests c = record {
+pub returns-in-Stop : goal.returns-in-Stop
+returns-in-Stop c = record {
+  step =
+      rw (c.requires.part, c.in-Stop.is)
+      (gives_outside (Stop c.in-Stop.fault ∷ []) (λ body. absurd (cc body)) (λ heads lines macros canonical is. absurd (cc is))
+      (record { lends = lends_none c.args.self.now.limits _ (Stop c.in-Stop.fault ∷ []) refl; limits = refl; part = refl; last = λ other final. refl; passes = λ other. tt; law = λ xs. refl; emitted = record { events = c.push-in-Stop.ensures; few = omega arith; lent = refl } }));
   rests = search rules;
-  counts = search rules;
-  kept = search rules;
-  preceded = search rules;
-  behind = search rules;
-  lent = search rules;
-  code = search rules;
-  reading = comment_reads c.restart.new.self.nabc_lines c.restart.new.self.macros c.in-Heads.canonical c.args.self.now.limits.syllable c.in-Heads.canonical c.restart.new.self.part c.behind_headers-self.result c.start.new.self.gathered
-      (ap (λ (s : BodyStageState). s.part) c.restart.ensures) c.behind_headers-self.ensures
-      (ap (λ (s : SlotPairState). s.gathered) c.start.ensures ∙ ap (λ (g : Gathered). record g { total = c.in-Heads.canonical }) c.requires.rests.nothing);
-  units = none_held c.restart.new.self.nabc_lines c.behind_headers-self.result.before c.start.new.self.gathered.made
-      (ap (λ (s : SlotPairState). s.gathered.made) c.start.ensures ∙ ap (λ (g : Gathered). g.made) c.requires.rests.nothing);
-  within = within_begun c.args.self.now.limits c.in-Heads.canonical c.behind_headers-self.result.before c.start.new.self.gathered (ap (λ (b : Bounds). b.before) c.behind_headers-self.ensures)
-      (ap (λ (g : Gathered). g.made) (ap (λ (s : SlotPairState). s.gathered) c.start.ensures ∙ ap (λ (g : Gathered). record g { total = c.in-Heads.canonical }) c.requires.rests.nothing));
-  front = λ e. record {
-    none_before = ap (λ (b : Bounds). b.before.syllables) c.behind_headers-self.ensures;
-    none_made = ap (λ (s : SlotPairState). s.gathered.made) c.start.ensures ∙ ap (λ (g : Gathered). g.made) c.requires.rests.nothing;
+}
+
+pub returns-in-End : goal.returns-in-End
+returns-in-End c = record {
+  step =
+      rw (c.requires.part, c.in-End.is)
+      (gives_outside (End ∷ []) (λ body. absurd (cc body)) (λ heads lines macros canonical is. absurd (cc is))
+      (record { lends = lends_none c.args.self.now.limits _ (End ∷ []) refl; limits = refl; part = refl; last = λ other final. refl; passes = λ other. tt; law = λ xs. refl; emitted = record { events = c.push-in-End.ensures; few = omega arith; lent = refl } }));
+  rests = search rules;
+}
+
+pub returns-in-Body : goal.returns-in-Body
+returns-in-Body c = record {
+  step =
+      rw (c.requires.part, c.in-Body.is)
+      (gives_outside ([]) (λ body. absurd (cc body)) (λ heads lines macros canonical is. absurd (cc is))
+      (record { lends = lends_none c.args.self.now.limits _ ([]) refl; limits = refl; part = refl; last = λ other final. absurd (cc final); passes = λ other. tt; law = λ xs. refl; emitted = search rules }));
+  rests = search rules;
+}
+
+pub returns-in-Heads : goal.returns-in-Heads
+returns-in-Heads c = record {
+  step =
+      record {
+        outputs = [];
+        lends = lends_none c.args.self.now.limits _ [] refl;
+        limits = refl;
+        part = search rules;
+        last = λ other final. absurd (false≢true (sym (ap is_final c.in-Heads.is) ∙ final));
+        passes = λ other. rw c.in-Heads.is tt;
+        line = λ lf. absurd (subst EndsLine c.in-Heads.is lf);
+        counts = search rules;
+        before_held = search rules;
+        next = search rules;
+        stands = search rules;
+        whole = λ body. rw (c.requires.part, c.in-Heads.is)
+            (none_whole c.behind_headers-self.result c.in-Heads.canonical c.start.new.self.gathered c.behind_headers-self.ensures
+            (ap (λ (g : Gathered). g.made) (ap (λ (s : SlotPairState). s.gathered) c.start.ensures ∙ ap (λ (g : Gathered). record g { total = c.in-Heads.canonical }) c.requires.rests.nothing)));
+        told = λ may here was body. begins_of_text c.args.self.now.limits c.args.self.now.next c.args.input c.in-Heads.nabc_lines c.in-Heads.macros c.in-Heads.canonical c.restart.new.self c.behind_headers-self.result c.in-Heads.is
+            c.restart.ensures c.behind_headers-self.ensures may _ refl refl refl refl
+            (ap (λ (g : Gathered). g.builder.kept) (ap (λ (s : SlotPairState). s.gathered) c.start.ensures ∙ ap (λ (g : Gathered). record g { total = c.in-Heads.canonical }) c.requires.rests.nothing))
+            (ap (λ (g : Gathered). g.made) (ap (λ (s : SlotPairState). s.gathered) c.start.ensures ∙ ap (λ (g : Gathered). record g { total = c.in-Heads.canonical }) c.requires.rests.nothing));
+        holds = λ was body none. ap (λ (b : Bounds). b.before.syllables) c.behind_headers-self.ensures;
+        law = search rules;
+        emitted = search rules;
+        front = λ heads lines macros canonical is. search rules;
+      };
+  rests = record {
+    rests = search rules;
+    counts = search rules;
+    kept = search rules;
+    preceded = search rules;
+    behind = search rules;
+    lent = search rules;
+    code = search rules;
+    reading = comment_reads c.restart.new.self.nabc_lines c.restart.new.self.macros c.in-Heads.canonical c.args.self.now.limits.syllable c.in-Heads.canonical c.restart.new.self.part c.behind_headers-self.result c.start.new.self.gathered
+        (ap (λ (s : BodyStageState). s.part) c.restart.ensures) c.behind_headers-self.ensures
+        (ap (λ (s : SlotPairState). s.gathered) c.start.ensures ∙ ap (λ (g : Gathered). record g { total = c.in-Heads.canonical }) c.requires.rests.nothing);
+    units = none_held c.restart.new.self.nabc_lines c.behind_headers-self.result.before c.start.new.self.gathered.made
+        (ap (λ (s : SlotPairState). s.gathered.made) c.start.ensures ∙ ap (λ (g : Gathered). g.made) c.requires.rests.nothing);
+    within = within_begun c.args.self.now.limits c.in-Heads.canonical c.behind_headers-self.result.before c.start.new.self.gathered (ap (λ (b : Bounds). b.before) c.behind_headers-self.ensures)
+        (ap (λ (g : Gathered). g.made) (ap (λ (s : SlotPairState). s.gathered) c.start.ensures ∙ ap (λ (g : Gathered). record g { total = c.in-Heads.canonical }) c.requires.rests.nothing));
+    front = λ e. record {
+      none_before = ap (λ (b : Bounds). b.before.syllables) c.behind_headers-self.ensures;
+      none_made = ap (λ (s : SlotPairState). s.gathered.made) c.start.ensures ∙ ap (λ (g : Gathered). g.made) c.requires.rests.nothing;
+    };
   };
 }

@@ -1,10 +1,9 @@
-use Rattle.std.proofs.Common.{◌≡◌, ◌⊎◌, inl, inr, refl, sym, ap, ◌∙◌}
+use Rattle.std.proofs.Common.{refl, sym, ap, ◌∙◌}
 use Rattle.std.proofs.lemmas.Bool.{true≢false}
-use Rattle.gabc_score.specs.declared.score_machine.ScorePart.{ScorePart}
-use Rattle.gabc_score.specs.declared.score_machine.ScorePart.TheVariants as score_part
 use Rattle.gabc_score.specs.witness.ScoreStage.{ScoreStageState}
 use Rattle.gabc_score.proofs.resuming.MachinesReadAgain.{run_through}
 use Rattle.gabc_score.proofs.score_events.MemoryIsKept.{keeps}
+use Rattle.gabc_score.proofs.score_events.PartsFollow.{outside}
 use Rattle.gabc_score.proofs.score_machine.ScoreMachine.read_again.Goals as goal
 
 pub returns-in-Body-part-clause-reads : goal.returns-in-Body-part-clause-reads
@@ -45,7 +44,3 @@ returns-in-Heads c = record {
     };
   };
 }
-  where
-    outside : (p : ScorePart) → (p ≡ score_part.Heads) ⊎ (p ≡ score_part.Over) → p ≡ score_part.Body → ⊥
-    outside p (inl e) f = cc (sym e ∙ f)
-    outside p (inr e) f = cc (sym e ∙ f)

@@ -7,7 +7,7 @@ use Rattle.gabc_places.specs.declared.code.Finding.{Finding}
 use Rattle.gabc_score.specs.declared.before.Preceding.{Preceding}
 use Rattle.gabc_score.specs.declared.score_machine.ScorePart.TheVariants as score_part
 use Rattle.gabc_score.specs.Before.{preceding_of, with_each}
-use Rattle.gabc_score.specs.ScoreTells.{held_in_body, is_in_front, reading_in_body}
+use Rattle.gabc_score.specs.ScoreReports.{held_in_body, is_in_front, reading_in_body}
 use Rattle.gabc_score.specs.machine.Gatherer.{Gathered, nothing_gathered}
 use Rattle.gabc_score.specs.machine.PartCounts.{CountsHold}
 use Rattle.gabc_score.specs.machine.PartKeeps.{IsReading}
@@ -16,7 +16,7 @@ use Rattle.gabc_score.specs.machine.Resumed.{gathered_behind}
 use Rattle.gabc_score.specs.machine.ScoreMachine.{IsShort}
 use Rattle.gabc_score.specs.machine.SlotPair.{SlotPairState, is_made}
 use Rattle.gabc_score.specs.witness.BodyStage.{BodyStageState}
-use Rattle.gabc_score.specs.ToldWithin.{IsAtOutset}
+use Rattle.gabc_score.specs.ReportedWithin.{IsAtOutset}
 use Rattle.gabc_score.specs.machine.BodyBuilder.{code_in}
 use Rattle.gabc_score.proofs.score_events.HeldWithinLimits.{within_none}
 use Rattle.gabc_score.proofs.score_events.UnitsAreHeld.{none_held}

@@ -1,5 +1,5 @@
 use Rattle.std.proofs.Common.{sym, subst}
-use Rattle.gabc_score.specs.ToldWithin.{TellsOfText}
+use Rattle.gabc_score.specs.ReportedWithin.{ReportsText}
 use Rattle.gabc_score.proofs.resuming.MachinesReadAgain.{tells_again, tells_of_text, tells_the_same}
 use Rattle.gabc_score.proofs.score_stage.ScoreStage.read_again.Goals as goal
 
@@ -7,7 +7,7 @@ pub returns-clause-same : goal.returns-clause-same
 returns-clause-same c = rw (sym c.self.view_is) (tells_the_same c.read_again.ensures.reads)
 
 pub returns-clause-told : goal.returns-clause-told
-returns-clause-told c = λ good is openers text told. tells_of_text c.read_again.ensures.reads good is openers text (subst TellsOfText (sym c.self.view_is) told)
+returns-clause-told c = λ good is openers text told. tells_of_text c.read_again.ensures.reads good is openers text (subst ReportsText (sym c.self.view_is) told)
 
 pub returns-clause-again : goal.returns-clause-again
 returns-clause-again c =

@@ -1,7 +1,7 @@
 use Rattle.std.proofs.Common.{◌≡◌, Bool, true, false, if◌then◌else◌, sym, ap, ◌∙◌}
 use Rattle.gabc_places.specs.declared.place.Place.{Place}
-use Rattle.gabc_text.specs.StageTells.{opener_of}
-use Rattle.gabc_text.specs.machine.StageTells.{is_open}
+use Rattle.gabc_text.specs.StageReports.{opener_of}
+use Rattle.gabc_text.specs.machine.StageReports.{is_open}
 use Rattle.gabc_text.specs.declared.stage.TextStage.{TextStage}
 use Rattle.gabc_text.proofs.resuming.KeptStandsFromNext.{is_next}
 use Rattle.gabc_text.proofs.resuming.ToldByEvents.{opener_moved}

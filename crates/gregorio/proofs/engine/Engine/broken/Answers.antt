@@ -1,19 +1,20 @@
 use Rattle.std.proofs.Common.{◌≡◌, [], ap, sym, subst, ◌∙◌}
 use Rattle.gregorio.specs.declared.source_ending.SourceEnding.TheVariants.{Broken}
 use Rattle.gregorio.specs.Engine.{NothingWaits, fault_of}
-use Rattle.gregorio.specs.Streams.{behind_bytes, ended_with}
+use Rattle.gregorio.specs.Streams.{after_bytes, ended_with}
 use Rattle.gregorio.specs.witness.Engine.{EngineState, streams_left}
 use Rattle.gregorio.proofs.pieces.InputsAreEnded.{ended_as, ends_last, ends_now, over_is_engine, over_says, over_together}
-use Rattle.gregorio.proofs.pieces.RoomIsLeft.{room_for_last, room_where_none_waits}
+use Rattle.gregorio.proofs.pieces.RoomIsLeft.{leaves_room, room_for_last}
 use Rattle.gregorio.proofs.pieces.BytesAreTaken.{still_reserved}
 use Rattle.gregorio.proofs.pieces.SavedInHeaders.{shown}
+use Rattle.gregorio.proofs.pieces.PiecesAreTaken.{may_read}
 use Rattle.gregorio.proofs.engine.Engine.broken.Goals as goal
 
 pub finish-requires : goal.finish-requires
 finish-requires c =
-    let w = c.self.inside.writer in
-    let none : NothingWaits (shown c.self.inside.decoder c.self.inside.heads w) = subst NothingWaits (sym c.self.view_is) c.requires.waits in
-    record { room = room_for_last w (room_where_none_waits w c.self.invariant.reserved none.output none.messages) }
+    let i = c.self.inside in
+    let may = may_read i.decoder i.heads i.from_heads i.writer c.args.self.now c.self.invariant c.self.view_is (leaves_room c.args.self.now c.requires.waits) in
+    record { room = room_for_last i.writer may.room }
 
 pub returns-clause-law : goal.returns-clause-law
 returns-clause-law c =
@@ -23,7 +24,7 @@ returns-clause-law c =
     let none : NothingWaits (shown c.self.inside.decoder c.self.inside.heads w) = subst NothingWaits (sym c.self.view_is) c.requires.waits in
     ap (λ (s : EngineState). streams_left s Broken []) (sym c.self.view_is)
     ∙ (ends_now _ w new how (ends_last w new how c.self.inside.heads.book c.finish.ensures.writes) none.output none.messages
-    ∙ ap (behind_bytes new.writer.out.items new.writer.messages.items) (ended_as how c.status-2.result new.writer.written.ended c.status-2.ensures c.finish.ensures.over.ended))
+    ∙ ap (after_bytes new.writer.out.items new.writer.messages.items) (ended_as how c.status-2.result new.writer.written.ended c.status-2.ensures c.finish.ensures.over.ended))
 
 pub returns-in-Some-clause-last : goal.returns-in-Some-clause-last
 returns-in-Some-clause-last c = λ bytes ending.

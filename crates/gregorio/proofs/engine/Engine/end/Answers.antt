@@ -7,31 +7,25 @@ use Rattle.gabc_places.specs.declared.code.Fault.{Fault}
 use Rattle.gabc_places.specs.declared.place.Char.{Char}
 use Rattle.gabc_places.specs.witness.DecoderEvents as decoder
 use Rattle.gregorio.specs.Engine.{NothingWaits, StillRuns, fault_of}
-use Rattle.gregorio.specs.Streams.{behind_bytes, ended_with}
+use Rattle.gregorio.specs.Streams.{after_bytes, ended_with}
 use Rattle.gregorio.specs.declared.source_ending.SourceEnding.TheVariants.{Whole}
 use Rattle.gregorio.specs.witness.Engine.{EngineState, streams_left}
 use Rattle.gregorio.specs.machine.Engine.{GoTogether, IsNoCharacter}
 use Rattle.gregorio.specs.machine.ScoreWriter.{ScoreWriterState, FitsEnd, FitsEvents}
 use Rattle.gregorio.proofs.pieces.HeadersAreRead.{given_of_end}
-use Rattle.gregorio.proofs.pieces.RoomIsLeft.{room_before_end, room_where_none_waits}
+use Rattle.gregorio.proofs.pieces.RoomIsLeft.{leaves_room, room_before_end}
 use Rattle.gregorio.proofs.pieces.InputsAreEnded.{ended_as, ends_given, ends_items, ends_now, no_character_at_end, over_is_engine, over_says, over_stage}
 use Rattle.gregorio.proofs.pieces.BytesAreTaken.{none_wait, still_reserved}
 use Rattle.gregorio.proofs.pieces.EventsAreWritten.{passes_all, steady_all, steady_both, writes_all}
 use Rattle.gregorio.proofs.pieces.SavedInHeaders.{shown, still_runs}
 use Rattle.gregorio.proofs.pieces.WrittenGoesOn.{force_past_all}
-use Rattle.gregorio.proofs.pieces.TellsInStepOn.{in_heads_yet}
+use Rattle.gregorio.proofs.pieces.PiecesAreTaken.{may_read}
 use Rattle.gregorio.proofs.engine.Engine.end.Goals as goal
 
 pub read_decoded-requires : goal.read_decoded-requires
 read_decoded-requires c =
-    let w = c.self.inside.writer in
-    let none : NothingWaits (shown c.self.inside.decoder c.self.inside.heads w) = subst NothingWaits (sym c.self.view_is) c.requires.waits in
-    record {
-      together = c.self.invariant.together;
-      few = c.self.invariant.few;
-      room = room_where_none_waits w c.self.invariant.reserved none.output none.messages;
-      part = in_heads_yet c.self.inside.decoder c.self.inside.heads w c.self.invariant.step.runs;
-    }
+    let i = c.self.inside in
+    may_read i.decoder i.heads i.from_heads i.writer c.args.self.now c.self.invariant c.self.view_is (leaves_room c.args.self.now c.requires.waits)
 
 room_at_end : (d : DecoderState) (h : HeaderStageState) (w : ScoreWriterState) (item : Option (Result Char Fault)) (events : List HeadItem) → decoder.events_left d [] ≡ option_to_list item ∷ []
     → (IsNoCharacter (option_to_list item) → FitsEnd w) → events ≡ events_of_end h.limits h.progress → FitsEvents w true events
@@ -70,7 +64,7 @@ returns-clause-law c =
     (ends_given now mid c.pass_on.new.writer new how c.slice.result.now c.finish.new.self.book from_heads writes c.finish-2.ensures.writes) in
     ap (λ (s : EngineState). streams_left s Whole []) (sym c.self.view_is)
     ∙ (ends_now _ w new how ends none.output none.messages
-    ∙ ap (behind_bytes new.writer.out.items new.writer.messages.items) (ended_as how c.status-2.result new.writer.written.ended c.status-2.ensures c.finish-2.ensures.over.ended))
+    ∙ ap (after_bytes new.writer.out.items new.writer.messages.items) (ended_as how c.status-2.result new.writer.written.ended c.status-2.ensures c.finish-2.ensures.over.ended))
 
 pub returns-in-Some-clause-last : goal.returns-in-Some-clause-last
 returns-in-Some-clause-last c = λ bytes ending.
@@ -111,3 +105,7 @@ returns-clause-job c =
 pub returns-clause-last : goal.returns-clause-last
 returns-clause-last c =
     over_says (shown c.end-item.new.self c.finish.new.self c.finish-2.new.self) c.finish-2.result c.status-2.result c.finish-2.ensures.over c.status-2.ensures
+
+pub returns-clause-hasher : goal.returns-clause-hasher
+returns-clause-hasher c =
+    ap (λ (h : HeaderStageState). h.hasher) c.finish.ensures.state ∙ (c.read_decoded.ensures.reads.hasher ∙ ap (λ (s : EngineState). s.heads.hasher) c.self.view_is)

@@ -1,32 +1,31 @@
-use Rattle.std.proofs.Common.{option_to_list, ap, subst, sym, ◌∙◌, ◌∷◌, arith}
-use Rattle.gregorio.specs.witness.Engine.{EngineState, streams_left}
-use Rattle.gregorio.specs.Engine.{with_waiting}
-use Rattle.gregorio.specs.machine.Engine.{LeavesRoom}
-use Rattle.gregorio.proofs.pieces.RoomIsLeft.{room_where_few_wait}
-use Rattle.gregorio.proofs.pieces.SavedInHeaders.{shown}
+use Rattle.std.proofs.Common.{option_to_list, subst, [], ◌∷◌, arith}
+use Rattle.gregorio.specs.witness.Engine.{EngineState}
+use Rattle.gregorio.specs.machine.Taking.{Takes}
+use Rattle.gregorio.proofs.pieces.SavedInHeaders.{shown, still_runs}
 use Rattle.gregorio.proofs.pieces.BytesAreTaken.{byte_taken, still_reserved}
-use Rattle.gregorio.proofs.pieces.TellsInStepOn.{in_heads_yet}
+use Rattle.gregorio.proofs.pieces.PiecesAreTaken.{may_read}
 use Rattle.gregorio.proofs.engine.Engine.take.Goals as goal
 
 pub read_decoded-requires : goal.read_decoded-requires
 read_decoded-requires c =
+    let i = c.self.inside in
+    may_read i.decoder i.heads i.from_heads i.writer c.args.self.now c.self.invariant c.self.view_is c.requires.room
+
+pub returns-clause-takes : goal.returns-clause-takes
+returns-clause-takes c =
+    let d = c.self.inside.decoder in
+    let h = c.self.inside.heads in
     let w = c.self.inside.writer in
-    let few : LeavesRoom (shown c.self.inside.decoder c.self.inside.heads w) = subst LeavesRoom (sym c.self.view_is) c.requires.room in
-    record {
-      together = c.self.invariant.together;
-      few = c.self.invariant.few;
-      room = room_where_few_wait w c.self.invariant.reserved few.output few.messages;
-      part = in_heads_yet c.self.inside.decoder c.self.inside.heads w c.self.invariant.step.runs;
-    }
-
-pub returns-clause-brings : goal.returns-clause-brings
-returns-clause-brings c = λ more ending.
-    ap (λ (s : EngineState). with_waiting s (streams_left s ending (c.args.byte ∷ more))) (sym c.self.view_is)
-    ∙ byte_taken c.self.inside.decoder c.take-item.new.self c.self.inside.heads c.read_decoded.new.heads c.self.inside.writer c.read_decoded.new.writer c.args.byte
-    (option_to_list c.take-item.result) c.take-item.ensures.item c.read_decoded.ensures.reads.writes more ending
-
-pub returns-clause-format : goal.returns-clause-format
-returns-clause-format c = c.read_decoded.ensures.reads.steady.format ∙ ap (λ (s : EngineState). s.written.format) c.self.view_is
+    let read = c.read_decoded.ensures.reads in
+    let now = shown c.take-item.new.self c.read_decoded.new.heads c.read_decoded.new.writer in
+    subst (λ (s : EngineState). Takes s (c.args.byte ∷ []) now) c.self.view_is (record {
+      brings = λ more ending.
+          byte_taken d c.take-item.new.self h c.read_decoded.new.heads w c.read_decoded.new.writer c.args.byte
+          (option_to_list c.take-item.result) c.take-item.ensures.item read.writes more ending;
+      format = read.steady.format;
+      job = still_runs d c.take-item.new.self h c.read_decoded.new.heads w c.read_decoded.new.writer read.steady;
+      hasher = read.hasher;
+    })
 
 pub invariant_of-self : goal.invariant_of-self
 invariant_of-self c =

@@ -1,51 +1,43 @@
-use Rattle.std.proofs.Common.{◌≡◌, ◌+◌, ◌≤◌, ◌-◌, ℕ, List, true, length, take, drop, take-take, ap, sym, subst, ◌∙◌, arith}
+use Rattle.std.proofs.Common.{◌≡◌, ◌+◌, ℕ, List, [], true, length, take, drop, ap, sym, subst, ◌∙◌, arith}
 use Rattle.std.proofs.lemmas.List.{drop-take}
-use Rattle.gregorio.specs.Engine.{Brings, is_running}
-use Rattle.gregorio.specs.Streams.{Streams}
-use Rattle.gregorio.specs.declared.source_ending.SourceEnding.TheVariants.{Broken}
-use Rattle.gregorio.specs.witness.Engine.{EngineState, streams_left}
-use Rattle.gregorio_jobs.specs.declared.job.Status.TheVariants.{ReadFault}
-use Rattle.gregorio.proofs.PiecesAreSent.{all_behind}
+use Rattle.gregorio.specs.Engine.{is_running}
+use Rattle.gregorio.specs.machine.Taking.{Takes, TakesFrom}
+use Rattle.gregorio.specs.witness.Engine.{EngineState}
+use Rattle.gregorio.proofs.pieces.PiecesAreTaken.{byte_taken_from, taken_after_none, taken_of_front, takes_none}
 use Rattle.gregorio.proofs.engine.Engine.take_next.Goals.{in-Some+else-taken-gt0, in_default}
 use Rattle.gregorio.proofs.engine.Engine.take_next.Goals as goal
 
--- what is left of the front of a piece is the front of what is left of the piece
-front_of_rest : (piece text rest : List ℕ) (count n : ℕ) → text ≡ take (length text) piece → rest ≡ drop count text → length rest + count ≡ length text → n ≤ length rest
-    → take n rest ≡ take n (drop count piece)
-front_of_rest piece text rest count n front back len within =
-    let m = length rest in
-    ap (λ (xs : List ℕ). take n xs)
-    (back ∙ (ap (λ (xs : List ℕ). drop count xs) (front ∙ ap (λ (k : ℕ). take k piece) (omega (arith, len))) ∙ drop-take count m piece))
-    ∙ take-take n m (drop count piece) within
+-- what is left of the front of a piece is a front of what is left of the piece
+rest_is_front : (piece text rest : List ℕ) (count : ℕ) → text ≡ take (length text) piece → rest ≡ drop count text → length rest + count ≡ length text → rest ≡ take (length rest) (drop count piece)
+rest_is_front piece text rest count front back len =
+    back ∙ (ap (λ (xs : List ℕ). drop count xs) (front ∙ ap (λ (k : ℕ). take k piece) (omega (arith, len))) ∙ drop-take count (length rest) piece)
 
-pub returns-then-taken-gt0-clause-brings : goal.returns-then-taken-gt0-clause-brings
-returns-then-taken-gt0-clause-brings c =
+pub returns-then-taken-gt0-clause-takes : goal.returns-then-taken-gt0-clause-takes
+returns-then-taken-gt0-clause-takes c =
+    let old = c.args.self.now in
+    let new = c.take_run-taken.new.self in
     let n = c.take_run-taken.result in
-    subst (λ (xs : List ℕ). Brings c.args.self.now xs c.take_run-taken.new.self)
-    (front_of_rest c.args.piece.now c.args.text.now c.in-Some.rest.now c.args.count n c.requires.front c.in-Some.ensures.back c.in-Some.ensures.back_len c.take_run-taken.ensures.within)
-    c.take_run-taken.ensures.brings
+    let rest = c.in-Some.rest.now in
+    let run : TakesFrom old rest n new = record {
+      within = c.take_run-taken.ensures.within;
+      takes = c.take_run-taken.ensures.takes;
+      fault = λ over. absurd (cc (sym over ∙ c.take_run-taken.ensures.running));
+    } in
+    taken_of_front old new (drop c.args.count c.args.piece.now) (length rest) n
+    (subst (λ (xs : List ℕ). TakesFrom old xs n new) (rest_is_front c.args.piece.now c.args.text.now rest c.args.count c.requires.front c.in-Some.ensures.back c.in-Some.ensures.back_len) run)
 
--- where nothing is brought, the run ends as it would have
-ends_alike : (old mid : EngineState) (n : ℕ) (rest bytes : List ℕ) → n ≡ 0 → Brings old (take n rest) mid → (streams_left mid Broken bytes).status ≡ ReadFault → (streams_left old Broken bytes).status ≡ ReadFault
-ends_alike old mid n rest bytes none brings fault =
-    ap (λ (s : Streams). s.status) (subst (λ (k : ℕ). Brings old (take k rest) mid) none brings bytes Broken) ∙ fault
-
-pub returns-clause-fault : goal.returns-clause-fault
-returns-clause-fault c = λ over.
+pub returns-clause-takes : goal.returns-clause-takes
+returns-clause-takes c =
     let old = c.args.self.now in
     let mid = c.match-split_at_checked.self in
-    let rest = drop c.args.count c.args.piece.now in
-    let bytes = take (c.take_some.result - 1) rest in
-    let fault : is_running mid ≡ true → (streams_left mid Broken bytes).status ≡ ReadFault = λ runs.
-    subst (λ (xs : List ℕ). (streams_left mid Broken (take (c.take_some.result - 1) xs)).status ≡ ReadFault) (all_behind c.args.count c.args.piece.now) (c.take_some.ensures.fault runs over) in
+    let new = c.take.new.self in
+    let byte = λ (runs : is_running mid ≡ true). byte_taken_from mid new c.args.piece.now c.args.count c.requires.more c.take.ensures.running runs c.take.ensures.takes in
     elim c.match-split_at_checked.branch [
       | in-Some+else-taken-gt0 w ↦
-          let same = w.self-is in
-          let none : w.take_run-taken.result ≡ 0 = (let few = w.if-taken-gt0.false in omega (arith, few)) in
-          let runs : is_running mid ≡ true = ap (λ (e : EngineState). is_running e) same ∙ (w.take_run-taken.ensures.running ∙ c.requires.running) in
-          ends_alike old mid w.take_run-taken.result w.in-Some.rest.now bytes none (subst (λ (e : EngineState). Brings old (take w.take_run-taken.result w.in-Some.rest.now) e) (sym same) w.take_run-taken.ensures.brings) (fault runs)
+          let run = w.take_run-taken in
+          let none : run.result ≡ 0 = (let few = w.if-taken-gt0.false in omega (arith, few)) in
+          let takes : Takes old [] run.new.self = subst (λ (k : ℕ). Takes old (take k w.in-Some.rest.now) run.new.self) none run.ensures.takes in
+          taken_after_none old mid new (drop c.args.count c.args.piece.now) 1 (subst (Takes old []) (sym w.self-is) takes) (byte (ap (λ (e : EngineState). is_running e) w.self-is ∙ run.ensures.running))
       | in_default w ↦
-          let same = w.self-is in
-          let runs : is_running mid ≡ true = ap (λ (e : EngineState). is_running e) same ∙ c.requires.running in
-          subst (λ (e : EngineState). (streams_left e Broken bytes).status ≡ ReadFault) same (fault runs)
+          taken_after_none old mid new (drop c.args.count c.args.piece.now) 1 (subst (Takes old []) (sym w.self-is) (takes_none old)) (byte (ap (λ (e : EngineState). is_running e) w.self-is ∙ c.requires.running))
     ]

@@ -1,4 +1,4 @@
-use Rattle.std.proofs.Common.{◌≡◌, ◌≤◌, ℕ, zero, suc, List, ◌++◌, is_none, length, take, ap, sym, subst, ◌∙◌, arith, IsUtf8}
+use Rattle.std.proofs.Common.{◌≡◌, ◌≤◌, ℕ, zero, suc, List, is_none, length, take, refl, ap, sym, subst, ◌∙◌, arith, IsUtf8}
 use Rattle.std.proofs.lemmas.Str.{IsCharBoundary-start}
 use Rattle.std.specs.List.{slice_range}
 use Rattle.std.specs.Str.{IsCharBoundary, chars}
@@ -6,13 +6,15 @@ use Rattle.std.specs.String.Boundary.{IsSplitPoint}
 use Rattle.gabc_places.specs.DecoderMachine.{IsReached}
 use Rattle.gabc_places.specs.Place.{place_past}
 use Rattle.gabc_places.specs.declared.place.Place.{Place}
-use Rattle.gregorio.specs.Engine.{with_waiting}
+use Rattle.gabc_score.proofs.runs.RunGoesOn.{few_characters}
 use Rattle.gregorio.specs.machine.RunWriter.{TakesRuns}
 use Rattle.gregorio.specs.machine.ScoreWriter.{WritesRun}
-use Rattle.gregorio.specs.witness.Engine.{EngineState, Written, streams_left}
+use Rattle.gregorio.specs.machine.Taking.{Takes}
+use Rattle.gregorio.specs.witness.Engine.{EngineState, Written}
 use Rattle.gregorio.proofs.pieces.BytesAreTaken.{front_of_front, still_reserved}
-use Rattle.gregorio.proofs.pieces.RunIsTaken.{SkipsText, fewer_characters, run_in_step, run_reads_on, run_stays_telling, run_together, text_taken}
+use Rattle.gregorio.proofs.pieces.RunIsTaken.{SkipsText, run_in_step, run_reads_on, run_stays_telling, run_together, text_taken}
 use Rattle.gregorio.proofs.pieces.RunIsWritten.{run_counted}
+use Rattle.gregorio.proofs.pieces.SavedInHeaders.{shown, still_runs}
 use Rattle.gregorio.proofs.engine.Engine.take_run.Goals as goal
 
 -- a text may be cut where it begins, too
@@ -28,7 +30,10 @@ pub range-requires-clause-end_boundary : goal.range-requires-clause-end_boundary
 range-requires-clause-end_boundary c = cut_there c.range-front.result.now c.take_run-run.result.bytes c.range-front.utf8 c.take_run-run.ensures.within
 
 takes : (c : goal.After-skip_text) → TakesRuns c.self.inside.writer.writer.written
-takes c = c.takes_runs.ensures c.if-not-takes_runs.false
+takes c = record {
+  headed = sym c.headed.ensures ∙ c.if-not-headed.false;
+  runs = ap (λ (s : EngineState). is_none s.written.ended) c.self.view_is ∙ c.requires;
+}
 
 -- the text that the decoder skips is that of the run
 text_is : (c : goal.After-skip_text) → c.range.result.now ≡ take c.take_run-run.result.bytes c.range-front.result.now
@@ -50,7 +55,7 @@ skips c =
       joined = c.skip_text.ensures.joined;
       one_each = c.skip_text.ensures.one_each;
       all = c.skip_text.ensures.all;
-      few = fewer_characters text c.range.utf8;
+      few = few_characters text c.range.utf8;
       limit = c.skip_text.ensures.limit;
       taken = c.skip_text.ensures.taken;
       place = c.skip_text.ensures.place
@@ -80,21 +85,28 @@ invariant_of-self c =
       tells = run_stays_telling d e h w new text (writes c) (takes c) (skips c) step c.self.invariant.tells;
     }
 
-pub returns-clause-brings : goal.returns-clause-brings
-returns-clause-brings c = λ more ending.
+pub returns-clause-takes : goal.returns-clause-takes
+returns-clause-takes c =
+    let d = c.self.inside.decoder in
+    let e = c.skip_text.new.self in
+    let h = c.self.inside.heads in
+    let w = c.self.inside.writer in
+    let new = c.take_run-run.new.self in
     let text = c.range.result.now in
     let count = c.take_run-run.result.bytes in
     let most = c.floor_char_boundary-most.result in
     let front = front_is c.range-front.result.now c.args.text.now most c.range-front.ensures.value in
     let within : count ≤ length (take most c.args.text.now) = subst (λ (bytes : List ℕ). count ≤ length bytes) front c.take_run-run.ensures.within.0 in
-    let same : take count c.args.text.now ≡ text =
-    sym (front_of_front count most c.args.text.now within) ∙ (ap (λ (bytes : List ℕ). take count bytes) (sym front) ∙ sym (text_is c)) in
-    ap (λ (bytes : List ℕ). with_waiting c.args.self.now (streams_left c.args.self.now ending (bytes ++ more))) same
-    ∙ (ap (λ (s : EngineState). with_waiting s (streams_left s ending (text ++ more))) (sym c.self.view_is)
-    ∙ text_taken c.self.inside.decoder c.skip_text.new.self c.self.inside.heads c.self.inside.writer c.take_run-run.new.self text (writes c) (takes c) (skips c)
-    c.self.invariant.step c.self.invariant.together more ending)
+    let same : text ≡ take count c.args.text.now =
+    text_is c ∙ (ap (λ (bytes : List ℕ). take count bytes) front ∙ front_of_front count most c.args.text.now within) in
+    subst (λ (s : EngineState). Takes s (take count c.args.text.now) (shown e h new)) c.self.view_is (subst (λ (bytes : List ℕ). Takes (shown d h w) bytes (shown e h new)) same (record {
+      brings = λ more ending. text_taken d e h w new text (writes c) (takes c) (skips c) c.self.invariant.step c.self.invariant.together more ending;
+      format = c.take_run-run.ensures.steady.format;
+      job = still_runs d e h h w new c.take_run-run.ensures.steady;
+      hasher = refl;
+    }))
 
 pub returns-clause-running : goal.returns-clause-running
 returns-clause-running c =
     ap (λ (v : Written). is_none v.ended) (run_counted c.self.inside.writer c.self.inside.decoder.place (chars c.range.result.now) c.take_run-run.new.self (writes c)).is
-    ∙ ap (λ (s : EngineState). is_none s.written.ended) c.self.view_is
+    ∙ (takes c).runs

@@ -1,5 +1,0 @@
-use Rattle.gabc_text.proofs.resuming.StagesTake.{opens_there}
-use Rattle.gabc_text.proofs.laws.an_opener_may_stand_anywhere.Goals as goal
-
-pub returns : goal.returns
-returns c = opens_there

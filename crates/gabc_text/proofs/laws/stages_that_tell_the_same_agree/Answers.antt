@@ -1,5 +1,0 @@
-use Rattle.gabc_text.proofs.resuming.ToldSuffices.{told_suffices}
-use Rattle.gabc_text.proofs.laws.stages_that_tell_the_same_agree.Goals as goal
-
-pub returns : goal.returns
-returns c t = told_suffices c.args.one.now c.args.other.now t c.requires

@@ -1,0 +1,30 @@
+use Rattle.std.proofs.Common.{◌≡◌, [], ◌≤◌, Option, Some, None, IfSome, IsSome, length, sym, subst}
+use Rattle.gabc_places.specs.StageLaw.{concat_of}
+use Rattle.gabc_score.specs.ScoreEvents.{syllables_in}
+use Rattle.gabc_score.specs.witness.IsReachable.{IsReachable}
+use Rattle.gabc_score.specs.witness.ScoreStage.{ScoreStageState, left_of}
+use Rattle.gregorio.specs.declared.run_ending.RunEnding.{RunEnding}
+use Rattle.gregorio.specs.witness.Engine.{EngineState, Written}
+use Rattle.gregorio.specs.machine.ScoreWriter.{IsOver, IsSilent}
+use Rattle.gregorio.proofs.pieces.BytesAreTaken.{GivesNoLast, no_fault_if_broken, read_fault_if_broken}
+use Rattle.gregorio.proofs.pieces.NothingIsKeptBack.{prompt_now}
+use Rattle.gregorio.proofs.engine_laws.nothing_is_kept_back.Goals as goal
+
+silent_where_over : (o : Option RunEnding) (w : Written) (score : ScoreStageState) → o ≡ w.ended → IfSome o (λ how. IsOver w score how) → IsSome w.ended → IsSilent score
+silent_where_over (Some how) w score is over some = over.silent
+silent_where_over None w score is over some = let none = subst IsSome (sym is) some in absurd (cc none)
+
+pub returns : goal.returns
+returns c =
+    let s = c.args.engine.now in
+    let w = c.engine.inside.writer in
+    let law = c.inputs_that_cease_give_no_stop.ensures in
+    let gives : GivesNoLast (concat_of (left_of s.score [])) = record { findings = law.findings s.score; stop = law.stop s.score; end = law.end s.score } in
+    let few = subst (λ (x : ScoreStageState). length (syllables_in (concat_of (left_of x []))) ≤ 1) c.score-score.ensures c.at_most_one_syllable_is_held.ensures in
+    let over = subst (λ (e : EngineState). IsSome e.written.ended → IsSilent e.score) c.engine.view_is (silent_where_over c.ended.result w.writer.written w.score c.ended.ensures.ended c.ended.ensures.over) in
+    let may = subst IsReachable c.score-score.ensures c.a_stage_is_reachable.ensures in
+    record {
+      prompt = prompt_now s gives few (c.what_breaks_off_is_one_syllable.ensures s.score may) over;
+      running = λ runs. read_fault_if_broken s runs gives;
+      fault = λ runs. no_fault_if_broken s runs gives;
+    }
