@@ -15,7 +15,7 @@ pub record DecoderState : Type 0 where
   pub place : Place
   pub pending : List ℕ
   pub previous : ℕ
-  pub running : Bool
+  pub ended : Bool
 
 -- bs is empty, or the beginning of a character
 pub record IsPartial (bs : List ℕ) : Type 0 where
@@ -48,7 +48,7 @@ pub record IsDecoder (s : DecoderState) : Type 0 where
   pub cr : s.previous ≡ 13 → BeginsLine s.place
 
 abbrev pub fresh_decoder : ℕ → DecoderState
-fresh_decoder limit = record { limit = limit; taken = 0; place = place_after []; pending = []; previous = 0; running = true }
+fresh_decoder limit = record { limit = limit; taken = 0; place = place_after []; pending = []; previous = 0; ended = false }
 
 -- the end of the input
 abbrev pub is_unfinished : List ℕ → Bool

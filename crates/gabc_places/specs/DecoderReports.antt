@@ -29,7 +29,7 @@ pub record MayBeReported (limit taken : ℕ) (place : Place) (pending : List ℕ
 
 -- the decoder that is made from it: the character before is a CR, or some other one
 abbrev pub resumed : ℕ → ℕ → Place → List ℕ → Bool → DecoderState
-resumed limit taken place pending cr = record { limit = limit; taken = taken; place = place; pending = pending; previous = if cr then 13 else 0; running = true }
+resumed limit taken place pending cr = record { limit = limit; taken = taken; place = place; pending = pending; previous = if cr then 13 else 0; ended = false }
 
 -- ---- a byte
 
@@ -52,10 +52,10 @@ AreCounted (Ok x ∷ items) old new = new ≡ old + 1
 AreCounted (Err fault ∷ items) old new = (old ≤ new) × (new ≤ old + 1)
 
 -- a fault ends it
-abbrev pub still_runs : List (Result Char Fault) → Bool → Bool
-still_runs [] runs = runs
-still_runs (Ok x ∷ items) runs = runs
-still_runs (Err fault ∷ items) runs = false
+abbrev pub ended_by : List (Result Char Fault) → Bool → Bool
+ended_by [] ended = ended
+ended_by (Ok x ∷ items) ended = ended
+ended_by (Err fault ∷ items) ended = true
 
 -- what comes is a character of a text
 abbrev pub AreOfText : List (Result Char Fault) → Type 0
@@ -76,9 +76,9 @@ pub record MovesOn (old : DecoderState) (items : List (Result Char Fault)) (new 
   pub taken : AreCounted items old.taken new.taken
   pub here : AreHere items old.place
   pub place : new.place ≡ moved_place items old.place
-  pub runs : new.running ≡ still_runs items old.running
+  pub ended : new.ended ≡ ended_by items old.ended
   pub plain : AreOfText items
-  pub cr : new.running ≡ true → is_after_cr new ≡ true → EndALine items
+  pub cr : new.ended ≡ false → is_after_cr new ≡ true → EndALine items
 
 -- With bytes one after another, at each of which these came, it goes on so from one to the next.
 abbrev pub MovesThrough : DecoderState → List (List (Result Char Fault)) → DecoderState → Type 0

@@ -11,7 +11,7 @@ use Rattle.gabc_places.specs.DecoderMachine.{DecoderState, is_unfinished}
 -- How many bytes a decoder takes at once: those that are left to its limit, where it runs and no
 -- character is pending, and else none.
 abbrev pub most_skipped : DecoderState → ℕ
-most_skipped s = if s.running && not (is_unfinished s.pending) then s.limit - s.taken else 0
+most_skipped s = if not s.ended && not (is_unfinished s.pending) then s.limit - s.taken else 0
 
 -- what a decoder emits for the bytes of a character: the character with the last of them, and
 -- nothing with each other one

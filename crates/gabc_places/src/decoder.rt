@@ -37,7 +37,7 @@ pub struct Decoder {
     place: Place,
     pending: ArrayVec<u8, 4>,
     previous: char,
-    running: bool,
+    ended: bool,
 }
 
 impl Model for Decoder {
@@ -51,7 +51,7 @@ impl Model for Decoder {
       place = d.place;
       pending = d.pending.items;
       previous = d.previous;
-      running = d.running;
+      ended = d.ended;
     } };
 
     ghost invariant = { λ d. IsDecoder (record {
@@ -60,7 +60,7 @@ impl Model for Decoder {
       place = d.place;
       pending = d.pending.items;
       previous = d.previous;
-      running = d.running;
+      ended = d.ended;
     }) };
 }
 
@@ -127,7 +127,7 @@ impl Decoder {
             place: Place::START,
             pending: ArrayVec::new(),
             previous: '\0',
-            running: true,
+            ended: false,
         }
     }
 
@@ -162,7 +162,7 @@ impl Decoder {
             place,
             pending: kept,
             previous: if after_cr { '\r' } else { '\0' },
-            running: true,
+            ended: false,
         })
     }
 
@@ -178,9 +178,9 @@ impl Decoder {
             self.new.place ≡ self.old.place) }
         ensures moves { MovesOn self.old (option_to_list result) self.new }
         ensures state { self.new ≡ (take_byte byte self.old).state }
-        ensures stays { self.old.running ≡ false → self.new ≡ self.old }
+        ensures stays { self.old.ended ≡ true → self.new ≡ self.old }
     {
-        if !self.running {
+        if self.ended {
             return None;
         }
         if self.taken == self.limit {
@@ -198,12 +198,12 @@ impl Decoder {
     pub fn end(&mut self) -> Option<Result<Char, Fault>>
         ensures item { events_left self.old [] ≡ option_to_list result ∷ [] }
         ensures over { EmitsNothing (events_left self.new) }
-        ensures rest { self.new ≡ record self.old { running = false } }
+        ensures rest { self.new ≡ record self.old { ended = true } }
     {
-        if self.running && !self.pending.is_empty() {
+        if !self.ended && !self.pending.is_empty() {
             return self.stop(Code::F1);
         }
-        self.running = false;
+        self.ended = true;
         None
     }
 
@@ -248,7 +248,7 @@ impl Decoder {
         ensures column { self.now.place.column + result < 2 ^ 64 }
     {
         let left = (self.limit - self.taken) as usize;
-        if self.running && self.pending.is_empty() {
+        if !self.ended && self.pending.is_empty() {
             left
         } else {
             0
@@ -275,7 +275,7 @@ impl Decoder {
         ensures place { self.new.place ≡ next }
         ensures reached { IsReached next (length self.new.pending) self.new.taken }
         ensures pending { self.new.pending ≡ self.old.pending }
-        ensures runs { self.new.running ≡ self.old.running }
+        ensures ended { self.new.ended ≡ self.old.ended }
         ensures none { text.now ≡ [] → self.new ≡ self.old }
         ensures cr { is_after_cr self.new ≡ false }
     {
@@ -291,7 +291,7 @@ impl Decoder {
         ensures state { self.new ≡ (stop_with code self.old).state }
         ensures events { option_to_list result ≡ (stop_with code self.old).events }
     {
-        self.running = false;
+        self.ended = true;
         Some(Err(Fault {
             place: self.place,
             code,

@@ -1,7 +1,7 @@
 //! Laws of the definitions that contracts speak of. Each function is there for its clauses: all but
 //! two do nothing, and those run a fresh decoder.
 
-ghost use Rattle.std.specs.Prelude.{◌≡◌, ◌≢◌, ℕ, ◌<◌, List, [], ◌∷◌, ◌++◌, map, length, take, Bool, true, ◌≤◌, Some, None, IsSome, slice_index, encode_utf8_all};
+ghost use Rattle.std.specs.Prelude.{◌≡◌, ◌≢◌, ℕ, ◌<◌, List, [], ◌∷◌, ◌++◌, map, length, take, Bool, false, ◌≤◌, Some, None, IsSome, slice_index, encode_utf8_all};
 ghost use Rattle.std.specs.Char.{IsScalar};
 ghost use Rattle.std.specs.List.{slice_get, Contains, All};
 ghost use Rattle.gabc_places.specs.Place.{place_after, placed_characters, placed_characters_after};
@@ -129,7 +129,7 @@ pub fn a_decoder_emits_what_is_known(
 /// Law: two decoders that run, under one limit, and report the same emit the same of whatever
 /// follows. The bytes that they report of a character that is not whole are a part of one.
 pub fn decoders_that_report_the_same_agree()
-    ensures { (one other : DecoderState) → one.running ≡ true → other.running ≡ true →
+    ensures { (one other : DecoderState) → one.ended ≡ false → other.ended ≡ false →
         one.limit ≡ other.limit → IsPartial one.pending → ReportTheSame one other →
         (bytes : List ℕ) → events_left one bytes ≡ events_left other bytes }
 {}

@@ -63,7 +63,7 @@ pub struct BodyStage {
     pub(crate) macros: u16,
     pub(crate) part: BodyPart,
     /// Whether the input has ended.
-    over: bool,
+    ended: bool,
     emitter: Emitter,
     texts: Room<TextEvent>,
     notes: Room<NoteEvent>,
@@ -79,7 +79,7 @@ impl Model for BodyStage {
       nabc_lines = b.nabc_lines;
       macros = b.macros;
       part = b.part;
-      over = b.over;
+      ended = b.ended;
       events = events_in_rooms b.emitter b.texts.items b.notes.items;
     } };
 
@@ -108,7 +108,7 @@ impl BodyStage {
     pub fn new(memory: &Memory, nabc_lines: u8, macros: u16) -> Result<BodyStage, AllocError>
         ensures run { IfOk result (λ stage. (xs : List Char) →
             events_left stage xs ≡ events_from texts_by_stage nabc_lines macros InComment xs) }
-        ensures open { IfOk result (λ stage. stage.over ≡ false) }
+        ensures open { IfOk result (λ stage. stage.ended ≡ false) }
         ensures part { IfOk result (λ stage. stage.part ≡ BodyPart.Comment) }
         ensures facts { IfOk result (λ stage. (at : Place) (t : List ℕ) → CountsFit at t →
             events_left stage (placed_characters_from at t)
@@ -122,7 +122,7 @@ impl BodyStage {
             nabc_lines,
             macros,
             part: BodyPart::Comment,
-            over: false,
+            ended: false,
             emitter: Emitter::Nothing,
             texts,
             notes,
@@ -135,14 +135,14 @@ impl BodyStage {
           nabc_lines = nabc_lines;
           macros = macros;
           part = BodyPart.Comment;
-          over = false;
+          ended = false;
           events = [];
         } }
     {
         self.nabc_lines = nabc_lines;
         self.macros = macros;
         self.part = BodyPart::Comment;
-        self.over = false;
+        self.ended = false;
         self.emitter = Emitter::Nothing;
     }
 
@@ -246,9 +246,9 @@ impl BodyStage {
         ensures once { ClosesLast self.new.events }
         ensures fit { (g : Gathered) → CountsHold self.old.part g.builder →
             length g.builder.kept ≤ g.limit → FitEach g self.new.events }
-        ensures over { self.new.over ≡ true }
+        ensures over { self.new.ended ≡ true }
     {
-        self.over = true;
+        self.ended = true;
         match &mut self.part {
             BodyPart::Comment => {
                 self.texts.clear();
@@ -321,7 +321,7 @@ impl Stage for BodyStage {
     }
 
     fn push(&mut self, x: Char, out: &mut Room<BodyEvent>) {
-        if self.over {
+        if self.ended {
             return;
         }
         self.take(x);
@@ -330,7 +330,7 @@ impl Stage for BodyStage {
 
     #[tactic(auto, using(gabc_places::proofs::PushesAreOne::joined_silence))]
     fn finish(&mut self, out: &mut Room<BodyEvent>) {
-        if self.over {
+        if self.ended {
             return;
         }
         self.close();

@@ -43,12 +43,12 @@ use Rattle.gabc_text.proofs.events.EventsByPointAreEvents.{joined_nothing}
 
 -- ---- a stage that is done gives nothing
 
-pub ended_is_silent : (s : TextStage) (t : List ℕ) → s.done ≡ true → concat_of (events_left s t) ≡ []
+pub ended_is_silent : (s : TextStage) (t : List ℕ) → s.ended ≡ true → concat_of (events_left s t) ≡ []
 ended_is_silent s t e =
     ap concat_of (rest_by s t ∙ ap (λ (b : Bool). cond b ([] ∷ no_events_each t) (lists_ahead (stands_for s.state) s (stands_for s.state ++ t))) e)
     ∙ joined_nothing t
 
-pub done_emits_nothing : (s : TextStage) → s.done ≡ true → EmitsNothing (λ (cs : List Char). events_left s (codes_of cs))
+pub done_emits_nothing : (s : TextStage) → s.ended ≡ true → EmitsNothing (λ (cs : List Char). events_left s (codes_of cs))
 done_emits_nothing s e cs = ended_is_silent s (codes_of cs) e
 
 -- ---- which events are no end
@@ -111,7 +111,7 @@ end_last facts progress h =
     (behind _ _ (mapped_endless (λ (c : Span). out.Part (part.Centre c)) (λ c. refl) (option_list_of (centre_by (count_by progress.pieces progress.blank) progress.begin progress.end)))
     (record { before = []; last = out.Ended h; events_are = refl; endless = record { none = refl } }))
 
-last_stops : (next : TextStage) (events : List TextEvent) (old new : BoundedList TextEvent) → next.done ≡ true → new ≡ extended_by old events → EndsLast events
+last_stops : (next : TextStage) (events : List TextEvent) (old new : BoundedList TextEvent) → next.ended ≡ true → new ≡ extended_by old events → EndsLast events
     → StopsAtEnd is_end (λ (cs : List Char). events_left next (codes_of cs)) old new
 last_stops next events old new d e l =
     stops-last is_end (λ (cs : List Char). events_left next (codes_of cs)) old new l.before l.last (e ∙ ap (extended_by old) l.events_are) l.endless.none (done_emits_nothing next d)
@@ -124,13 +124,13 @@ endless_stops next events old new e n = stops-endless is_end (λ (cs : List Char
 
 pub push_stops : (t : TextStage) (c : ℕ) (next : TextStage) (old new : BoundedList TextEvent) → next ≡ push_stage t c → new ≡ extended_by old (events_of_push t c)
     → StopsAtEnd is_end (λ (cs : List Char). events_left next (codes_of cs)) old new
-push_stops t c next old new = by t.done
+push_stops t c next old new = by t.ended
   where
     settled : (b : Bool) → next ≡ cond b (end_stage (settle_stage t c)) (read_stage (settle_stage t c) c)
         → new ≡ extended_by old (events_of_settling t c ++ cond b (events_of_end (settle_stage t c).facts (settle_stage t c).progress text_ending.Notes) (events_of_reading (settle_stage t c) c))
         → StopsAtEnd is_end (λ (cs : List Char). events_left next (codes_of cs)) old new
     settled true e o =
-        last_stops next _ old new (ap (λ (x : TextStage). x.done) e) o
+        last_stops next _ old new (ap (λ (x : TextStage). x.ended) e) o
         (behind _ _ (settle_endless t (settled_kind t.state c)) (end_last (settle_stage t c).facts (settle_stage t c).progress text_ending.Notes))
     settled false e o =
         endless_stops next _ old new o (endless-append _ _ (settle_endless t (settled_kind t.state c)) (read_endless (settle_stage t c) c))
@@ -140,28 +140,28 @@ push_stops t c next old new = by t.done
     by true e o = endless_stops next [] old new o (record { none = refl })
     by false e o = settled (c == 40 && is_plain (settle_stage t c).state) e o
 
-pub is_done : (t : TextStage) → (finish_stage t).done ≡ true
-is_done t = by t.done refl
+pub is_done : (t : TextStage) → (finish_stage t).ended ≡ true
+is_done t = by t.ended refl
   where
-    ended : (o : Option TokenKind) → (finish_stage_by t o).done ≡ true
+    ended : (o : Option TokenKind) → (finish_stage_by t o).ended ≡ true
     ended None = refl
     ended (Some k) = refl
 
-    by : (b : Bool) → t.done ≡ b → (cond b t (finish_stage_by t (kind_at_end t.state))).done ≡ true
+    by : (b : Bool) → t.ended ≡ b → (cond b t (finish_stage_by t (kind_at_end t.state))).ended ≡ true
     by true e = e
     by false e = ended (kind_at_end t.state)
 
 pub finish_is_over : (t next : TextStage) → next ≡ finish_stage t → EmitsNothing (λ (cs : List Char). events_left next (codes_of cs))
-finish_is_over t next e = done_emits_nothing next (ap (λ (x : TextStage). x.done) e ∙ is_done t)
+finish_is_over t next e = done_emits_nothing next (ap (λ (x : TextStage). x.ended) e ∙ is_done t)
 
 pub finish_stops : (t next : TextStage) (old new : BoundedList TextEvent) → next ≡ finish_stage t → new ≡ extended_by old (events_of_finish t)
     → StopsAtEnd is_end (λ (cs : List Char). events_left next (codes_of cs)) old new
-finish_stops t next old new n = by t.done
+finish_stops t next old new n = by t.ended
   where
     ended : (o : Option TokenKind) → new ≡ extended_by old (events_of_finish_by t o) → StopsAtEnd is_end (λ (cs : List Char). events_left next (codes_of cs)) old new
-    ended None o = last_stops next _ old new (ap (λ (x : TextStage). x.done) n ∙ is_done t) o (end_last t.facts t.progress text_ending.Finished)
+    ended None o = last_stops next _ old new (ap (λ (x : TextStage). x.ended) n ∙ is_done t) o (end_last t.facts t.progress text_ending.Finished)
     ended (Some k) o =
-        last_stops next _ old new (ap (λ (x : TextStage). x.done) n ∙ is_done t) o
+        last_stops next _ old new (ap (λ (x : TextStage). x.ended) n ∙ is_done t) o
         (behind _ _ (token_endless t.facts t.progress k Other t.progress.start) (end_last (facts_after t.facts k Other) (progress_after t.facts t.progress k Other t.progress.next) (end_by k t.progress.place)))
 
     by : (d : Bool) → new ≡ extended_by old (cond d [] (events_of_finish_by t (kind_at_end t.state))) → StopsAtEnd is_end (λ (cs : List Char). events_left next (codes_of cs)) old new
@@ -193,7 +193,7 @@ end_cuts facts progress h =
     go (text_ending.Cut p) = refl
 
 -- the place at which the text of a stage would be cut is that of its opener
-pub opener_told : (t : TextStage) → t.done ≡ false → opener_of t ≡ opener_in t
+pub opener_told : (t : TextStage) → t.ended ≡ false → opener_of t ≡ opener_in t
 opener_told t r =
     ap (λ (l : List (List TextEvent)). cut_place (concat_of l)) (rest_is t [])
     ∙ (ap cut_place (append-nil (events_of_finish t))
@@ -207,7 +207,7 @@ opener_told t r =
         ∙ end_cuts (facts_after facts k Other) (progress_after facts progress k Other progress.next) (end_by k progress.place)
 
     at_state : (s : TokenState) (facts : TextFacts) (progress : Progress)
-        → cut_place (events_of_finish_by (record { state = s; facts = facts; progress = progress; done = t.done }) (kind_at_end s)) ≡ cond (is_open s) (Some progress.place) None
+        → cut_place (events_of_finish_by (record { state = s; facts = facts; progress = progress; ended = t.ended }) (kind_at_end s)) ≡ cond (is_open s) (Some progress.place) None
     at_state state.Plain facts progress = end_cuts facts progress text_ending.Finished
     at_state state.Dollar facts progress = ended kind.Letter facts progress
     at_state state.Comment facts progress = ended kind.Comment facts progress
@@ -226,7 +226,7 @@ none_last events l e = go l.before (sym l.events_are ∙ e)
 
 -- a stage that goes on
 abbrev running : TokenState → TextFacts → Progress → TextStage
-running s facts progress = record { state = s; facts = facts; progress = progress; done = false }
+running s facts progress = record { state = s; facts = facts; progress = progress; ended = false }
 
 -- at a `(` nothing is emitted in a comment, and elsewhere something is
 silent_at : (s : TokenState) (facts : TextFacts) (progress : Progress) → Decides (is_comment s) (events_of_push (running s facts progress) 40 ≡ [])
@@ -251,10 +251,10 @@ sounds_last events l = ap (λ (e : List TextEvent). begins_silently ([] ∷ e �
     go (x ∷ before) = refl
 
 -- a stage that goes on emits nothing with a `(` just in a comment
-pub comment_told : (t : TextStage) → t.done ≡ false → is_in_comment t ≡ comment_in t
+pub comment_told : (t : TextStage) → t.ended ≡ false → is_in_comment t ≡ comment_in t
 comment_told t r =
     ap begins_silently (rest_is t (40 ∷ []))
-    ∙ (ap (λ (b : Bool). begins_silently (stepwise (record t { done = b }) (40 ∷ []))) r ∙ at_state t.state t.facts t.progress)
+    ∙ (ap (λ (b : Bool). begins_silently (stepwise (record t { ended = b }) (40 ∷ []))) r ∙ at_state t.state t.facts t.progress)
   where
     other : (s : TokenState) (facts : TextFacts) (progress : Progress) → (is_comment s ≡ true → ⊥) → begins_silently (stepwise (running s facts progress) (40 ∷ [])) ≡ false
     other s facts progress apart =
@@ -273,9 +273,9 @@ comment_told t r =
     at_state (state.Raw raw m) facts progress = other (state.Raw raw m) facts progress (λ e. cc)
     at_state state.Translation facts progress = other state.Translation facts progress (λ e. cc)
 
-pub comment_silences : (t : TextStage) → t.done ≡ false → Decides (is_in_comment t) ((later : List (List TextEvent)) × (events_left t (40 ∷ []) ≡ [] ∷ later))
+pub comment_silences : (t : TextStage) → t.ended ≡ false → Decides (is_in_comment t) ((later : List (List TextEvent)) × (events_left t (40 ∷ []) ≡ [] ∷ later))
 comment_silences t r =
-    let same : t ≡ running t.state t.facts t.progress = ap (λ (b : Bool). record t { done = b }) r in
+    let same : t ≡ running t.state t.facts t.progress = ap (λ (b : Bool). record t { ended = b }) r in
     let d = silent_at t.state t.facts t.progress in
     let push : events_of_push t 40 ≡ events_of_push (running t.state t.facts t.progress) 40 = ap (λ (u : TextStage). events_of_push u 40) same in
     let all : events_left t (40 ∷ []) ≡ events_of_push t 40 ∷ stepwise (push_stage t 40) [] = rest_is t (40 ∷ []) in (

@@ -281,7 +281,7 @@ settle_pays t None h = record { paid = omega arith }
 settle_pays t (Some k) h = record { paid = let p = (token_pays t k tag.Other t.progress.next t.progress.start).paid in let q = h t.facts in omega (arith, p, q) }
 
 pub push_pays : (t : TextStage) (c : ℕ) → Pays (pieces_owed t) (events_of_push t c) (pieces_owed (push_stage t c))
-push_pays t c = by t.done
+push_pays t c = by t.ended
   where
     at_end : (s : TextStage) (b : Bool) → Pays (pieces_owed s) (cond b (events_of_end s.facts s.progress text_ending.Notes) (events_of_reading s c)) (pieces_owed (cond b (end_stage s) (read_stage s c)))
     at_end s true = end_pays (pieces_owed s) s.facts s.progress text_ending.Notes
@@ -292,7 +292,7 @@ push_pays t c = by t.done
     by false = both _ _ (settle_pays t (settled_kind t.state c) (settled_is_paid t.state c)) (at_end (settle_stage t c) (c == 40 && is_plain (settle_stage t c).state))
 
 finish_pays : (t : TextStage) → Pays (pieces_owed t) (events_of_finish t) 0
-finish_pays t = by t.done
+finish_pays t = by t.ended
   where
     ended : (o : Option TokenKind) → IsPaid t.state o → Pays (pieces_owed t) (events_of_finish_by t o) 0
     ended None h = record { paid = let p = (end_pays (pieces_owed t) t.facts t.progress text_ending.Finished).paid in omega (arith, p) }

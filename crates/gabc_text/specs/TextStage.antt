@@ -15,5 +15,5 @@ fresh_stage at = record {
   state = Plain;
   facts = no_facts;
   progress = record { place = at; start = 0; next = at; kept = 0; pieces = 0; blank = None; begin = None; end = None };
-  done = false;
+  ended = false;
 }

@@ -34,7 +34,7 @@ pub struct TextStage {
     pub(crate) state: TokenState,
     facts: TextFacts,
     pub(crate) progress: Progress,
-    done: bool,
+    ended: bool,
 }
 
 /// Whether a text is cut that ends so.
@@ -60,7 +60,7 @@ impl TextStage {
             state: TokenState::Plain,
             facts: no_facts(),
             progress: Progress::new(at),
-            done: false,
+            ended: false,
         }
     }
 
@@ -70,7 +70,7 @@ impl TextStage {
     {
         match self.state {
             TokenState::Plain => {
-                !self.done && self.facts == no_facts() && self.progress == Progress::new(at)
+                !self.ended && self.facts == no_facts() && self.progress == Progress::new(at)
             }
             _ => false,
         }
@@ -199,7 +199,7 @@ impl TextStage {
         }
         emit_part(out, centre(self.progress).map(TextPart::Centre));
         out.push(TextEvent::Ended(how));
-        self.done = true;
+        self.ended = true;
     }
 
     /// Takes a character.
@@ -209,7 +209,7 @@ impl TextStage {
         ensures out { out.new ≡ extended_by out.old (events_of_push self.old c) }
         ensures few { length out.new.items ≤ length out.old.items + 8 }
     {
-        if self.done {
+        if self.ended {
             return;
         }
         match self.state {
@@ -229,7 +229,7 @@ impl TextStage {
     pub(crate) fn is_in_raw(&self) -> bool
         ensures { result ≡ is_in_raw self.now }
     {
-        !self.done && is_unmatched(self.state)
+        !self.ended && is_unmatched(self.state)
     }
 
     /// Takes the characters of a text in a raw part. None of them begins the ending, so that each
@@ -246,9 +246,9 @@ impl TextStage {
 
     /// Whether the text has ended.
     pub(crate) fn is_done(&self) -> bool
-        ensures { result ≡ self.now.done }
+        ensures { result ≡ self.now.ended }
     {
-        self.done
+        self.ended
     }
 
     /// Ends the input.
@@ -258,7 +258,7 @@ impl TextStage {
         ensures out { out.new ≡ extended_by out.old (events_of_finish self.old) }
         ensures few { length out.new.items ≤ length out.old.items + 8 }
     {
-        if !self.done {
+        if !self.ended {
             let from = self.progress.place;
             match kind_at_end(self.state) {
                 Some(kind) => {

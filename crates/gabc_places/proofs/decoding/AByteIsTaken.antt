@@ -19,14 +19,14 @@ with_byte s = record s { taken = s.taken + 1; pending = [] }
 abbrev after_byte : List ℕ → DecoderState → DecoderStep
 after_byte bytes s = take_pending bytes (utf8_prefix_of bytes) (tail_of bytes) (with_byte s)
 
-pub byte_taken : (x : ℕ) (s : DecoderState) → s.running ≡ true → (s.taken ≡ s.limit → ⊥) → take_byte x s ≡ after_byte (s.pending ++ x ∷ []) s
-byte_taken x s e h = by s.running (s.taken == s.limit) e (ne_eqb s.taken s.limit h)
+pub byte_taken : (x : ℕ) (s : DecoderState) → s.ended ≡ false → (s.taken ≡ s.limit → ⊥) → take_byte x s ≡ after_byte (s.pending ++ x ∷ []) s
+byte_taken x s e h = by s.ended (s.taken == s.limit) e (ne_eqb s.taken s.limit h)
   where
-    by : (b t : Bool) → b ≡ true → t ≡ false
-        → cond (not b) (record { events = []; state = s }) (cond t (stop_with F7 s) (after_byte (s.pending ++ x ∷ []) s)) ≡ after_byte (s.pending ++ x ∷ []) s
-    by true false f g = refl
-    by false t f g = absurd (cc)
-    by true true f g = absurd (cc)
+    by : (b t : Bool) → b ≡ false → t ≡ false
+        → cond b (record { events = []; state = s }) (cond t (stop_with F7 s) (after_byte (s.pending ++ x ∷ []) s)) ≡ after_byte (s.pending ++ x ∷ []) s
+    by false false f g = refl
+    by true t f g = absurd (cc)
+    by false true f g = absurd (cc)
 
 spelled : (x : ℕ) → x < 128 → x ∷ [] ≡ encode x ++ []
 unfolding encode
@@ -40,7 +40,7 @@ plain_is_scalar x less = grind (arith, nat_tests)
 ascii : (x : ℕ) → x < 128 → utf8_prefix_of (x ∷ []) ≡ x ∷ []
 ascii x less = ap utf8_prefix_of (spelled x less) ∙ utf8_prefix_of-past x [] (plain_is_scalar x less) ∙ ap (λ l. x ∷ l) (utf8_prefix_of-none [] nothing_is_partial.none)
 
-pub plain_byte_taken : (x : ℕ) (s : DecoderState) → s.running ≡ true → (s.taken ≡ s.limit → ⊥) → s.pending ≡ [] → x < 128
+pub plain_byte_taken : (x : ℕ) (s : DecoderState) → s.ended ≡ false → (s.taken ≡ s.limit → ⊥) → s.pending ≡ [] → x < 128
     → take_byte x s ≡ take_character x (record s { taken = s.taken + 1 })
 plain_byte_taken x s e h none less =
     byte_taken x s e h ∙ ap (λ l. after_byte (l ++ x ∷ []) s) none ∙ ap (λ cs. take_pending (x ∷ []) cs (tail_of (x ∷ [])) (with_byte s)) (ascii x less)

@@ -23,7 +23,7 @@ pub record IsCounted (s mid : DecoderState) : Type 0 where
   pub limit : mid.limit ≡ s.limit
   pub taken : mid.taken ≡ s.taken + 1
   pub place : mid.place ≡ s.place
-  pub running : mid.running ≡ s.running
+  pub ended : mid.ended ≡ s.ended
 
 abbrev Moves : DecoderState → DecoderStep → Type 0
 Moves s t = MovesOn s t.events t.state
@@ -35,14 +35,14 @@ moves_with s new t item moves e h =
 stop_moves : (code : Code) (s mid : DecoderState) → IsCounted s mid → Moves s (stop_with code mid)
 stop_moves code s mid counted =
     let taken = counted.taken in
-    record { limit = counted.limit; taken = (omega (arith, taken), omega (arith, taken)); here = tt; place = counted.place; runs = refl; plain = tt; cr = λ runs. absurd (cc) }
+    record { limit = counted.limit; taken = (omega (arith, taken), omega (arith, taken)); here = tt; place = counted.place; ended = refl; plain = tt; cr = λ runs. absurd (cc) }
 
 -- nothing came
 quiet_moves : (s mid : DecoderState) (pending : List ℕ) (previous : ℕ) → IsCounted s mid → is_after_cr (record mid { pending = pending; previous = previous }) ≡ false
     → MovesOn s [] (record mid { pending = pending; previous = previous })
 quiet_moves s mid pending previous counted past =
     let taken = counted.taken in
-    record { limit = counted.limit; taken = (omega (arith, taken), omega (arith, taken)); here = tt; place = counted.place; runs = counted.running; plain = tt; cr = λ runs cr. absurd (cc) }
+    record { limit = counted.limit; taken = (omega (arith, taken), omega (arith, taken)); here = tt; place = counted.place; ended = counted.ended; plain = tt; cr = λ runs cr. absurd (cc) }
 
 -- it is no CR: an LF stands for that
 of_text : (previous c : ℕ) → IsScalar c → is_left_out (previous, c) ≡ false → IsTextCharacter (read_as c)
@@ -80,7 +80,7 @@ character_moves c s mid scalar counted = by (is_left_out (mid.previous, c)) refl
           taken = counted.taken;
           here = counted.place;
           place = refl;
-          runs = counted.running;
+          ended = counted.ended;
           plain = of_text mid.previous c scalar e;
           cr = λ runs cr. a_return_ends_a_line (is_unfinished mid.pending) c cr;
         })
@@ -107,8 +107,8 @@ pub part_moves_on : (x : ℕ) (s mid new : DecoderState) (item : Option (Result 
 part_moves_on x s mid new item counted e h =
     let bytes = mid.pending ++ x ∷ [] in
     moves_with s new (take_part x mid) item
-    (pending_moves bytes (utf8_prefix_of bytes) (tail_of bytes) s (record mid { pending = [] }) (some_pending mid.pending x) (prefix_scalars bytes) (record { limit = counted.limit; taken = counted.taken; place = counted.place; running = counted.running })) e h
+    (pending_moves bytes (utf8_prefix_of bytes) (tail_of bytes) s (record mid { pending = [] }) (some_pending mid.pending x) (prefix_scalars bytes) (record { limit = counted.limit; taken = counted.taken; place = counted.place; ended = counted.ended })) e h
 
 -- a fault at a byte that is not taken
 pub fault_moves_on : (code : Code) (s new : DecoderState) (item : Option (Result Char Fault)) → new ≡ (stop_with code s).state → option_to_list item ≡ (stop_with code s).events → MovesOn s (option_to_list item) new
-fault_moves_on code s new item e h = moves_with s new (stop_with code s) item (record { limit = refl; taken = (omega arith, omega arith); here = tt; place = refl; runs = refl; plain = tt; cr = λ runs. absurd (cc) }) e h
+fault_moves_on code s new item e h = moves_with s new (stop_with code s) item (record { limit = refl; taken = (omega arith, omega arith); here = tt; place = refl; ended = refl; plain = tt; cr = λ runs. absurd (cc) }) e h

@@ -15,17 +15,17 @@ use Rattle.gabc_places.specs.witness.DecoderEvents.{DecoderStep, stop_with, take
 use Rattle.gabc_places.specs.machine.Decoder.{take_part}
 use Rattle.gabc_places.proofs.PushesAreOne.{joined_silence}
 
-byte_ignored : (x : ℕ) (s : DecoderState) → s.running ≡ false → take_byte x s ≡ record { events = []; state = s }
+byte_ignored : (x : ℕ) (s : DecoderState) → s.ended ≡ true → take_byte x s ≡ record { events = []; state = s }
 byte_ignored x s e = rw e refl
 
-end_ignored : (s : DecoderState) → s.running ≡ false → (take_end s).events ≡ []
+end_ignored : (s : DecoderState) → s.ended ≡ true → (take_end s).events ≡ []
 end_ignored s e = rw e refl
 
-pub silent : (s : DecoderState) → s.running ≡ false → (xs : List ℕ) → events_left s xs ≡ silence xs
+pub silent : (s : DecoderState) → s.ended ≡ true → (xs : List ℕ) → events_left s xs ≡ silence xs
 silent s e [] = ap (λ l. l ∷ []) (end_ignored s e)
 silent s e (x ∷ xs) = ap (λ (t : DecoderStep). t.events ∷ events_left t.state xs) (byte_ignored x s e) ∙ ap (λ l. [] ∷ l) (silent s e xs)
 
-pub gives_nothing : (s : DecoderState) → s.running ≡ false → EmitsNothing (events_left s)
+pub gives_nothing : (s : DecoderState) → s.ended ≡ true → EmitsNothing (events_left s)
 gives_nothing s e xs = ap concat_of (silent s e xs) ∙ joined_silence {I = ℕ} {O = Result Char Fault} xs
 
 -- a step emits no fault, or a fault alone, and then it stops
@@ -35,7 +35,7 @@ pub record IsEndless (t : DecoderStep) : Type 0 where
 pub record IsLast (t : DecoderStep) : Type 0 where
   pub fault : Result Char Fault
   pub events_are : t.events ≡ fault ∷ []
-  pub stopped : t.state.running ≡ false
+  pub stopped : t.state.ended ≡ true
 
 abbrev Stops : DecoderStep → Type 0
 Stops t = IsEndless t ⊎ IsLast t
@@ -65,7 +65,7 @@ stops_with : (t : DecoderStep) (item : Option (Result Char Fault)) (new : Decode
     → IfSome item (λ i. is_fault_item i ≡ true → EmitsNothing (events_left new))
 stops_with t None new stops e h = tt
 stops_with t (Some i) new (inl endless) e h = λ fault. absurd (cc (ap (list_any is_fault_item) h ∙ endless.none))
-stops_with t (Some i) new (inr last) e h = λ fault. gives_nothing new (ap (λ (s : DecoderState). s.running) e ∙ last.stopped)
+stops_with t (Some i) new (inr last) e h = λ fault. gives_nothing new (ap (λ (s : DecoderState). s.ended) e ∙ last.stopped)
 
 pub fault_stops : (code : Code) (s new : DecoderState) (item : Option (Result Char Fault)) → new ≡ (stop_with code s).state → option_to_list item ≡ (stop_with code s).events
     → IfSome item (λ i. is_fault_item i ≡ true → EmitsNothing (events_left new))

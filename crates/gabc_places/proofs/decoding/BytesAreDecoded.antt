@@ -147,7 +147,7 @@ pub record IsReading (limits : Limits) (bytes : List ℕ) (s : DecoderState) : T
   pub bytes_are : bytes ≡ encodes chars ++ s.pending
   pub scalar : scalars chars ≡ true
   pub partial : IsPartial s.pending
-  pub running : s.running ≡ true
+  pub running : s.ended ≡ false
   pub limit : s.limit ≡ limits.input
   pub taken : s.taken ≡ length bytes
   pub within : s.taken ≤ s.limit
@@ -171,12 +171,12 @@ module _ (limits : Limits) (bytes : List ℕ) (s : DecoderState) (h : IsReading 
   pub end_is : known limits true bytes ≡ known limits false bytes ++ (take_end s).events
   end_is =
       within_limit limits true bytes (omega (arith, h.taken, h.within, h.limit)) ∙ ap₂ (λ cs t. items cs (stop_code_of false true t)) read_are tail_is
-      ∙ by (is_unfinished s.pending) refl s.running refl ∙ ap (λ l. l ++ (take_end s).events) (sym known_is)
+      ∙ by (is_unfinished s.pending) refl s.ended refl ∙ ap (λ l. l ++ (take_end s).events) (sym known_is)
     where
-      by : (b : Bool) → is_unfinished s.pending ≡ b → (r : Bool) → s.running ≡ r → items h.chars (stop_code_of false true (if b then Part else Nothing)) ≡ items h.chars None ++ (take_end s).events
-      by b e false f = absurd (let k : true ≡ false = sym h.running ∙ f in cc)
-      by true e true f = rw (e, f, h.place) (items-stop h.chars F1)
-      by false e true f = rw (e, f) (sym (append-nil (items h.chars None)))
+      by : (b : Bool) → is_unfinished s.pending ≡ b → (r : Bool) → s.ended ≡ r → items h.chars (stop_code_of false true (if b then Part else Nothing)) ≡ items h.chars None ++ (take_end s).events
+      by b e true f = absurd (let k : false ≡ true = sym h.running ∙ f in cc)
+      by true e false f = rw (e, f, h.place) (items-stop h.chars F1)
+      by false e false f = rw (e, f) (sym (append-nil (items h.chars None)))
 
 -- ---- one byte more
 
@@ -187,7 +187,7 @@ pub record Goes (limits : Limits) (bytes : List ℕ) (t : DecoderStep) (x : ℕ)
 
 -- it stops, and all is known
 pub record Halts (limits : Limits) (bytes : List ℕ) (t : DecoderStep) (x : ℕ) : Type 0 where
-  pub stopped : t.state.running ≡ false
+  pub stopped : t.state.ended ≡ true
   pub known_is : (ended : Bool) (xs : List ℕ) → known limits ended (bytes ++ x ∷ xs) ≡ known limits false bytes ++ t.events
 
 abbrev Moves : Limits → List ℕ → DecoderStep → ℕ → Type 0
@@ -199,13 +199,13 @@ module _ (limits : Limits) (bytes : List ℕ) (s : DecoderState) (h : IsReading 
 
   -- the limit is reached
   at_limit : s.taken ≡ s.limit → take_byte x s ≡ stop_with F7 s
-  at_limit full = by s.running (s.taken == s.limit) h.running (grind (arith, nat_tests))
+  at_limit full = by s.ended (s.taken == s.limit) h.running (grind (arith, nat_tests))
     where
-      by : (b t : Bool) → b ≡ true → t ≡ true
-          → cond (not b) (record { events = []; state = s }) (cond t (stop_with F7 s) (take_pending pending (utf8_prefix_of pending) (tail_of pending) (with_byte s))) ≡ stop_with F7 s
-      by true true f g = refl
-      by false t f g = absurd (cc)
-      by true false f g = absurd (cc)
+      by : (b t : Bool) → b ≡ false → t ≡ true
+          → cond b (record { events = []; state = s }) (cond t (stop_with F7 s) (take_pending pending (utf8_prefix_of pending) (tail_of pending) (with_byte s))) ≡ stop_with F7 s
+      by false true f g = refl
+      by true t f g = absurd (cc)
+      by false false f g = absurd (cc)
 
   halts_at_limit : s.taken ≡ s.limit → Halts limits bytes (stop_with F7 s) x
   halts_at_limit full = record {

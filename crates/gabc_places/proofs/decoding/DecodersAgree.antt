@@ -22,9 +22,9 @@ use Rattle.gabc_places.proofs.utf8.PartOfACharacter.{nothing_is_partial, part_is
 
 -- another character before is a CR as well, where that matters: directly before the next byte
 abbrev pub AreBothCr : DecoderState → ℕ → Type 0
-AreBothCr s q = s.running ≡ true → s.pending ≡ [] → (s.previous == 13) ≡ (q == 13)
+AreBothCr s q = s.ended ≡ false → s.pending ≡ [] → (s.previous == 13) ≡ (q == 13)
 
-no : {A : Type 0} → false ≡ true → A
+no : {A : Type 0} → true ≡ false → A
 no e = absurd (cc)
 
 not_none : {A : Type 0} (bs : List ℕ) (x : ℕ) → bs ++ x ∷ [] ≡ [] → A
@@ -48,7 +48,7 @@ no_feed b bs x c cs partial e = by (c == 10) refl
     by true f = absurd (omega (arith, ap length spelled, length-append bs (x ∷ []), length-encode c, ap len_utf8 (eqb-true c 10 f)))
     by false f = refl
 
-left_same : (s : DecoderState) (q x c : ℕ) (cs : List ℕ) → IsPartial s.pending → s.running ≡ true → AreBothCr s q → utf8_prefix_of (s.pending ++ x ∷ []) ≡ c ∷ cs → is_left_out (s.previous, c) ≡ is_left_out (q, c)
+left_same : (s : DecoderState) (q x c : ℕ) (cs : List ℕ) → IsPartial s.pending → s.ended ≡ false → AreBothCr s q → utf8_prefix_of (s.pending ++ x ∷ []) ≡ c ∷ cs → is_left_out (s.previous, c) ≡ is_left_out (q, c)
 left_same s q x c cs partial on same e = by s.pending partial (same on) e
   where
     by : (bs : List ℕ) → IsPartial bs → (bs ≡ [] → (s.previous == 13) ≡ (q == 13)) → utf8_prefix_of (bs ++ x ∷ []) ≡ c ∷ cs → is_left_out (s.previous, c) ≡ is_left_out (q, c)
@@ -75,16 +75,16 @@ character_same t q c e =
     ap (λ (b : Bool). if b then record { events = []; state = record t { previous = c } } else record { events = Ok (record { c = read_as c; place = t.place }) ∷ []; state = record t { place = next_place t.place (read_as c); previous = c } }) e
 
 end_same : (s : DecoderState) (q : ℕ) → (take_end s).events ≡ (take_end (with_previous s q)).events
-end_same s q = by (s.running && is_unfinished s.pending)
+end_same s q = by (not s.ended && is_unfinished s.pending)
   where
-    by : (b : Bool) → (if b then stop_with F1 s else record { events = []; state = record s { running = false } }).events ≡ (if b then stop_with F1 (with_previous s q) else record { events = []; state = record (with_previous s q) { running = false } }).events
+    by : (b : Bool) → (if b then stop_with F1 s else record { events = []; state = record s { ended = true } }).events ≡ (if b then stop_with F1 (with_previous s q) else record { events = []; state = record (with_previous s q) { ended = true } }).events
     by true = refl
     by false = refl
 
 -- Decoders agree that differ in the character before alone, where that does not matter.
 pub agree : (xs : List ℕ) (s : DecoderState) (q : ℕ) → IsPartial s.pending → AreBothCr s q → events_left s xs ≡ events_left (with_previous s q) xs
 agree [] s q partial same = ap (λ (events : List (Result Char Fault)). events ∷ []) (end_same s q)
-agree (x ∷ xs) s q partial same = by (agree xs) s.running refl (s.taken == s.limit) (left_same s q x) same
+agree (x ∷ xs) s q partial same = by (agree xs) s.ended refl (s.taken == s.limit) (left_same s q x) same
   where
     pending_same : ((t : DecoderState) (p : ℕ) → IsPartial t.pending → AreBothCr t p → events_left t xs ≡ events_left (with_previous t p) xs)
         → (cs : List ℕ) (tail : Tail) → utf8_prefix_of (s.pending ++ x ∷ []) ≡ cs → tail_of (s.pending ++ x ∷ []) ≡ tail
@@ -96,29 +96,29 @@ agree (x ∷ xs) s q partial same = by (agree xs) s.running refl (s.taken == s.l
     pending_same again [] Nothing e f left = ap (λ (lists : List (List (Result Char Fault))). [] ∷ lists) (again (record (taken s) { pending = s.pending ++ x ∷ [] }) q (part_is (s.pending ++ x ∷ []) Nothing e f (λ w. absurd (cc))) (λ o n. not_none s.pending x n))
 
     by : ((t : DecoderState) (p : ℕ) → IsPartial t.pending → AreBothCr t p → events_left t xs ≡ events_left (with_previous t p) xs)
-        → (b : Bool) → s.running ≡ b → (d : Bool)
-        → ((c : ℕ) (ds : List ℕ) → IsPartial s.pending → s.running ≡ true → AreBothCr s q → utf8_prefix_of (s.pending ++ x ∷ []) ≡ c ∷ ds → is_left_out (s.previous, c) ≡ is_left_out (q, c))
+        → (b : Bool) → s.ended ≡ b → (d : Bool)
+        → ((c : ℕ) (ds : List ℕ) → IsPartial s.pending → s.ended ≡ false → AreBothCr s q → utf8_prefix_of (s.pending ++ x ∷ []) ≡ c ∷ ds → is_left_out (s.previous, c) ≡ is_left_out (q, c))
         → AreBothCr s q
-        → lists_of (if not b then record { events = []; state = s } else (if d then stop_with F7 s else take_pending (s.pending ++ x ∷ []) (utf8_prefix_of (s.pending ++ x ∷ [])) (tail_of (s.pending ++ x ∷ [])) (taken s))) xs
-        ≡ lists_of (if not b then record { events = []; state = with_previous s q } else (if d then stop_with F7 (with_previous s q) else take_pending (s.pending ++ x ∷ []) (utf8_prefix_of (s.pending ++ x ∷ [])) (tail_of (s.pending ++ x ∷ [])) (with_previous (taken s) q))) xs
-    by again false o d left h = ap (λ (lists : List (List (Result Char Fault))). [] ∷ lists) (again s q partial h)
-    by again true o true left h = ap (λ (lists : List (List (Result Char Fault))). (stop_with F7 s).events ∷ lists) (again (stop_with F7 s).state q partial (λ o. no o))
-    by again true o false left h = pending_same again (utf8_prefix_of (s.pending ++ x ∷ [])) (tail_of (s.pending ++ x ∷ [])) refl refl (λ c ds e. left c ds partial o h e)
+        → lists_of (if b then record { events = []; state = s } else (if d then stop_with F7 s else take_pending (s.pending ++ x ∷ []) (utf8_prefix_of (s.pending ++ x ∷ [])) (tail_of (s.pending ++ x ∷ [])) (taken s))) xs
+        ≡ lists_of (if b then record { events = []; state = with_previous s q } else (if d then stop_with F7 (with_previous s q) else take_pending (s.pending ++ x ∷ []) (utf8_prefix_of (s.pending ++ x ∷ [])) (tail_of (s.pending ++ x ∷ [])) (with_previous (taken s) q))) xs
+    by again true o d left h = ap (λ (lists : List (List (Result Char Fault))). [] ∷ lists) (again s q partial h)
+    by again false o true left h = ap (λ (lists : List (List (Result Char Fault))). (stop_with F7 s).events ∷ lists) (again (stop_with F7 s).state q partial (λ o. no o))
+    by again false o false left h = pending_same again (utf8_prefix_of (s.pending ++ x ∷ [])) (tail_of (s.pending ++ x ∷ [])) refl refl (λ c ds e. left c ds partial o h e)
 
 abbrev decoder_at : ℕ → ℕ → Place → List ℕ → ℕ → Bool → DecoderState
-decoder_at l n p bs c r = record { limit = l; taken = n; place = p; pending = bs; previous = c; running = r }
+decoder_at l n p bs c r = record { limit = l; taken = n; place = p; pending = bs; previous = c; ended = r }
 
 alike_by : (l n : ℕ) (p : Place) (bs : List ℕ) (r : Bool) (m k : ℕ) (q : Place) (cs : List ℕ) (u : Bool) (c : ℕ) → l ≡ m → n ≡ k → p ≡ q → bs ≡ cs → r ≡ u
     → decoder_at l n p bs c r ≡ decoder_at m k q cs c u
 alike_by l n p bs r m k q cs u c e f g h i = cc
 
 -- two that run and report the same differ in that character alone
-pub same_told : (s t : DecoderState) → s.running ≡ true → t.running ≡ true → s.limit ≡ t.limit → IsPartial s.pending → ReportTheSame s t
+pub same_told : (s t : DecoderState) → s.ended ≡ false → t.ended ≡ false → s.limit ≡ t.limit → IsPartial s.pending → ReportTheSame s t
     → (xs : List ℕ) → events_left s xs ≡ events_left t xs
 same_told s t on too limit partial told xs = agree xs s t.previous partial both ∙ ap (λ (r : DecoderState). events_left r xs) alike
   where
     alike : with_previous s t.previous ≡ t
-    alike = alike_by s.limit s.taken s.place s.pending s.running t.limit t.taken t.place t.pending t.running t.previous limit told.taken told.place told.pending (on ∙ sym too)
+    alike = alike_by s.limit s.taken s.place s.pending s.ended t.limit t.taken t.place t.pending t.ended t.previous limit told.taken told.place told.pending (on ∙ sym too)
 
     both : AreBothCr s t.previous
     both o none = by s.pending t.pending none (sym told.pending ∙ none) told.cr

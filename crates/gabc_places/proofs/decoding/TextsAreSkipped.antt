@@ -27,11 +27,11 @@ use Rattle.gabc_places.proofs.utf8.PartOfACharacter.{nothing_is_partial, front_i
 -- ---- when bytes may be skipped
 
 pub record Runs (s : DecoderState) : Type 0 where
-  pub running : s.running ≡ true
+  pub running : s.ended ≡ false
   pub whole : s.pending ≡ []
 
 pub most_is_left : (s : DecoderState) → most_skipped s ≤ s.limit - s.taken
-most_is_left s = by (s.running && not (is_unfinished s.pending))
+most_is_left s = by (not s.ended && not (is_unfinished s.pending))
   where
     by : (b : Bool) → cond b (s.limit - s.taken) 0 ≤ s.limit - s.taken
     by true = omega arith
@@ -39,12 +39,12 @@ most_is_left s = by (s.running && not (is_unfinished s.pending))
 
 -- a decoder that may skip a byte runs, and no character is pending
 pub runs : (s : DecoderState) → 1 ≤ most_skipped s → Runs s
-runs s some = let k = by s.running s.pending some in record { running = k.0; whole = k.1 }
+runs s some = let k = by s.ended s.pending some in record { running = k.0; whole = k.1 }
   where
-    by : (b : Bool) (bytes : List ℕ) → 1 ≤ cond (b && not (is_unfinished bytes)) (s.limit - s.taken) 0 → (b ≡ true) × (bytes ≡ [])
-    by true [] h = (refl, refl)
-    by true (x ∷ xs) h = absurd (omega (arith, h))
-    by false bytes h = absurd (omega (arith, h))
+    by : (b : Bool) (bytes : List ℕ) → 1 ≤ cond (not b && not (is_unfinished bytes)) (s.limit - s.taken) 0 → (b ≡ false) × (bytes ≡ [])
+    by false [] h = (refl, refl)
+    by false (x ∷ xs) h = absurd (omega (arith, h))
+    by true bytes h = absurd (omega (arith, h))
 
 -- ---- a part of a character
 
@@ -73,7 +73,7 @@ lists_for n x = replicate n [] ++ (Ok x ∷ []) ∷ []
 
 module _ (c : ℕ) (scalar : IsScalar c) (plain : IsPlain c) (more : List ℕ) where
   -- what is left of the character, after the bytes of it that are pending
-  parts_taken : (x : ℕ) (xs : List ℕ) (s : DecoderState) → s.running ≡ true → s.pending ++ x ∷ xs ≡ encode c → s.taken + length (x ∷ xs) ≤ s.limit → s.previous ≢ 13
+  parts_taken : (x : ℕ) (xs : List ℕ) (s : DecoderState) → s.ended ≡ false → s.pending ++ x ∷ xs ≡ encode c → s.taken + length (x ∷ xs) ≤ s.limit → s.previous ≢ 13
       → events_left s (x ∷ xs ++ more) ≡ lists_for (length xs) (record { c = c; place = s.place }) ++ events_left (past s (s.taken + length (x ∷ xs)) c) more
   parts_taken x [] s running spelled within before =
       ap (λ (step : DecoderStep). step.events ∷ events_left step.state more)
@@ -99,7 +99,7 @@ module _ (c : ℕ) (scalar : IsScalar c) (plain : IsPlain c) (more : List ℕ) w
 abbrev pub moved_past : DecoderState → ℕ → Place → DecoderState
 moved_past s n next = record s { taken = s.taken + n; place = next; previous = 0 }
 
-whole_character_taken : (c : ℕ) (s : DecoderState) (more : List ℕ) → IsScalar c → IsPlain c → s.running ≡ true → s.pending ≡ [] → s.taken + length (encode c) ≤ s.limit → s.previous ≢ 13
+whole_character_taken : (c : ℕ) (s : DecoderState) (more : List ℕ) → IsScalar c → IsPlain c → s.ended ≡ false → s.pending ≡ [] → s.taken + length (encode c) ≤ s.limit → s.previous ≢ 13
     → events_left s (encode c ++ more) ≡ character_events (record { c = c; place = s.place }) ++ events_left (past s (s.taken + length (encode c)) c) more
 whole_character_taken c s more scalar plain running whole within before = by (encode c) refl
   where
@@ -111,7 +111,7 @@ whole_character_taken c s more scalar plain running whole within before = by (en
         ∙ parts_taken c scalar plain more x xs s running (ap (λ (l : List ℕ). l ++ x ∷ xs) whole ∙ sym e) (omega (arith, within, ap length e)) before
         ∙ ap₂ (λ (n taken : ℕ). lists_for n (record { c = c; place = s.place }) ++ events_left (past s taken c) more) (omega (arith, ap length e, length-encode c)) (omega (arith, ap length e))
 
-text_taken : (cs : List ℕ) (s : DecoderState) → scalars cs ≡ true → All IsPlain cs → s.running ≡ true → s.pending ≡ [] → s.taken + length (encodes cs) ≤ s.limit → s.previous ≢ 13
+text_taken : (cs : List ℕ) (s : DecoderState) → scalars cs ≡ true → All IsPlain cs → s.ended ≡ false → s.pending ≡ [] → s.taken + length (encodes cs) ≤ s.limit → s.previous ≢ 13
     → (more : List ℕ) → events_left s (encodes cs ++ more) ≡ text_events s.place cs ++ events_left (moved_past s (length (encodes cs)) (place_past s.place cs)) more
 text_taken [] s scalar plain running whole within before more =
     agree more s 0 (subst IsPartial (sym whole) nothing_is_partial) (λ on none. grind (arith, nat_tests, before))

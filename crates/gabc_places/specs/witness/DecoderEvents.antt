@@ -1,6 +1,6 @@
 -- What a decoder will still emit. Nobody has to believe it: a decoder's contract states it of a
 -- fresh one.
-use Rattle.std.specs.Prelude.{ℕ, ◌+◌, List, [], ◌∷◌, ◌++◌, false, not, Result, Ok, Err, ◌==◌, ◌&&◌, if◌then◌else◌}
+use Rattle.std.specs.Prelude.{ℕ, ◌+◌, List, [], ◌∷◌, ◌++◌, true, not, Result, Ok, Err, ◌==◌, ◌&&◌, if◌then◌else◌}
 use Rattle.gabc_places.specs.declared.place.Char.{Char}
 use Rattle.gabc_places.specs.declared.code.Code.{Code}
 use Rattle.gabc_places.specs.declared.code.Code.TheVariants.{F1, F7}
@@ -17,7 +17,7 @@ pub record DecoderStep : Type 0 where
   pub state : DecoderState
 
 abbrev pub stop_with : Code → DecoderState → DecoderStep
-stop_with code s = record { events = Err (record { place = s.place; code = code }) ∷ []; state = record s { running = false } }
+stop_with code s = record { events = Err (record { place = s.place; code = code }) ∷ []; state = record s { ended = true } }
 
 -- c is whole
 abbrev pub take_character : ℕ → DecoderState → DecoderStep
@@ -40,12 +40,12 @@ take_pending bytes [] Nothing s = record { events = []; state = record s { pendi
 abbrev pub take_byte : ℕ → DecoderState → DecoderStep
 take_byte x s =
     let bytes = s.pending ++ x ∷ [] in
-    if not s.running then record { events = []; state = s } else
+    if s.ended then record { events = []; state = s } else
     if s.taken == s.limit then stop_with F7 s else
     take_pending bytes (utf8_prefix_of bytes) (tail_of bytes) (record s { taken = s.taken + 1; pending = [] })
 
 abbrev pub take_end : DecoderState → DecoderStep
-take_end s = if s.running && is_unfinished s.pending then stop_with F1 s else record { events = []; state = record s { running = false } }
+take_end s = if not s.ended && is_unfinished s.pending then stop_with F1 s else record { events = []; state = record s { ended = true } }
 
 -- What a decoder will still emit for these bytes and then the end.
 abbrev pub events_left : DecoderState → List ℕ → List (List (Result Char Fault))

@@ -122,7 +122,7 @@ stage_of limits lines macros part kept = record {
     gathered = record (nothing_gathered limits.syllable 0) { builder = record { kept = kept; from = 0; view = empty_view; snippets = [] } };
     has_lent = false;
   };
-  body = record { nabc_lines = lines; macros = macros; part = part; over = false; events = [] };
+  body = record { nabc_lines = lines; macros = macros; part = part; ended = false; events = [] };
   first = no_syllable_lent;
   second = no_syllable_lent;
 }

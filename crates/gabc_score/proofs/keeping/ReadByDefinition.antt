@@ -63,7 +63,7 @@ begun_text = part.Text (fresh_stage first_place)
 module _ (reads : FromBeginning) (steps : Steps) (lines macros : ℕ) where
   -- what is emitted by definition is what the machine emits
   pub lists_by : (t : List ℕ) → CountsFit first_place t → lists lines macros t ≡ events_from texts_by_stage lines macros (part_with begun_text (placed lines macros t)) (placed lines macros t)
-  lists_by t fits = sym (reads (record { nabc_lines = lines; macros = macros; part = begun_text; over = false; events = [] }) first_place t refl fits)
+  lists_by t fits = sym (reads (record { nabc_lines = lines; macros = macros; part = begun_text; ended = false; events = [] }) first_place t refl fits)
 
   module _ (t : List ℕ) (few : length (encode_utf8_all t) < 2 ^ 63) (r : Emits steps lines macros first_place begun_text t) where
     xs : List Char

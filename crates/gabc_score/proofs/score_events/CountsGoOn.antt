@@ -103,7 +103,7 @@ none_past before behind has_lent g h turned now last there turns is was none =
 
 -- after the headers the counts are those that they give
 pub begins_of_text : (limits : Limits) (next : Place) (input : HeadEvent) (lines macros canonical : ℕ) (body : BodyStageState) (bounds : Bounds) → input ≡ head_event.Heads lines macros canonical
-    → body ≡ record { nabc_lines = lines; macros = macros; part = part.Comment; over = false; events = [] } → bounds ≡ behind_headers canonical → MayCome limits next input
+    → body ≡ record { nabc_lines = lines; macros = macros; part = part.Comment; ended = false; events = [] } → bounds ≡ behind_headers canonical → MayCome limits next input
     → (s : ScoreStageState) → s.limits ≡ limits → s.body ≡ body → s.before ≡ bounds.before → s.held.next ≡ first_place → s.held.gathered.builder.kept ≡ [] → s.held.gathered.made ≡ [] → IsReportOfText s
 begins_of_text limits next input lines macros canonical body bounds is at begun may s l b p n none empty =
     let counts : AreCountsWithin limits lines macros canonical = subst (MayCome limits next) is may in

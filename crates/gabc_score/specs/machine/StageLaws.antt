@@ -18,7 +18,7 @@ use Rattle.gabc_nabc.specs.witness.Keeps as nabc
 -- Each stage takes a character.
 pub record Steps : Type 0 where
   pub text_fresh : (at : Place) → text.Keeps (fresh_stage at) []
-  pub text_takes : (s : TextStage) (c : ℕ) → s.done ≡ false → text.Takes s c
+  pub text_takes : (s : TextStage) (c : ℕ) → s.ended ≡ false → text.Takes s c
   pub gabc_fresh : (split : Bool) (macros : ℕ) → notes.Begins split macros
   pub gabc_takes : (s : NoteStage) (x : Char) → s.ended ≡ false → notes.Takes s x
   pub nabc_fresh : nabc.Begins

@@ -28,7 +28,7 @@ pub record BodyStageState : Type 0 where
   pub nabc_lines : ℕ
   pub macros : ℕ
   pub part : rust.BodyPart
-  pub over : Bool
+  pub ended : Bool
   pub events : List BodyEvent
 
 -- the part, with the lists that it will still emit of these characters and the end
@@ -48,4 +48,4 @@ running_events_left r xs = events_from texts_by_stage r.nabc_lines r.macros (par
 
 -- what it will still emit: nothing after the end of the input
 abbrev pub events_left : BodyStageState → List Char → List (List BodyEvent)
-events_left r xs = if r.over then silence xs else running_events_left r xs
+events_left r xs = if r.ended then silence xs else running_events_left r xs

@@ -44,7 +44,7 @@ remaining_more k t rest e f = rw (e, f) (drop_more (spelling k) rest (size (toke
 
 -- what is left where the machine goes on with this stage at c
 abbrev LeftAt : TextStage → ℕ → List ℕ → List ℕ
-LeftAt s c t = cond s.done (c ∷ t) (stepwise_left s t)
+LeftAt s c t = cond s.ended (c ∷ t) (stepwise_left s t)
 
 -- the last of some characters
 pub but_end_is : (held : List ℕ) (c : ℕ) → but_end (held ++ c ∷ []) ≡ held
@@ -57,7 +57,7 @@ module _ (read : List ℕ) (s : TextStage) where
   progress_in state more = record (s.progress) { next = past s.progress.next more; kept = bytes_past s.progress.kept (kept_held state more) }
 
   abbrev pub stage_in : TokenState → List ℕ → TextStage
-  stage_in state more = record { state = state; facts = s.facts; progress = progress_in state more; done = false }
+  stage_in state more = record { state = state; facts = s.facts; progress = progress_in state more; ended = false }
 
   abbrev pub emitted_in : TokenState → List ℕ → List (List TextEvent)
   emitted_in state more = lists_held read s.facts s.progress.place s.progress.next state more
@@ -269,9 +269,9 @@ module _ (c : ℕ) (t : List ℕ) (read : List ℕ) (s : TextStage) (state : Tok
 
     state_is : stage_after_step (stage_past_char stage c) (Ends k.kind so) ≡ past_token read s k
     state_is =
-        ap (λ (x : Progress). record { state = Plain; facts = facts_after s.facts k.kind so; progress = progress_after s.facts x k.kind so x.next; done = false }) spot_is
-        ∙ ap (λ (x : TagEffect). record { state = Plain; facts = facts_after s.facts k.kind x; progress = progress_after s.facts (behind s.facts s.progress k.kind (more ++ c ∷ [])) k.kind x (past s.progress.next (more ++ c ∷ [])); done = false }) (sym sk)
-        ∙ ap (λ (x : List ℕ). record { state = Plain; facts = facts_after s.facts k.kind (effect k); progress = progress_after s.facts (behind s.facts s.progress k.kind x) k.kind (effect k) (past s.progress.next x); done = false }) (sym come)
+        ap (λ (x : Progress). record { state = Plain; facts = facts_after s.facts k.kind so; progress = progress_after s.facts x k.kind so x.next; ended = false }) spot_is
+        ∙ ap (λ (x : TagEffect). record { state = Plain; facts = facts_after s.facts k.kind x; progress = progress_after s.facts (behind s.facts s.progress k.kind (more ++ c ∷ [])) k.kind x (past s.progress.next (more ++ c ∷ [])); ended = false }) (sym sk)
+        ∙ ap (λ (x : List ℕ). record { state = Plain; facts = facts_after s.facts k.kind (effect k); progress = progress_after s.facts (behind s.facts s.progress k.kind x) k.kind (effect k) (past s.progress.next x); ended = false }) (sym come)
 
     lists_are : emitted_in read s state more ++ (events_early ++ (events_kept ++ token_events_by s.facts s.progress k (more ++ c ∷ []))) ∷ [] ≡ lists_past read s [] k
     lists_are =

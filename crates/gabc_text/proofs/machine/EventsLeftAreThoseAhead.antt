@@ -39,13 +39,13 @@ events_none read s Translation = refl
 
 -- what a stage that goes on gives
 goes_on : (state : TokenState) (facts : TextFacts) (progress : Progress) (t : List ℕ)
-    → (lists_ahead (stands_for state) (record { state = state; facts = facts; progress = progress; done = false }) (stands_for state ++ t) ≡ stepwise (record { state = state; facts = facts; progress = progress; done = false }) t)
-    × (after_tokens (stands_for state ++ t) ≡ stepwise_left (record { state = state; facts = facts; progress = progress; done = false }) t)
+    → (lists_ahead (stands_for state) (record { state = state; facts = facts; progress = progress; ended = false }) (stands_for state ++ t) ≡ stepwise (record { state = state; facts = facts; progress = progress; ended = false }) t)
+    × (after_tokens (stands_for state ++ t) ≡ stepwise_left (record { state = state; facts = facts; progress = progress; ended = false }) t)
 goes_on state facts progress t =
-    let s : TextStage = record { state = state; facts = facts; progress = progress; done = false } in
+    let s : TextStage = record { state = state; facts = facts; progress = progress; ended = false } in
     let run = runs t (stands_for state) s (least state) [] (stands_for state) (sym (append-nil (stands_for state))) (holds_least state) in
     let same = least_emitted state facts progress t in
-    let stage_is : stage_in (stands_for state) s (least state) [] ≡ record { state = least state; facts = facts; progress = progress; done = false } = rw (kept_none (least state)) refl in (
+    let stage_is : stage_in (stands_for state) s (least state) [] ≡ record { state = least state; facts = facts; progress = progress; ended = false } = rw (kept_none (least state)) refl in (
       ap (λ (x : List ℕ). along (lists_past (stands_for state) s) [] (tokens (stands_for state ++ t)) ++ lists_last (stands_for state) s (reverse (tokens (stands_for state ++ t))) x) (after_is (stands_for state ++ t))
           ∙ sym run.0
           ∙ ap (λ (x : List (List TextEvent)). x ++ stepwise (stage_in (stands_for state) s (least state) []) t) (events_none (stands_for state) s (least state))
@@ -54,30 +54,30 @@ goes_on state facts progress t =
       after_is (stands_for state ++ t) ∙ sym run.1 ∙ ap (λ (x : TextStage). stepwise_left x t) stage_is ∙ sym same.1,
     )
 
-left_done : (s : TextStage) (t : List ℕ) → s.done ≡ true → stepwise_left s t ≡ t
+left_done : (s : TextStage) (t : List ℕ) → s.ended ≡ true → stepwise_left s t ≡ t
 left_done s [] e = refl
 left_done s (c ∷ t) e = rw e refl
 
-pub rest_by : (s : TextStage) (t : List ℕ) → events_left s t ≡ cond s.done ([] ∷ no_events_each t) (lists_ahead (stands_for s.state) s (stands_for s.state ++ t))
+pub rest_by : (s : TextStage) (t : List ℕ) → events_left s t ≡ cond s.ended ([] ∷ no_events_each t) (lists_ahead (stands_for s.state) s (stands_for s.state ++ t))
 unfolding events_left
 rest_by s t = refl
 
-pub left_by : (s : TextStage) (t : List ℕ) → characters_left s t ≡ cond s.done t (after_tokens (stands_for s.state ++ t))
+pub left_by : (s : TextStage) (t : List ℕ) → characters_left s t ≡ cond s.ended t (after_tokens (stands_for s.state ++ t))
 unfolding characters_left
 left_by s t = refl
 
 -- what a stage still gives, step by step
 pub rest_is : (s : TextStage) (t : List ℕ) → events_left s t ≡ stepwise s t
-rest_is s t = rest_by s t ∙ by s.done refl
+rest_is s t = rest_by s t ∙ by s.ended refl
   where
-    by : (b : Bool) → s.done ≡ b → cond b ([] ∷ no_events_each t) (lists_ahead (stands_for s.state) s (stands_for s.state ++ t)) ≡ stepwise s t
+    by : (b : Bool) → s.ended ≡ b → cond b ([] ∷ no_events_each t) (lists_ahead (stands_for s.state) s (stands_for s.state ++ t)) ≡ stepwise s t
     by true e = sym (rest_done s t e)
     by false e = rw e ((goes_on s.state s.facts s.progress t).0)
 
 pub left_is : (s : TextStage) (t : List ℕ) → characters_left s t ≡ stepwise_left s t
-left_is s t = left_by s t ∙ by s.done refl
+left_is s t = left_by s t ∙ by s.ended refl
   where
-    by : (b : Bool) → s.done ≡ b → cond b t (after_tokens (stands_for s.state ++ t)) ≡ stepwise_left s t
+    by : (b : Bool) → s.ended ≡ b → cond b t (after_tokens (stands_for s.state ++ t)) ≡ stepwise_left s t
     by true e = sym (left_done s t e)
     by false e = rw e ((goes_on s.state s.facts s.progress t).1)
 

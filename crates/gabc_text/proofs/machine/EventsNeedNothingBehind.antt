@@ -17,27 +17,27 @@ prefix_emits s (c ∷ t) u v = ap (λ (x : List (List TextEvent)). events_of_pus
 
 few_left : (s : TextStage) (t : List ℕ) → length (stepwise_left s t) ≤ length t
 few_left s [] = omega arith
-few_left s (c ∷ t) = by ((push_stage s c).done) (few_left (push_stage s c) t)
+few_left s (c ∷ t) = by ((push_stage s c).ended) (few_left (push_stage s c) t)
   where
     by : (b : Bool) → length (stepwise_left (push_stage s c) t) ≤ length t → length (cond b (c ∷ t) (stepwise_left (push_stage s c) t)) ≤ suc (length t)
     by true h = omega arith
     by false h = omega arith
 
 -- the `(` ends the text
-ended_there : (s : TextStage) (u : List ℕ) → stepwise_left s (40 ∷ u) ≡ 40 ∷ u → (push_stage s 40).done ≡ true
-ended_there s u e = by ((push_stage s 40).done) refl
+ended_there : (s : TextStage) (u : List ℕ) → stepwise_left s (40 ∷ u) ≡ 40 ∷ u → (push_stage s 40).ended ≡ true
+ended_there s u e = by ((push_stage s 40).ended) refl
   where
-    by : (b : Bool) → (push_stage s 40).done ≡ b → b ≡ true
+    by : (b : Bool) → (push_stage s 40).ended ≡ b → b ≡ true
     by true f = refl
     by false f =
         let g : stepwise_left (push_stage s 40) u ≡ 40 ∷ u = (rw f refl) ∙ e in
         absurd (omega (arith, few_left (push_stage s 40) u, ap (length {A = ℕ}) g))
 
 -- no character before it does
-not_before : (s : TextStage) (c : ℕ) (t u : List ℕ) → stepwise_left s (c ∷ (t ++ 40 ∷ u)) ≡ 40 ∷ u → (push_stage s c).done ≡ false
-not_before s c t u e = by ((push_stage s c).done) refl
+not_before : (s : TextStage) (c : ℕ) (t u : List ℕ) → stepwise_left s (c ∷ (t ++ 40 ∷ u)) ≡ 40 ∷ u → (push_stage s c).ended ≡ false
+not_before s c t u e = by ((push_stage s c).ended) refl
   where
-    by : (b : Bool) → (push_stage s c).done ≡ b → b ≡ false
+    by : (b : Bool) → (push_stage s c).ended ≡ b → b ≡ false
     by false f = refl
     by true f =
         let g : c ∷ (t ++ 40 ∷ u) ≡ 40 ∷ u = (rw f refl) ∙ e in

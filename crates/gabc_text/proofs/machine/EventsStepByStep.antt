@@ -12,4 +12,4 @@ stepwise t (c ∷ cs) = events_of_push t c ∷ stepwise (push_stage t c) cs
 -- the characters that the machine does not read, from the `(` on
 abbrev pub stepwise_left : TextStage → List ℕ → List ℕ
 stepwise_left t [] = []
-stepwise_left t (c ∷ cs) = cond (push_stage t c).done (c ∷ cs) (stepwise_left (push_stage t c) cs)
+stepwise_left t (c ∷ cs) = cond (push_stage t c).ended (c ∷ cs) (stepwise_left (push_stage t c) cs)

@@ -97,7 +97,7 @@ raw_same raw m c = by (nat_lt m (length (ending_of raw) - 1)) refl
 -- ---- a stage with the same state gives the same
 
 abbrev staged : TokenState → TextFacts → Progress → TextStage
-staged state facts progress = record { state = state; facts = facts; progress = progress; done = false }
+staged state facts progress = record { state = state; facts = facts; progress = progress; ended = false }
 
 module _ (facts : TextFacts) (progress : Progress) (raw : RawKind) (m n : ℕ) (same : (c : ℕ) → step_in_raw raw m c ≡ step_in_raw raw n c) where
   same_outs : (c : ℕ) → events_of_push (staged (Raw raw m) facts progress) c ≡ events_of_push (staged (Raw raw n) facts progress) c
@@ -119,7 +119,7 @@ module _ (facts : TextFacts) (progress : Progress) (raw : RawKind) (m n : ℕ) (
   same_emitted (c ∷ t) = (
     ap (λ (x : List TextEvent). x ∷ stepwise (push_stage (staged (Raw raw m) facts progress) c) t) (same_outs c)
         ∙ ap (λ (x : TextStage). events_of_push (staged (Raw raw n) facts progress) c ∷ stepwise x t) (same_stage c),
-    ap (λ (x : TextStage). cond x.done (c ∷ t) (stepwise_left x t)) (same_stage c),
+    ap (λ (x : TextStage). cond x.ended (c ∷ t) (stepwise_left x t)) (same_stage c),
   )
 
 pub least_emitted : (state : TokenState) (facts : TextFacts) (progress : Progress) (t : List ℕ)

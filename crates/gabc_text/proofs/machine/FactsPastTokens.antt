@@ -120,7 +120,7 @@ module _ (read : List ℕ) (s : TextStage) where
     state = Plain;
     facts = facts_after s.facts k.kind (effect k);
     progress = spot_after s.facts s.progress k (drop (length read) (spelling k));
-    done = false;
+    ended = false;
   }
 
 pub read_on : (read : List ℕ) (s : TextStage) (before : List Token) (k : Token) → read_at read s (before ++ k ∷ []) ≡ []

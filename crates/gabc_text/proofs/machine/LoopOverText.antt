@@ -49,15 +49,15 @@ events_goes events now target stage next c cs e f g =
     ap (λ (x : TextStage). with_events now (concat_of (stepwise x cs))) f ∙ ap (λ (x : BuiltText). with_events x (concat_of (stepwise (push_stage stage c) cs))) g
     ∙ sym (events_append events (events_of_push stage c) (concat_of (stepwise (push_stage stage c) cs))) ∙ e
 
-pub left_goes : (stage next : TextStage) (c : ℕ) (cs left : List ℕ) → stepwise_left stage (c ∷ cs) ≡ left → next ≡ push_stage stage c → next.done ≡ false → stepwise_left next cs ≡ left
-left_goes stage next c cs left e f g = by (next.done) g ∙ ap (λ (x : TextStage). cond x.done (c ∷ cs) (stepwise_left x cs)) f ∙ e
+pub left_goes : (stage next : TextStage) (c : ℕ) (cs left : List ℕ) → stepwise_left stage (c ∷ cs) ≡ left → next ≡ push_stage stage c → next.ended ≡ false → stepwise_left next cs ≡ left
+left_goes stage next c cs left e f g = by (next.ended) g ∙ ap (λ (x : TextStage). cond x.ended (c ∷ cs) (stepwise_left x cs)) f ∙ e
   where
     by : (b : Bool) → b ≡ false → stepwise_left next cs ≡ cond b (c ∷ cs) (stepwise_left next cs)
     by false h = refl
     by true h = absurd (cc)
 
-pub left_ends : (stage next : TextStage) (c : ℕ) (cs left : List ℕ) → stepwise_left stage (c ∷ cs) ≡ left → next ≡ push_stage stage c → next.done ≡ true → c ∷ cs ≡ left
-left_ends stage next c cs left e f g = by (next.done) g ∙ ap (λ (x : TextStage). cond x.done (c ∷ cs) (stepwise_left x cs)) f ∙ e
+pub left_ends : (stage next : TextStage) (c : ℕ) (cs left : List ℕ) → stepwise_left stage (c ∷ cs) ≡ left → next ≡ push_stage stage c → next.ended ≡ true → c ∷ cs ≡ left
+left_ends stage next c cs left e f g = by (next.ended) g ∙ ap (λ (x : TextStage). cond x.ended (c ∷ cs) (stepwise_left x cs)) f ∙ e
   where
     by : (b : Bool) → b ≡ true → c ∷ cs ≡ cond b (c ∷ cs) (stepwise_left next cs)
     by true h = refl
@@ -102,5 +102,5 @@ all_meant at t events index rest fits e f g =
           ∙ how_meant at (reverse (tokens t)) (take (length_of t) t) (drop (length_of t) t);
     }
 
-pub events_ends : (now target : BuiltText) (next : TextStage) (cs : List ℕ) → with_events now (concat_of (stepwise next cs)) ≡ target → next.done ≡ true → now ≡ target
+pub events_ends : (now target : BuiltText) (next : TextStage) (cs : List ℕ) → with_events now (concat_of (stepwise next cs)) ≡ target → next.ended ≡ true → now ≡ target
 events_ends now target next cs e f = sym (ap (with_events now) (ap concat_of (rest_done next cs f) ∙ joined_nothing cs)) ∙ e

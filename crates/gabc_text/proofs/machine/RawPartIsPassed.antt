@@ -25,17 +25,17 @@ use Rattle.gabc_text.specs.machine.RawPart.{stage_past, events_of_pushes, is_unm
 abbrev PassesOver : TextStage → ℕ → Type 0
 PassesOver s c = (push_stage s c ≡ record s { progress = progress_past s.progress c (Some c) }) × (events_of_push s c ≡ out.Kept (record { c = c; place = s.progress.next }) ∷ [])
 
-pass_at : (raw : RawKind) (facts : TextFacts) (progress : Progress) (c : ℕ) → c == 60 ≡ false → PassesOver (record { state = Raw raw 0; facts = facts; progress = progress; done = false }) c
+pass_at : (raw : RawKind) (facts : TextFacts) (progress : Progress) (c : ℕ) → c == 60 ≡ false → PassesOver (record { state = Raw raw 0; facts = facts; progress = progress; ended = false }) c
 pass_at V facts progress c e = (rw (and-false (c == 40), e) refl, rw (and-false (c == 40), e) refl)
 pass_at Sp facts progress c e = (rw (and-false (c == 40), e) refl, rw (and-false (c == 40), e) refl)
 pass_at Alt facts progress c e = (rw (and-false (c == 40), e) refl, rw (and-false (c == 40), e) refl)
 
 pub passes : (s : TextStage) (c : ℕ) → is_in_raw s ≡ true → c == 60 ≡ false → PassesOver s c
-passes s c h e = by s.state s.done h
+passes s c h e = by s.state s.ended h
   where
-    by : (state : TokenState) (done : Bool) → (not done && is_unmatched state) ≡ true → PassesOver (record { state = state; facts = s.facts; progress = s.progress; done = done }) c
+    by : (state : TokenState) (done : Bool) → (not done && is_unmatched state) ≡ true → PassesOver (record { state = state; facts = s.facts; progress = s.progress; ended = done }) c
     by state true h = absurd (cc)
-    by (Raw raw m) false h = subst (λ (n : ℕ). PassesOver (record { state = Raw raw n; facts = s.facts; progress = s.progress; done = false }) c) (sym (eqb-true m 0 h)) (pass_at raw s.facts s.progress c e)
+    by (Raw raw m) false h = subst (λ (n : ℕ). PassesOver (record { state = Raw raw n; facts = s.facts; progress = s.progress; ended = false }) c) (sym (eqb-true m 0 h)) (pass_at raw s.facts s.progress c e)
     by _ false h = absurd (cc)
 
 -- a character more
@@ -50,14 +50,14 @@ pass_goes s target progress c cs h none e f =
 raw_step : (s : TextStage) (c : ℕ) → is_in_raw s ≡ true → c == 60 ≡ false → is_in_raw (push_stage s c) ≡ true
 raw_step s c h e = ap is_in_raw (passes s c h e).0 ∙ h
 
-running : (s : TextStage) → is_in_raw s ≡ true → s.done ≡ false
-running s h = by s.done h
+running : (s : TextStage) → is_in_raw s ≡ true → s.ended ≡ false
+running s h = by s.ended h
   where
     by : (b : Bool) → (not b && is_unmatched s.state) ≡ true → b ≡ false
     by true g = absurd (cc)
     by false g = refl
 
-pub runs_on : (s : TextStage) (cs : List ℕ) → is_in_raw s ≡ true → NonePass (λ x. x == 60) cs → (stage_past s cs).done ≡ false
+pub runs_on : (s : TextStage) (cs : List ℕ) → is_in_raw s ≡ true → NonePass (λ x. x == 60) cs → (stage_past s cs).ended ≡ false
 runs_on s [] h none = running s h
 runs_on s (c ∷ cs) h none = runs_on (push_stage s c) cs (raw_step s c h none.0) none.1
 
@@ -93,7 +93,7 @@ events_passed (Err x) t s bs more u h none e = tt
 -- the characters of a text in a raw part more
 pub raw_goes : (events now target : BuiltText) (stage next : TextStage) (t cs ds left : List ℕ) → t ≡ cs ++ ds → is_in_raw stage ≡ true → NonePass (λ x. x == 60) cs
     → next ≡ stage_past stage cs → now ≡ with_events events (events_of_pushes stage cs) → with_events events (concat_of (stepwise stage t)) ≡ target → stepwise_left stage t ≡ left
-    → (next.done ≡ false) × ((with_events now (concat_of (stepwise next ds)) ≡ target) × (stepwise_left next ds ≡ left))
+    → (next.ended ≡ false) × ((with_events now (concat_of (stepwise next ds)) ≡ target) × (stepwise_left next ds ≡ left))
 raw_goes events now target stage next t cs ds left e h none f g a b =
     rw (f, g) (
       runs_on stage cs h none,

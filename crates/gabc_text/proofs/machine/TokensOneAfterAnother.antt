@@ -38,9 +38,9 @@ drop_more s t n = drop_sum s t n
 pub after_is : (t : List ℕ) → after_tokens t ≡ drop (size (tokens t)) t
 after_is t = ap (λ (n : ℕ). drop n t) (length_onto (tokens t) [] ∙ (let e : 0 + size (tokens t) ≡ size (tokens t) = omega arith in e))
 
-pub rest_done : (s : TextStage) (t : List ℕ) → s.done ≡ true → stepwise s t ≡ [] ∷ no_events_each t
+pub rest_done : (s : TextStage) (t : List ℕ) → s.ended ≡ true → stepwise s t ≡ [] ∷ no_events_each t
 rest_done s [] e = rw e refl
-rest_done s (c ∷ t) e = rw e (ap (λ (x : List (List TextEvent)). [] ∷ x) (rest_done (record s { done = true }) t refl))
+rest_done s (c ∷ t) e = rw e (ap (λ (x : List (List TextEvent)). [] ∷ x) (rest_done (record s { ended = true }) t refl))
 
 -- ---- what the last character leaves
 

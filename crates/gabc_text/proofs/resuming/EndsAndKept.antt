@@ -123,20 +123,20 @@ end_ends facts p =
     list_any-append is_end (findings_there p.next (codes_last facts)) _
     ∙ rw (no_found p.next (codes_last facts)) (centre_ends (centre_by (count_by p.pieces p.blank) p.begin p.end))
 
-pub settled_done : (s : TextStage) (o : Option TokenKind) → (settle_stage_by s o).done ≡ s.done
+pub settled_done : (s : TextStage) (o : Option TokenKind) → (settle_stage_by s o).ended ≡ s.ended
 settled_done s None = refl
 settled_done s (Some k) = refl
 
-pub read_done : (u : TextStage) (c : ℕ) (st : Step) → (stage_after_step (stage_past_char u c) st).done ≡ u.done
+pub read_done : (u : TextStage) (c : ℕ) (st : Step) → (stage_after_step (stage_past_char u c) st).ended ≡ u.ended
 read_done u c (Stays m) = refl
 read_done u c (Ends k e) = refl
 
 -- the text has ended exactly if the end is emitted
-pub done_is : (s : TextStage) (c : ℕ) → s.done ≡ false → (push_stage s c).done ≡ end_text (events_of_push s c)
-done_is s c on = by s.done on (settled_kind s.state c) (c == 40 && is_plain (settle_stage s c).state)
+pub done_is : (s : TextStage) (c : ℕ) → s.ended ≡ false → (push_stage s c).ended ≡ end_text (events_of_push s c)
+done_is s c on = by s.ended on (settled_kind s.state c) (c == 40 && is_plain (settle_stage s c).state)
   where
     by : (d : Bool) → d ≡ false → (o : Option TokenKind) (b : Bool)
-        → (cond d s (cond b (end_stage (settle_stage_by s o)) (read_stage (settle_stage_by s o) c))).done
+        → (cond d s (cond b (end_stage (settle_stage_by s o)) (read_stage (settle_stage_by s o) c))).ended
         ≡ end_text (cond d [] (events_of_settling_by s o ++ cond b (events_of_end (settle_stage_by s o).facts (settle_stage_by s o).progress text_ending.Notes) (events_of_reading (settle_stage_by s o) c)))
     by true e o b = absurd (true≢false e)
     by false e o true = sym (list_any-append is_end (events_of_settling_by s o) _ ∙ rw (settling_goes s o) (end_ends (settle_stage_by s o).facts (settle_stage_by s o).progress))
@@ -144,10 +144,10 @@ done_is s c on = by s.done on (settled_kind s.state c) (c == 40 && is_plain (set
         read_done (settle_stage_by s o) c (next_step (settle_stage_by s o).state c) ∙ settled_done s o ∙ on
         ∙ sym (list_any-append is_end (events_of_settling_by s o) _ ∙ rw (settling_goes s o) (read_goes (settle_stage_by s o) c))
 
-pub kept_is : (s : TextStage) (c : ℕ) → s.done ≡ false → (push_stage s c).done ≡ false → kept_in (events_of_push s c) ≡ option_to_list (kept_at s c)
-kept_is s c on = by s.done on (settled_kind s.state c) (c == 40 && is_plain (settle_stage s c).state)
+pub kept_is : (s : TextStage) (c : ℕ) → s.ended ≡ false → (push_stage s c).ended ≡ false → kept_in (events_of_push s c) ≡ option_to_list (kept_at s c)
+kept_is s c on = by s.ended on (settled_kind s.state c) (c == 40 && is_plain (settle_stage s c).state)
   where
-    by : (d : Bool) → d ≡ false → (o : Option TokenKind) (b : Bool) → (cond d s (cond b (end_stage (settle_stage_by s o)) (read_stage (settle_stage_by s o) c))).done ≡ false
+    by : (d : Bool) → d ≡ false → (o : Option TokenKind) (b : Bool) → (cond d s (cond b (end_stage (settle_stage_by s o)) (read_stage (settle_stage_by s o) c))).ended ≡ false
         → kept_in (cond d [] (events_of_settling_by s o ++ cond b (events_of_end (settle_stage_by s o).facts (settle_stage_by s o).progress text_ending.Notes) (events_of_reading (settle_stage_by s o) c)))
         ≡ option_to_list (keep (settle_stage_by s o).facts (settle_stage_by s o).state c)
     by true e o b goes = absurd (true≢false e)
@@ -155,10 +155,10 @@ kept_is s c on = by s.done on (settled_kind s.state c) (c == 40 && is_plain (set
     by false e o false goes = kept_more (events_of_settling_by s o) _ ∙ rw (settling_kept s o) (read_kept (settle_stage_by s o) c)
 
 -- nothing is kept of the `(` that ends the text
-pub none_kept_at_end : (s : TextStage) (c : ℕ) → s.done ≡ false → (push_stage s c).done ≡ true → kept_in (events_of_push s c) ≡ []
-none_kept_at_end s c on = by s.done on (settled_kind s.state c) (c == 40 && is_plain (settle_stage s c).state)
+pub none_kept_at_end : (s : TextStage) (c : ℕ) → s.ended ≡ false → (push_stage s c).ended ≡ true → kept_in (events_of_push s c) ≡ []
+none_kept_at_end s c on = by s.ended on (settled_kind s.state c) (c == 40 && is_plain (settle_stage s c).state)
   where
-    by : (d : Bool) → d ≡ false → (o : Option TokenKind) (b : Bool) → (cond d s (cond b (end_stage (settle_stage_by s o)) (read_stage (settle_stage_by s o) c))).done ≡ true
+    by : (d : Bool) → d ≡ false → (o : Option TokenKind) (b : Bool) → (cond d s (cond b (end_stage (settle_stage_by s o)) (read_stage (settle_stage_by s o) c))).ended ≡ true
         → kept_in (cond d [] (events_of_settling_by s o ++ cond b (events_of_end (settle_stage_by s o).facts (settle_stage_by s o).progress text_ending.Notes) (events_of_reading (settle_stage_by s o) c)))
         ≡ []
     by true e o b over = absurd (true≢false e)
@@ -189,10 +189,10 @@ settling_said : (s : TextStage) (o : Option TokenKind) → (ps : List TextPart) 
 settling_said s None = ([], refl)
 settling_said s (Some k) = (parts_by s.facts s.progress k s.progress.start s.progress.kept (piece_kind k tag.Other), token_said s.facts s.progress k tag.Other s.progress.start)
 
-pub notes_at_end : (s : TextStage) (c : ℕ) → s.done ≡ false → (push_stage s c).done ≡ true → EndsInNotes (said (events_of_push s c))
-notes_at_end s c on = by s.done on (settled_kind s.state c) (c == 40 && is_plain (settle_stage s c).state)
+pub notes_at_end : (s : TextStage) (c : ℕ) → s.ended ≡ false → (push_stage s c).ended ≡ true → EndsInNotes (said (events_of_push s c))
+notes_at_end s c on = by s.ended on (settled_kind s.state c) (c == 40 && is_plain (settle_stage s c).state)
   where
-    by : (d : Bool) → d ≡ false → (o : Option TokenKind) (b : Bool) → (cond d s (cond b (end_stage (settle_stage_by s o)) (read_stage (settle_stage_by s o) c))).done ≡ true
+    by : (d : Bool) → d ≡ false → (o : Option TokenKind) (b : Bool) → (cond d s (cond b (end_stage (settle_stage_by s o)) (read_stage (settle_stage_by s o) c))).ended ≡ true
         → EndsInNotes (said (cond d [] (events_of_settling_by s o ++ cond b (events_of_end (settle_stage_by s o).facts (settle_stage_by s o).progress text_ending.Notes) (events_of_reading (settle_stage_by s o) c))))
     by true e o b over = absurd (true≢false e)
     by false e o true over =
@@ -210,8 +210,8 @@ pub record EndsAt (s : TextStage) (c : ℕ) : Type 0 where
   pub mark : c ≡ 40
   pub no_comment : is_comment s.state ≡ false
 
-pub ended_at : (s : TextStage) (c : ℕ) → s.done ≡ false → (push_stage s c).done ≡ true → EndsAt s c
-ended_at s c on over = by s.done on (c == 40 && is_plain (settle_stage s c).state) refl over
+pub ended_at : (s : TextStage) (c : ℕ) → s.ended ≡ false → (push_stage s c).ended ≡ true → EndsAt s c
+ended_at s c on over = by s.ended on (c == 40 && is_plain (settle_stage s c).state) refl over
   where
     open_comment : (m : TokenState) → is_plain (settle_stage_by s (settled_kind m 40)).state ≡ true → s.state ≡ m → is_comment m ≡ false
     open_comment Plain e f = refl
@@ -221,7 +221,7 @@ ended_at s c on over = by s.done on (c == 40 && is_plain (settle_stage s c).stat
     open_comment Translation e f = refl
     open_comment Comment e f = absurd (true≢false (sym e ∙ ap is_plain f))
 
-    by : (d : Bool) → d ≡ false → (b : Bool) → (c == 40 && is_plain (settle_stage s c).state) ≡ b → (cond d s (cond b (end_stage (settle_stage s c)) (read_stage (settle_stage s c) c))).done ≡ true → EndsAt s c
+    by : (d : Bool) → d ≡ false → (b : Bool) → (c == 40 && is_plain (settle_stage s c).state) ≡ b → (cond d s (cond b (end_stage (settle_stage s c)) (read_stage (settle_stage s c) c))).ended ≡ true → EndsAt s c
     by true e b f g = absurd (true≢false e)
     by false e false f g = absurd (true≢false (sym g ∙ read_done (settle_stage s c) c (next_step (settle_stage s c).state c) ∙ settled_done s (settled_kind s.state c) ∙ on))
     by false e true f g = record {

@@ -63,7 +63,7 @@ after_tag t tag.Other = refl
 
 module _ (facts : TextFacts) (p : Progress) (c : ℕ) where
   abbrev in_state : TokenState → TextStage
-  in_state m = record { state = m; facts = facts; progress = p; done = false }
+  in_state m = record { state = m; facts = facts; progress = p; ended = false }
 
   pub tag_on : (name : List ℕ) → is_comment (push_stage (in_state (Tag name)) c).state ≡ false
   tag_on name = rw (and-false (c == 40)) (by (c == 62))
@@ -134,7 +134,7 @@ blank_cases P a b d c e = by (32 == c) (9 == c) (10 == c) refl refl refl e
 
 module _ (at next : Place) (facts : TextFacts) (p : Progress) where
   abbrev here : TextStage
-  here = record { state = Plain; facts = facts; progress = p; done = false }
+  here = record { state = Plain; facts = facts; progress = p; ended = false }
 
   abbrev there : TextStage
   there = placed at next here
@@ -261,8 +261,8 @@ module _ (at next : Place) (facts : TextFacts) (p : Progress) where
       by false false false f g h = kept_token c kind.Letter no_notes (single_is kind.Letter (rw (no_blank, f, g, h) refl)) (rw (no_comment, no_blank, f, g, h) refl)
 
   -- a character between tokens
-  plain_step : (c : ℕ) → IsReached here → (push_stage here c).done ≡ false → StepAlike here c there (keep facts Plain c)
-  plain_step c reached = by_case 40 c (λ x. (push_stage here x).done ≡ false → StepAlike here x there (keep facts Plain x)) (λ goes. absurd (cc)) (λ no_notes _. goes_on no_notes)
+  plain_step : (c : ℕ) → IsReached here → (push_stage here c).ended ≡ false → StepAlike here c there (keep facts Plain c)
+  plain_step c reached = by_case 40 c (λ x. (push_stage here x).ended ≡ false → StepAlike here x there (keep facts Plain x)) (λ goes. absurd (cc)) (λ no_notes _. goes_on no_notes)
     where
       others : (c == 40) ≡ false → (c == 36) ≡ false → (c == 37) ≡ false → (c == 60) ≡ false → (c == 91) ≡ false → StepAlike here c there (keep facts Plain c)
       others n d e t b = by (is_blank c) refl
@@ -327,7 +327,7 @@ ordinary c no_blank e = record {
 
 module _ (facts : TextFacts) (p : Progress) where
   abbrev in_dollar : Place → Place → TextStage
-  in_dollar at next = record { state = Dollar; facts = facts; progress = record p { place = at; next = next }; done = false }
+  in_dollar at next = record { state = Dollar; facts = facts; progress = record p { place = at; next = next }; ended = false }
 
   -- the `$` is a letter, and the blank is kept
   dollar_said : (at next : Place) (w : ℕ) → IsBlankBehind w
@@ -355,7 +355,7 @@ module _ (facts : TextFacts) (p : Progress) where
       )
 
   -- an escape, or a letter after the `$`
-  dollar_letter : (at next other more : Place) (c : ℕ) → is_blank c ≡ false → (push_stage (in_dollar other more) c).done ≡ false
+  dollar_letter : (at next other more : Place) (c : ℕ) → is_blank c ≡ false → (push_stage (in_dollar other more) c).ended ≡ false
       → StepAlike (in_dollar other more) c (in_dollar at next) (kept_at (in_dollar other more) c)
   dollar_letter at next other more c no_blank goes = by (is_special c) refl
     where
@@ -372,7 +372,7 @@ module _ (facts : TextFacts) (p : Progress) where
           kept : kept_at (in_dollar other more) c ≡ Some c
           kept = rw (e, o.no_comment, o.letter) refl
 
-  dollar_step : (at next other more : Place) (c : ℕ) → (push_stage (in_dollar other more) c).done ≡ false → StepAlike (in_dollar other more) c (in_dollar at next) (kept_at (in_dollar other more) c)
+  dollar_step : (at next other more : Place) (c : ℕ) → (push_stage (in_dollar other more) c).ended ≡ false → StepAlike (in_dollar other more) c (in_dollar at next) (kept_at (in_dollar other more) c)
   dollar_step at next other more c goes = by (is_blank c) refl
     where
       by : (b : Bool) → is_blank c ≡ b → StepAlike (in_dollar other more) c (in_dollar at next) (kept_at (in_dollar other more) c)
@@ -390,11 +390,11 @@ comment_kept s c e n = rw (e, n) refl
 
 -- the LF after a comment stands between tokens
 comment_ends : (facts : TextFacts) (p : Progress) → p.start ≡ p.kept
-    → push_stage (record { state = Comment; facts = facts; progress = p; done = false }) 10 ≡ push_stage (placed p.next p.next (record { state = Plain; facts = facts; progress = p; done = false })) 10
+    → push_stage (record { state = Comment; facts = facts; progress = p; ended = false }) 10 ≡ push_stage (placed p.next p.next (record { state = Plain; facts = facts; progress = p; ended = false })) 10
 comment_ends facts p start = rw start refl
 
 comment_says : (facts : TextFacts) (p : Progress) → p.start ≡ p.kept
-    → said (events_of_push (record { state = Comment; facts = facts; progress = p; done = false }) 10) ≡ said (events_of_push (placed p.next p.next (record { state = Plain; facts = facts; progress = p; done = false })) 10)
+    → said (events_of_push (record { state = Comment; facts = facts; progress = p; ended = false }) 10) ≡ said (events_of_push (placed p.next p.next (record { state = Plain; facts = facts; progress = p; ended = false })) 10)
 comment_says facts p start = refl
 
 step_as : (s t r : TextStage) (c : ℕ) (o : Option ℕ) → push_stage s c ≡ push_stage t c → said (events_of_push s c) ≡ said (events_of_push t c) → StepAlike t c r o → StepAlike s c r o
@@ -403,35 +403,35 @@ step_as s t r c (Some d) e f h = (subst (λ (x : TextStage). IsAlike x (push_sta
 
 module _ (at next : Place) (facts : TextFacts) (p : Progress) where
   abbrev in_comment : TextStage
-  in_comment = record { state = Comment; facts = facts; progress = p; done = false }
+  in_comment = record { state = Comment; facts = facts; progress = p; ended = false }
 
   abbrev behind_comment : TextStage
-  behind_comment = placed p.next p.next (record { state = Plain; facts = facts; progress = p; done = false })
+  behind_comment = placed p.next p.next (record { state = Plain; facts = facts; progress = p; ended = false })
 
-  feed_step : IsReached in_comment → (push_stage in_comment 10).done ≡ false → StepAlike in_comment 10 (placed at next behind_comment) (kept_at in_comment 10)
+  feed_step : IsReached in_comment → (push_stage in_comment 10).ended ≡ false → StepAlike in_comment 10 (placed at next behind_comment) (kept_at in_comment 10)
   feed_step reached goes =
       step_as in_comment behind_comment (placed at next behind_comment) 10 (keep facts Plain 10) (comment_ends facts p (reached.start refl)) (comment_says facts p (reached.start refl))
       (plain_step at next facts (record p { place = p.next; next = p.next }) 10
       (record { between = λ _. refl; start = reached.start; blank = reached.blank; starts = reached.starts })
-      (ap (λ (x : TextStage). x.done) (sym (comment_ends facts p (reached.start refl))) ∙ goes))
+      (ap (λ (x : TextStage). x.ended) (sym (comment_ends facts p (reached.start refl))) ∙ goes))
 
 -- What a character does to a stage that has read a text.
-pub step_alike : (s r : TextStage) (c : ℕ) → IsReached s → s.done ≡ false → (push_stage s c).done ≡ false → IsAlike s r → StepAlike s c r (kept_at s c)
-step_alike s r c reached on goes alike = subst (λ (x : TextStage). StepAlike s c x (kept_at s c)) (sym alike.same) (by s.state s.done on reached goes)
+pub step_alike : (s r : TextStage) (c : ℕ) → IsReached s → s.ended ≡ false → (push_stage s c).ended ≡ false → IsAlike s r → StepAlike s c r (kept_at s c)
+step_alike s r c reached on goes alike = subst (λ (x : TextStage). StepAlike s c x (kept_at s c)) (sym alike.same) (by s.state s.ended on reached goes)
   where
-    by : (m : TokenState) (d : Bool) → d ≡ false → IsReached (record { state = m; facts = s.facts; progress = s.progress; done = d }) → (push_stage (record { state = m; facts = s.facts; progress = s.progress; done = d }) c).done ≡ false
-        → StepAlike (record { state = m; facts = s.facts; progress = s.progress; done = d }) c (placed alike.place alike.next (uncommented (record { state = m; facts = s.facts; progress = s.progress; done = d }))) (kept_at (record { state = m; facts = s.facts; progress = s.progress; done = d }) c)
+    by : (m : TokenState) (d : Bool) → d ≡ false → IsReached (record { state = m; facts = s.facts; progress = s.progress; ended = d }) → (push_stage (record { state = m; facts = s.facts; progress = s.progress; ended = d }) c).ended ≡ false
+        → StepAlike (record { state = m; facts = s.facts; progress = s.progress; ended = d }) c (placed alike.place alike.next (uncommented (record { state = m; facts = s.facts; progress = s.progress; ended = d }))) (kept_at (record { state = m; facts = s.facts; progress = s.progress; ended = d }) c)
     by m true e reached goes = absurd (cc)
     by Plain false e reached goes = plain_step alike.place alike.next s.facts s.progress c reached goes
     by Dollar false e reached goes = dollar_step s.facts s.progress alike.place alike.next s.progress.place s.progress.next c goes
-    by (Tag name) false e reached goes = as_it_is alike.place alike.next (record { state = Tag name; facts = s.facts; progress = s.progress; done = false }) c (tag_on s.facts s.progress c name)
-    by (Raw part m) false e reached goes = as_it_is alike.place alike.next (record { state = Raw part m; facts = s.facts; progress = s.progress; done = false }) c (raw_on s.facts s.progress c part m)
-    by Translation false e reached goes = as_it_is alike.place alike.next (record { state = Translation; facts = s.facts; progress = s.progress; done = false }) c (translation_on s.facts s.progress c)
+    by (Tag name) false e reached goes = as_it_is alike.place alike.next (record { state = Tag name; facts = s.facts; progress = s.progress; ended = false }) c (tag_on s.facts s.progress c name)
+    by (Raw part m) false e reached goes = as_it_is alike.place alike.next (record { state = Raw part m; facts = s.facts; progress = s.progress; ended = false }) c (raw_on s.facts s.progress c part m)
+    by Translation false e reached goes = as_it_is alike.place alike.next (record { state = Translation; facts = s.facts; progress = s.progress; ended = false }) c (translation_on s.facts s.progress c)
     by Comment false e reached goes = comment (c == 10) refl
       where
-        comment : (b : Bool) → (c == 10) ≡ b → StepAlike (record { state = Comment; facts = s.facts; progress = s.progress; done = false }) c (placed alike.place alike.next (record { state = Plain; facts = s.facts; progress = s.progress; done = false })) (kept_at (record { state = Comment; facts = s.facts; progress = s.progress; done = false }) c)
+        comment : (b : Bool) → (c == 10) ≡ b → StepAlike (record { state = Comment; facts = s.facts; progress = s.progress; ended = false }) c (placed alike.place alike.next (record { state = Plain; facts = s.facts; progress = s.progress; ended = false })) (kept_at (record { state = Comment; facts = s.facts; progress = s.progress; ended = false }) c)
         comment true f =
-            subst (λ (x : ℕ). (push_stage (record { state = Comment; facts = s.facts; progress = s.progress; done = false }) x).done ≡ false
-            → StepAlike (record { state = Comment; facts = s.facts; progress = s.progress; done = false }) x (placed alike.place alike.next (record { state = Plain; facts = s.facts; progress = s.progress; done = false })) (kept_at (record { state = Comment; facts = s.facts; progress = s.progress; done = false }) x))
+            subst (λ (x : ℕ). (push_stage (record { state = Comment; facts = s.facts; progress = s.progress; ended = false }) x).ended ≡ false
+            → StepAlike (record { state = Comment; facts = s.facts; progress = s.progress; ended = false }) x (placed alike.place alike.next (record { state = Plain; facts = s.facts; progress = s.progress; ended = false })) (kept_at (record { state = Comment; facts = s.facts; progress = s.progress; ended = false }) x))
             (sym (eqb-true c 10 f)) (feed_step alike.place alike.next s.facts s.progress reached) goes
         comment false f = rw f (record { place = alike.place; next = alike.next; same = rw (f, and-false (c == 40)) refl }, rw (f, and-false (c == 40)) refl)

@@ -58,7 +58,7 @@ step_kept s (Stays state) last = refl
 step_kept s (Ends k so) last = whole_kept s.facts s.progress k so last s.progress.kept
 
 finish_kept : (s : TextStage) → kept_in (events_of_finish s) ≡ []
-finish_kept s = by s.done (kind_at_end s.state)
+finish_kept s = by s.ended (kind_at_end s.state)
   where
     by : (d : Bool) (o : Option TokenKind) → kept_in (cond d [] (events_of_finish_by s o)) ≡ []
     by true o = refl
@@ -107,7 +107,7 @@ settled_stands s None c = read_stands s c
 settled_stands s (Some k) c = read_stands (settle_stage_by s (Some k)) c
 
 push_stands : (s : TextStage) (c : ℕ) → StandAt (next_of s) (events_of_push s c)
-push_stands s c = by s.done (settled_kind s.state c) (c == 40 && is_plain (settle_stage s c).state)
+push_stands s c = by s.ended (settled_kind s.state c) (c == 40 && is_plain (settle_stage s c).state)
   where
     by : (d : Bool) (o : Option TokenKind) (b : Bool) → StandAt (next_of s) (cond d [] (events_of_settling_by s o
         ++ cond b (events_of_end (settle_stage_by s o).facts (settle_stage_by s o).progress text_ending.Notes) (events_of_reading (settle_stage_by s o) c)))
@@ -119,38 +119,38 @@ push_stands s c = by s.done (settled_kind s.state c) (c == 40 && is_plain (settl
 -- ---- what is kept of a text
 
 -- a stage that has ended stays as it is
-stays_ended : (s : TextStage) (c : ℕ) → s.done ≡ true → (push_stage s c).done ≡ true
+stays_ended : (s : TextStage) (c : ℕ) → s.ended ≡ true → (push_stage s c).ended ≡ true
 stays_ended s c e = rw e refl
 
-keeps_none : (s : TextStage) (c : ℕ) → s.done ≡ true → kept_chars_in (events_of_push s c) ≡ []
+keeps_none : (s : TextStage) (c : ℕ) → s.ended ≡ true → kept_chars_in (events_of_push s c) ≡ []
 keeps_none s c e = rw e refl
 
 finish_stands : (p : Place) (s : TextStage) → KeptIsPlaced p [] (stepwise s [])
 finish_stands p s = no_chars (events_of_finish s ++ []) (kept_more (events_of_finish s) [] ∙ rw (finish_kept s) refl)
 
-ended_stands : (p : Place) (s : TextStage) (t : List ℕ) → s.done ≡ true → KeptIsPlaced p t (stepwise s t)
+ended_stands : (p : Place) (s : TextStage) (t : List ℕ) → s.ended ≡ true → KeptIsPlaced p t (stepwise s t)
 ended_stands p s [] e = finish_stands p s
 ended_stands p s (c ∷ t) e = (
   subst (λ (xs : List Char). All (λ (x : Char). x.place ≡ p) xs) (sym (keeps_none s c e)) (All-nil (λ (x : Char). x.place ≡ p)),
   ended_stands (saturating_next_place p c) (push_stage s c) t (stays_ended s c e),
 )
 
-going_stands : (s : TextStage) (t : List ℕ) → s.done ≡ false → KeptIsPlaced (next_of s) t (stepwise s t)
+going_stands : (s : TextStage) (t : List ℕ) → s.ended ≡ false → KeptIsPlaced (next_of s) t (stepwise s t)
 going_stands s [] e = finish_stands (next_of s) s
-going_stands s (c ∷ t) e = (push_stands s c, by (push_stage s c).done refl (going_stands (push_stage s c) t))
+going_stands s (c ∷ t) e = (push_stands s c, by (push_stage s c).ended refl (going_stands (push_stage s c) t))
   where
-    by : (d : Bool) → (push_stage s c).done ≡ d → ((push_stage s c).done ≡ false → KeptIsPlaced (next_of (push_stage s c)) t (stepwise (push_stage s c) t))
+    by : (d : Bool) → (push_stage s c).ended ≡ d → ((push_stage s c).ended ≡ false → KeptIsPlaced (next_of (push_stage s c)) t (stepwise (push_stage s c) t))
         → KeptIsPlaced (saturating_next_place (next_of s) c) t (stepwise (push_stage s c) t)
     by true f later = ended_stands (saturating_next_place (next_of s) c) (push_stage s c) t f
     by false f later = subst (λ (p : Place). KeptIsPlaced p t (stepwise (push_stage s c) t)) (next_goes s c e f) (later f)
 
-stands : (s : TextStage) (t : List ℕ) (d : Bool) → s.done ≡ d → KeptIsPlaced (next_of s) t (stepwise s t)
+stands : (s : TextStage) (t : List ℕ) (d : Bool) → s.ended ≡ d → KeptIsPlaced (next_of s) t (stepwise s t)
 stands s t true e = ended_stands (next_of s) s t e
 stands s t false e = going_stands s t e
 
 -- the next character stands where the stage says
 pub is_next : (s : TextStage) → IsNext s (next_of s)
-is_next s t = subst (λ (lists : List (List TextEvent)). KeptIsPlaced (next_of s) t lists) (sym (rest_is s t)) (stands s t s.done refl)
+is_next s t = subst (λ (lists : List (List TextEvent)). KeptIsPlaced (next_of s) t lists) (sym (rest_is s t)) (stands s t s.ended refl)
 
 -- ---- one place
 

@@ -31,7 +31,7 @@ use Rattle.gabc_text.proofs.resuming.StagesKeep.{ends_are, last_is, said_is}
 
 -- ---- the events of a text up to its `(`
 
-emitted : (s : TextStage) (k rest : List ℕ) → (push_stage (stage_past s k) 40).done ≡ true → concat_of (stepwise s (k ++ 40 ∷ rest)) ≡ events_of_pushes s k ++ events_of_push (stage_past s k) 40
+emitted : (s : TextStage) (k rest : List ℕ) → (push_stage (stage_past s k) 40).ended ≡ true → concat_of (stepwise s (k ++ 40 ∷ rest)) ≡ events_of_pushes s k ++ events_of_push (stage_past s k) 40
 emitted s [] rest over =
     ap (λ (ls : List (List TextEvent)). events_of_push s 40 ++ concat_of ls) (rest_done (push_stage s 40) rest over)
     ∙ ap (λ (es : List TextEvent). events_of_push s 40 ++ es) (joined_nothing rest)
@@ -41,13 +41,13 @@ emitted s (c ∷ k) rest over =
     ∙ sym (append_assoc (events_of_push s c) (events_of_pushes (push_stage s c) k) (events_of_push (stage_past (push_stage s c) k) 40))
 
 -- no end is among them before the `(`, and of each character what is kept is kept
-pushes_go : (s : TextStage) (k : List ℕ) → (stage_past s k).done ≡ false → end_text (events_of_pushes s k) ≡ false
+pushes_go : (s : TextStage) (k : List ℕ) → (stage_past s k).ended ≡ false → end_text (events_of_pushes s k) ≡ false
 pushes_go s [] e = refl
 pushes_go s (c ∷ k) e =
     let here : end_text (events_of_push s c) ≡ false = sym (done_is s c (goes_on s (c ∷ k) e)) ∙ goes_on (push_stage s c) k e in
     list_any-append is_end (events_of_push s c) (events_of_pushes (push_stage s c) k) ∙ rw (here, pushes_go (push_stage s c) k e) refl
 
-pushes_keep : (s : TextStage) (k : List ℕ) → (stage_past s k).done ≡ false → kept_in (events_of_pushes s k) ≡ kept_past s k
+pushes_keep : (s : TextStage) (k : List ℕ) → (stage_past s k).ended ≡ false → kept_in (events_of_pushes s k) ≡ kept_past s k
 pushes_keep s [] e = refl
 pushes_keep s (c ∷ k) e =
     kept_more (events_of_push s c) (events_of_pushes (push_stage s c) k)
@@ -102,10 +102,10 @@ said_in_full s k rest keeps ends fits = record {
     text : List ℕ
     text = k ++ 40 ∷ rest
 
-    going : (stage_behind k).done ≡ false
-    going = ap (λ (x : TextStage). x.done) keeps.alike.same ∙ keeps.goes_on
+    going : (stage_behind k).ended ≡ false
+    going = ap (λ (x : TextStage). x.ended) keeps.alike.same ∙ keeps.goes_on
 
-    over : (push_stage (stage_behind k) 40).done ≡ true
+    over : (push_stage (stage_behind k) 40).ended ≡ true
     over = sym (ends_are k) ∙ ends
 
     notes : EndsInNotes (said_at_end k)

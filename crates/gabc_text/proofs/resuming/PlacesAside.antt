@@ -128,7 +128,7 @@ module _ (at next : Place) where
 
 -- a character does the same
 pub push_placed : (at next : Place) (s : TextStage) (c : ℕ) → IsPlaced (push_stage s c) (push_stage (placed at next s) c)
-push_placed at next s c = by s.done (settled_kind s.state c)
+push_placed at next s c = by s.ended (settled_kind s.state c)
   where
     by : (b : Bool) (o : Option TokenKind) → IsPlaced (cond b s (settled_push_stage (settle_stage_by s o) c)) (cond b (placed at next s) (settled_push_stage (settle_stage_by (placed at next s) o) c))
     by true o = record { place = at; next = next; same = refl }
@@ -136,7 +136,7 @@ push_placed at next s c = by s.done (settled_kind s.state c)
     by false (Some k) = settled_placed next next (token_stage s k Other s.progress.next) c
 
 pub push_same : (at next : Place) (s : TextStage) (c : ℕ) → said (events_of_push (placed at next s) c) ≡ said (events_of_push s c)
-push_same at next s c = by s.done (settled_kind s.state c)
+push_same at next s c = by s.ended (settled_kind s.state c)
   where
     by : (b : Bool) (o : Option TokenKind)
         → said (cond b [] (events_of_settling_by (placed at next s) o ++ events_of_settled_push (settle_stage_by (placed at next s) o) c))

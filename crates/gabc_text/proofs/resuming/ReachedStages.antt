@@ -115,7 +115,7 @@ settled_reached s c reached = by (c == 40 && is_plain s.state)
     by false = read_reached s c reached
 
 pub push_reached : (s : TextStage) (c : ℕ) → IsReached s → IsReached (push_stage s c)
-push_reached s c reached = by s.done (settled_kind s.state c)
+push_reached s c reached = by s.ended (settled_kind s.state c)
   where
     by : (b : Bool) (o : Option TokenKind) → IsReached (cond b s (settled_push_stage (settle_stage_by s o) c))
     by true o = reached
@@ -138,13 +138,13 @@ moved_reached at s reached = record { between = at_plain s.state; start = reache
 
 -- ---- many characters
 
-done_stays : (s : TextStage) (t : List ℕ) → s.done ≡ true → (stage_past s t).done ≡ true
+done_stays : (s : TextStage) (t : List ℕ) → s.ended ≡ true → (stage_past s t).ended ≡ true
 done_stays s [] e = e
 done_stays s (c ∷ t) e = done_stays (push_stage s c) t (rw e refl)
 
-pub goes_on : (s : TextStage) (t : List ℕ) → (stage_past s t).done ≡ false → s.done ≡ false
-goes_on s t e = by s.done refl
+pub goes_on : (s : TextStage) (t : List ℕ) → (stage_past s t).ended ≡ false → s.ended ≡ false
+goes_on s t e = by s.ended refl
   where
-    by : (b : Bool) → s.done ≡ b → b ≡ false
+    by : (b : Bool) → s.ended ≡ b → b ≡ false
     by true f = absurd (false≢true (sym e ∙ done_stays s t f))
     by false f = refl

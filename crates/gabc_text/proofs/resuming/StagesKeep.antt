@@ -59,8 +59,8 @@ events_more s (c ∷ k) d =
     ap (λ (t : List TextEvent). events_of_push s c ++ t) (events_more (push_stage s c) k d)
     ∙ sym (append_assoc (events_of_push s c) (events_of_pushes (push_stage s c) k) (events_of_push (stage_past (push_stage s c) k) d))
 
-alike_done : (s r : TextStage) → IsAlike s r → r.done ≡ s.done
-alike_done s r a = ap (λ (x : TextStage). x.done) a.same
+alike_done : (s r : TextStage) → IsAlike s r → r.ended ≡ s.ended
+alike_done s r a = ap (λ (x : TextStage). x.ended) a.same
 
 some_same : (a b : Place) → Some a ≡ Some b → a ≡ b
 some_same a b e = cc
@@ -83,7 +83,7 @@ pub kept_with_is : (k : List ℕ) (c : ℕ) → kept_with k c ≡ kept_in (event
 unfolding kept_with
 kept_with_is k c = refl
 
-pub ends_are : (k : List ℕ) → ends_after_it k ≡ (push_stage (stage_behind k) 40).done
+pub ends_are : (k : List ℕ) → ends_after_it k ≡ (push_stage (stage_behind k) 40).ended
 unfolding ends_after_it
 ends_are k = refl
 
@@ -107,14 +107,14 @@ module _ (s : TextStage) (c : ℕ) (k : List ℕ) (keeps : Keeps s k) where
       ∙ ap (λ (x : TextStage). kept_in (events_of_push x c)) (sym (placed_alike e))
       ∙ sym (kept_with_is k c)
 
-  ends_same : comment_in s ≡ false → c ≡ 40 → ends_after_it k ≡ (push_stage s c).done
+  ends_same : comment_in s ≡ false → c ≡ 40 → ends_after_it k ≡ (push_stage s c).ended
   ends_same e f =
       ends_are k
-      ∙ ap (λ (x : TextStage). (push_stage x 40).done) (placed_alike e)
-      ∙ ap (λ (x : TextStage). x.done) (push_placed keeps.alike.place keeps.alike.next s 40).same
-      ∙ ap (λ (x : ℕ). (push_stage s x).done) (sym f)
+      ∙ ap (λ (x : TextStage). (push_stage x 40).ended) (placed_alike e)
+      ∙ ap (λ (x : TextStage). x.ended) (push_placed keeps.alike.place keeps.alike.next s 40).same
+      ∙ ap (λ (x : ℕ). (push_stage s x).ended) (sym f)
 
-  end_here : (d : Bool) → (push_stage s c).done ≡ d → d ≡ (not (comment_in s) && (c == 40 && ends_after_it k))
+  end_here : (d : Bool) → (push_stage s c).ended ≡ d → d ≡ (not (comment_in s) && (c == 40 && ends_after_it k))
   end_here true f =
       let at : EndsAt s c = ended_at s c keeps.goes_on f in
       let mark : (c == 40) ≡ true = ap (λ (x : ℕ). x == 40) at.mark in
@@ -126,27 +126,27 @@ module _ (s : TextStage) (c : ℕ) (k : List ℕ) (keeps : Keeps s k) where
       by false false g h = refl
       by false true g h = ends_same g (eqb-true c 40 h) ∙ f
 
-  comment_here : (push_stage s c).done ≡ false → comment_in (push_stage s c) ≡ comment_with k (comment_in s) c
+  comment_here : (push_stage s c).ended ≡ false → comment_in (push_stage s c) ≡ comment_with k (comment_in s) c
   comment_here goes = comment_goes s c keeps.goes_on goes ∙ by (comment_in s) refl
     where
       by : (b : Bool) → comment_in s ≡ b → (if b then not (c == 10) else (c == 37 && is_plain s.state)) ≡ comment_with k b c
       by true e = refl
       by false e = ap (λ (x : Bool). c == 37 && x) (sym (begins_is k ∙ ap (λ (x : TextStage). is_plain x.state) (placed_alike e)))
 
-  opener_here : (push_stage s c).done ≡ false → (p : Place) → opener_of (push_stage s c) ≡ Some p → (opener_of s ≡ Some p) ⊎ (next_of s ≡ p)
+  opener_here : (push_stage s c).ended ≡ false → (p : Place) → opener_of (push_stage s c) ≡ Some p → (opener_of s ≡ Some p) ⊎ (next_of s ≡ p)
   opener_here goes p e = by (opener_goes s c keeps.goes_on keeps.reached p (sym (opener_told (push_stage s c) goes) ∙ e))
     where
       by : (opener_in s ≡ Some p) ⊎ (next_of s ≡ p) → (opener_of s ≡ Some p) ⊎ (next_of s ≡ p)
       by (inl f) = inl (opener_told s keeps.goes_on ∙ f)
       by (inr f) = inr f
 
-  comment_now : (push_stage s c).done ≡ false → is_in_comment (push_stage s c) ≡ comment_with k (is_in_comment s) c
+  comment_now : (push_stage s c).ended ≡ false → is_in_comment (push_stage s c) ≡ comment_with k (is_in_comment s) c
   comment_now goes = comment_told (push_stage s c) goes ∙ comment_here goes ∙ ap (λ (b : Bool). comment_with k b c) (sym (comment_told s keeps.goes_on))
 
   goes_behind : end_text (events_of_push s c) ≡ false → GoesOn s k c (events_of_push s c) (push_stage s c)
   goes_behind e = by (kept_at s c) (kept_is s c keeps.goes_on goes) (step_alike s (stage_behind k) c keeps.reached keeps.goes_on goes keeps.alike)
     where
-      goes : (push_stage s c).done ≡ false
+      goes : (push_stage s c).ended ≡ false
       goes = done_is s c keeps.goes_on ∙ e
 
       by : (o : Option ℕ) → kept_in (events_of_push s c) ≡ option_to_list o → StepAlike s c (stage_behind k) o → GoesOn s k c (events_of_push s c) (push_stage s c)
@@ -175,10 +175,10 @@ module _ (s : TextStage) (c : ℕ) (k : List ℕ) (keeps : Keeps s k) where
         next = next_goes s c keeps.goes_on goes;
       }
         where
-          behind_goes : (stage_behind k).done ≡ false
+          behind_goes : (stage_behind k).ended ≡ false
           behind_goes = alike_done s (stage_behind k) keeps.alike ∙ keeps.goes_on
 
-          after_goes : (push_stage (stage_behind k) d).done ≡ false
+          after_goes : (push_stage (stage_behind k) d).ended ≡ false
           after_goes = alike_done (push_stage s c) (push_stage (stage_behind k) d) h.0 ∙ goes
 
           kept_same : option_to_list (kept_at (stage_behind k) d) ≡ d ∷ []
@@ -197,7 +197,7 @@ module _ (s : TextStage) (c : ℕ) (k : List ℕ) (keeps : Keeps s k) where
     over = over;
   }
     where
-      over : (push_stage s c).done ≡ true
+      over : (push_stage s c).ended ≡ true
       over = done_is s c keeps.goes_on ∙ e
 
       at : EndsAt s c
@@ -228,17 +228,17 @@ keep_only facts (Tag name) c = All-cons (IsKeptOf c) c [] (inl refl) (All-nil (I
 keep_only facts (Raw part m) c = All-cons (IsKeptOf c) c [] (inl refl) (All-nil (IsKeptOf c))
 keep_only facts Translation c = All-cons (IsKeptOf c) c [] (inl refl) (All-nil (IsKeptOf c))
 
-only_kept : (s : TextStage) (c : ℕ) → s.done ≡ false → All (IsKeptOf c) (kept_in (events_of_push s c))
-only_kept s c on = by (push_stage s c).done refl
+only_kept : (s : TextStage) (c : ℕ) → s.ended ≡ false → All (IsKeptOf c) (kept_in (events_of_push s c))
+only_kept s c on = by (push_stage s c).ended refl
   where
-    by : (d : Bool) → (push_stage s c).done ≡ d → All (IsKeptOf c) (kept_in (events_of_push s c))
+    by : (d : Bool) → (push_stage s c).ended ≡ d → All (IsKeptOf c) (kept_in (events_of_push s c))
     by true e = subst (All (IsKeptOf c)) (sym (none_kept_at_end s c on e)) (All-nil (IsKeptOf c))
     by false e = subst (All (IsKeptOf c)) (sym (kept_is s c on e)) (keep_only (settle_stage s c).facts (settle_stage s c).state c)
 
 -- what a push does
 pub push_keeps : (s next : TextStage) (c : ℕ) (events : List TextEvent) → next ≡ push_stage s c → events ≡ events_of_push s c → KeepsOn s c events next
 push_keeps s next c events e f = rw (e, f) (record {
-  end = λ k h. sym (done_is s c h.goes_on) ∙ end_here s c k h (push_stage s c).done refl ∙ ap (λ (b : Bool). not b && (c == 40 && ends_after_it k)) (sym (comment_told s h.goes_on));
+  end = λ k h. sym (done_is s c h.goes_on) ∙ end_here s c k h (push_stage s c).ended refl ∙ ap (λ (b : Bool). not b && (c == 40 && ends_after_it k)) (sym (comment_told s h.goes_on));
   kept = λ k h e. kept_here s c k h (sym (comment_told s h.goes_on) ∙ e);
   goes = λ k h. goes_behind s c k h;
   ends = λ k h. ended_behind s c k h;
@@ -321,15 +321,15 @@ kept_again s a b c h =
     ∙ kept_is (stage_behind a) c (goes_on (stage_behind a) (c ∷ b) going) (goes_on (push_stage (stage_behind a) c) b going)
     ∙ ap option_to_list (kept_each (fresh_stage nowhere) a b c h.whole)
   where
-    going : (stage_past (stage_behind a) (c ∷ b)).done ≡ false
-    going = ap (λ (x : TextStage). x.done) (sym (past_joined (fresh_stage nowhere) a (c ∷ b))) ∙ alike_done s (stage_behind (a ++ c ∷ b)) h.alike ∙ h.goes_on
+    going : (stage_past (stage_behind a) (c ∷ b)).ended ≡ false
+    going = ap (λ (x : TextStage). x.ended) (sym (past_joined (fresh_stage nowhere) a (c ∷ b))) ∙ alike_done s (stage_behind (a ++ c ∷ b)) h.alike ∙ h.goes_on
 
 pub comment_not_kept : (k : List ℕ) → begins_comment k ≡ true → kept_with k 37 ≡ []
-comment_not_kept k e = kept_with_is k 37 ∙ by (stage_behind k).state (stage_behind k).done (sym (begins_is k) ∙ e)
+comment_not_kept k e = kept_with_is k 37 ∙ by (stage_behind k).state (stage_behind k).ended (sym (begins_is k) ∙ e)
   where
-    by : (m : TokenState) (d : Bool) → is_plain m ≡ true → kept_in (events_of_push (record { state = m; facts = (stage_behind k).facts; progress = (stage_behind k).progress; done = d }) 37) ≡ []
+    by : (m : TokenState) (d : Bool) → is_plain m ≡ true → kept_in (events_of_push (record { state = m; facts = (stage_behind k).facts; progress = (stage_behind k).progress; ended = d }) 37) ≡ []
     by Plain true h = refl
-    by Plain false h = read_kept (record { state = Plain; facts = (stage_behind k).facts; progress = (stage_behind k).progress; done = false }) 37
+    by Plain false h = read_kept (record { state = Plain; facts = (stage_behind k).facts; progress = (stage_behind k).progress; ended = false }) 37
     by Dollar d h = absurd (false≢true h)
     by Comment d h = absurd (false≢true h)
     by (Tag name) d h = absurd (false≢true h)
@@ -337,9 +337,9 @@ comment_not_kept k e = kept_with_is k 37 ∙ by (stage_behind k).state (stage_be
     by Translation d h = absurd (false≢true h)
 
 pub end_not_kept : (k : List ℕ) → ends_after_it k ≡ true → kept_with k 40 ≡ []
-end_not_kept k e = kept_with_is k 40 ∙ by (stage_behind k).done refl
+end_not_kept k e = kept_with_is k 40 ∙ by (stage_behind k).ended refl
   where
-    by : (d : Bool) → (stage_behind k).done ≡ d → kept_in (events_of_push (stage_behind k) 40) ≡ []
+    by : (d : Bool) → (stage_behind k).ended ≡ d → kept_in (events_of_push (stage_behind k) 40) ≡ []
     by true f = ap (λ (x : Bool). kept_in (cond x [] (events_of_settling (stage_behind k) 40 ++ events_of_settled_push (settle_stage (stage_behind k) 40) 40))) f
     by false f = none_kept_at_end (stage_behind k) 40 f (sym (ends_are k) ∙ e)
 

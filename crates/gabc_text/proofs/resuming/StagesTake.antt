@@ -27,10 +27,10 @@ few : (o : Option ℕ) → length (option_to_list o) ≤ 1
 few None = omega arith
 few (Some c) = omega arith
 
-one_kept : (s : TextStage) (c : ℕ) → s.done ≡ false → length (kept_in (events_of_push s c)) ≤ 1
-one_kept s c on = by (push_stage s c).done refl
+one_kept : (s : TextStage) (c : ℕ) → s.ended ≡ false → length (kept_in (events_of_push s c)) ≤ 1
+one_kept s c on = by (push_stage s c).ended refl
   where
-    by : (d : Bool) → (push_stage s c).done ≡ d → length (kept_in (events_of_push s c)) ≤ 1
+    by : (d : Bool) → (push_stage s c).ended ≡ d → length (kept_in (events_of_push s c)) ≤ 1
     by true e = subst (λ (k : List ℕ). length k ≤ 1) (sym (none_kept_at_end s c on e)) (omega arith)
     by false e = subst (λ (k : List ℕ). length k ≤ 1) (sym (kept_is s c on e)) (few (kept_at s c))
 
@@ -43,15 +43,15 @@ never_comment (Raw part m) e = cc
 never_comment Translation e = cc
 
 -- another character than a `(` ends no text
-goes_past : (r : TextStage) (c : ℕ) → r.done ≡ false → (c ≡ 40 → ⊥) → (push_stage r c).done ≡ false
-goes_past r c on apart = by (push_stage r c).done refl
+goes_past : (r : TextStage) (c : ℕ) → r.ended ≡ false → (c ≡ 40 → ⊥) → (push_stage r c).ended ≡ false
+goes_past r c on apart = by (push_stage r c).ended refl
   where
-    by : (d : Bool) → (push_stage r c).done ≡ d → d ≡ false
+    by : (d : Bool) → (push_stage r c).ended ≡ d → d ≡ false
     by false e = refl
     by true e = absurd (apart (ended_at r c on e).mark)
 
 -- a `%` is kept but between tokens
-percent_at : (facts : TextFacts) (p : Progress) (done : Bool) (m : TokenState) → (m ≡ Comment → ⊥) → kept_at (record { state = m; facts = facts; progress = p; done = done }) 37 ≡ None → is_plain m ≡ true
+percent_at : (facts : TextFacts) (p : Progress) (done : Bool) (m : TokenState) → (m ≡ Comment → ⊥) → kept_at (record { state = m; facts = facts; progress = p; ended = done }) 37 ≡ None → is_plain m ≡ true
 percent_at facts p done Plain apart e = refl
 percent_at facts p done Dollar apart e = cc
 percent_at facts p done Comment apart e = absurd (apart refl)
@@ -63,16 +63,16 @@ none_at : (o : Option ℕ) → option_to_list o ≡ [] → o ≡ None
 none_at None e = refl
 none_at (Some c) e = cc
 
-percent_between : (r : TextStage) (c : ℕ) → c ≡ 37 → r.done ≡ false → (r.state ≡ Comment → ⊥) → kept_in (events_of_push r c) ≡ [] → is_plain r.state ≡ true
+percent_between : (r : TextStage) (c : ℕ) → c ≡ 37 → r.ended ≡ false → (r.state ≡ Comment → ⊥) → kept_in (events_of_push r c) ≡ [] → is_plain r.state ≡ true
 percent_between r c is on apart none =
-    percent_at r.facts r.progress r.done r.state apart
+    percent_at r.facts r.progress r.ended r.state apart
     (ap (kept_at r) (sym is) ∙ none_at (kept_at r c) (sym (kept_is r c on (goes_past r c on (λ e. cc (sym is ∙ e)))) ∙ none))
 
 module _ (s : TextStage) (k : List ℕ) (keeps : Keeps s k) where
   percent_begins : (c : ℕ) → c ≡ 37 → kept_with k c ≡ [] → begins_comment k ≡ true
   percent_begins c is none =
       begins_is k
-      ∙ percent_between (stage_behind k) c is (ap (λ (x : TextStage). x.done) keeps.alike.same ∙ keeps.goes_on)
+      ∙ percent_between (stage_behind k) c is (ap (λ (x : TextStage). x.ended) keeps.alike.same ∙ keeps.goes_on)
       (λ e. never_comment s.state (sym (ap (λ (x : TextStage). x.state) keeps.alike.same) ∙ e)) (sym (kept_with_is k c) ∙ none)
 
   module _ (c : ℕ) where
@@ -82,7 +82,7 @@ module _ (s : TextStage) (k : List ℕ) (keeps : Keeps s k) where
     abbrev events : List TextEvent
     events = events_of_push s c
 
-    goes : (push_stage s c).done ≡ false → GoesOn s k c (events_of_push s c) (push_stage s c)
+    goes : (push_stage s c).ended ≡ false → GoesOn s k c (events_of_push s c) (push_stage s c)
     goes e = (push_keeps s (push_stage s c) c (events_of_push s c) refl refl).goes k keeps (sym (done_is s c keeps.goes_on) ∙ e)
 
     kept_now : is_in_comment s ≡ false → kept_in (events_of_push s c) ≡ kept_with k c
@@ -90,9 +90,9 @@ module _ (s : TextStage) (k : List ℕ) (keeps : Keeps s k) where
 
     -- where a comment is open after it, nothing is kept of it
     none_kept : is_in_comment (push_stage s c) ≡ true → kept_in (events_of_push s c) ≡ []
-    none_kept opened = by (push_stage s c).done refl
+    none_kept opened = by (push_stage s c).ended refl
       where
-        inside : (b : Bool) → is_in_comment s ≡ b → comment_with k b c ≡ true → (push_stage s c).done ≡ false → kept_in (events_of_push s c) ≡ []
+        inside : (b : Bool) → is_in_comment s ≡ b → comment_with k b c ≡ true → (push_stage s c).ended ≡ false → kept_in (events_of_push s c) ≡ []
         inside true e f g = kept_is s c keeps.goes_on g ∙ ap option_to_list (comment_kept s c (comment_is s.state (sym (comment_told s keeps.goes_on) ∙ e)) (no_feed (c == 10) f))
           where
             no_feed : (b : Bool) → not b ≡ true → b ≡ false
@@ -104,7 +104,7 @@ module _ (s : TextStage) (k : List ℕ) (keeps : Keeps s k) where
             begun true h i = ap (kept_with k) (eqb-true c 37 h) ∙ comment_not_kept k i
             begun false h i = absurd (false≢true i)
 
-        by : (d : Bool) → (push_stage s c).done ≡ d → kept_in (events_of_push s c) ≡ []
+        by : (d : Bool) → (push_stage s c).ended ≡ d → kept_in (events_of_push s c) ≡ []
         by true e = none_kept_at_end s c keeps.goes_on e
         by false e = inside (is_in_comment s) refl (sym (goes e).comment ∙ opened) e
 
@@ -112,7 +112,7 @@ module _ (s : TextStage) (k : List ℕ) (keeps : Keeps s k) where
     percent_opens : c ≡ 37 → kept_in (events_of_push s c) ≡ [] → is_in_comment (push_stage s c) ≡ true
     percent_opens is none = (goes going).comment ∙ ap (comment_with k (is_in_comment s)) is ∙ by (is_in_comment s) refl
       where
-        going : (push_stage s c).done ≡ false
+        going : (push_stage s c).ended ≡ false
         going = goes_past s c keeps.goes_on (λ e. cc (sym is ∙ e))
 
         by : (b : Bool) → is_in_comment s ≡ b → comment_with k b 37 ≡ true

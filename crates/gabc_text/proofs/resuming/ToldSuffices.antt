@@ -13,9 +13,9 @@ use Rattle.gabc_text.proofs.machine.EventsStepByStep.{stepwise}
 use Rattle.std.proofs.Math.Bool.{and-false}
 
 step_told : (s : TextStage) (c : ℕ) → (events_of_push s c ≡ events_of_push (told s) c) × (told (push_stage s c) ≡ told (push_stage (told s) c))
-step_told s c = by s.state s.done
+step_told s c = by s.state s.ended
   where
-    by : (m : TokenState) (d : Bool) → let x : TextStage = record { state = m; facts = s.facts; progress = s.progress; done = d } in
+    by : (m : TokenState) (d : Bool) → let x : TextStage = record { state = m; facts = s.facts; progress = s.progress; ended = d } in
         (events_of_push x c ≡ events_of_push (told x) c) × (told (push_stage x c) ≡ told (push_stage (told x) c))
     by Plain d = (refl, refl)
     by (Tag name) d = (refl, refl)
@@ -24,13 +24,13 @@ step_told s c = by s.state s.done
     by m true = (refl, refl)
     by Dollar false = dollar (is_special c) refl
       where
-        dollar : (b : Bool) → is_special c ≡ b → let x : TextStage = record { state = Dollar; facts = s.facts; progress = s.progress; done = false } in
+        dollar : (b : Bool) → is_special c ≡ b → let x : TextStage = record { state = Dollar; facts = s.facts; progress = s.progress; ended = false } in
             (events_of_push x c ≡ events_of_push (told x) c) × (told (push_stage x c) ≡ told (push_stage (told x) c))
         dollar true e = (rw (e, and-false (c == 40)) refl, rw (e, and-false (c == 40)) refl)
         dollar false e = (rw e refl, rw e refl)
     by Comment false = comment (c == 10) refl
       where
-        comment : (b : Bool) → c == 10 ≡ b → let x : TextStage = record { state = Comment; facts = s.facts; progress = s.progress; done = false } in
+        comment : (b : Bool) → c == 10 ≡ b → let x : TextStage = record { state = Comment; facts = s.facts; progress = s.progress; ended = false } in
             (events_of_push x c ≡ events_of_push (told x) c) × (told (push_stage x c) ≡ told (push_stage (told x) c))
         comment true e = (rw e refl, rw e refl)
         comment false e = (rw (e, and-false (c == 40)) refl, rw (e, and-false (c == 40)) refl)
@@ -38,7 +38,7 @@ step_told s c = by s.state s.done
 end_told : (s : TextStage) → events_of_finish s ≡ events_of_finish (told s)
 end_told s = by s.state
   where
-    by : (m : TokenState) → let x : TextStage = record { state = m; facts = s.facts; progress = s.progress; done = s.done } in events_of_finish x ≡ events_of_finish (told x)
+    by : (m : TokenState) → let x : TextStage = record { state = m; facts = s.facts; progress = s.progress; ended = s.ended } in events_of_finish x ≡ events_of_finish (told x)
     by Plain = refl
     by Dollar = refl
     by Comment = refl

@@ -31,10 +31,10 @@ settled_next : (s : TextStage) (o : Option TokenKind) → next_of (settle_stage_
 settled_next s None = refl
 settled_next s (Some k) = refl
 
-pub next_goes : (s : TextStage) (c : ℕ) → s.done ≡ false → (push_stage s c).done ≡ false → next_of (push_stage s c) ≡ saturating_next_place (next_of s) c
-next_goes s c on = by s.done on (settled_kind s.state c) (c == 40 && is_plain (settle_stage s c).state)
+pub next_goes : (s : TextStage) (c : ℕ) → s.ended ≡ false → (push_stage s c).ended ≡ false → next_of (push_stage s c) ≡ saturating_next_place (next_of s) c
+next_goes s c on = by s.ended on (settled_kind s.state c) (c == 40 && is_plain (settle_stage s c).state)
   where
-    by : (d : Bool) → d ≡ false → (o : Option TokenKind) (b : Bool) → (cond d s (cond b (end_stage (settle_stage_by s o)) (read_stage (settle_stage_by s o) c))).done ≡ false
+    by : (d : Bool) → d ≡ false → (o : Option TokenKind) (b : Bool) → (cond d s (cond b (end_stage (settle_stage_by s o)) (read_stage (settle_stage_by s o) c))).ended ≡ false
         → next_of (cond d s (cond b (end_stage (settle_stage_by s o)) (read_stage (settle_stage_by s o) c))) ≡ saturating_next_place (next_of s) c
     by true e o b goes = absurd (true≢false e)
     by false e o true goes = absurd (true≢false goes)
@@ -58,13 +58,13 @@ settled_opens at s c p = by (c == 40 && is_plain s.state)
     by false = step_opens at (stage_past_char s c) (next_step s.state c) p
 
 abbrev going : TextStage → TokenState → TextStage
-going s m = record { state = m; facts = s.facts; progress = s.progress; done = false }
+going s m = record { state = m; facts = s.facts; progress = s.progress; ended = false }
 
-within : (s : TextStage) (c : ℕ) → s.done ≡ false → IsReached s → OpensAt (if is_open s.state then s.progress.place else next_of s) (push_stage s c)
-within s c on reached = by s.state s.done on reached.between
+within : (s : TextStage) (c : ℕ) → s.ended ≡ false → IsReached s → OpensAt (if is_open s.state then s.progress.place else next_of s) (push_stage s c)
+within s c on reached = by s.state s.ended on reached.between
   where
     by : (m : TokenState) (d : Bool) → d ≡ false → (is_plain m ≡ true → s.progress.place ≡ s.progress.next)
-        → OpensAt (if is_open m then s.progress.place else s.progress.next) (push_stage (record { state = m; facts = s.facts; progress = s.progress; done = d }) c)
+        → OpensAt (if is_open m then s.progress.place else s.progress.next) (push_stage (record { state = m; facts = s.facts; progress = s.progress; ended = d }) c)
     by m true e between = absurd (true≢false e)
     by Plain false e between = settled_opens s.progress.next (going s Plain) c (between refl)
     by (Tag name) false e between = settled_opens s.progress.place (going s (Tag name)) c refl
@@ -89,7 +89,7 @@ opener_is s p = by (is_open s.state)
     by false e = absurd (cc)
 
 -- it was open before, or the character begins it
-pub opener_goes : (s : TextStage) (c : ℕ) → s.done ≡ false → IsReached s → (p : Place) → opener_in (push_stage s c) ≡ Some p → (opener_in s ≡ Some p) ⊎ (next_of s ≡ p)
+pub opener_goes : (s : TextStage) (c : ℕ) → s.ended ≡ false → IsReached s → (p : Place) → opener_in (push_stage s c) ≡ Some p → (opener_in s ≡ Some p) ⊎ (next_of s ≡ p)
 opener_goes s c on reached p e =
     let o = opener_is (push_stage s c) p e in
     by (is_open s.state) (sym (within s c on reached o.0) ∙ o.1)
@@ -104,16 +104,16 @@ opener_goes s c on reached p e =
 other_one : (c a b : ℕ) → (c == a) ≡ true → (a == b) ≡ false → (c == b) ≡ false
 other_one c a b e f = ap (λ (x : ℕ). x == b) (eqb-true c a e) ∙ f
 
-pub comment_goes : (s : TextStage) (c : ℕ) → s.done ≡ false → (push_stage s c).done ≡ false
+pub comment_goes : (s : TextStage) (c : ℕ) → s.ended ≡ false → (push_stage s c).ended ≡ false
     → comment_in (push_stage s c) ≡ (if comment_in s then not (c == 10) else (c == 37 && is_plain s.state))
-comment_goes s c on = by s.state s.done on
+comment_goes s c on = by s.state s.ended on
   where
-    by : (m : TokenState) (d : Bool) → d ≡ false → let x : TextStage = record { state = m; facts = s.facts; progress = s.progress; done = d } in
-        (push_stage x c).done ≡ false → comment_in (push_stage x c) ≡ (if is_comment m then not (c == 10) else (c == 37 && is_plain m))
+    by : (m : TokenState) (d : Bool) → d ≡ false → let x : TextStage = record { state = m; facts = s.facts; progress = s.progress; ended = d } in
+        (push_stage x c).ended ≡ false → comment_in (push_stage x c) ≡ (if is_comment m then not (c == 10) else (c == 37 && is_plain m))
     by m true e goes = absurd (true≢false e)
     by Plain false e goes = plain (c == 40 && true) goes
       where
-        plain : (b : Bool) → (cond b (end_stage (going s Plain)) (read_stage (going s Plain) c)).done ≡ false → comment_in (cond b (end_stage (going s Plain)) (read_stage (going s Plain) c)) ≡ (c == 37 && true)
+        plain : (b : Bool) → (cond b (end_stage (going s Plain)) (read_stage (going s Plain) c)).ended ≡ false → comment_in (cond b (end_stage (going s Plain)) (read_stage (going s Plain) c)) ≡ (c == 37 && true)
         plain true goes = absurd (true≢false goes)
         plain false goes = read (c == 36) (c == 37) (c == 60) (c == 91) (λ f. other_one c 36 37 f refl)
           where

@@ -23,4 +23,4 @@ is_unmatched _ = false
 
 -- a machine that stands there
 abbrev pub is_in_raw : TextStage → Bool
-is_in_raw s = not s.done && is_unmatched s.state
+is_in_raw s = not s.ended && is_unmatched s.state

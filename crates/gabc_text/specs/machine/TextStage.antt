@@ -97,7 +97,7 @@ abbrev pub events_of_end : TextFacts → Progress → TextEnd → List TextEvent
 events_of_end facts progress h = end_events_by facts progress (is_cut_end h) h
 
 abbrev pub end_stage : TextStage → TextStage
-end_stage t = record t { done = true }
+end_stage t = record t { ended = true }
 
 abbrev pub settled_push_stage : TextStage → ℕ → TextStage
 settled_push_stage t c = cond (c == 40 && is_plain t.state) (end_stage t) (read_stage t c)
@@ -106,10 +106,10 @@ abbrev pub events_of_settled_push : TextStage → ℕ → List TextEvent
 events_of_settled_push t c = cond (c == 40 && is_plain t.state) (events_of_end t.facts t.progress text_ending.Notes) (events_of_reading t c)
 
 abbrev pub push_stage : TextStage → ℕ → TextStage
-push_stage t c = cond t.done t (settled_push_stage (settle_stage t c) c)
+push_stage t c = cond t.ended t (settled_push_stage (settle_stage t c) c)
 
 abbrev pub events_of_push : TextStage → ℕ → List TextEvent
-events_of_push t c = cond t.done [] (events_of_settling t c ++ events_of_settled_push (settle_stage t c) c)
+events_of_push t c = cond t.ended [] (events_of_settling t c ++ events_of_settled_push (settle_stage t c) c)
 
 abbrev pub end_by : TokenKind → Place → TextEnd
 end_by k place = if is_open_kind k then text_ending.Cut place else text_ending.Finished
@@ -119,7 +119,7 @@ finish_stage_by t None = end_stage t
 finish_stage_by t (Some k) = end_stage (token_stage t k Other t.progress.next)
 
 abbrev pub finish_stage : TextStage → TextStage
-finish_stage t = cond t.done t (finish_stage_by t (kind_at_end t.state))
+finish_stage t = cond t.ended t (finish_stage_by t (kind_at_end t.state))
 
 abbrev pub events_of_finish_by : TextStage → Option TokenKind → List TextEvent
 events_of_finish_by t None = events_of_end t.facts t.progress text_ending.Finished
@@ -128,4 +128,4 @@ events_of_finish_by t (Some k) =
     ++ events_of_end (facts_after t.facts k Other) (progress_after t.facts t.progress k Other t.progress.next) (end_by k t.progress.place)
 
 abbrev pub events_of_finish : TextStage → List TextEvent
-events_of_finish t = cond t.done [] (events_of_finish_by t (kind_at_end t.state))
+events_of_finish t = cond t.ended [] (events_of_finish_by t (kind_at_end t.state))

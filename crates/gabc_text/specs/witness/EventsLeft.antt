@@ -255,8 +255,8 @@ module _ (read : List ℕ) (s : TextStage) where
 -- what a stage will still emit for these characters and then the end: a list for each of them, and
 -- one for the end
 unfoldable pub events_left : TextStage → List ℕ → List (List TextEvent)
-events_left s t = cond s.done ([] ∷ no_events_each t) (lists_ahead (stands_for s.state) s (stands_for s.state ++ t))
+events_left s t = cond s.ended ([] ∷ no_events_each t) (lists_ahead (stands_for s.state) s (stands_for s.state ++ t))
 
 -- the characters that a stage does not read, from the `(` on
 unfoldable pub characters_left : TextStage → List ℕ → List ℕ
-characters_left s t = cond s.done t (after_tokens (stands_for s.state ++ t))
+characters_left s t = cond s.ended t (after_tokens (stands_for s.state ++ t))

@@ -40,7 +40,7 @@ stage_behind k = stage_past (fresh_stage nowhere) k
 -- It goes on, and stands where a fresh stage does that has read k, but for places and a comment; of
 -- k all is kept.
 pub record Keeps (s : TextStage) (k : List ℕ) : Type 0 where
-  pub goes_on : s.done ≡ false
+  pub goes_on : s.ended ≡ false
   pub reached : IsReached s
   pub alike : IsAlike s (stage_behind k)
   pub whole : kept_past (fresh_stage nowhere) k ≡ k
@@ -65,7 +65,7 @@ kept_with k c = kept_in (events_of_push (stage_behind k) c)
 
 -- a `(` after it ends the text, where no comment is open, and what is said with it
 unfoldable pub ends_after_it : List ℕ → Bool
-ends_after_it k = (push_stage (stage_behind k) 40).done
+ends_after_it k = (push_stage (stage_behind k) 40).ended
 
 unfoldable pub said_at_end : List ℕ → List TextEvent
 said_at_end k = said (events_of_push (stage_behind k) 40)
@@ -95,7 +95,7 @@ pub record EndsAfter (k : List ℕ) (events : List TextEvent) (after : TextStage
   pub kept : kept_in events ≡ []
   pub said : said events ≡ said_at_end k
   pub notes : EndsInNotes (said_at_end k)
-  pub over : after.done ≡ true
+  pub over : after.ended ≡ true
 
 -- what may be kept of a character: it, or a blank
 abbrev pub IsKeptOf : ℕ → ℕ → Type 0

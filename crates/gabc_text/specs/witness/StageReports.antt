@@ -9,7 +9,7 @@ use Rattle.gabc_text.specs.machine.StageReports.{is_open}
 
 -- it has emitted the end of its text
 abbrev pub has_ended : TextStage → Bool
-has_ended s = s.done
+has_ended s = s.ended
 
 -- the place of the next character
 abbrev pub next_of : TextStage → Place

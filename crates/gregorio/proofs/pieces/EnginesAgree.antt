@@ -28,7 +28,7 @@ use Rattle.gregorio.proofs.pieces.WritesAlike.{given_is_written_alike}
 
 -- the laws of the parts
 pub record PartsAgree : Type 0 where
-  pub decoders : (one other : DecoderState) → one.running ≡ true → other.running ≡ true → one.limit ≡ other.limit → IsPartial one.pending → ReportTheSame one other
+  pub decoders : (one other : DecoderState) → one.ended ≡ false → other.ended ≡ false → one.limit ≡ other.limit → IsPartial one.pending → ReportTheSame one other
       → (bytes : List ℕ) → decoder.events_left one bytes ≡ decoder.events_left other bytes
   pub heads : (one other : HeaderStageState) → one.limits ≡ other.limits → one.progress ≡ reading (text_held one.progress) → other.progress ≡ reading (text_held other.progress)
       → text_held one.progress ≡ text_held other.progress → (items : List (Result Char Fault)) → events_left one.limits one.progress items ≡ events_left other.limits other.progress items

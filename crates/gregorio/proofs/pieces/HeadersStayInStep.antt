@@ -160,8 +160,8 @@ module _ (limits : Limits) (old new : ScoreWriterState) (running : is_none new.w
 
 -- a fault leads out of the headers
 runs_on : (limits : Limits) (t : List ℕ) (item : Result Char Fault) (old new : ScoreWriterState) (d e : DecoderState) → HeadsYet old.score.limits old → PassesAll old (events_of_input limits (reading t) item) new
-    → is_none new.writer.written.ended ≡ true → MovesOn d (item ∷ []) e → IsNear d.place d.taken → (e.running ≡ d.running) × ((e.taken ≡ d.taken + 1) × IsNear e.place e.taken)
-runs_on limits t (Ok x) old new d e yet all running moves near = (moves.runs, (moves.taken, near_behind d e x moves near))
+    → is_none new.writer.written.ended ≡ true → MovesOn d (item ∷ []) e → IsNear d.place d.taken → (e.ended ≡ d.ended) × ((e.taken ≡ d.taken + 1) × IsNear e.place e.taken)
+runs_on limits t (Ok x) old new d e yet all running moves near = (moves.ended, (moves.taken, near_behind d e x moves near))
 runs_on limits t (Err fault) old new d e yet all running moves near = absurd (stops old.score.limits fault old new all yet running)
 
 module _ (d e : DecoderState) (h : HeaderStageState) (old new : ScoreWriterState) (unheaded : old.writer.written.headed ≡ false) (limits : new.score.limits ≡ old.score.limits) (item : Result Char Fault) (moves : MovesOn d (item ∷ []) e) where

@@ -1,5 +1,5 @@
 -- The end of an input, or the failure of its source, brings what was still to come.
-use Rattle.std.proofs.Common.{◌≡◌, ◌≤◌, ◌&&◌, ℕ, inr, Bool, true, false, if◌then◌else◌, List, [], ◌∷◌, ◌++◌, Option, Some, None, is_none, option_to_list, Result, Ok, Err, ap, sym, ◌∙◌, subst}
+use Rattle.std.proofs.Common.{◌≡◌, ◌≤◌, ◌&&◌, not, ℕ, inr, Bool, true, false, if◌then◌else◌, List, [], ◌∷◌, ◌++◌, Option, Some, None, is_none, option_to_list, Result, Ok, Err, ap, sym, ◌∙◌, subst}
 use Rattle.std.proofs.lemmas.Bool.{false≢true}
 use Rattle.gabc_places.specs.BoundedList.{BoundedList, extended_by}
 use Rattle.gabc_places.specs.StageLaw.{concat_of}
@@ -131,13 +131,13 @@ ends_items d h now w mid new how items law a e =
 
 -- at the end of the input it gives a fault or nothing
 pub no_character_at_end : (d : DecoderState) (item : Option (Result Char Fault)) → decoder.events_left d [] ≡ option_to_list item ∷ [] → IsNoCharacter (option_to_list item)
-no_character_at_end d item law = by (d.running && is_unfinished d.pending) item (ap first_items law)
+no_character_at_end d item law = by (not d.ended && is_unfinished d.pending) item (ap first_items law)
   where
     first_items : List (List (Result Char Fault)) → List (Result Char Fault)
     first_items [] = []
     first_items (items ∷ lists) = items
 
-    by : (b : Bool) (item : Option (Result Char Fault)) → (if b then decoder.stop_with F1 d else record { events = []; state = record d { running = false } }).events ≡ option_to_list item → IsNoCharacter (option_to_list item)
+    by : (b : Bool) (item : Option (Result Char Fault)) → (if b then decoder.stop_with F1 d else record { events = []; state = record d { ended = true } }).events ≡ option_to_list item → IsNoCharacter (option_to_list item)
     by b None e = tt
     by b (Some (Err fault)) e = tt
     by true (Some (Ok x)) e = absurd (cc e)

@@ -90,25 +90,25 @@ module _ (rest : DecoderState → List (Result Char Fault)) (later : GoesOnInLin
   pended bytes [] [] s h below = quiet bytes s h below
   pended bytes [] (b ∷ bs) s h below = wrong_or_part (utf8_error_len (b ∷ bs)) bytes s h below
 
-  byte : (running full : Bool) (bytes cs left : List ℕ) (s : DecoderState) → IsCounted s → (full ≡ false → s.taken + 1 ≤ s.limit)
-      → InLine s (if not running then record { events = []; state = s } else if full then stop_with F7 s else take_pending bytes cs (tail_at left) (with_byte s))
-  byte false full bytes cs left s h below = later s h
-  byte true true bytes cs left s h below = tt
-  byte true false bytes cs left s h below = pended bytes cs left s h (below refl)
+  byte : (ended full : Bool) (bytes cs left : List ℕ) (s : DecoderState) → IsCounted s → (full ≡ false → s.taken + 1 ≤ s.limit)
+      → InLine s (if ended then record { events = []; state = s } else if full then stop_with F7 s else take_pending bytes cs (tail_at left) (with_byte s))
+  byte true full bytes cs left s h below = later s h
+  byte false true bytes cs left s h below = tt
+  byte false false bytes cs left s h below = pended bytes cs left s h (below refl)
 
   taken_in_line : (x : ℕ) (s : DecoderState) → IsCounted s → InLine s (take_byte x s)
   taken_in_line x s h =
       let bytes = s.pending ++ x ∷ [] in
       let within = h.within in
-      subst (λ tail. InLine s (if not s.running then record { events = []; state = s } else if s.taken == s.limit then stop_with F7 s else take_pending bytes (utf8_prefix_of bytes) tail (with_byte s))) (sym (tail_is bytes))
-      (byte s.running (s.taken == s.limit) bytes (utf8_prefix_of bytes) (drop (utf8_valid_len bytes) bytes) s h (λ full. grind (arith, nat_tests, within, full)))
+      subst (λ tail. InLine s (if s.ended then record { events = []; state = s } else if s.taken == s.limit then stop_with F7 s else take_pending bytes (utf8_prefix_of bytes) tail (with_byte s))) (sym (tail_is bytes))
+      (byte s.ended (s.taken == s.limit) bytes (utf8_prefix_of bytes) (drop (utf8_valid_len bytes) bytes) s h (λ full. grind (arith, nat_tests, within, full)))
 
-end_by : (wrong : Bool) (s : DecoderState) → ItemsInLine s.place ((if wrong then stop_with F1 s else record { events = []; state = record s { running = false } }).events ++ [])
+end_by : (wrong : Bool) (s : DecoderState) → ItemsInLine s.place ((if wrong then stop_with F1 s else record { events = []; state = record s { ended = true } }).events ++ [])
 end_by true s = tt
 end_by false s = tt
 
 end_in_line : (s : DecoderState) → ItemsInLine s.place ((take_end s).events ++ [])
-end_in_line s = end_by (s.running && is_unfinished s.pending) s
+end_in_line s = end_by (not s.ended && is_unfinished s.pending) s
 
 all_in_line : (bytes : List ℕ) (s : DecoderState) → IsCounted s → ItemsInLine s.place (concat_of (decoded_left s bytes))
 all_in_line [] s h = end_in_line s

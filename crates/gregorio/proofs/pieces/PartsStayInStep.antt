@@ -100,7 +100,7 @@ module _ (d e : DecoderState) (h : HeaderStageState) (old : ScoreStageState) (w 
       let same = ap (λ (q : Preceding). q.syllables) before in
       let next : IsNear e.place e.taken = near_behind d e x moves (record { column = was.column; near = was.near }) in
       record {
-        runs = moves.runs ∙ was.runs;
+        runs = moves.ended ∙ was.runs;
         limit = moves.limit ∙ (was.limit ∙ ap (λ (l : Limits). l.input) (sym limits));
         parts = one_part h.progress new.score.part new.writer.written.headed still inside.behind_them body;
         none = λ un. absurd (false≢true (sym un ∙ still));
@@ -139,7 +139,7 @@ nothing_runs : (d e : DecoderState) (h : HeaderStageState) (s : ScoreStageState)
 nothing_runs d e h s w moves was =
     let more = moves.taken in
     record {
-      runs = moves.runs ∙ was.runs;
+      runs = moves.ended ∙ was.runs;
       limit = moves.limit ∙ was.limit;
       parts = was.parts;
       none = was.none;
@@ -166,7 +166,7 @@ pub fresh_in_step : (v : Written) (limits : Limits) (d : DecoderState) (h : Head
 fresh_in_step v limits d h s is_d is_h is_w is_limits heads = record {
   force = subst HasForce (sym is_w) (fresh_force v);
   runs = λ running. record {
-    runs = ap (λ (x : DecoderState). x.running) is_d;
+    runs = ap (λ (x : DecoderState). x.ended) is_d;
     limit = limit ∙ ap (λ (l : Limits). l.input) (sym is_limits);
     parts = subst (λ (x : HeaderStageState). AreInOnePart x.progress s.score.part s.writer.written.headed) (sym is_h) (record { in_part = heads; written_so = unheaded });
     none = λ un. ap (λ (w : Written). w.count) is_w;

@@ -60,7 +60,7 @@ pub record SkipsText (d : DecoderState) (text : List ℕ) (e : DecoderState) : T
   pub taken : e.taken ≡ d.taken + length text
   pub place : e.place ≡ place_past d.place (chars text)
   pub reached : IsReached e.place (length e.pending) e.taken
-  pub runs : e.running ≡ d.running
+  pub ended : e.ended ≡ d.ended
   pub cr : is_after_cr e ≡ false
 
 module _ (bytes more : List ℕ) (lists rest : List (List (Result Char Fault))) (items : List (Result Char Fault)) (one_each : length lists ≡ length bytes) (all : concat_of lists ≡ items) where
@@ -189,7 +189,7 @@ module _ (d e : DecoderState) (h : HeaderStageState) (w new : ScoreWriterState) 
       let taken = skips.taken in
       let limit = skips.limit in
       record {
-        runs = skips.runs ∙ was.runs;
+        runs = skips.ended ∙ was.runs;
         limit = skips.limit ∙ (was.limit ∙ ap (λ (l : Limits). l.input) (sym gives.limits));
         parts = one_part h.progress new.score.part new.writer.written.headed still_headed inside.behind_them (gives.part ∙ inside.body);
         none = λ un. absurd (false≢true (sym un ∙ still_headed));

@@ -116,8 +116,8 @@ same_heads one other limits part other_part from_heads =
 
 -- Two decoders run under one limit, and report the same.
 pub record AreDecodersAlike (one other : DecoderState) : Type 0 where
-  pub runs : one.running ≡ true
-  pub other_runs : other.running ≡ true
+  pub runs : one.ended ≡ false
+  pub other_runs : other.ended ≡ false
   pub limit : one.limit ≡ other.limit
   pub told : ReportTheSame one other
 

@@ -97,7 +97,7 @@ body_stays_telling h old new (Ok x) headed stay p = λ d e moves ran told runnin
       body = λ still within.
           body_told d e h old new x moves (ran on.before) within p headed still (stay.runs d e moves ran running) (t.body headed (were_within d e h old new x moves (ran on.before) within));
     }
-body_stays_telling h old new (Err fault) headed stay p = λ d e moves ran told running. absurd (false≢true (sym moves.runs ∙ (stay.runs d e moves ran running).runs))
+body_stays_telling h old new (Err fault) headed stay p = λ d e moves ran told running. absurd (false≢true (sym (stay.runs d e moves ran running).runs ∙ moves.ended))
 
 -- ---- no item
 
@@ -108,7 +108,7 @@ nothing_stays_telling h s = λ d e moves ran told running.
       line = subst (λ (p : Place). 1 ≤ p.line) (sym moves.place) was.line;
       body = λ headed within.
           let t = was.body headed (let more = moves.taken.0 in let limit = moves.limit in omega (arith, more, limit, within)) in
-          record { next = t.next ∙ sym moves.place; told = t.told; holds = t.holds; comment = λ cr. absurd (moves.cr (moves.runs ∙ (ran running).runs) cr) };
+          record { next = t.next ∙ sym moves.place; told = t.told; holds = t.holds; comment = λ cr. absurd (moves.cr (moves.ended ∙ (ran running).runs) cr) };
     }
 
 -- ---- the end of the headers

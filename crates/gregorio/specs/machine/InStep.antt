@@ -85,7 +85,7 @@ AreInOnePart over part headed = ⊥
 -- as stand before the one that is held, and no more are whole than bytes were taken. In the body a
 -- text has counted the place where the decoder stands.
 pub record RunsInStep (d : DecoderState) (h : HeaderStageState) (s : ScoreStageState) (w : Written) : Type 0 where
-  pub runs : d.running ≡ true
+  pub runs : d.ended ≡ false
   pub limit : d.limit ≡ s.limits.input
   pub parts : AreInOnePart h.progress s.part w.headed
   pub none : w.headed ≡ false → w.count ≡ 0

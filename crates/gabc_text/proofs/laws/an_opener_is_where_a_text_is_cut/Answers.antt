@@ -12,7 +12,7 @@ use Rattle.gabc_text.proofs.machine.FreshStageEmitsEventsByPoint.{fresh_emits}
 use Rattle.gabc_text.proofs.laws.an_opener_is_where_a_text_is_cut.Goals as goal
 
 behind : ((at : Place) (t : List ℕ) → CountsFit at t → events_left (fresh_stage at) t ≡ events_by_point at t)
-    → (at : Place) (t : List ℕ) (s : TextStage) (emitted : List (List TextEvent)) → CountsFit at t → s.done ≡ false → length emitted ≡ length t
+    → (at : Place) (t : List ℕ) (s : TextStage) (emitted : List (List TextEvent)) → CountsFit at t → s.ended ≡ false → length emitted ≡ length t
     → ((more : List ℕ) → events_left (fresh_stage at) (t ++ more) ≡ emitted ++ events_left s more)
     → opener_of s ≡ cut_place (concat_of (drop (length t) (events_by_point at t)))
 behind fresh at t s emitted fit running long law =

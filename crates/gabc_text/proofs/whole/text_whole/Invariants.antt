@@ -12,7 +12,7 @@ use Rattle.gabc_text.proofs.whole.text_whole.Given as goal
 abbrev pub invariant-loop-c : goal.invariant-loop-c
 invariant-loop-c l = record {
   utf8 : shadow (Utf8 l.rest);
-  running : l.stage.done ≡ false;
+  running : l.stage.ended ≡ false;
   events_same : with_events (built_text_of l.builder) (concat_of (stepwise l.stage (chars l.rest))) ≡ with_events empty_text (concat_of (stepwise (fresh_stage l.fn.at) (chars l.fn.body)));
   left : stepwise_left l.stage (chars l.rest) ≡ stepwise_left (fresh_stage l.fn.at) (chars l.fn.body);
   shorter : length l.rest ≤ length l.fn.body;

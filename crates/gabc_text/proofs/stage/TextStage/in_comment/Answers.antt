@@ -24,9 +24,9 @@ other Translation e = refl
 pub returns-in-Comment : goal.returns-in-Comment
 returns-in-Comment c =
     let s = c.args.self.now in
-    sym (comment_by s ∙ ap (λ (m : TokenState). cond s.done false (is_comment m)) c.in-Comment.is ∙ turned s.done ∙ ap (λ (b : Bool). not b) (sym c.is_done.ensures))
+    sym (comment_by s ∙ ap (λ (m : TokenState). cond s.ended false (is_comment m)) c.in-Comment.is ∙ turned s.ended ∙ ap (λ (b : Bool). not b) (sym c.is_done.ensures))
 
 pub returns-in_default : goal.returns-in_default
 returns-in_default c =
     let s = c.args.self.now in
-    sym (comment_by s ∙ ap (λ (b : Bool). cond s.done false b) (other s.state c.in_default.not-Comment) ∙ never s.done)
+    sym (comment_by s ∙ ap (λ (b : Bool). cond s.ended false b) (other s.state c.in_default.not-Comment) ∙ never s.ended)

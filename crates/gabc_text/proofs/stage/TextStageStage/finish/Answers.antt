@@ -19,7 +19,7 @@ pub returns-clause-pieces : goal.returns-clause-pieces
 returns-clause-pieces c = finish_is_paid c.args.self.now c.args.out.now c.stop.new.out c.stop.ensures.out
 
 pub returns-clause-done : goal.returns-clause-done
-returns-clause-done c = ap (λ (x : TextStage). x.done) c.stop.ensures.stage ∙ is_done c.args.self.now
+returns-clause-done c = ap (λ (x : TextStage). x.ended) c.stop.ensures.stage ∙ is_done c.args.self.now
 
 pub returns-clause-stays : goal.returns-clause-stays
 returns-clause-stays c = finish_stays c.args.self.now c.stop.new.self c.stop.ensures.stage

@@ -63,7 +63,7 @@ skips c =
           ∙ (ap (λ (bytes : List ℕ). place_past c.place.result (chars bytes)) (sym (text_is c))
           ∙ ap (λ (at : Place). place_past at (chars text)) c.place.ensures.place));
       reached = subst (λ (at : Place). IsReached at (length e.pending) e.taken) (sym c.skip_text.ensures.place) c.skip_text.ensures.reached;
-      runs = c.skip_text.ensures.runs;
+      ended = c.skip_text.ensures.ended;
       cr = c.skip_text.ensures.cr;
     }
 
