@@ -182,9 +182,9 @@ pub struct NabcStage {
 
 impl NabcStage {
     /// Returns a stage before the first character of a snippet. It has kept the empty text, and no
-    /// comment is open. A call emits at most 3 events: of a character that it is kept, and what is
-    /// found there; of the mark that ends the snippet what is found, and the end; and after it
-    /// nothing.
+    /// comment is open. A call emits at most 3 events: of a character that it is kept, if it is,
+    /// and what is found there; of the mark that ends the snippet what is found, and the end; where
+    /// the characters end before it, that they were cut; and after the end nothing.
     pub fn new() -> NabcStage
         ensures events { (xs : List Char) → AreNabcEvents xs (events_left result xs) }
         ensures keeps { Keeps result [] }

@@ -278,8 +278,9 @@ impl NoteStage {
     /// Returns a stage before the first character of a snippet. With `split` a `|` ends the snippet
     /// too. The bit `d` of `macros`, from 0 to 9, says that the macro of the digit `d` is defined.
     /// It has kept the empty text, and no bracket and no comment is open. A call emits at most 3
-    /// events: of a character that it is kept, and what is found there; of the mark that ends the
-    /// snippet what is found, and the end; and after it nothing.
+    /// events: of a character that it is kept, if it is, and what is found there; of the mark that
+    /// ends the snippet what is found, and the end; where the characters end before it, that they
+    /// were cut; and after the end nothing.
     pub fn new(split: bool, macros: u16) -> NoteStage
         ensures events { (xs : List Char) →
             AreNoteEvents split macros xs (events_left result xs) }

@@ -21,7 +21,7 @@ use std::hash::DefaultHasher;
 /// Reads the score of `text`, whose input ended as `ending` says, under `limits` (GregorioRef,
 /// "Headers" and "Syllable Text Syntax"). Returns the book of its headers, if they are whole; its
 /// whole syllables, each with its text, kept text, snippets, position and flags; what was found;
-/// and the fault, the earliest that a rule gives. What has its point at the fault is hidden.
+/// and the fault, the earliest that a rule gives. What has its point at the stop is hidden.
 /// `gabc_places::text_of` gives the text, and the fault of an `InputEnding::At`. It fails only for
 /// want of memory. The names of headers are hashed with a fixed key: where strangers write the text
 /// and `limits.header` is large, take `score_whole_with_hasher`.
