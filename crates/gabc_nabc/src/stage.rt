@@ -184,7 +184,8 @@ impl NabcStage {
     /// Returns a stage before the first character of a snippet. It has kept the empty text, and no
     /// comment is open. A call emits at most 3 events: of a character that it is kept, if it is,
     /// and what is found there; of the mark that ends the snippet what is found, and the end; where
-    /// the characters end before it, that they were cut; and after the end nothing.
+    /// the characters end before it, that they were cut. After the end nothing is emitted, and the
+    /// stage stays as it is.
     pub fn new() -> NabcStage
         ensures events { (xs : List Char) → AreNabcEvents xs (events_left result xs) }
         ensures keeps { Keeps result [] }

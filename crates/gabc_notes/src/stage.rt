@@ -280,7 +280,7 @@ impl NoteStage {
     /// It has kept the empty text, and no bracket and no comment is open. A call emits at most 3
     /// events: of a character that it is kept, if it is, and what is found there; of the mark that
     /// ends the snippet what is found, and the end; where the characters end before it, that they
-    /// were cut; and after the end nothing.
+    /// were cut. After the end nothing is emitted, and the stage stays as it is.
     pub fn new(split: bool, macros: u16) -> NoteStage
         ensures events { (xs : List Char) →
             AreNoteEvents split macros xs (events_left result xs) }

@@ -51,7 +51,8 @@ fn is_cut(how: TextEnd) -> bool
 impl TextStage {
     /// Returns a machine that has read nothing. The first character stands at `at`. Spans that it
     /// emits count bytes of the kept text, a centre counts pieces. Each count saturates. It has
-    /// kept the empty text. A call emits at most 8 events.
+    /// kept the empty text. A call emits at most 8 events. After the end `push` and `finish` emit
+    /// nothing, and leave the machine as it is.
     pub fn new(at: Place) -> TextStage
         ensures fresh { result ≡ fresh_stage at }
         ensures keeps { Keeps result [] }
