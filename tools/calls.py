@@ -6,7 +6,6 @@ import textwrap
 from contracts import ROOT, read
 
 PAGE = os.path.join(ROOT, "docs", "CALLS.md")
-NOTES = os.path.join(ROOT, "tools", "notes_on_calls.md")
 WIDTH = 150
 HEAD = """# The public calls
 
@@ -50,14 +49,8 @@ def entry_of(function):
     return paragraph(words, "- ", "  ")
 
 
-def notes_of(crate, notes):
-    """What is written by hand on calls of this crate."""
-    found = re.search(rf"(?ms)^## {crate}\n(.*?)(?=^## |\Z)", notes)
-    return found[1].strip() if found else ""
-
-
-def section_of(repository, crate, notes):
-    """The part of a crate: its calls, then its laws by module, then what is written by hand."""
+def section_of(repository, crate):
+    """The part of a crate: its calls, then its laws by module."""
     calls, laws = [], {}
     for source in repository.sources[crate]:
         module = "::".join(repository.public_modules(source))
@@ -68,11 +61,9 @@ def section_of(repository, crate, notes):
     parts = [f"## `{crate}`", paragraph(comment_of(root), "", "")]
     parts += ["\n".join(calls)] if calls else []
     parts += [f"Laws, and what stands with them, in `{module}`:\n\n" + "\n".join(found) for module, found in sorted(laws.items())]
-    more = notes_of(crate, notes)
-    return "\n\n".join([*parts, *([f"What the comments leave out:\n\n{more}"] if more else [])])
+    return "\n\n".join(parts)
 
 
 def page_of(repository):
     """The whole page."""
-    notes = read(NOTES)
-    return "\n".join([HEAD, *(section_of(repository, it, notes) + "\n" for it in crates_in_order(repository))])
+    return "\n".join([HEAD, *(section_of(repository, it) + "\n" for it in crates_in_order(repository))])

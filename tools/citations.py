@@ -214,7 +214,7 @@ class Citations:
 
     def cited_on_pages(self) -> Iterator[Declaration]:
         """The definitions whose names stand in backticks on a page."""
-        pages = [os.path.join(ROOT, it) for it in ("README.md", "CONTRIBUTING.md", "tools/notes_on_calls.md")]
+        pages = [os.path.join(ROOT, it) for it in ("README.md", "CONTRIBUTING.md")]
         for path in [*files_below(os.path.join(ROOT, "docs"), ".md"), *pages]:
             yield from (it for name in quoted_in(read(path)) for it in self.definitions.get(name, []))
 

@@ -66,9 +66,10 @@ impl<'a> Iterator for CodeReader<'a> {
     }
 }
 
-/// Returns an iterator over the codes of the glyphs of `part`, in order: what stands at its start
-/// and after each `!`. A space has none. The span of `part` has to lie within `kept`, as that of
-/// each part of `parts_in` does. It asks for no memory.
+/// Returns an iterator over the codes of the glyphs of `part`, in order: the two letters at its
+/// start and after each `!`. A space has none. They are at most as many as `part` has bytes. The
+/// span of `part` has to lie within `kept`, as that of each part of `parts_in` does. It asks for no
+/// memory.
 pub fn codes_in(kept: &str, part: Descriptor) -> CodeReader<'_>
     requires order { part.span.from ≤ part.span.to }
     requires within { part.span.to ≤ length kept.now }
@@ -82,8 +83,9 @@ pub fn codes_in(kept: &str, part: Descriptor) -> CodeReader<'_>
     CodeReader { text, at: 1 }
 }
 
-/// Adds to `out` the codes of the glyphs of `part`, as `codes_in` gives them. The span of `part`
-/// has to lie within `kept`, and `out` to take as many codes more as `part` has bytes.
+/// Adds to `out` the codes of the glyphs of `part`, as `codes_in` gives them, and asks for no
+/// memory. The span of `part` has to lie within `kept`, and `out` to take as many codes more as
+/// `part` has bytes.
 pub fn codes_into(kept: &str, part: Descriptor, out: &mut Room<GlyphCode>)
     requires order { part.span.from ≤ part.span.to }
     requires within { part.span.to ≤ length kept.now }

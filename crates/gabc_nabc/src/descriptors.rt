@@ -81,7 +81,8 @@ impl<'a> Iterator for PartReader<'a> {
 /// Returns an iterator over the descriptors and spaces of `kept`, in order: spans that count its
 /// bytes, each part the longest that begins where the one before it ends. They are all of an NABC
 /// snippet, such as what `nabc_whole` keeps wherever the snippet ended; another text is read as far
-/// as a part begins. It asks for no memory, and each part is read when it is asked for.
+/// as a part begins. They lie in `kept`, and are at most as many as its bytes. It asks for no
+/// memory, and each part is read when it is asked for.
 pub fn parts_in(kept: &str) -> PartReader<'_>
     ensures parts { result ≡ parts_of kept.now }
     ensures within { AreWithin kept.now (parts_of kept.now) }

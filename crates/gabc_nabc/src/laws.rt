@@ -121,8 +121,8 @@ pub fn the_kept_text_is_emitted()
         kept_in (concat_of (nabc_events xs)) ≡ kept_of (before_end (map (λ x. x.c) xs)) }
 {}
 
-/// Law: one end is emitted, with the bytes of the kept text: at most those of the characters that
-/// are emitted as kept.
+/// Law: one end is emitted, with the bytes of the kept text, without an unfinished end unless the
+/// snippet is cut: at most those of the characters that are emitted as kept.
 pub fn one_end_is_emitted()
     ensures end { (xs : List Char) → (let t = map (λ x. x.c) xs in
         ends_of (concat_of (nabc_events xs))
@@ -187,7 +187,10 @@ pub fn stages_after_one_text_agree()
         (xs : List Char) → events_left one xs ≡ events_left other xs }
 {}
 
-/// Law: a stage takes each character, and a fresh one keeps nothing yet.
+/// Law: a stage takes each character: it emits some events, and from then on what follows them. The
+/// kept text, and whether a comment is open, decide whether the character is kept or ends the
+/// snippet, how many bytes the end reports, and whether a comment is open then. A fresh stage keeps
+/// nothing yet.
 pub fn a_stage_takes_each_character()
     ensures fresh { Begins }
     ensures takes { (s : NabcStage) (x : Char) → Takes s x }

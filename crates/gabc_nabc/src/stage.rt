@@ -165,7 +165,8 @@ fn emit(events: NabcEvents, out: &mut Room<NoteEvent>)
 }
 
 /// Reads an NABC snippet (GregorioRef, the NABC reference): emits each character that is kept, the
-/// findings as they become known, and the end. It asks for no memory.
+/// findings as they become known, and the end. A call emits at most 3 events. It asks for no
+/// memory. The call that ends it changes nothing else of it, and after that none changes it.
 #[derive(Drop)]
 pub struct NabcStage {
     state: DescriptorState,
@@ -180,7 +181,11 @@ pub struct NabcStage {
 }
 
 impl NabcStage {
-    /// Returns a stage before the first character of a snippet.
+    /// Returns a stage before the first character of a snippet. It has kept the empty text, and no
+    /// comment is open. A call emits at most 3 events: of a character that it is kept, if it is,
+    /// and what is found there; of the mark that ends the snippet what is found, and the end; where
+    /// the characters end before it, that they were cut. After the end nothing is emitted, and the
+    /// stage stays as it is.
     pub fn new() -> NabcStage
         ensures events { (xs : List Char) → AreNabcEvents xs (events_left result xs) }
         ensures keeps { Keeps result [] }
@@ -223,7 +228,7 @@ impl NabcStage {
         }
     }
 
-    /// Returns whether a comment is open.
+    /// Returns whether a comment is open. The end of the stage leaves it as it was.
     pub fn in_comment(&self) -> bool
         ensures { result ≡ comment_of self.now }
     {

@@ -121,7 +121,8 @@ impl NabcBuilder {
     }
 }
 
-/// Reads the NABC snippet with which `body` begins, up to its `)` or `|`, or the end of `body`. The
+/// Reads the NABC snippet with which `body` begins, up to its `)` or `|`, or the end of `body`.
+/// Returns the kept text, the findings in order, and the end with the byte where it stands. The
 /// first character of `body` stands at `at`, a line and a column from 1, as `gabc_places` counts
 /// them in a `Text`. Each number of `at` and the bytes of `body` together have to be below 2^64. It
 /// fails only for want of memory.

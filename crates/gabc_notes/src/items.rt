@@ -126,7 +126,8 @@ impl<'a> Model for ItemReader<'a> {
 }
 
 impl<'a> ItemReader<'a> {
-    /// Returns an iterator over the same items, to look ahead.
+    /// Returns an iterator over the items that are still to come, to look ahead. It takes none of
+    /// them, and asks for no memory.
     pub fn ahead(&self) -> ItemReader<'a>
         ensures { result ≡ self.now }
     {
@@ -162,8 +163,8 @@ impl<'a> Iterator for ItemReader<'a> {
 /// Returns an iterator over the items of `kept`, in order: spans that count its bytes, each item
 /// the longest that begins where the one before it ends. They make up all of a snippet, as
 /// `is_snippet` says so; what `snippet_whole` keeps is one wherever the snippet ended. Of another
-/// text they go as far as an item begins. It asks for no memory, and each item is read when it is
-/// asked for.
+/// text they go as far as an item begins. They lie in `kept`, and are at most as many as its bytes.
+/// It asks for no memory, and each item is read when it is asked for.
 pub fn items_in(kept: &str) -> ItemReader<'_>
     ensures items { result ≡ items_of kept.now }
     ensures within { AreWithin kept.now (items_of kept.now) }

@@ -141,8 +141,8 @@ pub fn the_kept_text_is_emitted()
         kept_of (concat_of (note_events split macros xs)) ≡ kept (stop_after split [] xs).back }
 {}
 
-/// Law: one end is emitted, with the bytes of the kept text: at most those of the characters that
-/// are emitted as kept.
+/// Law: one end is emitted, with the bytes of the kept text, without an unfinished end unless the
+/// snippet is cut: at most those of the characters that are emitted as kept.
 pub fn one_end_is_emitted()
     ensures end { (split : Bool) (macros : ℕ) (xs : List Char) → (let s = stop_after split [] xs in
         ends_of (concat_of (note_events split macros xs))
@@ -228,8 +228,11 @@ pub fn a_kept_character_is_kept_again()
         Keeps split macros s (k ++ c ∷ more) → IsKeptAgain split k c }
 {}
 
-/// Law: a stage that has not ended takes each character, and is cut at its opener. A fresh one
-/// keeps nothing yet.
+/// Law: a stage that has not ended takes each character: it emits some events, and from then on
+/// what follows them. The kept text, and what it reports of an opener and a comment, decide whether
+/// the character is kept, begins a comment or ends the snippet, how many bytes the end reports, and
+/// what the stage reports then. A `%` that is not kept opens a comment. Where the characters end,
+/// the stage is cut at its opener. A fresh one keeps nothing yet.
 pub fn a_stage_takes_each_character()
     ensures fresh { (split : Bool) (macros : ℕ) → Begins split macros }
     ensures takes { (s : NoteStage) (x : Char) → s.ended ≡ false → Takes s x }

@@ -197,9 +197,10 @@ fn height_and_shape_read(text: &[u8]) -> (u8, Shape)
     }
 }
 
-/// Returns the note that `item` is, by its bytes in `kept`: `None` unless its kind is
-/// `ItemKind::Note` (GregorioRef, "One-Note Neumes"). The span of `item` has to lie within `kept`,
-/// as that of each item of `items_whole` does.
+/// Returns the note that `item` is, with its height, its shape and whether it is an initio debilis,
+/// by its bytes in `kept`: `None` unless its kind is `ItemKind::Note` (GregorioRef, "One-Note
+/// Neumes"). The span of `item` has to lie within `kept`, as that of each item of `items_whole`
+/// does.
 pub fn note_of(kept: &str, item: Item) -> Option<Note>
     requires { (item.span.from ≤ item.span.to) × (item.span.to ≤ length kept.now) }
     ensures { result ≡ note_in kept.now item }

@@ -201,9 +201,10 @@ fn regular_after_front(text: &str, front: usize) -> usize
     regular
 }
 
-/// Returns how many bytes of `text` its longest prefix has that is a regular snippet: before
-/// the `)` or `|` that ends it, each of its characters is kept and nothing is found, whatever
-/// macros are defined (GregorioRef, "Notation — Note Syntax"). The empty one is such a prefix.
+/// Returns how many bytes of `text` its longest prefix has that is a regular snippet: before the
+/// `)` or `|` that ends it, each of its characters is kept and nothing is found, whatever macros
+/// are defined (GregorioRef, "Notation — Note Syntax"). The empty one is such a prefix. It asks for
+/// no memory.
 #[inline(always)]
 pub fn regular_notes(text: &str) -> usize
     ensures { IsLongestPrefix IsRegular text.now result }

@@ -262,7 +262,8 @@ fn prefix_after(facts: CharFacts, name: MacroPrefix, c: char) -> MacroPrefix
 }
 
 /// Reads a snippet (GregorioRef, "Notation — Note Syntax"): emits each character that is kept, the
-/// findings as they become known, and the end. It asks for no memory.
+/// findings as they become known, and the end. A call emits at most 3 events. It asks for no
+/// memory. The call that ends it changes nothing else of it, and after that none changes it.
 #[derive(Drop)]
 pub struct NoteStage {
     split: bool,
@@ -276,6 +277,10 @@ pub struct NoteStage {
 impl NoteStage {
     /// Returns a stage before the first character of a snippet. With `split` a `|` ends the snippet
     /// too. The bit `d` of `macros`, from 0 to 9, says that the macro of the digit `d` is defined.
+    /// It has kept the empty text, and no bracket and no comment is open. A call emits at most 3
+    /// events: of a character that it is kept, if it is, and what is found there; of the mark that
+    /// ends the snippet what is found, and the end; where the characters end before it, that they
+    /// were cut. After the end nothing is emitted, and the stage stays as it is.
     pub fn new(split: bool, macros: u16) -> NoteStage
         ensures events { (xs : List Char) →
             AreNoteEvents split macros xs (events_left result xs) }
@@ -373,7 +378,8 @@ impl NoteStage {
         self.ended = true;
     }
 
-    /// Returns the place of the `[` that is open: inside raw one is.
+    /// Returns the place of the `[` that is open: inside raw one is. The end of the stage leaves it
+    /// as it was.
     pub fn opener(&self) -> Option<Place>
         ensures { result ≡ opener_of self.now }
     {
@@ -384,7 +390,7 @@ impl NoteStage {
         }
     }
 
-    /// Returns whether a comment is open.
+    /// Returns whether a comment is open. The end of the stage leaves it as it was.
     pub fn in_comment(&self) -> bool
         ensures { result ≡ comment_of self.now }
     {

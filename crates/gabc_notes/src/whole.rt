@@ -107,7 +107,9 @@ impl SnippetBuilder {
 }
 
 /// Reads the snippet of notes with which `body` begins, up to the mark that ends it or the end of
-/// `body` (GregorioRef, "Notation — Note Syntax"). Each number of `at` and the bytes of `body`
+/// `body` (GregorioRef, "Notation — Note Syntax"). Returns the kept text, without an unfinished end
+/// unless the snippet is cut; the findings; and the end, with the byte of its mark, or the place of
+/// the `[` that is open where it is cut, if one is. Each number of `at` and the bytes of `body`
 /// together have to be below 2^64. The first character of `body` stands at `at`, a line and a
 /// column from 1, as `gabc_places` counts them in a `Text`. With `split` a `|` ends the snippet
 /// too. The bit `d` of `macros`, from 0 to 9, says that the macro of the digit `d` is defined. It

@@ -104,7 +104,9 @@ impl BodyStage {
     /// Returns a stage before the first character of a body, after the `%%` of the headers.
     /// `nabc_lines` is the number of NABC lines under each GABC snippet, and the bit `d` of
     /// `macros` says that the macro of the digit `d` is defined. It emits what the definition says
-    /// of each body in which no count reaches its last value. Its rooms lie in `memory`.
+    /// of each body in which no count reaches its last value: what its texts, notes and NABC emit,
+    /// one part after the other, each read from where it begins. A call emits at most 8 events. Its
+    /// rooms lie in `memory`; once made it asks for none.
     pub fn new(memory: &Memory, nabc_lines: u8, macros: u16) -> Result<BodyStage, AllocError>
         ensures run { IfOk result (λ stage. (xs : List Char) →
             events_left stage xs ≡ events_from texts_by_stage nabc_lines macros InComment xs) }

@@ -44,7 +44,10 @@ pub fn what_is_reported_is_kept_again()
 }
 
 /// Law: a text that is kept again where it is read by itself, no longer than a syllable may be, is
-/// what some stage reports of the syllable that it reads.
+/// what some stage reports of the syllable that it reads, wherever its openers are said to stand.
+/// It is kept again where each of its characters is kept, no syllable is whole, and what is open
+/// after it is reported: the `(` of notes, an inner opener, and a comment only where a `%` after it
+/// is not kept.
 pub fn what_is_kept_again_is_reported()
     ensures { (limits : Limits) (lines macros : ℕ) (t : List ℕ) (openers : Openers)
         (comment : Bool) → IsKeptAgain lines macros t openers comment →

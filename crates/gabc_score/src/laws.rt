@@ -41,8 +41,9 @@ ghost use Rattle.gabc_headers.specs.HeadEvents.{emitted_by, inputs_after};
 ghost use Rattle.gabc_headers.specs.witness.HeadEvents.{events_left, reading};
 ghost use Rattle.gabc_places.specs.StageLaw.{concat_of};
 
-/// Law: each body has one cutting into a comment, units and what stands after the last `)`, however
-/// its texts are read.
+/// Law: each body has one cutting into a comment without an LF, units and what stands after the
+/// last `)`, however its texts are read: a text, or a text with its `(` and notes that never end.
+/// Each part ends at the first character whose list, read from where the part begins, has its end.
 pub fn a_body_has_one_cutting()
     ensures one { (texts : Texts) (lines macros : ℕ) (xs : List Char) → (cut : BodyCutting) ×
         IsCut texts lines macros xs cut }
@@ -51,7 +52,8 @@ pub fn a_body_has_one_cutting()
         IsCut texts lines macros xs other → cut ≡ other }
 {}
 
-/// Law: a body emits a list for each character, and one for its end.
+/// Law: a body emits a list for each character, and one for its end. The point of what is emitted
+/// is the index of its list.
 pub fn a_body_has_events_for_each_character()
     ensures { (lines macros : ℕ) (xs : List Char) →
         length (body_events lines macros xs) ≡ length xs + 1 }
@@ -79,8 +81,8 @@ pub fn units_end_at_their_marks()
     gabc_nabc::laws::a_snippet_ends_at_its_mark();
 }
 
-/// Law: the findings of a score are sorted: by their places, those of one place by their codes, and
-/// none stands twice.
+/// Law: the findings of a score of fewer than 2^63 characters are sorted: by their places, those of
+/// one place by their codes, and none stands twice.
 pub fn findings_in_order()
     ensures { (limits : Limits) (ending : InputEnding) (t : List ℕ) → length t < 2 ^ 63 →
         AreInOrder (score_of limits ending t).findings }
@@ -108,9 +110,13 @@ pub fn the_stop_is_the_first_point()
         NeverStops limits head [] xs lists r ⊎ StopsAt limits head [] xs lists r) }
 {}
 
-/// Law: each syllable of a score holds its parts: its view is that of a text, its kept text is that
-/// of this text and of its notes, and the spans of its view and its snippets stand for parts of it.
-/// Only the last may have no notes. A span that stands for a part of a text has that part's bytes.
+/// Law: each syllable of a score holds its parts. The characters of its text and notes stand in the
+/// input, and its view is that of this text. Its kept text is that of the text and, from `(` to `)`
+/// with `|` between them, those of its snippets; the spans of its view and its snippets stand for
+/// parts of it. Each snippet has the line whose turn it is, and its kept text is a snippet of that
+/// line. Only the last syllable may have no notes: then nothing more is kept, and its one snippet
+/// is empty. A span that stands for a part of a text has that part's bytes. The input has fewer
+/// than 2^63 bytes.
 pub fn a_syllable_holds_its_parts()
     ensures held { (limits : Limits) (ending : InputEnding) (t : List ℕ) →
         length (encode_utf8_all t) < 2 ^ 63 →
@@ -175,8 +181,12 @@ pub fn no_limit_is_passed_at_an_open_end()
 
 /// Law: the syllables of a score are those of the units of its body: of a whole score there are as
 /// many, and the syllable at a place is that of the unit at this place. Of a stopped score they are
-/// those of the units whose `)` stands before the stop. A body is its comment and the characters of
-/// its units, one after the other.
+/// those of the units whose `)` stands before the stop. Such a syllable has the view of the unit's
+/// text, and its snippets are read from those of the unit, one after the other. Its flags come of
+/// the last `<eu>`, `</eu>`, `<nlba>` and `</nlba>` in the texts of the units through its own, and
+/// its position of the units that begin words, the end counting as one. A last text is a unit only
+/// if it says something. A body is its comment and the characters of its units, one after the
+/// other.
 pub fn the_syllables_are_those_of_the_units()
     ensures characters { (texts : Texts) (lines macros : ℕ) (xs : List Char) (cut : BodyCutting)
         → IsCut texts lines macros xs cut → xs ≡ cut.comment ++ unit_characters cut.units }

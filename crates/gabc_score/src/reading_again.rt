@@ -112,12 +112,15 @@ impl ScoreMachine {
 
 impl ScoreStage {
     /// Reads `kept` again, the kept text of a syllable that is not whole. The stage stands before
-    /// this syllable, of which nothing is read. After the text this is open at `openers`, a comment
-    /// is open if `in_comment`, and the next character stands at `next`. Nothing is given, and what
-    /// is found is left out. Returns whether no syllable became whole and no limit was passed.
-    /// Where one was, the stage has come to its end. From then on it reports what any stage reports
-    /// that has read this syllable so, after the same and under the same limits. Outside the body
-    /// it changes nothing and returns `false`.
+    /// this syllable, of which nothing is read, and in no comment. After the text this is open at
+    /// `openers`, a comment is open if `in_comment`, and the next character stands at `next`.
+    /// Nothing is given, and what is found is left out. Returns whether no syllable became whole
+    /// and no limit was passed. Then what stands before and what is held are what they were; else
+    /// the stage has come to its end. If some stage past the comment in front, after the same and
+    /// under the same limits, reports this of the syllable that it reads, then the answer is
+    /// `true`, and this stage reports the same. What it reports stays that of a text, if `kept` is
+    /// one of an input and what is open stands in its order before `next`. Outside the body it
+    /// changes nothing and returns `false`.
     pub fn read_again(
         &mut self,
         kept: &str,

@@ -17,7 +17,9 @@ ghost use Rattle.gabc_score.specs.SyllablesOfUnits.{characters_in};
 
 /// Law: a regular syllable is read as it stands, wherever it begins, whatever macros are defined
 /// and whatever follows: each of its characters has its list of events, nothing is found in it, and
-/// the next text begins after its `)`. Its characters are those of its unit.
+/// the next text begins after its `)`. It is blanks and comments or none, a regular text, and
+/// regular snippets, each of the line whose turn it is; where there are no NABC lines it has one
+/// snippet. Its characters are those of its unit.
 pub fn a_regular_syllable_is_read_as_it_stands()
     ensures characters { (at : Place) (r : SyllableParts) →
         characters_in (unit_at at r) ≡ placed_characters_from at (spelled r) }

@@ -204,10 +204,10 @@ impl ScoreMachine {
 impl ScoreStage {
     /// Returns a stage in the body that stands after the syllables that `before` reports, and
     /// reserves the memory that it ever takes, as `in_memory` does. It holds no syllable, and the
-    /// next character is the first of a text. `before` is what another stage under the same limits
-    /// reported of what stands before the syllable that it held: where no syllable does, no span is
-    /// open and nothing has sounded. `go_to` says where the next character stands. It fails only
-    /// for want of memory.
+    /// next character is the first of a text, at 1:1 until `go_to` says otherwise. `before` is what
+    /// another stage under the same limits reported of what stands before the syllable that it
+    /// held: where no syllable does, no span is open and nothing has sounded. It fails only for
+    /// want of memory.
     pub fn resume(memory: &Memory, limits: Limits, before: Before) -> Result<ScoreStage, AllocError>
         requires { IsAtOutset (preceding_of before) }
         ensures { IfOk result (λ stage. IsAfterSyllables limits before stage) }
@@ -218,10 +218,12 @@ impl ScoreStage {
     }
 
     /// Reads `text`, less than 2^63 bytes, as one syllable, which is held from then on, and begins
-    /// to read the next text. Returns whether it is one: whole with its last character and not
-    /// before, with which no limit is passed and in which no error is found. Where it is none, the
-    /// stage has come to its end. `room` is empty, and has room for 16 events; nothing stands in it
-    /// afterwards.
+    /// to read the next text. The stage has to begin a text at 1:1 and to hold no syllable. Returns
+    /// whether `text` is one syllable: whole with its last character and not before, with which no
+    /// limit is passed and in which no error is found. The spans that are open before it count, and
+    /// the stage stands after the same as before. Where `text` is no syllable, the stage has come
+    /// to its end. Where it is one of an input, what the stage reports stays that of a text. `room`
+    /// is empty, and has room for 16 events; nothing stands in it afterwards.
     pub fn hold_again(&mut self, text: &str, room: &mut Room<ScoreEvent>) -> bool
         requires begins { BeginsText self.old }
         requires none { held_of self.old ≡ None }

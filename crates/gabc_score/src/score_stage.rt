@@ -30,8 +30,8 @@ use std::alloc::{AllocError, Global};
 use std::marker::Model;
 
 /// Reads a score from what a stage of headers emits: what is found, each whole syllable with its
-/// position, and what stops the reading (GregorioRef, "Syllable Text Syntax"). It asks for no
-/// memory once made.
+/// position, and what stops the reading (GregorioRef, "Syllable Text Syntax"). A call gives at most
+/// 16 events. It asks for no memory once made.
 #[derive(Drop)]
 pub struct ScoreStage {
     pub(crate) machine: ScoreMachine,
@@ -51,7 +51,12 @@ impl Model for ScoreStage {
 impl ScoreStage {
     /// Returns a stage before the first event of the headers, and reserves the memory that it ever
     /// takes: for two syllables of `limits.syllable` bytes. It gives what the definition says of
-    /// all events of which no count reaches its last value. It fails only for want of memory.
+    /// all events of which no count reaches its last value. A call gives at most 16 events, and
+    /// lends at most two syllables, at a character or a stop one; those after the first have no
+    /// notes, but one empty snippet. Their kept texts are within the limits, and so are their
+    /// canonical texts, but for the LF before them. A finding of the headers is passed on by
+    /// itself, until a stop or the end has come. After an LF of the body no comment is open. It
+    /// fails only for want of memory.
     pub fn with_limits(alloc: Global, limits: Limits) -> Result<ScoreStage, AllocError>
         ensures outputs { IfOk result (λ stage. (xs : List HeadEvent) → AreCountsBelow xs →
             left_of stage xs ≡ score_outputs texts_by_stage limits xs) }
@@ -121,7 +126,7 @@ impl ScoreStage {
         self.machine.take_run(at, text, room, out)
     }
 
-    /// Returns how much it keeps.
+    /// Returns the limits under which it was made.
     pub fn limits(&self) -> Limits
         ensures { result ≡ self.now.limits }
     {
@@ -129,7 +134,10 @@ impl ScoreStage {
     }
 
     /// Returns what stands before the syllable that is held, or before the one that is read where
-    /// none is held. Before the headers are whole, and after the last event, it returns `None`.
+    /// none is held: the numbers that the headers gave, and of the syllables before how many they
+    /// are, how many bytes they and the canonical headers have, which spans are open after them,
+    /// and whether one of them has a note or a clef in GABC. Before the headers are whole, and
+    /// after the last event, it returns `None`.
     pub fn before(&self) -> Option<Before>
         ensures { result ≡ before_of self.now }
     {
@@ -157,7 +165,8 @@ impl ScoreStage {
         self.machine.reading()
     }
 
-    /// Returns the places of what is open. Outside the body it returns `None`.
+    /// Returns the places of what is open: of the `(` of notes, and of a `<` or `[` inside. Outside
+    /// the body it returns `None`.
     pub fn openers(&self) -> Option<Openers>
         ensures { result ≡ in_body self.now.part (openers_of self.now.body.part) }
     {
@@ -177,7 +186,9 @@ impl ScoreStage {
         }
     }
 
-    /// Returns the place of the next character. Outside the body it returns `None`.
+    /// Returns the place of the next character: after the last one that was pushed, or where
+    /// `go_to` put it. A text that is read has counted this place as long as each character stands
+    /// where the one before it ends. Outside the body it returns `None`.
     pub fn next(&self) -> Option<Place>
         ensures { result ≡ next_of self.now }
     {

@@ -67,7 +67,12 @@ pub fn a_fresh_stage_emits(
     Ok(())
 }
 
-/// Law: what an input gives: the next outputs, as events, and the stage lends their syllables.
+/// Law: what an input gives: the next outputs, as events, and the stage lends their syllables. What
+/// the stage reports stays that of a text, if the input may come of one and a text that is read has
+/// counted the place of the next character. An input may come of a text if the numbers of the
+/// headers are in range, and if a character stands where the next one does, at a place whose
+/// numbers have not reached their last value, and is no CR and no U+FEFF. Whatever comes in, none
+/// is held only where no syllable was given, if that was so before.
 pub fn an_input_is_taken(stage: &mut ScoreStage, input: HeadEvent, out: &mut Room<ScoreEvent>)
     requires { Fits out.old 16 }
     ensures { GivesAt stage.old input stage.new out.old out.new }
@@ -99,10 +104,11 @@ pub fn a_stage_is_reachable(stage: &ScoreStage)
     machine_laws::a_stage_may_stand_so(&stage.machine);
 }
 
-/// Law: in the body what a stage reports is within its limits, whatever it has read: the kept text
-/// of the syllable that is read, and of the one that is held the canonical text, also with what
-/// stands before it. Before the first syllable no span is open, and no comment is open inside an
-/// inner opener.
+/// Law: in the body what a stage reports is within its limits, whatever it has read. The kept text
+/// of the syllable that is read is no longer than a syllable may be, nor is the canonical text of
+/// the one that is held, with its LF if it begins a word; with what stands before it and a last LF
+/// this is within the limit of the input. Before the first syllable no span is open, and nothing
+/// has sounded. Inside a tag, a raw part, a translation or a raw bracket no comment is open.
 pub fn what_is_reported_is_within_the_limits()
     ensures { (s : ScoreStageState) → IsReachable s → is_some (before_of s) ≡ true → ReportsWithin s }
 {
@@ -225,9 +231,11 @@ pub fn a_fresh_stage_reads_texts(alloc: Global, limits: Limits) -> Result<ScoreS
 }
 
 /// Law: two stages in the body that run under the same limits and report the same give the same of
-/// whatever follows, if both or none of them stand in front of the first text. Only the syllable
-/// that the one holds stands where the other gives its own, which says the same. The next character
-/// stands where a text that is read has counted it.
+/// whatever follows, if both or none of them stand in front of the first text. They report the same
+/// where this is the same: what stands before the syllable that is held, the kept text of the one
+/// that is read, what is open, whether a comment is, and where the next character stands, as a text
+/// that is read has counted it. The syllables that they hold need only say the same: then that of
+/// the one stands where the other gives its own.
 pub fn stages_that_report_the_same_agree()
     ensures { (one other : ScoreStageState) → IsReachable one → IsReachable other → AreEquivalent one other →
         is_in_front one.body.part ≡ is_in_front other.body.part →
@@ -286,8 +294,8 @@ pub fn spans_of_what_is_held_follow()
     gabc_nabc::laws::kept_again();
 }
 
-/// Law: the canonical text of the syllable that a stage holds is a text of an input, as long as
-/// what the stage reports is that of a text.
+/// Law: the canonical text of the syllable that a stage holds is a text of an input (UTF-8 without
+/// CR and U+FEFF), as long as what the stage reports is that of a text.
 pub fn what_is_held_is_a_text()
     ensures { (s : ScoreStageState) → IsReachable s → ReportsText s →
         IfSome (held_of s) (λ m. IsText (written_after s.before m)) }
@@ -311,7 +319,7 @@ pub fn what_is_read_can_be_read_again(stage: &ScoreStage)
 }
 
 /// Law: in front of the first text the comment that is open can be read again as one in a text of
-/// which nothing is kept.
+/// which nothing is kept, after the same and under the same limits.
 pub fn a_comment_in_front_can_be_read_in_a_text()
     ensures { (s : ScoreStageState) → is_some (before_of s) ≡ true → IsInFront s →
         CanBeReadInText s }

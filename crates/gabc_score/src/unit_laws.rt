@@ -23,8 +23,9 @@ ghost use Rattle.gabc_score.specs.UnitRead.{HoldsSomeUnit, GivesOneSyllable, fir
 ghost use Rattle.gabc_score.specs.Units.{BodyUnit, LastUnit, Cuts, units_pieces, last_characters};
 
 /// Law: a unit gives one syllable, with its last character, wherever its text begins, whatever
-/// follows and whatever was emitted before. It keeps no more on the way than it keeps in all. What
-/// is found in it are warnings, if that is so of its text and its snippets.
+/// follows and whatever was emitted before. The syllable holds the unit, and which spans are open
+/// after it follows from its text and from those before. It keeps no more on the way than it keeps
+/// in all. What is found in it are warnings, if that is so of its text and its snippets.
 pub fn a_unit_gives_one_syllable()
     ensures given { (lines macros : ℕ) (at : Place) (u : BodyUnit) (units : List BodyUnit)
         (last : LastUnit) (before : List BodyEvent) → let xs = characters_from (u ∷ units) last in

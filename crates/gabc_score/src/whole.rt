@@ -18,11 +18,13 @@ use gabc_places::{Fault, Limits, Memory, Place, Text};
 use std::alloc::{AllocError, Global};
 use std::hash::DefaultHasher;
 
-/// Reads the score of `text`, whose input ended as `ending` says, under `limits`: its headers, its
-/// syllables and what was found, up to the first fault (GregorioRef, "Headers" and "Syllable Text
-/// Syntax"). `gabc_places::text_of` gives the text, and the fault of an `InputEnding::At`. It fails
-/// only for want of memory. The names of headers are hashed with a fixed key: where strangers write
-/// the text and `limits.header` is large, take `score_whole_with_hasher`.
+/// Reads the score of `text`, whose input ended as `ending` says, under `limits` (GregorioRef,
+/// "Headers" and "Syllable Text Syntax"). Returns the book of its headers, if they are whole; its
+/// whole syllables, each with its text, kept text, snippets, position and flags; what was found;
+/// and the fault, the earliest that a rule gives. What has its point at the stop is hidden.
+/// `gabc_places::text_of` gives the text, and the fault of an `InputEnding::At`. It fails only for
+/// want of memory. The names of headers are hashed with a fixed key: where strangers write the text
+/// and `limits.header` is large, take `score_whole_with_hasher`.
 pub fn score_whole(
     alloc: Global,
     text: &Text,

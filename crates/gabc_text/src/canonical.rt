@@ -383,9 +383,9 @@ fn write_pieces<S: Put>(view: &TextView, kept: &str, out: &mut S)
     put_boundary(old, Styles::NONE, braces(view.centre, next), out);
 }
 
-/// Returns the part of `kept` that the canonical text of `view` is, if it is one: if its pieces
-/// follow one another there, and nothing is put before, between or after them. An empty text may be
-/// any part without bytes.
+/// Returns a part of `kept` that is the canonical text of `view`. It returns one at least where
+/// `view` has no centre and no style, and its pieces follow one another in `kept` as they stand
+/// there. An empty text may be any part without bytes.
 #[inline(always)]
 pub fn text_span(view: &TextView, kept: &str) -> Option<Span>
     ensures text { (span : Span) → result ≡ Some span →

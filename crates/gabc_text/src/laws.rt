@@ -75,7 +75,10 @@ pub fn a_fresh_stage_emits(at: Place, inputs: Vec<Char>, out: &mut Room<TextEven
 }
 
 /// Law: a text has a list of events for each character and one for the end. Joined, they are its
-/// events in order.
+/// events in order. A kept character comes with itself, `W5` with its `[`, and the parts and the
+/// other findings of a token with its last character; of a `$` that is no escape with the character
+/// after it, or the end. `W3` and `W4` of the end, the centre and the end come with the `(` or the
+/// end of the input.
 pub fn events_by_point_are_the_events()
     ensures each { (at : Place) (t : List ℕ) → CountsFit at t →
         length (events_by_point at t) ≡ length t + 1 }
@@ -179,8 +182,8 @@ pub fn a_regular_text_is_printed_as_it_stands()
 {}
 
 /// Law: blanks before a regular text, and comments among them that have ended, begin a word.
-/// Nothing else that it says changes by them, nothing is found in it, and they are kept as one
-/// U+0020, and printed as one LF.
+/// Nothing else that it says changes by them, it ends at the same `(`, nothing is found in it, and
+/// they are kept as one U+0020, and printed as one LF.
 pub fn blanks_before_a_regular_text_begin_a_word()
     ensures says { (b : ℕ) (gap t rest : List ℕ) → is_gap (b ∷ gap) ≡ true →
         IsRegularText t → view_facts (b ∷ gap ++ (t ++ 40 ∷ rest))
@@ -271,7 +274,12 @@ pub fn a_kept_character_is_kept_again()
     ensures ends { (k : List ℕ) → ends_after_it k ≡ true → kept_with k 40 ≡ [] }
 {}
 
-/// Law: a stage that has not ended takes each character, and a fresh one keeps nothing yet.
+/// Law: a stage that has not ended takes each character: it emits some events, and from then on
+/// what follows them. The text that it keeps, and whether a comment is open, decide whether the
+/// character ends the text, what is kept of it and said with it, and whether a comment is open
+/// then. An opener is as it was, or is this character. No more than one character is kept, and none
+/// where a comment is open then; a `%` that is not kept opens one. A fresh stage keeps nothing yet,
+/// and one that has ended keeps no text.
 pub fn a_stage_takes_each_character()
     ensures fresh { (at : Place) → Keeps (fresh_stage at) [] }
     ensures takes { (s : TextStage) (c : ℕ) → has_ended s ≡ false → Takes s c }
@@ -337,8 +345,8 @@ pub fn a_kept_text_is_said_in_full()
         CountsFit (record { line = 0; column = 0 }) (k ++ 40 ∷ rest) → IsSaidInFull k rest }
 {}
 
-/// Law: a stage in a comment that has kept nothing passes over the comment. The LF after it is the
-/// first character of a text that begins there.
+/// Law: a stage in a comment that has kept nothing passes over the comment, wherever the next
+/// character is said to stand. The LF after it is the first character of a text that begins there.
 pub fn a_comment_before_a_text_counts_for_nothing()
     ensures on { (s : TextStage) (c : ℕ) (t : List ℕ) → Keeps s [] → is_in_comment s ≡ true →
         (c == 10) ≡ false → events_left s (c ∷ t)

@@ -284,11 +284,13 @@ fn any_text_len(bytes: &[u8]) -> usize
     end + translation_len(&bytes[end..])
 }
 
-/// Returns how many of the first of `bytes` are a text that is printed as it stands before a
-/// `(`, and in which nothing is found (`laws::a_regular_text_is_printed_as_it_stands`): letters and
-/// raw parts, with single blanks between them, some of them within the tags of a style, some in one
-/// centre; span marks; and a translation, if a `(` follows. It goes past each letter of ASCII, of
-/// two bytes, and from U+1000 to U+CFFF.
+/// Returns how many of the first of `bytes` are a text that is printed as it stands before a `(`,
+/// that begins no word, and in which nothing is found
+/// (`laws::a_regular_text_is_printed_as_it_stands`). They are whole characters, without CR and
+/// U+FEFF, and no letter of ASCII, of two bytes, or from U+1000 to U+CFFF comes next. That it goes
+/// further is not promised: it takes letters and raw parts, with single blanks between them, some
+/// of them within the tags of a style, some in one centre; span marks; and a translation, if a `(`
+/// follows.
 #[inline(always)]
 pub fn regular_text(bytes: &[u8]) -> usize
     ensures within { result ≤ length bytes.now }

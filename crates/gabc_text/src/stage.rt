@@ -27,8 +27,9 @@ use crate::view::PieceKind;
 use gabc_places::{Char, Place, Room, Stage};
 
 /// Reads a text, one character at a time, up to the `(` of its notes (GregorioRef, "Syllable Text
-/// Syntax"). What a character makes known is emitted with it; after the `(` nothing is emitted. It
-/// asks for no memory.
+/// Syntax"). What a character makes known is emitted with it; after the `(` nothing is emitted. A
+/// call emits at most 8 events. It asks for no memory. After its end `push` and `finish` change
+/// nothing of it.
 #[derive(Clone, Copy)]
 pub struct TextStage {
     pub(crate) state: TokenState,
@@ -49,7 +50,9 @@ fn is_cut(how: TextEnd) -> bool
 
 impl TextStage {
     /// Returns a machine that has read nothing. The first character stands at `at`. Spans that it
-    /// emits count bytes of the kept text, a centre counts pieces. Each count saturates.
+    /// emits count bytes of the kept text, a centre counts pieces. Each count saturates. It has
+    /// kept the empty text. A call emits at most 8 events. After the end `push` and `finish` emit
+    /// nothing, and leave the machine as it is.
     pub fn new(at: Place) -> TextStage
         ensures fresh { result ≡ fresh_stage at }
         ensures keeps { Keeps result [] }

@@ -24,7 +24,7 @@ impl TextStage {
     /// Returns the place of the opener, if there is one: the `<` or `[` of a tag, a raw part or a
     /// translation that has not ended. It is the place at which the text is cut if it ends here;
     /// which one this is in the text that was read, says the law
-    /// `an_opener_is_where_a_text_is_cut`.
+    /// `an_opener_is_where_a_text_is_cut`. A stage that has ended reports none.
     pub fn opener(&self) -> Option<Place>
         ensures { result ≡ opener_of self.now }
     {
@@ -38,7 +38,7 @@ impl TextStage {
     }
 
     /// Returns whether a comment is open: whether with a `(` nothing would be emitted, and
-    /// something with the end after it.
+    /// something with the end after it. After the end of the stage none is.
     pub fn in_comment(&self) -> bool
         ensures { result ≡ is_in_comment self.now }
     {
@@ -50,7 +50,7 @@ impl TextStage {
 
     /// Returns the place of the next character: what is kept of the characters to come stands as in
     /// a text that begins there. It is the place at which the stage began or to which it was moved
-    /// last, past the characters since.
+    /// last, past the characters since. The end of the stage leaves it as it was.
     pub fn next(&self) -> Place
         ensures next { IsNext self.now result }
         ensures reports { result ≡ next_of self.now }

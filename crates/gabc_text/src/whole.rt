@@ -162,8 +162,11 @@ fn before_tag(text: &str) -> &str
 }
 
 /// Reads the text of a syllable, up to its `(` or the end of `body` (GregorioRef, "Syllable Text
-/// Syntax"). The first character of `body` stands at `at`. Where the text is cut, `kept` holds what
-/// was kept up to the end.
+/// Syntax"). Returns the kept text, the view (whether it begins a word, its pieces with kind,
+/// styles and span, its centre and its translation), the findings with their places, and the end.
+/// The first character of `body` stands at `at`; each number of `at` and the bytes of `body`
+/// together have to be below 2^64. Where the text is cut, `kept` holds what was kept up to the end.
+/// It fails only for want of memory.
 pub fn text_whole(alloc: Global, body: &str, at: Place) -> Result<TextRead, AllocError>
     requires line { at.line + length body.now < 2 ^ 64 }
     requires column { at.column + length body.now < 2 ^ 64 }

@@ -7,8 +7,8 @@ ghost use Rattle.gabc_score.specs.NoNotes.{has_no_notes};
 ghost use Rattle.gabc_score.specs.Syllable.{PlacedSyllable};
 ghost use Rattle.gabc_write.specs.DumpOfSyllables.{lines_of_syllable};
 
-/// Law: the lines of a syllable without notes in a dump are at most 2 bytes for each byte of its
-/// canonical text, and 128, whatever is in force before it.
+/// Law: the lines of a syllable in a dump whose notes are one empty snippet of GABC are at most 2
+/// bytes for each byte of its canonical text, and 128, whatever is in force before it.
 pub fn a_dump_without_notes_is_shorter()
     ensures { (number : ℕ) (outset : InForce) (s : PlacedSyllable) → number < 2 ^ 64 →
         has_no_notes s.made ≡ true →

@@ -144,9 +144,10 @@ pub(crate) fn pass_position(position: Position, alterations: &mut Alterations)
 
 /// Puts the lines of `syllable` in a dump, in which it has this `number`: its first line, those of
 /// its text and its translation, and those of its snippets. They are at most 64 bytes for each byte
-/// that `canon_len` returns, and 256. `alterations` are those in force before the syllable, and
-/// then those after it. It asks for no memory: the kept text is read again as the lines are put. A
-/// room without as many bytes left as `dump_len` returns gets as many of them as fit.
+/// that `canon_len` returns, and 256. `alterations` are those in force before the syllable, by
+/// which its notes are reported, whatever they are; and then those after it. It asks for no memory:
+/// the kept text is read again as the lines are put. A room without as many bytes left as
+/// `dump_len` returns gets as many of them as fit.
 pub fn dump_syllable<S: Put>(
     number: u64,
     syllable: &Syllable,

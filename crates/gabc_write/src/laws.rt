@@ -42,8 +42,10 @@ ghost use Rattle.gabc_write.specs.DumpOfSyllables.{HaveOneDump, lines_of_syllabl
 use gabc_score::ScoreStage;
 
 /// Law: a printed syllable is read again, whatever follows its `)`, as one unit with the same text,
-/// the same snippets and the same start of a word, and without an error. The canonical text of each
-/// syllable of a unit is such a printed syllable.
+/// the same snippets and the same start of a word, and without an error. If what follows is cut
+/// into units, then with the syllable before it there is one more. Each snippet is kept whole on
+/// its line, and the LF before a word as a blank. The canonical text of each syllable of a unit is
+/// such a printed syllable.
 pub fn syllable_again()
     ensures read { (lines macros : ℕ) (at : Place) (t : List ℕ) (snippets : List (List ℕ))
         (rest : List ℕ) → AreSnippets lines snippets
@@ -61,10 +63,10 @@ pub fn syllable_again()
 
 /// Law: a syllable that holds a unit with notes is read again from its own canonical text, by
 /// itself: wherever this text stands and whatever was emitted before, it is one syllable, whole
-/// with its last character, that says the same, leaves the same spans open and has the same
-/// canonical text. No error is found in it. So it is where the syllable is the first one of a
-/// score, whose canonical text begins a word whatever its own text says: what is read begins a word
-/// then.
+/// with its last character, that says the same, holds a unit, leaves the same spans open after the
+/// same spans and has the same canonical text. What is found in it are warnings, and no more bytes
+/// are kept on the way than the text has. So it is where the syllable is the first one of a score,
+/// whose canonical text begins a word whatever its own text says: what is read begins a word then.
 pub fn a_syllable_is_read_from_its_own_text()
     ensures { (lines macros : ℕ) (first : Bool) (m : UnplacedSyllable) → HoldsSomeUnit lines m →
         (let n = as_it_stands first m in
@@ -219,7 +221,8 @@ pub fn score_again()
 }
 
 /// Law: the lines of a syllable in a dump are at most 64 bytes for each byte of its canonical text,
-/// and 256, whatever is in force before it.
+/// and 256, whatever is in force before it. It asks what a `Syllable` has by its type: a kept text
+/// in UTF-8, and lines below 256.
 pub fn a_dump_is_short()
     ensures { (number : ℕ) (outset : InForce) (s : PlacedSyllable) → number < 2 ^ 64 →
         IsUtf8 s.made.kept →
@@ -249,9 +252,10 @@ pub fn syllables_that_say_the_same_have_one_dump()
         lines_of_syllables number outset ss ≡ lines_of_syllables number outset ts }
 {}
 
-/// Law: two syllables that are held and say the same where they stand have one dump, wherever in
-/// their word they are written and whatever their texts say of the start of a word, if the spans of
-/// their snippets begin and end between characters.
+/// Law: two syllables that are held and say the same where they stand have one dump, and leave the
+/// same in force where the same is before them, wherever in their word they are written and
+/// whatever their texts say of the start of a word, if the spans of their snippets begin and end
+/// between characters.
 pub fn held_syllables_that_say_the_same_have_one_dump()
     ensures { (first : Bool) (m n : UnplacedSyllable) (position : Position) → HasWholeSnippets m →
         HasWholeSnippets n → SayTheSame first (Some m) (Some n) →

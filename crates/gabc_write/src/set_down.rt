@@ -65,8 +65,10 @@ fn read_told(stage: &mut ScoreStage, told: &ScoreStage) -> bool
 /// From what `told` reports in the body, not in front of the first text, a stage is restored that
 /// gives the same of whatever follows. `stage` is what `ScoreStage::resume` makes, under the same
 /// limits, of what `told` reports to stand before. It holds the syllable of which `held` is the
-/// canonical text there, if one is held, and reads the kept text of the next one. The answer is
-/// `true`. `room` is empty and has room for 16 events; nothing stands in it afterwards.
+/// canonical text there, if one is held, and reads the kept text of the next one. Only the held
+/// syllable stands as it is read from this text: it says the same, and as the first of the score it
+/// begins a word. The next character has to stand where a text that is read has counted it. The
+/// answer is `true`. `room` is empty and has room for 16 events; nothing stands in it afterwards.
 pub fn a_stage_is_restored(
     told: &ScoreStage,
     stage: &mut ScoreStage,

@@ -157,6 +157,10 @@ impl Engine {
     /// are not opened: its format, the name of its input and whether it wants warnings are all that
     /// counts.
     ///
+    /// Whatever bytes come, and however they end, it writes the output and the messages of a run
+    /// over them, and ends with the status and the fault of this run. It runs, and nothing waits.
+    /// No call changes its job or its limits.
+    ///
     /// Names of headers are hashed with fixed keys. Where strangers choose the names, they can
     /// choose them so that the headers are read slowly (see docs/BENCHMARKS.md): take `with_hasher`
     /// there.
@@ -263,10 +267,13 @@ impl Engine {
         );
     }
 
-    /// Takes bytes of `piece` until it is used up or output or messages wait, and returns how many.
-    /// Nothing may wait before. What waits then became known with the last byte that it took, and
-    /// all that is known waits, but for the syllable that is held. After a fatal fault or the end
-    /// it takes the whole piece and changes nothing.
+    /// Takes bytes of `piece` until it is used up or output or messages wait, and returns how many:
+    /// at least one, unless it is empty. Nothing may wait before. What waits then, and what is
+    /// still to be written after it, is what was to be written before: how the input is cut changes
+    /// nothing. What waits became known with the last byte that it took, and so did a fatal fault.
+    /// All that is known waits, but for the syllable that is held: a run that breaks off then has
+    /// no message left to write, and of the output at most this syllable and the last text. After a
+    /// fatal fault or the end it takes the whole piece and changes nothing.
     pub fn feed(&mut self, piece: &[u8]) -> usize
         requires waits { NothingWaits self.old }
         ensures takes { TakesFront self.old piece.now result self.new }
@@ -373,8 +380,8 @@ impl Engine {
     }
 
     /// Begins again, as a new engine for the same job under the same limits does, wherever it
-    /// stands. What waits is forgotten. It asks for no memory, and hashes the names of headers as
-    /// before.
+    /// stands. What waits is forgotten: nothing waits then, and the engine runs. It asks for no
+    /// memory, and hashes the names of headers as before.
     pub fn restart(&mut self)
         ensures all { (job : Job) (limits : Limits) → RunsJob job limits self.old →
             (bytes : List ℕ) (ending : EndOfSource) → streams_left self.new ending bytes

@@ -18,10 +18,11 @@ const MOST_LOOKED_AT: usize = 65_536;
 
 impl Engine {
     /// Takes bytes of `piece` until it is used up or what waits leaves no room for what one byte
-    /// more may bring, and returns how many: at least one, if nothing waits before. What they bring
-    /// waits then, after what waited before, and all that is known of them waits, but for the
-    /// syllable that is held. It stops after the byte that makes a fatal fault known. After such a
-    /// fault or the end it takes the whole piece and changes nothing.
+    /// more may bring, and returns how many: at least one of a piece with bytes, if nothing waits
+    /// before. How much room there is, no clause says: where something waits it may take none. What
+    /// the bytes bring waits then, after what waited before, and all that is known of them waits,
+    /// but for the syllable that is held. It stops after the byte that makes a fatal fault known.
+    /// After such a fault or the end it takes the whole piece and changes nothing.
     pub fn fill(&mut self, piece: &[u8]) -> usize
         ensures takes { TakesFront self.old piece.now result self.new }
         ensures fault { is_running self.old ≡ true → is_running self.new ≡ false →

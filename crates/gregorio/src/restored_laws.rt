@@ -20,7 +20,7 @@ use gabc_places::Limits;
 use gregorio_jobs::Job;
 use std::alloc::Global;
 
-/// Law: bytes are those of the fields of one saved state.
+/// Law: no bytes are those of the fields of two saved states.
 pub fn bytes_are_of_one_state(bytes: &[u8])
     ensures { (one other : StateFields) → AreStateFields one → AreStateFields other →
         bytes.now ≡ state_bytes one → bytes.now ≡ state_bytes other → one ≡ other }

@@ -317,15 +317,16 @@ fn engine_in_score(
 
 impl Engine {
     /// Returns an engine that goes on where the run stood whose saved state is `bytes`, as
-    /// `save_into` wrote it. The format of `job`, whether it wants warnings, and `limits` have to
-    /// be those of that run. The name of the input is that of `job`: it stands in no state.
+    /// `save_into` wrote it. It runs, nothing waits, and it saves these bytes. The format of `job`,
+    /// whether it wants warnings, and `limits` have to be those of that run. The name of the input
+    /// is that of `job`: it stands in no state.
     ///
     /// The error is K0 for want of memory, wherever it is met; else K1 exactly where `bytes` are no
     /// saved state; else K2: the state is one of another format, of other limits, or of a run that
     /// wants warnings where `job` does not, or the other way round. The texts of a state of another
-    /// run are read in memory of their own, which is no larger than they need: only for one of
-    /// `job` under `limits` is that of an engine asked for. Names of headers are hashed as in
-    /// `new`.
+    /// run are read in memory of their own, which is no larger than they need, though no clause
+    /// counts it: only for one of `job` under `limits` is that of an engine asked for. Names of
+    /// headers are hashed as in `new`.
     pub fn restore(
         alloc: Global,
         job: &Job,

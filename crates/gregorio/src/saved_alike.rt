@@ -25,7 +25,8 @@ pub fn an_engine_may_run(engine: &Engine)
 }
 
 /// Two engines that run, call their inputs the same and save the same write the same of whatever
-/// follows, and end alike: all by which a run goes on stands in its state.
+/// follows, and end alike: all by which a run goes on stands in its state. It speaks of what
+/// engines show, since one of the two may be gone; each that runs may run so.
 pub fn engines_that_save_the_same_agree()
     ensures { (one other : EngineState) → CanRun one → CanRun other →
         one.written.name ≡ other.written.name → state_of one ≡ state_of other →

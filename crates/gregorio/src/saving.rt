@@ -180,11 +180,14 @@ impl Engine {
         fields.len_holding(&held)
     }
 
-    /// Writes the saved state of the run to the front of `buf`, and returns how many bytes it has.
-    /// The error is that of a `buf` that has fewer bytes than the state, and then it is unchanged.
-    /// With 128 bytes and the limit of the headers, or 128 and twice that of a syllable, whichever
-    /// is more, it is not too short. What is written is a state: the headers or the held and the
-    /// kept text in it are read as it says, too. The run may not be over, and nothing may wait.
+    /// Writes the saved state of the run to the front of `buf`, and returns how many bytes it has;
+    /// the rest of `buf` is unchanged. The error is that of a `buf` that has fewer bytes than the
+    /// state, and then it is unchanged. With 128 bytes and the limit of the headers, or 128 and
+    /// twice that of a syllable, whichever is more, it is not too short. What is written is a
+    /// state: its fields meet their conditions, and its texts are read as it says. The headers in
+    /// it give its place and its errors; or the held text, read by itself, is one syllable of which
+    /// it is the canonical text, and the kept text is kept again, with what the state says open
+    /// after it. The run may not be over, and nothing may wait.
     pub fn save_into(&self, buf: &mut [u8]) -> Result<usize, TooShort>
         requires runs { is_running self.now ≡ true }
         requires waits { NothingWaits self.now }
