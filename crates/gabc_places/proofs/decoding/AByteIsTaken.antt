@@ -1,5 +1,5 @@
 -- What a byte does to a decoder that runs.
-use Rattle.std.proofs.Common.{◌≡◌, ℕ, not, ◌+◌, ◌<◌, Bool, true, false, cond, List, [], ◌∷◌, ◌++◌, refl, ap, sym, ◌∙◌, arith, append-nil}
+use Rattle.std.proofs.Common.{◌≡◌, ℕ, ◌+◌, ◌<◌, Bool, true, false, cond, List, [], ◌∷◌, ◌++◌, refl, ap, sym, ◌∙◌, arith, append-nil}
 use Rattle.std.proofs.lemmas.Bool.Decides.{nat_tests}
 use Rattle.std.proofs.lemmas.Bool.{lt-ltb, ne_eqb, cond-true}
 use Rattle.std.specs.Bool.{◌==◌}
