@@ -48,6 +48,12 @@ def joined(folder: str, lines: int, size: int) -> bytes:
     return repeated(WITH_NABC if lines else HEAD, "".join(bodies), size) if bodies else b""
 
 
+def syllables_of(folder: str, lines: int) -> list[str]:
+    """The syllables of the scores in `folder` with this number of NABC lines, each once, with what stands before its text."""
+    bodies = (body for path in sorted(glob.glob(os.path.join(folder, "*.gabc"))) for body in bodies_of(path, lines))
+    return list(dict.fromkeys(found for body in bodies for found in re.findall(r"[^()]*\([^()]*\)", body)))
+
+
 def bodies_of(path: str, lines: int) -> list[str]:
     """The body of the score, if it has this number of NABC lines."""
     with open(path, encoding="utf-8") as file:
