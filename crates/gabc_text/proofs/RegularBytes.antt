@@ -3,6 +3,7 @@ use Rattle.std.proofs.Common.{◌≡◌, ℕ, ◌<◌, List, [], ◌∷◌, ◌+
 use Rattle.std.specs.List.{All, list_all}
 use Rattle.std.specs.Str.{chars, all_scalars}
 use Rattle.std.proofs.lemmas.List.Elements.{All-append, All-from_recursion}
+use Rattle.std.proofs.lemmas.List.Folds.{list_all-append}
 use Rattle.std.proofs.lemmas.Bool.{eqb-true, eqb-false, ltb-true, ltb-false, lt-ltb, true≢false, and_parts, le-ltb, not-true}
 use Rattle.std.proofs.Math.Nat.{div-add-mod}
 use Rattle.std.proofs.Math.Seq.{take-add}
@@ -19,7 +20,7 @@ use Rattle.gabc_text.specs.View.{PieceFacts, is_word_kind, is_blank_piece}
 use Rattle.gabc_text.specs.Printed.{printed_piece}
 use Rattle.gabc_text.specs.RegularText.{is_letter_byte, is_continuation, is_first_of_two, is_first_of_three}
 use Rattle.gabc_text.specs.machine.PrintedPieces.{Good, Says}
-use Rattle.gabc_text.specs.machine.RegularBytes.{is_low, word_after, blank_after, printed_text, IsSpelled, IsWord, IsRun}
+use Rattle.gabc_text.specs.machine.RegularBytes.{is_low, is_plain_byte, word_after, blank_after, printed_text, IsSpelled, IsWord, IsInner, IsRun}
 use Rattle.gabc_text.proofs.printing.TokensAreReadAgain.{letter_stable}
 use Rattle.gabc_text.proofs.printing.PiecesPrintWell.{letter_emits, special_no_blank}
 use Rattle.gabc_text.proofs.printing.PrintedPiecesAreJoined.{printed_join, good_join, known_join, word_join, blank_join}
@@ -166,20 +167,33 @@ digits q r d m less small e = (omega arith, omega arith)
 last_of : (q r c : ℕ) → r < 64 → c ≡ q * 64 + r → (c / 64 ≡ q) × (c % 64 ≡ r)
 last_of q r c less e = digits q r (c / 64) (c % 64) less (mod-lt c {m = 64} (omega arith)) (div-add-mod c 64 ∙ e)
 
--- the characters of two and three bytes by their digits
-two : (q r : ℕ) → 2 ≤ q → q < 32 → r < 64 → IsWord ((192 + q) ∷ (128 + r) ∷ [])
+-- a letter beyond ASCII
+pub record IsBeyond (bytes : List ℕ) : Type 0 where
+  pub c : ℕ
+  pub high : 128 ≤ c
+  pub spells : IsSpelled (c ∷ []) bytes
+
+pub beyond_word : (bytes : List ℕ) → IsBeyond bytes → IsWord bytes
+beyond_word bytes b = bare_word b.c bytes (no_special b.c b.high) (no_blank_past b.c (let high = b.high in omega arith)) b.spells
+
+-- those of two and three bytes by their digits
+two : (q r : ℕ) → 2 ≤ q → q < 32 → r < 64 → IsBeyond ((192 + q) ∷ (128 + r) ∷ [])
 unfolding encode
 two q r h g k =
     let d = last_of q r (q * 64 + r) k refl in
     let no_one : nat_lt (q * 64 + r) 128 ≡ false = le-ltb (q * 64 + r) 128 (omega arith) in
     let at_two : nat_lt (q * 64 + r) 2048 ≡ true = lt-ltb (q * 64 + r) 2048 (omega arith) in
-    bare_word (q * 64 + r) ((192 + q) ∷ (128 + r) ∷ []) (no_special (q * 64 + r) (omega arith)) (no_blank_past (q * 64 + r) (omega arith)) (record {
-      spelled = rw (no_one, at_two, d.0, d.1) refl;
-      scalars = rw (low_scalar (q * 64 + r) (omega arith)) refl;
-      plain = one_plain (q * 64 + r) ((λ e. omega arith), (λ e. omega arith));
-    })
+    record {
+      c = q * 64 + r;
+      high = omega arith;
+      spells = record {
+        spelled = rw (no_one, at_two, d.0, d.1) refl;
+        scalars = rw (low_scalar (q * 64 + r) (omega arith)) refl;
+        plain = one_plain (q * 64 + r) ((λ e. omega arith), (λ e. omega arith));
+      };
+    }
 
-three : (q s r : ℕ) → 1 ≤ q → q < 13 → s < 64 → r < 64 → IsWord ((224 + q) ∷ (128 + s) ∷ (128 + r) ∷ [])
+three : (q s r : ℕ) → 1 ≤ q → q < 13 → s < 64 → r < 64 → IsBeyond ((224 + q) ∷ (128 + s) ∷ (128 + r) ∷ [])
 unfolding encode
 three q s r h g k l =
     let c = (q * 64 + s) * 64 + r in
@@ -189,25 +203,29 @@ three q s r h g k l =
     let no_one : nat_lt ((q * 64 + s) * 64 + r) 128 ≡ false = le-ltb ((q * 64 + s) * 64 + r) 128 (omega arith) in
     let no_two : nat_lt ((q * 64 + s) * 64 + r) 2048 ≡ false = le-ltb ((q * 64 + s) * 64 + r) 2048 (omega arith) in
     let at_three : nat_lt ((q * 64 + s) * 64 + r) 65536 ≡ true = lt-ltb ((q * 64 + s) * 64 + r) 65536 (omega arith) in
-    bare_word ((q * 64 + s) * 64 + r) ((224 + q) ∷ (128 + s) ∷ (128 + r) ∷ []) (no_special ((q * 64 + s) * 64 + r) (omega arith)) (no_blank_past ((q * 64 + s) * 64 + r) (omega arith)) (record {
-      spelled = rw (no_one, no_two, at_three, top, d.0, d.1, f.1) refl;
-      scalars = rw (low_scalar ((q * 64 + s) * 64 + r) (omega arith)) refl;
-      plain = one_plain ((q * 64 + s) * 64 + r) ((λ e. omega arith), (λ e. omega arith));
-    })
+    record {
+      c = (q * 64 + s) * 64 + r;
+      high = omega arith;
+      spells = record {
+        spelled = rw (no_one, no_two, at_three, top, d.0, d.1, f.1) refl;
+        scalars = rw (low_scalar ((q * 64 + s) * 64 + r) (omega arith)) refl;
+        plain = one_plain ((q * 64 + s) * 64 + r) ((λ e. omega arith), (λ e. omega arith));
+      };
+    }
 
 within_bounds : (lo hi b : ℕ) → (nat_lt lo b && nat_lt b hi) ≡ true → (lo < b) × (b < hi)
 within_bounds lo hi b h = let f = and_parts (nat_lt lo b) (nat_lt b hi) h in (ltb-true lo b f.0, ltb-true b hi f.1)
 
-pair_is : (a b : ℕ) → is_first_of_two a ≡ true → is_continuation b ≡ true → IsWord (a ∷ b ∷ [])
+pair_is : (a b : ℕ) → is_first_of_two a ≡ true → is_continuation b ≡ true → IsBeyond (a ∷ b ∷ [])
 pair_is a b h g =
     let x = within_bounds 193 224 a h in
     let y = within_bounds 127 192 b g in
     let ea : 192 + (a - 192) ≡ a = omega (arith, x.0) in
     let eb : 128 + (b - 128) ≡ b = omega (arith, y.0) in
-    subst (λ (u : ℕ). IsWord (u ∷ b ∷ [])) ea (subst (λ (v : ℕ). IsWord ((192 + (a - 192)) ∷ v ∷ [])) eb
+    subst (λ (u : ℕ). IsBeyond (u ∷ b ∷ [])) ea (subst (λ (v : ℕ). IsBeyond ((192 + (a - 192)) ∷ v ∷ [])) eb
     (two (a - 192) (b - 128) (omega (arith, x.0)) (omega (arith, x.1)) (omega (arith, y.1))))
 
-triple_is : (a b d : ℕ) → is_first_of_three a ≡ true → is_continuation b ≡ true → is_continuation d ≡ true → IsWord (a ∷ b ∷ d ∷ [])
+triple_is : (a b d : ℕ) → is_first_of_three a ≡ true → is_continuation b ≡ true → is_continuation d ≡ true → IsBeyond (a ∷ b ∷ d ∷ [])
 triple_is a b d h g k =
     let x = within_bounds 224 237 a h in
     let y = within_bounds 127 192 b g in
@@ -215,8 +233,8 @@ triple_is a b d h g k =
     let ea : 224 + (a - 224) ≡ a = omega (arith, x.0) in
     let eb : 128 + (b - 128) ≡ b = omega (arith, y.0) in
     let ed : 128 + (d - 128) ≡ d = omega (arith, z.0) in
-    subst (λ (u : ℕ). IsWord (u ∷ b ∷ d ∷ [])) ea (subst (λ (v : ℕ). IsWord ((224 + (a - 224)) ∷ v ∷ d ∷ [])) eb
-    (subst (λ (w : ℕ). IsWord ((224 + (a - 224)) ∷ (128 + (b - 128)) ∷ w ∷ [])) ed
+    subst (λ (u : ℕ). IsBeyond (u ∷ b ∷ d ∷ [])) ea (subst (λ (v : ℕ). IsBeyond ((224 + (a - 224)) ∷ v ∷ d ∷ [])) eb
+    (subst (λ (w : ℕ). IsBeyond ((224 + (a - 224)) ∷ (128 + (b - 128)) ∷ w ∷ [])) ed
     (three (a - 224) (b - 128) (d - 128) (omega (arith, x.0)) (omega (arith, x.1)) (omega (arith, y.1)) (omega (arith, z.1)))))
 
 letter_is : (a : ℕ) → is_letter_byte a ≡ true → IsWord (a ∷ [])
@@ -237,7 +255,36 @@ escaped_is b h =
     escaped_word b (36 ∷ b ∷ []) h (spelled_join (36 ∷ []) (b ∷ []) (36 ∷ []) (b ∷ []) (one_spelled 36 (omega arith) (λ e. omega arith))
     (one_spelled b (special_is_low b h) (λ e. absurd (true≢false (sym h ∙ ap is_special e)))))
 
+-- ---- characters other than one of ASCII
+
+inner_join : (stop : ℕ) (bs more : List ℕ) → IsInner stop bs → IsInner stop more → IsInner stop (bs ++ more)
+inner_join stop bs more s r = record {
+  text = s.text ++ r.text;
+  spells = spelled_join s.text r.text bs more s.spells r.spells;
+  without = list_all-append (λ c. not (stop == c)) s.text r.text ∙ rw (s.without) r.without;
+}
+
+pub none_inner : (stop : ℕ) → IsInner stop []
+none_inner stop = record { text = []; spells = none_spelled; without = refl }
+
+pub beyond_inner : (stop : ℕ) (bytes : List ℕ) → stop < 128 → IsBeyond bytes → IsInner stop bytes
+beyond_inner stop bytes less b = record {
+  text = b.c ∷ [];
+  spells = b.spells;
+  without = rw (below_eqb stop b.c (let high = b.high in omega arith)) refl;
+}
+
+plain_is : (stop b : ℕ) → is_plain_byte stop b ≡ true → IsInner stop (b ∷ [])
+plain_is stop b h =
+    let f = and_parts (nat_lt 31 b && nat_lt b 127) (not (stop == b)) h in
+    let x = within_bounds 31 127 b f.0 in
+    record { text = b ∷ []; spells = one_spelled b (omega (arith, x.1)) (λ e. omega (arith, x.0)); without = rw (f.1) refl }
+
 -- ---- where they stand
+
+plain_at : (stop : ℕ) (l : List ℕ) → is_plain_byte stop (get_or l 0 0) ≡ true → IsInner stop (take 1 l)
+plain_at stop [] h = absurd (cc)
+plain_at stop (a ∷ l) h = plain_is stop a h
 
 one_at : (l : List ℕ) → is_letter_byte (get_or l 0 0) ≡ true → IsWord (take 1 l)
 one_at [] h = absurd (cc)
@@ -250,12 +297,12 @@ escaped_at (a ∷ b ∷ l) h =
     let f = and_parts (a == 36) (is_special b) h in
     subst (λ (x : ℕ). IsWord (x ∷ b ∷ [])) (sym (eqb-true a 36 f.0)) (escaped_is b f.1)
 
-two_at : (l : List ℕ) → (is_first_of_two (get_or l 0 0) && is_continuation (get_or l 1 0)) ≡ true → IsWord (take 2 l)
+two_at : (l : List ℕ) → (is_first_of_two (get_or l 0 0) && is_continuation (get_or l 1 0)) ≡ true → IsBeyond (take 2 l)
 two_at [] h = absurd (cc)
 two_at (a ∷ []) h = absurd (let f = (and_parts (is_first_of_two a) false h).1 in cc)
 two_at (a ∷ b ∷ l) h = let f = and_parts (is_first_of_two a) (is_continuation b) h in pair_is a b f.0 f.1
 
-three_at : (l : List ℕ) → (is_first_of_three (get_or l 0 0) && (is_continuation (get_or l 1 0) && is_continuation (get_or l 2 0))) ≡ true → IsWord (take 3 l)
+three_at : (l : List ℕ) → (is_first_of_three (get_or l 0 0) && (is_continuation (get_or l 1 0) && is_continuation (get_or l 2 0))) ≡ true → IsBeyond (take 3 l)
 three_at [] h = absurd (cc)
 three_at (a ∷ []) h = absurd (let f = (and_parts (is_first_of_three a) false h).1 in cc)
 three_at (a ∷ b ∷ []) h = absurd (let f = (and_parts (is_continuation b) false (and_parts (is_first_of_three a) (is_continuation b && false) h).1).1 in cc)
@@ -269,13 +316,16 @@ module _ (l : List ℕ) (a b : ℕ) (first : a ≡ get_or l 0 0) (second : b ≡
   pub one_read : is_letter_byte a ≡ true → IsWord (take 1 l)
   one_read h = one_at l (ap is_letter_byte (sym first) ∙ h)
 
+  pub plain_read : (stop : ℕ) → is_plain_byte stop a ≡ true → IsInner stop (take 1 l)
+  plain_read stop h = plain_at stop l (ap (is_plain_byte stop) (sym first) ∙ h)
+
   pub escape_read : (a == 36 && is_special b) ≡ true → IsWord (take 2 l)
   escape_read h = escaped_at l (ap₂ (λ (x y : ℕ). x == 36 && is_special y) (sym first) (sym second) ∙ h)
 
-  pub pair_read : (is_first_of_two a && is_continuation b) ≡ true → IsWord (take 2 l)
+  pub pair_read : (is_first_of_two a && is_continuation b) ≡ true → IsBeyond (take 2 l)
   pair_read h = two_at l (ap₂ (λ (x y : ℕ). is_first_of_two x && is_continuation y) (sym first) (sym second) ∙ h)
 
-  pub triple_read : (d : ℕ) → d ≡ get_or l 2 0 → (is_first_of_three a && (is_continuation b && is_continuation d)) ≡ true → IsWord (take 3 l)
+  pub triple_read : (d : ℕ) → d ≡ get_or l 2 0 → (is_first_of_three a && (is_continuation b && is_continuation d)) ≡ true → IsBeyond (take 3 l)
   triple_read d third h =
       three_at l (ap₂ (λ (x y : ℕ). is_first_of_three x && (is_continuation y && is_continuation (get_or l 2 0))) (sym first) (sym second)
       ∙ ap (λ (z : ℕ). is_first_of_three a && (is_continuation b && is_continuation z)) (sym third) ∙ h)
@@ -288,6 +338,11 @@ pub word_step : (l : List ℕ) (n r : ℕ) → IsWord (take r (take (length l - 
 word_step l n r h s =
     subst IsRun (sym (take-add n r l))
     (run_more (take n l) (take r (drop n l)) (subst (λ (xs : List ℕ). IsWord (take r xs)) (behind_is l n) h) s)
+
+pub inner_step : (stop : ℕ) (l : List ℕ) (n r : ℕ) → IsInner stop (take r (take (length l - n) (drop n l))) → IsInner stop (take n l) → IsInner stop (take (n + r) l)
+inner_step stop l n r h s =
+    subst (IsInner stop) (sym (take-add n r l))
+    (inner_join stop (take n l) (take r (drop n l)) s (subst (λ (xs : List ℕ). IsInner stop (take r xs)) (behind_is l n) h))
 
 -- from where a blank stands
 pub at_blank : (l : List ℕ) (n r : ℕ) → n < length l → get_or l n 0 ≡ 32 → take (r + 1) (drop n l) ≡ 32 ∷ take r (drop (n + 1) l)

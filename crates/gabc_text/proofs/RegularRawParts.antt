@@ -1,9 +1,9 @@
 -- Raw parts, span marks and translations of a regular text.
-use Rattle.std.proofs.Common.{◌≡◌, ℕ, ◌<◌, ◌+◌, ◌-◌, ◌==◌, List, [], ◌∷◌, ◌++◌, Bool, true, false, not, ◌&&◌, length, refl, sym, ap, ap₂, subst, ◌∙◌, arith, take, drop, get_or, append-nil, Some, codes, nat_lt, suc, zero, eq-eqb}
+use Rattle.std.proofs.Common.{◌≡◌, ℕ, ◌<◌, ◌+◌, ◌-◌, ◌==◌, List, [], ◌∷◌, ◌++◌, Bool, true, false, not, length, refl, sym, ap, ap₂, subst, ◌∙◌, arith, take, drop, get_or, append-nil, Some, codes, suc, zero, eq-eqb}
 use Rattle.std.specs.Str.{chars}
 use Rattle.std.specs.List.{list_all}
 use Rattle.std.specs.Cmp.Lexicographic.{pointwise}
-use Rattle.std.proofs.lemmas.Bool.{ltb-true, lt-ltb, eqb-true, and_parts, not-true}
+use Rattle.std.proofs.lemmas.Bool.{and_parts, not-true}
 use Rattle.gabc_places.specs.TextOfAnInput.{IsText}
 use Rattle.gabc_text.specs.declared.styles.Styles.{Styles}
 use Rattle.gabc_text.specs.declared.regular.Before.{Before}
@@ -18,7 +18,7 @@ use Rattle.gabc_text.specs.ViewFacts.{ViewFacts}
 use Rattle.gabc_text.specs.Printed.{print, print_from, text_of_tokens, printed_piece, translation_tokens}
 use Rattle.gabc_text.specs.RegularText.{IsRegularText, begins_letter, has_letter_at}
 use Rattle.gabc_text.specs.machine.PrintedPieces.{Stable}
-use Rattle.gabc_text.specs.machine.RegularBytes.{no_styles, is_low, is_plain_byte, IsSpelled, IsWord, IsBracketed, IsMark, IsPart, IsBegun}
+use Rattle.gabc_text.specs.machine.RegularBytes.{no_styles, is_low, IsSpelled, IsWord, IsInner, IsBracketed, IsMark, IsPart, IsBegun}
 use Rattle.gabc_text.proofs.RegularBytes.{ascii_spelled, spelled_join, chars_of, is_text, behind_is}
 use Rattle.gabc_text.proofs.RegularParts.{none_listed, starts_so, taken_first, between_is, view_of, begun_sound, begun_text, begun_regular}
 use Rattle.std.proofs.Math.Seq.{take-add}
@@ -29,31 +29,18 @@ use Rattle.gabc_text.proofs.printing.PrintedTextIsKept.{written_append}
 use Rattle.gabc_text.proofs.printing.PrintedTextIsReadAgain.{Sound}
 use Rattle.gabc_text.proofs.printing.PrintedViewIsRegular.{regular_is}
 
--- ---- plain bytes
+-- ---- what is in brackets
 
-plain_low : (but b : ℕ) → is_plain_byte but b ≡ true → is_low b ≡ true
-plain_low but b h =
-    let f = and_parts (nat_lt 31 b && nat_lt b 127) (not (but == b)) h in
-    let g = and_parts (nat_lt 31 b) (nat_lt b 127) f.0 in
-    let low = ltb-true 31 b g.0 in
-    let high = ltb-true b 127 g.1 in
-    rw (lt-ltb b 128 (omega (arith, high))) (no_cr (b == 13) refl low)
-  where
-    no_cr : (x : Bool) → (b == 13) ≡ x → 31 < b → not x ≡ true
-    no_cr true e low = absurd (let f = eqb-true b 13 e in omega (arith, low, f))
-    no_cr false e low = refl
+-- what characters without this one end at
+through_inner : (x : ℕ) (e inner u : List ℕ) → list_all (λ c. not (x == c)) inner ≡ true → through (x ∷ e) ((inner ++ x ∷ e) ++ u) ≡ Some (inner ++ x ∷ e)
+through_inner x e [] u h = rw (eq-eqb x x refl, begins_itself e u) refl
+through_inner x e (c ∷ inner) u h =
+    let f = and_parts (not (x == c)) (list_all (λ c. not (x == c)) inner) h in
+    rw (not-true (x == c) f.0, through_inner x e inner u f.1) refl
 
-all_low : (but : ℕ) (t : List ℕ) → list_all (is_plain_byte but) t ≡ true → list_all is_low t ≡ true
-all_low but [] h = refl
-all_low but (b ∷ t) h = let f = and_parts (is_plain_byte but b) (list_all (is_plain_byte but) t) h in rw (plain_low but b f.0) (all_low but t f.1)
-
--- what such bytes end at
-through_plain : (x : ℕ) (e inner u : List ℕ) → list_all (is_plain_byte x) inner ≡ true → through (x ∷ e) ((inner ++ x ∷ e) ++ u) ≡ Some (inner ++ x ∷ e)
-through_plain x e [] u h = rw (eq-eqb x x refl, begins_itself e u) refl
-through_plain x e (c ∷ inner) u h =
-    let f = and_parts (is_plain_byte x c) (list_all (is_plain_byte x) inner) h in
-    let g = and_parts (nat_lt 31 c && nat_lt c 127) (not (x == c)) f.0 in
-    rw (not-true (x == c) g.1, through_plain x e inner u f.1) refl
+bracketed_spelled : (opening closing bytes inner : List ℕ) → list_all is_low opening ≡ true → list_all is_low closing ≡ true → IsSpelled inner bytes → IsSpelled (opening ++ (inner ++ closing)) (opening ++ (bytes ++ closing))
+bracketed_spelled opening closing bytes inner h g s =
+    spelled_join opening (inner ++ closing) opening (bytes ++ closing) (ascii_spelled opening h) (spelled_join inner closing bytes closing s (ascii_spelled closing g))
 
 -- ---- raw parts
 
@@ -62,24 +49,20 @@ raw_name V = codes "v>"
 raw_name Sp = codes "sp>"
 raw_name Alt = codes "alt>"
 
-raw_stable : (raw : RawKind) (inner : List ℕ) → list_all (is_plain_byte 60) inner ≡ true → Stable (record { kind = kind.Raw; first = 60; more = raw_name raw ++ (inner ++ ending_of raw) })
+raw_stable : (raw : RawKind) (inner : List ℕ) → list_all (λ c. not (60 == c)) inner ≡ true → Stable (record { kind = kind.Raw; first = 60; more = raw_name raw ++ (inner ++ ending_of raw) })
 unfolding raw_name
 raw_stable V inner h = again_by (record { kind = kind.Raw; first = 60; more = codes "v>" ++ (inner ++ codes "</v>") }) refl
-    (λ u. ap (ended_token kind.Raw kind.OpenTag 60 (codes "v>") ((inner ++ codes "</v>") ++ u)) (through_plain 60 (codes "/v>") inner u h))
+    (λ u. ap (ended_token kind.Raw kind.OpenTag 60 (codes "v>") ((inner ++ codes "</v>") ++ u)) (through_inner 60 (codes "/v>") inner u h))
 raw_stable Sp inner h = again_by (record { kind = kind.Raw; first = 60; more = codes "sp>" ++ (inner ++ codes "</sp>") }) refl
-    (λ u. ap (ended_token kind.Raw kind.OpenTag 60 (codes "sp>") ((inner ++ codes "</sp>") ++ u)) (through_plain 60 (codes "/sp>") inner u h))
+    (λ u. ap (ended_token kind.Raw kind.OpenTag 60 (codes "sp>") ((inner ++ codes "</sp>") ++ u)) (through_inner 60 (codes "/sp>") inner u h))
 raw_stable Alt inner h = again_by (record { kind = kind.Raw; first = 60; more = codes "alt>" ++ (inner ++ codes "</alt>") }) refl
-    (λ u. ap (ended_token kind.Raw kind.OpenTag 60 (codes "alt>") ((inner ++ codes "</alt>") ++ u)) (through_plain 60 (codes "/alt>") inner u h))
+    (λ u. ap (ended_token kind.Raw kind.OpenTag 60 (codes "alt>") ((inner ++ codes "</alt>") ++ u)) (through_inner 60 (codes "/alt>") inner u h))
 
-all_join : (t u : List ℕ) → list_all is_low t ≡ true → list_all is_low u ≡ true → list_all is_low (t ++ u) ≡ true
-all_join [] u h g = g
-all_join (c ∷ t) u h g = let f = and_parts (is_low c) (list_all is_low t) h in rw (f.0) (all_join t u f.1 g)
-
-raw_low : (raw : RawKind) (inner : List ℕ) → list_all (is_plain_byte 60) inner ≡ true → list_all is_low (60 ∷ raw_name raw ++ (inner ++ ending_of raw)) ≡ true
+raw_spelled : (raw : RawKind) (bytes inner : List ℕ) → IsSpelled inner bytes → IsSpelled (60 ∷ raw_name raw ++ (inner ++ ending_of raw)) (60 ∷ raw_name raw ++ (bytes ++ ending_of raw))
 unfolding raw_name
-raw_low V inner h = all_join inner (codes "</v>") (all_low 60 inner h) refl
-raw_low Sp inner h = all_join inner (codes "</sp>") (all_low 60 inner h) refl
-raw_low Alt inner h = all_join inner (codes "</alt>") (all_low 60 inner h) refl
+raw_spelled V bytes inner s = bracketed_spelled (codes "<v>") (codes "</v>") bytes inner refl refl s
+raw_spelled Sp bytes inner s = bracketed_spelled (codes "<sp>") (codes "</sp>") bytes inner refl refl s
+raw_spelled Alt bytes inner s = bracketed_spelled (codes "<alt>") (codes "</alt>") bytes inner refl refl s
 
 begins_so : (raw : RawKind) → beginning_of raw ≡ 60 ∷ raw_name raw
 unfolding raw_name
@@ -89,13 +72,12 @@ begins_so Alt = refl
 
 pub raw_word : (raw : RawKind) (a b bytes : List ℕ) → a ≡ beginning_of raw → b ≡ ending_of raw → IsBracketed a 60 b bytes → IsWord bytes
 raw_word raw a b bytes e f x =
-    let text = 60 ∷ raw_name raw ++ (x.inner ++ ending_of raw) in
     let same : bytes ≡ 60 ∷ raw_name raw ++ (x.inner ++ ending_of raw) = x.parts ∙ ap₂ (λ (u v : List ℕ). u ++ (x.inner ++ v)) (e ∙ begins_so raw) f in
     record {
       kind = piece.Raw;
-      text = 60 ∷ raw_name raw ++ (x.inner ++ ending_of raw);
-      spells = subst (λ (u : List ℕ). IsSpelled (60 ∷ raw_name raw ++ (x.inner ++ ending_of raw)) u) (sym same) (ascii_spelled (60 ∷ raw_name raw ++ (x.inner ++ ending_of raw)) (raw_low raw x.inner x.plain));
-      stable = raw_stable raw x.inner x.plain;
+      text = 60 ∷ raw_name raw ++ ((x.within).text ++ ending_of raw);
+      spells = subst (λ (u : List ℕ). IsSpelled (60 ∷ raw_name raw ++ ((x.within).text ++ ending_of raw)) u) (sym same) (raw_spelled raw x.inner (x.within).text (x.within).spells);
+      stable = raw_stable raw (x.within).text (x.within).without;
       says = λ w b. (refl, refl, refl);
       word = refl;
       known = refl;
@@ -122,9 +104,9 @@ mark_at l t ss r m e f g = mark_is_part t (take (length t) l) ss m (taken_first 
 
 -- ---- translations
 
-translation_stable : (inner : List ℕ) → list_all (is_plain_byte 93) inner ≡ true → Stable (record { kind = kind.Translation; first = 91; more = inner ++ 93 ∷ [] })
+translation_stable : (inner : List ℕ) → list_all (λ c. not (93 == c)) inner ≡ true → Stable (record { kind = kind.Translation; first = 91; more = inner ++ 93 ∷ [] })
 translation_stable inner h = again_by (record { kind = kind.Translation; first = 91; more = inner ++ 93 ∷ [] }) refl
-    (λ u. ap (ended_token kind.Translation kind.OpenTranslation 91 [] ((inner ++ 93 ∷ []) ++ u)) (through_plain 93 [] inner u h))
+    (λ u. ap (ended_token kind.Translation kind.OpenTranslation 91 [] ((inner ++ 93 ∷ []) ++ u)) (through_inner 93 [] inner u h))
 
 -- a text with its translation
 pub record IsTranslatedText (bytes : List ℕ) : Type 0 where
@@ -133,30 +115,28 @@ pub record IsTranslatedText (bytes : List ℕ) : Type 0 where
 
 pub translated : (b : Before) (bs more : List ℕ) → IsBegun b bs → IsBracketed (91 ∷ []) 93 (93 ∷ []) more → IsTranslatedText (bs ++ more)
 translated b bs more x y =
-    let t = text_of_tokens (print_from x.middle 0 [] x.pieces) in
-    let tr = 91 ∷ (y.inner ++ 93 ∷ []) in
-    let v : ViewFacts = record { word_start = false; pieces = x.pieces; centre = x.middle; translation = Some y.inner } in
+    let v : ViewFacts = record { word_start = false; pieces = x.pieces; centre = x.middle; translation = Some (y.within).text } in
     let old : Sound (view_of b bs x) = begun_sound b bs x in
-    let s : Sound v = record { good = old.good; no_last = old.no_last; centre_in = old.centre_in; translation_in = translation_stable y.inner y.plain } in
-    let spelled : IsSpelled (text_of_tokens (print_from x.middle 0 [] x.pieces) ++ 91 ∷ (y.inner ++ 93 ∷ [])) (bs ++ more) =
-    subst (λ (u : List ℕ). IsSpelled (text_of_tokens (print_from x.middle 0 [] x.pieces) ++ 91 ∷ (y.inner ++ 93 ∷ [])) (bs ++ u)) (sym y.parts)
-    (spelled_join (text_of_tokens (print_from x.middle 0 [] x.pieces)) (91 ∷ (y.inner ++ 93 ∷ [])) bs (91 ∷ (y.inner ++ 93 ∷ [])) x.spells
-    (ascii_spelled (91 ∷ (y.inner ++ 93 ∷ [])) (all_join y.inner (93 ∷ []) (all_low 93 y.inner y.plain) refl))) in
-    let printed : print v ≡ text_of_tokens (print_from x.middle 0 [] x.pieces) ++ 91 ∷ (y.inner ++ 93 ∷ []) =
-    written_append (print_from x.middle 0 [] x.pieces) (translation_tokens (Some y.inner)) ∙ ap (λ (u : List ℕ). text_of_tokens (print_from x.middle 0 [] x.pieces) ++ u) (append-nil (91 ∷ (y.inner ++ 93 ∷ []))) in
+    let s : Sound v = record { good = old.good; no_last = old.no_last; centre_in = old.centre_in; translation_in = translation_stable (y.within).text (y.within).without } in
+    let spelled : IsSpelled (text_of_tokens (print_from x.middle 0 [] x.pieces) ++ 91 ∷ ((y.within).text ++ 93 ∷ [])) (bs ++ more) =
+    subst (λ (u : List ℕ). IsSpelled (text_of_tokens (print_from x.middle 0 [] x.pieces) ++ 91 ∷ ((y.within).text ++ 93 ∷ [])) (bs ++ u)) (sym y.parts)
+    (spelled_join (text_of_tokens (print_from x.middle 0 [] x.pieces)) (91 ∷ ((y.within).text ++ 93 ∷ [])) bs (91 ∷ (y.inner ++ 93 ∷ [])) x.spells
+    (bracketed_spelled (91 ∷ []) (93 ∷ []) y.inner (y.within).text refl refl (y.within).spells)) in
+    let printed : print v ≡ text_of_tokens (print_from x.middle 0 [] x.pieces) ++ 91 ∷ ((y.within).text ++ 93 ∷ []) =
+    written_append (print_from x.middle 0 [] x.pieces) (translation_tokens (Some (y.within).text)) ∙ ap (λ (u : List ℕ). text_of_tokens (print_from x.middle 0 [] x.pieces) ++ u) (append-nil (91 ∷ ((y.within).text ++ 93 ∷ []))) in
     record {
-      text = is_text (text_of_tokens (print_from x.middle 0 [] x.pieces) ++ 91 ∷ (y.inner ++ 93 ∷ [])) (bs ++ more) spelled;
-      regular = subst IsRegularText (printed ∙ sym (chars_of (text_of_tokens (print_from x.middle 0 [] x.pieces) ++ 91 ∷ (y.inner ++ 93 ∷ [])) (bs ++ more) spelled)) (regular_is v s x.known refl);
+      text = is_text (text_of_tokens (print_from x.middle 0 [] x.pieces) ++ 91 ∷ ((y.within).text ++ 93 ∷ [])) (bs ++ more) spelled;
+      regular = subst IsRegularText (printed ∙ sym (chars_of (text_of_tokens (print_from x.middle 0 [] x.pieces) ++ 91 ∷ ((y.within).text ++ 93 ∷ [])) (bs ++ more) spelled)) (regular_is v s x.known refl);
     }
 
 -- ---- where they stand
 
 pub bracketed_is : (l a b : List ℕ) (stop n : ℕ) (x y : Bool) → x ≡ pointwise (λ u v. u == v) a (take (length a) l) → x ≡ true
     → y ≡ pointwise (λ u v. u == v) b (take (length b) (take (length l - (length a + n)) (drop (length a + n) l))) → y ≡ true
-    → list_all (is_plain_byte stop) (take n (take (length l - length a) (drop (length a) l))) ≡ true → IsBracketed a stop b (take (length a + n + length b) l)
+    → IsInner stop (take n (take (length l - length a) (drop (length a) l))) → IsBracketed a stop b (take (length a + n + length b) l)
 bracketed_is l a b stop n x y e f g h p = record {
   inner = take n (drop (length a) l);
-  plain = ap (λ (u : List ℕ). list_all (is_plain_byte stop) (take n u)) (sym (behind_is l (length a))) ∙ p;
+  within = subst (λ (u : List ℕ). IsInner stop (take n u)) (behind_is l (length a)) p;
   parts = between_is l a b n x y e f g h;
 }
 

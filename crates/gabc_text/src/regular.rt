@@ -254,8 +254,8 @@ fn untranslated_len(bytes: &[u8]) -> usize
     end
 }
 
-/// Returns how many bytes the translation has that `bytes` begin with, if it is of printable ASCII
-/// and a `(` follows; else 0.
+/// Returns how many bytes the translation has that `bytes` begin with, if it has only characters
+/// that `bracketed_len` takes, and a `(` follows; else 0.
 fn translation_len(bytes: &[u8]) -> usize
     ensures within { result ≤ length bytes.now }
     ensures bracketed { 0 < result → IsBracketed (codes "[") 93 (codes "]") (take result bytes.now) }

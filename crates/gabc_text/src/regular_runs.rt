@@ -1,11 +1,10 @@
 //! Bytes of letters, raw parts and runs of these, for `regular.rt`.
 
 ghost use Rattle.std.specs.Prelude.{◌≡◌, ◌+◌, ◌≤◌, ◌<◌, ◌==◌, ◌&&◌, length, take, slice_index, true, false};
-ghost use Rattle.std.specs.List.{list_all};
 ghost use Rattle.gabc_text.specs.ExampleTexts.{beginning_of};
 ghost use Rattle.gabc_text.specs.Token.{ending_of, is_special};
 ghost use Rattle.gabc_text.specs.RegularText.{is_letter_byte, is_continuation, is_first_of_two, is_first_of_three, has_letter_at};
-ghost use Rattle.gabc_text.specs.machine.RegularBytes.{IsWord, IsRun, IsBracketed, IsEnclosed, is_plain_byte};
+ghost use Rattle.gabc_text.specs.machine.RegularBytes.{IsWord, IsRun, IsInner, IsBracketed, IsEnclosed, is_plain_byte};
 
 use crate::token::{RawKind, is_special};
 
@@ -106,27 +105,58 @@ fn letter_len(bytes: &[u8]) -> usize
 }
 
 /// Returns whether `byte` is of printable ASCII, and not `stop`.
+#[inline(always)]
 fn is_plain_byte(stop: u8, byte: u8) -> bool
     ensures { result ≡ is_plain_byte stop byte }
 {
     byte > 0x1F && byte < 0x7F && byte != stop
 }
 
-/// Returns how many of the first of `bytes` are of printable ASCII, and not `stop`.
-fn plain_len(bytes: &[u8], stop: u8) -> usize
+/// Returns how many bytes the character has that `bytes` begin with, if it is not `stop`, and of
+/// printable ASCII, of two bytes, or from U+1000 to U+CFFF; else 0. Most are of ASCII.
+#[inline(always)]
+fn inner_character_len(bytes: &[u8], stop: u8) -> usize
+    requires ascii { stop < 128 }
     ensures within { result ≤ length bytes.now }
-    ensures plain { list_all (is_plain_byte stop) (take result bytes.now) ≡ true }
+    ensures inner { 0 < result → IsInner stop (take result bytes.now) }
+{
+    let first = byte_at(bytes, 0);
+    if is_plain_byte(stop, first) {
+        return 1;
+    }
+    let second = byte_at(bytes, 1);
+    if is_pair(first, second) {
+        return 2;
+    }
+    let third = byte_at(bytes, 2);
+    if is_triple(first, second, third) {
+        3
+    } else {
+        0
+    }
+}
+
+/// Returns how many bytes such characters have that `bytes` begin with.
+fn inner_len(bytes: &[u8], stop: u8) -> usize
+    requires ascii { stop < 128 }
+    ensures within { result ≤ length bytes.now }
+    ensures inner { IsInner stop (take result bytes.now) }
 {
     let mut end = 0;
-    while end < bytes.len() && is_plain_byte(stop, bytes[end]) {
-        end += 1;
+    while end < bytes.len() {
+        let more = inner_character_len(&bytes[end..], stop);
+        if more == 0 {
+            return end;
+        }
+        end += more;
     }
     end
 }
 
-/// Returns how many bytes `opening`, printable ASCII without `stop` and `closing` have, if `bytes`
-/// begin with these; else 0.
+/// Returns how many bytes `opening`, characters but `stop` and `closing` have, if `bytes` begin with
+/// these; else 0. The characters are of printable ASCII, of two bytes, or from U+1000 to U+CFFF.
 pub(crate) fn bracketed_len(bytes: &[u8], opening: &[u8], stop: u8, closing: &[u8]) -> usize
+    requires ascii { stop < 128 }
     ensures within { result ≤ length bytes.now }
     ensures bracketed { 0 < result →
         IsBracketed opening.now stop closing.now (take result bytes.now) }
@@ -134,7 +164,7 @@ pub(crate) fn bracketed_len(bytes: &[u8], opening: &[u8], stop: u8, closing: &[u
     if !bytes.starts_with(opening) {
         return 0;
     }
-    let end = opening.len() + plain_len(&bytes[opening.len()..], stop);
+    let end = opening.len() + inner_len(&bytes[opening.len()..], stop);
     if bytes[end..].starts_with(closing) {
         end + closing.len()
     } else {
@@ -164,8 +194,8 @@ fn raw_by(byte: u8) -> Option<RawKind> {
     }
 }
 
-/// Returns how many bytes the raw part has that `bytes` begin with, if it is of printable ASCII and
-/// holds no tag; else 0.
+/// Returns how many bytes the raw part has that `bytes` begin with, if it holds no tag, and only
+/// characters that `bracketed_len` takes; else 0.
 fn raw_len(bytes: &[u8]) -> usize
     ensures within { result ≤ length bytes.now }
     ensures word { 0 < result → IsWord (take result bytes.now) }

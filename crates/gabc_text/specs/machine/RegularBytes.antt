@@ -93,10 +93,16 @@ pub record IsRun (bytes : List ℕ) : Type 0 where
   pub no_blank : blank_after false pieces ≡ false
   pub word : 0 < length bytes → word_after false pieces ≡ true
 
--- printable ASCII between these, in which the stop does not stand
+-- the bytes of characters other than this one
+pub record IsInner (stop : ℕ) (bytes : List ℕ) : Type 0 where
+  pub text : List ℕ
+  pub spells : IsSpelled text bytes
+  pub without : list_all (λ c. not (stop == c)) text ≡ true
+
+-- such characters between these
 pub record IsBracketed (opening : List ℕ) (stop : ℕ) (closing bytes : List ℕ) : Type 0 where
   pub inner : List ℕ
-  pub plain : list_all (is_plain_byte stop) inner ≡ true
+  pub within : IsInner stop inner
   pub parts : bytes ≡ opening ++ (inner ++ closing)
 
 -- a tag that is a span mark
