@@ -1,6 +1,5 @@
 -- Parts of a regular text, one after another.
-use Rattle.std.proofs.Common.{◌≡◌, ℕ, ◌<◌, ◌≤◌, ◌+◌, ◌-◌, ◌==◌, List, [], ◌∷◌, ◌++◌, Bool, true, false, not, ◌||◌, ◌&&◌, length, refl, sym, ap, ap₂, subst, ◌∙◌, arith, take, drop, get_or, map, append-nil, append_assoc, length-append, Option, Some, None, nat_lt, zero, suc}
-use Rattle.std.specs.Str.{chars}
+use Rattle.std.proofs.Common.{◌≡◌, ℕ, ◌<◌, ◌≤◌, ◌+◌, ◌-◌, ◌==◌, List, [], ◌∷◌, ◌++◌, Bool, true, false, not, ◌||◌, ◌&&◌, length, refl, sym, ap, ap₂, subst, ◌∙◌, arith, take, drop, get_or, map, append_assoc, length-append, Option, Some, None, nat_lt, zero, suc}
 use Rattle.std.specs.Cmp.Lexicographic.{pointwise}
 use Rattle.std.proofs.lemmas.Bool.{true≢false, or_parts}
 use Rattle.std.proofs.lemmas.Bool.Decides.{Decides-eqb}
@@ -9,7 +8,6 @@ use Rattle.std.proofs.Math.Seq.{take-add}
 use Rattle.std.proofs.lemmas.List.{length-take-le, length-map}
 use Rattle.std.proofs.lemmas.Bool.{lt-ltb}
 use Rattle.gabc_places.specs.declared.place.Span.{Span}
-use Rattle.gabc_places.specs.TextOfAnInput.{IsText}
 use Rattle.gabc_text.specs.declared.styles.Style.{Style}
 use Rattle.gabc_text.specs.declared.styles.Style.TheVariants.{B, C, E, I, Sc, Tt, Ul}
 use Rattle.gabc_text.specs.declared.styles.Styles.{Styles}
@@ -18,18 +16,14 @@ use Rattle.gabc_text.specs.Token.{spelling}
 use Rattle.gabc_text.specs.View.{PieceFacts, is_same, all_styles}
 use Rattle.gabc_text.specs.TextFacts.{has_style}
 use Rattle.gabc_text.specs.machine.TextFacts.{with_style}
-use Rattle.gabc_text.specs.ViewFacts.{ViewFacts, LiesAmong}
 use Rattle.gabc_text.specs.Canonical.{listed_styles}
 use Rattle.gabc_text.specs.Printed.{print_from, text_of_tokens, opening_tag, closing_tag}
-use Rattle.gabc_text.specs.RegularText.{IsRegularText}
 use Rattle.gabc_text.specs.machine.PrintedPieces.{Good, AllGood}
 use Rattle.gabc_text.specs.machine.RegularBytes.{no_styles, word_after, blank_after, first_styles, last_styles, AreApart, printed_text, IsSpelled, IsRun, IsEnclosed, IsPart, IsBegun}
 use Rattle.gabc_text.proofs.printing.PiecesPrintWell.{any_blank}
-use Rattle.gabc_text.proofs.RegularBytes.{ascii_spelled, spelled_join, one_spelled, none_spelled, chars_of, is_text, behind_is, at_blank, blank, blank_good}
+use Rattle.gabc_text.proofs.RegularBytes.{ascii_spelled, spelled_join, one_spelled, none_spelled, behind_is, at_blank, blank, blank_good}
 use Rattle.gabc_text.proofs.printing.PrintedTagsOpenStyles.{member, member_filter}
-use Rattle.gabc_text.proofs.printing.PrintedTextIsReadAgain.{Sound}
-use Rattle.gabc_text.proofs.printing.PrintedViewIsRegular.{regular_is}
-use Rattle.gabc_text.proofs.printing.PrintedPiecesAreJoined.{in_styles, good_in, known_in, blank_in, word_in, first_in, last_in, none_taken, plain_printed, styled_printed, text_join, good_join, good_behind, known_join, word_join, word_stays, blank_join, among_more, centre_text, last_join, after_blank, some_blank, apart_none}
+use Rattle.gabc_text.proofs.printing.PrintedPiecesAreJoined.{in_styles, good_in, known_in, blank_in, word_in, first_in, last_in, plain_printed, styled_printed, text_join, good_join, good_behind, known_join, word_join, word_stays, blank_join, among_more, centre_text, last_join, after_blank, some_blank, apart_none}
 
 -- ---- sets of styles
 
@@ -267,26 +261,6 @@ centre_begun b a bs more x h m e f =
     up : (z : Bool) → word_after false (map (in_styles []) (m.run).pieces) ≡ true → word_after z (map (in_styles []) (m.run).pieces) ≡ true
     up true e = word_stays (map (in_styles []) (m.run).pieces)
     up false e = e
-
--- ---- what the whole is
-
-abbrev pub view_of : (b : Before) (bs : List ℕ) → IsBegun b bs → ViewFacts
-view_of b bs x = record { word_start = false; pieces = x.pieces; centre = x.middle; translation = None }
-
-pub begun_sound : (b : Before) (bs : List ℕ) (x : IsBegun b bs) → Sound (view_of b bs x)
-begun_sound b bs x = record { good = x.good; no_last = none_taken x.pieces x.no_blank; centre_in = centre x.middle x.middle_in; translation_in = tt }
-  where
-    centre : (m : Option Span) → LiesAmong (length x.pieces) m → LiesAmong (length x.pieces) m
-    centre None h = h
-    centre (Some c) h = h
-
-pub begun_text : (b : Before) (bs : List ℕ) → IsBegun b bs → IsText bs
-begun_text b bs x = is_text (text_of_tokens (print_from x.middle 0 [] x.pieces)) bs x.spells
-
-pub begun_regular : (b : Before) (bs : List ℕ) → IsBegun b bs → IsRegularText (chars bs)
-begun_regular b bs x =
-    subst IsRegularText (ap text_of_tokens (append-nil (print_from x.middle 0 [] x.pieces)) ∙ sym (chars_of (text_of_tokens (print_from x.middle 0 [] x.pieces)) bs x.spells))
-    (regular_is (view_of b bs x) (begun_sound b bs x) x.known refl)
 
 -- ---- where they stand
 

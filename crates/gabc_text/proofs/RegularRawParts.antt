@@ -1,9 +1,11 @@
 -- Raw parts, span marks and translations of a regular text.
-use Rattle.std.proofs.Common.{◌≡◌, ℕ, ◌<◌, ◌+◌, ◌-◌, ◌==◌, List, [], ◌∷◌, ◌++◌, Bool, true, false, not, length, refl, sym, ap, ap₂, subst, ◌∙◌, arith, take, drop, get_or, append-nil, Some, codes, suc, zero, eq-eqb}
+use Rattle.std.proofs.Common.{◌≡◌, ℕ, ◌<◌, ◌+◌, ◌-◌, ◌==◌, List, [], ◌∷◌, ◌++◌, Bool, true, false, not, length, refl, sym, ap, ap₂, subst, ◌∙◌, arith, take, drop, get_or, append-nil, append_assoc, length-append, length-drop, take_all, slice_index, encode_utf8_all, IsUtf8, Option, Some, None, codes, suc, zero, eq-eqb}
 use Rattle.std.specs.Str.{chars}
 use Rattle.std.specs.List.{list_all}
 use Rattle.std.specs.Cmp.Lexicographic.{pointwise}
 use Rattle.std.proofs.lemmas.Bool.{and_parts, not-true}
+use Rattle.std.proofs.lemmas.Str.{encodes-append, encodes-chars}
+use Rattle.gabc_places.specs.declared.place.Span.{Span}
 use Rattle.gabc_places.specs.TextOfAnInput.{IsText}
 use Rattle.gabc_text.specs.declared.styles.Styles.{Styles}
 use Rattle.gabc_text.specs.declared.regular.Before.{Before}
@@ -14,20 +16,22 @@ use Rattle.gabc_text.specs.declared.view.PieceKind.TheVariants as piece
 use Rattle.gabc_text.specs.Token.{spelling, through, ended_token, ending_of}
 use Rattle.gabc_text.specs.ExampleTexts.{beginning_of}
 use Rattle.gabc_text.specs.View.{PieceFacts}
-use Rattle.gabc_text.specs.ViewFacts.{ViewFacts}
-use Rattle.gabc_text.specs.Printed.{print, print_from, text_of_tokens, printed_piece, translation_tokens}
-use Rattle.gabc_text.specs.RegularText.{IsRegularText, begins_letter, has_letter_at}
+use Rattle.gabc_text.specs.ViewFacts.{ViewFacts, LiesAmong, view_facts}
+use Rattle.gabc_text.specs.Printed.{print, print_from, text_of_tokens, text_tokens, printed_piece, translation_tokens}
+use Rattle.gabc_text.specs.RegularText.{IsRegularText, begins_letter, has_letter_at, text_part, translation_part}
 use Rattle.gabc_text.specs.machine.PrintedPieces.{Stable}
 use Rattle.gabc_text.specs.machine.RegularBytes.{no_styles, is_low, IsSpelled, IsWord, IsInner, IsBracketed, IsMark, IsPart, IsBegun}
-use Rattle.gabc_text.proofs.RegularBytes.{ascii_spelled, spelled_join, chars_of, is_text, behind_is}
-use Rattle.gabc_text.proofs.RegularParts.{none_listed, starts_so, taken_first, between_is, view_of, begun_sound, begun_text, begun_regular}
-use Rattle.std.proofs.Math.Seq.{take-add}
+use Rattle.gabc_text.proofs.RegularBytes.{ascii_spelled, none_spelled, spelled_join, chars_of, is_text, behind_is}
+use Rattle.gabc_text.proofs.RegularParts.{none_listed, starts_so, taken_first, between_is}
+use Rattle.std.proofs.Math.Seq.{take-add, get_or-append_seam}
 use Rattle.std.proofs.lemmas.List.{get_or-drop}
 use Rattle.gabc_text.proofs.tokens.RawEndingIsMatched.{begins_itself}
 use Rattle.gabc_text.proofs.printing.TokensAreReadAgain.{again_by}
 use Rattle.gabc_text.proofs.printing.PrintedTextIsKept.{written_append}
-use Rattle.gabc_text.proofs.printing.PrintedTextIsReadAgain.{Sound}
-use Rattle.gabc_text.proofs.printing.PrintedViewIsRegular.{regular_is}
+use Rattle.gabc_text.proofs.printing.PrintedPiecesAreJoined.{none_taken}
+use Rattle.gabc_text.proofs.printing.PrintedTextIsReadAgain.{IsTranslated, Sound}
+use Rattle.gabc_text.proofs.printing.RegularTextIsPrinted.{parts_join}
+use Rattle.gabc_text.proofs.printing.PrintedViewIsRegular.{read_again, regular_is}
 
 -- ---- what is in brackets
 
@@ -108,26 +112,47 @@ translation_stable : (inner : List ℕ) → list_all (λ c. not (93 == c)) inner
 translation_stable inner h = again_by (record { kind = kind.Translation; first = 91; more = inner ++ 93 ∷ [] }) refl
     (λ u. ap (ended_token kind.Translation kind.OpenTranslation 91 [] ((inner ++ 93 ∷ []) ++ u)) (through_inner 93 [] inner u h))
 
--- a text with its translation
-pub record IsTranslatedText (bytes : List ℕ) : Type 0 where
+-- a text and its translation
+pub record IsTranslatedText (bytes bs more : List ℕ) : Type 0 where
   pub text : IsText bytes
   pub regular : IsRegularText (chars bytes)
+  pub text_is : bs ≡ encode_utf8_all (text_part (chars bytes))
+  pub translation_is : more ≡ encode_utf8_all (translation_part (chars bytes))
 
-pub translated : (b : Before) (bs more : List ℕ) → IsBegun b bs → IsBracketed (91 ∷ []) 93 (93 ∷ []) more → IsTranslatedText (bs ++ more)
-translated b bs more x y =
-    let v : ViewFacts = record { word_start = false; pieces = x.pieces; centre = x.middle; translation = Some (y.within).text } in
-    let old : Sound (view_of b bs x) = begun_sound b bs x in
-    let s : Sound v = record { good = old.good; no_last = old.no_last; centre_in = old.centre_in; translation_in = translation_stable (y.within).text (y.within).without } in
-    let spelled : IsSpelled (text_of_tokens (print_from x.middle 0 [] x.pieces) ++ 91 ∷ ((y.within).text ++ 93 ∷ [])) (bs ++ more) =
-    subst (λ (u : List ℕ). IsSpelled (text_of_tokens (print_from x.middle 0 [] x.pieces) ++ 91 ∷ ((y.within).text ++ 93 ∷ [])) (bs ++ u)) (sym y.parts)
-    (spelled_join (text_of_tokens (print_from x.middle 0 [] x.pieces)) (91 ∷ ((y.within).text ++ 93 ∷ [])) bs (91 ∷ (y.inner ++ 93 ∷ [])) x.spells
-    (bracketed_spelled (91 ∷ []) (93 ∷ []) y.inner (y.within).text refl refl (y.within).spells)) in
-    let printed : print v ≡ text_of_tokens (print_from x.middle 0 [] x.pieces) ++ 91 ∷ ((y.within).text ++ 93 ∷ []) =
-    written_append (print_from x.middle 0 [] x.pieces) (translation_tokens (Some (y.within).text)) ∙ ap (λ (u : List ℕ). text_of_tokens (print_from x.middle 0 [] x.pieces) ++ u) (append-nil (91 ∷ ((y.within).text ++ 93 ∷ []))) in
-    record {
-      text = is_text (text_of_tokens (print_from x.middle 0 [] x.pieces) ++ 91 ∷ ((y.within).text ++ 93 ∷ [])) (bs ++ more) spelled;
-      regular = subst IsRegularText (printed ∙ sym (chars_of (text_of_tokens (print_from x.middle 0 [] x.pieces) ++ 91 ∷ ((y.within).text ++ 93 ∷ [])) (bs ++ more) spelled)) (regular_is v s x.known refl);
-    }
+module _ (b : Before) (bs more : List ℕ) (x : IsBegun b bs) (o : Option (List ℕ)) (stable : IsTranslated o) (spells : IsSpelled (text_of_tokens (translation_tokens o)) more) where
+  abbrev v : ViewFacts
+  v = record { word_start = false; pieces = x.pieces; centre = x.middle; translation = o }
+
+  sound : Sound v
+  sound = record { good = x.good; no_last = none_taken x.pieces x.no_blank; centre_in = centre x.middle x.middle_in; translation_in = stable }
+    where
+      centre : (m : Option Span) → LiesAmong (length x.pieces) m → LiesAmong (length x.pieces) m
+      centre None h = h
+      centre (Some c) h = h
+
+  spelled : IsSpelled (print v) (bs ++ more)
+  spelled = subst (λ (t : List ℕ). IsSpelled t (bs ++ more)) (sym (written_append (print_from x.middle 0 [] x.pieces) (translation_tokens o)))
+      (spelled_join (text_of_tokens (print_from x.middle 0 [] x.pieces)) (text_of_tokens (translation_tokens o)) bs more x.spells spells)
+
+  says : view_facts (chars (bs ++ more)) ≡ v
+  says = ap view_facts (chars_of (print v) (bs ++ more) spelled) ∙ read_again v sound
+
+  translated : IsTranslatedText (bs ++ more) bs more
+  translated = record {
+    text = is_text (print v) (bs ++ more) spelled;
+    regular = subst IsRegularText (sym (chars_of (print v) (bs ++ more) spelled)) (regular_is v sound x.known refl);
+    text_is = x.spells.spelled ∙ ap (λ (u : ViewFacts). encode_utf8_all (text_of_tokens (text_tokens u))) (sym says);
+    translation_is = spells.spelled ∙ ap (λ (u : ViewFacts). encode_utf8_all (text_of_tokens (translation_tokens u.translation))) (sym says);
+  }
+
+pub untranslated : (b : Before) (bs : List ℕ) → IsBegun b bs → IsTranslatedText bs bs []
+untranslated b bs x = subst (λ (u : List ℕ). IsTranslatedText u bs []) (append-nil bs) (translated b bs [] x None tt none_spelled)
+
+bracketed_text : (b : Before) (bs more : List ℕ) → IsBegun b bs → IsBracketed (91 ∷ []) 93 (93 ∷ []) more → IsTranslatedText (bs ++ more) bs more
+bracketed_text b bs more x y =
+    translated b bs more x (Some (y.within).text) (translation_stable (y.within).text (y.within).without)
+    (subst (λ (t : List ℕ). IsSpelled t more) (sym (append-nil (91 ∷ ((y.within).text ++ 93 ∷ []))))
+    (subst (λ (u : List ℕ). IsSpelled (91 ∷ ((y.within).text ++ 93 ∷ [])) u) (sym y.parts) (bracketed_spelled (91 ∷ []) (93 ∷ []) y.inner (y.within).text refl refl (y.within).spells)))
 
 -- ---- where they stand
 
@@ -141,13 +166,19 @@ bracketed_is l a b stop n x y e f g h p = record {
 }
 
 -- a text with its translation, if it has one
-pub whole : (b : Before) (l : List ℕ) (n r : ℕ) → IsBegun b (take n l) → (0 < r → IsBracketed (91 ∷ []) 93 (93 ∷ []) (take r (take (length l - n) (drop n l)))) → IsTranslatedText (take (n + r) l)
-whole b l n zero x h =
-    subst (λ (m : ℕ). IsTranslatedText (take m l)) (let e : n ≡ n + 0 = omega arith in e)
-    (record { text = begun_text b (take n l) x; regular = begun_regular b (take n l) x })
-whole b l n (suc r) x h =
-    subst IsTranslatedText (sym (take-add n (suc r) l))
-    (translated b (take n l) (take (suc r) (drop n l)) x (subst (λ (u : List ℕ). IsBracketed (91 ∷ []) 93 (93 ∷ []) (take (suc r) u)) (behind_is l n) (h (omega arith))))
+pub whole : (b : Before) (l : List ℕ) (n r : ℕ) → IsBegun b (take n l) → (0 < r → IsBracketed (91 ∷ []) 93 (93 ∷ []) (take r (take (length l - n) (drop n l)))) → IsTranslatedText (take (n + r) l) (take n l) (take r (drop n l))
+whole b l n r x h = subst (λ (u : List ℕ). IsTranslatedText u (take n l) (take r (drop n l))) (sym (take-add n r l)) (by r h)
+  where
+    by : (r : ℕ) → (0 < r → IsBracketed (91 ∷ []) 93 (93 ∷ []) (take r (take (length l - n) (drop n l)))) → IsTranslatedText (take n l ++ take r (drop n l)) (take n l) (take r (drop n l))
+    by zero h = translated b (take n l) [] x None tt none_spelled
+    by (suc r) h =
+        bracketed_text b (take n l) (take (suc r) (drop n l)) x (subst (λ (u : List ℕ). IsBracketed (91 ∷ []) 93 (93 ∷ []) (take (suc r) u)) (behind_is l n) (h (omega arith)))
+
+-- that is all of these bytes
+pub parted : (l : List ℕ) (n r : ℕ) → n + r ≡ length l → IsTranslatedText (take (n + r) l) (take n l) (take r (drop n l)) → IsTranslatedText l (take n l) (drop n l)
+parted l n r e x =
+    subst (λ (u : List ℕ). IsTranslatedText u (take n l) (drop n l)) (take_all (n + r) l (omega (arith, e)))
+    (subst (λ (u : List ℕ). IsTranslatedText (take (n + r) l) (take n l) u) (take_all r (drop n l) (omega (arith, length-drop n l, e))) x)
 
 -- no letter comes next
 pub whole_stops : (l : List ℕ) (n r : ℕ) → (n < length l → has_letter_at l n ≡ false) → (0 < r → get_or (take (length l - n) (drop n l)) r 0 ≡ 40) → n + r < length l → has_letter_at l (n + r) ≡ false
@@ -155,3 +186,27 @@ whole_stops l n zero h g less = let same : n ≡ n + 0 = omega arith in subst (�
 whole_stops l n (suc r) h g less =
     let here : get_or l (n + suc r) 0 ≡ 40 = sym (get_or-drop n l (suc r) 0) ∙ ap (λ (u : List ℕ). get_or u (suc r) 0) (sym (behind_is l n)) ∙ g (omega arith) in
     ap (λ (x : ℕ). begins_letter x (get_or l (n + suc r + 1) 0) (get_or l (n + suc r + 2) 0)) here
+
+-- ---- no translation
+
+bracket_last : (t prefix : List ℕ) → t ≡ prefix ++ 93 ∷ [] → slice_index t (length t - 1) ≡ 93
+bracket_last t prefix e =
+    let n = ap (λ (l : List ℕ). length l) e ∙ length-append prefix (93 ∷ []) in
+    let at : length t - 1 ≡ length prefix = omega (arith, n) in
+    ap (λ (k : ℕ). slice_index t k) at ∙ ap (λ (l : List ℕ). slice_index l (length prefix)) e ∙ get_or-append_seam prefix 93 [] 0
+
+none_there : (a bytes : List ℕ) (o : Option (List ℕ)) → a ++ encode_utf8_all (text_of_tokens (translation_tokens o)) ≡ bytes → (slice_index bytes (length bytes - 1) ≡ 93 → ⊥)
+    → encode_utf8_all (text_of_tokens (translation_tokens o)) ≡ []
+none_there a bytes None e plain = refl
+none_there a bytes (Some t) e plain =
+    let last : encode_utf8_all ((91 ∷ (t ++ 93 ∷ [])) ++ []) ≡ encode_utf8_all (91 ∷ t) ++ 93 ∷ [] =
+    ap encode_utf8_all (append-nil (91 ∷ (t ++ 93 ∷ []))) ∙ encodes-append (91 ∷ t) (93 ∷ []) ∙ ap (λ (u : List ℕ). encode_utf8_all (91 ∷ t) ++ u) (sym (ascii_spelled (93 ∷ []) refl).spelled) in
+    absurd (plain (bracket_last bytes (a ++ encode_utf8_all (91 ∷ t)) (sym e ∙ ap (λ (u : List ℕ). a ++ u) last ∙ sym (append_assoc a (encode_utf8_all (91 ∷ t)) (93 ∷ [])))))
+
+-- a text that does not end with a bracket
+pub unbracketed : (bytes : List ℕ) → IsUtf8 bytes → IsRegularText (chars bytes) → (slice_index bytes (length bytes - 1) ≡ 93 → ⊥) → (bytes ≡ encode_utf8_all (text_part (chars bytes))) × ([] ≡ encode_utf8_all (translation_part (chars bytes)))
+unbracketed bytes utf8 r plain =
+    let joined : encode_utf8_all (text_part (chars bytes)) ++ encode_utf8_all (translation_part (chars bytes)) ≡ bytes =
+    sym (encodes-append (text_part (chars bytes)) (translation_part (chars bytes))) ∙ ap encode_utf8_all (parts_join (chars bytes) r) ∙ encodes-chars bytes utf8 in
+    let none = none_there (encode_utf8_all (text_part (chars bytes))) bytes (view_facts (chars bytes)).translation joined plain in
+    (sym joined ∙ ap (λ (u : List ℕ). encode_utf8_all (text_part (chars bytes)) ++ u) none ∙ append-nil (encode_utf8_all (text_part (chars bytes))), sym none)

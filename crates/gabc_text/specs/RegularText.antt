@@ -4,13 +4,20 @@ use Rattle.gabc_places.specs.declared.place.Place.{Place}
 use Rattle.gabc_text.specs.Token.{is_blank, is_special}
 use Rattle.gabc_text.specs.View.{findings}
 use Rattle.gabc_text.specs.ViewFacts.{view_facts}
-use Rattle.gabc_text.specs.Printed.{print}
+use Rattle.gabc_text.specs.Printed.{print, text_tokens, translation_tokens, text_of_tokens}
 
 -- a text that is its own printed form, begins no word, and has no finding
 pub record IsRegularText (t : List ℕ) : Type 0 where
   pub printed : print (view_facts t) ≡ t
   pub no_start : (view_facts t).word_start ≡ false
   pub nothing : (at : Place) → findings at t ≡ []
+
+-- what is printed of this text but for its translation, and of its translation with the brackets
+abbrev pub text_part : List ℕ → List ℕ
+text_part t = text_of_tokens (text_tokens (view_facts t))
+
+abbrev pub translation_part : List ℕ → List ℕ
+translation_part t = text_of_tokens (translation_tokens (view_facts t).translation)
 
 -- blanks and comments in any order, each comment with the LF that ends it; the first flag says
 -- whether a comment is open before them

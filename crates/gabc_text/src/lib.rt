@@ -34,7 +34,7 @@ mod whole;
 
 pub use canonical::{text_len, text_span, write_text};
 pub use kept::kept_chars;
-pub use regular::regular_text;
+pub use regular::{regular_text, translation_from};
 pub use stage::TextStage;
 pub use styles::{Style, Styles};
 pub use text_event::{TextEnd, TextEvent, TextOut, TextPart};

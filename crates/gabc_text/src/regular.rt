@@ -1,15 +1,15 @@
 //! How far a text goes that is printed as it stands.
 
-ghost use Rattle.std.specs.Prelude.{◌≡◌, ◌+◌, ◌≤◌, ◌<◌, length, take, get_or, false, IfSome, None, codes};
+ghost use Rattle.std.specs.Prelude.{◌≡◌, ◌+◌, ◌≤◌, ◌<◌, length, take, drop, get_or, false, IfSome, None, codes, encode_utf8_all};
 ghost use Rattle.std.specs.Str.{chars};
 ghost use Rattle.gabc_places.specs.TextOfAnInput.{IsText};
 ghost use Rattle.gabc_text.specs.Token.{spelling};
 ghost use Rattle.gabc_text.specs.Canonical.{listed_styles};
 ghost use Rattle.gabc_text.specs.Printed.{opening_tag, closing_tag};
-ghost use Rattle.gabc_text.specs.RegularText.{IsRegularText, has_letter_at};
+ghost use Rattle.gabc_text.specs.RegularText.{IsRegularText, has_letter_at, text_part, translation_part};
 ghost use Rattle.gabc_text.specs.machine.RegularBytes.{no_styles, IsBracketed, IsMark, IsPart, IsBegun, AreApart, through};
 
-use crate::regular_runs::{bracketed_len, enclosed_len, letters_len, run_len};
+use crate::regular_runs::{bracketed_len, byte_at, enclosed_len, letters_len, run_len};
 use crate::styles::{Style, Styles};
 
 /// Returns the tags of `style`.
@@ -303,5 +303,28 @@ pub fn regular_text(bytes: &[u8]) -> usize
         letters
     } else {
         any_text_len(bytes)
+    }
+}
+
+/// Returns how many bytes of `text`, which is regular, stand before its translation: all of them, if
+/// it has none; `None`, if it is not known where one begins.
+pub fn translation_from(text: &str) -> Option<usize>
+    requires { IsRegularText (chars text.now) }
+    ensures within { IfSome result (λ n. n ≤ length text.now) }
+    ensures text { IfSome result
+        (λ n. take n text.now ≡ encode_utf8_all (text_part (chars text.now))) }
+    ensures translation { IfSome result
+        (λ n. drop n text.now ≡ encode_utf8_all (translation_part (chars text.now))) }
+{
+    let bytes = text.as_bytes();
+    if byte_at(bytes, bytes.len().saturating_sub(1)) != b']' {
+        return Some(bytes.len());
+    }
+    let end = untranslated_len(bytes);
+    let translation = bracketed_len(&bytes[end..], b"[", b']', b"]");
+    if end + translation == bytes.len() {
+        Some(end)
+    } else {
+        None
     }
 }

@@ -68,7 +68,7 @@ fn is_triple(first: u8, second: u8, third: u8) -> bool
 }
 
 /// Returns the byte of `bytes` at `index`; 0, if there is none.
-fn byte_at(bytes: &[u8], index: usize) -> u8
+pub(crate) fn byte_at(bytes: &[u8], index: usize) -> u8
     ensures { result ≡ slice_index bytes.now index }
 {
     if index < bytes.len() { bytes[index] } else { 0 }

@@ -9,11 +9,11 @@ use Rattle.gabc_text.specs.TextRead.{view_in}
 use Rattle.gabc_text.specs.Canonical.{canonical_text}
 use Rattle.gabc_text.specs.Printed.{print, text_of_tokens, text_tokens, translation_tokens, word_break, print_tokens}
 use Rattle.gabc_text.specs.PrintedView.{printed_view}
-use Rattle.gabc_text.specs.RegularText.{IsRegularText}
+use Rattle.gabc_text.specs.RegularText.{IsRegularText, text_part, translation_part}
 use Rattle.gabc_text.proofs.printing.ViewFromFirstToken.{view}
 use Rattle.gabc_text.proofs.printing.ViewForwardIsViewBackward.{facts_is}
 use Rattle.gabc_text.proofs.printing.PrintedTextIsReadAgain.{tokens_before, tokens_printed, view_sound}
-use Rattle.gabc_text.proofs.printing.PrintedTextIsKept.{printed_kept, word_kept}
+use Rattle.gabc_text.proofs.printing.PrintedTextIsKept.{printed_kept, word_kept, written_append}
 use Rattle.gabc_text.proofs.printing.PrintedTextEndsBeforeNotes.{printed_ends}
 use Rattle.gabc_text.proofs.printing.PrintedViewIsReadAgain.{printed_is}
 use Rattle.gabc_text.proofs.printing.CanonicalTextIsPrinted.{canonical_is}
@@ -50,6 +50,12 @@ pub regular_printed : (whole t rest : List ℕ) → IsRegularText t → StandsFo
     → printed_view (view_in (t ++ 40 ∷ rest)) (encode_utf8_all whole) ≡ encode_utf8_all t
 regular_printed whole t rest r s =
     printed_is whole (t ++ 40 ∷ rest) s ∙ ap (λ (v : ViewFacts). encode_utf8_all (print v)) (says_alone t rest r) ∙ ap encode_utf8_all r.printed
+
+-- it is its text and its translation
+pub parts_join : (t : List ℕ) → IsRegularText t → text_part t ++ translation_part t ≡ t
+parts_join t r =
+    sym (written_append (text_tokens (view_facts t)) (translation_tokens (view_facts t).translation))
+    ∙ ap (λ (b : Bool). text_of_tokens (word_break b ++ text_tokens (view_facts t) ++ translation_tokens (view_facts t).translation)) (sym r.no_start) ∙ r.printed
 
 pub text_alone : (b : Bool) (ks : List Token) (x : Option (List ℕ)) → b ≡ false → x ≡ None → text_of_tokens ks ≡ text_of_tokens (word_break b ++ ks ++ translation_tokens x)
 text_alone b ks x e f = rw (e, f) (ap text_of_tokens (sym (append-nil ks)))
