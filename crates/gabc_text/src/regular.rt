@@ -1,6 +1,6 @@
 //! How far a text goes that is printed as it stands.
 
-ghost use Rattle.std.specs.Prelude.{◌≡◌, ◌+◌, ◌≤◌, ◌<◌, length, take, drop, get_or, false, IfSome, None, codes, encode_utf8_all};
+ghost use Rattle.std.specs.Prelude.{◌≡◌, ◌+◌, ◌≤◌, ◌<◌, length, take, drop, get_or, true, false, IfSome, None, codes, encode_utf8_all};
 ghost use Rattle.std.specs.Str.{chars};
 ghost use Rattle.gabc_places.specs.TextOfAnInput.{IsText};
 ghost use Rattle.gabc_text.specs.Token.{spelling};
@@ -150,6 +150,20 @@ fn tagged_part(bytes: &[u8], last: Styles) -> Option<Part>
     })
 }
 
+/// Returns whether `bytes` begin with a `<` that begins no raw part.
+#[inline(always)]
+fn begins_no_raw(bytes: &[u8]) -> bool
+    ensures { result ≡ true → has_letter_at bytes.now 0 ≡ false }
+{
+    if bytes.len() < 2 || bytes[0] != b'<' {
+        return false;
+    }
+    match bytes[1] {
+        b'v' | b's' | b'a' => false,
+        _ => true,
+    }
+}
+
 /// Returns the part that `bytes` begin with, where the piece before has the styles `last`.
 fn next_part(bytes: &[u8], last: Styles) -> Option<Part>
     ensures within { IfSome result (λ p. (0 < p.len) × (p.len ≤ length bytes.now)) }
@@ -157,6 +171,9 @@ fn next_part(bytes: &[u8], last: Styles) -> Option<Part>
     ensures apart { IfSome result (λ p. AreApart (listed_styles last) (listed_styles p.styles)) }
     ensures stops { result ≡ None → 0 < length bytes.now → has_letter_at bytes.now 0 ≡ false }
 {
+    if begins_no_raw(bytes) {
+        return tagged_part(bytes, last);
+    }
     let len = run_len(bytes);
     if len == 0 {
         return tagged_part(bytes, last);

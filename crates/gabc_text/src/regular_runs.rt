@@ -258,6 +258,16 @@ pub(crate) fn letters_len(bytes: &[u8]) -> usize
     end
 }
 
+/// Returns whether `bytes` begin with what stands in no run: the `(` of notes, or the `<` of a
+/// closing tag.
+#[inline(always)]
+fn ends_run(bytes: &[u8]) -> bool
+    requires { 0 < length bytes.now }
+    ensures { result ≡ true → has_letter_at bytes.now 0 ≡ false }
+{
+    bytes[0] == b'(' || (bytes[0] == b'<' && byte_at(bytes, 1) == b'/')
+}
+
 /// Returns how many bytes the run has that `bytes` begin with: letters and raw parts, with single
 /// blanks between them.
 pub(crate) fn run_len(bytes: &[u8]) -> usize
@@ -266,7 +276,10 @@ pub(crate) fn run_len(bytes: &[u8]) -> usize
     ensures stops { result < length bytes.now → has_letter_at bytes.now result ≡ false }
 {
     let mut end = letters_len(bytes);
-    while end < bytes.len() && bytes[end] != b'(' {
+    while end < bytes.len() {
+        if ends_run(&bytes[end..]) {
+            return end;
+        }
         let more = more_of_run(bytes, end);
         if more == 0 {
             return end;
