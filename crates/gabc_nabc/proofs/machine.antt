@@ -1,3 +1,4 @@
+pub mod ClassesInTable
 pub mod EventsBuildSnippet
 pub mod FreshStageEmitsEventsByPoint
 pub mod LoopOverBody

@@ -3,6 +3,11 @@
 ghost use Rattle.std.specs.Prelude.{◌≡◌};
 ghost use Rattle.gabc_nabc.specs.CharClass.{class_of_character};
 
+use NabcClass::{
+    Bang, Digit, Hyphen, Letter, LetterH, LetterL, LetterP, LetterS, LetterT, LetterU, Modifier,
+    Other, Pitch, Slash, Tick,
+};
+
 /// What a character may be in a descriptor or a space.
 #[derive(Clone, Copy)]
 pub(crate) enum NabcClass {
@@ -30,25 +35,33 @@ pub(crate) enum NabcClass {
     Other,
 }
 
-/// Returns the class of a character.
+/// The class of each character below 128.
+#[rattlefmt::skip]
+const CLASSES: [NabcClass; 128] = [
+    Other, Other, Other, Other, Other, Other, Other, Other, // U+0000 to U+0007
+    Other, Other, Other, Other, Other, Other, Other, Other, // U+0008 to U+000F
+    Other, Other, Other, Other, Other, Other, Other, Other, // U+0010 to U+0017
+    Other, Other, Other, Other, Other, Other, Other, Other, // U+0018 to U+001F
+    Other, Bang, Other, Other, Other, Other, Other, Other, // SPACE ! " # $ % & '
+    Other, Other, Other, Other, Other, Hyphen, Other, Slash, // ( ) * + , - . /
+    Other, Digit, Digit, Digit, Digit, Digit, Digit, Digit, // 0 1 2 3 4 5 6 7
+    Digit, Digit, Other, Other, Other, Other, Modifier, Other, // 8 9 : ; < = > ?
+    Other, Other, Other, Other, Other, Other, Other, Modifier, // @ A B C D E F G
+    Other, Other, Other, Other, Other, Modifier, Other, Other, // H I J K L M N O
+    Other, Other, Other, Modifier, Other, Other, Other, Other, // P Q R S T U V W
+    Other, Other, Other, Other, Other, Other, Other, Other, // X Y Z [ \ ] ^ _
+    Tick, Pitch, Pitch, Pitch, Pitch, Pitch, Pitch, Pitch, // ` a b c d e f g
+    LetterH, Pitch, Pitch, Pitch, LetterL, Pitch, Pitch, Letter, // h i j k l m n o
+    LetterP, Letter, Letter, LetterS, LetterT, LetterU, Letter, Letter, // p q r s t u v w
+    Letter, Letter, Letter, Other, Other, Other, Modifier, Other, // x y z { | } ~ DEL
+];
+
+/// Returns the class of a character, by the table where it has one.
 pub(crate) fn class_of(c: char) -> NabcClass
     ensures { result ≡ class_of_character c }
 {
-    match c {
-        'h' => NabcClass::LetterH,
-        'l' => NabcClass::LetterL,
-        'p' => NabcClass::LetterP,
-        's' => NabcClass::LetterS,
-        't' => NabcClass::LetterT,
-        'u' => NabcClass::LetterU,
-        'a'..='n' => NabcClass::Pitch,
-        'o'..='z' => NabcClass::Letter,
-        '1'..='9' => NabcClass::Digit,
-        'S' | 'G' | 'M' | '>' | '~' => NabcClass::Modifier,
-        '-' => NabcClass::Hyphen,
-        '!' => NabcClass::Bang,
-        '/' => NabcClass::Slash,
-        '`' => NabcClass::Tick,
-        _ => NabcClass::Other,
+    match (&CLASSES).get(c as usize) {
+        Some(class) => *class,
+        None => Other,
     }
 }

@@ -1,3 +1,4 @@
+pub mod ClassesInTable
 pub mod EventsBuildSnippet
 pub mod EventsDependOnState
 pub mod FreshStageEmitsEventsByPoint

@@ -3,6 +3,11 @@
 ghost use Rattle.std.specs.Prelude.{◌≡◌};
 ghost use Rattle.gabc_notes.specs.machine.CharClass.{class_of_character};
 
+use CharClass::{
+    Alter, At, Bang, BarMark, Blank, Capital, CapitalZ, ClefDigit, ClefLetter, Close, Colon, Digit,
+    FlatB, Hash, Hyphen, Open, Other, Pitch, Plus, Question, Sign, Slash, SmallZ, Suffix, Zero,
+};
+
 /// What a character may be in an item.
 #[derive(Clone, Copy)]
 pub(crate) enum CharClass {
@@ -37,36 +42,33 @@ pub(crate) enum CharClass {
     Other,
 }
 
-/// Returns the class of a character.
+/// The class of each character below 128.
+#[rattlefmt::skip]
+const CLASSES: [CharClass; 128] = [
+    Other, Other, Other, Other, Other, Other, Other, Other, // U+0000 to U+0007
+    Other, Blank, Blank, Other, Other, Other, Other, Other, // U+0008 to U+000F
+    Other, Other, Other, Other, Other, Other, Other, Other, // U+0010 to U+0017
+    Other, Other, Other, Other, Other, Other, Other, Other, // U+0018 to U+001F
+    Blank, Bang, Other, Hash, Other, Other, Other, Sign, // SPACE ! " # $ % & '
+    Other, Other, Other, Plus, BarMark, Hyphen, Suffix, Slash, // ( ) * + , - . /
+    Zero, ClefDigit, ClefDigit, ClefDigit, ClefDigit, ClefDigit, Digit, Digit, // 0 1 2 3 4 5 6 7
+    Digit, Digit, Colon, BarMark, Suffix, Suffix, Suffix, Question, // 8 9 : ; < = > ?
+    At, Capital, Capital, Capital, Capital, Capital, Capital, Capital, // @ A B C D E F G
+    Capital, Capital, Capital, Capital, Capital, Capital, Capital, Suffix, // H I J K L M N O
+    Capital, Other, Suffix, Other, Other, Other, Suffix, Suffix, // P Q R S T U V W
+    Alter, Alter, CapitalZ, Open, Other, Close, BarMark, Sign, // X Y Z [ \ ] ^ _
+    BarMark, Pitch, FlatB, ClefLetter, Pitch, Pitch, ClefLetter, Pitch, // ` a b c d e f g
+    Pitch, Pitch, Pitch, Pitch, Pitch, Pitch, Pitch, Suffix, // h i j k l m n o
+    Pitch, Suffix, Suffix, Suffix, Other, Other, Suffix, Suffix, // p q r s t u v w
+    Alter, Alter, SmallZ, Other, Other, Other, Suffix, Other, // x y z { | } ~ DEL
+];
+
+/// Returns the class of a character, by the table where it has one.
 pub(crate) fn class_of(c: char) -> CharClass
     ensures { result ≡ class_of_character c }
 {
-    match c {
-        '-' => CharClass::Hyphen,
-        'b' => CharClass::FlatB,
-        'c' | 'f' => CharClass::ClefLetter,
-        'a'..='n' | 'p' => CharClass::Pitch,
-        'A'..='N' | 'P' => CharClass::Capital,
-        '1'..='5' => CharClass::ClefDigit,
-        '0' => CharClass::Zero,
-        '6'..='9' => CharClass::Digit,
-        '\'' | '_' => CharClass::Sign,
-        'v' | 'V' | 's' | 'o' | 'O' | 'w' | 'W' | 'q' | 'r' | 'R' | '=' | '~' | '<' | '>' | '.' =>
-            CharClass::Suffix,
-        'x' | 'X' | 'y' | 'Y' => CharClass::Alter,
-        '#' => CharClass::Hash,
-        '+' => CharClass::Plus,
-        '?' => CharClass::Question,
-        '`' | '^' | ',' | ';' => CharClass::BarMark,
-        ':' => CharClass::Colon,
-        '/' => CharClass::Slash,
-        '!' => CharClass::Bang,
-        ' ' | '\t' | '\n' => CharClass::Blank,
-        'z' => CharClass::SmallZ,
-        'Z' => CharClass::CapitalZ,
-        '[' => CharClass::Open,
-        ']' => CharClass::Close,
-        '@' => CharClass::At,
-        _ => CharClass::Other,
+    match (&CLASSES).get(c as usize) {
+        Some(class) => *class,
+        None => Other,
     }
 }
