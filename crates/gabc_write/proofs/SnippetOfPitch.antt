@@ -1,5 +1,5 @@
 -- The lines of a snippet that is one small pitch.
-use Rattle.std.proofs.Common.{◌≡◌, ℕ, ◌+◌, ◌-◌, ◌≤◌, ◌<◌, List, [], ◌∷◌, ◌++◌, Option, codes, refl, sym, ap, ◌∙◌, arith, map, get_or, append-nil}
+use Rattle.std.proofs.Common.{◌≡◌, ℕ, ◌+◌, ◌-◌, ◌≤◌, ◌<◌, List, [], ◌∷◌, ◌++◌, codes, refl, sym, ap, ◌∙◌, arith, map, get_or, append-nil}
 use Rattle.std.specs.Fmt.{digits}
 use Rattle.std.specs.Str.{chars}
 use Rattle.std.specs.List.{range_with_len}
@@ -9,9 +9,8 @@ use Rattle.gabc_notes.specs.Items.{items_of}
 use Rattle.gabc_notes.specs.declared.item.Item.{Item}
 use Rattle.gabc_notes.specs.declared.item.ItemKind.TheVariants as kind
 use Rattle.gabc_neumes.specs.InForce.{InForce, sound_of}
-use Rattle.gabc_neumes.specs.declared.sound.Alter.TheVariants as alter
 use Rattle.gabc_neumes.specs.declared.sound.Sound.{Sound}
-use Rattle.gabc_write.specs.DumpOfNotes.{degree_word, line_of_note, lines_of_notes}
+use Rattle.gabc_write.specs.DumpOfNotes.{line_of_note, lines_of_notes}
 use Rattle.gabc_write.specs.machine.NoteLines.{lines_of_pitch}
 
 -- the pitches from `a` to `n`
@@ -55,16 +54,3 @@ pitch_has_its_lines force p low high =
 pub kept_has_its_lines : (force : InForce) (sound : Sound) (p : ℕ) (kept : List ℕ) → kept ≡ p ∷ [] → 97 ≤ p → p ≤ 110 → sound ≡ sound_of force (p - 97)
     → lines_of_pitch sound p ≡ lines_of_notes force kept
 kept_has_its_lines force sound p kept e low high s = ap (λ (x : Sound). lines_of_pitch x p) s ∙ (sym (pitch_has_its_lines force p low high) ∙ ap (lines_of_notes force) (sym e))
-
--- ---- their words, where nothing alters it, by that of its degree
-
-abbrev pub words_of_pitch : List ℕ → ℕ → List ℕ
-words_of_pitch degree p = codes "notes:" ++ p ∷ (codes "\nelement\nglyph punctum 1\nnote " ++ p ∷ (codes " punctum " ++ ((degree ++ codes " none") ++ (codes " " ++ p ∷ codes "\n"))))
-
-each_has_its_words : (degree : Option ℕ) → map (lines_of_pitch (record { degree = degree; alter = alter.None })) pitches ≡ map (words_of_pitch (degree_word degree)) pitches
-each_has_its_words degree = refl
-
-pub pitch_has_its_words : (degree : Option ℕ) (t : List ℕ) (p : ℕ) → 97 ≤ p → p ≤ 110 → degree_word degree ≡ t → words_of_pitch t p ≡ lines_of_pitch (record { degree = degree; alter = alter.None }) p
-pitch_has_its_words degree t p low high e =
-    sym (by_each (lines_of_pitch (record { degree = degree; alter = alter.None })) (words_of_pitch (degree_word degree)) (each_has_its_words degree) p low high
-    ∙ ap (λ (x : List ℕ). words_of_pitch x p) e)

@@ -1,5 +1,5 @@
 -- The lines of a snippet that is one small pitch with a sign after it.
-use Rattle.std.proofs.Common.{◌≡◌, ℕ, ◌-◌, ◌≤◌, List, [], ◌∷◌, ◌++◌, true, Option, codes, refl, sym, ap, ◌∙◌, map, append-nil}
+use Rattle.std.proofs.Common.{◌≡◌, ℕ, ◌-◌, ◌≤◌, List, [], ◌∷◌, ◌++◌, true, codes, refl, sym, ap, ◌∙◌, map, append-nil}
 use Rattle.std.specs.Fmt.{digits}
 use Rattle.std.specs.Str.{chars}
 use lib.Utf8.{encode}
@@ -9,9 +9,8 @@ use Rattle.gabc_notes.specs.declared.item.Item.{Item}
 use Rattle.gabc_notes.specs.declared.item.ItemKind.TheVariants as kind
 use Rattle.gabc_notes.proofs.items_of_text.OnePitch.{by_sign}
 use Rattle.gabc_neumes.specs.InForce.{InForce, sound_of}
-use Rattle.gabc_neumes.specs.declared.sound.Alter.TheVariants as alter
 use Rattle.gabc_neumes.specs.declared.sound.Sound.{Sound}
-use Rattle.gabc_write.specs.DumpOfNotes.{degree_word, line_of_note, lines_of_notes}
+use Rattle.gabc_write.specs.DumpOfNotes.{line_of_note, lines_of_notes}
 use Rattle.gabc_write.specs.machine.NoteLines.{lines_of_signed}
 use Rattle.gabc_write.proofs.SnippetOfPitch.{pitches, by_each}
 
@@ -67,27 +66,3 @@ pub kept_has_its_lines : (force : InForce) (sound : Sound) (s p : ℕ) (kept : L
     → sound ≡ sound_of force (p - 97) → lines_of_signed sound p s ≡ lines_of_notes force kept
 kept_has_its_lines force sound s p kept e h low high same =
     ap (λ (x : Sound). lines_of_signed x p s) same ∙ (sym (signed_has_its_lines force s p h low high) ∙ ap (lines_of_notes force) (sym e))
-
--- ---- their words, where nothing alters it, by that of its degree
-
-abbrev pub words_of_signed : List ℕ → ℕ → ℕ → List ℕ
-words_of_signed degree s p =
-    codes "notes:" ++ p ∷ s ∷ (codes "\nelement\nglyph punctum 1\nnote " ++ p ∷ (codes " punctum " ++ ((degree ++ codes " none") ++ (codes " " ++ p ∷ s ∷ codes "\n"))))
-
-abbrev EachHasItsWords : Option ℕ → ℕ → Type 0
-EachHasItsWords degree s = map (λ (p : ℕ). lines_of_signed (record { degree = degree; alter = alter.None }) p s) pitches ≡ map (words_of_signed (degree_word degree) s) pitches
-
-words_with_dot : (degree : Option ℕ) → EachHasItsWords degree 46
-words_with_dot degree = refl
-
-words_with_line : (degree : Option ℕ) → EachHasItsWords degree 95
-words_with_line degree = refl
-
-words_with_tick : (degree : Option ℕ) → EachHasItsWords degree 39
-words_with_tick degree = refl
-
-pub signed_has_its_words : (degree : Option ℕ) (t : List ℕ) (s p : ℕ) → is_in s (codes "._'") ≡ true → 97 ≤ p → p ≤ 110 → degree_word degree ≡ t
-    → words_of_signed t s p ≡ lines_of_signed (record { degree = degree; alter = alter.None }) p s
-signed_has_its_words degree t s p h low high e =
-    sym (by_each (λ (q : ℕ). lines_of_signed (record { degree = degree; alter = alter.None }) q s) (words_of_signed (degree_word degree) s) (by_sign (EachHasItsWords degree) (words_with_dot degree) (words_with_line degree) (words_with_tick degree) s h) p low high
-    ∙ ap (λ (x : List ℕ). words_of_signed x s p) e)

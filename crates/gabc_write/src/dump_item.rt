@@ -7,7 +7,7 @@ ghost use Rattle.gabc_notes.specs.Notes.{from_pitch, height_at, shape_at};
 ghost use Rattle.gabc_write.specs.DumpOfNotes.{last_text, pitch_letter, degree_word, sound_words, line_of_note, line_of_alteration, bar_word, line_of_bar, is_blank_run, line_of_spacing, line_of_custos, raw_of, is_note, line_by, line_of_item};
 
 use crate::dump_pitch::{put_pitch, put_signed};
-use crate::escape::put_escaped;
+use crate::escape::put_ended;
 use gabc_neumes::{Alter, Alterations, Sound, sign_of, word_of_alter, word_of_shape};
 use gabc_notes::{Item, ItemKind, Shape, height_of, note_of};
 use gabc_places::Put;
@@ -16,13 +16,7 @@ use gabc_places::Put;
 pub(crate) fn put_last<S: Put>(text: &[u8], out: &mut S)
     ensures { out.new ≡ S.taken out.old (last_text text.now) }
 {
-    match text {
-        [byte @ b'a'..=b'z'] => out.put(&[*byte, b'\n']),
-        _ => {
-            put_escaped(text, out);
-            out.put(b"\n");
-        }
-    }
+    put_ended(text, b'\n', out);
 }
 
 /// Puts a blank, and after it `text` as the last thing of the line. Many texts are one pitch, so
@@ -101,12 +95,17 @@ fn put_degree<S: Put>(degree: Option<u8>, out: &mut S)
     }
 }
 
-/// Puts how a note sounds, with a blank before each word: ` DEGREE ALTER`.
+/// Puts how a note sounds, with a blank before each word: ` DEGREE ALTER`. Most notes are not
+/// altered, or flat.
 fn put_sound<S: Put>(sound: Sound, out: &mut S)
     ensures { out.new ≡ S.taken out.old (sound_words sound) }
 {
     put_degree(sound.degree, out);
-    out.put(word_of_alter(sound.alter).as_bytes());
+    match sound.alter {
+        Alter::None => out.put(b"none"),
+        Alter::Flat => out.put(b"flat"),
+        alter => out.put(word_of_alter(alter).as_bytes()),
+    }
 }
 
 /// Puts the line of a note, as `put_note` does, word by word. It stays out of line.

@@ -1,13 +1,14 @@
 //! The lines of an NABC snippet in a dump.
 
-ghost use Rattle.std.specs.Prelude.{◌≡◌, ◌≤◌, length, encode_utf8};
+ghost use Rattle.std.specs.Prelude.{◌≡◌, ◌≤◌, ◌++◌, codes, length, encode_utf8};
+ghost use Rattle.std.specs.Fmt.{decimal};
 ghost use Rattle.std.specs.List.{flat_map};
 ghost use Rattle.gabc_nabc.specs.Parts.{parts_of};
 ghost use Rattle.gabc_write.specs.DumpOfNabc.{name_of_code, names_of, line_of_part, lines_of_nabc};
 ghost use Rattle.gabc_write.specs.machine.NamesBehindFirst.{names_behind};
 
 use crate::dump_item::put_last;
-use crate::escape::put_escaped;
+use crate::escape::put_ended;
 use gabc_nabc::{CodeReader, Descriptor, GlyphCode, codes_in, parts_in};
 use gabc_places::Put;
 use itoa::Buffer;
@@ -66,8 +67,7 @@ fn put_part<S: Put>(kept: &str, part: Descriptor, out: &mut S)
         put_last(spelled, out);
     } else {
         out.put(b"descriptor ");
-        put_escaped(spelled, out);
-        out.put(b" ");
+        put_ended(spelled, b' ', out);
         put_names(codes_in(kept, part), out);
         out.put(b"\n");
     }
@@ -82,14 +82,26 @@ fn put_parts<S: Put>(kept: &str, out: &mut S)
     }
 }
 
+/// Puts `nabc LINE:`. A score has at most four NABC lines.
+fn put_line_number<S: Put>(line: u8, out: &mut S)
+    ensures { out.new ≡ S.taken out.old (codes "nabc " ++ (decimal line ++ codes ":")) }
+{
+    match line {
+        0..=9 => out.put(&[b'n', b'a', b'b', b'c', b' ', b'0' + line, b':']),
+        _ => {
+            out.put(b"nabc ");
+            out.put(Buffer::new().format(line).as_bytes());
+            out.put(b":");
+        }
+    }
+}
+
 /// Puts the lines of the snippet `kept` of the NABC line `line`: `nabc LINE:S` and those of its
 /// parts.
 pub(crate) fn put_nabc<S: Put>(line: u8, kept: &str, out: &mut S)
     ensures { out.new ≡ S.taken out.old (lines_of_nabc line kept.now) }
 {
-    out.put(b"nabc ");
-    out.put(Buffer::new().format(line).as_bytes());
-    out.put(b":");
+    put_line_number(line, out);
     put_last(kept.as_bytes(), out);
     put_parts(kept, out);
 }

@@ -1,4 +1,4 @@
-//! Lines of one small pitch, each of which is put at once.
+//! Lines of one small pitch: that of its note is put at once, and so are those before it.
 
 ghost use Rattle.std.specs.Prelude.{◌≡◌, ◌≢◌, ◌≤◌, [], ◌∷◌, codes, Some, true};
 ghost use Rattle.gabc_patterns.specs.Pattern.{is_in};
@@ -97,32 +97,10 @@ pub(crate) fn put_snippet_of<S: Put>(pitch: u8, degree: Option<u8>, out: &mut S)
     ensures { out.new ≡ S.taken out.old
         (lines_of_pitch (record { degree = degree; alter = Alter.None }) pitch) }
 {
-    match degree {
-        None => {
-            let mut lines = *b"notes:?\nelement\nglyph punctum 1\nnote ? punctum - none ?\n";
-            lines[6] = pitch;
-            lines[37] = pitch;
-            lines[54] = pitch;
-            out.put(&lines);
-        }
-        Some(4) => {
-            let mut lines = *b"notes:?\nelement\nglyph punctum 1\nnote ? punctum sol none ?\n";
-            lines[6] = pitch;
-            lines[37] = pitch;
-            lines[56] = pitch;
-            out.put(&lines);
-        }
-        Some(degree) => {
-            let (first, second) = two_letters(degree);
-            let mut lines = *b"notes:?\nelement\nglyph punctum 1\nnote ? punctum ?? none ?\n";
-            lines[6] = pitch;
-            lines[37] = pitch;
-            lines[47] = first;
-            lines[48] = second;
-            lines[55] = pitch;
-            out.put(&lines);
-        }
-    }
+    let mut lines = *b"notes:?\nelement\nglyph punctum 1\n";
+    lines[6] = pitch;
+    out.put(&lines);
+    put_pitch(pitch, degree, out);
 }
 
 /// Puts the lines of a snippet that is `pitch`, a small pitch from `a` to `n`, with `sign` after
@@ -133,36 +111,9 @@ pub(crate) fn put_signed_snippet<S: Put>(pitch: u8, sign: u8, degree: Option<u8>
     ensures { out.new ≡ S.taken out.old
         (lines_of_signed (record { degree = degree; alter = Alter.None }) pitch sign) }
 {
-    match degree {
-        None => {
-            let mut lines = *b"notes:??\nelement\nglyph punctum 1\nnote ? punctum - none ??\n";
-            lines[6] = pitch;
-            lines[7] = sign;
-            lines[38] = pitch;
-            lines[55] = pitch;
-            lines[56] = sign;
-            out.put(&lines);
-        }
-        Some(4) => {
-            let mut lines = *b"notes:??\nelement\nglyph punctum 1\nnote ? punctum sol none ??\n";
-            lines[6] = pitch;
-            lines[7] = sign;
-            lines[38] = pitch;
-            lines[57] = pitch;
-            lines[58] = sign;
-            out.put(&lines);
-        }
-        Some(degree) => {
-            let (first, second) = two_letters(degree);
-            let mut lines = *b"notes:??\nelement\nglyph punctum 1\nnote ? punctum ?? none ??\n";
-            lines[6] = pitch;
-            lines[7] = sign;
-            lines[38] = pitch;
-            lines[48] = first;
-            lines[49] = second;
-            lines[56] = pitch;
-            lines[57] = sign;
-            out.put(&lines);
-        }
-    }
+    let mut lines = *b"notes:??\nelement\nglyph punctum 1\n";
+    lines[6] = pitch;
+    lines[7] = sign;
+    out.put(&lines);
+    put_signed(pitch, sign, degree, out);
 }

@@ -1,6 +1,6 @@
 //! Texts of the input in the lines of a dump.
 
-ghost use Rattle.std.specs.Prelude.{◌≡◌, ◌≤◌, ◌++◌, false, length, take, drop};
+ghost use Rattle.std.specs.Prelude.{◌≡◌, ◌≤◌, ◌++◌, [], ◌∷◌, IsTrue, false, length, take, drop};
 ghost use Rattle.gabc_write.specs.DumpLines.{escaped, escaped_byte};
 ghost use Rattle.gabc_write.specs.machine.TextLine.{line_part, begun_after, line_end};
 
@@ -17,13 +17,20 @@ fn put_escaped_byte<S: Put>(byte: u8, out: &mut S)
     }
 }
 
+/// Returns whether `byte` is put as it is: whether it is no backslash and no LF.
+fn is_plain(byte: u8) -> bool
+    ensures { IsTrue result → escaped_byte byte ≡ byte ∷ [] }
+{
+    byte != b'\\' && byte != b'\n'
+}
+
 /// Returns how many bytes of `text` stand before its first backslash or LF: all, where it has none.
 fn plain_len(text: &[u8]) -> usize
     ensures within { result ≤ length text.now }
     ensures plain { escaped text.now ≡ take result text.now ++ escaped (drop result text.now) }
 {
     for (i, byte) in text.iter().enumerate() {
-        if matches!(*byte, b'\\' | b'\n') {
+        if !is_plain(*byte) {
             return i;
         }
     }
@@ -53,6 +60,27 @@ pub(crate) fn put_escaped<S: Put>(text: &[u8], out: &mut S)
         out.put(text);
     } else {
         put_escaped_bytes(text, out);
+    }
+}
+
+/// Puts `text`, with each backslash as `\\` and each LF as `\n`, and the byte `end` after it. Most
+/// texts have at most four bytes, so these are put at once.
+pub(crate) fn put_ended<S: Put>(text: &[u8], end: u8, out: &mut S)
+    ensures { out.new ≡ S.taken out.old (escaped text.now ++ end ∷ []) }
+{
+    match text {
+        [a] if is_plain(*a) => out.put(&[*a, end]),
+        [a, b] if is_plain(*a) && is_plain(*b) => out.put(&[*a, *b, end]),
+        [a, b, c] if is_plain(*a) && is_plain(*b) && is_plain(*c) => {
+            out.put(&[*a, *b, *c, end]);
+        }
+        [a, b, c, d] if is_plain(*a) && is_plain(*b) && is_plain(*c) && is_plain(*d) => {
+            out.put(&[*a, *b, *c, *d, end]);
+        }
+        _ => {
+            put_escaped(text, out);
+            out.put(&[end]);
+        }
     }
 }
 

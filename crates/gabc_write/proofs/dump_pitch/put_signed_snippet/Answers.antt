@@ -1,17 +1,9 @@
-use Rattle.std.proofs.Common.{rules, ◌≡◌, Some, ap, ◌∙◌, codes, [], ◌∷◌}
-use Rattle.gabc_write.specs.DumpOfNotes.{degree_word}
-use Rattle.gabc_write.proofs.SnippetOfSignedPitch.{signed_has_its_words}
+use Rattle.std.proofs.Common.{[], ◌∷◌, ap, ◌∙◌}
+use Rattle.gabc_neumes.specs.declared.sound.Alter.TheVariants as alter
+use Rattle.gabc_write.specs.DumpOfNotes.{line_of_note}
 use Rattle.gabc_write.proofs.dump_pitch.put_signed_snippet.Goals as goal
 
-pub returns-in-None : goal.returns-in-None
-returns-in-None g c =
-    c.put.ensures ∙ ap (g.S.Put.taken c.args.out.now) (signed_has_its_words c.args.degree (codes "-") c.args.sign c.args.pitch c.requires.sign c.requires.pitch.0 c.requires.pitch.1 (ap degree_word c.in-None.is))
-
-pub returns-in-Some-eq4 : goal.returns-in-Some-eq4
-returns-in-Some-eq4 g c =
-    let fa : c.args.degree ≡ Some 4 = search rules in
-    c.put-in-Some-eq4.ensures ∙ ap (g.S.Put.taken c.args.out.now) (signed_has_its_words c.args.degree (codes "sol") c.args.sign c.args.pitch c.requires.sign c.requires.pitch.0 c.requires.pitch.1 (ap degree_word fa))
-
-pub returns-in-Some : goal.returns-in-Some
-returns-in-Some g c =
-    c.put-in-Some.ensures ∙ ap (g.S.Put.taken c.args.out.now) (signed_has_its_words c.args.degree (c.two_letters-first.result.0 ∷ c.two_letters-first.result.1 ∷ []) c.args.sign c.args.pitch c.requires.sign c.requires.pitch.0 c.requires.pitch.1 (ap degree_word c.in-Some.is ∙ c.two_letters-first.ensures (search rules)))
+pub returns : goal.returns
+returns g c =
+    let line = line_of_note (record { degree = c.args.degree; alter = alter.None }) (c.args.pitch ∷ c.args.sign ∷ []) in
+    c.put_signed.ensures ∙ (ap (λ o. g.S.Put.taken o line) c.put.ensures ∙ g.met.S.Put.taken_both _ _ _)
