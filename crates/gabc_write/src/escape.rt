@@ -65,6 +65,7 @@ pub(crate) fn put_escaped<S: Put>(text: &[u8], out: &mut S)
 
 /// Puts `text`, with each backslash as `\\` and each LF as `\n`, and the byte `end` after it. Most
 /// texts have at most four bytes, so these are put at once.
+#[inline(always)]
 pub(crate) fn put_ended<S: Put>(text: &[u8], end: u8, out: &mut S)
     ensures { out.new ≡ S.taken out.old (escaped text.now ++ end ∷ []) }
 {
