@@ -31,6 +31,7 @@ pub(crate) enum NabcClass {
 }
 
 /// Returns the class of a character.
+#[inline(always)]
 pub(crate) fn class_of(c: char) -> NabcClass
     ensures { result ≡ class_of_character c }
 {

@@ -38,6 +38,7 @@ pub(crate) enum CharClass {
 }
 
 /// Returns the class of a character.
+#[inline(always)]
 pub(crate) fn class_of(c: char) -> CharClass
     ensures { result ≡ class_of_character c }
 {
