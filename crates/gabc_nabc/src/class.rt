@@ -57,6 +57,7 @@ const CLASSES: [NabcClass; 128] = [
 ];
 
 /// Returns the class of a character, by the table where it has one.
+#[inline(always)]
 pub(crate) fn class_of(c: char) -> NabcClass
     ensures { result ≡ class_of_character c }
 {

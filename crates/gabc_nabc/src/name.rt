@@ -26,6 +26,7 @@ fn find_name(
 }
 
 /// Returns the name of the code of these two letters.
+#[inline(always)]
 pub(crate) fn name_at(first: char, second: char) -> Option<&'static str>
     ensures { MatchOption result (name_by first second ≡ None) (λ name. name_by first second
         ≡ Some name.now) }

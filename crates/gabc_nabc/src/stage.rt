@@ -78,6 +78,7 @@ fn makes_code(first: char, second: char) -> bool
 
 /// Returns whether a character ends a code that has no name, where `first` is the first letter of
 /// one.
+#[inline(always)]
 pub(crate) fn lacks_name(first: Option<char>, c: char) -> bool
     ensures { result ≡ is_missing first c }
 {

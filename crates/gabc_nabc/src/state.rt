@@ -110,6 +110,7 @@ fn tail_begins(class: NabcClass) -> Option<DescriptorState>
 }
 
 /// Returns where the part stands with a character more, if it goes on.
+#[inline(always)]
 pub(crate) fn goes_on(state: DescriptorState, class: NabcClass) -> Option<DescriptorState>
     ensures { result ≡ going_on state class }
 {
@@ -185,6 +186,7 @@ fn falls_back(state: DescriptorState) -> Option<DescriptorState>
 
 /// Returns where the reading stands with a character more: the part goes on, or it ended at its
 /// longest and another begins there.
+#[inline(always)]
 pub(crate) fn next_state(state: DescriptorState, class: NabcClass) -> Option<DescriptorState>
     ensures { result ≡ next_state state class }
 {

@@ -64,6 +64,7 @@ const CLASSES: [CharClass; 128] = [
 ];
 
 /// Returns the class of a character, by the table where it has one.
+#[inline(always)]
 pub(crate) fn class_of(c: char) -> CharClass
     ensures { result ≡ class_of_character c }
 {

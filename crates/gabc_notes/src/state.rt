@@ -124,6 +124,7 @@ fn on_break(class: CharClass) -> Option<ItemState>
 }
 
 /// Returns where the item stands with a character more, if it goes on.
+#[inline(always)]
 pub(crate) fn goes_on(state: ItemState, class: CharClass) -> Option<ItemState>
     ensures { result ≡ going_on state class }
 {
@@ -198,6 +199,7 @@ fn goes_on_again(state: ItemState, class: CharClass) -> Option<ItemState>
 
 /// Returns where the reading stands with a character more: the item goes on, or it ended at its
 /// longest and the reading goes on from there.
+#[inline(always)]
 pub(crate) fn next_state(state: ItemState, class: CharClass) -> Option<ItemState>
     ensures { result ≡ next_state state class }
 {

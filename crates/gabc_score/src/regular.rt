@@ -19,6 +19,9 @@ use memchr::memchr3;
 /// How many bytes are looked at together for whether they are clear.
 const MOST_LOOKED_AT: usize = 256;
 
+/// How many bytes are looked at one by one.
+const FEW_BYTES: usize = 32;
+
 /// A tag that opens or closes a span of several syllables.
 #[derive(Clone, Copy)]
 pub(crate) enum SpanMark {
@@ -277,6 +280,23 @@ pub(crate) fn clear_len(bytes: &[u8]) -> usize
     }
 }
 
+/// Returns whether `bytes` are known to be clear, as the first `clear` of them are. If many more
+/// follow, it looks at these together.
+#[inline(always)]
+fn is_clear(bytes: &[u8], clear: usize) -> bool
+    requires { All IsClearByte (take clear bytes.now) }
+    ensures { result ≡ true → All IsClearByte bytes.now }
+{
+    if bytes.len() <= clear {
+        return true;
+    }
+    let rest = &bytes[clear..];
+    if rest.len() <= FEW_BYTES || clear_len(rest) < rest.len() {
+        return false;
+    }
+    true
+}
+
 /// Returns whether no CR and no first byte of U+FEFF stand among `bytes`, and no span mark but one
 /// that they begin with. The first `clear` bytes are known to be clear.
 #[inline(always)]
@@ -285,7 +305,7 @@ fn may_be_kept(bytes: &[u8], clear: usize) -> bool
     ensures plain { IsTrue result → All IsPlainByte bytes.now }
     ensures marked { IsTrue result → IsMarked (mark_at bytes.now) bytes.now }
 {
-    if bytes.len() <= clear {
+    if is_clear(bytes, clear) {
         return true;
     }
     is_plain(bytes) || has_only_first(bytes)
@@ -332,6 +352,7 @@ fn snippets_len(lines: u8, text: &str) -> usize
 /// it, and but for the blanks before its text it is its own canonical text
 /// (`regular_laws::a_regular_syllable_makes_its_spelling`). There may be one where it returns none.
 /// The first `clear` bytes of `text` are known to be clear.
+#[inline(always)]
 pub(crate) fn regular_syllable(lines: u8, text: &str, clear: usize) -> Option<RegularLen>
     requires { All IsClearByte (take clear text.now) }
     ensures { IfSome result (BeginsRegularly lines text.now) }

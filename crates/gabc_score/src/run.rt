@@ -49,15 +49,17 @@ pub(crate) struct Found<'a> {
 }
 
 /// Returns how many of the first bytes of `rest` are known to be clear, where the first `left` are:
-/// looks further if none is.
+/// looks further if none is, and no tag begins at once.
+#[inline(always)]
 fn clear_after(rest: &str, left: usize) -> usize
     requires { All IsClearByte (take left rest.now) }
     ensures { All IsClearByte (take result rest.now) }
 {
-    if left > 0 {
+    let bytes = rest.as_bytes();
+    if left > 0 || bytes.len() < 2 || bytes[0] == b'<' || bytes[1] == b'<' {
         left
     } else {
-        clear_len(rest.as_bytes())
+        clear_len(bytes)
     }
 }
 

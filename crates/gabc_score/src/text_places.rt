@@ -9,6 +9,9 @@ ghost use Rattle.gabc_score.specs.machine.PlaceByBytes.{begins_character};
 use gabc_places::Place;
 use memchr::memchr;
 
+/// How many bytes are looked at together for how many characters begin in them.
+const MOST_COUNTED: usize = 240;
+
 /// Returns whether a character begins with `byte`, a byte of a text.
 #[inline(always)]
 fn begins_character(byte: u8) -> bool
@@ -17,17 +20,34 @@ fn begins_character(byte: u8) -> bool
     byte < 0x80 || byte > 0xBF
 }
 
-/// Returns how many characters begin in `bytes`.
+/// Returns how many characters begin in `bytes`, of which there are at most 255. The count is a
+/// byte, so that many bytes are looked at together.
 #[tactic(auto, using(std::proofs::lemmas::List::Sums::count_by_more_yes, std::proofs::lemmas::List::Sums::count_by_more_no))]
+fn characters_in_few(bytes: &[u8]) -> u8
+    requires { length bytes.now < 256 }
+    ensures count { result ≡ count_by begins_character bytes.now }
+    ensures few { result ≤ length bytes.now }
+{
+    let mut n: u8 = 0;
+    for byte in bytes {
+        if begins_character(*byte) {
+            n += 1;
+        }
+    }
+    n
+}
+
+/// Returns how many characters begin in `bytes`.
 fn characters_in(bytes: &[u8]) -> u64
     ensures count { result ≡ count_by begins_character bytes.now }
     ensures few { result ≤ length bytes.now }
 {
     let mut n = 0;
-    for byte in bytes {
-        if begins_character(*byte) {
-            n += 1;
-        }
+    let mut rest = bytes;
+    while !rest.is_empty() {
+        let (few, more) = rest.split_at(rest.len().min(MOST_COUNTED));
+        n += u64::from(characters_in_few(few));
+        rest = more;
     }
     n
 }

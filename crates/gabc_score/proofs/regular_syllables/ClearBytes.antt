@@ -1,9 +1,9 @@
 -- Clear bytes: among them no tag begins, and neither a CR nor the first byte of U+FEFF stands.
-use Rattle.std.proofs.Common.{◌≡◌, ℕ, zero, suc, ◌+◌, ◌-◌, ◌==◌, List, [], ◌∷◌, false, None, take, drop, refl, sym, ap, subst, arith}
+use Rattle.std.proofs.Common.{◌≡◌, ℕ, zero, suc, ◌+◌, ◌-◌, ◌==◌, List, [], ◌∷◌, false, None, take, drop, refl, sym, ap, subst, arith, take-append-drop}
 use Rattle.std.specs.List.{All}
 use Rattle.std.proofs.lemmas.Bool.{ne_eqb}
 use Rattle.std.proofs.lemmas.List.{drop-take}
-use Rattle.std.proofs.lemmas.List.Elements.{All-drop, All-head, All-nil, All-take}
+use Rattle.std.proofs.lemmas.List.Elements.{All-append, All-drop, All-head, All-nil, All-take}
 use Rattle.gabc_score.specs.machine.RegularLen.{IsClearByte, IsMarked, begins_mark, mark_at}
 
 -- what is left of the first n bytes without k of them
@@ -36,3 +36,7 @@ no_mark (b ∷ bytes) h =
 -- no tag begins among them
 pub clear_marked : (bytes : List ℕ) → All IsClearByte bytes → IsMarked (mark_at bytes) bytes
 clear_marked bytes h = subst (λ o. IsMarked o bytes) (sym (no_mark bytes h).1) (λ k. (no_mark (drop k bytes) (All-drop IsClearByte k bytes h)).0)
+
+-- the first n bytes and the others
+pub clear_both : (bytes : List ℕ) (n : ℕ) → All IsClearByte (take n bytes) → All IsClearByte (drop n bytes) → All IsClearByte bytes
+clear_both bytes n front rest = subst (All IsClearByte) (take-append-drop n bytes) (All-append IsClearByte (take n bytes) (drop n bytes) front rest)
