@@ -306,8 +306,8 @@ pub fn regular_text(bytes: &[u8]) -> usize
     }
 }
 
-/// Returns how many bytes of `text`, which is regular, stand before its translation: all of them, if
-/// it has none; `None`, if it is not known where one begins.
+/// Returns how many bytes of `text`, which is regular, stand before its translation: all of them,
+/// if it has none; `None`, if it is not known where one begins.
 pub fn translation_from(text: &str) -> Option<usize>
     requires { IsRegularText (chars text.now) }
     ensures within { IfSome result (λ n. n ≤ length text.now) }

@@ -153,8 +153,9 @@ fn inner_len(bytes: &[u8], stop: u8) -> usize
     end
 }
 
-/// Returns how many bytes `opening`, characters but `stop` and `closing` have, if `bytes` begin with
-/// these; else 0. The characters are of printable ASCII, of two bytes, or from U+1000 to U+CFFF.
+/// Returns how many bytes `opening`, characters but `stop` and `closing` have, if `bytes` begin
+/// with these; else 0. The characters are of printable ASCII, of two bytes, or from U+1000 to
+/// U+CFFF.
 pub(crate) fn bracketed_len(bytes: &[u8], opening: &[u8], stop: u8, closing: &[u8]) -> usize
     requires ascii { stop < 128 }
     ensures within { result ≤ length bytes.now }
