@@ -5,7 +5,7 @@ use Rattle.gabc_places.specs.declared.place.Place.{Place}
 use Rattle.gabc_places.specs.declared.place.Char.{Char}
 use Rattle.gabc_places.specs.Place.{next_place, place_past, placed_characters_from}
 use Rattle.gabc_text.specs.Canonical.{canonical_text}
-use Rattle.gabc_text.specs.RegularText.{IsRegularText, is_gap}
+use Rattle.gabc_text.specs.RegularText.{IsRegularText, is_gap, text_part, translation_part}
 use Rattle.gabc_notes.specs.Regular as notes
 use Rattle.gabc_nabc.specs.Regular as nabc
 use Rattle.gabc_score.specs.declared.events.BodyEvent.{BodyEvent}
@@ -126,6 +126,11 @@ snippet_texts m = map (line_and_text m.kept) m.snippets
 
 -- ---- all of it
 
+-- What is printed of a syllable's text and of its translation is what stands in this regular text.
+pub record SaysText (m : UnplacedSyllable) (t : List ℕ) : Type 0 where
+  pub text : canonical_text m.text m.kept ≡ encode_utf8_all (text_part t)
+  pub translation : translation_text m.kept m.text.translation ≡ encode_utf8_all (translation_part t)
+
 -- The syllable gives one syllable with its last character, after whatever was emitted before, and
 -- nothing is found in it. It keeps its spelling, with one blank where there are some before its
 -- text, and its spelling is its canonical text: text and translation, and each snippet on its line.
@@ -135,5 +140,5 @@ pub record MakesItsSpelling (lines macros : ℕ) (at : Place) (r : SyllableParts
   pub kept_is : one.made.kept ≡ encode_utf8_all (kept_spelled r)
   pub starts_is : one.made.text.word_start ≡ has_gap r.gap
   pub canonical_is : (starts : Bool) → canonical starts one.made ≡ encode_utf8_all (canonical_spelled starts r)
-  pub text_is : canonical_text one.made.text one.made.kept ++ translation_text one.made.kept one.made.text.translation ≡ encode_utf8_all r.text
+  pub text_is : SaysText one.made r.text
   pub snippets_are : snippet_texts one.made ≡ with_lines lines 0 r.nexts r.final

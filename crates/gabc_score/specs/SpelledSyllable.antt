@@ -1,13 +1,13 @@
 -- A regular syllable by the slices that spell it.
-use Rattle.std.specs.Prelude.{◌≡◌, ℕ, ◌==◌, List, [], ◌∷◌, ◌++◌, Bool, true, false, length, slice_index, take, ◌-◌, Option, Some, None, encode_utf8_all}
+use Rattle.std.specs.Prelude.{◌≡◌, ℕ, List, [], ◌∷◌, true, false, length, Option, Some, None, encode_utf8_all}
 use Rattle.std.specs.Str.{IsUtf8}
-use Rattle.gabc_text.specs.Canonical.{canonical_text}
+use Rattle.gabc_text.specs.RegularText.{text_part, translation_part}
 use Rattle.gabc_score.specs.declared.spelled.SpelledSyllable.{SpelledSyllable}
 use Rattle.gabc_score.specs.declared.spelled.SpelledSnippets.{SpelledSnippets}
 use Rattle.gabc_score.specs.declared.spelled.SpelledSnippet.{SpelledSnippet}
-use Rattle.gabc_score.specs.Canonical.{canonical_in_place, starts_word, translation_text}
+use Rattle.gabc_score.specs.Canonical.{canonical_in_place, starts_word}
 use Rattle.gabc_score.specs.GivesSyllables.{spelled_canonical}
-use Rattle.gabc_score.specs.RegularSyllable.{SyllableParts, AreRegularFrom, IsRegularSyllable, canonical_spelled, kept_spelled, notes_spelled, snippet_texts, with_lines}
+use Rattle.gabc_score.specs.RegularSyllable.{SaysText, SyllableParts, AreRegularFrom, IsRegularSyllable, canonical_spelled, kept_spelled, notes_spelled, snippet_texts, with_lines}
 use Rattle.gabc_score.specs.Syllable.{PlacedSyllable}
 
 -- The slices are the bytes of a regular syllable, and its text ends where they say.
@@ -45,12 +45,13 @@ GivesNext (Some s) texts after = (more : List (ℕ × List ℕ)) × ((texts ≡ 
 
 -- ---- the syllable
 
--- the last of these bytes is a `]`
-abbrev pub ends_in_bracket : List ℕ → Bool
-ends_in_bracket bytes = slice_index bytes (length bytes - 1) == 93
+-- These are its text and its translation with its brackets.
+abbrev pub AreTextsOf : SpelledSyllable → List ℕ → List ℕ → Type 0
+AreTextsOf r text translation =
+    (is : IsSpelling r) → (text ≡ encode_utf8_all (text_part is.parts.text)) × (translation ≡ encode_utf8_all (translation_part is.parts.text))
 
 -- Slices spell a syllable: its place in its word, its open spans, what is kept of it, its canonical
--- text, its text with its translation, and its snippets.
+-- text, its text and its translation, and its snippets.
 pub record Spells (r : SpelledSyllable) (s : PlacedSyllable) : Type 0 where
   pub spelling : IsSpelling r
   pub position : s.position ≡ r.position
@@ -58,5 +59,5 @@ pub record Spells (r : SpelledSyllable) (s : PlacedSyllable) : Type 0 where
   pub nlba : s.made.nlba ≡ r.spans.nlba
   pub kept : s.made.kept ≡ encode_utf8_all (kept_spelled spelling.parts)
   pub canonical : canonical_in_place s ≡ spelled_canonical (starts_word r.position) r.canonical.now
-  pub text : canonical_text s.made.text s.made.kept ++ translation_text s.made.kept s.made.text.translation ≡ take r.opening r.canonical.now
+  pub text : SaysText s.made spelling.parts.text
   pub snippets : snippet_texts s.made ≡ with_lines r.lines 0 spelling.parts.nexts spelling.parts.final

@@ -70,6 +70,7 @@ pub fn a_regular_syllable_makes_its_spelling()
     gabc_text::laws::events_build_the_text();
     gabc_text::laws::events_by_point_are_the_events();
     gabc_text::laws::spans_stand_for_the_view();
+    gabc_text::laws::canonical_is_printed();
     gabc_text::laws::findings_lie_within();
     gabc_text::laws::a_regular_text_is_printed_as_it_stands();
     gabc_text::laws::blanks_before_a_regular_text_begin_a_word();

@@ -2,7 +2,7 @@
 
 ghost use Rattle.std.specs.Prelude.{◌≡◌, ◌<◌, ℕ, List, IfSome, length, take, encode_utf8_all};
 ghost use Rattle.gabc_score.specs.RegularSyllable.{with_lines};
-ghost use Rattle.gabc_score.specs.SpelledSyllable.{AreToCome, GivesNext, IsSpelling, ToCome, ends_in_bracket, first_of};
+ghost use Rattle.gabc_score.specs.SpelledSyllable.{AreToCome, GivesNext, IsSpelling, ToCome, AreTextsOf, first_of};
 ghost use Rattle.gabc_score.specs.machine.Run.{sounds_among, sounds_on_line};
 
 use crate::before::Spans;
@@ -10,6 +10,7 @@ use crate::body_stage::next_line;
 use crate::regular::snippet_len;
 use crate::syllable::Position;
 use gabc_notes::first_note_or_clef;
+use gabc_text::translation_from;
 
 /// A regular syllable as it is spelled, in a slice of the text that it stands in.
 #[derive(Clone, Copy)]
@@ -56,13 +57,16 @@ impl<'a> SpelledSyllable<'a> {
         self.canonical.split_at(self.opening).0
     }
 
-    /// Returns whether its text ends with a `]`, as each text does that has a translation.
-    pub fn may_be_translated(self) -> bool
+    /// Returns its text and its translation with its brackets, of which either may be empty;
+    /// `None`, if it is not known where the translation begins.
+    pub fn text_and_translation(self) -> Option<(&'a [u8], &'a [u8])>
         requires { IsSpelling self }
-        ensures { result ≡ ends_in_bracket (take self.entry.opening self.entry.canonical.now) }
+        ensures { IfSome result (λ both. AreTextsOf self.entry both.0.now both.1.now) }
     {
-        let text = self.text().as_bytes();
-        !text.is_empty() && text[text.len() - 1] == b']'
+        let text = self.text();
+        let from = translation_from(text)?;
+        let bytes = text.as_bytes();
+        Some((&bytes[..from], &bytes[from..]))
     }
 
     /// Returns its snippets in order.

@@ -1,22 +1,21 @@
 -- The lines of a syllable that slices spell.
-use Rattle.std.proofs.Common.{◌≡◌, ℕ, ◌+◌, ◌-◌, ◌<◌, ◌≤◌, ◌==◌, Bool, true, false, List, [], ◌∷◌, ◌++◌, cond, Option, Some, None, length, take, map, slice_index, refl, sym, ap, ap₂, subst, ◌∙◌, arith, append_assoc, append-nil, length-append, IsUtf8, All}
-use Rattle.std.proofs.Math.Seq.{get_or-append_seam}
-use Rattle.std.proofs.lemmas.Bool.{true≢false}
+use Rattle.std.proofs.Common.{◌≡◌, ℕ, ◌+◌, ◌<◌, ◌≤◌, Bool, true, false, List, [], ◌∷◌, ◌++◌, cond, Option, Some, None, length, map, refl, sym, ap, ap₂, subst, ◌∙◌, arith, append_assoc, length-append, IsUtf8, All, codes}
+use Rattle.std.proofs.lemmas.List.{take_at}
 use Rattle.std.proofs.lemmas.List.Elements.{All-cons, All-head, All-nil, All-tail}
 use Rattle.std.proofs.lemmas.Str.{chars_from_encodes, scalars-chars}
 use lib.Utf8.{scalars, encodes}
 use Rattle.gabc_places.specs.declared.place.Span.{Span}
 use Rattle.gabc_neumes.specs.InForce.{InForce, ScoreStep, passed}
-use Rattle.gabc_text.specs.Canonical.{canonical_text}
 use Rattle.gabc_score.specs.declared.snippets.Snippet.{Snippet}
 use Rattle.gabc_score.specs.declared.spelled.SpelledSyllable.{SpelledSyllable}
 use Rattle.gabc_score.specs.declared.syllable.Position.{Position}
 use Rattle.gabc_score.specs.Canonical.{translation_text}
 use Rattle.gabc_score.specs.RegularSyllable.{canonical_spelled, gap_kept, has_gap, line_and_text, notes_spelled, with_lines}
-use Rattle.gabc_score.specs.SpelledSyllable.{Spells, ends_in_bracket}
+use Rattle.gabc_score.specs.SpelledSyllable.{AreTextsOf, Spells}
 use Rattle.gabc_score.specs.Syllable.{PlacedSyllable, slice}
+use Rattle.gabc_write.specs.DumpOfNotes.{last_text}
 use Rattle.gabc_write.specs.DumpOfSyllables.{first_line, first_line_by, first_steps, line_of_text, line_of_translation, lines_of_snippets, lines_of_syllable, lines_on, steps_of_snippet, steps_of_snippets, steps_of_syllable}
-use Rattle.gabc_write.specs.machine.DumpOfTexts.{IsOnLine, lines_of_texts, steps_of_texts}
+use Rattle.gabc_write.specs.machine.DumpOfTexts.{IsOnLine, line_of_bracketed, lines_of_texts, steps_of_texts}
 
 -- ---- snippets by their texts
 
@@ -34,18 +33,17 @@ few_lines kept (s ∷ ss) h =
     All-cons (λ (s : Snippet). s.line < 256) s ss (All-head IsOnLine (line_and_text kept s) (map (line_and_text kept) ss) h)
     (few_lines kept ss (All-tail IsOnLine (line_and_text kept s) (map (line_and_text kept) ss) h))
 
--- ---- no translation
+-- ---- a translation by its brackets
 
-bracket_last : (t prefix : List ℕ) → t ≡ prefix ++ 93 ∷ [] → ends_in_bracket t ≡ true
-bracket_last t prefix e =
-    let n = ap (λ (l : List ℕ). length l) e ∙ length-append prefix (93 ∷ []) in
-    let at : length t - 1 ≡ length prefix = omega (arith, n) in
-    ap (λ (k : ℕ). slice_index t k == 93) at ∙ ap (λ (l : List ℕ). slice_index l (length prefix) == 93) e ∙ ap (λ (c : ℕ). c == 93) (get_or-append_seam prefix 93 [] 0)
+bracketed : (q : List ℕ) → codes "translation:" ++ last_text q ≡ line_of_bracketed (91 ∷ (q ++ 93 ∷ []))
+bracketed [] = refl
+bracketed (c ∷ q) =
+    ap (λ (l : List ℕ). codes "translation:" ++ last_text l)
+    (sym (take_at (c ∷ q) (93 ∷ []) (length (q ++ 93 ∷ [])) (let n = length-append q (93 ∷ []) in omega (arith, n))))
 
-untranslated : (kept a t : List ℕ) (o : Option Span) → a ++ translation_text kept o ≡ t → ends_in_bracket t ≡ false → o ≡ None
-untranslated kept a t None e plain = refl
-untranslated kept a t (Some span) e plain =
-    absurd (true≢false (sym (bracket_last t (a ++ 91 ∷ slice span kept) (sym e ∙ sym (append_assoc a (91 ∷ slice span kept) (93 ∷ [])))) ∙ plain))
+translation_line : (kept : List ℕ) (o : Option Span) → line_of_translation kept o ≡ line_of_bracketed (translation_text kept o)
+translation_line kept None = refl
+translation_line kept (Some span) = bracketed (slice span kept)
 
 module _ (r : SpelledSyllable) (s : PlacedSyllable) (h : Spells r s) where
   abbrev pub texts : List (ℕ × List ℕ)
@@ -57,26 +55,21 @@ module _ (r : SpelledSyllable) (s : PlacedSyllable) (h : Spells r s) where
   pub steps_are : steps_of_syllable s ≡ first_steps r.position ++ steps_of_texts texts
   steps_are = ap₂ (λ (xs ys : List ScoreStep). xs ++ ys) (ap first_steps h.position) (snippet_steps s.made.kept s.made.snippets ∙ ap steps_of_texts h.snippets)
 
-  module _ (plain : ends_in_bracket (take r.opening r.canonical.now) ≡ false) where
-    none : s.made.text.translation ≡ None
-    none = untranslated s.made.kept (canonical_text s.made.text s.made.kept) (take r.opening r.canonical.now) s.made.text.translation h.text plain
-
-    text_is : canonical_text s.made.text s.made.kept ≡ take r.opening r.canonical.now
-    text_is =
-        sym (append-nil (canonical_text s.made.text s.made.kept))
-        ∙ ap (λ (o : Option Span). canonical_text s.made.text s.made.kept ++ translation_text s.made.kept o) (sym none) ∙ h.text
-
+  module _ (text translation : List ℕ) (are : AreTextsOf r text translation) where
     first_is : (number : ℕ) → first_line number s ≡ first_line_by number r.position r.spans.eu r.spans.nlba
     first_is number =
         ap (λ (p : Position). first_line_by number p s.made.eu s.made.nlba) h.position
         ∙ ap₂ (first_line_by number r.position) h.eu h.nlba
 
+    translation_is : line_of_translation s.made.kept s.made.text.translation ≡ line_of_bracketed translation
+    translation_is = translation_line s.made.kept s.made.text.translation ∙ ap line_of_bracketed (h.text.translation ∙ sym (are h.spelling).1)
+
     pub all_lines : (number : ℕ) (f : InForce)
-        → lines_of_syllable number f s ≡ first_line_by number r.position r.spans.eu r.spans.nlba ++ (line_of_text (take r.opening r.canonical.now) ++ lines_of_texts (passed f (first_steps r.position)) texts)
+        → lines_of_syllable number f s ≡ first_line_by number r.position r.spans.eu r.spans.nlba ++ (line_of_text text ++ (line_of_bracketed translation ++ lines_of_texts (passed f (first_steps r.position)) texts))
     all_lines number f =
         ap₂ (λ (a b : List ℕ). a ++ b) (first_is number)
-        (ap₂ (λ (a b : List ℕ). a ++ b) (ap line_of_text text_is)
-        (ap₂ (λ (a b : List ℕ). a ++ b) (ap (line_of_translation s.made.kept) none)
+        (ap₂ (λ (a b : List ℕ). a ++ b) (ap line_of_text (h.text.text ∙ sym (are h.spelling).0))
+        (ap₂ (λ (a b : List ℕ). a ++ b) translation_is
         (ap (λ (p : Position). lines_of_snippets (passed f (first_steps p)) s.made.kept s.made.snippets) h.position ∙ lines_are (passed f (first_steps r.position)))))
 
   -- ---- what is kept is short

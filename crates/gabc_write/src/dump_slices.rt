@@ -1,13 +1,13 @@
 //! The lines of a regular syllable in a dump, from the slices that spell it.
 
-ghost use Rattle.std.specs.Prelude.{◌≡◌, ◌≤◌, ◌+◌, ◌*◌, ◌<◌, ℕ, List, false, length, take};
+ghost use Rattle.std.specs.Prelude.{◌≡◌, ◌≤◌, ◌+◌, ◌*◌, ◌<◌, ℕ, List, length};
 ghost use Rattle.std.specs.List.{All};
 ghost use Rattle.gabc_neumes.specs.InForce.{passed};
 ghost use Rattle.gabc_score.specs.Canonical.{canonical_in_place};
-ghost use Rattle.gabc_score.specs.SpelledSyllable.{IsSpelling, Spells, ToCome, ends_in_bracket};
+ghost use Rattle.gabc_score.specs.SpelledSyllable.{IsSpelling, Spells, ToCome, AreTextsOf};
 ghost use Rattle.gabc_score.specs.Syllable.{PlacedSyllable};
 ghost use Rattle.gabc_write.specs.DumpOfSyllables.{line_of_text, lines_of_syllable, steps_of_syllable};
-ghost use Rattle.gabc_write.specs.machine.DumpOfTexts.{lines_of_texts, steps_of_texts, IsOnLine};
+ghost use Rattle.gabc_write.specs.machine.DumpOfTexts.{line_of_bracketed, lines_of_texts, steps_of_texts, IsOnLine};
 
 use crate::dump_item::put_last;
 use crate::dump_syllables::{pass_position, put_first_line, put_snippet};
@@ -23,6 +23,16 @@ fn put_line_of<S: Put>(text: &[u8], out: &mut S)
     if !text.is_empty() {
         out.put(b"text:");
         put_last(text, out);
+    }
+}
+
+/// Puts the line of `translation`, which stands in its brackets, if there is any: `translation:T`.
+fn put_line_of_bracketed<S: Put>(translation: &[u8], out: &mut S)
+    ensures { out.new ≡ S.taken out.old (line_of_bracketed translation.now) }
+{
+    if translation.len() > 1 {
+        out.put(b"translation:");
+        put_last(&translation[1..translation.len() - 1], out);
     }
 }
 
@@ -47,18 +57,19 @@ fn put_spelled_snippets<S: Put>(
     }
 }
 
-/// Puts the lines of the syllable with this `number` that `syllable` spells, which has no
-/// translation, as `dump_syllable` puts them. `alterations` are those in force before it, and then
-/// those after it.
+/// Puts the lines of the syllable with this `number` that `syllable` spells, as `dump_syllable`
+/// puts them. `text` is its text, and `translation` its translation with its brackets.
+/// `alterations` are those in force before it, and then those after it.
 pub fn dump_spelled<S: Put>(
     number: u64,
     syllable: SpelledSyllable<'_>,
+    text: &[u8],
+    translation: &[u8],
     alterations: &mut Alterations,
     out: &mut S,
 )
     requires spelling { IsSpelling syllable }
-    requires untranslated { ends_in_bracket (take syllable.opening syllable.canonical.now)
-        ≡ false }
+    requires texts { AreTextsOf syllable text.now translation.now }
     ensures put { (s : PlacedSyllable) → Spells syllable.entry s →
         out.new ≡ S.taken out.old (lines_of_syllable number alterations.old s) }
     ensures alterations { (s : PlacedSyllable) → Spells syllable.entry s →
@@ -70,8 +81,8 @@ pub fn dump_spelled<S: Put>(
     laws::a_dump_is_short();
     gabc_neumes::laws::steps_are_passed_one_by_one();
     put_first_line(number, syllable.position, syllable.spans, out);
-    let canonical = syllable.canonical.as_bytes();
-    put_line_of(&canonical[..syllable.opening], out);
+    put_line_of(text, out);
+    put_line_of_bracketed(translation, out);
     pass_position(syllable.position, alterations);
     put_spelled_snippets(syllable.snippets(), alterations, out);
 }

@@ -1,13 +1,13 @@
 //! What a run writes, in rooms that are reserved.
 
-ghost use Rattle.std.specs.Prelude.{◌≡◌, ◌+◌, ◌*◌, ◌≤◌, ℕ, [], IfOk, Some, true, false, length, take, string_bytes, encode_utf8_all};
+ghost use Rattle.std.specs.Prelude.{◌≡◌, ◌+◌, ◌*◌, ◌≤◌, ℕ, [], IfOk, Some, true, length, string_bytes, encode_utf8_all};
 ghost use Rattle.gabc_headers.specs.Canonical.{canonical_heads};
 ghost use Rattle.gabc_score.specs.Canonical.{canonical_in_place};
 ghost use Rattle.gabc_write.specs.Message.{line_of};
 ghost use Rattle.gabc_places.specs.BoundedList.{Fits};
 ghost use Rattle.gabc_score.specs.ScoreEvents.{Found, Stop, Syllable as SyllableGiven, End};
 ghost use Rattle.gabc_score.specs.NoNotes.{has_no_notes};
-ghost use Rattle.gabc_score.specs.SpelledSyllable.{IsSpelling, Spells, ends_in_bracket};
+ghost use Rattle.gabc_score.specs.SpelledSyllable.{AreTextsOf, IsSpelling, Spells};
 ghost use Rattle.gabc_score.specs.Syllable.{PlacedSyllable, placed_of, unplaced_of};
 ghost use Rattle.gregorio_jobs.specs.declared.job.Format.TheVariants.{Gabc, Dump};
 ghost use Rattle.gregorio.specs.Streams.{last_text};
@@ -313,19 +313,26 @@ impl RunWriter {
         self.out.append(syllable.canonical.as_bytes());
     }
 
-    /// Writes the lines of the syllable that `syllable` spells, in a dump. It has no translation.
-    fn dump(&mut self, syllable: SpelledSyllable<'_>)
+    /// Writes the lines of the syllable that `syllable` spells, in a dump: of its `text`, of its
+    /// `translation` with its brackets, and of its snippets.
+    fn dump(&mut self, syllable: SpelledSyllable<'_>, text: &[u8], translation: &[u8])
         requires dump { self.old.written.format ≡ Dump }
         requires room { TakesText self.old (length syllable.canonical.now + 1) }
         requires spelling { IsSpelling syllable }
-        requires untranslated { ends_in_bracket (take syllable.opening syllable.canonical.now)
-            ≡ false }
+        requires texts { AreTextsOf syllable text.now translation.now }
         ensures { (s : PlacedSyllable) → Spells syllable.entry s →
             self.new ≡ past_output self.old (SyllableGiven s) }
     {
         dump_laws::a_dump_without_notes_is_shorter();
         self.count = self.count.saturating_add(1);
-        dump_spelled(self.count, syllable, &mut self.alterations, &mut self.out);
+        dump_spelled(
+            self.count,
+            syllable,
+            text,
+            translation,
+            &mut self.alterations,
+            &mut self.out,
+        );
     }
 
     /// Writes what stands after the syllables, which are the `whole` score or not, if the headers
@@ -401,7 +408,8 @@ impl RunWriter {
     }
 }
 
-/// Writes the syllables of a run. A dump leaves those that may have a translation.
+/// Writes the syllables of a run. A dump leaves one of which it is not known where its translation
+/// begins.
 impl Give for RunWriter {
     ghost use Rattle.gregorio.specs.machine.OutputsOfARun.{past_both, past_none};
     ghost use Rattle.gregorio.specs.machine.RunWriter.{TakesText, past_syllables};
@@ -428,8 +436,10 @@ impl Give for RunWriter {
         }
         match self.format {
             Format::Gabc => self.spell(syllable),
-            Format::Dump if syllable.may_be_translated() => return false,
-            Format::Dump => self.dump(syllable),
+            Format::Dump => match syllable.text_and_translation() {
+                Some((text, translation)) => self.dump(syllable, text, translation),
+                None => return false,
+            },
         }
         true
     }

@@ -6,6 +6,7 @@ use Rattle.std.proofs.Math.Numerals.{add-one}
 use Rattle.std.proofs.lemmas.Str.{encodes-append, encode_ascii}
 use lib.Utf8.{encodes}
 use Rattle.gabc_text.proofs.KeptCharacters.{codes_placed}
+use Rattle.gabc_text.proofs.printing.RegularTextIsPrinted.{parts_join}
 use Rattle.gabc_places.specs.StageLaw.{concat_of}
 use Rattle.gabc_places.specs.declared.code.Finding.{Finding}
 use Rattle.gabc_places.specs.declared.place.Place.{Place}
@@ -14,16 +15,16 @@ use Rattle.gabc_places.specs.declared.place.Char.{Char}
 use Rattle.gabc_places.specs.Place.{placed_characters_from}
 use Rattle.gabc_patterns.specs.LongestItems.{IsSnippet}
 use Rattle.gabc_patterns.specs.Function.{trim}
-use Rattle.gabc_text.specs.RegularText.{IsRegularText, is_gap}
+use Rattle.gabc_text.specs.RegularText.{IsRegularText, is_gap, text_part, translation_part}
 use Rattle.gabc_text.specs.BuiltText.{with_events, empty_text, text_built_at, found_in}
-use Rattle.gabc_text.specs.Canonical.{canonical_text, span_bytes}
+use Rattle.gabc_text.specs.Canonical.{canonical_text}
 use Rattle.gabc_text.specs.Ends.{EndsOnce}
 use Rattle.gabc_text.specs.Events.{codes_of, events_of, events_by_point, after_tokens}
-use Rattle.gabc_text.specs.PrintedView.{printed_view, printed_translation}
+use Rattle.gabc_text.specs.Printed.{text_tokens, translation_tokens, text_of_tokens}
 use Rattle.gabc_text.specs.TextRead.{view_in}
 use Rattle.gabc_text.specs.TextView.{ViewContent}
 use Rattle.gabc_text.specs.View.{kept, findings}
-use Rattle.gabc_text.specs.ViewFacts.{StandsFor, StandsForView, IsTranslation, view_facts}
+use Rattle.gabc_text.specs.ViewFacts.{ViewFacts, StandsForView, IsTranslation, view_facts}
 use Rattle.gabc_notes.specs.Ends.{IsMarkOf}
 use Rattle.gabc_notes.specs.Events.{note_events}
 use Rattle.gabc_notes.specs.ReadAgain.{IsReadAgain}
@@ -39,7 +40,7 @@ use Rattle.gabc_score.specs.Body.{findings_of}
 use Rattle.gabc_score.specs.Canonical.{canonical, translation_text, with_bars}
 use Rattle.gabc_score.specs.Events.{texts_by_definition, text_from, snippet_from, next_line}
 use Rattle.gabc_score.specs.Holding.{ReadSnippet, kept_on_line, in_brackets, IsHeld}
-use Rattle.gabc_score.specs.RegularSyllable.{SyllableParts, line_and_text, snippet_texts, with_lines, IsRegularOn, AreRegularFrom, IsRegularSyllable, has_gap, gap_kept, kept_spelled, canonical_spelled, notes_spelled, spelled, after_part, nexts_at, final_at, unit_at}
+use Rattle.gabc_score.specs.RegularSyllable.{SaysText, SyllableParts, line_and_text, snippet_texts, with_lines, IsRegularOn, AreRegularFrom, IsRegularSyllable, has_gap, gap_kept, kept_spelled, canonical_spelled, notes_spelled, spelled, after_part, nexts_at, final_at, unit_at}
 use Rattle.gabc_score.specs.Syllable.{UnplacedSyllable, since_close, slice}
 use Rattle.gabc_score.specs.SyllablesOfUnits.{HoldsUnit, NotesAre, ScoreUnit, score_unit, characters_in, characters_from}
 use Rattle.gabc_score.specs.UnitRead.{GivesOneSyllable, first_events, emitted_through}
@@ -173,47 +174,29 @@ module _ (kept_alone : (t rest : List ℕ) → IsRegularText t → kept (t ++ 40
   text_kept [] t rest b r = kept_alone t rest r
   text_kept (c ∷ gap) t rest b r = ap kept (append_assoc (c ∷ gap) t (40 ∷ rest)) ∙ kept_behind c gap t rest b r
 
+-- ---- its text and its translation
+
+-- together they are the text
+whole_said : (m : UnplacedSyllable) (t : List ℕ) → IsRegularText t → SaysText m t → canonical_text m.text m.kept ++ translation_text m.kept m.text.translation ≡ encodes t
+whole_said m t r s = ap₂ (λ (a b : List ℕ). a ++ b) s.text s.translation ∙ sym (encodes-append (text_part t) (translation_part t)) ∙ ap encodes (parts_join t r)
+
+translation_said : (all : List ℕ) (o : Option Span) (t : Option (List ℕ)) → IsTranslation all o t → translation_text (encodes all) o ≡ encodes (text_of_tokens (translation_tokens t))
+translation_said all None None h = refl
+translation_said all None (Some part) h = absurd h
+translation_said all (Some span) None h = absurd h
+translation_said all (Some span) (Some part) h =
+    ap (λ (bs : List ℕ). 91 ∷ (bs ++ 93 ∷ [])) (bytes_stand all span part h) ∙ ap (λ (bs : List ℕ). 91 ∷ bs) (with_byte part 93 [] (omega arith))
+    ∙ sym (one_byte 91 (part ++ 93 ∷ []) (omega arith)) ∙ ap encodes (sym (append-nil (91 ∷ (part ++ 93 ∷ []))))
+
 module _ (starts : (t : List ℕ) → (view_in t).word_start ≡ (view_facts t).word_start)
-    (spanned : (text : List ℕ) (span : Span) (part : List ℕ) → StandsFor text span part → span_bytes (encodes text) span ≡ encodes part)
     (says_alone : (t rest : List ℕ) → IsRegularText t → view_facts (t ++ 40 ∷ rest) ≡ view_facts t)
     (says_behind : (b : ℕ) (gap t rest : List ℕ) → is_gap (b ∷ gap) ≡ true → IsRegularText t → view_facts (b ∷ gap ++ (t ++ 40 ∷ rest)) ≡ record (view_facts t) { word_start = true })
     (kept_alone : (t rest : List ℕ) → IsRegularText t → kept (t ++ 40 ∷ rest) ≡ t)
     (kept_behind : (b : ℕ) (gap t rest : List ℕ) → is_gap (b ∷ gap) ≡ true → IsRegularText t → kept (b ∷ gap ++ (t ++ 40 ∷ rest)) ≡ 32 ∷ t)
-    (printed_alone : (whole t rest : List ℕ) → IsRegularText t → (let all = t ++ 40 ∷ rest in StandsForView whole (view_in all) all → printed_view (view_in all) (encodes whole) ≡ encodes t))
-    (printed_behind : (whole : List ℕ) (b : ℕ) (gap t rest : List ℕ) → is_gap (b ∷ gap) ≡ true → IsRegularText t
-    → (let all = b ∷ gap ++ (t ++ 40 ∷ rest) in StandsForView whole (view_in all) all → printed_view (view_in all) (encodes whole) ≡ encodes (10 ∷ t))) where
-  text_starts : (gap t rest : List ℕ) → is_gap gap ≡ true → IsRegularText t → (view_in ((gap ++ t) ++ 40 ∷ rest)).word_start ≡ has_gap gap
-  text_starts [] t rest b r = starts (t ++ 40 ∷ rest) ∙ ap (λ v. v.word_start) (says_alone t rest r) ∙ r.no_start
-  text_starts (c ∷ gap) t rest b r =
-      starts ((c ∷ gap ++ t) ++ 40 ∷ rest) ∙ ap (λ (u : List ℕ). (view_facts u).word_start) (append_assoc (c ∷ gap) t (40 ∷ rest)) ∙ ap (λ v. v.word_start) (says_behind c gap t rest b r)
-
-  translations : (all : List ℕ) (o : Option Span) (t : Option (List ℕ)) → IsTranslation all o t → printed_translation (encodes all) o ≡ translation_text (encodes all) o
-  translations all None t h = refl
-  translations all (Some span) None h = absurd h
-  translations all (Some span) (Some part) h = ap (λ (bs : List ℕ). codes "[" ++ (bs ++ codes "]")) (spanned all span part h ∙ sym (bytes_stand all span part h))
-
-  -- an LF where it begins a word, and its bytes
-  view_printed : (all gap t rest : List ℕ) → is_gap gap ≡ true → IsRegularText t
-      → (let u = (gap ++ t) ++ 40 ∷ rest in StandsForView all (view_in u) u → canonical_text (view_in u) (encodes all) ++ printed_translation (encodes all) (view_in u).translation ≡ encodes t)
-  view_printed all [] t rest b r h =
-      let u = t ++ 40 ∷ rest in
-      let p = canonical_text (view_in u) (encodes all) ++ printed_translation (encodes all) (view_in u).translation in
-      ap (λ (w : Bool). cond w (10 ∷ []) [] ++ p) (sym (text_starts [] t rest b r)) ∙ printed_alone all t rest r h
-  view_printed all (c ∷ gap) t rest b r h =
-      let u = (c ∷ gap ++ t) ++ 40 ∷ rest in
-      let v = c ∷ gap ++ (t ++ 40 ∷ rest) in
-      let same : u ≡ v = append_assoc (c ∷ gap) t (40 ∷ rest) in
-      let p = canonical_text (view_in u) (encodes all) ++ printed_translation (encodes all) (view_in u).translation in
-      tail_same 10 10 p (encodes t)
-      (ap (λ (w : Bool). cond w (10 ∷ []) [] ++ p) (sym (text_starts (c ∷ gap) t rest b r))
-      ∙ ap (λ (k : List ℕ). printed_view (view_in k) (encodes all)) same
-      ∙ printed_behind all c gap t rest b r (subst (λ (k : List ℕ). StandsForView all (view_in k) k) same h) ∙ one_byte 10 t (omega arith))
-
-  text_printed : (all gap t rest : List ℕ) → is_gap gap ≡ true → IsRegularText t
-      → (let u = (gap ++ t) ++ 40 ∷ rest in StandsForView all (view_in u) u → canonical_text (view_in u) (encodes all) ++ translation_text (encodes all) (view_in u).translation ≡ encodes t)
-  text_printed all gap t rest b r h =
-      let u = (gap ++ t) ++ 40 ∷ rest in
-      ap (λ (k : List ℕ). canonical_text (view_in u) (encodes all) ++ k) (sym (translations all (view_in u).translation _ h.translation)) ∙ view_printed all gap t rest b r h
+    (is_printed : (whole t : List ℕ) → StandsForView whole (view_in t) t → canonical_text (view_in t) (encodes whole) ≡ encodes (text_of_tokens (text_tokens (view_facts t)))) where
+  text_says : (gap t rest : List ℕ) → is_gap gap ≡ true → IsRegularText t → view_facts ((gap ++ t) ++ 40 ∷ rest) ≡ record (view_facts t) { word_start = has_gap gap }
+  text_says [] t rest b r = says_alone t rest r ∙ ap (λ (w : Bool). record (view_facts t) { word_start = w }) r.no_start
+  text_says (c ∷ gap) t rest b r = ap view_facts (append_assoc (c ∷ gap) t (40 ∷ rest)) ∙ says_behind c gap t rest b r
 
   -- the canonical text of a syllable that has this text and these notes
   canonical_by : (w : Bool) (a b t notes bars : List ℕ) → a ++ b ≡ encodes t → bars ++ codes ")" ≡ encodes notes
@@ -244,7 +227,7 @@ module _ (starts : (t : List ℕ) → (view_in t).word_start ≡ (view_facts t).
       pub kept_is : m.kept ≡ encodes (kept_spelled r)
       pub starts_is : m.text.word_start ≡ has_gap r.gap
       pub canonical_is : (w : Bool) → canonical w m ≡ encodes (canonical_spelled w r)
-      pub text_is : canonical_text m.text m.kept ++ translation_text m.kept m.text.translation ≡ encodes r.text
+      pub text_is : SaysText m r.text
       pub snippets_are : snippet_texts m ≡ with_lines lines 0 r.nexts r.final
 
     pub held_spelled : (m : UnplacedSyllable) → HoldsUnit lines u m → Spelled m
@@ -269,17 +252,20 @@ module _ (starts : (t : List ℕ) → (view_in t).word_start ≡ (view_facts t).
             let spelled_bars : with_bars m.kept m.snippets ++ codes ")" ≡ encodes notes =
             ap (λ (bytes : List ℕ). with_bars bytes m.snippets ++ codes ")") h.kept_is ∙ ap (λ (ps : List Snippet). with_bars (encodes h.whole) ps ++ codes ")") k.snippets_are
             ∙ bars (encodes h.whole) ss r.nexts r.final kepts (have_bytes lines h.whole (kept u.text) [] ss k.each) in
-            let spelled_text : canonical_text m.text m.kept ++ translation_text m.kept m.text.translation ≡ encodes r.text =
-            ap (λ (v : ViewContent). canonical_text v m.kept ++ translation_text m.kept v.translation) text_is
-            ∙ ap (λ (bytes : List ℕ). (let v = view_in ((r.gap ++ r.text) ++ 40 ∷ notes) in canonical_text v bytes ++ translation_text bytes v.translation)) h.kept_is
-            ∙ text_printed h.whole r.gap r.text notes regular.blanks regular.text stands in
+            let says = text_says r.gap r.text notes regular.blanks regular.text in
+            let said : SaysText m r.text = record {
+              text = ap (λ (v : ViewContent). canonical_text v m.kept) text_is ∙ ap (λ (bytes : List ℕ). canonical_text (view_in ((r.gap ++ r.text) ++ 40 ∷ notes)) bytes) h.kept_is
+                  ∙ is_printed h.whole ((r.gap ++ r.text) ++ 40 ∷ notes) stands ∙ ap (λ (v : ViewFacts). encodes (text_of_tokens (text_tokens v))) says;
+              translation = ap (λ (v : ViewContent). translation_text m.kept v.translation) text_is ∙ ap (λ (bytes : List ℕ). translation_text bytes (view_in ((r.gap ++ r.text) ++ 40 ∷ notes)).translation) h.kept_is
+                  ∙ translation_said h.whole (view_in ((r.gap ++ r.text) ++ 40 ∷ notes)).translation _ stands.translation ∙ ap (λ (v : ViewFacts). encodes (text_of_tokens (translation_tokens v.translation))) says;
+            } in
             record {
               kept_is = h.kept_is ∙ ap encodes whole_is;
-              starts_is = ap (λ (v : ViewContent). v.word_start) text_is ∙ text_starts r.gap r.text notes regular.blanks regular.text;
-              text_is = spelled_text;
+              starts_is = ap (λ (v : ViewContent). v.word_start) text_is ∙ starts ((r.gap ++ r.text) ++ 40 ∷ notes) ∙ ap (λ (v : ViewFacts). v.word_start) says;
+              text_is = said;
               snippets_are = ap (λ (bytes : List ℕ). map (line_and_text bytes) m.snippets) h.kept_is ∙ ap (map (line_and_text (encodes h.whole))) k.snippets_are
                   ∙ on_lines lines h.whole (kept u.text) r.nexts r.final 0 [] ss (sym (mod-eq_of_lt (let some : zero < lines + 1 = omega arith in some))) kepts k.each;
-              canonical_is = λ w. canonical_by w (canonical_text m.text m.kept) (translation_text m.kept m.text.translation) r.text notes (with_bars m.kept m.snippets) spelled_text spelled_bars;
+              canonical_is = λ w. canonical_by w (canonical_text m.text m.kept) (translation_text m.kept m.text.translation) r.text notes (with_bars m.kept m.snippets) (whole_said m r.text regular.text said) spelled_bars;
             }
 
 -- ---- the unit is cut so

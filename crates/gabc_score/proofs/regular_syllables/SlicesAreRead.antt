@@ -23,7 +23,8 @@ use Rattle.gabc_score.specs.declared.spelled.SpelledSnippets.{SpelledSnippets}
 use Rattle.gabc_score.specs.declared.spelled.SpelledSyllable.{SpelledSyllable}
 use Rattle.gabc_score.specs.Events.{next_line}
 use Rattle.gabc_score.specs.RegularSyllable.{IsRegularOn, AreRegularFrom, notes_spelled, with_lines}
-use Rattle.gabc_score.specs.SpelledSyllable.{AreToCome, IsSpelling, ToCome, first_of}
+use Rattle.gabc_text.specs.RegularText.{IsRegularText, text_part, translation_part}
+use Rattle.gabc_score.specs.SpelledSyllable.{AreTextsOf, AreToCome, IsSpelling, ToCome, first_of}
 use Rattle.gabc_score.proofs.regular_syllables.BytesOfRegularSyllables.{cut_after, one_utf8, split_utf8}
 use Rattle.gabc_score.proofs.regular_syllables.RegularSyllableIsMade.{one_byte}
 
@@ -293,6 +294,19 @@ module _ (it : SpelledSnippets) where
 
 pub text_cut : (r : SpelledSyllable) → IsSpelling r → IsCharBoundary r.canonical.now r.opening
 text_cut r is = subst (IsCharBoundary r.canonical.now) (sym is.opening_is) (cut_here r.canonical.now is.parts.text (notes_spelled is.parts.nexts is.parts.final) 40 is.utf8 is.canonical_is (omega arith))
+
+-- the characters of its text are those of its parts
+module _ (r : SpelledSyllable) (text : List ℕ) (utf8 : IsUtf8 text) (e : text ≡ take r.opening r.canonical.now) where
+  text_chars : (is : IsSpelling r) → is.parts.text ≡ chars text
+  text_chars is =
+      let front = front_is r.canonical.now is.parts.text (notes_spelled is.parts.nexts is.parts.final) 40 is.utf8 is.canonical_is (omega arith) in
+      chars_from_encodes is.parts.text text utf8 (sym (e ∙ ap (λ (n : ℕ). take n r.canonical.now) is.opening_is ∙ front))
+
+  pub text_regular : IsSpelling r → IsRegularText (chars text)
+  text_regular is = subst IsRegularText (text_chars is) is.regular.text
+
+  pub texts_are : (a b : List ℕ) → a ≡ encodes (text_part (chars text)) → b ≡ encodes (translation_part (chars text)) → AreTextsOf r a b
+  texts_are a b f g = λ is. (f ∙ ap (λ (t : List ℕ). encodes (text_part t)) (sym (text_chars is)), g ∙ ap (λ (t : List ℕ). encodes (translation_part t)) (sym (text_chars is)))
 
 pub notes_cut : (r : SpelledSyllable) → IsSpelling r → IsCharBoundary r.canonical.now (r.opening + 1)
 notes_cut r is = subst (λ n. IsCharBoundary r.canonical.now (n + 1)) (sym is.opening_is) (cut_next r.canonical.now is.parts.text (notes_spelled is.parts.nexts is.parts.final) 40 is.utf8 is.canonical_is (omega arith))

@@ -1,22 +1,20 @@
 -- The slices of a regular syllable that was found.
-use Rattle.std.proofs.Common.{◌≡◌, ℕ, zero, suc, ◌-◌, ◌≤◌, Bool, nat_lt, ◌∷◌, ◌++◌, length, take, drop, encode_utf8_all, refl, sym, ap, ap₂, subst, ◌∙◌, arith, length-append, IsUtf8}
+use Rattle.std.proofs.Common.{◌≡◌, ℕ, zero, suc, ◌-◌, ◌≤◌, Bool, nat_lt, ◌++◌, length, take, drop, refl, sym, ap, ap₂, subst, ◌∙◌, arith, length-append, IsUtf8}
 use Rattle.std.specs.Str.{IsCharBoundary}
 use Rattle.std.proofs.Math.ListN.{get_or-append}
 use Rattle.std.proofs.Math.Seq.{take-append_seam}
-use Rattle.std.proofs.lemmas.List.{take_at}
 use Rattle.std.proofs.lemmas.Str.{IsUtf8-drop, IsUtf8-nil}
 use Rattle.gabc_score.specs.declared.before.Spans.{Spans}
 use Rattle.gabc_score.specs.declared.run.Found.{Found}
 use Rattle.gabc_score.specs.declared.spelled.SpelledSyllable.{SpelledSyllable}
 use Rattle.gabc_score.specs.Canonical.{position_by, starts_word}
 use Rattle.gabc_score.specs.GivesSyllables.{spelled_canonical}
-use Rattle.gabc_score.specs.RegularSyllable.{IsRegularSyllable, notes_spelled, with_lines}
+use Rattle.gabc_score.specs.RegularSyllable.{IsRegularSyllable, with_lines}
 use Rattle.gabc_score.specs.SpelledSyllable.{IsSpelling, Spells}
 use Rattle.gabc_score.specs.Syllable.{PlacedSyllable}
 use Rattle.gabc_score.specs.machine.RegularLen.{BeginsRegularly}
 use Rattle.gabc_score.specs.machine.Run.{SpellsFound, len_of}
 use Rattle.gabc_score.proofs.regular_syllables.BytesOfRegularSyllables.{cut_after}
-use Rattle.gabc_score.proofs.regular_syllables.SlicesAreRead.{parts_are}
 use Rattle.gabc_score.proofs.runs.FoundSyllable.{begins_there}
 
 module _ (f : Found) (lines : ℕ) (b : BeginsRegularly lines (f.spelled.now ++ f.rest.now) (len_of f)) where
@@ -54,11 +52,6 @@ module _ (f : Found) (lines : ℕ) (b : BeginsRegularly lines (f.spelled.now ++ 
     }
 
     module _ (spans : Spans) (begins : Bool) (position : r.position ≡ position_by (nat_lt 0 f.gap) begins) (spans_are : r.spans ≡ spans) (s : PlacedSyllable) (h : SpellsFound lines spans begins f b.syllable s) where
-      front_of : take r.opening r.canonical.now ≡ encode_utf8_all b.syllable.text
-      front_of =
-          ap (take r.opening) (parts_are r.canonical.now b.syllable.text (notes_spelled b.syllable.nexts b.syllable.final) 40 slices_spell.utf8 slices_spell.canonical_is (omega arith))
-          ∙ take_at (encode_utf8_all b.syllable.text) (40 ∷ encode_utf8_all (notes_spelled b.syllable.nexts b.syllable.final)) r.opening (sym slices_spell.opening_is)
-
       pub syllable_spelled : Spells r s
       syllable_spelled = record {
         spelling = slices_spell;
@@ -67,6 +60,6 @@ module _ (f : Found) (lines : ℕ) (b : BeginsRegularly lines (f.spelled.now ++ 
         nlba = h.nlba ∙ ap (λ (x : Spans). x.nlba) (sym spans_are);
         kept = h.kept;
         canonical = h.canonical ∙ ap₂ spelled_canonical (sym (ap starts_word position ∙ begins_there (nat_lt 0 f.gap) begins)) (sym canonical);
-        text = h.text ∙ sym front_of;
+        text = h.text;
         snippets = h.snippets ∙ ap (λ l. with_lines l 0 b.syllable.nexts b.syllable.final) (sym lines_are);
       }

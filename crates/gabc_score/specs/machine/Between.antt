@@ -7,12 +7,11 @@ use Rattle.gabc_places.specs.StageLaw.{concat_of}
 use Rattle.gabc_headers.specs.declared.head_event.HeadEvent.{HeadEvent}
 use Rattle.gabc_score.specs.declared.before.Spans.{Spans}
 use Rattle.gabc_score.specs.declared.events.BodyEvent.{BodyEvent}
-use Rattle.gabc_text.specs.Canonical.{canonical_text}
 use Rattle.gabc_score.specs.Before.{sounds}
-use Rattle.gabc_score.specs.Canonical.{canonical, translation_text}
+use Rattle.gabc_score.specs.Canonical.{canonical}
 use Rattle.gabc_score.specs.Events.{text_from, events_from}
 use Rattle.gabc_score.specs.GivesSyllables.{text_inputs}
-use Rattle.gabc_score.specs.RegularSyllable.{SyllableParts, spelled, kept_spelled, canonical_spelled, has_gap, snippet_texts, with_lines}
+use Rattle.gabc_score.specs.RegularSyllable.{SaysText, SyllableParts, spelled, kept_spelled, canonical_spelled, has_gap, snippet_texts, with_lines}
 use Rattle.gabc_score.specs.ScoreEvents.{ScoreOutput, Syllable, characters_in}
 use Rattle.gabc_score.specs.SpansPast.{FollowsSpans}
 use Rattle.gabc_score.specs.Syllable.{UnplacedSyllable, PlacedSyllable}
@@ -93,7 +92,7 @@ pub record IsMadeOf (lines : ℕ) (spans : Spans) (r : SyllableParts) (m : Unpla
   pub kept : m.kept ≡ encode_utf8_all (kept_spelled r)
   pub starts : m.text.word_start ≡ has_gap r.gap
   pub canonical_is : (starts : Bool) → canonical starts m ≡ encode_utf8_all (canonical_spelled starts r)
-  pub text_is : canonical_text m.text m.kept ++ translation_text m.kept m.text.translation ≡ encode_utf8_all r.text
+  pub text_is : SaysText m r.text
   pub snippets_are : snippet_texts m ≡ with_lines lines 0 r.nexts r.final
   pub unit : HoldsSomeUnit lines m
   pub tags : span_tags unit.unit.text ≡ span_tags r.text

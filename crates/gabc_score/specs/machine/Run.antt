@@ -22,10 +22,9 @@ use Rattle.gabc_score.specs.declared.score_machine.ScoreMachine.{ScoreMachine}
 use Rattle.gabc_score.specs.declared.score_machine.ScorePart.TheVariants as score_part
 use Rattle.gabc_score.specs.declared.slot_pair.SlotUse.TheVariants.{Filling}
 use Rattle.gabc_score.specs.Before.{most, with_placed}
-use Rattle.gabc_score.specs.Canonical.{canonical_in_place, position_by, translation_text}
+use Rattle.gabc_score.specs.Canonical.{canonical_in_place, position_by}
 use Rattle.gabc_score.specs.GivesSyllables.{GivesSyllables, Runs, spelled_canonical}
-use Rattle.gabc_score.specs.RegularSyllable.{SyllableParts, kept_spelled, snippet_texts, with_lines}
-use Rattle.gabc_text.specs.Canonical.{canonical_text}
+use Rattle.gabc_score.specs.RegularSyllable.{SaysText, SyllableParts, kept_spelled, snippet_texts, with_lines}
 use Rattle.gabc_score.specs.declared.before.Spans.{Spans}
 use Rattle.gabc_score.specs.declared.spelled.SpelledSyllable.{SpelledSyllable}
 use Rattle.gabc_score.specs.SpelledSyllable.{IsSpelling}
@@ -77,14 +76,14 @@ past_found p f = record p { syllables = min (p.syllables + 1) most; canonical = 
 
 -- Of a syllable that was found, where these spans are open after it and it stands before one that
 -- begins a word or not: its place in its word, its open spans, what is kept of it, its canonical
--- text, its text with its translation, and its snippets.
+-- text, its text and its translation, and its snippets.
 pub record SpellsFound (lines : ℕ) (spans : Spans) (begins : Bool) (f : Found) (r : SyllableParts) (s : PlacedSyllable) : Type 0 where
   pub position : s.position ≡ position_by (nat_lt 0 f.gap) begins
   pub eu : s.made.eu ≡ spans.eu
   pub nlba : s.made.nlba ≡ spans.nlba
   pub kept : s.made.kept ≡ encode_utf8_all (kept_spelled r)
   pub canonical : canonical_in_place s ≡ spelled_canonical (nat_lt 0 f.gap) (drop f.gap f.spelled.now)
-  pub text : canonical_text s.made.text s.made.kept ++ translation_text s.made.kept s.made.text.translation ≡ encode_utf8_all r.text
+  pub text : SaysText s.made r.text
   pub snippets : snippet_texts s.made ≡ with_lines lines 0 r.nexts r.final
 
 -- Slices spell a syllable of these parts.

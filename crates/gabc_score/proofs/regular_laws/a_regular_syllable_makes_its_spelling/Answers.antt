@@ -12,7 +12,7 @@ returns c lines macros at r before h fits since =
     c.events_by_point_are_the_events.ensures.joined c.findings_lie_within.ensures.all text.found text.ends behind.found behind.ends at r h in
     let none = found_none c.what_follows_emits_nothing.ensures.prefix c.what_follows_emits_nothing-2.ensures.prefix lines macros c.a_text_ends_once.ensures c.events_build_the_text.ensures.events view.view
     c.events_by_point_are_the_events.ensures.joined c.findings_lie_within.ensures.all text.found text.ends behind.found behind.ends at r h in
-    let codes_are = unit_text view.starts view.bytes text.says behind.says text.kept behind.kept text.printed behind.printed c.kept_again.ensures.snippet c.kept_again-2.ensures.snippet lines at r h in
+    let codes_are = unit_text view.starts text.says behind.says text.kept behind.kept c.canonical_is_printed.ensures c.kept_again.ensures.snippet c.kept_again-2.ensures.snippet lines at r h in
     let g = one (subst (λ (t : List ℕ). length (encodes t) < 2 ^ 63) (sym codes_are) fits) before since in
-    let spelled = held_spelled view.starts view.bytes text.says behind.says text.kept behind.kept text.printed behind.printed c.kept_again.ensures.snippet c.kept_again-2.ensures.snippet lines at r h g.made g.holds in
+    let spelled = held_spelled view.starts text.says behind.says text.kept behind.kept c.canonical_is_printed.ensures c.kept_again.ensures.snippet c.kept_again-2.ensures.snippet lines at r h g.made g.holds in
     record { one = g; nothing = none before; kept_is = spelled.kept_is; starts_is = spelled.starts_is; canonical_is = spelled.canonical_is; text_is = spelled.text_is; snippets_are = spelled.snippets_are }
