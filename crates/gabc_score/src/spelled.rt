@@ -50,7 +50,7 @@ pub struct SpelledSnippets<'a> {
 
 impl<'a> SpelledSyllable<'a> {
     /// Returns its text with its translation.
-    pub fn text(self) -> &'a str
+    fn text(self) -> &'a str
         requires { IsSpelling self }
         ensures { result.now ≡ take self.entry.opening self.entry.canonical.now }
     {
