@@ -3,7 +3,7 @@
 use gabc_text::regular_text;
 
 /// Texts, each with how many of its first bytes are regular.
-const TEXTS: [(&str, usize); 40] = [
+const TEXTS: [(&str, usize); 43] = [
     ("", 0),
     ("abc(f)", 3),
     ("a b c(f)", 5),
@@ -36,7 +36,8 @@ const TEXTS: [(&str, usize); 40] = [
     ("<sp>'(a</sp>(f)", 12),
     ("<i>a<alt></alt></i>(f)", 19),
     ("a<v>b<i></v>(f)", 1),
-    ("a<v>\u{e9}</v>(f)", 1),
+    ("a<v>\u{e9}</v>(f)", 10),
+    ("a<v>\u{feff}</v>(f)", 1),
     ("<eu>E</eu>(f)", 10),
     ("<eu> E(f)", 4),
     ("a<nlba>b</nlba>(f)", 15),
@@ -48,6 +49,8 @@ const TEXTS: [(&str, usize); 40] = [
     ("a{<i>e</i>}(f)", 1),
     // Translations: no `(` follows one of these.
     ("a[first](f)", 8),
+    ("a[\u{e9} \u{201c}x\u{201d}](f)", 13),
+    ("a[\u{feff}](f)", 1),
     ("a[first]b(f)", 1),
     ("[a](f)", 3),
 ];
