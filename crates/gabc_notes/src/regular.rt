@@ -5,9 +5,9 @@ ghost use Rattle.gabc_patterns.specs.LongestPrefix.{IsLongestPrefix};
 ghost use Rattle.gabc_notes.specs.Regular.{IsRegular};
 ghost use Rattle.gabc_notes.specs.machine.CharClass.{class_of_character};
 ghost use Rattle.gabc_notes.specs.machine.ItemMachine.{next_state, raw_state};
-ghost use Rattle.gabc_notes.specs.machine.Regular.{begins_front, ends_regularly, front_state, goes_on_front, is_front, item_at, regular_after, warns_at};
+ghost use Rattle.gabc_notes.specs.machine.Regular.{begins_bar, begins_front, ends_regularly, front_state, goes_on_front, is_bar, is_front, item_at, regular_after, warns_at};
 
-use crate::class::{CharClass, class_of};
+use crate::class::class_of;
 use crate::macro_prefix::{MacroPrefix, digit_of_prefix, prefix_with};
 use crate::state::{ItemState, is_attribute, is_raw, is_whole, next_state, short_step};
 
@@ -27,10 +27,7 @@ fn stays_inside(c: char) -> bool
     ensures { result ≡ true → (s : ItemState) → raw_state s ≡ true →
         next_state s (class_of_character c) ≡ Some s }
 {
-    match class_of(c) {
-        CharClass::Close => false,
-        _ => true,
-    }
+    c != ']'
 }
 
 impl RegularState {
@@ -162,6 +159,32 @@ fn front_len(bytes: &[u8]) -> usize
     len
 }
 
+/// Returns whether `byte` is a bar or a line break, of those that a snippet often is.
+fn begins_bar(byte: u8) -> bool
+    ensures { result ≡ begins_bar byte }
+{
+    match byte {
+        b',' | b':' | b';' | b'Z' | b'z' => true,
+        _ => false,
+    }
+}
+
+/// Returns how many bytes the bar or the line break has that `bytes` begin with, if it is one that
+/// a snippet often is; else 0.
+#[inline(always)]
+fn bar_len(bytes: &[u8]) -> usize
+    ensures within { result ≤ length bytes.now }
+    ensures bar { is_bar (take result bytes.now) ≡ true }
+{
+    if bytes.is_empty() || !begins_bar(bytes[0]) {
+        return 0;
+    }
+    if bytes.len() > 1 && bytes[1] == b':' && bytes[0] == b':' {
+        return 2;
+    }
+    1
+}
+
 /// Returns where the reading stands after the front that the first `len` of `bytes` are.
 fn front_state(bytes: &[u8], len: usize) -> RegularState
     requires { len ≤ length bytes.now }
@@ -178,9 +201,9 @@ fn front_state(bytes: &[u8], len: usize) -> RegularState
     }
 }
 
-/// Returns what `regular_notes` returns, where the first `front` bytes of `text` are a front.
-#[inline(never)]
-fn regular_after_front(text: &str, front: usize) -> usize
+/// Returns what `regular_notes` returns, where the first `front` bytes of `text` are a front, by
+/// reading what follows them.
+fn regular_by_characters(text: &str, front: usize) -> usize
     requires within { front ≤ length text.now }
     requires is_front { is_front (take front text.now) ≡ true }
     ensures { IsLongestPrefix IsRegular text.now result }
@@ -199,6 +222,33 @@ fn regular_after_front(text: &str, front: usize) -> usize
         }
     }
     regular
+}
+
+/// Returns what `regular_notes` returns, by a short way where `text` is a bar before its mark.
+fn regular_from_bar(text: &str) -> usize
+    ensures { IsLongestPrefix IsRegular text.now result }
+{
+    let bytes = text.as_bytes();
+    let bar = bar_len(bytes);
+    if bar < bytes.len() && is_mark(bytes[bar]) {
+        return bar;
+    }
+    regular_by_characters(text, 0)
+}
+
+/// Returns what `regular_notes` returns, where the first `front` bytes of `text` are a front. It
+/// stays out of line: few snippets are more than a front.
+#[inline(never)]
+fn regular_after_front(text: &str, front: usize) -> usize
+    requires within { front ≤ length text.now }
+    requires is_front { is_front (take front text.now) ≡ true }
+    ensures { IsLongestPrefix IsRegular text.now result }
+{
+    if front == 0 {
+        regular_from_bar(text)
+    } else {
+        regular_by_characters(text, front)
+    }
 }
 
 /// Returns how many bytes of `text` its longest prefix has that is a regular snippet: before the

@@ -11,3 +11,4 @@ pub mod SameStands
 pub mod SlicesOfFound
 pub mod StandsThere
 pub mod Throughs
+pub mod Waits

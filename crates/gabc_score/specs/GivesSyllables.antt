@@ -9,6 +9,7 @@ use Rattle.gabc_headers.specs.declared.head_event.HeadEvent.{HeadEvent}
 use Rattle.gabc_headers.specs.declared.head_event.HeadEvent.TheVariants as head_event
 use Rattle.gabc_score.specs.declared.score_machine.ScorePart.TheVariants as score_part
 use Rattle.gabc_score.specs.Before.{with_placed}
+use Rattle.gabc_score.specs.Canonical.{canonical_in_place}
 use Rattle.gabc_score.specs.ScoreEvents.{ScoreOutput, Syllable}
 use Rattle.gabc_score.specs.ScoreStage.{Counts, IsWithin, IsInLine}
 use Rattle.gabc_score.specs.Syllable.{PlacedSyllable}
@@ -48,6 +49,12 @@ pub record GivesSyllables (before : ScoreStageState) (at : Place) (t : List ℕ)
 -- a canonical text, with an LF before it if it begins a word
 abbrev pub spelled_canonical : Bool → List ℕ → List ℕ
 spelled_canonical starts text = cond starts (10 ∷ []) [] ++ text
+
+-- These are n syllables, whose canonical texts one after another are this text, but for the LF
+-- before the first if that begins a word.
+pub record AreJoined (starts : Bool) (text : List ℕ) (n : ℕ) (ss : List PlacedSyllable) : Type 0 where
+  pub count_is : length ss ≡ n
+  pub canonical_is : concat_of (map canonical_in_place ss) ≡ spelled_canonical starts text
 
 -- It gave the syllables to a taker, which was this before and is that after.
 pub record Runs {Taker : Type 0} (given : Taker → List PlacedSyllable → Taker) (before : ScoreStageState) (at : Place) (t : List ℕ) (after : ScoreStageState) (old new : Taker) : Type 0 where

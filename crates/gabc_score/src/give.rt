@@ -1,7 +1,8 @@
 //! What takes the syllables of a run.
 
-ghost use Rattle.std.specs.Prelude.{◌≡◌, ◌≤◌, ℕ, List, [], ◌∷◌, ◌++◌, length, true, false};
+ghost use Rattle.std.specs.Prelude.{◌≡◌, ◌+◌, ◌<◌, ◌≤◌, ℕ, List, [], ◌∷◌, ◌++◌, length, true, false};
 ghost use Rattle.gabc_score.specs.Canonical.{canonical_in_place};
+ghost use Rattle.gabc_score.specs.GivesSyllables.{AreJoined};
 ghost use Rattle.gabc_score.specs.SpelledSyllable.{IsSpelling, Spells};
 ghost use Rattle.gabc_score.specs.Syllable.{PlacedSyllable, placed_of};
 
@@ -16,6 +17,9 @@ pub trait Give {
 
     // it takes a syllable whose canonical text has n bytes
     ghost Takes: { Self → ℕ → Type 0 };
+
+    // it takes joined syllables whose canonical texts have n bytes together
+    ghost TakesJoined: { Self → ℕ → Type 0 };
 
     /// Returns whether it takes a syllable now whose canonical text has at most `len` bytes.
     fn takes(&self, len: usize) -> bool
@@ -32,6 +36,18 @@ pub trait Give {
         ensures given { result ≡ true → (s : PlacedSyllable) → Spells syllable.entry s →
             self.new ≡ given self.old (s ∷ []) }
         ensures same { result ≡ false → self.new ≡ self.old };
+
+    /// Returns how many bytes the canonical texts of joined syllables may have together that it
+    /// takes now; 0, if it wants each syllable by itself.
+    fn joins(&self) -> usize
+        ensures { (n : ℕ) → 0 < n → n ≤ result → TakesJoined self.now n };
+
+    /// Takes `count` syllables whose canonical texts are one after another in `text`, but for the
+    /// LF before the first, if that `starts` a word.
+    fn give_joined(&mut self, starts: bool, text: &str, count: u64)
+        requires { TakesJoined self.old (length text.now + 1) }
+        ensures { (joined : List PlacedSyllable) → AreJoined starts text.now count joined →
+            self.new ≡ given self.old joined };
 
     // to take none changes nothing
     ghost given_none: { (s : Self) → given s [] ≡ s };

@@ -56,6 +56,7 @@ mod syllable;
 mod syllables;
 mod text_places;
 pub mod unit_laws;
+mod waiting;
 mod whole;
 
 pub use before::{Before, Spans};

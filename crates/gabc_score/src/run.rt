@@ -15,7 +15,7 @@ ghost use Rattle.gabc_score.specs.Syllable.{PlacedSyllable, UnplacedSyllable};
 ghost use Rattle.gabc_score.specs.machine.PartCounts.{CountsHold};
 ghost use Rattle.gabc_score.specs.machine.PartKeeps.{in_text, PartKeeps};
 ghost use Rattle.gabc_score.specs.RegularSyllable.{with_lines};
-ghost use Rattle.gabc_score.specs.machine.Run.{EndsRun, GoesBefore, IsFound, IsSamePair, IsSpelledBy, IsSteady, SpellsFound, StandsBetween, RunsTo, RunsMore, TakesRun, len_of, mark_of, past_found, sounds_among};
+ghost use Rattle.gabc_score.specs.machine.Run.{EndsRun, GoesBefore, IsFound, IsSamePair, IsSpelledBy, IsSteady, SpellsFound, StandsBetween, RunsTo, RunsMore, TakesRun, before_by, canonical_length, len_of, mark_of, sounds_among};
 ghost use Rattle.gabc_score.specs.machine.SyllableBuilder.{nothing_open};
 ghost use Rattle.gabc_score.specs.machine.ScoreMachine.{shown, IsScore, IsShort};
 
@@ -31,6 +31,7 @@ use crate::slot_pair::{SlotPair, SlotUse};
 use crate::spelled::SpelledSyllable;
 use crate::syllables::position_by;
 use crate::text_places::place_past;
+use crate::waiting::Waiting;
 use gabc_places::{Limits, Place, Room};
 
 /// A regular syllable of a run, which is not given yet.
@@ -67,9 +68,15 @@ fn clear_after(rest: &str, left: usize) -> usize
 /// lines, and no limit is passed with it after `total` canonical bytes. The first `clear` bytes of
 /// `text` are known to be clear.
 #[inline(always)]
-fn find(lines: u8, limits: Limits, text: &str, clear: usize, total: usize) -> Option<Found<'_>>
+fn find<'a>(
+    lines: u8,
+    limits: &Limits,
+    text: &'a str,
+    clear: usize,
+    total: usize,
+) -> Option<Found<'a>>
     requires { All IsClearByte (take clear text.now) }
-    ensures found { IfSome result (λ f. IsFound lines limits total f) }
+    ensures found { IfSome result (λ f. IsFound lines limits.now total f) }
     ensures text { IfSome result (λ f. text.now ≡ f.spelled.now ++ f.rest.now) }
 {
     let Some(found) = regular_syllable(lines, text, clear) else {
@@ -116,19 +123,16 @@ impl<'a> Found<'a> {
         mark_at(&self.spelled.as_bytes()[self.gap..])
     }
 
-    /// Returns what stands before the syllable after it, where `p` stands before it.
-    fn past(self, p: Preceding) -> Preceding
+    /// Returns how many canonical bytes stand before the syllable after it, where `before` stand
+    /// before it.
+    #[inline(always)]
+    fn canonical_after(self, before: usize) -> usize
         requires gap { self.gap ≤ length self.spelled.now }
-        requires fits { p.canonical + length self.spelled.now + 1 < 2 ^ 64 }
-        ensures { result ≡ past_found p self.entry }
+        requires fits { before + length self.spelled.now + 1 < 2 ^ 64 }
+        ensures { result ≡ before + canonical_length self.entry }
     {
         let start = if self.starts_word() { 1 } else { 0 };
-        Preceding {
-            syllables: p.syllables.saturating_add(1),
-            canonical: p.canonical + (self.spelled.len() - self.gap) + start,
-            spans: spans_past(self.mark(), p.spans),
-            ..p
-        }
+        before + (self.spelled.len() - self.gap) + start
     }
 
     /// Returns its slices, where there are `lines` NABC lines, these spans are open, and it stands
@@ -181,13 +185,31 @@ impl<'a> Found<'a> {
     }
 }
 
-/// A run that stands before a syllable which is not given yet.
+/// Where a run stands: before a syllable that was found and is not given yet.
 #[derive(Clone, Copy)]
 pub(crate) struct Reached<'a> {
-    /// The last syllable found.
+    /// That syllable.
     last: Found<'a>,
-    /// What stands before it.
-    before: Preceding,
+    /// How many syllables of the run stand before it.
+    count: u64,
+    /// The canonical bytes before it.
+    canonical: usize,
+    /// The spans that are open before it.
+    spans: Spans,
+}
+
+impl<'a> Reached<'a> {
+    /// Returns what stands before its syllable, where `begun` stands before the run.
+    fn preceding(self, begun: Preceding) -> Preceding
+        ensures { result ≡ before_by begun self.entry }
+    {
+        Preceding {
+            syllables: begun.syllables.saturating_add(self.count),
+            canonical: self.canonical,
+            spans: self.spans,
+            ..begun
+        }
+    }
 }
 
 impl SlotPair {
@@ -283,12 +305,14 @@ impl ScoreMachine {
         true
     }
 
-    /// Gives the syllables of a run to `out`, from the one that `reached` has found on, as long as
-    /// one follows and `out` takes them. Returns where it stands then.
+    /// Gives the syllables of a run to `out`, from the one that `begun` has found on, with which
+    /// `text` begins, as long as one follows and `out` takes them. Returns where it stands then.
     #[inline(never)]
-    fn give_on<'a, G: Give>(&self, begun: Reached<'a>, out: &mut G) -> Reached<'a>
-        requires found { IsFound self.now.body.nabc_lines self.now.limits begun.before.canonical
+    fn give_on<'a, G: Give>(&self, begun: Reached<'a>, text: &'a str, out: &mut G) -> Reached<'a>
+        requires found { IsFound self.now.body.nabc_lines self.now.limits begun.canonical
             begun.last }
+        requires text { text.now ≡ begun.last.spelled.now ++ begun.last.rest.now }
+        requires first { begun.count ≡ 0 }
         ensures { (at : Place) (text : List ℕ) (given : List PlacedSyllable) →
             RunsTo self.now at text given begun.entry →
             RunsMore G.given self.now at text given out.old result out.new }
@@ -296,35 +320,51 @@ impl ScoreMachine {
         regular_laws::a_regular_syllable_goes_through();
         let lines = self.body.nabc_lines();
         let mut reached = begun;
+        let mut waiting = Waiting::none(text, begun.last.gap, 0, out.joins());
         loop {
             let last = reached.last;
-            let before = last.past(reached.before);
-            let Some(next) = find(lines, self.limits, last.rest, last.clear, before.canonical)
-            else {
-                return reached;
+            let canonical = last.canonical_after(reached.canonical);
+            let Some(next) = find(lines, &self.limits, last.rest, last.clear, canonical) else {
+                break;
             };
             if self.is_first_with(lines, &next) {
-                return reached;
+                break;
             }
-            if !last.give(lines, before.spans, next.starts_word(), out) {
-                return reached;
+            let spans = spans_past(last.mark(), reached.spans);
+            let count = reached.count + 1;
+            if next.starts_word() || !waiting.fits(next.rest.len()) {
+                if waiting.fits(last.rest.len()) {
+                    waiting.give(count, last.rest.len(), out);
+                } else if !last.give(lines, spans, next.starts_word(), out) {
+                    break;
+                }
+                waiting = Waiting::none(last.rest, next.gap, count, out.joins());
             }
-            reached = Reached { last: next, before };
+            reached = Reached {
+                last: next,
+                count,
+                canonical,
+                spans,
+            };
         }
+        if waiting.is_some(reached.count) {
+            let left = reached.last.spelled.len() + reached.last.rest.len();
+            waiting.give(reached.count, left, out);
+        }
+        reached
     }
 
-    /// Goes on before the syllable that `reached` has found, whose first character stands at `at`:
-    /// those before it are given, none is held.
-    fn go_before(&mut self, reached: Reached<'_>, at: Place)
+    /// Goes on before a syllable whose first character stands at `at`, where `before` stands before
+    /// it: those before it are given, none is held.
+    fn go_before(&mut self, before: Preceding, at: Place)
         requires { self.old.pair.used ≡ SlotUse.Filling }
-        ensures { GoesBefore self.old reached.entry.before at self.new }
+        ensures { GoesBefore self.old before at self.new }
     {
-        self.pair
-            .forget_held(reached.before.canonical, reached.before.spans);
+        self.pair.forget_held(before.canonical, before.spans);
         self.has_lent = true;
         self.bounds = Bounds {
-            before: reached.before,
-            behind: reached.before,
+            before,
+            behind: before,
         };
         self.body.begin_text(at);
         self.next = at;
@@ -352,7 +392,7 @@ impl ScoreMachine {
         let (before, _) = text.split_at(bytes - last.spelled.len());
         let start = place_past(at, before);
         let next = place_past(start, last.spelled);
-        self.go_before(reached, start);
+        self.go_before(reached.preceding(self.bounds.behind), start);
         self.read_all(start, last.spelled, room);
         self.body.begin_text(next);
         self.next = next;
@@ -380,7 +420,7 @@ impl ScoreMachine {
         }
         let before = self.bounds.behind;
         let lines = self.body.nabc_lines();
-        let Some(first) = find(lines, self.limits, text, 0, before.canonical) else {
+        let Some(first) = find(lines, &self.limits, text, 0, before.canonical) else {
             return none;
         };
         if self.is_first_with(lines, &first) {
@@ -392,9 +432,11 @@ impl ScoreMachine {
         }
         let begun = Reached {
             last: first,
-            before,
+            count: 0,
+            canonical: before.canonical,
+            spans: before.spans,
         };
-        let reached = self.give_on(begun, out);
+        let reached = self.give_on(begun, text, out);
         self.end_run(at, text, reached, room)
     }
 }

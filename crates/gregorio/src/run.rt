@@ -18,7 +18,7 @@ use std::alloc::Global;
 use std::hash::DefaultHasher;
 
 /// How many bytes one read asks for at most.
-const PIECE: usize = 8192;
+const PIECE: usize = 16_384;
 
 /// Sends `output` to `out`, and then `lines` to `messages`. Where the output's sink fails, no
 /// message is sent.

@@ -1,10 +1,11 @@
 //! What a run writes, in rooms that are reserved.
 
-ghost use Rattle.std.specs.Prelude.{◌≡◌, ◌+◌, ◌*◌, ◌≤◌, ℕ, [], IfOk, Some, true, length, string_bytes, encode_utf8_all};
+ghost use Rattle.std.specs.Prelude.{◌≡◌, ◌+◌, ◌*◌, ◌^◌, ◌<◌, ◌≤◌, ℕ, [], IfOk, Some, true, length, string_bytes, encode_utf8_all};
 ghost use Rattle.gabc_headers.specs.Canonical.{canonical_heads};
 ghost use Rattle.gabc_score.specs.Canonical.{canonical_in_place};
 ghost use Rattle.gabc_write.specs.Message.{line_of};
 ghost use Rattle.gabc_places.specs.BoundedList.{Fits};
+ghost use Rattle.gabc_score.specs.GivesSyllables.{spelled_canonical};
 ghost use Rattle.gabc_score.specs.ScoreEvents.{Found, Stop, Syllable as SyllableGiven, End};
 ghost use Rattle.gabc_score.specs.NoNotes.{has_no_notes};
 ghost use Rattle.gabc_score.specs.SpelledSyllable.{AreTextsOf, IsSpelling, Spells};
@@ -14,7 +15,7 @@ ghost use Rattle.gregorio.specs.Streams.{last_text};
 ghost use Rattle.gregorio.specs.Outcome.{shown_line};
 ghost use Rattle.gregorio.specs.witness.Engine.{if_headed, is_before_heads, text_of_heads, text_of_output};
 ghost use Rattle.gregorio.specs.machine.ScoreWriter.{begun_again, fresh_writer};
-ghost use Rattle.gregorio.specs.machine.RunWriter.{TakesRuns, TakesText, syllable_len, out_room, heads_len, line_room, last_room, most_waiting, with_heads, with_last, past_output, past_end};
+ghost use Rattle.gregorio.specs.machine.RunWriter.{TakesJoinedText, TakesRuns, TakesText, syllable_len, out_room, heads_len, line_room, last_room, most_waiting, with_heads, with_joined, with_last, past_output, past_end};
 
 use crate::findings::{input_name, is_error, put_finding};
 use crate::rooms::{message_room, most_waiting as most_before_a_step, output_room};
@@ -298,19 +299,19 @@ impl RunWriter {
         }
     }
 
-    /// Writes the syllable that `syllable` spells, in canonical form.
+    /// Writes `count` syllables, whose canonical texts are one after another in `text`, but for the
+    /// LF before the first, if that `starts` a word.
     #[inline(always)]
-    fn spell(&mut self, syllable: SpelledSyllable<'_>)
-        requires canonical { self.old.written.format ≡ Gabc }
-        requires room { TakesText self.old (length syllable.canonical.now + 1) }
-        ensures { (s : PlacedSyllable) → Spells syllable.entry s →
-            self.new ≡ past_output self.old (SyllableGiven s) }
+    fn put_joined(&mut self, starts: bool, text: &[u8], count: u64)
+        requires { TakesJoinedText self.old (length text.now + 1) }
+        ensures writes { self.new ≡ with_joined self.old (spelled_canonical starts text.now) count }
+        ensures counts { self.old.written.count < 2 ^ 64 }
     {
-        self.count = self.count.saturating_add(1);
-        if syllable.position.starts_word() {
+        self.count = self.count.saturating_add(count);
+        if starts {
             self.out.push(b'\n');
         }
-        self.out.append(syllable.canonical.as_bytes());
+        self.out.append(text);
     }
 
     /// Writes the lines of the syllable that `syllable` spells, in a dump: of its `text`, of its
@@ -408,15 +409,17 @@ impl RunWriter {
     }
 }
 
-/// Writes the syllables of a run. A dump leaves one of which it is not known where its translation
-/// begins.
+/// Writes the syllables of a run: joined in canonical form, each by itself in a dump. A dump leaves
+/// one of which it is not known where its translation begins.
 impl Give for RunWriter {
     ghost use Rattle.gregorio.specs.machine.OutputsOfARun.{past_both, past_none};
-    ghost use Rattle.gregorio.specs.machine.RunWriter.{TakesText, past_syllables};
+    ghost use Rattle.gregorio.specs.machine.RunWriter.{TakesJoinedText, TakesText, past_syllables};
 
     ghost given = { past_syllables };
 
     ghost Takes = { TakesText };
+
+    ghost TakesJoined = { TakesJoinedText };
 
     ghost given_none = { past_none };
 
@@ -431,16 +434,27 @@ impl Give for RunWriter {
     }
 
     fn give_spelled(&mut self, syllable: SpelledSyllable<'_>) -> bool {
+        let Format::Dump = self.format else {
+            return false;
+        };
         if !self.has_room(syllable.canonical.len() + 1) {
             return false;
         }
-        match self.format {
-            Format::Gabc => self.spell(syllable),
-            Format::Dump => match syllable.text_and_translation() {
-                Some((text, translation)) => self.dump(syllable, text, translation),
-                None => return false,
-            },
-        }
+        let Some((text, translation)) = syllable.text_and_translation() else {
+            return false;
+        };
+        self.dump(syllable, text, translation);
         true
+    }
+
+    fn joins(&self) -> usize {
+        match self.format {
+            Format::Gabc if self.takes_runs() => self.out.left(),
+            _ => 0,
+        }
+    }
+
+    fn give_joined(&mut self, starts: bool, text: &str, count: u64) {
+        self.put_joined(starts, text.as_bytes(), count);
     }
 }

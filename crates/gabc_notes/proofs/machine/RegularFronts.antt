@@ -1,4 +1,4 @@
--- The front of a snippet is regular, and where the reading stands after it.
+-- The front of a snippet is regular, and so is a bar, and where the reading stands after it.
 use Rattle.std.proofs.Common.{◌≡◌, ◌<◌, ◌≤◌, ◌+◌, ◌⊎◌, inl, inr, ℕ, zero, suc, List, [], ◌∷◌, ◌++◌, Bool, true, false, ◌||◌, ◌==◌, nat_lt, codes, map, Option, length, take, drop, get_or, encode_utf8_all, refl, sym, ap, subst, ◌∙◌, arith, None, Some, IsUtf8, append-nil, append_assoc, length-append, if◌then◌else◌}
 use Rattle.std.specs.List.{list_all}
 use Rattle.std.specs.Str.{chars, IsAscii, IsCharBoundary}
@@ -15,11 +15,11 @@ use Rattle.gabc_patterns.proofs.TextIsReadByCharacter.{one_read}
 use lib.Utf8.{encode}
 use Rattle.std.specs.Char.{len_utf8}
 use Rattle.gabc_notes.specs.Regular.{IsRegular}
-use Rattle.gabc_notes.specs.machine.Regular.{begins_front, ends_regularly, front_state, goes_on_front, is_front, item_at, item_from, regular_after}
+use Rattle.gabc_notes.specs.machine.Regular.{begins_front, ends_regularly, front_state, goes_on_front, is_bar, is_front, item_at, item_from, regular_after}
 use Rattle.gabc_notes.specs.declared.macro_prefix.MacroPrefix.TheVariants.{Closed}
 use Rattle.gabc_notes.specs.declared.regular.RegularState.{RegularState}
 use Rattle.gabc_notes.specs.declared.state.ItemState.{ItemState}
-use Rattle.gabc_notes.specs.declared.state.ItemState.TheVariants.{Start, Body, Pitch, ClefPitch}
+use Rattle.gabc_notes.specs.declared.state.ItemState.TheVariants.{Start, Bar, Body, CapitalZ, ClefPitch, Colon, Pitch, SmallZ}
 use Rattle.gabc_notes.proofs.machine.RegularPrefixes.{Reads, reads_first, reads_more, reads_regular, regular_ends, stuck_there}
 
 -- ---- fronts grow
@@ -77,7 +77,7 @@ run_reads (c ∷ t) y b h r =
     subst (λ (l : List ℕ). Reads l (in_item (item_from (item_at c) t))) (append_assoc y (c ∷ []) t)
     (run_reads t (y ++ c ∷ []) c g.1 (reads_more y (in_item (item_at b)) (in_item (item_at c)) c r (goes_on c g.0 b))))
 
-pub front_reads : (t : List ℕ) → is_front t ≡ true → Reads t (front_state t)
+front_reads : (t : List ℕ) → is_front t ≡ true → Reads t (front_state t)
 front_reads [] h = reads_first
 front_reads (c ∷ t) h =
     (let g = and_true (begins_front c) (list_all goes_on_front t) h in
@@ -91,42 +91,96 @@ from_more (d ∷ t) s c = from_more t (item_at d) c
 pub last_item : (l : List ℕ) (n : ℕ) → n < length l → item_from Start (take (n + 1) l) ≡ item_at (get_or l n 0)
 last_item l n less = ap (item_from Start) (take_more l n 0 less) ∙ from_more (take n l) Start (get_or l n 0)
 
--- ---- a front is regular, and of ASCII
+-- ---- texts whose reading is known
 
-pub front_regular : (t : List ℕ) → is_front t ≡ true → IsRegular t
-front_regular t h =
-    reads_regular t (front_state t) (front_reads t h) (from_each (λ (s : ItemState). ends_regularly (in_item s) ≡ true) refl refl refl Start t refl)
+-- A text of ASCII. The reading stands there after it, where it is regular, and goes on with no mark.
+pub record IsKnown (t : List ℕ) (state : RegularState) : Type 0 where
+  pub ascii : IsAscii t
+  pub reads : Reads t state
+  pub ends : ends_regularly state ≡ true
+  pub closes : regular_after state 41 ≡ None
+  pub parts : regular_after state 124 ≡ None
+
+none_ascii : IsAscii []
+none_ascii i = omega arith
+
+one_ascii : (c : ℕ) (t : List ℕ) → c < 128 → IsAscii t → IsAscii (c ∷ t)
+one_ascii c t low rest zero = low
+one_ascii c t low rest (suc i) = rest i
 
 low : (cs : List ℕ) (c : ℕ) → map (λ d. nat_lt d 128) cs ≡ map (λ d. true) cs → is_in c cs ≡ true → c < 128
 low cs c e h = ltb-true c 128 (same_at (λ d. nat_lt d 128) (λ d. true) cs c e h)
 
+-- ---- fronts are
+
 run_ascii : (t : List ℕ) → list_all goes_on_front t ≡ true → IsAscii t
-run_ascii [] h i = omega arith
-run_ascii (c ∷ t) h zero = low (codes "acdefghijklmnp._'vswo") c refl (and_true (goes_on_front c) (list_all goes_on_front t) h).0
-run_ascii (c ∷ t) h (suc i) = run_ascii t (and_true (goes_on_front c) (list_all goes_on_front t) h).1 i
+run_ascii [] h = none_ascii
+run_ascii (c ∷ t) h = (let g = and_true (goes_on_front c) (list_all goes_on_front t) h in one_ascii c t (low (codes "acdefghijklmnp._'vswo") c refl g.0) (run_ascii t g.1))
 
 front_ascii : (t : List ℕ) → is_front t ≡ true → IsAscii t
-front_ascii [] h i = omega arith
-front_ascii (c ∷ t) h zero = low (codes "acdefghijklmnp") c refl (and_true (begins_front c) (list_all goes_on_front t) h).0
-front_ascii (c ∷ t) h (suc i) = run_ascii t (and_true (begins_front c) (list_all goes_on_front t) h).1 i
+front_ascii [] h = none_ascii
+front_ascii (c ∷ t) h = (let g = and_true (begins_front c) (list_all goes_on_front t) h in one_ascii c t (low (codes "acdefghijklmnp") c refl g.0) (run_ascii t g.1))
 
-pub front_bytes : (t : List ℕ) → is_front t ≡ true → length (encode_utf8_all t) ≡ length t
-front_bytes t h = ap (λ (l : List ℕ). length l) (encodes-IsAscii t (front_ascii t h))
+pub front_known : (t : List ℕ) → is_front t ≡ true → IsKnown t (front_state t)
+front_known t h = record {
+  ascii = front_ascii t h;
+  reads = front_reads t h;
+  ends = from_each (λ (s : ItemState). ends_regularly (in_item s) ≡ true) refl refl refl Start t refl;
+  closes = from_each (λ (s : ItemState). regular_after (in_item s) 41 ≡ None) refl refl refl Start t refl;
+  parts = from_each (λ (s : ItemState). regular_after (in_item s) 124 ≡ None) refl refl refl Start t refl;
+}
 
-pub front_longest : (t : List ℕ) → is_front t ≡ true → IsLongestSoFar IsRegular t (length t)
-front_longest t h = record {
+-- ---- bars are
+
+abbrev bar_item : ℕ → ItemState
+bar_item c = if c == 58 then Colon else if c == 90 then CapitalZ else if c == 122 then SmallZ else Bar
+
+abbrev pub bar_state : List ℕ → RegularState
+bar_state [] = in_item Start
+bar_state (c ∷ []) = in_item (bar_item c)
+bar_state _ = in_item Bar
+
+two_colons : IsKnown (58 ∷ 58 ∷ []) (in_item Bar)
+two_colons = record {
+  ascii = one_ascii 58 (58 ∷ []) (omega arith) (one_ascii 58 [] (omega arith) none_ascii);
+  reads = reads_more (58 ∷ []) (in_item Colon) (in_item Bar) 58 (reads_more [] (in_item Start) (in_item Colon) 58 reads_first refl) refl;
+  ends = refl;
+  closes = refl;
+  parts = refl;
+}
+
+pub bar_known : (t : List ℕ) → is_bar t ≡ true → IsKnown t (bar_state t)
+bar_known [] h = record { ascii = none_ascii; reads = reads_first; ends = refl; closes = refl; parts = refl }
+bar_known (c ∷ []) h = record {
+  ascii = one_ascii c [] (low (codes ",:;Zz") c refl h) none_ascii;
+  reads = reads_more [] (in_item Start) (in_item (bar_item c)) c reads_first (same_at (takes Start) (λ d. Some (in_item (bar_item d))) (codes ",:;Zz") c refl h);
+  ends = same_at (λ d. ends_regularly (in_item (bar_item d))) (λ d. true) (codes ",:;Zz") c refl h;
+  closes = same_at (λ d. regular_after (in_item (bar_item d)) 41) (λ d. None) (codes ",:;Zz") c refl h;
+  parts = same_at (λ d. regular_after (in_item (bar_item d)) 124) (λ d. None) (codes ",:;Zz") c refl h;
+}
+bar_known (c ∷ d ∷ []) h =
+    (let g = and_true (c == 58) (d == 58) h in
+    subst (λ (k : ℕ). IsKnown (k ∷ d ∷ []) (in_item Bar)) (sym (eqb-true c 58 g.0))
+    (subst (λ (k : ℕ). IsKnown (58 ∷ k ∷ []) (in_item Bar)) (sym (eqb-true d 58 g.1)) two_colons))
+bar_known (c ∷ d ∷ e ∷ t) h = absurd (cc h)
+
+-- ---- a known text is its longest regular prefix
+
+known_bytes : (t : List ℕ) (state : RegularState) → IsKnown t state → length (encode_utf8_all t) ≡ length t
+known_bytes t state known = ap (λ (l : List ℕ). length l) (encodes-IsAscii t known.ascii)
+
+known_longest : (t : List ℕ) (state : RegularState) → IsKnown t state → IsLongestSoFar IsRegular t (length t)
+known_longest t state known = record {
   prefix = t;
   rest = [];
   cut = sym (append-nil t);
-  is = front_regular t h;
-  bytes = sym (front_bytes t h);
+  is = reads_regular t state known.reads known.ends;
+  bytes = sym (known_bytes t state known);
   longest = λ u q e _.
       (let all : length (encode_utf8_all t) ≡ length (encode_utf8_all u) + length (encode_utf8_all q) =
       ap (λ (l : List ℕ). length (encode_utf8_all l)) e ∙ (ap (λ (l : List ℕ). length l) (encodes-append u q) ∙ length-append (encode_utf8_all u) (encode_utf8_all q)) in
-      let same = front_bytes t h in omega (arith, all, same));
+      let same = known_bytes t state known in omega (arith, all, same));
 }
-
--- ---- a text that begins with a front
 
 marks : (m : ℕ) → (m == 41) || (m == 124) ≡ true → (m ≡ 41) ⊎ (m ≡ 124)
 marks m h = by (m == 41) refl
@@ -135,27 +189,31 @@ marks m h = by (m == 41) refl
     by true e = inl (eqb-true m 41 e)
     by false e = inr (eqb-true m 124 (sym (ap (λ (b : Bool). b || (m == 124)) e) ∙ h))
 
-module _ (text : List ℕ) (n : ℕ) (utf8 : IsUtf8 text) (within : n ≤ length text) (front : is_front (take n text) ≡ true) where
-  front_utf8 : IsUtf8 (take n text)
-  front_utf8 = IsUtf8-from_ascii (take n text) (front_ascii (take n text) front)
+-- ---- a text that begins with a known one
 
-  pub front_cut : IsCharBoundary text n
-  front_cut = IsCharBoundary-from_take text n utf8 within front_utf8
+module _ (text : List ℕ) (n : ℕ) (utf8 : IsUtf8 text) (within : n ≤ length text) (state : RegularState) (known : IsKnown (take n text) state) where
+  known_utf8 : IsUtf8 (take n text)
+  known_utf8 = IsUtf8-from_ascii (take n text) known.ascii
+
+  pub known_cut : IsCharBoundary text n
+  known_cut = IsCharBoundary-from_take text n utf8 within known_utf8
 
   pub rest_utf8 : IsUtf8 (drop n text)
-  rest_utf8 = IsUtf8-drop text n utf8 front_cut
+  rest_utf8 = IsUtf8-drop text n utf8 known_cut
 
-  pub front_whole : take n text ++ chars (drop n text) ≡ chars text
-  front_whole =
-      ap (λ (l : List ℕ). l ++ chars (drop n text)) (sym (chars-IsAscii (take n text) (front_ascii (take n text) front)))
-      ∙ (sym (chars-append (take n text) (drop n text) front_utf8) ∙ ap chars (take-append-drop n text))
+  known_whole : take n text ++ chars (drop n text) ≡ chars text
+  known_whole =
+      ap (λ (l : List ℕ). l ++ chars (drop n text)) (sym (chars-IsAscii (take n text) known.ascii))
+      ∙ (sym (chars-append (take n text) (drop n text) known_utf8) ∙ ap chars (take-append-drop n text))
 
-  -- where a mark follows, the front is all
-  pub front_alone : (m : ℕ) → n < length text → get_or text n 0 ≡ m → (m == 41) || (m == 124) ≡ true → IsLongestPrefix IsRegular text n
-  front_alone m less at mark =
-      longest_of IsRegular text (take n text) (chars (drop n text)) n utf8 front_whole
-      (subst (IsLongestSoFar IsRegular (take n text)) (length-take-le n text within) (front_longest (take n text) front))
-      (λ c u v e is. stuck_there (take n text) u c (front_state (take n text)) (front_reads (take n text) front) (stuck c (cc (e, follows))) is)
+  known_so_far : IsLongestSoFar IsRegular (take n text) n
+  known_so_far = subst (IsLongestSoFar IsRegular (take n text)) (length-take-le n text within) (known_longest (take n text) state known)
+
+  -- where a mark follows, it is all
+  pub known_alone : (m : ℕ) → n < length text → get_or text n 0 ≡ m → (m == 41) || (m == 124) ≡ true → IsLongestPrefix IsRegular text n
+  known_alone m less at mark =
+      longest_of IsRegular text (take n text) (chars (drop n text)) n utf8 known_whole known_so_far
+      (λ c u v e is. stuck_there (take n text) u c state known.reads (stuck c (cc (e, follows))) is)
     where
       small : m < 128
       small = by (marks m mark)
@@ -169,14 +227,14 @@ module _ (text : List ℕ) (n : ℕ) (utf8 : IsUtf8 text) (within : n ≤ length
           chars_past_char (drop n text) (drop (n + 1) text) m rest_utf8
           (drop_more text n 0 less ∙ (ap (λ (c : ℕ). c ∷ drop (n + 1) text) at ∙ ap (λ (l : List ℕ). l ++ drop (n + 1) text) (sym (encode_ascii m small))))
 
-      stuck : (c : ℕ) → c ≡ m → regular_after (front_state (take n text)) c ≡ None
+      stuck : (c : ℕ) → c ≡ m → regular_after state c ≡ None
       stuck c same = at_mark (marks m mark)
         where
-          at_mark : (m ≡ 41) ⊎ (m ≡ 124) → regular_after (front_state (take n text)) c ≡ None
-          at_mark (inl e) = ap (regular_after (front_state (take n text))) (same ∙ e) ∙ from_each (λ (s : ItemState). regular_after (in_item s) 41 ≡ None) refl refl refl Start (take n text) refl
-          at_mark (inr e) = ap (regular_after (front_state (take n text))) (same ∙ e) ∙ from_each (λ (s : ItemState). regular_after (in_item s) 124 ≡ None) refl refl refl Start (take n text) refl
+          at_mark : (m ≡ 41) ⊎ (m ≡ 124) → regular_after state c ≡ None
+          at_mark (inl e) = ap (regular_after state) (same ∙ e) ∙ known.closes
+          at_mark (inr e) = ap (regular_after state) (same ∙ e) ∙ known.parts
 
--- ---- the characters after a front
+-- ---- the characters after a known text
 
 -- These characters were read of the text, of n bytes, and of n their longest regular prefix. The reading stands in that state, and the rest is left.
 pub record IsReadSoFar (text rest : List ℕ) (state : RegularState) (read regular : ℕ) (done : List ℕ) : Type 0 where
@@ -185,12 +243,12 @@ pub record IsReadSoFar (text rest : List ℕ) (state : RegularState) (read regul
   pub bytes : read ≡ length (encode_utf8_all done)
   pub longest : IsLongestSoFar IsRegular done regular
 
-pub front_read : (text : List ℕ) (n : ℕ) → IsUtf8 text → n ≤ length text → is_front (take n text) ≡ true → IsReadSoFar text (drop n text) (front_state (take n text)) n n (take n text ++ [])
-front_read text n utf8 within front = subst (IsReadSoFar text (drop n text) (front_state (take n text)) n n) (sym (append-nil (take n text))) (record {
-  whole = front_whole text n utf8 within front;
-  reads = front_reads (take n text) front;
-  bytes = sym (front_bytes (take n text) front ∙ length-take-le n text within);
-  longest = subst (IsLongestSoFar IsRegular (take n text)) (length-take-le n text within) (front_longest (take n text) front);
+pub known_read : (text : List ℕ) (n : ℕ) → IsUtf8 text → n ≤ length text → (state : RegularState) → IsKnown (take n text) state → IsReadSoFar text (drop n text) state n n (take n text ++ [])
+known_read text n utf8 within state known = subst (IsReadSoFar text (drop n text) state n n) (sym (append-nil (take n text))) (record {
+  whole = known_whole text n utf8 within state known;
+  reads = known.reads;
+  bytes = sym (known_bytes (take n text) state known ∙ length-take-le n text within);
+  longest = known_so_far text n utf8 within state known;
 })
 
 -- a character more

@@ -61,3 +61,16 @@ item_from s (c ∷ t) = item_from (item_at c) t
 -- where the reading stands after a front
 abbrev pub front_state : List ℕ → RegularState
 front_state t = record { item = item_from Start t; name = Closed; fused = false }
+
+-- ---- the bars that are read on a short way
+
+-- a bar or a line break of one character, of those that a snippet often is
+abbrev pub begins_bar : ℕ → Bool
+begins_bar c = is_in c (codes ",:;Zz")
+
+-- such a bar or line break, or `::`, or nothing
+abbrev pub is_bar : List ℕ → Bool
+is_bar [] = true
+is_bar (c ∷ []) = begins_bar c
+is_bar (c ∷ d ∷ []) = (c == 58) && (d == 58)
+is_bar _ = false

@@ -6,7 +6,7 @@ use Rattle.std.specs.String.Boundary.{IsSplitPoint}
 use Rattle.std.proofs.Math.Seq.{take-add}
 use Rattle.std.proofs.lemmas.List.{take_more, take_rest, drop_at, drop-take, get_or-drop, length-take-le}
 use Rattle.std.proofs.lemmas.List.Elements.{All-append, All-head, All-tail, All-cons, All-nil, All-more}
-use Rattle.std.proofs.lemmas.Str.{IsUtf8-append, IsUtf8-take, IsUtf8-drop, IsUtf8-nil, IsUtf8-from_ascii, IsCharBoundary-from_take, chars-append, chars-IsAscii, chars-nil, encodes-chars, encodes-append, encodes-IsAscii}
+use Rattle.std.proofs.lemmas.Str.{IsUtf8-append, IsUtf8-take, IsUtf8-drop, IsUtf8-nil, IsUtf8-from_ascii, IsCharBoundary-from_take, IsCharBoundary-start, chars-append, chars-IsAscii, chars-nil, encodes-chars, encodes-append, encodes-IsAscii}
 use lib.Utf8.{encode}
 use Rattle.gabc_places.specs.TextOfAnInput.{IsPlain, IsText}
 use Rattle.gabc_text.specs.RegularText.{IsRegularText}
@@ -61,9 +61,12 @@ cut_after text n u le v = IsCharBoundary-from_take text n u le v
 rest_utf8 : (text : List ℕ) (n : ℕ) → IsUtf8 text → n ≤ length text → IsUtf8 (take n text) → IsUtf8 (drop n text)
 rest_utf8 text n u le v = IsUtf8-drop text n u (cut_after text n u le v)
 
+pub split_boundary : (text : List ℕ) (n : ℕ) → IsUtf8 text → IsSplitPoint text n → IsCharBoundary text n
+split_boundary text zero u cut = IsCharBoundary-start text u
+split_boundary text (suc n) u cut = (cut.0, cut.1 (omega arith))
+
 pub split_utf8 : (text : List ℕ) (n : ℕ) → IsUtf8 text → IsSplitPoint text n → IsUtf8 (take n text)
-split_utf8 text zero u cut = IsUtf8-nil
-split_utf8 text (suc n) u cut = IsUtf8-take text (suc n) u (cut.0, cut.1 (omega arith))
+split_utf8 text n u cut = IsUtf8-take text n u (split_boundary text n u cut)
 
 split_at : (text : List ℕ) (n : ℕ) → IsCharBoundary text n → IsSplitPoint text n
 split_at text n cut = (cut.0, λ some. cut.1)

@@ -12,6 +12,7 @@ use Rattle.gabc_places.specs.TextOfAnInput.{IsPlain, IsText}
 use Rattle.gabc_places.specs.declared.place.Place.{Place}
 use Rattle.gabc_places.proofs.PlacesOfAText.{place_append}
 use Rattle.gabc_score.specs.declared.body_stage.BodyPart.TheVariants.{Text}
+use Rattle.gabc_score.specs.declared.before.Preceding.{Preceding}
 use Rattle.gabc_score.specs.declared.run.Found.{Found}
 use Rattle.gabc_score.specs.declared.run.Reached.{Reached}
 use Rattle.gabc_score.specs.declared.score_machine.ScoreMachine.{ScoreMachine}
@@ -26,7 +27,7 @@ use Rattle.gabc_score.specs.machine.PartCounts.{CountsHold}
 use Rattle.gabc_score.specs.machine.PartKeeps.{in_text, PartKeeps}
 use Rattle.gabc_score.specs.machine.PartOnly.{HoldsTexts}
 use Rattle.gabc_score.specs.machine.ReadAlone.{is_alone, lists_from, HasRead}
-use Rattle.gabc_score.specs.machine.Run.{GoesBefore, IsFound, IsSamePair, IsSteady, StandsBetween, RunsBefore, RunsTo}
+use Rattle.gabc_score.specs.machine.Run.{GoesBefore, IsFound, IsSamePair, IsSteady, StandsBetween, RunsBefore, RunsTo, before_in}
 use Rattle.gabc_score.specs.machine.ScoreMachine.{shown, IsInBody, IsScoreAt}
 use Rattle.gabc_score.specs.machine.SlotPair.{SlotPairState, is_made}
 use Rattle.gabc_score.specs.machine.SyllableBuilder.{nothing_open}
@@ -77,7 +78,7 @@ module _ (m : ScoreMachine) (at : Place) (text : List ℕ) (first : Found) (stan
     (found : IsFound m.body.nabc_lines m.limits m.bounds.behind.canonical first) (steady : IsSteady m.body.nabc_lines m.pair.gathered.first_kind found.is.syllable) (is : text ≡ first.spelled.now ++ first.rest.now)
     (line : at.line + length text < 2 ^ 63) (column : at.column + length text < 2 ^ 63) where
   abbrev pub reached_first : Reached
-  reached_first = record { last = first; before = m.bounds.behind }
+  reached_first = record { last = first; count = 0; canonical = m.bounds.behind.canonical; spans = m.bounds.behind.spans }
 
   -- the syllable that is held
   abbrev held_first : (x : UnplacedSyllable) × (m.pair.gathered.made ≡ x ∷ [])
@@ -89,12 +90,16 @@ module _ (m : ScoreMachine) (at : Place) (text : List ℕ) (first : Found) (stan
   run_from : (pair : SlotPairState) → pair.gathered ≡ m.pair.gathered → is_made pair.used ≡ false → RunsTo (record m { pair = pair }) at text given_first reached_first
   run_from pair gathered used =
       let there = moved_stands m pair gathered used at stands in
+      let begins = run_begins (record m { pair = pair }) at held_first.0 there (ap (λ (g : Gathered). g.made) gathered ∙ held_first.1) (nat_lt 0 first.gap) in
+      let first_before : before_in m reached_first ≡ m.bounds.behind =
+      ap (λ n. record { syllables = n; canonical = m.bounds.behind.canonical; spans = m.bounds.behind.spans; sounded = m.bounds.behind.sounded })
+      (let e = ap (λ (p : Preceding). p.syllables) begins.before in omega (arith, e)) in
       record {
         stands = there;
         bytes = [];
         utf8 = IsUtf8-nil;
-        runs = subst (λ (t : List ℕ). RunsBefore (record m { pair = pair }) at t given_first (nat_lt 0 first.gap) m.bounds.behind (place_past at t)) (sym chars-nil)
-            (run_begins (record m { pair = pair }) at held_first.0 there (ap (λ (g : Gathered). g.made) gathered ∙ held_first.1) (nat_lt 0 first.gap));
+        runs = subst (λ (p : Preceding). RunsBefore (record m { pair = pair }) at (chars []) given_first (nat_lt 0 first.gap) p (place_past at (chars []))) (sym first_before)
+            (subst (λ (t : List ℕ). RunsBefore (record m { pair = pair }) at t given_first (nat_lt 0 first.gap) m.bounds.behind (place_past at t)) (sym chars-nil) begins);
         found = found;
         steady = subst (λ (g : Gathered). IsSteady m.body.nabc_lines g.first_kind found.is.syllable) (sym gathered) steady;
         text_is = is;
@@ -126,7 +131,7 @@ module _ (m : ScoreMachine) (at : Place) (text : List ℕ) (given : List PlacedS
   take_is = ap (λ n. take n text) len_is ∙ ap (take (length (to.bytes ++ f.spelled.now))) text_is ∙ take-append_seam (to.bytes ++ f.spelled.now) f.rest.now
 
   spelled_utf8 : IsUtf8 f.spelled.now
-  spelled_utf8 = utf8_is f m.body.nabc_lines reached.before.canonical m.limits to.found
+  spelled_utf8 = utf8_is f m.body.nabc_lines reached.canonical m.limits to.found
 
   pub chars_are : chars (take taken_bytes text) ≡ chars to.bytes ++ chars f.spelled.now
   chars_are = ap chars take_is ∙ chars-append to.bytes f.spelled.now to.utf8
@@ -138,7 +143,7 @@ module _ (m : ScoreMachine) (at : Place) (text : List ℕ) (given : List PlacedS
       (cut.0, λ some. cut.1)
 
   pub plain_there : All IsPlain (chars (take taken_bytes text))
-  plain_there = subst (All IsPlain) (sym chars_are) (All-append IsPlain (chars to.bytes) (chars f.spelled.now) to.runs.plain (plain_is f m.body.nabc_lines reached.before.canonical m.limits to.found))
+  plain_there = subst (All IsPlain) (sym chars_are) (All-append IsPlain (chars to.bytes) (chars f.spelled.now) to.runs.plain (plain_is f m.body.nabc_lines reached.canonical m.limits to.found))
 
   before_is : take (taken_bytes - length f.spelled.now) text ≡ to.bytes
   before_is =
@@ -155,8 +160,8 @@ module _ (m : ScoreMachine) (at : Place) (text : List ℕ) (given : List PlacedS
   start_is before from e cut = e ∙ ap (λ (b : List ℕ). place_past at (chars b)) (cut ∙ before_is)
 
   module _ (from : Place) (from_is : from ≡ place_past at (chars to.bytes)) where
-    runs_from : RunsBefore m at (chars to.bytes) given (nat_lt 0 f.gap) reached.before from
-    runs_from = subst (RunsBefore m at (chars to.bytes) given (nat_lt 0 f.gap) reached.before) (sym from_is) to.runs
+    runs_from : RunsBefore m at (chars to.bytes) given (nat_lt 0 f.gap) (before_in m reached) from
+    runs_from = subst (RunsBefore m at (chars to.bytes) given (nat_lt 0 f.gap) (before_in m reached)) (sym from_is) to.runs
 
     -- where it ends
     abbrev pub past : Place
@@ -172,15 +177,15 @@ module _ (m : ScoreMachine) (at : Place) (text : List ℕ) (given : List PlacedS
 
     -- ---- the last syllable
 
-    module _ (law : MakeSyllables) (on : ScoreMachine) (goes : GoesBefore m reached.before from on) where
-      ends : EndsWith m at (chars to.bytes) given reached.before f from
-      ends = run_ends m at (chars to.bytes) given (nat_lt 0 f.gap) reached.before from runs_from to.stands f to.found refl to.steady law low.0 low.1
+    module _ (law : MakeSyllables) (on : ScoreMachine) (goes : GoesBefore m (before_in m reached) from on) where
+      ends : EndsWith m at (chars to.bytes) given (before_in m reached) f from
+      ends = run_ends m at (chars to.bytes) given (nat_lt 0 f.gap) (before_in m reached) from runs_from to.stands f to.found refl to.steady law low.0 low.1
 
       pub rests_on : IsInBody on
-      rests_on = rests_there m at (chars to.bytes) given (nat_lt 0 f.gap) reached.before from runs_from to.stands f on goes
+      rests_on = rests_there m at (chars to.bytes) given (nat_lt 0 f.gap) (before_in m reached) from runs_from to.stands f on goes
 
       pub alone_on : is_alone on.limits on.pair.gathered (lists_from on from (chars f.spelled.now)) ≡ true
-      alone_on = is_alone_there m at (chars to.bytes) given (nat_lt 0 f.gap) reached.before from runs_from to.stands f on goes ends
+      alone_on = is_alone_there m at (chars to.bytes) given (nat_lt 0 f.gap) (before_in m reached) from runs_from to.stands f on goes ends
 
       module _ (read : ScoreMachine) (has : HasRead on read (lists_from on from (chars f.spelled.now))) (was : IsScoreAt read.part read)
           (texts : IsText f.spelled.now → HoldsTexts on.pair.gathered → HoldsTexts read.pair.gathered)
@@ -188,15 +193,15 @@ module _ (m : ScoreMachine) (at : Place) (text : List ℕ) (given : List PlacedS
         rests_by : (q : Place) → past ≡ q → body ≡ record read.body { part = Text (fresh_stage q) } → IsScoreAt read.part (record read { body = body; next = q })
         rests_by q e = subst (λ (q : Place). body ≡ record read.body { part = Text (fresh_stage q) } → IsScoreAt read.part (record read { body = body; next = q })) e (λ begins.
             subst (λ p. IsScoreAt p (record read { body = body; next = past })) (sym has.part)
-            (rests_then m at (chars to.bytes) given (nat_lt 0 f.gap) reached.before from runs_from to.stands f on goes ends to.found read has was texts body begins counts keeps))
+            (rests_then m at (chars to.bytes) given (nat_lt 0 f.gap) (before_in m reached) from runs_from to.stands f on goes ends to.found read has was texts body begins counts keeps))
 
         -- it rests after it
         pub rests_after : (q : Place) → q ≡ past → body ≡ record read.body { part = Text (fresh_stage q) } → IsScoreAt read.part (record read { body = body; next = q })
         rests_after q e = rests_by q (sym e)
 
         gives_by : body ≡ record read.body { part = Text (fresh_stage past) } → GivesSyllables (shown m) at (chars to.bytes ++ chars f.spelled.now) given (shown (record read { body = body; next = past }))
-        gives_by begins = run_gives m at (chars to.bytes) given (nat_lt 0 f.gap) reached.before from runs_from to.stands f to.found low.1 ends (record read { body = body; next = past })
-            (holds_then m at (chars to.bytes) given (nat_lt 0 f.gap) reached.before from runs_from to.stands f on goes ends to.found read has was texts body begins counts keeps) m.pair.first m.pair.second
+        gives_by begins = run_gives m at (chars to.bytes) given (nat_lt 0 f.gap) (before_in m reached) from runs_from to.stands f to.found low.1 ends (record read { body = body; next = past })
+            (holds_then m at (chars to.bytes) given (nat_lt 0 f.gap) (before_in m reached) from runs_from to.stands f on goes ends to.found read has was texts body begins counts keeps) m.pair.first m.pair.second
 
         -- what the run gives
         pub gives_after : (q : Place) → q ≡ past → body ≡ record read.body { part = Text (fresh_stage q) } → GivesSyllables (shown m) at (chars (take taken_bytes text)) given (shown (record read { body = body; next = q }))

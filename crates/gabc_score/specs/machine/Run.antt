@@ -1,11 +1,12 @@
 -- A run of regular syllables that a machine over a score takes from a text.
-use Rattle.std.specs.Prelude.{◌≡◌, ℕ, ◌+◌, ◌≤◌, ◌<◌, ◌^◌, ◌||◌, ◌&&◌, ◌==◌, not, nat_lt, min, List, [], ◌∷◌, ◌++◌, Bool, length, take, drop, encode_utf8_all, if◌then◌else◌, Option, is_some, true}
+use Rattle.std.specs.Prelude.{◌≡◌, ℕ, ◌+◌, ◌≤◌, ◌<◌, ◌^◌, ◌||◌, ◌&&◌, ◌==◌, not, nat_lt, min, List, [], ◌∷◌, ◌++◌, Bool, length, map, take, drop, encode_utf8_all, if◌then◌else◌, Option, is_some, true}
 use Rattle.std.specs.List.{All, list_any}
 use Rattle.std.specs.Str.{IsUtf8, chars}
 use Rattle.std.specs.String.Boundary.{IsSplitPoint}
 use Rattle.gabc_places.specs.declared.limits.Limits.{Limits}
 use Rattle.gabc_places.specs.declared.place.Place.{Place}
 use Rattle.gabc_places.specs.Place.{place_past}
+use Rattle.gabc_places.specs.StageLaw.{concat_of}
 use Rattle.gabc_places.specs.TextOfAnInput.{IsPlain}
 use Rattle.gabc_text.specs.TextStage.{fresh_stage}
 use Rattle.gabc_notes.specs.FirstNoteOrClef.{first_note_or_clef}
@@ -27,6 +28,7 @@ use Rattle.gabc_score.specs.GivesSyllables.{GivesSyllables, Runs, spelled_canoni
 use Rattle.gabc_score.specs.RegularSyllable.{SaysText, SyllableParts, kept_spelled, snippet_texts, with_lines}
 use Rattle.gabc_score.specs.declared.before.Spans.{Spans}
 use Rattle.gabc_score.specs.declared.spelled.SpelledSyllable.{SpelledSyllable}
+use Rattle.gabc_score.specs.declared.waiting.Waiting.{Waiting}
 use Rattle.gabc_score.specs.SpelledSyllable.{IsSpelling}
 use Rattle.gabc_score.specs.ScoreStage.{IsWithin}
 use Rattle.gabc_score.specs.Syllable.{UnplacedSyllable, PlacedSyllable}
@@ -121,14 +123,21 @@ pub record RunsBefore (m : ScoreMachine) (at : Place) (t : List ℕ) (given : Li
   pub sounded : is_some m.pair.gathered.first_kind ≡ p.sounded
   pub input : p.canonical + 1 ≤ m.limits.input
 
+-- what stands before the syllable that a run has reached, before which this stands
+abbrev pub before_by : Preceding → Reached → Preceding
+before_by p r = record { syllables = min (p.syllables + r.count) most; canonical = r.canonical; spans = r.spans; sounded = p.sounded }
+
+abbrev pub before_in : ScoreMachine → Reached → Preceding
+before_in m r = before_by m.bounds.behind r
+
 -- In this text, the first of whose characters stands at `at`, a run has given these syllables, and
 -- has reached one that is not given yet.
 pub record RunsTo (m : ScoreMachine) (at : Place) (text : List ℕ) (given : List PlacedSyllable) (reached : Reached) : Type 0 where
   pub stands : StandsBetween m at
   pub bytes : List ℕ
   pub utf8 : IsUtf8 bytes
-  pub runs : RunsBefore m at (chars bytes) given (nat_lt 0 reached.last.gap) reached.before (place_past at (chars bytes))
-  pub found : IsFound m.body.nabc_lines m.limits reached.before.canonical reached.last
+  pub runs : RunsBefore m at (chars bytes) given (nat_lt 0 reached.last.gap) (before_in m reached) (place_past at (chars bytes))
+  pub found : IsFound m.body.nabc_lines m.limits reached.canonical reached.last
   pub steady : IsSteady m.body.nabc_lines m.pair.gathered.first_kind found.is.syllable
   pub text_is : text ≡ bytes ++ (reached.last.spelled.now ++ reached.last.rest.now)
   pub line : at.line + length text < 2 ^ 63
@@ -139,6 +148,35 @@ pub record RunsMore {Taker : Type 0} (given_by : Taker → List PlacedSyllable �
   pub more : List PlacedSyllable
   pub runs : RunsTo m at text (given ++ more) reached
   pub taken : new ≡ given_by old more
+
+-- ---- syllables that wait
+
+-- what is left of the text from that of this syllable on
+abbrev pub unread : Found → List ℕ
+unread f = drop f.gap f.spelled.now ++ f.rest.now
+
+-- These bytes are a text but for its last n, which begin with a character.
+pub record HasFront (text front : List ℕ) (n : ℕ) : Type 0 where
+  pub back : List ℕ
+  pub utf8 : IsUtf8 back
+  pub is : text ≡ front ++ back
+  pub left_is : length back ≡ n
+
+-- The text of those that wait before this syllable is this, and then what is unread.
+pub record AreBefore (w : Waiting) (r : Reached) (front : List ℕ) : Type 0 where
+  pub earlier : w.earlier ≤ r.count
+  pub text : w.text.now ≡ front ++ unread r.last
+  pub some : w.earlier < r.count → (r.last.gap ≡ 0) × (length front + length r.last.spelled.now < w.most)
+  pub none : w.earlier ≡ r.count → (front ≡ []) × (w.starts ≡ nat_lt 0 r.last.gap)
+
+-- The same as `RunsMore`, where some of those that a taker has not taken wait.
+pub record RunsOn {Taker : Type 0} (given_by : Taker → List PlacedSyllable → Taker) (m : ScoreMachine) (at : Place) (text : List ℕ) (given : List PlacedSyllable) (old : Taker) (w : Waiting) (front : List ℕ) (reached : Reached) (new : Taker) : Type 0 where
+  pub more : List PlacedSyllable
+  pub waiting : List PlacedSyllable
+  pub runs : RunsTo m at text ((given ++ more) ++ waiting) reached
+  pub taken : new ≡ given_by old more
+  pub count : w.earlier + length waiting ≡ reached.count
+  pub joined : (t : List ℕ) → concat_of (map canonical_in_place waiting) ++ spelled_canonical (nat_lt 0 reached.last.gap) t ≡ spelled_canonical w.starts (front ++ t)
 
 -- ---- what is between two syllables
 

@@ -1,5 +1,5 @@
 -- What a writer of runs does with what it is given.
-use Rattle.std.specs.Prelude.{◌≡◌, ℕ, ◌+◌, ◌*◌, ◌≤◌, min, List, [], ◌∷◌, Bool, true, false, Some, is_none, length, map}
+use Rattle.std.specs.Prelude.{◌≡◌, ℕ, ◌+◌, ◌-◌, ◌*◌, ◌^◌, ◌≤◌, min, List, [], ◌∷◌, Bool, true, false, Some, is_none, length, map}
 use Rattle.std.specs.List.{All}
 use Rattle.gabc_places.specs.BoundedList.{BoundedList, Fits, extended_by}
 use Rattle.gabc_headers.specs.declared.head_event.HeadEvent.{HeadEvent}
@@ -57,6 +57,10 @@ outputs_of_syllables ss = map (λ (s : PlacedSyllable). Syllable s) ss
 abbrev pub past_syllables : RunWriterState → List PlacedSyllable → RunWriterState
 past_syllables w ss = past_outputs w (outputs_of_syllables ss)
 
+-- where it has written this text of so many syllables more; the last value of a `u64` stays
+abbrev pub with_joined : RunWriterState → List ℕ → ℕ → RunWriterState
+with_joined w text count = record w { written = record w.written { count = min (w.written.count + count) (2 ^ 64 - 1) }; out = extended_by w.out text }
+
 -- The headers were written, and the run is not over.
 pub record TakesRuns (w : Written) : Type 0 where
   pub headed : w.headed ≡ true
@@ -77,6 +81,12 @@ syllable_len Dump false canonical = 64 * canonical + 256
 pub record TakesText (w : RunWriterState) (n : ℕ) : Type 0 where
   pub runs : TakesRuns w.written
   pub fits : Fits w.out (syllable_len w.written.format false n)
+
+-- In canonical form there is room for joined syllables whose canonical texts have n bytes together.
+pub record TakesJoinedText (w : RunWriterState) (n : ℕ) : Type 0 where
+  pub canonical : w.written.format ≡ Gabc
+  pub runs : TakesRuns w.written
+  pub fits : Fits w.out n
 
 abbrev pub syllable_room : Format → ℕ → ℕ
 syllable_room format limit = syllable_len format false (limit + 1)

@@ -1,7 +1,7 @@
 use Rattle.std.proofs.Common.{◌≡◌, ◌+◌, ◌++◌, length, take, IsUtf8}
 use Rattle.std.specs.Str.Iter.{chars_rest}
 use Rattle.gabc_notes.proofs.machine.RegularFronts.{IsReadSoFar}
-use Rattle.gabc_notes.proofs.regular.regular_after_front.Given as goal
+use Rattle.gabc_notes.proofs.regular.regular_by_characters.Given as goal
 
 abbrev pub invariant-loop-c : goal.invariant-loop-c
 invariant-loop-c l = record {

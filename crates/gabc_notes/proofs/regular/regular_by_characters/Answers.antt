@@ -2,12 +2,12 @@ use Rattle.std.proofs.Common.{◌≡◌, ◌+◌, ◌++◌, ℕ, List, [], ◌�
 use Rattle.std.specs.Char.{len_utf8}
 use Rattle.std.specs.Str.Iter.{chars_rest}
 use Rattle.std.proofs.lemmas.Str.{IsUtf8-past_char, length-encode}
-use Rattle.gabc_notes.proofs.machine.RegularFronts.{IsReadSoFar, front_cut, front_read, read_same, read_stuck, read_to_end, read_whole, rest_utf8}
-use Rattle.gabc_notes.proofs.regular.regular_after_front.Goals as goal
+use Rattle.gabc_notes.proofs.machine.RegularFronts.{IsReadSoFar, front_known, known_cut, known_read, read_same, read_stuck, read_to_end, read_whole, rest_utf8}
+use Rattle.gabc_notes.proofs.regular.regular_by_characters.Goals as goal
 use lib.Utf8.{encode}
 
 pub range_from-requires : goal.range_from-requires
-range_from-requires c = λ _. front_cut c.args.text.now c.args.front c.utf8.text c.requires.within c.requires.is_front
+range_from-requires c = λ _. known_cut c.args.text.now c.args.front c.utf8.text c.requires.within _ (front_known _ c.requires.is_front)
 
 pub loop-c-init : goal.loop-c-init
 loop-c-init c =
@@ -15,9 +15,9 @@ loop-c-init c =
     let n = c.args.front in
     let rest : chars_rest c.into_iter-c-iterator.result ≡ drop n text = ap chars_rest c.into_iter-c-iterator.ensures.into_iter_gives ∙ (c.chars-c-items.ensures.rest ∙ c.range_from.ensures.value) in
     rw (rest, c.front_state-state.ensures, c.as_bytes.ensures.value) (record {
-      utf8 = rest_utf8 text n c.utf8.text c.requires.within c.requires.is_front;
+      utf8 = rest_utf8 text n c.utf8.text c.requires.within _ (front_known _ c.requires.is_front);
       left = (let d = length-drop n text in omega (arith, d, c.requires.within));
-      so_far = front_read text n c.utf8.text c.requires.within c.requires.is_front;
+      so_far = known_read text n c.utf8.text c.requires.within _ (front_known _ c.requires.is_front);
     })
 
 -- the bytes that are left with a character less
