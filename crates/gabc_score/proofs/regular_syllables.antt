@@ -1,9 +1,9 @@
 pub mod BytesOfRegularSyllables
-pub mod ClearBytes
 pub mod GapsAreRead
 pub mod MarkedSyllables
 pub mod OneMore
 pub mod PlaceIsPast
+pub mod PlainBytes
 pub mod PointsPass
 pub mod RegularPartsEnd
 pub mod RegularSyllableIsMade
@@ -12,5 +12,4 @@ pub mod RegularSyllablePasses
 pub mod SlicesAreRead
 pub mod SpellingIsShort
 pub mod StagesReadRegularSyllables
-pub mod TagsOfTexts
 pub mod UnitIsGathered

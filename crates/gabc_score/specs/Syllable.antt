@@ -4,7 +4,7 @@
 use Rattle.std.specs.Prelude.{ℕ, ◌+◌, ◌-◌, ◌||◌, ◌&&◌, nat_lt, nat_le, List, [], ◌∷◌, ◌++◌, Bool, true, false, cond, length, take, drop, codes, string_bytes, encode_utf8, bytes_eq}
 use Rattle.gabc_places.specs.declared.place.Span.{Span}
 use Rattle.gabc_text.specs.declared.view.PieceKind.{PieceKind}
-use Rattle.gabc_text.specs.declared.view.PieceKind.TheVariants.{Mark}
+use Rattle.gabc_text.specs.ViewFacts.{is_mark}
 use Rattle.gabc_text.specs.TextView.{ViewContent, content_of}
 use Rattle.gabc_text.specs.declared.text_event.TextPart.TheVariants as part
 use Rattle.gabc_text.specs.declared.text_event.TextEnd.TheVariants.{Notes}
@@ -128,10 +128,6 @@ abbrev pub text_at : Span → List ℕ → List ℕ
 text_at span bytes =
     cond (nat_le span.from span.to && (nat_le span.to (length bytes) && (is_seam (drop span.from bytes) && is_seam (drop span.to bytes))))
     (slice span bytes) []
-
-abbrev pub is_mark : PieceKind → Bool
-is_mark Mark = true
-is_mark _ = false
 
 -- a span is open after a piece of this kind and spelling, by the tags that open and close it, if it
 -- was open or not before

@@ -1,16 +1,16 @@
 -- The syllables of a score are those of the units of its body, one after the other.
-use Rattle.std.specs.Prelude.{◌⊎◌, zero, suc, ◌-◌, nat_lt, take, ◌≡◌, ◌≢◌, ℕ, List, [], ◌∷◌, ◌++◌, map, filter, length, Bool, true, if◌then◌else◌, IsTrue, ◌↔◌, codes, encode_utf8_all, Option, Some, None}
+use Rattle.std.specs.Prelude.{◌⊎◌, zero, suc, ◌-◌, nat_lt, take, ◌≡◌, ◌≢◌, ℕ, List, [], ◌∷◌, ◌++◌, map, length, Bool, true, if◌then◌else◌, IsTrue, ◌↔◌, codes, encode_utf8_all, Option, Some, None}
 use Rattle.std.specs.List.{All, flat_map}
 use Rattle.gabc_places.specs.declared.place.Char.{Char}
-use Rattle.gabc_text.specs.View.{PieceFacts as SaidPiece, kept}
+use Rattle.gabc_text.specs.View.{kept}
 use Rattle.gabc_text.specs.TextRead.{view_in}
-use Rattle.gabc_text.specs.ViewFacts.{StandsForView, piece_facts_in}
+use Rattle.gabc_text.specs.ViewFacts.{StandsForView, span_tags}
 use Rattle.gabc_text.specs.Events.{codes_of}
 use Rattle.gabc_score.specs.declared.snippets.Snippet.{Snippet}
 use Rattle.gabc_score.specs.Body.{has_text, events_to_stop}
 use Rattle.gabc_score.specs.Canonical.{position_by}
 use Rattle.gabc_score.specs.Holding.{HoldsNotes, HoldsNoNotes}
-use Rattle.gabc_score.specs.Syllable.{UnplacedSyllable, PlacedSyllable, is_mark}
+use Rattle.gabc_score.specs.Syllable.{UnplacedSyllable, PlacedSyllable}
 use Rattle.gabc_places.specs.Place.{placed_characters_after}
 use Rattle.gabc_headers.specs.Book.{nabc_lines_of, macros_of}
 use Rattle.gabc_score.specs.Events.{texts_by_definition, body_events}
@@ -83,11 +83,7 @@ score_units (Some u) = closed_units u.closed u.last ++ last_units u.last
 
 -- ---- spans over several units
 
--- the tags of spans in a text, in order
-abbrev pub span_tags : List ℕ → List (List ℕ)
-span_tags t = map (λ (p : SaidPiece). p.text) (filter (λ (p : SaidPiece). is_mark p.kind) (piece_facts_in t))
-
--- those in the texts of units
+-- the tags of spans in the texts of units, in order
 abbrev pub tags_in : List ScoreUnit → List (List ℕ)
 tags_in units = flat_map (λ (u : ScoreUnit). span_tags u.text) units
 

@@ -7,43 +7,14 @@ ghost use Rattle.std.specs.String.Boundary.{IsSplitPoint};
 ghost use Rattle.gabc_patterns.specs.LongestPrefix.{IsLongestPrefix};
 ghost use Rattle.gabc_text.specs.Token.{is_blank};
 ghost use Rattle.gabc_score.specs.RegularSyllable.{IsRegularOn};
-ghost use Rattle.gabc_score.specs.machine.RegularLen.{begins_mark, begins_other, mark_at, name_of_tag, past_mark, tag_of, HasOnly, IsMarked, IsUnmarked, IsPlainByte, BeginsWithSnippets, BeginsRegularly, IsClearByte, IsPlainGap, is_printable};
+ghost use Rattle.gabc_score.specs.machine.RegularLen.{past_mark, BeginsWithSnippets, BeginsRegularly, IsPlainByte, IsPlainGap, is_printable};
 
 use crate::before::Spans;
 use crate::body_stage::next_line;
 use gabc_nabc::regular_nabc;
 use gabc_notes::regular_notes;
-use gabc_text::regular_text;
-use memchr::memchr3;
-
-/// How many bytes are looked at together for whether they are clear.
-const MOST_LOOKED_AT: usize = 256;
-
-/// How many bytes are looked at one by one.
-const FEW_BYTES: usize = 32;
-
-/// A tag that opens or closes a span of several syllables.
-#[derive(Clone, Copy)]
-pub(crate) enum SpanMark {
-    OpensEu,
-    ClosesEu,
-    OpensNlba,
-    ClosesNlba,
-}
-
-impl SpanMark {
-    /// Returns how it is spelled.
-    fn tag(self) -> &'static str
-        ensures { result.now ≡ tag_of self }
-    {
-        match self {
-            SpanMark::OpensEu => "<eu>",
-            SpanMark::ClosesEu => "</eu>",
-            SpanMark::OpensNlba => "<nlba>",
-            SpanMark::ClosesNlba => "</nlba>",
-        }
-    }
-}
+use gabc_text::{SpanMark, regular_text};
+use memchr::memchr2;
 
 /// Returns which spans are open after `mark`, where `spans` are open before it.
 #[inline(always)]
@@ -139,176 +110,22 @@ fn gap_len(bytes: &[u8]) -> usize
     end
 }
 
-/// Returns the first byte of the name of the tag that `bytes` begin with, where they begin with a
-/// tag: a `/` may stand before it.
-#[inline(always)]
-fn name_of_tag(bytes: &[u8]) -> u8
-    requires { 3 ≤ length bytes.now }
-    ensures { result ≡ name_of_tag bytes.now }
-{
-    if bytes[1] == b'/' { bytes[2] } else { bytes[1] }
-}
-
-/// Returns the span mark that `bytes` begin with, if they begin with one. Few tags are one.
-#[inline(always)]
-pub(crate) fn mark_at(bytes: &[u8]) -> Option<SpanMark>
-    ensures { result ≡ mark_at bytes.now }
-{
-    if bytes.len() < 3 || bytes[0] != b'<' {
-        return None;
-    }
-    match name_of_tag(bytes) {
-        b'e' | b'n' => tag_at(bytes),
-        _ => None,
-    }
-}
-
-/// Returns the span mark that `bytes` begin with, if they begin with one.
+/// Returns how many of the first of `bytes` are plain: neither a CR nor the first byte of U+FEFF.
 #[inline(never)]
-fn tag_at(bytes: &[u8]) -> Option<SpanMark>
-    ensures { result ≡ mark_at bytes.now }
+pub(crate) fn plain_len(bytes: &[u8]) -> usize
+    ensures within { result ≤ length bytes.now }
+    ensures plain { All IsPlainByte (take result bytes.now) }
 {
-    if bytes.starts_with(b"<eu>") {
-        Some(SpanMark::OpensEu)
-    } else if bytes.starts_with(b"</eu>") {
-        Some(SpanMark::ClosesEu)
-    } else if bytes.starts_with(b"<nlba>") {
-        Some(SpanMark::OpensNlba)
-    } else if bytes.starts_with(b"</nlba>") {
-        Some(SpanMark::ClosesNlba)
-    } else {
-        None
-    }
+    memchr2(b'\r', 0xEF, bytes).unwrap_or(bytes.len())
 }
 
-/// Returns whether `bytes` begin with what is refused in a regular syllable: a span mark, a CR, or
-/// the first byte of U+FEFF.
+/// Returns whether `bytes` are plain, as the first `plain` of them are.
 #[inline(always)]
-fn begins_refused(bytes: &[u8]) -> bool
-    requires { 0 < length bytes.now }
-    ensures plain { result ≡ false → IsPlainByte (slice_index bytes.now 0) }
-    ensures unmarked { result ≡ false → begins_mark bytes.now ≡ false }
+fn are_plain(bytes: &[u8], plain: usize) -> bool
+    requires { All IsPlainByte (take plain bytes.now) }
+    ensures { result ≡ true → All IsPlainByte bytes.now }
 {
-    let first = bytes[0];
-    if first > b'<' && first < 0xEF {
-        return false;
-    }
-    first == b'\r' || first == 0xEF || mark_at(bytes).is_some()
-}
-
-/// Returns whether what is refused in a regular syllable begins at `index` in `bytes`.
-#[inline(always)]
-fn is_refused_at(bytes: &[u8], index: usize) -> bool
-    requires { index < length bytes.now }
-    ensures plain { result ≡ false → IsPlainByte (slice_index bytes.now index) }
-    ensures unmarked { result ≡ false → begins_mark (drop index bytes.now) ≡ false }
-{
-    let byte = bytes[index];
-    if byte > b'<' && byte < 0xEF {
-        return false;
-    }
-    begins_refused(&bytes[index..])
-}
-
-/// Returns whether no span mark, no CR and no first byte of U+FEFF stand among `bytes`.
-#[inline(never)]
-fn is_plain(bytes: &[u8]) -> bool
-    ensures plain { IsTrue result → All IsPlainByte bytes.now }
-    ensures unmarked { IsTrue result → IsUnmarked bytes.now }
-{
-    let mut read = 0;
-    while read < bytes.len() {
-        if is_refused_at(bytes, read) {
-            return false;
-        }
-        read += 1;
-    }
-    true
-}
-
-/// Returns whether `bytes` begin with what is refused in a regular syllable beside `mark`: another
-/// span mark, a CR, or the first byte of U+FEFF.
-fn begins_refused_but(mark: SpanMark, bytes: &[u8]) -> bool
-    requires { 0 < length bytes.now }
-    ensures plain { result ≡ false → IsPlainByte (slice_index bytes.now 0) }
-    ensures only { result ≡ false → begins_other mark bytes.now ≡ false }
-{
-    if bytes[0] == b'<' && bytes.starts_with(mark.tag().as_bytes()) {
-        return false;
-    }
-    begins_refused(bytes)
-}
-
-/// Returns whether no span mark but `mark`, no CR and no first byte of U+FEFF stand among `bytes`.
-fn has_only(mark: SpanMark, bytes: &[u8]) -> bool
-    ensures plain { IsTrue result → All IsPlainByte bytes.now }
-    ensures only { IsTrue result → HasOnly mark bytes.now }
-{
-    let mut read = 0;
-    while read < bytes.len() {
-        if begins_refused_but(mark, &bytes[read..]) {
-            return false;
-        }
-        read += 1;
-    }
-    true
-}
-
-/// Returns whether `bytes` begin with a span mark, and no other one, no CR and no first byte of
-/// U+FEFF stand among them.
-#[inline(never)]
-fn has_only_first(bytes: &[u8]) -> bool
-    ensures plain { IsTrue result → All IsPlainByte bytes.now }
-    ensures marked { IsTrue result → IsMarked (mark_at bytes.now) bytes.now }
-{
-    match mark_at(bytes) {
-        Some(mark) => has_only(mark, bytes),
-        None => false,
-    }
-}
-
-/// Returns how many of the first of `bytes` are clear, as far as it looks: neither a `<`, nor a CR,
-/// nor the first byte of U+FEFF.
-#[inline(never)]
-pub(crate) fn clear_len(bytes: &[u8]) -> usize
-    ensures { All IsClearByte (take result bytes.now) }
-{
-    let most = bytes.len().min(MOST_LOOKED_AT);
-    match memchr3(b'<', b'\r', 0xEF, &bytes[..most]) {
-        Some(end) => end,
-        None => most,
-    }
-}
-
-/// Returns whether `bytes` are known to be clear, as the first `clear` of them are. If many more
-/// follow, it looks at these together.
-#[inline(always)]
-fn is_clear(bytes: &[u8], clear: usize) -> bool
-    requires { All IsClearByte (take clear bytes.now) }
-    ensures { result ≡ true → All IsClearByte bytes.now }
-{
-    if bytes.len() <= clear {
-        return true;
-    }
-    let rest = &bytes[clear..];
-    if rest.len() <= FEW_BYTES || clear_len(rest) < rest.len() {
-        return false;
-    }
-    true
-}
-
-/// Returns whether no CR and no first byte of U+FEFF stand among `bytes`, and no span mark but one
-/// that they begin with. The first `clear` bytes are known to be clear.
-#[inline(always)]
-fn may_be_kept(bytes: &[u8], clear: usize) -> bool
-    requires { All IsClearByte (take clear bytes.now) }
-    ensures plain { IsTrue result → All IsPlainByte bytes.now }
-    ensures marked { IsTrue result → IsMarked (mark_at bytes.now) bytes.now }
-{
-    if is_clear(bytes, clear) {
-        return true;
-    }
-    is_plain(bytes) || has_only_first(bytes)
+    bytes.len() <= plain || plain_len(&bytes[plain..]) == bytes.len() - plain
 }
 
 /// Returns how many bytes of `text` its longest prefix has that is a regular snippet of line
@@ -351,10 +168,10 @@ fn snippets_len(lines: u8, text: &str) -> usize
 /// begins with one that has no span mark but one at the beginning of its text. Nothing is found in
 /// it, and but for the blanks before its text it is its own canonical text
 /// (`regular_laws::a_regular_syllable_makes_its_spelling`). There may be one where it returns none.
-/// The first `clear` bytes of `text` are known to be clear.
+/// The first `plain` bytes of `text` are known to be plain.
 #[inline(always)]
-pub(crate) fn regular_syllable(lines: u8, text: &str, clear: usize) -> Option<RegularLen>
-    requires { All IsClearByte (take clear text.now) }
+pub(crate) fn regular_syllable(lines: u8, text: &str, plain: usize) -> Option<RegularLen>
+    requires { All IsPlainByte (take plain text.now) }
     ensures { IfSome result (BeginsRegularly lines text.now) }
 {
     let bytes = text.as_bytes();
@@ -366,7 +183,7 @@ pub(crate) fn regular_syllable(lines: u8, text: &str, clear: usize) -> Option<Re
     let begun = opening + 1;
     let notes = snippets_len(lines, &text[begun..]);
     let len = begun + notes;
-    if notes == 0 || !may_be_kept(&bytes[gap..len], clear.saturating_sub(gap)) {
+    if notes == 0 || !are_plain(&bytes[..len], plain) {
         return None;
     }
     Some(RegularLen { gap, opening, len })

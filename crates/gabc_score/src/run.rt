@@ -10,7 +10,7 @@ ghost use Rattle.gabc_text.specs.TextStage.{fresh_stage};
 ghost use Rattle.gabc_score.specs.Canonical.{position_by};
 ghost use Rattle.gabc_score.specs.GivesSyllables.{GivesSyllables, Runs};
 ghost use Rattle.gabc_score.specs.SpelledSyllable.{IsSpelling, Spells};
-ghost use Rattle.gabc_score.specs.machine.RegularLen.{BeginsRegularly, IsClearByte};
+ghost use Rattle.gabc_score.specs.machine.RegularLen.{BeginsRegularly, IsPlainByte};
 ghost use Rattle.gabc_score.specs.Syllable.{PlacedSyllable, UnplacedSyllable};
 ghost use Rattle.gabc_score.specs.machine.PartCounts.{CountsHold};
 ghost use Rattle.gabc_score.specs.machine.PartKeeps.{in_text, PartKeeps};
@@ -23,7 +23,7 @@ use crate::before::{Preceding, Spans};
 use crate::body_stage::BodyPart;
 use crate::bounds::Bounds;
 use crate::give::{Give, Run};
-use crate::regular::{SpanMark, clear_len, mark_at, regular_syllable, spans_past};
+use crate::regular::{plain_len, regular_syllable, spans_past};
 use crate::regular_laws;
 use crate::score_event::ScoreEvent;
 use crate::score_machine::{ScoreMachine, ScorePart};
@@ -33,6 +33,10 @@ use crate::syllables::position_by;
 use crate::text_places::place_past;
 use crate::waiting::Waiting;
 use gabc_places::{Limits, Place, Room};
+use gabc_text::{SpanMark, mark_at};
+
+/// How many bytes are looked at together for whether they are plain.
+const MOST_LOOKED_AT: usize = 256;
 
 /// A regular syllable of a run, which is not given yet.
 #[derive(Clone, Copy)]
@@ -45,41 +49,40 @@ pub(crate) struct Found<'a> {
     gap: usize,
     /// The bytes before its `(`.
     opening: usize,
-    /// How many of the first bytes of `rest` are known to be clear.
-    clear: usize,
+    /// How many of the first bytes of `rest` are known to be plain.
+    plain: usize,
 }
 
-/// Returns how many of the first bytes of `rest` are known to be clear, where the first `left` are:
-/// looks further if none is, and no tag begins at once.
+/// Returns how many of the first bytes of `rest` are known to be plain, where the first `left` are:
+/// looks further if none is.
 #[inline(always)]
-fn clear_after(rest: &str, left: usize) -> usize
-    requires { All IsClearByte (take left rest.now) }
-    ensures { All IsClearByte (take result rest.now) }
+fn plain_after(rest: &str, left: usize) -> usize
+    requires { All IsPlainByte (take left rest.now) }
+    ensures { All IsPlainByte (take result rest.now) }
 {
-    let bytes = rest.as_bytes();
-    if left > 0 || bytes.len() < 2 || bytes[0] == b'<' || bytes[1] == b'<' {
-        left
-    } else {
-        clear_len(bytes)
+    if left > 0 {
+        return left;
     }
+    let bytes = rest.as_bytes();
+    plain_len(&bytes[..bytes.len().min(MOST_LOOKED_AT)])
 }
 
 /// Returns the regular syllable that `text` begins with, if it begins with one under `lines` NABC
-/// lines, and no limit is passed with it after `total` canonical bytes. The first `clear` bytes of
-/// `text` are known to be clear.
+/// lines, and no limit is passed with it after `total` canonical bytes. The first `plain` bytes of
+/// `text` are known to be plain.
 #[inline(always)]
 fn find<'a>(
     lines: u8,
     limits: &Limits,
     text: &'a str,
-    clear: usize,
+    plain: usize,
     total: usize,
 ) -> Option<Found<'a>>
-    requires { All IsClearByte (take clear text.now) }
+    requires { All IsPlainByte (take plain text.now) }
     ensures found { IfSome result (λ f. IsFound lines limits.now total f) }
     ensures text { IfSome result (λ f. text.now ≡ f.spelled.now ++ f.rest.now) }
 {
-    let Some(found) = regular_syllable(lines, text, clear) else {
+    let Some(found) = regular_syllable(lines, text, plain) else {
         return None;
     };
     let left = (limits.input as usize).saturating_sub(total);
@@ -92,7 +95,7 @@ fn find<'a>(
         rest,
         gap: found.gap,
         opening: found.opening,
-        clear: clear_after(rest, clear.saturating_sub(found.len)),
+        plain: plain_after(rest, plain.saturating_sub(found.len)),
     })
 }
 
@@ -324,7 +327,7 @@ impl ScoreMachine {
         loop {
             let last = reached.last;
             let canonical = last.canonical_after(reached.canonical);
-            let Some(next) = find(lines, &self.limits, last.rest, last.clear, canonical) else {
+            let Some(next) = find(lines, &self.limits, last.rest, last.plain, canonical) else {
                 break;
             };
             if self.is_first_with(lines, &next) {

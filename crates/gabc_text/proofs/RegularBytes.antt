@@ -1,5 +1,5 @@
 -- Bytes of letters and of runs, one after another.
-use Rattle.std.proofs.Common.{◌≡◌, ℕ, ◌<◌, List, [], ◌∷◌, ◌++◌, Bool, true, false, not, ◌||◌, ◌&&◌, ◌==◌, length, refl, sym, ap, ap₂, subst, ◌∙◌, arith, ◌+◌, ◌-◌, ◌≤◌, take, drop, get_or, append-nil, take_all, length-drop, drop-cons, ◌*◌, ◌/◌, ◌%◌, nat_lt, mod-lt, Some}
+use Rattle.std.proofs.Common.{◌≡◌, ◌≢◌, ℕ, zero, suc, slice_index, ◌<◌, List, [], ◌∷◌, ◌++◌, Bool, true, false, not, ◌||◌, ◌&&◌, ◌==◌, length, refl, sym, ap, ap₂, subst, ◌∙◌, arith, ◌+◌, ◌-◌, ◌≤◌, take, drop, get_or, append-nil, take_all, length-drop, drop-cons, ◌*◌, ◌/◌, ◌%◌, nat_lt, mod-lt, Some}
 use Rattle.std.specs.List.{All, list_all}
 use Rattle.std.specs.Str.{chars, all_scalars}
 use Rattle.std.proofs.lemmas.List.Elements.{All-append, All-from_recursion}
@@ -17,13 +17,14 @@ use Rattle.gabc_text.specs.declared.view.PieceKind.{PieceKind}
 use Rattle.gabc_text.specs.declared.view.PieceKind.TheVariants as piece
 use Rattle.gabc_text.specs.Token.{is_blank, is_special, spelling}
 use Rattle.gabc_text.specs.View.{PieceFacts, is_word_kind, is_blank_piece}
+use Rattle.gabc_text.specs.ViewFacts.{is_mark, tags_among}
 use Rattle.gabc_text.specs.Printed.{printed_piece}
 use Rattle.gabc_text.specs.RegularText.{is_letter_byte, is_continuation, is_first_of_two, is_first_of_three}
 use Rattle.gabc_text.specs.machine.PrintedPieces.{Good, Says}
 use Rattle.gabc_text.specs.machine.RegularBytes.{is_low, is_plain_byte, word_after, blank_after, printed_text, IsSpelled, IsWord, IsInner, IsRun}
 use Rattle.gabc_text.proofs.printing.TokensAreReadAgain.{letter_stable}
 use Rattle.gabc_text.proofs.printing.PiecesPrintWell.{letter_emits, special_no_blank}
-use Rattle.gabc_text.proofs.printing.PrintedPiecesAreJoined.{printed_join, good_join, known_join, word_join, blank_join}
+use Rattle.gabc_text.proofs.printing.PrintedPiecesAreJoined.{printed_join, good_join, known_join, tags_join, word_join, blank_join}
 
 -- ---- spelled characters
 
@@ -82,6 +83,17 @@ blank = record { kind = piece.Blank; styles = []; text = [] }
 pub blank_good : Good blank true false
 blank_good = record { test = λ s. false; styles_are = refl; stable = λ u. refl; reads_so = (refl, refl, refl) }
 
+-- a word is no mark
+no_mark_in : (k : PieceKind) → is_word_kind (Some k) ≡ true → is_mark k ≡ false
+no_mark_in piece.Mark e = absurd (true≢false (sym e))
+no_mark_in piece.Char e = refl
+no_mark_in piece.Blank e = refl
+no_mark_in piece.Raw e = refl
+no_mark_in piece.Tag e = refl
+
+no_mark_with : (bytes : List ℕ) (p : IsWord bytes) → tags_among (plain_piece bytes p ∷ []) ≡ []
+no_mark_with bytes p = rw (no_mark_in p.kind p.word) refl
+
 after_word : (bs : List ℕ) (p : IsWord bs) (w : Bool) → (is_word_kind (Some p.kind) || w) ≡ true
 after_word bs p w = rw (p.word) refl
 
@@ -95,6 +107,7 @@ run_more bs more p r =
       good = good_join false false r.pieces (q ∷ []) r.good (word_good more p (word_after false r.pieces) (blank_after false r.pieces), tt);
       known = known_join r.pieces (q ∷ []) r.known (p.known, tt);
       no_blank = blank_join false r.pieces (q ∷ []) ∙ no_blank_kind p.kind p.text p.says;
+      no_mark = tags_join r.pieces (q ∷ []) ∙ ap₂ (λ (a b : List (List ℕ)). a ++ b) r.no_mark (no_mark_with more p);
       word = λ _. word_join false r.pieces (q ∷ []) ∙ after_word more p (word_after false r.pieces);
     }
 
@@ -114,6 +127,7 @@ run_blank bs more some p r =
       );
       known = known_join r.pieces (blank ∷ q ∷ []) r.known (refl, (p.known, tt));
       no_blank = blank_join false r.pieces (blank ∷ q ∷ []) ∙ no_blank_kind p.kind p.text p.says;
+      no_mark = tags_join r.pieces (blank ∷ q ∷ []) ∙ ap₂ (λ (a b : List (List ℕ)). a ++ b) r.no_mark (no_mark_with more p);
       word = λ _. word_join false r.pieces (blank ∷ q ∷ []) ∙ after_word more p true;
     }
 
@@ -333,6 +347,11 @@ module _ (l : List ℕ) (a b : ℕ) (first : a ≡ get_or l 0 0) (second : b ≡
 -- all that is after n bytes
 pub behind_is : (l : List ℕ) (n : ℕ) → take (length l - n) (drop n l) ≡ drop n l
 behind_is l n = take_all (length l - n) (drop n l) (omega (arith, length-drop n l))
+
+-- the first byte is no `<`, if that of what follows n bytes is none where n is 0
+pub first_stays : (l : List ℕ) (n : ℕ) → (0 < n → slice_index l 0 ≢ 60) → slice_index (take (length l - n) (drop n l)) 0 ≢ 60 → slice_index l 0 ≢ 60
+first_stays l zero h g = subst (λ (t : List ℕ). slice_index t 0 ≢ 60) (behind_is l 0) g
+first_stays l (suc n) h g = h (omega arith)
 
 pub word_step : (l : List ℕ) (n r : ℕ) → IsWord (take r (take (length l - n) (drop n l))) → IsRun (take n l) → IsRun (take (n + r) l)
 word_step l n r h s =

@@ -1,5 +1,5 @@
 -- Parts of a regular text, one after another.
-use Rattle.std.proofs.Common.{◌≡◌, ℕ, ◌<◌, ◌≤◌, ◌+◌, ◌-◌, ◌==◌, List, [], ◌∷◌, ◌++◌, Bool, true, false, not, ◌||◌, ◌&&◌, length, refl, sym, ap, ap₂, subst, ◌∙◌, arith, take, drop, get_or, map, append_assoc, length-append, Option, Some, None, nat_lt, zero, suc}
+use Rattle.std.proofs.Common.{◌≡◌, ℕ, ◌<◌, ◌≤◌, ◌+◌, ◌-◌, ◌==◌, List, [], ◌∷◌, ◌++◌, Bool, true, false, not, ◌||◌, ◌&&◌, length, refl, sym, ap, ap₂, subst, ◌∙◌, arith, take, drop, get_or, map, append_assoc, length-append, Option, Some, None, nat_lt, zero, suc, filter, append-nil}
 use Rattle.std.specs.Cmp.Lexicographic.{pointwise}
 use Rattle.std.proofs.lemmas.Bool.{true≢false, or_parts}
 use Rattle.std.proofs.lemmas.Bool.Decides.{Decides-eqb}
@@ -10,45 +10,36 @@ use Rattle.std.proofs.lemmas.Bool.{lt-ltb}
 use Rattle.gabc_places.specs.declared.place.Span.{Span}
 use Rattle.gabc_text.specs.declared.styles.Style.{Style}
 use Rattle.gabc_text.specs.declared.styles.Style.TheVariants.{B, C, E, I, Sc, Tt, Ul}
-use Rattle.gabc_text.specs.declared.styles.Styles.{Styles}
+use Rattle.gabc_text.specs.declared.span_mark.SpanMark.{SpanMark}
 use Rattle.gabc_text.specs.declared.regular.Before.{Before}
 use Rattle.gabc_text.specs.Token.{spelling}
 use Rattle.gabc_text.specs.View.{PieceFacts, is_same, all_styles}
-use Rattle.gabc_text.specs.TextFacts.{has_style}
-use Rattle.gabc_text.specs.machine.TextFacts.{with_style}
-use Rattle.gabc_text.specs.Canonical.{listed_styles}
+use Rattle.gabc_text.specs.ViewFacts.{tags_among}
+use Rattle.gabc_text.specs.RegularText.{tag_of, tags_of}
 use Rattle.gabc_text.specs.Printed.{print_from, text_of_tokens, opening_tag, closing_tag}
 use Rattle.gabc_text.specs.machine.PrintedPieces.{Good, AllGood}
-use Rattle.gabc_text.specs.machine.RegularBytes.{no_styles, word_after, blank_after, first_styles, last_styles, AreApart, printed_text, IsSpelled, IsRun, IsEnclosed, IsPart, IsBegun}
+use Rattle.gabc_text.specs.machine.RegularBytes.{in_style, is_style, word_after, blank_after, first_styles, last_styles, AreApart, printed_text, IsSpelled, IsRun, IsEnclosed, IsPart, IsBegun, nothing_before}
 use Rattle.gabc_text.proofs.printing.PiecesPrintWell.{any_blank}
 use Rattle.gabc_text.proofs.RegularBytes.{ascii_spelled, spelled_join, one_spelled, none_spelled, behind_is, at_blank, blank, blank_good}
 use Rattle.gabc_text.proofs.printing.PrintedTagsOpenStyles.{member, member_filter}
-use Rattle.gabc_text.proofs.printing.PrintedPiecesAreJoined.{in_styles, good_in, known_in, blank_in, word_in, first_in, last_in, plain_printed, styled_printed, text_join, good_join, good_behind, known_join, word_join, word_stays, blank_join, among_more, centre_text, last_join, after_blank, some_blank, apart_none}
+use Rattle.gabc_text.proofs.printing.PrintedPiecesAreJoined.{in_styles, good_in, known_in, blank_in, word_in, first_in, last_in, plain_printed, styled_printed, text_join, good_join, good_behind, known_join, tags_in, tags_join, word_join, word_stays, blank_join, among_more, centre_text, last_join, after_blank, some_blank, apart_none}
 
--- ---- sets of styles
+-- ---- styles
 
-pub none_listed : (ss : Styles) → ss ≡ no_styles → listed_styles ss ≡ []
-unfolding listed_styles
-none_listed ss e = rw e refl
+-- a style is the one that is kept of all
+listed_alone : (s : Style) → s ∷ [] ≡ filter (is_same s) all_styles
+listed_alone B = refl
+listed_alone C = refl
+listed_alone E = refl
+listed_alone I = refl
+listed_alone Sc = refl
+listed_alone Tt = refl
+listed_alone Ul = refl
 
-pub one_listed : (s : Style) → listed_styles (with_style no_styles s true) ≡ s ∷ []
-unfolding listed_styles
-one_listed B = refl
-one_listed C = refl
-one_listed E = refl
-one_listed I = refl
-one_listed Sc = refl
-one_listed Tt = refl
-one_listed Ul = refl
-
--- a style that is not the last one's
-pub apart_style : (ss : Styles) (s : Style) → has_style ss s ≡ false → AreApart (listed_styles ss) (s ∷ [])
-unfolding listed_styles
-apart_style ss s h = by (listed_styles ss) (member_filter s (λ r. has_style ss r) all_styles ∙ ap (λ (b : Bool). b && member s all_styles) h)
-  where
-    by : (old : List Style) → member s old ≡ false → AreApart old (s ∷ [])
-    by [] e = refl
-    by (r ∷ old) e = rw ((or_parts (is_same r s) (member s old) e).0) refl
+-- a style that is not the last one
+pub apart_style : (last : Option Style) (s : Style) → is_style last s ≡ false → AreApart (in_style last) (s ∷ [])
+apart_style None s e = refl
+apart_style (Some r) s e = rw e refl
 
 -- ---- parts
 
@@ -59,8 +50,8 @@ some_pieces (p ∷ ps) e f = e
 run_some : (bs : List ℕ) (r : IsRun bs) → 0 < length bs → blank_after true r.pieces ≡ false
 run_some bs r some = some_pieces r.pieces r.no_blank (r.word some)
 
-pub plain_part : (bs : List ℕ) (ss : Styles) (w : Bool) → IsRun bs → 0 < length bs → ss ≡ no_styles → IsPart ss w bs
-plain_part bs ss w r some e =
+pub plain_part : (bs : List ℕ) → IsRun bs → 0 < length bs → IsPart None bs
+plain_part bs r some =
     let f = run_some bs r some in
     record {
       pieces = map (in_styles []) r.pieces;
@@ -68,9 +59,10 @@ plain_part bs ss w r some e =
       good = good_in [] (λ s. false) false false r.pieces refl r.good;
       known = known_in [] r.pieces r.known;
       some = blank_in [] true r.pieces ∙ f;
-      first_are = first_in [] r.pieces f ∙ sym (none_listed ss e);
-      last_are = last_in [] r.pieces f ∙ sym (none_listed ss e);
-      word_is = λ _. word_in [] false r.pieces ∙ r.word some;
+      first_are = first_in [] r.pieces f;
+      last_are = last_in [] r.pieces f;
+      no_mark = tags_in [] r.pieces ∙ r.no_mark;
+      word = word_in [] false r.pieces ∙ r.word some;
     }
 
 -- tags are of ASCII
@@ -92,35 +84,26 @@ closing_spelled Sc = ascii_spelled (spelling (closing_tag Sc)) refl
 closing_spelled Tt = ascii_spelled (spelling (closing_tag Tt)) refl
 closing_spelled Ul = ascii_spelled (spelling (closing_tag Ul)) refl
 
-pub styled_part : (s : Style) (bs : List ℕ) (w : Bool) → IsEnclosed (spelling (opening_tag s)) (spelling (closing_tag s)) bs → IsPart (with_style no_styles s true) w bs
-unfolding listed_styles
-styled_part s bs w x =
+pub styled_part : (s : Style) (bs : List ℕ) → IsEnclosed (spelling (opening_tag s)) (spelling (closing_tag s)) bs → IsPart (Some s) bs
+styled_part s bs x =
     let r = x.run in
     let f = run_some x.inner x.run x.some in
-    let ss : List Style = s ∷ [] in
     record {
-      pieces = map (in_styles (s ∷ [])) (x.run).pieces;
-      spells = subst (λ (t : List ℕ). IsSpelled t bs) (sym (styled_printed s (x.run).pieces f)) (subst (λ (u : List ℕ). IsSpelled (spelling (opening_tag s) ++ (printed_text (x.run).pieces ++ spelling (closing_tag s))) u) (sym x.parts)
-          (spelled_join (spelling (opening_tag s)) (printed_text (x.run).pieces ++ spelling (closing_tag s)) (spelling (opening_tag s)) (x.inner ++ spelling (closing_tag s)) (opening_spelled s)
-          (spelled_join (printed_text (x.run).pieces) (spelling (closing_tag s)) x.inner (spelling (closing_tag s)) (x.run).spells (closing_spelled s))));
-      good = good_in (s ∷ []) (λ r. has_style (with_style no_styles s true) r) false false (x.run).pieces (sym (one_listed s)) (x.run).good;
-      known = known_in (s ∷ []) (x.run).pieces (x.run).known;
-      some = blank_in (s ∷ []) true (x.run).pieces ∙ f;
-      first_are = first_in (s ∷ []) (x.run).pieces f ∙ sym (one_listed s);
-      last_are = last_in (s ∷ []) (x.run).pieces f ∙ sym (one_listed s);
-      word_is = λ _. word_in (s ∷ []) false (x.run).pieces ∙ (x.run).word x.some;
+      pieces = map (in_styles (s ∷ [])) r.pieces;
+      spells = subst (λ (t : List ℕ). IsSpelled t bs) (sym (styled_printed s r.pieces f)) (subst (λ (u : List ℕ). IsSpelled (spelling (opening_tag s) ++ (printed_text r.pieces ++ spelling (closing_tag s))) u) (sym x.parts)
+          (spelled_join (spelling (opening_tag s)) (printed_text r.pieces ++ spelling (closing_tag s)) (spelling (opening_tag s)) (x.inner ++ spelling (closing_tag s)) (opening_spelled s)
+          (spelled_join (printed_text r.pieces) (spelling (closing_tag s)) x.inner (spelling (closing_tag s)) r.spells (closing_spelled s))));
+      good = good_in (s ∷ []) (is_same s) false false r.pieces (listed_alone s) r.good;
+      known = known_in (s ∷ []) r.pieces r.known;
+      some = blank_in (s ∷ []) true r.pieces ∙ f;
+      first_are = first_in (s ∷ []) r.pieces f;
+      last_are = last_in (s ∷ []) r.pieces f;
+      no_mark = tags_in (s ∷ []) r.pieces ∙ r.no_mark;
+      word = word_in (s ∷ []) false r.pieces ∙ r.word x.some;
     }
 
-pub styled_so : (s : Style) (ss : Styles) (a b bs : List ℕ) → ss ≡ with_style no_styles s true → a ≡ spelling (opening_tag s) → b ≡ spelling (closing_tag s) → IsEnclosed a b bs → IsPart ss true bs
-styled_so s ss a b bs e f g x =
-    subst (λ (z : Styles). IsPart z true bs) (sym e) (styled_part s bs true
-    (subst (λ (u : List ℕ). IsEnclosed u (spelling (closing_tag s)) bs) f (subst (λ (v : List ℕ). IsEnclosed a v bs) g x)))
-
-pub apart_so : (last : Styles) (s : Style) (ss : Styles) → ss ≡ with_style no_styles s true → has_style last s ≡ false → AreApart (listed_styles last) (listed_styles ss)
-apart_so last s ss e h = subst (λ (new : List Style). AreApart (listed_styles last) new) (sym (ap listed_styles e ∙ one_listed s)) (apart_style last s h)
-
-pub apart_plain : (last ss : Styles) → ss ≡ no_styles → AreApart (listed_styles last) (listed_styles ss)
-apart_plain last ss e = subst (λ (new : List Style). AreApart (listed_styles last) new) (sym (none_listed ss e)) (apart_none (listed_styles last))
+pub styled_so : (s : Style) (a b bs : List ℕ) → a ≡ spelling (opening_tag s) → b ≡ spelling (closing_tag s) → IsEnclosed a b bs → IsPart (Some s) bs
+styled_so s a b bs f g x = styled_part s bs (subst (λ (u : List ℕ). IsEnclosed u (spelling (closing_tag s)) bs) f (subst (λ (v : List ℕ). IsEnclosed a v bs) g x))
 
 -- what stands between two texts that are found
 pub starts_so : (l a : List ℕ) (r : Bool) → r ≡ pointwise (λ x y. x == y) a (take (length a) l) → r ≡ true → l ≡ a ++ drop (length a) l
@@ -154,135 +137,132 @@ enclosed_is l a b n x y e f g h some less r = record {
 
 -- ---- a part after others
 
-pub more_begun : (b : Before) (ss : Styles) (w : Bool) (bs more : List ℕ) → IsBegun b bs → IsPart ss w more → AreApart (listed_styles b.styles) (listed_styles ss)
-    → IsBegun (record { styles = ss; word = b.word || w; centre = b.centre }) (bs ++ more)
-more_begun b ss w bs more x p h =
-    let apart : AreApart (last_styles [] x.pieces) (first_styles p.pieces) = subst (λ (u : List Style). AreApart u (first_styles p.pieces)) (sym x.last_are) (subst (λ (u : List Style). AreApart (listed_styles b.styles) u) (sym p.first_are) h) in
-    record {
-      pieces = x.pieces ++ p.pieces;
-      middle = x.middle;
-      spells = subst (λ (t : List ℕ). IsSpelled t (bs ++ more)) (sym (text_join x.middle x.pieces p.pieces x.middle_in p.some apart))
-          (spelled_join (text_of_tokens (print_from x.middle 0 [] x.pieces)) (text_of_tokens (print_from None 0 [] p.pieces)) bs more x.spells p.spells);
-      good = good_join false false x.pieces p.pieces x.good (subst (λ (z : Bool). AllGood (word_after false x.pieces) z p.pieces) (sym x.no_blank) (good_behind false (word_after false x.pieces) false p.pieces p.good (λ e. absurd (cc))));
-      known = known_join x.pieces p.pieces x.known p.known;
-      no_blank = blank_join false x.pieces p.pieces ∙ some_blank (blank_after false x.pieces) p.pieces p.some;
-      last_are = last_join [] x.pieces p.pieces p.some ∙ p.last_are;
-      word_is = λ e. word_join false x.pieces p.pieces ∙ word b.word refl e;
-      middle_in = among_more x.middle x.pieces p.pieces x.middle_in;
-      no_middle = x.no_middle;
-    }
-  where
-    up : (z : Bool) → word_after false p.pieces ≡ true → word_after z p.pieces ≡ true
-    up true e = word_stays p.pieces
-    up false e = e
+-- where a word stands among pieces, it stands among them after others
+word_up : (z : Bool) (ps : List PieceFacts) → word_after false ps ≡ true → word_after z ps ≡ true
+word_up true ps e = word_stays ps
+word_up false ps e = e
 
-    word : (z : Bool) → b.word ≡ z → (z || w) ≡ true → word_after (word_after false x.pieces) p.pieces ≡ true
-    word true e f = rw (x.word_is e) (word_stays p.pieces)
-    word false e f = up (word_after false x.pieces) (p.word_is f)
+-- pieces without a mark after others
+tags_more : (ps qs : List PieceFacts) (mark : Option SpanMark) → tags_among ps ≡ tags_of mark → tags_among qs ≡ [] → tags_among (ps ++ qs) ≡ tags_of mark
+tags_more ps qs mark e f = tags_join ps qs ∙ ap₂ (λ (a b : List (List ℕ)). a ++ b) e f ∙ append-nil (tags_of mark)
 
-pub blank_begun : (b : Before) (ss : Styles) (w : Bool) (bs more : List ℕ) → b.word ≡ true → IsBegun b bs → IsPart ss w more
-    → IsBegun (record { styles = ss; word = b.word || w; centre = b.centre }) (bs ++ 32 ∷ more)
-blank_begun b ss w bs more e x p =
-    let word = x.word_is e in
-    record {
-      pieces = x.pieces ++ blank ∷ p.pieces;
-      middle = x.middle;
-      spells = subst (λ (t : List ℕ). IsSpelled t (bs ++ 32 ∷ more))
-          (sym (text_join x.middle x.pieces (blank ∷ p.pieces) x.middle_in (some_blank true p.pieces p.some) (apart_none (last_styles [] x.pieces)) ∙ ap (λ (t : List ℕ). text_of_tokens (print_from x.middle 0 [] x.pieces) ++ t) (after_blank p.pieces)))
-          (spelled_join (text_of_tokens (print_from x.middle 0 [] x.pieces)) (32 ∷ text_of_tokens (print_from None 0 [] p.pieces)) bs (32 ∷ more) x.spells
-          (spelled_join (32 ∷ []) (text_of_tokens (print_from None 0 [] p.pieces)) (32 ∷ []) more (one_spelled 32 (omega arith) (λ e. omega arith)) p.spells));
-      good = good_join false false x.pieces (blank ∷ p.pieces) x.good (
-        subst (λ (z : Bool). Good blank z (blank_after false x.pieces)) (sym word) (subst (λ (z : Bool). Good blank true z) (sym x.no_blank) blank_good),
-        good_behind false true true p.pieces (any_blank false true p.pieces p.good) (λ e. refl),
-      );
-      known = known_join x.pieces (blank ∷ p.pieces) x.known (refl, p.known);
-      no_blank = blank_join false x.pieces (blank ∷ p.pieces) ∙ some_blank true p.pieces p.some;
-      last_are = last_join [] x.pieces (blank ∷ p.pieces) (some_blank true p.pieces p.some) ∙ p.last_are;
-      word_is = λ _. word_join false x.pieces (blank ∷ p.pieces) ∙ word_stays p.pieces;
-      middle_in = among_more x.middle x.pieces (blank ∷ p.pieces) x.middle_in;
-      no_middle = x.no_middle;
-    }
+module _ (mark : Option SpanMark) (b : Before) (style : Option Style) (bs more : List ℕ) (x : IsBegun mark b bs) (p : IsPart style more) where
+  abbrev after : Before
+  after = record { style = style; word = true; centre = b.centre }
 
-pub no_text : (b : Before) → b.styles ≡ no_styles → b.word ≡ false → IsBegun b []
-no_text b e f = record {
+  pub more_begun : AreApart (in_style b.style) (in_style style) → IsBegun mark after (bs ++ more)
+  more_begun h =
+      let apart : AreApart (last_styles [] x.pieces) (first_styles p.pieces) = subst (λ (u : List Style). AreApart u (first_styles p.pieces)) (sym x.last_are) (subst (λ (u : List Style). AreApart (in_style b.style) u) (sym p.first_are) h) in
+      record {
+        pieces = x.pieces ++ p.pieces;
+        middle = x.middle;
+        spells = subst (λ (t : List ℕ). IsSpelled t (bs ++ more)) (sym (text_join x.middle x.pieces p.pieces x.middle_in p.some apart))
+            (spelled_join (text_of_tokens (print_from x.middle 0 [] x.pieces)) (text_of_tokens (print_from None 0 [] p.pieces)) bs more x.spells p.spells);
+        good = good_join false false x.pieces p.pieces x.good (subst (λ (z : Bool). AllGood (word_after false x.pieces) z p.pieces) (sym x.no_blank) (good_behind false (word_after false x.pieces) false p.pieces p.good (λ e. absurd (cc))));
+        known = known_join x.pieces p.pieces x.known p.known;
+        no_blank = blank_join false x.pieces p.pieces ∙ some_blank (blank_after false x.pieces) p.pieces p.some;
+        last_are = last_join [] x.pieces p.pieces p.some ∙ p.last_are;
+        marks_are = tags_more x.pieces p.pieces mark x.marks_are p.no_mark;
+        word_is = λ e. word_join false x.pieces p.pieces ∙ word_up (word_after false x.pieces) p.pieces p.word;
+        middle_in = among_more x.middle x.pieces p.pieces x.middle_in;
+        no_middle = x.no_middle;
+      }
+
+  pub blank_begun : b.word ≡ true → IsBegun mark after (bs ++ 32 ∷ more)
+  blank_begun e =
+      let word = x.word_is e in
+      record {
+        pieces = x.pieces ++ blank ∷ p.pieces;
+        middle = x.middle;
+        spells = subst (λ (t : List ℕ). IsSpelled t (bs ++ 32 ∷ more))
+            (sym (text_join x.middle x.pieces (blank ∷ p.pieces) x.middle_in (some_blank true p.pieces p.some) (apart_none (last_styles [] x.pieces)) ∙ ap (λ (t : List ℕ). text_of_tokens (print_from x.middle 0 [] x.pieces) ++ t) (after_blank p.pieces)))
+            (spelled_join (text_of_tokens (print_from x.middle 0 [] x.pieces)) (32 ∷ text_of_tokens (print_from None 0 [] p.pieces)) bs (32 ∷ more) x.spells
+            (spelled_join (32 ∷ []) (text_of_tokens (print_from None 0 [] p.pieces)) (32 ∷ []) more (one_spelled 32 (omega arith) (λ e. omega arith)) p.spells));
+        good = good_join false false x.pieces (blank ∷ p.pieces) x.good (
+          subst (λ (z : Bool). Good blank z (blank_after false x.pieces)) (sym word) (subst (λ (z : Bool). Good blank true z) (sym x.no_blank) blank_good),
+          good_behind false true true p.pieces (any_blank false true p.pieces p.good) (λ e. refl),
+        );
+        known = known_join x.pieces (blank ∷ p.pieces) x.known (refl, p.known);
+        no_blank = blank_join false x.pieces (blank ∷ p.pieces) ∙ some_blank true p.pieces p.some;
+        last_are = last_join [] x.pieces (blank ∷ p.pieces) (some_blank true p.pieces p.some) ∙ p.last_are;
+        marks_are = tags_more x.pieces (blank ∷ p.pieces) mark x.marks_are p.no_mark;
+        word_is = λ _. word_join false x.pieces (blank ∷ p.pieces) ∙ word_stays p.pieces;
+        middle_in = among_more x.middle x.pieces (blank ∷ p.pieces) x.middle_in;
+        no_middle = x.no_middle;
+      }
+
+-- nothing is begun
+pub nothing_begun : IsBegun None nothing_before []
+nothing_begun = record {
   pieces = [];
   middle = None;
   spells = none_spelled;
   good = tt;
   known = tt;
   no_blank = refl;
-  last_are = sym (none_listed b.styles e);
-  word_is = λ g. absurd (true≢false (sym g ∙ f));
+  last_are = refl;
+  marks_are = refl;
+  word_is = λ g. absurd (true≢false (sym g));
   middle_in = tt;
   no_middle = λ g. refl;
 }
 
--- nothing is begun
-pub nothing_begun : (l : List ℕ) → IsBegun (record { styles = no_styles; word = false; centre = false }) (take 0 l)
-nothing_begun l = no_text (record { styles = no_styles; word = false; centre = false }) refl refl
-
 -- a run is a text
-pub run_begun : (l : List ℕ) (n : ℕ) → n ≤ length l → IsRun (take n l) → IsBegun (record { styles = no_styles; word = nat_lt 0 n; centre = false }) (take n l)
-run_begun l zero within run = no_text (record { styles = no_styles; word = false; centre = false }) refl refl
-run_begun l (suc n) within run =
-    subst (λ (w : Bool). IsBegun (record { styles = no_styles; word = w; centre = false }) (take (suc n) l)) (sym (lt-ltb 0 (suc n) (omega arith)))
-    (more_begun (record { styles = no_styles; word = false; centre = false }) no_styles true [] (take (suc n) l) (no_text (record { styles = no_styles; word = false; centre = false }) refl refl)
-    (plain_part (take (suc n) l) no_styles true run (omega (arith, length-take-le (suc n) l within)) refl) (apart_plain no_styles no_styles refl))
+pub run_begun : (l : List ℕ) (n : ℕ) → n ≤ length l → IsRun (take n l) → (b : Before) × IsBegun None b (take n l)
+run_begun l zero within run = (nothing_before, nothing_begun)
+run_begun l (suc n) within run = (_, more_begun None nothing_before None [] (take (suc n) l) nothing_begun (plain_part (take (suc n) l) run (omega (arith, length-take-le (suc n) l within))) refl)
 
 -- the centre, whose pieces have no style
-centre_begun : (b : Before) (a : Before) (bs more : List ℕ) → IsBegun b bs → b.centre ≡ false → IsEnclosed (123 ∷ []) (125 ∷ []) more → a.styles ≡ no_styles → a.centre ≡ true → IsBegun a (bs ++ more)
-centre_begun b a bs more x h m e f =
+centre_begun : (mark : Option SpanMark) (b : Before) (bs more : List ℕ) → IsBegun mark b bs → b.centre ≡ false → IsEnclosed (123 ∷ []) (125 ∷ []) more → IsBegun mark (record { style = None; word = true; centre = true }) (bs ++ more)
+centre_begun mark b bs more x h m =
     let r = m.run in
     let some = run_some m.inner m.run m.some in
-    let n = length x.pieces in
-    let c : Span = record { from = length x.pieces; to = length x.pieces + length (m.run).pieces } in
+    let c : Span = record { from = length x.pieces; to = length x.pieces + length r.pieces } in
     let none = x.no_middle h in
-    let qs = map (in_styles []) (m.run).pieces in
+    let qs = map (in_styles []) r.pieces in
     let before : IsSpelled (text_of_tokens (print_from None 0 [] x.pieces)) bs = subst (λ (o : Option Span). IsSpelled (text_of_tokens (print_from o 0 [] x.pieces)) bs) none x.spells in
-    let inner = printed_text (m.run).pieces in
+    let inner = printed_text r.pieces in
     record {
-      pieces = x.pieces ++ map (in_styles []) (m.run).pieces;
+      pieces = x.pieces ++ qs;
       middle = Some c;
-      spells = subst (λ (t : List ℕ). IsSpelled t (bs ++ more)) (sym (centre_text c x.pieces (m.run).pieces some refl refl))
-          (subst (λ (u : List ℕ). IsSpelled (text_of_tokens (print_from None 0 [] x.pieces) ++ 123 ∷ (printed_text (m.run).pieces ++ 125 ∷ [])) (bs ++ u)) (sym m.parts)
+      spells = subst (λ (t : List ℕ). IsSpelled t (bs ++ more)) (sym (centre_text c x.pieces r.pieces some refl refl))
+          (subst (λ (u : List ℕ). IsSpelled (text_of_tokens (print_from None 0 [] x.pieces) ++ 123 ∷ (printed_text r.pieces ++ 125 ∷ [])) (bs ++ u)) (sym m.parts)
           (spelled_join (text_of_tokens (print_from None 0 [] x.pieces)) (123 ∷ (inner ++ 125 ∷ [])) bs (123 ∷ (m.inner ++ 125 ∷ [])) before
           (spelled_join (123 ∷ []) (inner ++ 125 ∷ []) (123 ∷ []) (m.inner ++ 125 ∷ []) (ascii_spelled (123 ∷ []) refl)
-          (spelled_join inner (125 ∷ []) m.inner (125 ∷ []) (m.run).spells (ascii_spelled (125 ∷ []) refl)))));
+          (spelled_join inner (125 ∷ []) m.inner (125 ∷ []) r.spells (ascii_spelled (125 ∷ []) refl)))));
       good = good_join false false x.pieces qs x.good (subst (λ (z : Bool). AllGood (word_after false x.pieces) z qs) (sym x.no_blank)
-          (good_behind false (word_after false x.pieces) false qs (good_in [] (λ s. false) false false (m.run).pieces refl (m.run).good) (λ g. absurd (cc))));
-      known = known_join x.pieces qs x.known (known_in [] (m.run).pieces (m.run).known);
-      no_blank = blank_join false x.pieces qs ∙ some_blank (blank_after false x.pieces) qs (blank_in [] true (m.run).pieces ∙ some);
-      last_are = last_join [] x.pieces qs (blank_in [] true (m.run).pieces ∙ some) ∙ last_in [] (m.run).pieces some ∙ sym (none_listed a.styles e);
-      word_is = λ _. word_join false x.pieces qs ∙ up (word_after false x.pieces) (word_in [] false (m.run).pieces ∙ (m.run).word m.some);
-      middle_in = (omega arith, omega (arith, length-append x.pieces qs, length-map (m.run).pieces (in_styles [])));
-      no_middle = λ g. absurd (true≢false (sym f ∙ g));
+          (good_behind false (word_after false x.pieces) false qs (good_in [] (λ s. false) false false r.pieces refl r.good) (λ g. absurd (cc))));
+      known = known_join x.pieces qs x.known (known_in [] r.pieces r.known);
+      no_blank = blank_join false x.pieces qs ∙ some_blank (blank_after false x.pieces) qs (blank_in [] true r.pieces ∙ some);
+      last_are = last_join [] x.pieces qs (blank_in [] true r.pieces ∙ some) ∙ last_in [] r.pieces some;
+      marks_are = tags_more x.pieces qs mark x.marks_are (tags_in [] r.pieces ∙ r.no_mark);
+      word_is = λ _. word_join false x.pieces qs ∙ word_up (word_after false x.pieces) qs (word_in [] false r.pieces ∙ r.word m.some);
+      middle_in = (omega arith, omega (arith, length-append x.pieces qs, length-map r.pieces (in_styles [])));
+      no_middle = λ g. absurd (true≢false g);
     }
-  where
-    up : (z : Bool) → word_after false (map (in_styles []) (m.run).pieces) ≡ true → word_after z (map (in_styles []) (m.run).pieces) ≡ true
-    up true e = word_stays (map (in_styles []) (m.run).pieces)
-    up false e = e
 
 -- ---- where they stand
 
-pub more_step : (b : Before) (ss : Styles) (w : Bool) (l : List ℕ) (n r : ℕ) → IsPart ss w (take r (take (length l - n) (drop n l))) → AreApart (listed_styles b.styles) (listed_styles ss) → IsBegun b (take n l)
-    → IsBegun (record { styles = ss; word = b.word || w; centre = b.centre }) (take (n + r) l)
-more_step b ss w l n r h g x =
-    subst (IsBegun (record { styles = ss; word = b.word || w; centre = b.centre })) (sym (take-add n r l))
-    (more_begun b ss w (take n l) (take r (drop n l)) x (subst (λ (xs : List ℕ). IsPart ss w (take r xs)) (behind_is l n) h) g)
+module _ (mark : Option SpanMark) (b : Before) (l : List ℕ) (n r : ℕ) where
+  pub more_step : (style : Option Style) → IsPart style (take r (take (length l - n) (drop n l))) → AreApart (in_style b.style) (in_style style) → IsBegun mark b (take n l)
+      → IsBegun mark (record { style = style; word = true; centre = b.centre }) (take (n + r) l)
+  more_step style h g x =
+      subst (IsBegun mark (record { style = style; word = true; centre = b.centre })) (sym (take-add n r l))
+      (more_begun mark b style (take n l) (take r (drop n l)) x (subst (λ (xs : List ℕ). IsPart style (take r xs)) (behind_is l n) h) g)
 
-pub centre_step : (b a : Before) (l : List ℕ) (n r : ℕ) → IsEnclosed (123 ∷ []) (125 ∷ []) (take r (take (length l - n) (drop n l))) → b.centre ≡ false → a.styles ≡ no_styles → a.centre ≡ true → IsBegun b (take n l)
-    → IsBegun a (take (n + r) l)
-centre_step b a l n r h g e f x =
-    subst (IsBegun a) (sym (take-add n r l))
-    (centre_begun b a (take n l) (take r (drop n l)) x g (subst (λ (xs : List ℕ). IsEnclosed (123 ∷ []) (125 ∷ []) (take r xs)) (behind_is l n) h) e f)
+  pub centre_step : IsEnclosed (123 ∷ []) (125 ∷ []) (take r (take (length l - n) (drop n l))) → b.centre ≡ false → IsBegun mark b (take n l)
+      → IsBegun mark (record { style = None; word = true; centre = true }) (take (n + r) l)
+  centre_step h g x =
+      subst (IsBegun mark (record { style = None; word = true; centre = true })) (sym (take-add n r l))
+      (centre_begun mark b (take n l) (take r (drop n l)) x g (subst (λ (xs : List ℕ). IsEnclosed (123 ∷ []) (125 ∷ []) (take r xs)) (behind_is l n) h))
 
-pub blank_more_step : (b : Before) (ss : Styles) (w : Bool) (l : List ℕ) (n r : ℕ) → not b.word ≡ false → n < length l → get_or l n 0 ≡ 32 → IsPart ss w (take r (take (length l - (n + 1)) (drop (n + 1) l)))
-    → IsBegun b (take n l) → IsBegun (record { styles = ss; word = b.word || w; centre = b.centre }) (take (n + (r + 1)) l)
-blank_more_step b ss w l n r some less e h x =
-    let cut : take (r + 1) (drop n l) ≡ 32 ∷ take r (drop (n + 1) l) = at_blank l n r less e in
-    subst (IsBegun (record { styles = ss; word = b.word || w; centre = b.centre })) (sym (take-add n (r + 1) l ∙ ap (λ (xs : List ℕ). take n l ++ xs) cut))
-    (blank_begun b ss w (take n l) (take r (drop (n + 1) l)) (yes b.word some) x (subst (λ (xs : List ℕ). IsPart ss w (take r xs)) (behind_is l (n + 1)) h))
-  where
-    yes : (a : Bool) → not a ≡ false → a ≡ true
-    yes true e = refl
-    yes false e = absurd (cc)
+  pub blank_more_step : (style : Option Style) → not b.word ≡ false → n < length l → get_or l n 0 ≡ 32 → IsPart style (take r (take (length l - (n + 1)) (drop (n + 1) l)))
+      → IsBegun mark b (take n l) → IsBegun mark (record { style = style; word = true; centre = b.centre }) (take (n + (r + 1)) l)
+  blank_more_step style some less e h x =
+      let cut : take (r + 1) (drop n l) ≡ 32 ∷ take r (drop (n + 1) l) = at_blank l n r less e in
+      subst (IsBegun mark (record { style = style; word = true; centre = b.centre })) (sym (take-add n (r + 1) l ∙ ap (λ (xs : List ℕ). take n l ++ xs) cut))
+      (blank_begun mark b style (take n l) (take r (drop (n + 1) l)) x (subst (λ (xs : List ℕ). IsPart style (take r xs)) (behind_is l (n + 1)) h) (yes b.word some))
+    where
+      yes : (a : Bool) → not a ≡ false → a ≡ true
+      yes true e = refl
+      yes false e = absurd (cc)

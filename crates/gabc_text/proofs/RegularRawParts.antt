@@ -1,13 +1,14 @@
 -- Raw parts, span marks and translations of a regular text.
-use Rattle.std.proofs.Common.{◌≡◌, ℕ, ◌<◌, ◌+◌, ◌-◌, ◌==◌, List, [], ◌∷◌, ◌++◌, Bool, true, false, not, length, refl, sym, ap, ap₂, subst, ◌∙◌, arith, take, drop, get_or, append-nil, append_assoc, length-append, length-drop, take_all, slice_index, encode_utf8_all, IsUtf8, Option, Some, None, codes, suc, zero, eq-eqb}
+use Rattle.std.proofs.Common.{◌≡◌, ◌≢◌, ℕ, ◌<◌, ◌+◌, ◌-◌, ◌==◌, List, [], ◌∷◌, ◌++◌, Bool, true, false, not, cond, length, refl, sym, ap, ap₂, subst, ◌∙◌, arith, take, drop, get_or, append-nil, append_assoc, length-append, length-drop, ◌≤◌, take_all, slice_index, encode_utf8_all, IsUtf8, Option, Some, None, codes, suc, zero, eq-eqb}
 use Rattle.std.specs.Str.{chars}
 use Rattle.std.specs.List.{list_all}
 use Rattle.std.specs.Cmp.Lexicographic.{pointwise}
-use Rattle.std.proofs.lemmas.Bool.{and_parts, not-true}
+use Rattle.std.proofs.lemmas.Bool.{and_parts, ne_eqb, not-true, true≢false}
 use Rattle.std.proofs.lemmas.Str.{encodes-append, encodes-chars}
 use Rattle.gabc_places.specs.declared.place.Span.{Span}
 use Rattle.gabc_places.specs.TextOfAnInput.{IsText}
-use Rattle.gabc_text.specs.declared.styles.Styles.{Styles}
+use Rattle.gabc_text.specs.declared.span_mark.SpanMark.{SpanMark}
+use Rattle.gabc_text.specs.declared.span_mark.SpanMark.TheVariants.{OpensEu, ClosesEu, OpensNlba, ClosesNlba}
 use Rattle.gabc_text.specs.declared.regular.Before.{Before}
 use Rattle.gabc_text.specs.declared.token.TokenKind.TheVariants as kind
 use Rattle.gabc_text.specs.declared.token.RawKind.{RawKind}
@@ -15,16 +16,17 @@ use Rattle.gabc_text.specs.declared.token.RawKind.TheVariants.{V, Sp, Alt}
 use Rattle.gabc_text.specs.declared.view.PieceKind.TheVariants as piece
 use Rattle.gabc_text.specs.Token.{spelling, through, ended_token, ending_of}
 use Rattle.gabc_text.specs.ExampleTexts.{beginning_of}
-use Rattle.gabc_text.specs.View.{PieceFacts}
-use Rattle.gabc_text.specs.ViewFacts.{ViewFacts, LiesAmong, view_facts}
+use Rattle.gabc_text.specs.ViewFacts.{ViewFacts, LiesAmong, view_facts, span_tags, tags_among}
 use Rattle.gabc_text.specs.Printed.{print, print_from, text_of_tokens, text_tokens, printed_piece, translation_tokens}
-use Rattle.gabc_text.specs.RegularText.{IsRegularText, begins_letter, has_letter_at, text_part, translation_part}
-use Rattle.gabc_text.specs.machine.PrintedPieces.{Stable}
-use Rattle.gabc_text.specs.machine.RegularBytes.{no_styles, is_low, IsSpelled, IsWord, IsInner, IsBracketed, IsMark, IsPart, IsBegun}
+use Rattle.gabc_text.specs.RegularText.{IsRegularText, begins_letter, has_letter_at, begins_with, mark_at, tag_of, tags_of, text_part, translation_part}
+use Rattle.gabc_text.specs.machine.PrintedPieces.{Says, Stable}
+use Rattle.gabc_text.specs.machine.RegularBytes.{is_low, IsSpelled, IsWord, IsInner, IsBracketed, IsRun, IsBegun, mark_length, nothing_before}
 use Rattle.gabc_text.proofs.RegularBytes.{ascii_spelled, none_spelled, spelled_join, chars_of, is_text, behind_is}
-use Rattle.gabc_text.proofs.RegularParts.{none_listed, starts_so, taken_first, between_is}
-use Rattle.std.proofs.Math.Seq.{take-add, get_or-append_seam}
-use Rattle.std.proofs.lemmas.List.{get_or-drop}
+use Rattle.gabc_text.proofs.RegularParts.{between_is, nothing_begun, run_begun}
+use Rattle.std.proofs.Math.Seq.{take-add, take-append_seam, take-append-add, get_or-append_seam}
+use Rattle.std.proofs.lemmas.List.{get_or-drop, take-append-drop}
+use Rattle.std.proofs.lemmas.Bool.Decides.{Decides-eqb}
+use Rattle.std.proofs.lemmas.Slice.Eq.{starts_is}
 use Rattle.gabc_text.proofs.tokens.RawEndingIsMatched.{begins_itself}
 use Rattle.gabc_text.proofs.printing.TokensAreReadAgain.{again_by}
 use Rattle.gabc_text.proofs.printing.PrintedTextIsKept.{written_append}
@@ -89,22 +91,104 @@ raw_word raw a b bytes e f x =
 
 -- ---- marks
 
-pub mark_is_part : (t bytes : List ℕ) (ss : Styles) → IsMark t → bytes ≡ t → ss ≡ no_styles → IsPart ss false bytes
-mark_is_part t bytes ss m same e =
-    let p : PieceFacts = record { kind = piece.Mark; styles = []; text = t } in
-    subst (IsPart ss false) (sym same) (record {
-      pieces = p ∷ [];
-      spells = subst (λ (u : List ℕ). IsSpelled u t) (sym (append-nil (spelling (printed_piece piece.Mark t)) ∙ m.spelled)) (ascii_spelled t m.low);
-      good = (record { test = λ s. false; styles_are = refl; stable = m.stable; reads_so = m.says false false }, tt);
-      known = (refl, tt);
-      some = refl;
-      first_are = sym (none_listed ss e);
-      last_are = sym (none_listed ss e);
-      word_is = λ f. absurd (cc);
-    })
+begun_by : (x : SpanMark) → list_all is_low (tag_of x) ≡ true → spelling (printed_piece piece.Mark (tag_of x)) ≡ tag_of x → Stable (printed_piece piece.Mark (tag_of x)) → Says piece.Mark (tag_of x) false false
+    → IsBegun (Some x) nothing_before (tag_of x)
+begun_by x low same stable says = record {
+  pieces = record { kind = piece.Mark; styles = []; text = tag_of x } ∷ [];
+  middle = None;
+  spells = subst (λ (u : List ℕ). IsSpelled u (tag_of x)) (sym (append-nil (spelling (printed_piece piece.Mark (tag_of x))) ∙ same)) (ascii_spelled (tag_of x) low);
+  good = (record { test = λ s. false; styles_are = refl; stable = stable; reads_so = says }, tt);
+  known = (refl, tt);
+  no_blank = refl;
+  last_are = refl;
+  marks_are = refl;
+  word_is = λ e. absurd (true≢false (sym e));
+  middle_in = tt;
+  no_middle = λ _. refl;
+}
 
-pub mark_at : (l t : List ℕ) (ss : Styles) (r : Bool) → IsMark t → r ≡ pointwise (λ x y. x == y) t (take (length t) l) → r ≡ true → ss ≡ no_styles → IsPart ss false (take (length t) l)
-mark_at l t ss r m e f g = mark_is_part t (take (length t) l) ss m (taken_first l t (starts_so l t r e f)) g
+mark_begun : (x : SpanMark) → IsBegun (Some x) nothing_before (tag_of x)
+mark_begun OpensEu = begun_by OpensEu refl refl (λ u. refl) (refl, refl, refl)
+mark_begun ClosesEu = begun_by ClosesEu refl refl (λ u. refl) (refl, refl, refl)
+mark_begun OpensNlba = begun_by OpensNlba refl refl (λ u. refl) (refl, refl, refl)
+mark_begun ClosesNlba = begun_by ClosesNlba refl refl (λ u. refl) (refl, refl, refl)
+
+-- a mark that bytes begin with
+pub marked : (x : SpanMark) (l : List ℕ) → mark_at (tag_of x ++ l) ≡ Some x
+marked OpensEu l = refl
+marked ClosesEu l = refl
+marked OpensNlba l = refl
+marked ClosesNlba l = refl
+
+starts_so : (x : SpanMark) (l : List ℕ) → begins_with x l ≡ true → l ≡ tag_of x ++ drop (length (tag_of x)) l
+starts_so x l e = (starts_is Decides-eqb l (tag_of x) (begins_with x l) refl).0 e
+
+pub begun_with : (x : SpanMark) (l : List ℕ) → mark_at l ≡ Some x → l ≡ tag_of x ++ drop (length (tag_of x)) l
+begun_with x l e = by (begins_with OpensEu l) (begins_with ClosesEu l) (begins_with OpensNlba l) (begins_with ClosesNlba l) refl refl refl refl e
+  where
+    by : (a b c d : Bool) → begins_with OpensEu l ≡ a → begins_with ClosesEu l ≡ b → begins_with OpensNlba l ≡ c → begins_with ClosesNlba l ≡ d
+        → cond a (Some OpensEu) (cond b (Some ClosesEu) (cond c (Some OpensNlba) (cond d (Some ClosesNlba) None))) ≡ Some x → l ≡ tag_of x ++ drop (length (tag_of x)) l
+    by true b c d f g h i e = let same : OpensEu ≡ x = cc in subst (λ (y : SpanMark). l ≡ tag_of y ++ drop (length (tag_of y)) l) same (starts_so OpensEu l f)
+    by false true c d f g h i e = let same : ClosesEu ≡ x = cc in subst (λ (y : SpanMark). l ≡ tag_of y ++ drop (length (tag_of y)) l) same (starts_so ClosesEu l g)
+    by false false true d f g h i e = let same : OpensNlba ≡ x = cc in subst (λ (y : SpanMark). l ≡ tag_of y ++ drop (length (tag_of y)) l) same (starts_so OpensNlba l h)
+    by false false false true f g h i e = let same : ClosesNlba ≡ x = cc in subst (λ (y : SpanMark). l ≡ tag_of y ++ drop (length (tag_of y)) l) same (starts_so ClosesNlba l i)
+    by false false false false f g h i e = absurd (cc)
+
+-- the first bytes begin with the mark that all begin with
+pub mark_stays : (l : List ℕ) (n : ℕ) → mark_length (mark_at l) ≤ n → mark_at (take n l) ≡ mark_at l
+mark_stays l n less = by (mark_at l) (mark_at (take n l)) refl refl less
+  where
+    by : (o p : Option SpanMark) → mark_at l ≡ o → mark_at (take n l) ≡ p → mark_length o ≤ n → mark_at (take n l) ≡ mark_at l
+    by None None e f less = f ∙ sym e
+    by None (Some x) e f less =
+        let whole : l ≡ tag_of x ++ (drop (length (tag_of x)) (take n l) ++ drop n l) =
+        sym (take-append-drop n l) ∙ ap (λ (t : List ℕ). t ++ drop n l) (begun_with x (take n l) f) ∙ append_assoc (tag_of x) (drop (length (tag_of x)) (take n l)) (drop n l) in
+        absurd (let g = sym e ∙ ap mark_at whole ∙ marked x (drop (length (tag_of x)) (take n l) ++ drop n l) in cc)
+    by (Some x) p e f less =
+        let front : take n l ≡ tag_of x ++ take (n - length (tag_of x)) (drop (length (tag_of x)) l) =
+        ap₂ (λ (k : ℕ) (t : List ℕ). take k t) (let same : n ≡ length (tag_of x) + (n - length (tag_of x)) = omega (arith, less) in same) (begun_with x l e)
+        ∙ take-append-add (tag_of x) (drop (length (tag_of x)) l) (n - length (tag_of x)) in
+        ap mark_at front ∙ marked x (take (n - length (tag_of x)) (drop (length (tag_of x)) l)) ∙ sym e
+
+-- a mark ends before a `(`
+before_bracket : (tag text rest more : List ℕ) → list_all (λ c. not (c == 40)) tag ≡ true → text ++ 40 ∷ rest ≡ tag ++ more → (back : List ℕ) × (text ≡ tag ++ back)
+before_bracket [] text rest more h e = (text, refl)
+before_bracket (t ∷ tag) [] rest more h e =
+    let first : 40 ≡ t = cc in
+    absurd (true≢false (sym (eq-eqb t 40 (sym first)) ∙ not-true (t == 40) (and_parts (not (t == 40)) (list_all (λ c. not (c == 40)) tag) h).0))
+before_bracket (t ∷ tag) (c ∷ text) rest more h e =
+    let first : c ≡ t = cc in
+    let later : text ++ 40 ∷ rest ≡ tag ++ more = cc in
+    let back = before_bracket tag text rest more (and_parts (not (t == 40)) (list_all (λ c. not (c == 40)) tag) h).1 later in
+    (back.0, ap₂ (λ (x : ℕ) (l : List ℕ). x ∷ l) first back.1)
+
+no_bracket : (x : SpanMark) → list_all (λ c. not (c == 40)) (tag_of x) ≡ true
+no_bracket OpensEu = refl
+no_bracket ClosesEu = refl
+no_bracket OpensNlba = refl
+no_bracket ClosesNlba = refl
+
+pub mark_before_notes : (t rest : List ℕ) → mark_at (t ++ 40 ∷ rest) ≡ mark_at t
+mark_before_notes t rest = by (mark_at t) (mark_at (t ++ 40 ∷ rest)) refl refl
+  where
+    by : (o p : Option SpanMark) → mark_at t ≡ o → mark_at (t ++ 40 ∷ rest) ≡ p → mark_at (t ++ 40 ∷ rest) ≡ mark_at t
+    by (Some x) p e f =
+        let back = drop (length (tag_of x)) t in
+        ap mark_at (ap (λ (l : List ℕ). l ++ 40 ∷ rest) (begun_with x t e) ∙ append_assoc (tag_of x) back (40 ∷ rest)) ∙ marked x (back ++ 40 ∷ rest) ∙ sym e
+    by None None e f = f ∙ sym e
+    by None (Some x) e f =
+        let back = before_bracket (tag_of x) t rest _ (no_bracket x) (begun_with x (t ++ 40 ∷ rest) f) in
+        absurd (let g = sym e ∙ ap mark_at back.1 ∙ marked x back.0 in cc)
+
+-- the mark that a text begins with
+pub mark_is_begun : (l : List ℕ) (o : Option SpanMark) → mark_at l ≡ o → IsBegun o nothing_before (take (mark_length o) l)
+mark_is_begun l None e = nothing_begun
+mark_is_begun l (Some x) e = subst (IsBegun (Some x) nothing_before) (sym (ap (take (length (tag_of x))) (begun_with x l e) ∙ take-append_seam (tag_of x) (drop (length (tag_of x)) l))) (mark_begun x)
+
+-- with a byte but `<` no mark begins
+unmarked : (l : List ℕ) → slice_index l 0 ≢ 60 → mark_at l ≡ None
+unmarked [] h = refl
+unmarked (b ∷ l) h = let no : (60 == b) ≡ false = ne_eqb 60 b (λ e. h (sym e)) in rw no refl
 
 -- ---- translations
 
@@ -113,13 +197,14 @@ translation_stable inner h = again_by (record { kind = kind.Translation; first =
     (λ u. ap (ended_token kind.Translation kind.OpenTranslation 91 [] ((inner ++ 93 ∷ []) ++ u)) (through_inner 93 [] inner u h))
 
 -- a text and its translation
-pub record IsTranslatedText (bytes bs more : List ℕ) : Type 0 where
+pub record IsTranslatedText (mark : Option SpanMark) (bytes bs more : List ℕ) : Type 0 where
   pub text : IsText bytes
   pub regular : IsRegularText (chars bytes)
+  pub marks : span_tags (chars bytes) ≡ tags_of mark
   pub text_is : bs ≡ encode_utf8_all (text_part (chars bytes))
   pub translation_is : more ≡ encode_utf8_all (translation_part (chars bytes))
 
-module _ (b : Before) (bs more : List ℕ) (x : IsBegun b bs) (o : Option (List ℕ)) (stable : IsTranslated o) (spells : IsSpelled (text_of_tokens (translation_tokens o)) more) where
+module _ (mark : Option SpanMark) (b : Before) (bs more : List ℕ) (x : IsBegun mark b bs) (o : Option (List ℕ)) (stable : IsTranslated o) (spells : IsSpelled (text_of_tokens (translation_tokens o)) more) where
   abbrev v : ViewFacts
   v = record { word_start = false; pieces = x.pieces; centre = x.middle; translation = o }
 
@@ -137,20 +222,31 @@ module _ (b : Before) (bs more : List ℕ) (x : IsBegun b bs) (o : Option (List 
   says : view_facts (chars (bs ++ more)) ≡ v
   says = ap view_facts (chars_of (print v) (bs ++ more) spelled) ∙ read_again v sound
 
-  translated : IsTranslatedText (bs ++ more) bs more
+  translated : IsTranslatedText mark (bs ++ more) bs more
   translated = record {
     text = is_text (print v) (bs ++ more) spelled;
     regular = subst IsRegularText (sym (chars_of (print v) (bs ++ more) spelled)) (regular_is v sound x.known refl);
+    marks = ap (λ (u : ViewFacts). tags_among u.pieces) says ∙ x.marks_are;
     text_is = x.spells.spelled ∙ ap (λ (u : ViewFacts). encode_utf8_all (text_of_tokens (text_tokens u))) (sym says);
     translation_is = spells.spelled ∙ ap (λ (u : ViewFacts). encode_utf8_all (text_of_tokens (translation_tokens u.translation))) (sym says);
   }
 
-pub untranslated : (b : Before) (bs : List ℕ) → IsBegun b bs → IsTranslatedText bs bs []
-untranslated b bs x = subst (λ (u : List ℕ). IsTranslatedText u bs []) (append-nil bs) (translated b bs [] x None tt none_spelled)
+pub untranslated : (mark : Option SpanMark) (b : Before) (bs : List ℕ) → IsBegun mark b bs → IsTranslatedText mark bs bs []
+untranslated mark b bs x = subst (λ (u : List ℕ). IsTranslatedText mark u bs []) (append-nil bs) (translated mark b bs [] x None tt none_spelled)
 
-bracketed_text : (b : Before) (bs more : List ℕ) → IsBegun b bs → IsBracketed (91 ∷ []) 93 (93 ∷ []) more → IsTranslatedText (bs ++ more) bs more
-bracketed_text b bs more x y =
-    translated b bs more x (Some (y.within).text) (translation_stable (y.within).text (y.within).without)
+-- letters alone
+pub letters : (l : List ℕ) (n : ℕ) → n ≤ length l → IsRun (take n l) → (0 < n → slice_index l 0 ≢ 60) → IsTranslatedText (mark_at (take n l)) (take n l) (take n l) []
+letters l n within run first =
+    let b = run_begun l n within run in subst (λ (o : Option SpanMark). IsTranslatedText o (take n l) (take n l) []) (sym (none n l first)) (untranslated None b.0 (take n l) b.1)
+  where
+    none : (n : ℕ) (l : List ℕ) → (0 < n → slice_index l 0 ≢ 60) → mark_at (take n l) ≡ None
+    none zero l first = refl
+    none (suc n) [] first = refl
+    none (suc n) (b ∷ l) first = unmarked (b ∷ take n l) (first (omega arith))
+
+bracketed_text : (mark : Option SpanMark) (b : Before) (bs more : List ℕ) → IsBegun mark b bs → IsBracketed (91 ∷ []) 93 (93 ∷ []) more → IsTranslatedText mark (bs ++ more) bs more
+bracketed_text mark b bs more x y =
+    translated mark b bs more x (Some (y.within).text) (translation_stable (y.within).text (y.within).without)
     (subst (λ (t : List ℕ). IsSpelled t more) (sym (append-nil (91 ∷ ((y.within).text ++ 93 ∷ []))))
     (subst (λ (u : List ℕ). IsSpelled (91 ∷ ((y.within).text ++ 93 ∷ [])) u) (sym y.parts) (bracketed_spelled (91 ∷ []) (93 ∷ []) y.inner (y.within).text refl refl (y.within).spells)))
 
@@ -166,19 +262,20 @@ bracketed_is l a b stop n x y e f g h p = record {
 }
 
 -- a text with its translation, if it has one
-pub whole : (b : Before) (l : List ℕ) (n r : ℕ) → IsBegun b (take n l) → (0 < r → IsBracketed (91 ∷ []) 93 (93 ∷ []) (take r (take (length l - n) (drop n l)))) → IsTranslatedText (take (n + r) l) (take n l) (take r (drop n l))
-whole b l n r x h = subst (λ (u : List ℕ). IsTranslatedText u (take n l) (take r (drop n l))) (sym (take-add n r l)) (by r h)
+pub whole : (mark : Option SpanMark) (b : Before) (l : List ℕ) (n r : ℕ) → IsBegun mark b (take n l) → (0 < r → IsBracketed (91 ∷ []) 93 (93 ∷ []) (take r (take (length l - n) (drop n l))))
+    → IsTranslatedText mark (take (n + r) l) (take n l) (take r (drop n l))
+whole mark b l n r x h = subst (λ (u : List ℕ). IsTranslatedText mark u (take n l) (take r (drop n l))) (sym (take-add n r l)) (by r h)
   where
-    by : (r : ℕ) → (0 < r → IsBracketed (91 ∷ []) 93 (93 ∷ []) (take r (take (length l - n) (drop n l)))) → IsTranslatedText (take n l ++ take r (drop n l)) (take n l) (take r (drop n l))
-    by zero h = translated b (take n l) [] x None tt none_spelled
+    by : (r : ℕ) → (0 < r → IsBracketed (91 ∷ []) 93 (93 ∷ []) (take r (take (length l - n) (drop n l)))) → IsTranslatedText mark (take n l ++ take r (drop n l)) (take n l) (take r (drop n l))
+    by zero h = translated mark b (take n l) [] x None tt none_spelled
     by (suc r) h =
-        bracketed_text b (take n l) (take (suc r) (drop n l)) x (subst (λ (u : List ℕ). IsBracketed (91 ∷ []) 93 (93 ∷ []) (take (suc r) u)) (behind_is l n) (h (omega arith)))
+        bracketed_text mark b (take n l) (take (suc r) (drop n l)) x (subst (λ (u : List ℕ). IsBracketed (91 ∷ []) 93 (93 ∷ []) (take (suc r) u)) (behind_is l n) (h (omega arith)))
 
 -- that is all of these bytes
-pub parted : (l : List ℕ) (n r : ℕ) → n + r ≡ length l → IsTranslatedText (take (n + r) l) (take n l) (take r (drop n l)) → IsTranslatedText l (take n l) (drop n l)
-parted l n r e x =
-    subst (λ (u : List ℕ). IsTranslatedText u (take n l) (drop n l)) (take_all (n + r) l (omega (arith, e)))
-    (subst (λ (u : List ℕ). IsTranslatedText (take (n + r) l) (take n l) u) (take_all r (drop n l) (omega (arith, length-drop n l, e))) x)
+pub parted : (mark : Option SpanMark) (l : List ℕ) (n r : ℕ) → n + r ≡ length l → IsTranslatedText mark (take (n + r) l) (take n l) (take r (drop n l)) → IsTranslatedText mark l (take n l) (drop n l)
+parted mark l n r e x =
+    subst (λ (u : List ℕ). IsTranslatedText mark u (take n l) (drop n l)) (take_all (n + r) l (omega (arith, e)))
+    (subst (λ (u : List ℕ). IsTranslatedText mark (take (n + r) l) (take n l) u) (take_all r (drop n l) (omega (arith, length-drop n l, e))) x)
 
 -- no letter comes next
 pub whole_stops : (l : List ℕ) (n r : ℕ) → (n < length l → has_letter_at l n ≡ false) → (0 < r → get_or (take (length l - n) (drop n l)) r 0 ≡ 40) → n + r < length l → has_letter_at l (n + r) ≡ false

@@ -1,6 +1,9 @@
 -- The texts that are printed as they stand, and in which nothing is found.
-use Rattle.std.specs.Prelude.{◌≡◌, ℕ, ◌+◌, ◌==◌, List, [], ◌∷◌, Bool, true, false, not, ◌&&◌, ◌||◌, if◌then◌else◌, nat_lt, slice_index}
+use Rattle.std.specs.Prelude.{◌≡◌, ℕ, ◌+◌, ◌==◌, List, [], ◌∷◌, Bool, true, false, not, ◌&&◌, ◌||◌, if◌then◌else◌, nat_lt, slice_index, codes, cond, Option, Some, None}
+use Rattle.std.specs.List.{starts_with}
 use Rattle.gabc_places.specs.declared.place.Place.{Place}
+use Rattle.gabc_text.specs.declared.span_mark.SpanMark.{SpanMark}
+use Rattle.gabc_text.specs.declared.span_mark.SpanMark.TheVariants.{OpensEu, ClosesEu, OpensNlba, ClosesNlba}
 use Rattle.gabc_text.specs.Token.{is_blank, is_special}
 use Rattle.gabc_text.specs.View.{findings}
 use Rattle.gabc_text.specs.ViewFacts.{view_facts}
@@ -18,6 +21,28 @@ text_part t = text_of_tokens (text_tokens (view_facts t))
 
 abbrev pub translation_part : List ℕ → List ℕ
 translation_part t = text_of_tokens (translation_tokens (view_facts t).translation)
+
+-- the tag of a span mark, the mark that bytes begin with, and the tags of one or none
+abbrev pub tag_of : SpanMark → List ℕ
+tag_of OpensEu = codes "<eu>"
+tag_of ClosesEu = codes "</eu>"
+tag_of OpensNlba = codes "<nlba>"
+tag_of ClosesNlba = codes "</nlba>"
+
+abbrev pub begins_with : SpanMark → List ℕ → Bool
+begins_with mark bytes = starts_with (λ a b. a == b) bytes (tag_of mark)
+
+abbrev pub mark_at : List ℕ → Option SpanMark
+mark_at bytes =
+    cond (begins_with OpensEu bytes) (Some OpensEu)
+    (cond (begins_with ClosesEu bytes) (Some ClosesEu)
+    (cond (begins_with OpensNlba bytes) (Some OpensNlba)
+    (cond (begins_with ClosesNlba bytes) (Some ClosesNlba)
+    None)))
+
+abbrev pub tags_of : Option SpanMark → List (List ℕ)
+tags_of None = []
+tags_of (Some mark) = tag_of mark ∷ []
 
 -- blanks and comments in any order, each comment with the LF that ends it; the first flag says
 -- whether a comment is open before them

@@ -1,11 +1,13 @@
 -- What a text's view says, and where its spans lie in the kept text.
-use Rattle.std.specs.Prelude.{Bool, true, false, ◌≡◌, ℕ, ◌≤◌, List, [], ◌∷◌, ◌++◌, cond, not, ◌&&◌, length, Option, Some, None, reverse, codes}
+use Rattle.std.specs.Prelude.{Bool, true, false, ◌≡◌, ℕ, ◌≤◌, List, [], ◌∷◌, ◌++◌, cond, not, ◌&&◌, length, map, filter, Option, Some, None, reverse, codes}
 use Rattle.std.specs.List.{list_any}
 use Rattle.gabc_places.specs.declared.place.Span.{Span}
 use Rattle.gabc_places.specs.declared.code.Code.{Code}
 use Rattle.gabc_places.specs.declared.code.Code.TheVariants.{E2}
 use Rattle.gabc_places.specs.declared.code.Finding.{Finding}
 use Rattle.gabc_text.specs.declared.view.Piece.{Piece}
+use Rattle.gabc_text.specs.declared.view.PieceKind.{PieceKind}
+use Rattle.gabc_text.specs.declared.view.PieceKind.TheVariants.{Mark}
 use Rattle.gabc_text.specs.TextView.{ViewContent}
 use Rattle.gabc_text.specs.Token.{Token, tokens}
 use Rattle.gabc_text.specs.View.{along, PieceFacts, pieces_at, is_blank_piece, has_translation, starts_word, begin_of, end_of, centre_by, bytes_of}
@@ -23,6 +25,18 @@ but_blank (p ∷ q ∷ ps) = p ∷ but_blank (q ∷ ps)
 -- the pieces of a text
 abbrev pub piece_facts_in : List ℕ → List PieceFacts
 piece_facts_in t = but_blank (along pieces_at [] (tokens t))
+
+-- a piece that is the tag of a span
+abbrev pub is_mark : PieceKind → Bool
+is_mark Mark = true
+is_mark _ = false
+
+-- the tags of spans among these, and in a text, in order
+abbrev pub tags_among : List PieceFacts → List (List ℕ)
+tags_among ps = map (λ (p : PieceFacts). p.text) (filter (λ (p : PieceFacts). is_mark p.kind) ps)
+
+abbrev pub span_tags : List ℕ → List (List ℕ)
+span_tags t = tags_among (piece_facts_in t)
 
 -- a text but for its last character
 abbrev pub but_end : List ℕ → List ℕ

@@ -1,16 +1,18 @@
 //! How far a text goes that is printed as it stands.
 
-ghost use Rattle.std.specs.Prelude.{◌≡◌, ◌+◌, ◌≤◌, ◌<◌, length, take, drop, get_or, true, false, IfSome, None, codes, encode_utf8_all};
+ghost use Rattle.std.specs.Prelude.{◌≡◌, ◌+◌, ◌≤◌, ◌<◌, length, take, drop, get_or, true, false, Option, IfSome, None, codes, encode_utf8_all};
 ghost use Rattle.std.specs.Str.{chars};
 ghost use Rattle.gabc_places.specs.TextOfAnInput.{IsText};
+ghost use Rattle.gabc_text.specs.declared.span_mark.SpanMark.{SpanMark};
 ghost use Rattle.gabc_text.specs.Token.{spelling};
-ghost use Rattle.gabc_text.specs.Canonical.{listed_styles};
 ghost use Rattle.gabc_text.specs.Printed.{opening_tag, closing_tag};
-ghost use Rattle.gabc_text.specs.RegularText.{IsRegularText, has_letter_at, text_part, translation_part};
-ghost use Rattle.gabc_text.specs.machine.RegularBytes.{no_styles, IsBracketed, IsMark, IsPart, IsBegun, AreApart, through};
+ghost use Rattle.gabc_text.specs.ViewFacts.{span_tags};
+ghost use Rattle.gabc_text.specs.RegularText.{IsRegularText, has_letter_at, mark_at, tags_of, text_part, translation_part};
+ghost use Rattle.gabc_text.specs.machine.RegularBytes.{in_style, is_style, mark_length, nothing_before, IsBracketed, IsPart, IsBegun, AreApart, through};
 
 use crate::regular_runs::{bracketed_len, byte_at, enclosed_len, letters_len, run_len};
-use crate::styles::{Style, Styles};
+use crate::span_mark::mark_at;
+use crate::styles::Style;
 
 /// Returns the tags of `style`.
 fn tags_of(style: Style) -> (&'static str, &'static str)
@@ -41,31 +43,39 @@ fn style_by(byte: u8) -> Style {
     }
 }
 
+/// Returns whether `style` is the style `last`.
+fn is_style(last: Option<Style>, style: Style) -> bool
+    ensures { result ≡ is_style last style }
+{
+    match last {
+        Some(last) => last == style,
+        None => false,
+    }
+}
+
 /// What of a regular text matters for what may follow it.
 #[derive(Clone, Copy)]
 struct Before {
-    /// The styles of its last piece.
-    styles: Styles,
+    /// The style of its last piece, if it has one.
+    style: Option<Style>,
     /// Whether a piece but a span mark stands in it, so that a blank may follow.
     word: bool,
     /// Whether it has a centre.
     centre: bool,
 }
 
-/// A part of a text: some pieces with the same styles.
+/// A part of a text: some pieces, all in the style, if in one, and none a span mark.
 #[derive(Clone, Copy)]
 struct Part {
     /// How many bytes it has.
     len: usize,
-    styles: Styles,
-    /// Whether one of its pieces is no span mark.
-    word: bool,
+    style: Option<Style>,
 }
 
 impl Before {
-    /// Nothing stands before.
+    /// Nothing stands before, or a span mark alone.
     const NOTHING: Before = Before {
-        styles: Styles::NONE,
+        style: None,
         word: false,
         centre: false,
     };
@@ -75,19 +85,19 @@ impl Before {
         ensures { result ≡ through self part }
     {
         Before {
-            styles: part.styles,
-            word: self.word || part.word,
+            style: part.style,
+            word: true,
             ..self
         }
     }
 }
 
-/// Returns the styled part that `bytes` begin with: a run within the tags of a style that is not
-/// one of the styles `last`.
-fn styled_part(bytes: &[u8], last: Styles) -> Option<Part>
+/// Returns the styled part that `bytes` begin with: a run within the tags of a style other than
+/// `last`.
+fn styled_part(bytes: &[u8], last: Option<Style>) -> Option<Part>
     ensures within { IfSome result (λ p. (0 < p.len) × (p.len ≤ length bytes.now)) }
-    ensures part { IfSome result (λ p. IsPart p.styles p.word (take p.len bytes.now)) }
-    ensures apart { IfSome result (λ p. AreApart (listed_styles last) (listed_styles p.styles)) }
+    ensures part { IfSome result (λ p. IsPart p.style (take p.len bytes.now)) }
+    ensures apart { IfSome result (λ p. AreApart (in_style last) (in_style p.style)) }
 {
     if bytes.len() < 2 || bytes[0] != b'<' {
         return None;
@@ -95,58 +105,12 @@ fn styled_part(bytes: &[u8], last: Styles) -> Option<Part>
     let style = style_by(bytes[1]);
     let (opening, closing) = tags_of(style);
     let len = enclosed_len(bytes, opening.as_bytes(), closing.as_bytes());
-    if len == 0 || last.has(style) {
+    if len == 0 || is_style(last, style) {
         return None;
     }
     Some(Part {
         len,
-        styles: Styles::NONE.with(style, true),
-        word: true,
-    })
-}
-
-/// Returns the span mark that has these bytes after its `<`, if there is one.
-fn mark_by(second: u8, third: u8) -> Option<&'static str>
-    ensures { IfSome result (λ mark. IsMark mark.now) }
-{
-    match (second, third) {
-        (b'e', b'u') => Some("<eu>"),
-        (b'/', b'e') => Some("</eu>"),
-        (b'n', b'l') => Some("<nlba>"),
-        (b'/', b'n') => Some("</nlba>"),
-        _ => None,
-    }
-}
-
-/// Returns how many bytes the span mark has that `bytes` begin with; 0, if they begin with none.
-fn mark_len(bytes: &[u8]) -> usize
-    ensures within { result ≤ length bytes.now }
-    ensures part { 0 < result → IsPart no_styles false (take result bytes.now) }
-{
-    if bytes.len() < 3 {
-        return 0;
-    }
-    match mark_by(bytes[1], bytes[2]) {
-        Some(mark) if bytes.starts_with(mark.as_bytes()) => mark.len(),
-        _ => 0,
-    }
-}
-
-/// Returns the part in tags that `bytes` begin with, where the piece before has the styles `last`:
-/// a span mark or a styled part.
-fn tagged_part(bytes: &[u8], last: Styles) -> Option<Part>
-    ensures within { IfSome result (λ p. (0 < p.len) × (p.len ≤ length bytes.now)) }
-    ensures part { IfSome result (λ p. IsPart p.styles p.word (take p.len bytes.now)) }
-    ensures apart { IfSome result (λ p. AreApart (listed_styles last) (listed_styles p.styles)) }
-{
-    let len = mark_len(bytes);
-    if len == 0 {
-        return styled_part(bytes, last);
-    }
-    Some(Part {
-        len,
-        styles: Styles::NONE,
-        word: false,
+        style: Some(style),
     })
 }
 
@@ -164,25 +128,21 @@ fn begins_no_raw(bytes: &[u8]) -> bool
     }
 }
 
-/// Returns the part that `bytes` begin with, where the piece before has the styles `last`.
-fn next_part(bytes: &[u8], last: Styles) -> Option<Part>
+/// Returns the part that `bytes` begin with, where the piece before has the style `last`.
+fn next_part(bytes: &[u8], last: Option<Style>) -> Option<Part>
     ensures within { IfSome result (λ p. (0 < p.len) × (p.len ≤ length bytes.now)) }
-    ensures part { IfSome result (λ p. IsPart p.styles p.word (take p.len bytes.now)) }
-    ensures apart { IfSome result (λ p. AreApart (listed_styles last) (listed_styles p.styles)) }
+    ensures part { IfSome result (λ p. IsPart p.style (take p.len bytes.now)) }
+    ensures apart { IfSome result (λ p. AreApart (in_style last) (in_style p.style)) }
     ensures stops { result ≡ None → 0 < length bytes.now → has_letter_at bytes.now 0 ≡ false }
 {
     if begins_no_raw(bytes) {
-        return tagged_part(bytes, last);
+        return styled_part(bytes, last);
     }
     let len = run_len(bytes);
     if len == 0 {
-        return tagged_part(bytes, last);
+        return styled_part(bytes, last);
     }
-    Some(Part {
-        len,
-        styles: Styles::NONE,
-        word: true,
-    })
+    Some(Part { len, style: None })
 }
 
 /// What a text goes on with.
@@ -198,13 +158,14 @@ struct Step {
 fn step_after_blank(bytes: &[u8], end: usize, before: Before) -> Option<Step>
     requires { end < length bytes.now }
     ensures within { IfSome result (λ s. (0 < s.len) × (end + s.len ≤ length bytes.now)) }
-    ensures goes_on { IfSome result (λ s. IsBegun before (take end bytes.now) →
-        IsBegun s.before (take (end + s.len) bytes.now)) }
+    ensures goes_on { IfSome result (λ s. (mark : Option SpanMark) →
+        IsBegun mark before (take end bytes.now) →
+        IsBegun mark s.before (take (end + s.len) bytes.now)) }
 {
     if !before.word || bytes[end] != b' ' {
         return None;
     }
-    let part = next_part(&bytes[end + 1..], Styles::NONE)?;
+    let part = next_part(&bytes[end + 1..], None)?;
     Some(Step {
         len: part.len + 1,
         before: before.through(part),
@@ -216,8 +177,9 @@ fn step_after_blank(bytes: &[u8], end: usize, before: Before) -> Option<Step>
 fn centre_step(bytes: &[u8], end: usize, before: Before) -> Option<Step>
     requires { end < length bytes.now }
     ensures within { IfSome result (λ s. (0 < s.len) × (end + s.len ≤ length bytes.now)) }
-    ensures goes_on { IfSome result (λ s. IsBegun before (take end bytes.now) →
-        IsBegun s.before (take (end + s.len) bytes.now)) }
+    ensures goes_on { IfSome result (λ s. (mark : Option SpanMark) →
+        IsBegun mark before (take end bytes.now) →
+        IsBegun mark s.before (take (end + s.len) bytes.now)) }
 {
     let len = enclosed_len(&bytes[end..], b"{", b"}");
     if len == 0 || before.centre {
@@ -226,7 +188,7 @@ fn centre_step(bytes: &[u8], end: usize, before: Before) -> Option<Step>
     Some(Step {
         len,
         before: Before {
-            styles: Styles::NONE,
+            style: None,
             word: true,
             centre: true,
         },
@@ -237,11 +199,12 @@ fn centre_step(bytes: &[u8], end: usize, before: Before) -> Option<Step>
 fn next_step(bytes: &[u8], end: usize, before: Before) -> Option<Step>
     requires { end < length bytes.now }
     ensures within { IfSome result (λ s. (0 < s.len) × (end + s.len ≤ length bytes.now)) }
-    ensures goes_on { IfSome result (λ s. IsBegun before (take end bytes.now) →
-        IsBegun s.before (take (end + s.len) bytes.now)) }
+    ensures goes_on { IfSome result (λ s. (mark : Option SpanMark) →
+        IsBegun mark before (take end bytes.now) →
+        IsBegun mark s.before (take (end + s.len) bytes.now)) }
     ensures stops { result ≡ None → has_letter_at bytes.now end ≡ false }
 {
-    match next_part(&bytes[end..], before.styles) {
+    match next_part(&bytes[end..], before.style) {
         Some(part) => Some(Step {
             len: part.len,
             before: before.through(part),
@@ -251,13 +214,27 @@ fn next_step(bytes: &[u8], end: usize, before: Before) -> Option<Step>
     }
 }
 
+/// Returns how many bytes the span mark has that `bytes` begin with; 0, if they begin with none.
+fn mark_len(bytes: &[u8]) -> usize
+    ensures within { result ≤ length bytes.now }
+    ensures len { result ≡ mark_length (mark_at bytes.now) }
+    ensures begun { IsBegun (mark_at bytes.now) nothing_before (take result bytes.now) }
+{
+    match mark_at(bytes) {
+        Some(mark) => mark.tag().len(),
+        None => 0,
+    }
+}
+
 /// Returns how many of the first of `bytes` are a regular text without a translation.
 fn untranslated_len(bytes: &[u8]) -> usize
     ensures within { result ≤ length bytes.now }
-    ensures begun { (before : Before) × IsBegun before (take result bytes.now) }
+    ensures mark { mark_length (mark_at bytes.now) ≤ result }
+    ensures begun { (before : Before) ×
+        IsBegun (mark_at bytes.now) before (take result bytes.now) }
     ensures stops { result < length bytes.now → has_letter_at bytes.now result ≡ false }
 {
-    let mut end = 0;
+    let mut end = mark_len(bytes);
     let mut before = Before::NOTHING;
     while end < bytes.len() && bytes[end] != b'(' {
         match next_step(bytes, end, before) {
@@ -295,6 +272,8 @@ fn any_text_len(bytes: &[u8]) -> usize
     ensures within { result ≤ length bytes.now }
     ensures text { IsText (take result bytes.now) }
     ensures regular { IsRegularText (chars (take result bytes.now)) }
+    ensures mark { span_tags (chars (take result bytes.now))
+        ≡ tags_of (mark_at (take result bytes.now)) }
     ensures stops { result < length bytes.now → has_letter_at bytes.now result ≡ false }
 {
     let end = untranslated_len(bytes);
@@ -304,15 +283,17 @@ fn any_text_len(bytes: &[u8]) -> usize
 /// Returns how many of the first of `bytes` are a text that is printed as it stands before a `(`,
 /// that begins no word, and in which nothing is found
 /// (`laws::a_regular_text_is_printed_as_it_stands`). They are whole characters, without CR and
-/// U+FEFF, and no letter of ASCII, of two bytes, or from U+1000 to U+CFFF comes next. That it goes
-/// further is not promised: it takes letters and raw parts, with single blanks between them, some
-/// of them within the tags of a style, some in one centre; span marks; and a translation, if a `(`
-/// follows.
+/// U+FEFF, no span mark stands in them but one with which they begin, and no letter of ASCII, of
+/// two bytes, or from U+1000 to U+CFFF comes next. That it goes further is not promised: it takes
+/// letters and raw parts, with single blanks between them, some of them within the tags of a style,
+/// some in one centre, after a span mark; and a translation, if a `(` follows.
 #[inline(always)]
 pub fn regular_text(bytes: &[u8]) -> usize
     ensures within { result ≤ length bytes.now }
     ensures text { IsText (take result bytes.now) }
     ensures regular { IsRegularText (chars (take result bytes.now)) }
+    ensures mark { span_tags (chars (take result bytes.now))
+        ≡ tags_of (mark_at (take result bytes.now)) }
     ensures stops { result < length bytes.now → has_letter_at bytes.now result ≡ false }
 {
     let letters = letters_len(bytes);

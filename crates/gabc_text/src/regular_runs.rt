@@ -1,6 +1,6 @@
 //! Bytes of letters, raw parts and runs of these, for `regular.rt`.
 
-ghost use Rattle.std.specs.Prelude.{◌≡◌, ◌+◌, ◌≤◌, ◌<◌, ◌==◌, ◌&&◌, length, take, slice_index, true, false};
+ghost use Rattle.std.specs.Prelude.{◌≡◌, ◌≢◌, ◌+◌, ◌≤◌, ◌<◌, ◌==◌, ◌&&◌, length, take, slice_index, true, false};
 ghost use Rattle.gabc_text.specs.ExampleTexts.{beginning_of};
 ghost use Rattle.gabc_text.specs.Token.{ending_of, is_special};
 ghost use Rattle.gabc_text.specs.RegularText.{is_letter_byte, is_continuation, is_first_of_two, is_first_of_three, has_letter_at};
@@ -81,6 +81,7 @@ fn letter_len(bytes: &[u8]) -> usize
     ensures within { result ≤ length bytes.now }
     ensures letter { 0 < result → IsWord (take result bytes.now) }
     ensures none { result ≡ 0 → has_letter_at bytes.now 0 ≡ false }
+    ensures no_tag { 0 < result → slice_index bytes.now 0 ≢ 60 }
 {
     let first = byte_at(bytes, 0);
     if is_letter_byte(first) {
@@ -247,6 +248,7 @@ fn more_of_run(bytes: &[u8], end: usize) -> usize
 pub(crate) fn letters_len(bytes: &[u8]) -> usize
     ensures within { result ≤ length bytes.now }
     ensures run { IsRun (take result bytes.now) }
+    ensures no_tag { 0 < result → slice_index bytes.now 0 ≢ 60 }
 {
     let mut end = 0;
     while end < bytes.len() {

@@ -28,7 +28,7 @@ use Rattle.gabc_score.specs.Before.{with_one, with_each}
 use Rattle.gabc_score.specs.Events.{is_close, is_next}
 use Rattle.gabc_score.specs.SpansPast.{open_past, FollowsSpans}
 use Rattle.gabc_score.specs.Syllable.{UnplacedSyllable, closes}
-use Rattle.gabc_score.specs.SyllablesOfUnits.{span_tags}
+use Rattle.gabc_text.specs.ViewFacts.{span_tags}
 use Rattle.gabc_score.specs.UnitRead.{HoldsSomeUnit}
 use Rattle.gabc_score.specs.machine.BodyBuilder.{with_all}
 use Rattle.gabc_score.specs.machine.Gatherer.{Gathered, with_event}

@@ -11,7 +11,7 @@ use Rattle.gabc_text.specs.Events.{codes_of}
 use Rattle.gabc_text.specs.TextRead.{view_in}
 use Rattle.gabc_text.specs.TextView.{ViewContent}
 use Rattle.gabc_text.specs.View.{kept}
-use Rattle.gabc_text.specs.ViewFacts.{StandsForView}
+use Rattle.gabc_text.specs.ViewFacts.{StandsForView, span_tags}
 use Rattle.gabc_text.specs.declared.text_event.TextEnd.TheVariants as text_end
 use Rattle.gabc_text.specs.declared.text_event.TextEvent.{TextEvent}
 use Rattle.gabc_text.specs.declared.text_event.TextEvent.TheVariants as text
@@ -26,7 +26,6 @@ use Rattle.gabc_score.specs.declared.snippets.Snippet.{Snippet}
 use Rattle.gabc_score.specs.Events.{next_line}
 use Rattle.gabc_score.specs.Holding.{ReadSnippet, IsSnippetOf, bracket_with, in_brackets, HoldsNotes}
 use Rattle.gabc_score.specs.SpansPast.{open_past}
-use Rattle.gabc_score.specs.SyllablesOfUnits.{span_tags}
 use Rattle.gabc_score.specs.UnitRead.{HoldsSomeUnit}
 use Rattle.gabc_score.specs.machine.BodyBuilder.{with_all}
 use Rattle.gabc_score.specs.machine.Gatherer.{Gathered, with_event}

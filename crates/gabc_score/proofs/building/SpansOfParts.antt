@@ -15,7 +15,7 @@ use Rattle.gabc_score.specs.declared.events.BodyEvent.TheVariants.{Text, Notes}
 use Rattle.gabc_score.specs.Body.{events_onto}
 use Rattle.gabc_score.specs.Events.{next_line}
 use Rattle.gabc_score.specs.Syllable.{all_syllables, since_close, part_of, ended_parts_of, slice, is_open, is_open_after}
-use Rattle.gabc_score.specs.SyllablesOfUnits.{span_tags}
+use Rattle.gabc_text.specs.ViewFacts.{span_tags}
 use Rattle.gabc_score.specs.machine.BodyBuilder.{with_all}
 use Rattle.gabc_score.specs.machine.PartKeeps.{in_notes, line_behind, kept_char, text_events, snippet_events, ended_events, earlier_events, events_before, said_by, begun}
 use Rattle.gabc_score.proofs.building.BuilderHoldsDefinition.{gathered}

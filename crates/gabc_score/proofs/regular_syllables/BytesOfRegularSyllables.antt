@@ -5,33 +5,23 @@ use Rattle.std.specs.Str.{chars, IsAscii, IsCharBoundary}
 use Rattle.std.specs.String.Boundary.{IsSplitPoint}
 use Rattle.std.proofs.Math.Seq.{take-add}
 use Rattle.std.proofs.lemmas.List.{take_more, take_rest, drop_at, drop-take, get_or-drop, length-take-le}
-use Rattle.std.proofs.lemmas.List.Elements.{All-append, All-head, All-tail, All-cons, All-nil, All-more}
+use Rattle.std.proofs.lemmas.List.Elements.{All-append, All-drop, All-head, All-tail, All-cons, All-nil, All-more}
 use Rattle.std.proofs.lemmas.Str.{IsUtf8-append, IsUtf8-take, IsUtf8-drop, IsUtf8-nil, IsUtf8-from_ascii, IsCharBoundary-from_take, IsCharBoundary-start, chars-append, chars-IsAscii, chars-nil, encodes-chars, encodes-append, encodes-IsAscii}
 use lib.Utf8.{encode}
 use Rattle.gabc_places.specs.TextOfAnInput.{IsPlain, IsText}
-use Rattle.gabc_text.specs.RegularText.{IsRegularText}
-use Rattle.gabc_score.specs.declared.regular.SpanMark.{SpanMark}
+use Rattle.gabc_text.specs.RegularText.{IsRegularText, mark_at, tags_of}
+use Rattle.gabc_text.specs.ViewFacts.{span_tags}
 use Rattle.gabc_score.specs.Events.{next_line}
 use Rattle.gabc_score.specs.RegularSyllable.{SyllableParts, IsRegularOn, AreRegularFrom, spelled, notes_spelled, gap_kept}
-use Rattle.gabc_score.specs.machine.RegularLen.{begins_other, mark_at, BeginsWithTag, IsMarked, IsPlainByte, with_bars_after, SnippetsBefore, BeginsWithSnippets, BeginsRegularly, IsPlainGap}
+use Rattle.gabc_score.specs.machine.RegularLen.{IsPlainByte, with_bars_after, SnippetsBefore, BeginsWithSnippets, BeginsRegularly, IsPlainGap}
+use Rattle.gabc_text.proofs.RegularRawParts.{mark_before_notes}
 use Rattle.gabc_score.proofs.regular_syllables.RegularSyllableIsMade.{one_byte}
-use Rattle.gabc_score.proofs.regular_syllables.MarkedSyllables.{blank_only, blank_unmarked}
-use Rattle.gabc_score.proofs.regular_syllables.TagsOfTexts.{text_tagged}
 
 ascii_one : (c : ℕ) → c < 128 → (i : ℕ) → get_or (c ∷ []) i 0 < 128
 ascii_one c less zero = less
 ascii_one c less (suc i) = omega arith
 
 -- ---- plain bytes
-
-pub more_plain : (l : List ℕ) (n : ℕ) → n < length l → All IsPlainByte (take n l) → IsPlainByte (get_or (take (length l - n) (drop n l)) 0 0) → All IsPlainByte (take (n + 1) l)
-more_plain l n less h p =
-    let same : n + 0 ≡ n = omega arith in
-    All-more IsPlainByte l n 0 less h (subst IsPlainByte (ap (λ (t : List ℕ). get_or t 0 0) (take_rest l n) ∙ (get_or-drop n l 0 0 ∙ ap (λ (k : ℕ). get_or l k 0) same)) p)
-
-pub more_only : (x : SpanMark) (l : List ℕ) (n : ℕ) → ((k : ℕ) → k < n → begins_other x (drop k l) ≡ false) → begins_other x (take (length l - n) (drop n l)) ≡ false
-    → (k : ℕ) → k < n + 1 → begins_other x (drop k l) ≡ false
-more_only x l n h e = below_more (λ (k : ℕ). begins_other x (drop k l) ≡ false) n h (ap (begins_other x) (sym (take_rest l n)) ∙ e)
 
 -- of bytes without a CR and without the first byte of U+FEFF the characters are plain
 plain_spelled : (t : List ℕ) → All IsPlainByte (encode_utf8_all t) → All IsPlain t
@@ -149,7 +139,7 @@ module _ (lines : ℕ) (text : List ℕ) (n line k : ℕ) (utf8 : IsUtf8 text) (
 -- ---- the syllable
 
 -- A gap, a regular text, a `(` and snippets are a regular syllable of these bytes, where the bytes
--- after the gap are plain and no span mark stands among them but one with which they begin.
+-- after the gap are plain.
 module _ (lines : ℕ) (text : List ℕ) (gap k : ℕ) (utf8 : IsUtf8 text) (within : gap ≤ length text) (blanks : IsPlainGap (take gap text))
     (word : IsText (take k (drop gap text))) (regular : IsRegularText (chars (take k (drop gap text))))
     (less : gap + k < length text) (at : get_or text (gap + k) 0 ≡ 40) where
@@ -205,26 +195,14 @@ module _ (lines : ℕ) (text : List ℕ) (gap k : ℕ) (utf8 : IsUtf8 text) (wit
     rest_are : drop gap (take (gap + k + 1 + m) text) ≡ encode_utf8_all rest
     rest_are = ap (drop gap) bytes_are ∙ drop_at (take gap text) (encode_utf8_all rest) gap (length-take-le gap text within)
 
-    slice_is : take (gap + k + 1 + m - gap) (drop gap text) ≡ encode_utf8_all rest
-    slice_is =
-        let same : gap + (gap + k + 1 + m - gap) ≡ gap + k + 1 + m = omega arith in
-        sym (drop-take gap (gap + k + 1 + m - gap) text) ∙ (ap (λ (n : ℕ). drop gap (take n text)) same ∙ rest_are)
-
-    -- a blank before them is no mark
-    kept_marked : (o : Option SpanMark) (gap : List ℕ) → IsMarked o (encode_utf8_all rest) → IsMarked o (encode_utf8_all ((gap_kept gap ++ made.text) ++ 40 ∷ notes_spelled notes.nexts notes.final))
-    unfolding encode
-    kept_marked o [] h = h
-    kept_marked None (c ∷ gap) h = blank_unmarked (encode_utf8_all rest) h
-    kept_marked (Some x) (c ∷ gap) h = blank_only x (encode_utf8_all rest) h
-
     word_is : encode_utf8_all rest ≡ take k (drop gap text) ++ 40 ∷ encode_utf8_all (notes_spelled notes.nexts notes.final)
     word_is =
         encodes-append made.text (40 ∷ notes_spelled notes.nexts notes.final)
         ∙ ap₂ (λ (a b : List ℕ). a ++ b) (encodes-chars (take k (drop gap text)) word.utf8) (one_byte 40 (notes_spelled notes.nexts notes.final) (omega arith))
 
-    pub syllable_here : All IsPlainByte (take (gap + k + 1 + m - gap) (drop gap text)) → (let slice = take (gap + k + 1 + m - gap) (drop gap text) in IsMarked (mark_at slice) slice)
+    pub syllable_here : All IsPlainByte (take (gap + k + 1 + m) text) → span_tags made.text ≡ tags_of (mark_at (take k (drop gap text)))
         → BeginsRegularly lines text (record { gap = gap; opening = gap + k; len = gap + k + 1 + m })
-    syllable_here plain marked = record {
+    syllable_here plain mark = record {
       syllable = made;
       is_regular = record { blanks = blanks.is; text = regular; notes = notes.regular; single = notes.single };
       some = omega arith;
@@ -233,13 +211,11 @@ module _ (lines : ℕ) (text : List ℕ) (gap k : ℕ) (utf8 : IsUtf8 text) (wit
       is_text = record {
         utf8 = all_utf8;
         plain = subst (All IsPlain) (sym (all_chars ∙ spelled_is))
-            (All-append IsPlain (take gap text) rest (blanks.plain) (plain_spelled rest (subst (All IsPlainByte) slice_is plain)));
+            (All-append IsPlain (take gap text) rest (blanks.plain) (plain_spelled rest (subst (All IsPlainByte) rest_are (All-drop IsPlainByte gap (take (gap + k + 1 + m) text) plain))));
       };
       characters_are = all_chars;
       gap_is = sym (length-take-le gap text within);
       opening_is = (let e = ap (λ (l : List ℕ). length l) (encodes-chars (take k (drop gap text)) word.utf8) in let n = length-take-le k (drop gap text) (let l = length-drop gap text in omega (arith, l, less)) in omega (arith, e, n));
       rest_is = rest_are;
-      tagged = subst (λ (b : List ℕ). BeginsWithTag (mark_at b) made.text) (sym (rest_are ∙ word_is)) (text_tagged (take k (drop gap text)) (encode_utf8_all (notes_spelled notes.nexts notes.final)));
-      marked = subst (λ (b : List ℕ). IsMarked (mark_at b) (encode_utf8_all ((gap_kept (take gap text) ++ made.text) ++ 40 ∷ notes_spelled notes.nexts notes.final))) (sym rest_are)
-          (kept_marked (mark_at (encode_utf8_all rest)) (take gap text) (subst (λ (b : List ℕ). IsMarked (mark_at b) b) slice_is marked));
+      mark_is = mark ∙ ap tags_of (sym (ap mark_at (rest_are ∙ word_is) ∙ mark_before_notes (take k (drop gap text)) (encode_utf8_all (notes_spelled notes.nexts notes.final))));
     }

@@ -14,9 +14,7 @@ use Rattle.gabc_headers.specs.declared.head_event.HeadEvent.{HeadEvent}
 use Rattle.gabc_text.specs.Events.{CountsFit, codes_of}
 use Rattle.gabc_text.specs.RegularText.{IsRegularText, is_gap}
 use Rattle.gabc_text.specs.View.{kept}
-use Rattle.gabc_text.specs.ViewFacts.{ViewFacts, view_facts}
-use Rattle.gabc_score.specs.SyllablesOfUnits.{span_tags}
-use Rattle.gabc_score.proofs.syllables_of_units.LastTagOpensTheSpan.{tags_of}
+use Rattle.gabc_text.specs.ViewFacts.{ViewFacts, view_facts, span_tags, tags_among}
 use Rattle.gabc_text.proofs.KeptCharacters.{codes_placed}
 use Rattle.gabc_score.specs.declared.before.Spans.{Spans}
 use Rattle.gabc_score.specs.declared.events.BodyEvent.{BodyEvent}
@@ -53,7 +51,7 @@ use Rattle.gabc_score.proofs.resuming.OpenSpans.{opened, leaves_open, none_cut}
 
 -- the span marks among what a text says
 abbrev tags_said : ViewFacts → List (List ℕ)
-tags_said v = tags_of v.pieces
+tags_said v = tags_among v.pieces
 
 module _ (lines macros : ℕ) (at : Place) (r : SyllableParts) (regular : IsRegularSyllable lines r) (fits : CountsFit at (spelled r)) where
   abbrev us : List Char

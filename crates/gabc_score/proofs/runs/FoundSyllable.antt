@@ -5,29 +5,27 @@ use Rattle.std.specs.List.{All}
 use Rattle.std.specs.Str.{IsUtf8, chars}
 use Rattle.std.proofs.Math.Seq.{take-append_seam}
 use Rattle.std.proofs.lemmas.Str.{encodes-chars}
+use Rattle.gabc_text.specs.RegularText.{mark_at, tags_of}
 use Rattle.gabc_notes.specs.declared.item.ItemKind.{ItemKind}
 use Rattle.gabc_places.specs.TextOfAnInput.{IsPlain}
 use Rattle.gabc_places.specs.declared.limits.Limits.{Limits}
 use Rattle.gabc_score.specs.declared.before.Spans.{Spans}
-use Rattle.gabc_score.specs.declared.regular.SpanMark.{SpanMark}
 use Rattle.gabc_score.specs.declared.run.Found.{Found}
 use Rattle.gabc_score.specs.SpansPast.{eu_past, nlba_past}
-use Rattle.gabc_score.specs.SyllablesOfUnits.{span_tags}
 use Rattle.gabc_score.specs.declared.snippets.Snippet.{Snippet}
 use Rattle.gabc_score.specs.Before.{sounds, sounds_in, sounds_on}
 use Rattle.gabc_score.specs.Body.{is_longer}
 use Rattle.gabc_score.specs.Canonical.{canonical, canonical_in_place, position_by, starts_word}
 use Rattle.gabc_score.specs.GivesSyllables.{spelled_canonical}
-use Rattle.gabc_score.specs.RegularSyllable.{SyllableParts, spelled, notes_spelled, canonical_spelled, kept_spelled, has_gap, line_and_text, snippet_texts}
+use Rattle.gabc_score.specs.RegularSyllable.{SyllableParts, spelled, notes_spelled, canonical_spelled, has_gap, line_and_text, snippet_texts}
 use Rattle.gabc_score.specs.Syllable.{UnplacedSyllable}
 use Rattle.gabc_score.specs.machine.Between.{IsMadeOf, SoundsNoMore, with_one as gathered_with}
 use Rattle.gabc_score.specs.machine.Gatherer.{Gathered}
-use Rattle.gabc_score.specs.machine.RegularLen.{BeginsWithTag, HasOnly, IsMarked, IsUnmarked, mark_at, past_mark}
+use Rattle.gabc_score.specs.machine.RegularLen.{past_mark}
 use Rattle.gabc_score.specs.machine.Run.{IsFound, IsSteady, SpellsFound, canonical_length, mark_of, sounds_among}
 use Rattle.gabc_score.specs.machine.ScoreMachine.{IsShort}
 use Rattle.gabc_score.specs.machine.SyllableBuilder.{OpenSyllable, nothing_open}
-use Rattle.gabc_score.proofs.regular_syllables.MarkedSyllables.{gap_starts, marked_past, unmarked_past}
-use Rattle.gabc_score.proofs.regular_syllables.TagsOfTexts.{mark_first}
+use Rattle.gabc_score.proofs.regular_syllables.MarkedSyllables.{gap_starts, spans_past}
 
 -- ---- what was gathered
 
@@ -165,15 +163,8 @@ module _ (f : Found) (lines total : ℕ) (limits : Limits) (found : IsFound line
     sounds_no_more first steady = subst (SoundsNoMore (is_some first)) (sym (sounds_as m ∙ ap sounds_among made.snippets_are)) steady
 
     -- which spans are open after it its mark says
-    spans_by : (o : Option SpanMark) → BeginsWithTag o parts.text → IsMarked o (encode_utf8_all (kept_spelled parts)) → (eu_past m spans.eu ≡ (past_mark o spans).eu) × (nlba_past m spans.nlba ≡ (past_mark o spans).nlba)
-    spans_by None tagged none = unmarked_past lines made.unit.unit m made.unit.holds spans (subst IsUnmarked (sym made.kept) none)
-    spans_by (Some x) tagged only =
-        marked_past lines made.unit.unit m made.unit.holds spans x (span_tags tagged.0) (made.tags ∙ ap span_tags tagged.1 ∙ mark_first x tagged.0) (subst (HasOnly x) (sym made.kept) only)
-
     spans_after : (eu_past m spans.eu ≡ (past_mark (mark_of f) spans).eu) × (nlba_past m spans.nlba ≡ (past_mark (mark_of f) spans).nlba)
-    spans_after =
-        spans_by (mark_of f) (subst (λ (b : List ℕ). BeginsWithTag (mark_at (drop f.gap b)) parts.text) front_is found.is.tagged)
-        (subst (λ (b : List ℕ). IsMarked (mark_at (drop f.gap b)) (encode_utf8_all (kept_spelled parts))) front_is found.is.marked)
+    spans_after = spans_past lines made.unit.unit m made.unit.holds spans (mark_of f) (made.tags ∙ found.is.mark_is ∙ ap (λ (b : List ℕ). tags_of (mark_at (drop f.gap b))) front_is)
 
     pub eu_after : m.eu ≡ (past_mark (mark_of f) spans).eu
     eu_after = made.follows.eu ∙ spans_after.0

@@ -18,7 +18,7 @@ use Rattle.gabc_headers.specs.Heads.{heads_of}
 use Rattle.gabc_text.specs.BuiltText.{with_events, empty_text, text_built_at}
 use Rattle.gabc_text.specs.Ends.{EndsOnce}
 use Rattle.gabc_text.specs.Events.{codes_of, events_of, events_by_point}
-use Rattle.gabc_text.specs.ViewFacts.{StandsForView}
+use Rattle.gabc_text.specs.ViewFacts.{StandsForView, span_tags}
 use Rattle.gabc_text.specs.View.{kept}
 use Rattle.gabc_text.specs.TextRead.{view_in}
 use Rattle.gabc_score.specs.declared.events.BodyEvent.{BodyEvent}
@@ -30,7 +30,7 @@ use Rattle.gabc_score.specs.Events.{InComment, body_events, text_from, texts_by_
 use Rattle.gabc_score.specs.Stops.{events_in_points, StopsAt, NeverStops}
 use Rattle.gabc_score.specs.Syllable.{UnplacedSyllable, all_syllables}
 use Rattle.gabc_score.specs.Units.{BodyUnit, LastUnit, Units, BodyCutting, whole, last_pieces, units_pieces, last_characters, events_of_cutting, cutting_of, Cuts, IsCutFrom, IsCut, events_of_parts}
-use Rattle.gabc_score.specs.SyllablesOfUnits.{span_tags, characters_in, ScoreUnit, closed_units, count_within, units_within, AreSyllablesOf, body_characters, IsBodyCut, AreBeforeStop, AreBeforeBodyStop}
+use Rattle.gabc_score.specs.SyllablesOfUnits.{characters_in, ScoreUnit, closed_units, count_within, units_within, AreSyllablesOf, body_characters, IsBodyCut, AreBeforeStop, AreBeforeBodyStop}
 use Rattle.gabc_score.proofs.score_events.PlainScores.{plain_by, plain_of}
 use Rattle.gabc_score.proofs.texts_of_body.SeamsOfCharacters.{size}
 use Rattle.gabc_score.proofs.building.EventsOfSyllableParts.{onto_append}

@@ -26,51 +26,44 @@ use Rattle.gabc_text.specs.declared.text_event.TextEvent.{TextEvent}
 use Rattle.gabc_text.specs.declared.text_event.TextEvent.TheVariants as text
 use Rattle.gabc_text.specs.Token.{Token, spelling, tokens}
 use Rattle.gabc_text.specs.View.{PieceFacts, along, effect, piece_kind, kind_of, piece_of, pieces_at, open_styles, is_blank_piece, is_space, is_left_out, follows_space, follows_blank, has_word, starts_word, has_translation, kept_at, place_of, early_codes, late_codes, findings_at_end}
-use Rattle.gabc_text.specs.ViewFacts.{but_blank}
+use Rattle.gabc_text.specs.ViewFacts.{but_blank, span_tags, is_mark, tags_among}
 use Rattle.gabc_text.specs.Events.{kept_of as kept_before, piece_at, waiting_by, waiting_blank, is_blank_at, option_list_of, is_whole_translation, translation_at, parts_by, parts_at, chars_at, finding_events, early_events, events_at, end_events, centre_of, end_after, after_tokens, events_of, codes_of}
 use Rattle.gabc_score.specs.declared.events.BodyEvent.{BodyEvent}
 use Rattle.gabc_score.specs.declared.events.BodyEvent.TheVariants as event
-use Rattle.gabc_score.specs.Syllable.{since_close, kept_of, ended_parts_of, part_of, slice, is_mark, is_open_after, is_open}
+use Rattle.gabc_score.specs.Syllable.{since_close, kept_of, ended_parts_of, part_of, slice, is_open_after, is_open}
 use Rattle.gabc_score.specs.Body.{events_onto}
-use Rattle.gabc_score.specs.SyllablesOfUnits.{span_tags, IsLeftOpen}
+use Rattle.gabc_score.specs.SyllablesOfUnits.{IsLeftOpen}
 use Rattle.gabc_score.specs.machine.PartKeeps.{text_events}
+use Rattle.gabc_text.proofs.printing.PrintedPiecesAreJoined.{tags_join}
 use Rattle.gabc_score.proofs.building.EventsOfSyllableParts.{onto_append}
 use Rattle.gabc_score.proofs.holding.SnippetsAreHeld.{bytes_stand}
 use Rattle.gabc_score.proofs.building.PartsOfKeptText.{out_parts}
 
 -- ---- tags
 
-abbrev pub tags_of : List PieceFacts → List (List ℕ)
-tags_of ps = map (λ (p : PieceFacts). p.text) (filter (λ (p : PieceFacts). is_mark p.kind) ps)
-
-pub tags_append : (ps qs : List PieceFacts) → tags_of (ps ++ qs) ≡ tags_of ps ++ tags_of qs
-tags_append ps qs =
-    ap (map (λ (p : PieceFacts). p.text)) (filter-append (λ (p : PieceFacts). is_mark p.kind) ps qs)
-    ∙ map-append (λ (p : PieceFacts). p.text) (filter (λ (p : PieceFacts). is_mark p.kind) ps) (filter (λ (p : PieceFacts). is_mark p.kind) qs)
-
 -- a piece before others
-tags_one : (p : PieceFacts) (ps : List PieceFacts) → tags_of (p ∷ ps) ≡ tags_of (p ∷ []) ++ tags_of ps
-tags_one p ps = tags_append (p ∷ []) ps
+tags_one : (p : PieceFacts) (ps : List PieceFacts) → tags_among (p ∷ ps) ≡ tags_among (p ∷ []) ++ tags_among ps
+tags_one p ps = tags_join (p ∷ []) ps
 
-blank_has_none : (p : PieceFacts) → is_blank_piece p.kind ≡ true → tags_of (p ∷ []) ≡ []
+blank_has_none : (p : PieceFacts) → is_blank_piece p.kind ≡ true → tags_among (p ∷ []) ≡ []
 blank_has_none p h = by p.kind h
   where
-    by : (kind : PieceKind) → is_blank_piece kind ≡ true → tags_of (record p { kind = kind } ∷ []) ≡ []
+    by : (kind : PieceKind) → is_blank_piece kind ≡ true → tags_among (record p { kind = kind } ∷ []) ≡ []
     by piece.Char e = refl
     by piece.Blank e = refl
     by piece.Raw e = refl
     by piece.Tag e = refl
     by piece.Mark e = absurd (cc)
 
-pub tags_but_blank : (ps : List PieceFacts) → tags_of (but_blank ps) ≡ tags_of ps
+pub tags_but_blank : (ps : List PieceFacts) → tags_among (but_blank ps) ≡ tags_among ps
 tags_but_blank [] = refl
 tags_but_blank (p ∷ []) = by (is_blank_piece p.kind) refl
   where
-    by : (b : Bool) → is_blank_piece p.kind ≡ b → tags_of (cond b [] (p ∷ [])) ≡ tags_of (p ∷ [])
+    by : (b : Bool) → is_blank_piece p.kind ≡ b → tags_among (cond b [] (p ∷ [])) ≡ tags_among (p ∷ [])
     by true e = sym (blank_has_none p e)
     by false e = refl
 tags_but_blank (p ∷ q ∷ ps) =
-    tags_one p (but_blank (q ∷ ps)) ∙ ap (λ ts. tags_of (p ∷ []) ++ ts) (tags_but_blank (q ∷ ps)) ∙ sym (tags_one p (q ∷ ps))
+    tags_one p (but_blank (q ∷ ps)) ∙ ap (λ ts. tags_among (p ∷ []) ++ ts) (tags_but_blank (q ∷ ps)) ∙ sym (tags_one p (q ∷ ps))
 
 module _ (opening closing : List ℕ) where
   -- a span is open after a tag, and after tags, if it was open or not
@@ -176,7 +169,7 @@ module _ (opening closing : List ℕ) where
       ∙ ap encodes (mark_kept k.kind (effect k) bs (spelling k) e)
 
   piece_emitted : (bs : List Token) (k : Token) (ts : List BodyEvent) → kept_at_point ts ≡ encodes (kept_before (k ∷ bs)) → (kind : PieceKind) → kind_of k ≡ Some kind
-      → open_at (event.Text (text.Part (part.Piece (piece_at bs k kind))) ∷ ts) ≡ behind_tags (open_at ts) (tags_of (piece_of bs k (Some kind)))
+      → open_at (event.Text (text.Part (part.Piece (piece_at bs k kind))) ∷ ts) ≡ behind_tags (open_at ts) (tags_among (piece_of bs k (Some kind)))
   piece_emitted bs k ts h piece.Char e = refl
   piece_emitted bs k ts h piece.Blank e = refl
   piece_emitted bs k ts h piece.Raw e = refl
@@ -186,17 +179,17 @@ module _ (opening closing : List ℕ) where
 
   record PartsStep (bs : List Token) (k : Token) (before after : List BodyEvent) : Type 0 where
     kept : kept_at_point after ≡ kept_at_point before
-    span : open_at after ≡ behind_tags (open_at before) (tags_of (pieces_at bs k))
+    span : open_at after ≡ behind_tags (open_at before) (tags_among (pieces_at bs k))
 
   abbrev AfterParts : List Token → Token → List BodyEvent → Option PieceKind → Type 0
   AfterParts bs k ts o =
       let after = events_onto (text_events (out_parts (parts_by bs k o))) ts in
-      (kept_at_point after ≡ kept_at_point ts) × (open_at after ≡ behind_tags (open_at ts) (tags_of (piece_of bs k o)))
+      (kept_at_point after ≡ kept_at_point ts) × (open_at after ≡ behind_tags (open_at ts) (tags_among (piece_of bs k o)))
 
   parts_emit : (bs : List Token) (k : Token) (ts : List BodyEvent) → kept_at_point ts ≡ encodes (kept_before (k ∷ bs)) → PartsStep bs k ts (events_onto (text_events (out_parts (parts_at bs k))) ts)
   parts_emit bs k ts h = by (kind_of k) refl
     where
-      blank : (b : Bool) → tags_of (cond b (record { kind = piece.Blank; styles = open_styles bs; text = [] } ∷ []) []) ≡ []
+      blank : (b : Bool) → tags_among (cond b (record { kind = piece.Blank; styles = open_styles bs; text = [] } ∷ []) []) ≡ []
       blank true = refl
       blank false = refl
 
@@ -219,7 +212,7 @@ module _ (opening closing : List ℕ) where
           ap (λ os. events_onto (text_events os) ts) (map-append (λ (p : TextPart). text.Part p) (map (λ (p : Piece). part.Piece p) (option_list_of (waiting_blank bs))) (part.Piece (piece_at bs k kind) ∷ []))
           ∙ events_append first (text.Part (part.Piece (piece_at bs k kind)) ∷ []) ts in (
             ap kept_at_point all ∙ w.kept,
-            ap open_at all ∙ piece_emitted bs k middle (w.kept ∙ h) kind e ∙ ap (λ was. behind_tags was (tags_of (piece_of bs k (Some kind)))) w.span,
+            ap open_at all ∙ piece_emitted bs k middle (w.kept ∙ h) kind e ∙ ap (λ was. behind_tags was (tags_among (piece_of bs k (Some kind)))) w.span,
           )
 
       by : (o : Option PieceKind) → kind_of k ≡ o → PartsStep bs k ts (events_onto (text_events (out_parts (parts_at bs k))) ts)
@@ -244,7 +237,7 @@ module _ (opening closing : List ℕ) where
 
   record TokenStep (bs : List Token) (k : Token) (before after : List BodyEvent) : Type 0 where
     kept : kept_at_point after ≡ encodes (kept_before (k ∷ bs))
-    span : open_at after ≡ behind_tags (open_at before) (tags_of (pieces_at bs k))
+    span : open_at after ≡ behind_tags (open_at before) (tags_among (pieces_at bs k))
 
   token_emits : (at : Place) (bs : List Token) (k : Token) (ts : List BodyEvent) → kept_at_point ts ≡ encodes (kept_before bs) → TokenStep bs k ts (events_onto (text_events (events_at at bs k)) ts)
   token_emits at bs k ts h =
@@ -266,19 +259,19 @@ module _ (opening closing : List ℕ) where
       let l = found_still at bs (late_codes bs k.kind (effect k)) c in
       record {
         kept = ap kept_at_point all ∙ l.kept ∙ p.kept ∙ here;
-        span = ap open_at all ∙ l.span ∙ p.span ∙ ap (λ was. behind_tags was (tags_of (pieces_at bs k))) (g.span ∙ f.span);
+        span = ap open_at all ∙ l.span ∙ p.span ∙ ap (λ was. behind_tags was (tags_among (pieces_at bs k))) (g.span ∙ f.span);
       }
 
   tokens_emitted : (at : Place) (bs ks : List Token) (ts : List BodyEvent) → kept_at_point ts ≡ encodes (kept_before bs)
-      → open_at (events_onto (text_events (along (events_at at) bs ks)) ts) ≡ behind_tags (open_at ts) (tags_of (along pieces_at bs ks))
+      → open_at (events_onto (text_events (along (events_at at) bs ks)) ts) ≡ behind_tags (open_at ts) (tags_among (along pieces_at bs ks))
   tokens_emitted at bs [] ts h = refl
   tokens_emitted at bs (k ∷ ks) ts h =
       let r = token_emits at bs k ts h in
       ap open_at (events_append (events_at at bs k) (along (events_at at) (k ∷ bs) ks) ts)
       ∙ tokens_emitted at (k ∷ bs) ks (events_onto (text_events (events_at at bs k)) ts) r.kept
-      ∙ ap (λ was. behind_tags was (tags_of (along pieces_at (k ∷ bs) ks))) r.span
-      ∙ sym (behind_append (open_at ts) (tags_of (pieces_at bs k)) (tags_of (along pieces_at (k ∷ bs) ks)))
-      ∙ ap (behind_tags (open_at ts)) (sym (tags_append (pieces_at bs k) (along pieces_at (k ∷ bs) ks)))
+      ∙ ap (λ was. behind_tags was (tags_among (along pieces_at (k ∷ bs) ks))) r.span
+      ∙ sym (behind_append (open_at ts) (tags_among (pieces_at bs k)) (tags_among (along pieces_at (k ∷ bs) ks)))
+      ∙ ap (behind_tags (open_at ts)) (sym (tags_join (pieces_at bs k) (along pieces_at (k ∷ bs) ks)))
 
   -- ---- a text
 

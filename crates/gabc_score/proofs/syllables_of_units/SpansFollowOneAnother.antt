@@ -4,7 +4,8 @@ use Rattle.std.specs.Prelude.{IsTrue, ◌↔◌}
 use lib.Utf8.{encodes}
 use Rattle.gabc_score.specs.SpansPast.{open_past, eu_past, nlba_past}
 use Rattle.gabc_score.specs.Syllable.{UnplacedSyllable, PlacedSyllable}
-use Rattle.gabc_score.specs.SyllablesOfUnits.{ScoreUnit, HoldsUnit, IsLeftOpen, AreSyllablesOf, span_tags, tags_in}
+use Rattle.gabc_text.specs.ViewFacts.{span_tags}
+use Rattle.gabc_score.specs.SyllablesOfUnits.{ScoreUnit, HoldsUnit, IsLeftOpen, AreSyllablesOf, tags_in}
 use Rattle.gabc_score.proofs.syllables_of_units.LastTagOpensTheSpan.{behind_tags, behind_append, last_tag_opens}
 use Rattle.gabc_score.proofs.syllables_of_units.SyllablesAreThoseOfUnits.{eu_opened, eu_closed, nlba_opened, nlba_closed, tags_push}
 use Rattle.gabc_score.proofs.syllables_of_units.UnitGivesOneSyllable.{unit_past}

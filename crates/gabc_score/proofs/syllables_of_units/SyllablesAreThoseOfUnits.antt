@@ -8,7 +8,7 @@ use Rattle.gabc_places.specs.declared.place.Char.{Char}
 use Rattle.gabc_text.specs.BuiltText.{with_events, empty_text, text_built_at}
 use Rattle.gabc_text.specs.Ends.{EndsOnce}
 use Rattle.gabc_text.specs.Events.{codes_of, events_of, events_by_point}
-use Rattle.gabc_text.specs.ViewFacts.{StandsForView}
+use Rattle.gabc_text.specs.ViewFacts.{StandsForView, span_tags}
 use Rattle.gabc_text.specs.View.{kept}
 use Rattle.gabc_text.specs.TextRead.{view_in}
 use Rattle.gabc_text.specs.TextView.{ViewContent}
@@ -18,7 +18,7 @@ use Rattle.gabc_score.specs.Body.{events_onto, is_none, has_text, empty_snippet,
 use Rattle.gabc_score.specs.Canonical.{position_by, next_starts, placed_syllables_by}
 use Rattle.gabc_score.specs.Events.{InText, texts_by_definition, text_from, snippet_from, next_line, body_events}
 use Rattle.gabc_score.specs.Units.{EndedPart, LastUnit, JustText, OpenNotes, Units, BodyCutting, whole, events_through, snippets_with, last_pieces, units_pieces, last_characters, cutting_of, Cuts, events_of_cutting, IsCutFrom, IsCut, events_of_parts}
-use Rattle.gabc_score.specs.SyllablesOfUnits.{ScoreUnit, closed_units, last_units, score_units, span_tags, tags_in, begins_word, next_begins_word, HoldsUnit, IsSyllableOf, AreSyllablesOf}
+use Rattle.gabc_score.specs.SyllablesOfUnits.{ScoreUnit, closed_units, last_units, score_units, tags_in, begins_word, next_begins_word, HoldsUnit, IsSyllableOf, AreSyllablesOf}
 use Rattle.gabc_score.specs.machine.PartKeeps.{text_events}
 use Rattle.gabc_score.proofs.texts_of_body.SeamsOfCharacters.{size}
 use Rattle.gabc_score.proofs.building.EventsOfSyllableParts.{Sum, sum_of}

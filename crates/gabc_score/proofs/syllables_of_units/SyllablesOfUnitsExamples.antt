@@ -9,7 +9,8 @@ use Rattle.gabc_text.specs.Events.{codes_of}
 use Rattle.gabc_score.specs.declared.syllable.Position.TheVariants.{One}
 use Rattle.gabc_score.specs.Canonical.{position_by}
 use Rattle.gabc_score.specs.Units.{EndedPart, BodyUnit, JustText, Units}
-use Rattle.gabc_score.specs.SyllablesOfUnits.{ScoreUnit, score_units, unit_characters, span_tags, IsLeftOpen, begins_word, next_begins_word, count_within}
+use Rattle.gabc_text.specs.ViewFacts.{span_tags}
+use Rattle.gabc_score.specs.SyllablesOfUnits.{ScoreUnit, score_units, unit_characters, IsLeftOpen, begins_word, next_begins_word, count_within}
 
 abbrev at : Place
 at = record { line = 3; column = 1 }

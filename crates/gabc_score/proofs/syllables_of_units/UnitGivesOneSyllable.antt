@@ -17,7 +17,7 @@ use Rattle.gabc_text.specs.declared.text_event.TextEnd.TheVariants as text_end
 use Rattle.gabc_text.specs.Ends.{EndsOnce}
 use Rattle.gabc_text.specs.Events.{codes_of, events_of, events_by_point}
 use Rattle.gabc_text.specs.View.{PieceFacts, kept, findings}
-use Rattle.gabc_text.specs.ViewFacts.{StandsForView, ArePiecesOf, kept_of_piece}
+use Rattle.gabc_text.specs.ViewFacts.{StandsForView, ArePiecesOf, kept_of_piece, span_tags, is_mark}
 use Rattle.gabc_text.specs.TextRead.{view_in}
 use Rattle.gabc_text.specs.TextView.{ViewContent}
 use Rattle.gabc_notes.specs.ReadAgain.{IsWarning}
@@ -26,11 +26,11 @@ use Rattle.gabc_score.specs.declared.events.BodyEvent.{BodyEvent}
 use Rattle.gabc_score.specs.Body.{events_onto, findings_of, cut_of}
 use Rattle.gabc_score.specs.Events.{PartAhead, texts_by_definition, text_from, snippet_from, next_line, after_mark, events_from}
 use Rattle.gabc_score.specs.FoundInParts.{TextWarns, SnippetsWarn, snippet_events}
-use Rattle.gabc_score.specs.Syllable.{UnplacedSyllable, closes, since_close, kept_of, all_syllables, syllable_by, is_eu, is_nlba, slice, is_mark, is_open_after}
+use Rattle.gabc_score.specs.Syllable.{UnplacedSyllable, closes, since_close, kept_of, all_syllables, syllable_by, is_eu, is_nlba, slice, is_open_after}
 use Rattle.gabc_score.specs.WithinLimits.{KeepsWithin}
 use Rattle.gabc_score.specs.Units.{Opens, Next, Closes, CutPart, EndedPart, BodyUnit, LastUnit, cut_part, whole, events_through, snippets_with, units_pieces, last_characters, Cuts, events_of_cutting}
 use Rattle.gabc_score.specs.SpansPast.{open_past, eu_past, nlba_past}
-use Rattle.gabc_score.specs.SyllablesOfUnits.{with_ends, snippets_in, characters_in, characters_from, ScoreUnit, score_unit, span_tags, HoldsUnit}
+use Rattle.gabc_score.specs.SyllablesOfUnits.{with_ends, snippets_in, characters_in, characters_from, ScoreUnit, score_unit, HoldsUnit}
 use Rattle.gabc_score.specs.UnitRead.{first_events, GivesOneSyllable}
 use Rattle.gabc_score.proofs.texts_of_body.SeamsOfCharacters.{size}
 use Rattle.gabc_score.proofs.holding.SnippetsAreHeld.{bytes_stand}

@@ -8,7 +8,7 @@ use Rattle.gabc_places.specs.declared.place.Char.{Char}
 use Rattle.gabc_text.specs.BuiltText.{with_events, empty_text, text_built_at}
 use Rattle.gabc_text.specs.Ends.{EndsOnce}
 use Rattle.gabc_text.specs.Events.{codes_of, events_of, events_by_point}
-use Rattle.gabc_text.specs.ViewFacts.{StandsForView}
+use Rattle.gabc_text.specs.ViewFacts.{StandsForView, span_tags}
 use Rattle.gabc_text.specs.View.{kept}
 use Rattle.gabc_text.specs.TextRead.{view_in}
 use Rattle.gabc_notes.specs.declared.stage.NoteEnd.{NoteEnd}
@@ -27,7 +27,7 @@ use Rattle.gabc_score.specs.Body.{events_onto, cut_of}
 use Rattle.gabc_score.specs.Events.{Texts, PartAhead, InText, note_event, texts_by_definition, text_from, snippet_from, next_line, after_mark}
 use Rattle.gabc_score.specs.Units.{Mark, Opens, Next, Closes, CutPart, EndedPart, BodyUnit, LastUnit, JustText, OpenNotes, cut_part, whole, events_through, snippets_with, last_pieces, units_pieces, last_characters, EndsAfter, Cuts, events_of_cutting, Units, BodyCutting, cutting_of, IsCutFrom, IsCut}
 use Rattle.gabc_score.specs.Holding.{ReadSnippet, bracket_with}
-use Rattle.gabc_score.specs.SyllablesOfUnits.{with_ends, snippets_in, characters_in, last_in, characters_from, unit_characters, ScoreUnit, score_unit, closed_units, span_tags, tags_in, HoldsUnit}
+use Rattle.gabc_score.specs.SyllablesOfUnits.{with_ends, snippets_in, characters_in, last_in, characters_from, unit_characters, ScoreUnit, score_unit, closed_units, tags_in, HoldsUnit}
 use Rattle.gabc_score.specs.machine.PartKeeps.{text_events}
 use Rattle.gabc_score.proofs.texts_of_body.SeamsOfCharacters.{size}
 use Rattle.gabc_score.proofs.building.EventsOfSyllableParts.{onto_append}

@@ -15,7 +15,7 @@ use Rattle.gabc_score.specs.RegularSyllable.{SaysText, SyllableParts, spelled, k
 use Rattle.gabc_score.specs.ScoreEvents.{ScoreOutput, Syllable, characters_in}
 use Rattle.gabc_score.specs.SpansPast.{FollowsSpans}
 use Rattle.gabc_score.specs.Syllable.{UnplacedSyllable, PlacedSyllable}
-use Rattle.gabc_score.specs.SyllablesOfUnits.{span_tags}
+use Rattle.gabc_text.specs.ViewFacts.{span_tags}
 use Rattle.gabc_score.specs.UnitRead.{HoldsSomeUnit}
 use Rattle.gabc_score.specs.witness.BodyStage.{texts_by_stage}
 use Rattle.gabc_score.specs.machine.BodyBuilder.{with_all}

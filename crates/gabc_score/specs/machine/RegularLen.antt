@@ -4,55 +4,21 @@ use Rattle.std.specs.List.{All, starts_with}
 use Rattle.std.specs.Str.{chars, IsAscii, IsUtf8}
 use Rattle.std.specs.String.Boundary.{IsSplitPoint}
 use Rattle.gabc_places.specs.TextOfAnInput.{IsPlain, IsText}
-use Rattle.gabc_text.specs.RegularText.{is_gap}
+use Rattle.gabc_text.specs.RegularText.{is_gap, mark_at, tags_of}
+use Rattle.gabc_text.specs.ViewFacts.{span_tags}
 use Rattle.gabc_score.specs.declared.before.Spans.{Spans}
 use Rattle.gabc_score.specs.declared.regular.RegularLen.{RegularLen}
-use Rattle.gabc_score.specs.declared.regular.SpanMark.{SpanMark}
-use Rattle.gabc_score.specs.declared.regular.SpanMark.TheVariants.{OpensEu, ClosesEu, OpensNlba, ClosesNlba}
+use Rattle.gabc_text.specs.declared.span_mark.SpanMark.{SpanMark}
+use Rattle.gabc_text.specs.declared.span_mark.SpanMark.TheVariants.{OpensEu, ClosesEu, OpensNlba, ClosesNlba}
 use Rattle.gabc_score.specs.RegularSyllable.{SyllableParts, AreRegularFrom, IsRegularSyllable, spelled, notes_spelled, kept_spelled, canonical_spelled}
 
 -- ---- bytes
-
--- the bytes begin with a tag
-abbrev pub begins : List ℕ → List ℕ → Bool
-begins tag bytes = starts_with (λ a b. a == b) bytes tag
-
--- these bytes begin with a span mark
-abbrev pub begins_mark : List ℕ → Bool
-begins_mark bytes = begins (codes "<eu>") bytes || (begins (codes "</eu>") bytes || (begins (codes "<nlba>") bytes || begins (codes "</nlba>") bytes))
-
--- no span mark stands among these bytes
-abbrev pub IsUnmarked : List ℕ → Type 0
-IsUnmarked bytes = (k : ℕ) → begins_mark (drop k bytes) ≡ false
 
 -- neither a CR nor the first byte of U+FEFF
 abbrev pub IsPlainByte : ℕ → Type 0
 IsPlainByte b = (b ≢ 13) × (b ≢ 0xEF)
 
--- such a byte, with which no tag begins either
-abbrev pub IsClearByte : ℕ → Type 0
-IsClearByte b = IsPlainByte b × (b ≢ 60)
-
 -- ---- a span mark
-
-abbrev pub tag_of : SpanMark → List ℕ
-tag_of OpensEu = codes "<eu>"
-tag_of ClosesEu = codes "</eu>"
-tag_of OpensNlba = codes "<nlba>"
-tag_of ClosesNlba = codes "</nlba>"
-
--- the span mark that these bytes begin with
-abbrev pub mark_at : List ℕ → Option SpanMark
-mark_at bytes =
-    cond (begins (tag_of OpensEu) bytes) (Some OpensEu)
-    (cond (begins (tag_of ClosesEu) bytes) (Some ClosesEu)
-    (cond (begins (tag_of OpensNlba) bytes) (Some OpensNlba)
-    (cond (begins (tag_of ClosesNlba) bytes) (Some ClosesNlba)
-    None)))
-
--- the first byte of the name of a tag, which may stand after a `/`
-abbrev pub name_of_tag : List ℕ → ℕ
-name_of_tag bytes = if slice_index bytes 1 == 47 then slice_index bytes 2 else slice_index bytes 1
 
 -- the spans that are open after it, where these are open before it
 abbrev pub past_mark : Option SpanMark → Spans → Spans
@@ -61,23 +27,6 @@ past_mark (Some OpensEu) spans = record spans { eu = true }
 past_mark (Some ClosesEu) spans = record spans { eu = false }
 past_mark (Some OpensNlba) spans = record spans { nlba = true }
 past_mark (Some ClosesNlba) spans = record spans { nlba = false }
-
--- no other span mark stands among these bytes
-abbrev pub begins_other : SpanMark → List ℕ → Bool
-begins_other x bytes = begins_mark bytes && not (begins (tag_of x) bytes)
-
-abbrev pub HasOnly : SpanMark → List ℕ → Type 0
-HasOnly x bytes = (k : ℕ) → begins_other x (drop k bytes) ≡ false
-
--- no span mark stands among these bytes but this one; or none does
-abbrev pub IsMarked : Option SpanMark → List ℕ → Type 0
-IsMarked None bytes = IsUnmarked bytes
-IsMarked (Some x) bytes = HasOnly x bytes
-
--- the text begins with the span mark, if there is one
-abbrev pub BeginsWithTag : Option SpanMark → List ℕ → Type 0
-BeginsWithTag None t = Unit {0}
-BeginsWithTag (Some x) t = (rest : List ℕ) × (t ≡ tag_of x ++ rest)
 
 -- ---- what stands before a text
 
@@ -121,8 +70,8 @@ pub record BeginsWithSnippets (lines : ℕ) (text : List ℕ) (n : ℕ) : Type 0
 -- ---- the syllable
 
 -- The text begins with a regular syllable, which has so long a gap, has its `(` there and is so
--- long. Its characters may be those of an input's text, and no span mark stands among the bytes
--- that are kept of it but one with which its text begins.
+-- long. Its characters may be those of an input's text, and no span mark stands in its text but one
+-- with which it begins.
 pub record BeginsRegularly (lines : ℕ) (text : List ℕ) (n : RegularLen) : Type 0 where
   pub syllable : SyllableParts
   pub is_regular : IsRegularSyllable lines syllable
@@ -134,5 +83,4 @@ pub record BeginsRegularly (lines : ℕ) (text : List ℕ) (n : RegularLen) : Ty
   pub gap_is : n.gap ≡ length syllable.gap
   pub opening_is : n.opening ≡ n.gap + length (encode_utf8_all syllable.text)
   pub rest_is : drop n.gap (take n.len text) ≡ encode_utf8_all (canonical_spelled false syllable)
-  pub tagged : BeginsWithTag (mark_at (drop n.gap (take n.len text))) syllable.text
-  pub marked : IsMarked (mark_at (drop n.gap (take n.len text))) (encode_utf8_all (kept_spelled syllable))
+  pub mark_is : span_tags syllable.text ≡ tags_of (mark_at (drop n.gap (take n.len text)))

@@ -8,6 +8,8 @@ use Rattle.gabc_places.specs.declared.place.Place.{Place}
 use Rattle.gabc_places.specs.Place.{place_past}
 use Rattle.gabc_places.specs.StageLaw.{concat_of}
 use Rattle.gabc_places.specs.TextOfAnInput.{IsPlain}
+use Rattle.gabc_text.specs.declared.span_mark.SpanMark.{SpanMark}
+use Rattle.gabc_text.specs.RegularText.{mark_at}
 use Rattle.gabc_text.specs.TextStage.{fresh_stage}
 use Rattle.gabc_notes.specs.FirstNoteOrClef.{first_note_or_clef}
 use Rattle.gabc_notes.specs.Items.{items_of}
@@ -16,7 +18,6 @@ use Rattle.gabc_score.specs.declared.before.Preceding.{Preceding}
 use Rattle.gabc_score.specs.declared.body_stage.BodyPart.TheVariants.{Text}
 use Rattle.gabc_score.specs.declared.give.Run.{Run}
 use Rattle.gabc_score.specs.declared.regular.RegularLen.{RegularLen}
-use Rattle.gabc_score.specs.declared.regular.SpanMark.{SpanMark}
 use Rattle.gabc_score.specs.declared.run.Found.{Found}
 use Rattle.gabc_score.specs.declared.run.Reached.{Reached}
 use Rattle.gabc_score.specs.declared.score_machine.ScoreMachine.{ScoreMachine}
@@ -33,7 +34,7 @@ use Rattle.gabc_score.specs.SpelledSyllable.{IsSpelling}
 use Rattle.gabc_score.specs.ScoreStage.{IsWithin}
 use Rattle.gabc_score.specs.Syllable.{UnplacedSyllable, PlacedSyllable}
 use Rattle.gabc_score.specs.machine.Between.{IsBetween, GoesThrough, SoundsNoMore}
-use Rattle.gabc_score.specs.machine.RegularLen.{BeginsRegularly, IsClearByte, mark_at, past_mark}
+use Rattle.gabc_score.specs.machine.RegularLen.{BeginsRegularly, IsPlainByte, past_mark}
 use Rattle.gabc_score.specs.machine.PartCounts.{CountsHold}
 use Rattle.gabc_score.specs.machine.PartKeeps.{in_text, PartKeeps}
 use Rattle.gabc_score.specs.machine.ScoreMachine.{held_score, shown, IsInBody, IsScore}
@@ -51,7 +52,7 @@ pub record IsFound (lines : ℕ) (limits : Limits) (total : ℕ) (f : Found) : T
   pub is : BeginsRegularly lines (f.spelled.now ++ f.rest.now) (len_of f)
   pub syllable : length f.spelled.now ≤ limits.syllable
   pub input : total + length f.spelled.now + 1 ≤ limits.input
-  pub clear : All IsClearByte (take f.clear f.rest.now)
+  pub plain : All IsPlainByte (take f.plain f.rest.now)
 
 -- a snippet of GABC in these texts has a note or a clef
 abbrev pub sounds_on_line : ℕ × List ℕ → Bool

@@ -1,6 +1,8 @@
 -- Pieces one after another are printed one after another, if no style stays open between them.
 use Rattle.std.proofs.lemmas.Bool.{ne_eqb}
-use Rattle.std.proofs.Common.{◌≡◌, ℕ, ◌+◌, ◌<◌, ◌==◌, List, [], ◌∷◌, ◌++◌, Bool, true, false, ◌||◌, refl, sym, ap, ap₂, ◌∙◌, map, reverse, filter, append-nil, append_assoc, Option, Some, None, length, length-append, eq-eqb, arith}
+use Rattle.std.proofs.lemmas.List.{map-append}
+use Rattle.std.proofs.lemmas.List.Elements.{filter-append}
+use Rattle.std.proofs.Common.{◌≡◌, ℕ, ◌+◌, ◌<◌, ◌==◌, List, [], ◌∷◌, ◌++◌, Bool, true, false, ◌||◌, cond, refl, sym, ap, ap₂, ◌∙◌, map, reverse, filter, append-nil, append_assoc, Option, Some, None, length, length-append, eq-eqb, arith}
 use Rattle.gabc_places.proofs.NumbersByTests.{below_eqb}
 use Rattle.gabc_places.specs.declared.place.Span.{Span}
 use Rattle.gabc_text.specs.declared.styles.Style.{Style}
@@ -8,7 +10,7 @@ use Rattle.gabc_text.specs.declared.view.PieceKind.{PieceKind}
 use Rattle.gabc_text.specs.declared.view.PieceKind.TheVariants as piece
 use Rattle.gabc_text.specs.Token.{Token, spelling}
 use Rattle.gabc_text.specs.View.{PieceFacts, all_styles, is_word_kind, is_blank_piece}
-use Rattle.gabc_text.specs.ViewFacts.{but_blank, LiesAmong}
+use Rattle.gabc_text.specs.ViewFacts.{but_blank, is_mark, tags_among, LiesAmong}
 use Rattle.gabc_text.specs.Canonical.{after_common}
 use Rattle.gabc_text.specs.Printed.{opening_tag, closing_tag, begin_brace, end_brace, brace_tokens, tokens_between, print_from, text_of_tokens}
 use Rattle.gabc_text.specs.machine.PrintedPieces.{AllGood, Says}
@@ -48,6 +50,11 @@ good_behind x w b (p ∷ ps) h f = (
 pub known_join : (ps qs : List PieceFacts) → AllKnown ps → AllKnown qs → AllKnown (ps ++ qs)
 known_join [] qs h g = g
 known_join (p ∷ ps) qs h g = (h.0, known_join ps qs h.1 g)
+
+pub tags_join : (ps qs : List PieceFacts) → tags_among (ps ++ qs) ≡ tags_among ps ++ tags_among qs
+tags_join ps qs =
+    ap (map (λ (p : PieceFacts). p.text)) (filter-append (λ (p : PieceFacts). is_mark p.kind) ps qs)
+    ∙ map-append (λ (p : PieceFacts). p.text) (filter (λ (p : PieceFacts). is_mark p.kind) ps) (filter (λ (p : PieceFacts). is_mark p.kind) qs)
 
 pub word_join : (w : Bool) (ps qs : List PieceFacts) → word_after w (ps ++ qs) ≡ word_after (word_after w ps) qs
 word_join w [] qs = refl
@@ -99,6 +106,19 @@ good_in ss test w b (p ∷ ps) e h =
 pub known_in : (ss : List Style) (ps : List PieceFacts) → AllKnown ps → AllKnown (map (in_styles ss) ps)
 known_in ss [] h = tt
 known_in ss (p ∷ ps) h = (h.0, known_in ss ps h.1)
+
+pub tags_in : (ss : List Style) (ps : List PieceFacts) → tags_among (map (in_styles ss) ps) ≡ tags_among ps
+tags_in ss [] = refl
+tags_in ss (p ∷ ps) = by (is_mark p.kind) (tags_in ss ps)
+  where
+    texts : List PieceFacts → List (List ℕ)
+    texts = map (λ (q : PieceFacts). q.text)
+
+    by : (b : Bool) → tags_among (map (in_styles ss) ps) ≡ tags_among ps
+        → texts (cond b (in_styles ss p ∷ filter (λ (q : PieceFacts). is_mark q.kind) (map (in_styles ss) ps)) (filter (λ (q : PieceFacts). is_mark q.kind) (map (in_styles ss) ps)))
+        ≡ texts (cond b (p ∷ filter (λ (q : PieceFacts). is_mark q.kind) ps) (filter (λ (q : PieceFacts). is_mark q.kind) ps))
+    by true e = ap (λ (ts : List (List ℕ)). p.text ∷ ts) e
+    by false e = e
 
 pub blank_in : (ss : List Style) (b : Bool) (ps : List PieceFacts) → blank_after b (map (in_styles ss) ps) ≡ blank_after b ps
 blank_in ss b [] = refl

@@ -1,19 +1,20 @@
 -- The bytes of a regular text, with the pieces that they spell.
-use Rattle.std.specs.Prelude.{◌≡◌, ℕ, ◌<◌, ◌==◌, not, List, [], ◌∷◌, ◌++◌, Bool, true, false, ◌&&◌, ◌||◌, nat_lt, length, map, Option, Some, None, encode_utf8_all}
+use Rattle.std.specs.Prelude.{◌≡◌, ℕ, ◌<◌, ◌==◌, not, List, [], ◌∷◌, ◌++◌, Bool, true, false, ◌&&◌, ◌||◌, nat_lt, length, map, Option, Some, None, encode_utf8_all, if◌then◌else◌, slice_index}
 use Rattle.std.specs.Str.{all_scalars}
 use Rattle.std.specs.List.{All, list_all}
 use Rattle.gabc_places.specs.TextOfAnInput.{IsPlain}
 use Rattle.gabc_places.specs.declared.place.Span.{Span}
 use Rattle.gabc_text.specs.declared.styles.Style.{Style}
-use Rattle.gabc_text.specs.declared.styles.Styles.{Styles}
+use Rattle.gabc_text.specs.declared.span_mark.SpanMark.{SpanMark}
 use Rattle.gabc_text.specs.declared.regular.Before.{Before}
 use Rattle.gabc_text.specs.declared.regular.Part.{Part}
 use Rattle.gabc_text.specs.declared.view.PieceKind.{PieceKind}
 use Rattle.gabc_text.specs.declared.view.PieceKind.TheVariants as piece
 use Rattle.gabc_text.specs.Token.{Token, spelling}
-use Rattle.gabc_text.specs.View.{PieceFacts, is_word_kind, is_blank_piece}
-use Rattle.gabc_text.specs.ViewFacts.{LiesAmong}
-use Rattle.gabc_text.specs.Canonical.{after_common, listed_styles}
+use Rattle.gabc_text.specs.View.{PieceFacts, is_word_kind, is_blank_piece, is_same}
+use Rattle.gabc_text.specs.ViewFacts.{LiesAmong, tags_among}
+use Rattle.gabc_text.specs.Canonical.{after_common}
+use Rattle.gabc_text.specs.RegularText.{tag_of, tags_of}
 use Rattle.gabc_text.specs.Printed.{printed_piece, print_from, text_of_tokens}
 use Rattle.gabc_text.specs.machine.PrintedPieces.{Stable, Says, AllGood}
 
@@ -68,6 +69,10 @@ is_low b = nat_lt b 128 && not (b == 13)
 abbrev pub is_plain_byte : ℕ → ℕ → Bool
 is_plain_byte but b = (nat_lt 31 b && nat_lt b 127) && not (but == b)
 
+-- the first byte of the name of a tag, which may stand after a `/`
+abbrev pub name_of_tag : List ℕ → ℕ
+name_of_tag bytes = if slice_index bytes 1 == 47 then slice_index bytes 2 else slice_index bytes 1
+
 -- the bytes of these characters in UTF-8, none of which is a CR or U+FEFF
 pub record IsSpelled (t : List ℕ) (bytes : List ℕ) : Type 0 where
   pub spelled : bytes ≡ encode_utf8_all t
@@ -91,6 +96,7 @@ pub record IsRun (bytes : List ℕ) : Type 0 where
   pub good : AllGood false false pieces
   pub known : AllKnown pieces
   pub no_blank : blank_after false pieces ≡ false
+  pub no_mark : tags_among pieces ≡ []
   pub word : 0 < length bytes → word_after false pieces ≡ true
 
 -- the bytes of characters other than this one
@@ -105,14 +111,6 @@ pub record IsBracketed (opening : List ℕ) (stop : ℕ) (closing bytes : List �
   pub within : IsInner stop inner
   pub parts : bytes ≡ opening ++ (inner ++ closing)
 
--- a tag that is a span mark
-pub record IsMark (t : List ℕ) : Type 0 where
-  pub some : 0 < length t
-  pub low : list_all is_low t ≡ true
-  pub spelled : spelling (printed_piece piece.Mark t) ≡ t
-  pub stable : Stable (printed_piece piece.Mark t)
-  pub says : (w b : Bool) → Says piece.Mark t w b
-
 -- the bytes of a run with something, between these
 pub record IsEnclosed (opening closing bytes : List ℕ) : Type 0 where
   pub inner : List ℕ
@@ -120,33 +118,51 @@ pub record IsEnclosed (opening closing bytes : List ℕ) : Type 0 where
   pub some : 0 < length inner
   pub parts : bytes ≡ opening ++ (inner ++ closing)
 
-abbrev pub no_styles : Styles
-no_styles = record { b = false; c = false; e = false; i = false; sc = false; tt = false; ul = false }
+-- one style, or none; and whether it is this one
+abbrev pub in_style : Option Style → List Style
+in_style None = []
+in_style (Some s) = s ∷ []
 
--- the bytes of some pieces, from the first of which to the last no style stays open but these
-pub record IsPart (styles : Styles) (word : Bool) (bytes : List ℕ) : Type 0 where
+abbrev pub is_style : Option Style → Style → Bool
+is_style None s = false
+is_style (Some r) s = is_same r s
+
+-- the bytes of some pieces, all in this style, if in one, and none a span mark
+pub record IsPart (style : Option Style) (bytes : List ℕ) : Type 0 where
   pub pieces : List PieceFacts
   pub spells : IsSpelled (text_of_tokens (print_from None 0 [] pieces)) bytes
   pub good : AllGood false false pieces
   pub known : AllKnown pieces
   pub some : blank_after true pieces ≡ false
-  pub first_are : first_styles pieces ≡ listed_styles styles
-  pub last_are : last_styles [] pieces ≡ listed_styles styles
-  pub word_is : word ≡ true → word_after false pieces ≡ true
+  pub first_are : first_styles pieces ≡ in_style style
+  pub last_are : last_styles [] pieces ≡ in_style style
+  pub no_mark : tags_among pieces ≡ []
+  pub word : word_after false pieces ≡ true
+
+-- the bytes of a span mark, if there is one
+abbrev pub mark_length : Option SpanMark → ℕ
+mark_length None = 0
+mark_length (Some mark) = length (tag_of mark)
+
+-- nothing, or a span mark alone
+abbrev pub nothing_before : Before
+nothing_before = record { style = None; word = false; centre = false }
 
 -- what is known of a text with a part after it
 abbrev pub through : Before → Part → Before
-through b p = record { styles = p.styles; word = b.word || p.word; centre = b.centre }
+through b p = record { style = p.style; word = true; centre = b.centre }
 
--- the bytes of a regular text that has no translation, of which this is known
-pub record IsBegun (before : Before) (bytes : List ℕ) : Type 0 where
+-- the bytes of a regular text that has no translation, of which this is known; this span mark, if
+-- one, is the only one in it
+pub record IsBegun (mark : Option SpanMark) (before : Before) (bytes : List ℕ) : Type 0 where
   pub pieces : List PieceFacts
   pub middle : Option Span
   pub spells : IsSpelled (text_of_tokens (print_from middle 0 [] pieces)) bytes
   pub good : AllGood false false pieces
   pub known : AllKnown pieces
   pub no_blank : blank_after false pieces ≡ false
-  pub last_are : last_styles [] pieces ≡ listed_styles before.styles
+  pub last_are : last_styles [] pieces ≡ in_style before.style
+  pub marks_are : tags_among pieces ≡ tags_of mark
   pub word_is : before.word ≡ true → word_after false pieces ≡ true
   pub middle_in : LiesAmong (length pieces) middle
   pub no_middle : before.centre ≡ false → middle ≡ None

@@ -1,7 +1,7 @@
 use Rattle.std.proofs.Common.{◌<◌, ◌∙◌, sym, arith}
 use Rattle.std.proofs.lemmas.List.{take_rest}
 use Rattle.gabc_score.proofs.regular_syllables.BytesOfRegularSyllables.{notes_cut, syllable_here}
-use Rattle.gabc_score.proofs.regular_syllables.ClearBytes.{clear_slice}
+use Rattle.gabc_score.proofs.regular_syllables.PlainBytes.{plain_front}
 use Rattle.gabc_score.proofs.regular.regular_syllable.Goals as goal
 
 pub range_from-requires : goal.range_from-requires
@@ -14,9 +14,8 @@ range_from-requires c = λ some.
     (rw (c.as_bytes-bytes.ensures.value, take_rest) at c.regular_text.ensures.regular)
     found.3.0 (sym (found.3.1 0) ∙ c.in-Some-eq40.field-0-test)
 
-pub may_be_kept-requires : goal.may_be_kept-requires
-may_be_kept-requires c =
-    let kept = clear_slice c.args.text.now c.args.clear c.gap_len-gap.result _ c.requires in rw (c.as_bytes-bytes.ensures.value, c.saturating_sub.ensures) kept
+pub are_plain-requires : goal.are_plain-requires
+are_plain-requires c = rw (c.as_bytes-bytes.ensures.value) (plain_front c.args.text.now c.args.plain _ c.requires)
 
 pub returns : goal.returns
 returns c =
@@ -29,5 +28,5 @@ returns c =
     (rw (c.as_bytes-bytes.ensures.value, take_rest) at c.regular_text.ensures.regular)
     found.3.0 (sym (found.3.1 0) ∙ c.in-Some-eq40.field-0-test) c.snippets_len-notes.result
     (rw (c.range_from.ensures.value) at c.snippets_len-notes.ensures some)
-    (rw (c.as_bytes-bytes.ensures.value) at c.may_be_kept.ensures.plain c.if-not-may_be_kept.false)
-    (rw (c.as_bytes-bytes.ensures.value) at c.may_be_kept.ensures.marked c.if-not-may_be_kept.false)
+    (rw (c.as_bytes-bytes.ensures.value) at c.are_plain.ensures c.if-not-are_plain.false)
+    (rw (c.as_bytes-bytes.ensures.value, take_rest) at c.regular_text.ensures.mark)

@@ -1,10 +1,10 @@
 use Rattle.std.proofs.Common.{◌≡◌, ℕ, ◌++◌, List, length, take, drop, sym, ap, ◌∙◌, arith, take-append-drop}
 use Rattle.gabc_score.specs.machine.RegularLen.{BeginsRegularly}
-use Rattle.gabc_score.proofs.regular_syllables.ClearBytes.{clear_rest}
+use Rattle.gabc_score.proofs.regular_syllables.PlainBytes.{plain_rest}
 use Rattle.gabc_score.proofs.run.find.Goals as goal
 
-pub clear_after-requires : goal.clear_after-requires
-clear_after-requires c = (let left = clear_rest c.args.text.now c.args.clear c.in-Some.found.len c.requires in rw (c.split_at.ensures.back, c.saturating_sub.ensures) left)
+pub plain_after-requires : goal.plain_after-requires
+plain_after-requires c = (let left = plain_rest c.args.text.now c.args.plain c.in-Some.found.len c.requires in rw (c.split_at.ensures.back, c.saturating_sub.ensures) left)
 
 pub returns-clause-found : goal.returns-clause-found
 returns-clause-found c =
@@ -20,5 +20,5 @@ returns-clause-found c =
       is = rw (sym both, len) b;
       syllable = (let few = c.if-found-limits.false in omega (arith, few, len));
       input = (let few = c.if-found-left.false in let left = c.saturating_sub-left.ensures in omega (arith, few, left, len));
-      clear = c.clear_after.ensures;
+      plain = c.plain_after.ensures;
     }

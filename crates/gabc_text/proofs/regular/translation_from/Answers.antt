@@ -1,6 +1,7 @@
 use Rattle.std.proofs.Common.{◌≡◌, ℕ, List, length, ◌-◌, slice_index, ap, ◌∙◌, arith, take_all}
 use Rattle.std.proofs.lemmas.List.{drop_all}
 use Rattle.gabc_text.proofs.RegularRawParts.{parted, unbracketed, whole}
+use Rattle.gabc_text.specs.RegularText.{mark_at}
 use Rattle.gabc_text.proofs.regular.translation_from.Goals as goal
 
 pub returns-then-byte_at-ne93-clause-text : goal.returns-then-byte_at-ne93-clause-text
@@ -22,13 +23,13 @@ returns-then-end-translation-clause-text c =
     let b = c.untranslated_len-end.ensures.begun in
     let same = c.as_bytes-bytes.ensures.value in
     let n = c.untranslated_len-end.result in
-    (parted c.args.text.now n c.bracketed_len-translation.result (c.if-end-translation.true ∙ ap (λ (l : List ℕ). length l) same)
-    (whole b.0 c.args.text.now n c.bracketed_len-translation.result (rw (same) at b.1) (rw (same) at c.bracketed_len-translation.ensures.bracketed))).text_is
+    (parted (mark_at c.args.text.now) c.args.text.now n c.bracketed_len-translation.result (c.if-end-translation.true ∙ ap (λ (l : List ℕ). length l) same)
+    (whole (mark_at c.args.text.now) b.0 c.args.text.now n c.bracketed_len-translation.result (rw (same) at b.1) (rw (same) at c.bracketed_len-translation.ensures.bracketed))).text_is
 
 pub returns-then-end-translation-clause-translation : goal.returns-then-end-translation-clause-translation
 returns-then-end-translation-clause-translation c =
     let b = c.untranslated_len-end.ensures.begun in
     let same = c.as_bytes-bytes.ensures.value in
     let n = c.untranslated_len-end.result in
-    (parted c.args.text.now n c.bracketed_len-translation.result (c.if-end-translation.true ∙ ap (λ (l : List ℕ). length l) same)
-    (whole b.0 c.args.text.now n c.bracketed_len-translation.result (rw (same) at b.1) (rw (same) at c.bracketed_len-translation.ensures.bracketed))).translation_is
+    (parted (mark_at c.args.text.now) c.args.text.now n c.bracketed_len-translation.result (c.if-end-translation.true ∙ ap (λ (l : List ℕ). length l) same)
+    (whole (mark_at c.args.text.now) b.0 c.args.text.now n c.bracketed_len-translation.result (rw (same) at b.1) (rw (same) at c.bracketed_len-translation.ensures.bracketed))).translation_is

@@ -1,4 +1,4 @@
-use Rattle.std.proofs.Common.{length, ◌-◌, ◌≤◌, take}
+use Rattle.std.proofs.Common.{◌<◌, ◌≢◌, slice_index, length, ◌-◌, ◌≤◌, take}
 use Rattle.gabc_text.specs.machine.RegularBytes.{IsRun}
 use Rattle.gabc_text.proofs.regular_runs.letters_len.Given as goal
 
@@ -6,6 +6,7 @@ abbrev pub invariant-loop-end : goal.invariant-loop-end
 invariant-loop-end l = record {
   within : l.end ≤ length l.bytes;
   run : IsRun (take l.end l.bytes);
+  no_tag : 0 < l.end → slice_index l.bytes 0 ≢ 60;
 }
 
 abbrev pub decreases-loop-end : goal.decreases-loop-end
