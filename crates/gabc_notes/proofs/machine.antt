@@ -5,6 +5,7 @@ pub mod FreshStageEmitsEventsByPoint
 pub mod LoopOverBody
 pub mod MachineReadsTable
 pub mod OneCharacterMore
+pub mod RegularBrackets
 pub mod RegularFronts
 pub mod RegularPrefixes
 pub mod ShortWays

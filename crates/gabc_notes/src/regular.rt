@@ -1,110 +1,126 @@
 //! How far a text is a regular snippet: it is kept as it stands, and nothing is found in it.
 
-ghost use Rattle.std.specs.Prelude.{◌≡◌, ◌≤◌, ◌==◌, ◌||◌, length, take, true, Some};
+ghost use Rattle.std.specs.Prelude.{◌≡◌, ◌≤◌, ◌<◌, ◌==◌, ◌&&◌, ◌||◌, false, get_or, length, take, true};
+ghost use Rattle.std.specs.List.{list_all};
+ghost use Rattle.std.specs.Option.{option_map};
 ghost use Rattle.gabc_patterns.specs.LongestPrefix.{IsLongestPrefix};
 ghost use Rattle.gabc_notes.specs.Regular.{IsRegular};
-ghost use Rattle.gabc_notes.specs.machine.CharClass.{class_of_character};
-ghost use Rattle.gabc_notes.specs.machine.ItemMachine.{next_state, raw_state};
-ghost use Rattle.gabc_notes.specs.machine.Regular.{begins_bar, begins_front, ends_regularly, front_state, goes_on_front, is_bar, is_front, item_at, regular_after, warns_at};
+ghost use Rattle.gabc_notes.specs.machine.ItemMachine.{attribute_state, raw_state};
+ghost use Rattle.gabc_notes.specs.machine.Regular.{begins_bar, begins_front, closed_point, front_state, goes_on_front, is_bar, is_front, is_inside, is_macro, item_at, longest_at, reading_at, regular_after};
 
 use crate::class::class_of;
-use crate::macro_prefix::{MacroPrefix, digit_of_prefix, prefix_with};
-use crate::state::{ItemState, is_attribute, is_raw, is_whole, next_state, short_step};
-
-/// Where the reading of a snippet stands in which nothing was found yet.
-#[derive(Clone, Copy)]
-pub(crate) struct RegularState {
-    item: ItemState,
-    /// What the open bracket holds.
-    name: MacroPrefix,
-    /// Whether an `@[` is open.
-    fused: bool,
-}
-
-/// Returns whether an attribute or a spacing goes on with `c`.
-#[inline(always)]
-fn stays_inside(c: char) -> bool
-    ensures { result ≡ true → (s : ItemState) → raw_state s ≡ true →
-        next_state s (class_of_character c) ≡ Some s }
-{
-    c != ']'
-}
-
-impl RegularState {
-    /// Returns whether a warning comes with `c`, which brings the item to `next`, where no macro is
-    /// defined.
-    fn warns_at(self, next: ItemState, c: char) -> bool
-        ensures { result ≡ warns_at self next c }
-    {
-        if is_raw(self.item) {
-            is_attribute(next) && digit_of_prefix(self.name).is_some()
-        } else {
-            (c == '[' && !is_raw(next) && self.fused) || (c == ']' && !self.fused)
-        }
-    }
-
-    /// Returns where the reading stands after `c`; `None` where `c` is not kept or something is
-    /// found at it. Most notes have their short way, and so have the marks that end them and what
-    /// stands in brackets.
-    #[inline(always)]
-    fn after(self, c: char) -> Option<RegularState>
-        ensures { result ≡ regular_after self c }
-    {
-        match short_step(self.item, c) {
-            Some(next) => Some(RegularState {
-                item: next,
-                name: MacroPrefix::Closed,
-                fused: self.fused,
-            }),
-            None if is_raw(self.item) && stays_inside(c) => Some(RegularState {
-                name: prefix_with(self.name, c),
-                ..self
-            }),
-            None if (c == ')' || c == '|') && !is_raw(self.item) => None,
-            None => self.after_any(c),
-        }
-    }
-
-    /// Returns what `after` returns, whatever `c` is.
-    fn after_any(self, c: char) -> Option<RegularState>
-        ensures { result ≡ regular_after self c }
-    {
-        let next = match next_state(self.item, class_of(c)) {
-            Some(next) => next,
-            None => return None,
-        };
-        if self.warns_at(next, c) {
-            return None;
-        }
-        let in_bracket = is_raw(next);
-        Some(RegularState {
-            item: next,
-            name: if in_bracket {
-                prefix_with(self.name, c)
-            } else {
-                MacroPrefix::Closed
-            },
-            fused: if is_raw(self.item) || in_bracket {
-                self.fused
-            } else {
-                c == '[' || (self.fused && c != ']')
-            },
-        })
-    }
-
-    /// Returns whether nothing is found where the snippet ends here.
-    fn ends_regularly(self) -> bool
-        ensures { result ≡ ends_regularly self }
-    {
-        is_whole(self.item) && !self.fused
-    }
-}
+use crate::state::{FullItem, ItemState, is_attribute, is_raw, is_whole, next_state, short_step};
 
 /// Returns whether `byte` is a mark that ends a snippet.
 fn is_mark(byte: u8) -> bool
     ensures { result ≡ (byte == 41 || byte == 124) }
 {
     byte == b')' || byte == b'|'
+}
+
+/// Where the reading of a snippet stands in which nothing was found yet: outside brackets, or where
+/// one was opened.
+#[derive(Clone, Copy)]
+pub(crate) struct RegularPoint {
+    item: ItemState,
+    /// Whether an `@[` is open.
+    fused: bool,
+}
+
+impl RegularPoint {
+    /// Returns where the reading stands after `byte`, outside brackets; `None` where that is not
+    /// kept or something is found at it. Most notes have their short way.
+    #[inline(always)]
+    #[tactic(auto, using(crate::proofs::machine::RegularBrackets::at_mark))]
+    fn after(self, byte: u8) -> Option<RegularPoint>
+        ensures { raw_state self.item ≡ false →
+            option_map reading_at result ≡ regular_after (reading_at self) byte }
+    {
+        match short_step(self.item, byte as char) {
+            Some(item) => Some(RegularPoint { item, ..self }),
+            None if is_mark(byte) => None,
+            None => self.after_any(byte),
+        }
+    }
+
+    /// Returns what `after` returns, whatever `byte` is.
+    #[tactic(auto, using(crate::proofs::machine::RegularBrackets::enters))]
+    fn after_any(self, byte: u8) -> Option<RegularPoint>
+        ensures { raw_state self.item ≡ false →
+            option_map reading_at result ≡ regular_after (reading_at self) byte }
+    {
+        let item = match next_state(self.item, class_of(byte as char)) {
+            Some(next) => next,
+            None => return None,
+        };
+        let fused = match byte {
+            _ if is_raw(item) => self.fused,
+            b'[' if self.fused => return None,
+            b']' if !self.fused => return None,
+            b'[' | b']' => !self.fused,
+            _ => self.fused,
+        };
+        Some(RegularPoint { item, fused })
+    }
+
+    /// Returns where the reading stands after the `]` of the bracket that was opened.
+    fn closed(self) -> RegularPoint
+        ensures { result ≡ closed_point self }
+    {
+        let full = match self.item {
+            ItemState::SlashRaw => FullItem::Spacing,
+            _ => FullItem::Attribute,
+        };
+        RegularPoint {
+            item: ItemState::Done(full),
+            ..self
+        }
+    }
+
+    /// Returns whether a warning comes with the `]` after `bytes`, which the bracket that was
+    /// opened holds, where no macro is defined.
+    fn warns_after(self, bytes: &[u8]) -> bool
+        ensures { result ≡ (attribute_state (closed_point self).item && is_macro bytes.now) }
+    {
+        is_attribute(self.closed().item) && is_macro(bytes)
+    }
+
+    /// Returns how many bytes the longest regular prefix of `read` bytes has, which were read up to
+    /// here: all where nothing is found if the snippet ends here, else `before`.
+    #[inline(always)]
+    fn longest(self, read: usize, before: usize) -> usize
+        ensures { result ≡ longest_at (reading_at self) read before }
+    {
+        if is_whole(self.item) && !self.fused {
+            read
+        } else {
+            before
+        }
+    }
+}
+
+/// Returns whether an attribute that holds `bytes` names a macro.
+fn is_macro(bytes: &[u8]) -> bool
+    ensures { result ≡ is_macro bytes.now }
+{
+    match bytes {
+        [b'n' | b'g' | b'e', b'm', b'0'..=b'9'] => true,
+        _ => false,
+    }
+}
+
+/// Returns how many bytes stand before the first `]` of `bytes`, or all.
+#[inline(always)]
+fn inside_len(bytes: &[u8]) -> usize
+    ensures within { result ≤ length bytes.now }
+    ensures inside { list_all is_inside (take result bytes.now) ≡ true }
+    ensures closed { result < length bytes.now → get_or bytes.now result 0 ≡ 93 }
+{
+    let mut len = 0;
+    while len < bytes.len() && bytes[len] != b']' {
+        len += 1;
+    }
+    len
 }
 
 /// Returns whether `byte` is a pitch but `b`.
@@ -186,40 +202,47 @@ fn bar_len(bytes: &[u8]) -> usize
 }
 
 /// Returns where the reading stands after the front that the first `len` of `bytes` are.
-fn front_state(bytes: &[u8], len: usize) -> RegularState
+fn front_point(bytes: &[u8], len: usize) -> RegularPoint
     requires { len ≤ length bytes.now }
-    ensures { result ≡ front_state (take len bytes.now) }
+    ensures { reading_at result ≡ front_state (take len bytes.now) }
 {
-    RegularState {
+    RegularPoint {
         item: if len == 0 {
             ItemState::Start
         } else {
             item_at(bytes[len - 1])
         },
-        name: MacroPrefix::Closed,
         fused: false,
     }
 }
 
 /// Returns what `regular_notes` returns, where the first `front` bytes of `text` are a front, by
-/// reading what follows them.
-fn regular_by_characters(text: &str, front: usize) -> usize
+/// reading what follows them. Of a bracket it looks for the end alone.
+fn regular_by_bytes(text: &str, front: usize) -> usize
     requires within { front ≤ length text.now }
     requires is_front { is_front (take front text.now) ≡ true }
     ensures { IsLongestPrefix IsRegular text.now result }
 {
-    let mut state = front_state(text.as_bytes(), front);
+    let bytes = text.as_bytes();
+    let mut point = front_point(bytes, front);
     let mut read = front;
     let mut regular = front;
-    for c in text[front..].chars() {
-        match state.after(c) {
-            Some(next) => state = next,
+    while read < bytes.len() {
+        point = match point.after(bytes[read]) {
+            Some(next) => next,
             None => return regular,
+        };
+        read += 1;
+        if is_raw(point.item) {
+            let rest = &bytes[read..];
+            let len = inside_len(rest);
+            if len == rest.len() || point.warns_after(&rest[..len]) {
+                return regular;
+            }
+            read += len + 1;
+            point = point.closed();
         }
-        read += c.len_utf8();
-        if state.ends_regularly() {
-            regular = read;
-        }
+        regular = point.longest(read, regular);
     }
     regular
 }
@@ -233,7 +256,7 @@ fn regular_from_bar(text: &str) -> usize
     if bar < bytes.len() && is_mark(bytes[bar]) {
         return bar;
     }
-    regular_by_characters(text, 0)
+    regular_by_bytes(text, 0)
 }
 
 /// Returns what `regular_notes` returns, where the first `front` bytes of `text` are a front. It
@@ -247,7 +270,7 @@ fn regular_after_front(text: &str, front: usize) -> usize
     if front == 0 {
         regular_from_bar(text)
     } else {
-        regular_by_characters(text, front)
+        regular_by_bytes(text, front)
     }
 }
 

@@ -232,38 +232,6 @@ fn goes_on_note(state: ItemState) -> bool
     }
 }
 
-/// Returns what `short_step` returns for a character that goes on with some items and begins
-/// others.
-#[inline(always)]
-fn short_by_item(state: ItemState, c: char) -> Option<ItemState>
-    ensures { IfSome result (λ next. IsShortStep state c next) }
-{
-    match (state, c) {
-        (ItemState::Slash, '/') => Some(ItemState::Done(FullItem::Spacing)),
-        (ItemState::Colon, ':') => Some(ItemState::Bar),
-        (ItemState::Pitch | ItemState::ClefPitch, 'x') => Some(ItemState::Altered),
-        (_, '/') if begins_item(state) => Some(ItemState::Slash),
-        (_, ':') if begins_item(state) => Some(ItemState::Colon),
-        _ => None,
-    }
-}
-
-/// Returns what `short_step` returns for a character that is no small pitch and none of the most
-/// frequent suffixes and signs.
-#[inline(always)]
-fn rarer_step(state: ItemState, c: char) -> Option<ItemState>
-    ensures { IfSome result (λ next. IsShortStep state c next) }
-{
-    match c {
-        ',' | ';' if begins_item(state) => Some(ItemState::Bar),
-        ' ' if begins_item(state) => Some(ItemState::Blanks),
-        '!' if begins_item(state) => Some(ItemState::Done(FullItem::Spacing)),
-        'r' | '~' | '<' | '>' if goes_on_note(state) => Some(ItemState::Body),
-        'A'..='N' | 'P' if begins_item(state) => Some(ItemState::Body),
-        _ => short_by_item(state, c),
-    }
-}
-
 /// Returns where the reading stands after a character, on a short way for those that most notes
 /// have: a pitch but `b` that begins one, a frequent suffix or sign that goes on with one, a bar, a
 /// space, or `x`.
@@ -274,8 +242,27 @@ pub(crate) fn short_step(state: ItemState, c: char) -> Option<ItemState>
     match c {
         'c' | 'f' if begins_item(state) => Some(ItemState::ClefPitch),
         'a' | 'd'..='n' | 'p' if begins_item(state) => Some(ItemState::Pitch),
+        'A'..='N' | 'P' if begins_item(state) => Some(ItemState::Body),
         '.' | '_' | '\'' | 'v' | 's' | 'w' | 'o' if goes_on_note(state) => Some(ItemState::Body),
-        _ => rarer_step(state, c),
+        'r' | '~' | '<' | '>' if goes_on_note(state) => Some(ItemState::Body),
+        ',' | ';' if begins_item(state) => Some(ItemState::Bar),
+        ' ' if begins_item(state) => Some(ItemState::Blanks),
+        '!' if begins_item(state) => Some(ItemState::Done(FullItem::Spacing)),
+        '/' => match state {
+            ItemState::Slash => Some(ItemState::Done(FullItem::Spacing)),
+            _ if begins_item(state) => Some(ItemState::Slash),
+            _ => None,
+        },
+        ':' => match state {
+            ItemState::Colon => Some(ItemState::Bar),
+            _ if begins_item(state) => Some(ItemState::Colon),
+            _ => None,
+        },
+        'x' => match state {
+            ItemState::Pitch | ItemState::ClefPitch => Some(ItemState::Altered),
+            _ => None,
+        },
+        _ => None,
     }
 }
 

@@ -1,11 +1,11 @@
 -- The front of a snippet is regular, and so is a bar, and where the reading stands after it.
-use Rattle.std.proofs.Common.{◌≡◌, ◌<◌, ◌≤◌, ◌+◌, ◌⊎◌, inl, inr, ℕ, zero, suc, List, [], ◌∷◌, ◌++◌, Bool, true, false, ◌||◌, ◌==◌, nat_lt, codes, map, Option, length, take, drop, get_or, encode_utf8_all, refl, sym, ap, subst, ◌∙◌, arith, None, Some, IsUtf8, append-nil, append_assoc, length-append, if◌then◌else◌}
+use Rattle.std.proofs.Common.{◌≡◌, ◌<◌, ◌≤◌, ◌+◌, ◌⊎◌, inl, inr, ℕ, zero, suc, List, [], ◌∷◌, ◌++◌, Bool, true, false, ◌||◌, ◌==◌, nat_lt, codes, map, Option, length, length-drop, take, drop, get_or, encode_utf8_all, refl, sym, ap, subst, ◌∙◌, arith, None, Some, IsUtf8, append-nil, append_assoc, length-append, if◌then◌else◌}
 use Rattle.std.specs.List.{list_all}
 use Rattle.std.specs.Str.{chars, IsAscii, IsCharBoundary}
 use Rattle.std.proofs.lemmas.Bool.{eqb-true, ltb-true}
 use Rattle.std.proofs.lemmas.List.{take_more, take-append-drop, drop_more, length-take-le}
 use Rattle.std.proofs.lemmas.List.Folds.{list_all-append}
-use Rattle.std.proofs.lemmas.Str.{chars-append, chars-IsAscii, chars_past_char, encode_ascii, encodes-append, encodes-IsAscii, IsCharBoundary-from_take, IsUtf8-drop, IsUtf8-from_ascii}
+use Rattle.std.proofs.lemmas.Str.{chars-append, chars-IsAscii, chars_past_char, encode_ascii, encodes-append, encodes-IsAscii, IsCharBoundary-from_take, IsUtf8-drop, IsUtf8-from_ascii, IsUtf8-past_char, drop_past_char}
 use Rattle.gabc_patterns.specs.LongestPrefix.{IsLongestPrefix}
 use Rattle.gabc_patterns.specs.Pattern.{is_in}
 use Rattle.gabc_patterns.proofs.BothOfTwoTests.{and_true}
@@ -15,9 +15,9 @@ use Rattle.gabc_patterns.proofs.TextIsReadByCharacter.{one_read}
 use lib.Utf8.{encode}
 use Rattle.std.specs.Char.{len_utf8}
 use Rattle.gabc_notes.specs.Regular.{IsRegular}
-use Rattle.gabc_notes.specs.machine.Regular.{begins_front, ends_regularly, front_state, goes_on_front, is_bar, is_front, item_at, item_from, regular_after}
+use Rattle.gabc_notes.specs.machine.ItemMachine.{raw_state}
+use Rattle.gabc_notes.specs.machine.Regular.{RegularState, begins_front, ends_regularly, front_state, goes_on_front, is_bar, is_front, item_at, item_from, longest_at, reading_at, regular_after}
 use Rattle.gabc_notes.specs.declared.macro_prefix.MacroPrefix.TheVariants.{Closed}
-use Rattle.gabc_notes.specs.declared.regular.RegularState.{RegularState}
 use Rattle.gabc_notes.specs.declared.state.ItemState.{ItemState}
 use Rattle.gabc_notes.specs.declared.state.ItemState.TheVariants.{Start, Bar, Body, CapitalZ, ClefPitch, Colon, Pitch, SmallZ}
 use Rattle.gabc_notes.proofs.machine.RegularPrefixes.{Reads, reads_first, reads_more, reads_regular, regular_ends, stuck_there}
@@ -54,6 +54,9 @@ at_each P clef pitch body c = by (is_in c (codes "cf")) (begins_front c)
 from_each : (P : ItemState → Type 0) → P ClefPitch → P Pitch → P Body → (s : ItemState) (t : List ℕ) → P s → P (item_from s t)
 from_each P clef pitch body s [] h = h
 from_each P clef pitch body s (c ∷ t) h = from_each P clef pitch body (item_at c) t (at_each P clef pitch body c)
+
+pub front_item : (c : ℕ) → reading_at (record { item = item_at c; fused = false }) ≡ in_item (item_at c)
+front_item = at_each (λ (s : ItemState). reading_at (record { item = s; fused = false }) ≡ in_item s) refl refl refl
 
 abbrev takes : ItemState → ℕ → Option RegularState
 takes s c = regular_after (in_item s) c
@@ -101,14 +104,14 @@ pub record IsKnown (t : List ℕ) (state : RegularState) : Type 0 where
   pub closes : regular_after state 41 ≡ None
   pub parts : regular_after state 124 ≡ None
 
-none_ascii : IsAscii []
+pub none_ascii : IsAscii []
 none_ascii i = omega arith
 
-one_ascii : (c : ℕ) (t : List ℕ) → c < 128 → IsAscii t → IsAscii (c ∷ t)
+pub one_ascii : (c : ℕ) (t : List ℕ) → c < 128 → IsAscii t → IsAscii (c ∷ t)
 one_ascii c t low rest zero = low
 one_ascii c t low rest (suc i) = rest i
 
-low : (cs : List ℕ) (c : ℕ) → map (λ d. nat_lt d 128) cs ≡ map (λ d. true) cs → is_in c cs ≡ true → c < 128
+pub low : (cs : List ℕ) (c : ℕ) → map (λ d. nat_lt d 128) cs ≡ map (λ d. true) cs → is_in c cs ≡ true → c < 128
 low cs c e h = ltb-true c 128 (same_at (λ d. nat_lt d 128) (λ d. true) cs c e h)
 
 -- ---- fronts are
@@ -129,6 +132,9 @@ front_known t h = record {
   closes = from_each (λ (s : ItemState). regular_after (in_item s) 41 ≡ None) refl refl refl Start t refl;
   parts = from_each (λ (s : ItemState). regular_after (in_item s) 124 ≡ None) refl refl refl Start t refl;
 }
+
+pub front_outside : (t : List ℕ) → raw_state (item_from Start t) ≡ false
+front_outside t = from_each (λ (s : ItemState). raw_state s ≡ false) refl refl refl Start t refl
 
 -- ---- bars are
 
@@ -182,7 +188,7 @@ known_longest t state known = record {
       let same = known_bytes t state known in omega (arith, all, same));
 }
 
-marks : (m : ℕ) → (m == 41) || (m == 124) ≡ true → (m ≡ 41) ⊎ (m ≡ 124)
+pub marks : (m : ℕ) → (m == 41) || (m == 124) ≡ true → (m ≡ 41) ⊎ (m ≡ 124)
 marks m h = by (m == 41) refl
   where
     by : (b : Bool) → (m == 41) ≡ b → (m ≡ 41) ⊎ (m ≡ 124)
@@ -236,58 +242,62 @@ module _ (text : List ℕ) (n : ℕ) (utf8 : IsUtf8 text) (within : n ≤ length
 
 -- ---- the characters after a known text
 
--- These characters were read of the text, of n bytes, and of n their longest regular prefix. The reading stands in that state, and the rest is left.
-pub record IsReadSoFar (text rest : List ℕ) (state : RegularState) (read regular : ℕ) (done : List ℕ) : Type 0 where
-  pub whole : done ++ chars rest ≡ chars text
+-- These bytes of the text were read, and of them the longest regular prefix has so many. The reading stands in that state.
+pub record IsReadTo (text : List ℕ) (state : RegularState) (read regular : ℕ) : Type 0 where
+  pub done : List ℕ
+  pub utf8 : IsUtf8 (drop read text)
+  pub whole : done ++ chars (drop read text) ≡ chars text
   pub reads : Reads done state
   pub bytes : read ≡ length (encode_utf8_all done)
   pub longest : IsLongestSoFar IsRegular done regular
 
-pub known_read : (text : List ℕ) (n : ℕ) → IsUtf8 text → n ≤ length text → (state : RegularState) → IsKnown (take n text) state → IsReadSoFar text (drop n text) state n n (take n text ++ [])
-known_read text n utf8 within state known = subst (IsReadSoFar text (drop n text) state n n) (sym (append-nil (take n text))) (record {
+pub known_read : (text : List ℕ) (n : ℕ) → IsUtf8 text → n ≤ length text → (state : RegularState) → IsKnown (take n text) state → IsReadTo text state n n
+known_read text n utf8 within state known = record {
+  done = take n text;
+  utf8 = rest_utf8 text n utf8 within state known;
   whole = known_whole text n utf8 within state known;
   reads = known.reads;
   bytes = sym (known_bytes (take n text) state known ∙ length-take-le n text within);
   longest = known_so_far text n utf8 within state known;
-})
+}
 
--- a character more
-module _ (text rest later : List ℕ) (state next : RegularState) (read regular more : ℕ) (done : List ℕ) (c : ℕ) (h : IsReadSoFar text rest state read regular done)
-    (utf8 : IsUtf8 rest) (step : rest ≡ encode c ++ later) (size : more ≡ len_utf8 c) (after : regular_after state c ≡ Some next) where
-  reads_on : Reads (done ++ c ∷ []) next
-  reads_on = reads_more done state next c h.reads after
+module _ (text : List ℕ) (state : RegularState) (read regular : ℕ) (h : IsReadTo text state read regular) where
+  -- a character more
+  module _ (next : RegularState) (c : ℕ) (later : List ℕ) (step : drop read text ≡ encode c ++ later) (after : regular_after state c ≡ Some next) where
+    left : drop (read + len_utf8 c) text ≡ later
+    left = drop_past_char text later read c step
 
-  bytes_on : read + more ≡ length (encode_utf8_all (done ++ c ∷ []))
-  bytes_on = (let all = bytes_more done c in let before = h.bytes in omega (arith, size, all, before))
+    reads_on : Reads (h.done ++ c ∷ []) next
+    reads_on = reads_more h.done state next c h.reads after
 
-  pub read_whole : ends_regularly next ≡ true → IsReadSoFar text later next (read + more) (read + more) (done ++ c ∷ [])
-  read_whole ends = record {
-    whole = one_read done rest later (chars text) c utf8 step h.whole;
-    reads = reads_on;
-    bytes = bytes_on;
-    longest = subst (IsLongestSoFar IsRegular (done ++ c ∷ [])) (sym bytes_on)
-        (longest_whole IsRegular done c regular h.longest (reads_regular (done ++ c ∷ []) next reads_on ends));
-  }
+    bytes_on : read + len_utf8 c ≡ length (encode_utf8_all (h.done ++ c ∷ []))
+    bytes_on = (let all = bytes_more h.done c in let before = h.bytes in omega (arith, all, before))
 
-  pub read_same : ends_regularly next ≡ false → IsReadSoFar text later next (read + more) regular (done ++ c ∷ [])
-  read_same ends = record {
-    whole = one_read done rest later (chars text) c utf8 step h.whole;
-    reads = reads_on;
-    bytes = bytes_on;
-    longest = longest_same IsRegular done c regular h.longest
-        (λ is. let e : false ≡ true = sym ends ∙ regular_ends (done ++ c ∷ []) next reads_on is in absurd (cc));
-  }
+    longest_on : (b : Bool) → ends_regularly next ≡ b → IsLongestSoFar IsRegular (h.done ++ c ∷ []) (if b then read + len_utf8 c else regular)
+    longest_on true ends = subst (IsLongestSoFar IsRegular (h.done ++ c ∷ [])) (sym bytes_on)
+        (longest_whole IsRegular h.done c regular h.longest (reads_regular (h.done ++ c ∷ []) next reads_on ends))
+    longest_on false ends = longest_same IsRegular h.done c regular h.longest
+        (λ is. let e : false ≡ true = sym ends ∙ regular_ends (h.done ++ c ∷ []) next reads_on is in absurd (cc))
 
--- where the reading does not go on, or all is read
-pub read_stuck : (text rest later : List ℕ) (state : RegularState) (read regular : ℕ) (done : List ℕ) (c : ℕ) → IsReadSoFar text rest state read regular done
-    → IsUtf8 text → IsUtf8 rest → rest ≡ encode c ++ later → regular_after state c ≡ None → IsLongestPrefix IsRegular text regular
-read_stuck text rest later state read regular done c h all utf8 step none =
-    longest_of IsRegular text done (chars rest) regular all h.whole h.longest
-    (λ d u v e is. let same : c ≡ d = cc (e, chars_past_char rest later c utf8 step) in
-    stuck_there done u d state h.reads (ap (regular_after state) (sym same) ∙ none) is)
+    pub past_char : IsReadTo text next (read + len_utf8 c) (longest_at next (read + len_utf8 c) regular)
+    past_char = record {
+      done = h.done ++ c ∷ [];
+      utf8 = subst IsUtf8 (sym left) (IsUtf8-past_char (drop read text) later c h.utf8 step);
+      whole = ap (λ (l : List ℕ). (h.done ++ c ∷ []) ++ chars l) left ∙ one_read h.done (drop read text) later (chars text) c h.utf8 step h.whole;
+      reads = reads_on;
+      bytes = bytes_on;
+      longest = longest_on (ends_regularly next) refl;
+    }
 
-pub read_to_end : (text rest : List ℕ) (state : RegularState) (read regular : ℕ) (done : List ℕ) → IsReadSoFar text rest state read regular done
-    → IsUtf8 text → length rest ≡ 0 → IsLongestPrefix IsRegular text regular
-read_to_end text rest state read regular done h all none =
-    longest_of IsRegular text done (chars rest) regular all h.whole h.longest
-    (λ d u v e _. let f : [] ≡ d ∷ v = sym (chars-none rest none) ∙ e in absurd (cc))
+  -- where the reading does not go on
+  pub stuck_at : (c : ℕ) (later : List ℕ) → IsUtf8 text → drop read text ≡ encode c ++ later → regular_after state c ≡ None → IsLongestPrefix IsRegular text regular
+  stuck_at c later utf8 step none =
+      longest_of IsRegular text h.done (chars (drop read text)) regular utf8 h.whole h.longest
+      (λ d u v e is. let same : c ≡ d = cc (e, chars_past_char (drop read text) later c h.utf8 step) in
+      stuck_there h.done u d state h.reads (ap (regular_after state) (sym same) ∙ none) is)
+
+  -- or all is read
+  pub at_end : IsUtf8 text → length text ≤ read → IsLongestPrefix IsRegular text regular
+  at_end utf8 all =
+      longest_of IsRegular text h.done (chars (drop read text)) regular utf8 h.whole h.longest
+      (λ d u v e _. let f : [] ≡ d ∷ v = sym (chars-none (drop read text) (let n = length-drop read text in omega (arith, n, all))) ∙ e in absurd (cc))

@@ -20,12 +20,11 @@ use Rattle.gabc_notes.specs.Events.{bytes_of, end_by_mark, finding_event, is_def
 use Rattle.gabc_notes.specs.Regular.{IsRegular, each_kept, only_kept}
 use Rattle.gabc_notes.specs.machine.CharClass.{class_of_character}
 use Rattle.gabc_notes.specs.machine.ItemMachine.{next_state, raw_state, whole_at, facts_by_states, stage_after}
-use Rattle.gabc_notes.specs.machine.Regular.{warns_at, regular_at, regular_by, regular_after, ends_regularly}
+use Rattle.gabc_notes.specs.machine.Regular.{RegularState, warns_at, regular_at, regular_by, regular_after, ends_regularly}
 use Rattle.gabc_notes.specs.machine.StageBehind.{fresh_stage}
 use Rattle.gabc_notes.specs.witness.ItemMachine.{events_left}
 use Rattle.gabc_notes.specs.witness.StageEvents.{role_in, warning_in, events_in, event_list}
 use Rattle.gabc_notes.specs.declared.macro_prefix.MacroPrefix.TheVariants.{Closed}
-use Rattle.gabc_notes.specs.declared.regular.RegularState.{RegularState}
 use Rattle.gabc_notes.specs.declared.stage.Before.{Before}
 use Rattle.gabc_notes.specs.declared.stage.CharFacts.{CharFacts}
 use Rattle.gabc_notes.specs.declared.stage.CharRole.{CharRole}

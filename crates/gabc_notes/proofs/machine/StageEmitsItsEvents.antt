@@ -96,7 +96,7 @@ attribute_is (Done FullAttribute) = refl
 attribute_is (Done FullFusion) = refl
 
 -- the digit of a macro's name is emitted
-digit_is : (n : MacroPrefix) → macro_digit (example_prefix n) ≡ digit_of_prefix n
+pub digit_is : (n : MacroPrefix) → macro_digit (example_prefix n) ≡ digit_of_prefix n
 digit_is Closed = refl
 digit_is Opened = refl
 digit_is Letter = refl

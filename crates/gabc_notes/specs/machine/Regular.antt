@@ -4,10 +4,19 @@ use Rattle.std.specs.List.{list_all}
 use Rattle.gabc_patterns.specs.Pattern.{is_in}
 use Rattle.gabc_notes.specs.machine.CharClass.{class_of_character}
 use Rattle.gabc_notes.specs.machine.ItemMachine.{attribute_state, digit_of_prefix, next_state, prefix_with, raw_state, whole_at}
-use Rattle.gabc_notes.specs.declared.macro_prefix.MacroPrefix.TheVariants.{Closed}
-use Rattle.gabc_notes.specs.declared.regular.RegularState.{RegularState}
+use Rattle.gabc_notes.specs.witness.StageEvents.{macro_digit}
+use Rattle.gabc_notes.specs.declared.macro_prefix.MacroPrefix.{MacroPrefix}
+use Rattle.gabc_notes.specs.declared.macro_prefix.MacroPrefix.TheVariants.{Closed, Opened}
+use Rattle.gabc_notes.specs.declared.regular.RegularPoint.{RegularPoint}
+use Rattle.gabc_notes.specs.declared.state.FullItem.TheVariants.{Attribute, Spacing}
 use Rattle.gabc_notes.specs.declared.state.ItemState.{ItemState}
-use Rattle.gabc_notes.specs.declared.state.ItemState.TheVariants.{Start, Body, Pitch, ClefPitch}
+use Rattle.gabc_notes.specs.declared.state.ItemState.TheVariants.{Start, Body, Pitch, ClefPitch, SlashRaw, Done}
+
+-- Where the reading stands: what the open bracket holds, and whether an `@[` is open.
+pub record RegularState : Type 0 where
+  pub item : ItemState
+  pub name : MacroPrefix
+  pub fused : Bool
 
 -- where no macro is defined a warning comes with the character c, which brings the item to z
 abbrev pub warns_at : RegularState → ItemState → ℕ → Bool
@@ -34,6 +43,32 @@ regular_after r c = regular_by r c (next_state r.item (class_of_character c))
 
 abbrev pub ends_regularly : RegularState → Bool
 ends_regularly r = whole_at r.item && not r.fused
+
+-- how many bytes the longest regular prefix has, where the reading stands there after so many bytes
+-- and that prefix was so long before
+abbrev pub longest_at : RegularState → ℕ → ℕ → ℕ
+longest_at r read before = if ends_regularly r then read else before
+
+-- ---- what the code sees of it, outside brackets and where one was opened
+
+abbrev pub reading_at : RegularPoint → RegularState
+reading_at p = record { item = p.item; name = if raw_state p.item then Opened else Closed; fused = p.fused }
+
+-- after the `]` of the bracket that was opened
+abbrev pub closed_item : ItemState → ItemState
+closed_item SlashRaw = Done Spacing
+closed_item _ = Done Attribute
+
+abbrev pub closed_point : RegularPoint → RegularPoint
+closed_point p = record p { item = closed_item p.item }
+
+-- a bracket goes on with it
+abbrev pub is_inside : ℕ → Bool
+is_inside c = not (c == 93)
+
+-- an attribute that holds it names a macro
+abbrev pub is_macro : List ℕ → Bool
+is_macro t = is_some (macro_digit (91 ∷ t))
 
 -- ---- the front that is read on a short way
 
