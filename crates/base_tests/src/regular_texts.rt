@@ -3,7 +3,7 @@
 use gabc_text::regular_text;
 
 /// Texts, each with how many of its first bytes are regular.
-const TEXTS: [(&str, usize); 43] = [
+const TEXTS: [(&str, usize); 47] = [
     ("", 0),
     ("abc(f)", 3),
     ("a b c(f)", 5),
@@ -25,22 +25,26 @@ const TEXTS: [(&str, usize); 43] = [
     ("<i>a</i><b>b</b>(f)", 16),
     ("<i>a</i> <i>b</i>(f)", 17),
     ("<i>a</i><i>b</i>(f)", 8),
-    ("<i>a</i><eu><i>b</i>(f)", 20),
+    ("<i>a</i><eu><i>b</i>(f)", 8),
     ("a<i></i>(f)", 1),
     ("a<i>b(f)", 1),
     ("a<i>b</b>(f)", 1),
     ("a<i> b</i>(f)", 1),
     ("a<i><b>b</b></i>(f)", 1),
-    // Raw parts and span marks.
+    // Raw parts, and span marks: one at the beginning, and others.
     ("<v>\\a{}</v>b(f)", 12),
     ("<sp>'(a</sp>(f)", 12),
     ("<i>a<alt></alt></i>(f)", 19),
     ("a<v>b<i></v>(f)", 1),
     ("a<v>\u{e9}</v>(f)", 10),
     ("a<v>\u{feff}</v>(f)", 1),
-    ("<eu>E</eu>(f)", 10),
+    ("<eu>E(f)", 5),
+    ("</nlba>(f)", 7),
+    ("<eu><i>E</i> a(f)", 14),
+    ("<eu>E</eu>(f)", 5),
+    ("<eu><eu>E(f)", 4),
     ("<eu> E(f)", 4),
-    ("a<nlba>b</nlba>(f)", 15),
+    ("a<nlba>b</nlba>(f)", 1),
     ("a<zz>b(f)", 1),
     // Centres: a second one, and what stands in none.
     ("a{e}i(f)", 5),

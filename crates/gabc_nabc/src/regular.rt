@@ -4,10 +4,11 @@ ghost use Rattle.std.specs.Prelude.{◌≡◌, true};
 ghost use Rattle.gabc_patterns.specs.LongestPrefix.{IsLongestPrefix};
 ghost use Rattle.gabc_nabc.specs.CharClass.{class_of_character};
 ghost use Rattle.gabc_nabc.specs.Regular.{IsRegular};
-ghost use Rattle.gabc_nabc.specs.machine.Regular.{regular_after};
+ghost use Rattle.gabc_nabc.specs.machine.Regular.{regular_after, IsLoneCode};
 ghost use Rattle.gabc_nabc.specs.witness.DescriptorMachine.{whole_at};
 
 use crate::class::{NabcClass, class_of};
+use crate::name::is_named;
 use crate::stage::{first_letter, lacks_name};
 use crate::state::{DescriptorState, is_whole, next_state};
 
@@ -56,11 +57,17 @@ impl RegularState {
     }
 }
 
-/// Returns how many bytes of `text` its longest prefix has that is a regular snippet of NABC: in
-/// front of the `)` or `|` that ends it, each of its characters is kept and nothing is found
-/// (GregorioRef, the NABC reference). The empty one is such a prefix.
-#[inline(never)]
-pub fn regular_nabc(text: &str) -> usize
+/// Returns whether `bytes` begin with a code that has a name, and what stands in no snippet.
+fn begins_with_lone_code(bytes: &[u8]) -> bool
+    ensures { result ≡ true → IsLoneCode bytes.now }
+{
+    bytes.len() > 2
+        && is_foreign(char::from(bytes[2]))
+        && is_named(char::from(bytes[0]), char::from(bytes[1]))
+}
+
+/// Returns what `regular_nabc` returns, whatever the text is.
+fn regular_by_bytes(text: &str) -> usize
     ensures { IsLongestPrefix IsRegular text.now result }
 {
     // each character that is kept is of ASCII
@@ -82,4 +89,18 @@ pub fn regular_nabc(text: &str) -> usize
         }
     }
     regular
+}
+
+/// Returns how many bytes of `text` its longest prefix has that is a regular snippet of NABC: in
+/// front of the `)` or `|` that ends it, each of its characters is kept and nothing is found
+/// (GregorioRef, the NABC reference). The empty one is such a prefix. Most snippets are one code.
+#[inline(never)]
+pub fn regular_nabc(text: &str) -> usize
+    ensures { IsLongestPrefix IsRegular text.now result }
+{
+    if begins_with_lone_code(text.as_bytes()) {
+        2
+    } else {
+        regular_by_bytes(text)
+    }
 }

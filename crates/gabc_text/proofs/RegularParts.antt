@@ -1,12 +1,11 @@
 -- Parts of a regular text, one after another.
-use Rattle.std.proofs.Common.{◌≡◌, ℕ, ◌<◌, ◌≤◌, ◌+◌, ◌-◌, ◌==◌, List, [], ◌∷◌, ◌++◌, Bool, true, false, not, ◌||◌, ◌&&◌, length, refl, sym, ap, ap₂, subst, ◌∙◌, arith, take, drop, get_or, map, append_assoc, length-append, Option, Some, None, nat_lt, zero, suc, filter, append-nil}
+use Rattle.std.proofs.Common.{◌≡◌, ℕ, ◌<◌, ◌≤◌, ◌+◌, ◌-◌, ◌==◌, List, [], ◌∷◌, ◌++◌, Bool, true, false, not, length, refl, sym, ap, ap₂, subst, ◌∙◌, arith, take, drop, get_or, map, append_assoc, length-append, Option, Some, None, zero, suc, filter, append-nil}
 use Rattle.std.specs.Cmp.Lexicographic.{pointwise}
-use Rattle.std.proofs.lemmas.Bool.{true≢false, or_parts}
+use Rattle.std.proofs.lemmas.Bool.{true≢false}
 use Rattle.std.proofs.lemmas.Bool.Decides.{Decides-eqb}
 use Rattle.std.proofs.lemmas.Slice.Eq.{starts_is}
 use Rattle.std.proofs.Math.Seq.{take-add}
 use Rattle.std.proofs.lemmas.List.{length-take-le, length-map}
-use Rattle.std.proofs.lemmas.Bool.{lt-ltb}
 use Rattle.gabc_places.specs.declared.place.Span.{Span}
 use Rattle.gabc_text.specs.declared.styles.Style.{Style}
 use Rattle.gabc_text.specs.declared.styles.Style.TheVariants.{B, C, E, I, Sc, Tt, Ul}
@@ -15,13 +14,12 @@ use Rattle.gabc_text.specs.declared.regular.Before.{Before}
 use Rattle.gabc_text.specs.Token.{spelling}
 use Rattle.gabc_text.specs.View.{PieceFacts, is_same, all_styles}
 use Rattle.gabc_text.specs.ViewFacts.{tags_among}
-use Rattle.gabc_text.specs.RegularText.{tag_of, tags_of}
+use Rattle.gabc_text.specs.RegularText.{tags_of}
 use Rattle.gabc_text.specs.Printed.{print_from, text_of_tokens, opening_tag, closing_tag}
 use Rattle.gabc_text.specs.machine.PrintedPieces.{Good, AllGood}
 use Rattle.gabc_text.specs.machine.RegularBytes.{in_style, is_style, word_after, blank_after, first_styles, last_styles, AreApart, printed_text, IsSpelled, IsRun, IsEnclosed, IsPart, IsBegun, nothing_before}
 use Rattle.gabc_text.proofs.printing.PiecesPrintWell.{any_blank}
 use Rattle.gabc_text.proofs.RegularBytes.{ascii_spelled, spelled_join, one_spelled, none_spelled, behind_is, at_blank, blank, blank_good}
-use Rattle.gabc_text.proofs.printing.PrintedTagsOpenStyles.{member, member_filter}
 use Rattle.gabc_text.proofs.printing.PrintedPiecesAreJoined.{in_styles, good_in, known_in, blank_in, word_in, first_in, last_in, plain_printed, styled_printed, text_join, good_join, good_behind, known_join, tags_in, tags_join, word_join, word_stays, blank_join, among_more, centre_text, last_join, after_blank, some_blank, apart_none}
 
 -- ---- styles

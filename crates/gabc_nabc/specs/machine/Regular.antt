@@ -1,7 +1,9 @@
 -- The reading of an NABC snippet in which nothing was found yet.
-use Rattle.std.specs.Prelude.{ℕ, Option, Some, None, if◌then◌else◌}
+use Rattle.std.specs.Prelude.{◌≡◌, ◌<◌, ℕ, List, true, length, slice_index, Option, Some, None, if◌then◌else◌}
 use Rattle.gabc_nabc.specs.CharClass.{class_of_character}
 use Rattle.gabc_nabc.specs.Events.{is_missing}
+use Rattle.gabc_nabc.specs.Names.{is_known}
+use Rattle.gabc_nabc.specs.declared.class.NabcClass.TheVariants.{Other}
 use Rattle.gabc_nabc.specs.witness.DescriptorMachine.{first_at, next_state}
 use Rattle.gabc_nabc.specs.declared.regular.RegularState.{RegularState}
 use Rattle.gabc_nabc.specs.declared.state.DescriptorState.{DescriptorState}
@@ -13,3 +15,9 @@ regular_by r c (Some z) = if is_missing (first_at r.part r.letter) c then None e
 -- where the reading stands after a character, if that is kept and nothing is found at it
 abbrev pub regular_after : RegularState → ℕ → Option RegularState
 regular_after r c = regular_by r c (next_state r.part (class_of_character c))
+
+-- a code that has a name, with a character after it that stands in no snippet
+pub record IsLoneCode (bytes : List ℕ) : Type 0 where
+  pub ends : 2 < length bytes
+  pub named : is_known (slice_index bytes 0) (slice_index bytes 1) ≡ true
+  pub stops : class_of_character (slice_index bytes 2) ≡ Other

@@ -1,6 +1,6 @@
 use Rattle.std.proofs.Common.{◌-◌, length}
 use Rattle.gabc_nabc.proofs.machine.RegularBytes.{IsReadByBytes}
-use Rattle.gabc_nabc.proofs.regular.regular_nabc.Given as goal
+use Rattle.gabc_nabc.proofs.regular.regular_by_bytes.Given as goal
 
 abbrev pub invariant-loop-read : goal.invariant-loop-read
 invariant-loop-read l = record {
