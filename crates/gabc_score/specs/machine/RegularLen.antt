@@ -1,6 +1,6 @@
 -- How far a regular syllable goes that a text begins with.
-use Rattle.std.specs.Prelude.{◌≡◌, ◌≢◌, ℕ, ◌+◌, ◌<◌, ◌≤◌, List, [], ◌∷◌, ◌++◌, Bool, true, false, not, ◌&&◌, ◌||◌, ◌==◌, nat_lt, length, take, drop, codes, cond, encode_utf8_all, if◌then◌else◌, slice_index, Option, Some, None}
-use Rattle.std.specs.List.{All, starts_with}
+use Rattle.std.specs.Prelude.{◌≡◌, ◌≢◌, ℕ, ◌+◌, ◌<◌, ◌≤◌, List, [], ◌∷◌, ◌++◌, Bool, true, false, ◌&&◌, nat_lt, length, take, drop, encode_utf8_all, Option, Some, None}
+use Rattle.std.specs.List.{All}
 use Rattle.std.specs.Str.{chars, IsAscii, IsUtf8}
 use Rattle.std.specs.String.Boundary.{IsSplitPoint}
 use Rattle.gabc_places.specs.TextOfAnInput.{IsPlain, IsText}
@@ -10,7 +10,7 @@ use Rattle.gabc_score.specs.declared.before.Spans.{Spans}
 use Rattle.gabc_score.specs.declared.regular.RegularLen.{RegularLen}
 use Rattle.gabc_text.specs.declared.span_mark.SpanMark.{SpanMark}
 use Rattle.gabc_text.specs.declared.span_mark.SpanMark.TheVariants.{OpensEu, ClosesEu, OpensNlba, ClosesNlba}
-use Rattle.gabc_score.specs.RegularSyllable.{SyllableParts, AreRegularFrom, IsRegularSyllable, spelled, notes_spelled, kept_spelled, canonical_spelled}
+use Rattle.gabc_score.specs.RegularSyllable.{SyllableParts, AreRegularFrom, IsRegularSyllable, spelled, notes_spelled, canonical_spelled}
 
 -- ---- bytes
 

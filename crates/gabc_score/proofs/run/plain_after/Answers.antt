@@ -1,4 +1,4 @@
-use Rattle.std.proofs.Common.{length, take, subst, ap, ◌∙◌, arith}
+use Rattle.std.proofs.Common.{take, subst, ap, ◌∙◌, arith}
 use Rattle.std.specs.List.{All}
 use Rattle.std.proofs.lemmas.List.{length-take-le, take-take}
 use Rattle.gabc_score.specs.machine.RegularLen.{IsPlainByte}
