@@ -1,6 +1,6 @@
 //! A machine that reads a snippet a character at a time.
 
-ghost use Rattle.std.specs.Prelude.{◌≡◌, ℕ, List, [], true, false, None};
+ghost use Rattle.std.specs.Prelude.{◌≡◌, ◌==◌, ℕ, List, [], true, false, None};
 ghost use Rattle.gabc_places.specs.declared.place.Char.{Char};
 ghost use Rattle.gabc_places.specs.BoundedList.{Fits, extended_by};
 ghost use Rattle.gabc_places.specs.StageLaw.{Pushes, StopsAtEnd};
@@ -378,6 +378,23 @@ impl NoteStage {
         self.ended = true;
     }
 
+    /// Reads a character inside raw that does not end it. This does what `read` does, without its
+    /// tests.
+    fn read_within(&mut self, x: Char, out: &mut Room<NoteEvent>)
+        requires fits { Fits out.old 3 }
+        requires runs { self.old.ended ≡ false }
+        requires comment { self.old.before.comment ≡ false }
+        requires inside { raw_state self.old.state ≡ true }
+        requires other { (x.c == 93) ≡ false }
+        ensures state { self.new ≡ stage_behind self.old x }
+        ensures events { Pushes (events_left self.old) (events_left self.new) x 3 out.old out.new }
+        ensures end { StopsAtEnd is_ended (events_left self.new) out.old out.new }
+    {
+        out.push(NoteEvent::Kept(x));
+        self.before.kept = self.before.kept.saturating_add(x.c.len_utf8());
+        self.name = prefix_with(self.name, x.c);
+    }
+
     /// Returns the place of the `[` that is open: inside raw one is. The end of the stage leaves it
     /// as it was.
     pub fn opener(&self) -> Option<Place>
@@ -431,6 +448,8 @@ impl Stage for NoteStage {
             self.read(x, out);
         } else if let Some(next) = short_step(self.state, x.c) {
             self.read_short(next, x, out);
+        } else if is_raw(self.state) && x.c != ']' {
+            self.read_within(x, out);
         } else if x.c == ')' && !is_raw(self.state) {
             self.read_close(x, out);
         } else {

@@ -13,6 +13,8 @@ use Rattle.gabc_notes.specs.machine.CharClass.{class_of_character}
 use Rattle.gabc_notes.specs.Events.{in_raw}
 use Rattle.gabc_notes.specs.machine.ItemMachine.{next_state, whole_at, raw_state}
 use Rattle.gabc_notes.specs.declared.item.ItemKind.{ItemKind}
+use Rattle.gabc_notes.specs.declared.class.CharClass.{CharClass}
+use Rattle.gabc_notes.specs.declared.class.CharClass.TheVariants.{Close}
 use Rattle.gabc_notes.specs.declared.state.ItemState.{ItemState}
 use Rattle.gabc_notes.specs.declared.state.ItemState.TheVariants.{Start, Dash, DashPitch, Body, Pitch, ClefPitch, ClefFlat, Clef as ClefS, Join, JoinPitch, JoinFlat, Altered, Sharp, Bar as BarS, Colon, BarAsked, BarSigned, Slash, Blanks, SmallZ, CapitalZ, Raw, SlashRaw, At, Done}
 use Rattle.gabc_notes.specs.declared.state.FullItem.TheVariants.{Alteration as FullAlteration, Clef as FullClef, Spacing as FullSpacing, Custos as FullCustos, Break as FullBreak, Attribute as FullAttribute, Fusion as FullFusion}
@@ -188,6 +190,23 @@ step_on s c h e = go (is_raw (on s c)) (test_at s c)
     go : (b : Bool) → cond b ((raw_state s && not (c == 93)) || ((c == 91) && (whole_at s && not (raw_state s)))) (not (raw_state s) || (c == 93)) ≡ true → b ≡ true
     go true f = refl
     go false f = absurd (let g : (not (raw_state s) || (c == 93)) ≡ false = rw (h, e) refl in cc)
+
+-- and raw goes on with any other character
+pub raw_stays : (s : ItemState) (c : ℕ) → raw_state s ≡ true → c == 93 ≡ false → on s c ≡ Some s
+raw_stays s c h e = by s h (step_on s c h e)
+  where
+    in_raw : (k : CharClass) → is_raw (next_state Raw k) ≡ true → next_state Raw k ≡ Some Raw
+    in_raw Close f = absurd (cc f)
+    in_raw _ f = refl
+
+    in_slash : (k : CharClass) → is_raw (next_state SlashRaw k) ≡ true → next_state SlashRaw k ≡ Some SlashRaw
+    in_slash Close f = absurd (cc f)
+    in_slash _ f = refl
+
+    by : (s : ItemState) → raw_state s ≡ true → is_raw (on s c) ≡ true → on s c ≡ Some s
+    by Raw f g = in_raw (class_of_character c) g
+    by SlashRaw f g = in_slash (class_of_character c) g
+    by _ f g = absurd (cc f)
 
 -- where a bracket was opened on the way to raw
 abbrev pub OpenedIn : ItemState → List ℕ → Type 0

@@ -20,14 +20,13 @@ use Rattle.gabc_notes.specs.machine.ItemMachine.{attribute_state, digit_of_prefi
 use Rattle.gabc_notes.specs.machine.Regular.{RegularState, closed_item, closed_point, front_state, is_front, is_inside, is_macro, longest_at, reading_at, regular_after, regular_by}
 use Rattle.gabc_notes.specs.witness.ItemMachine.{example_prefix}
 use Rattle.gabc_notes.specs.witness.StageEvents.{macro_digit}
-use Rattle.gabc_notes.specs.declared.class.CharClass.{CharClass}
-use Rattle.gabc_notes.specs.declared.class.CharClass.TheVariants.{Close, Other}
+use Rattle.gabc_notes.specs.declared.class.CharClass.TheVariants.{Other}
 use Rattle.gabc_notes.specs.declared.macro_prefix.MacroPrefix.{MacroPrefix}
 use Rattle.gabc_notes.specs.declared.macro_prefix.MacroPrefix.TheVariants.{Opened}
 use Rattle.gabc_notes.specs.declared.regular.RegularPoint.{RegularPoint}
 use Rattle.gabc_notes.specs.declared.state.ItemState.{ItemState}
 use Rattle.gabc_notes.specs.declared.state.ItemState.TheVariants.{Raw, SlashRaw}
-use Rattle.gabc_notes.proofs.grammar.InsideRawIsAnOpenBracket.{is_raw, on, raw_not_whole, step_in, step_on}
+use Rattle.gabc_notes.proofs.grammar.InsideRawIsAnOpenBracket.{on, raw_not_whole, raw_stays, step_in}
 use Rattle.gabc_notes.proofs.machine.MachineReadsTable.{far}
 use Rattle.gabc_notes.proofs.machine.StageEmitsItsEvents.{digit_is, name_alike}
 use Rattle.gabc_notes.proofs.machine.RegularFronts.{IsReadTo, at_end, front_known, front_outside, known_read, low, marks, none_ascii, one_ascii, past_char, stuck_at}
@@ -107,20 +106,12 @@ chars_inside (c ∷ u) h = (let g = and_true (list_all is_inside (encode c)) (li
 
 stays : (s : ItemState) (n : MacroPrefix) (f : Bool) (c : ℕ) → raw_state s ≡ true → is_inside c ≡ true
     → regular_after (record { item = s; name = n; fused = f }) c ≡ Some (record { item = s; name = prefix_with n c; fused = f })
-stays s n f c raw inside = by s raw (step_on s c raw (not-true (c == 93) inside))
+stays s n f c raw inside = ap (regular_by (record { item = s; name = n; fused = f }) c) (raw_stays s c raw (not-true (c == 93) inside)) ∙ by s raw
   where
-    in_raw : (k : CharClass) → is_raw (next_state Raw k) ≡ true → next_state Raw k ≡ Some Raw
-    in_raw Close e = absurd (cc e)
-    in_raw _ e = refl
-
-    in_slash : (k : CharClass) → is_raw (next_state SlashRaw k) ≡ true → next_state SlashRaw k ≡ Some SlashRaw
-    in_slash Close e = absurd (cc e)
-    in_slash _ e = refl
-
-    by : (s : ItemState) → raw_state s ≡ true → is_raw (on s c) ≡ true → regular_after (record { item = s; name = n; fused = f }) c ≡ Some (record { item = s; name = prefix_with n c; fused = f })
-    by Raw e h = ap (regular_by (record { item = Raw; name = n; fused = f }) c) (in_raw (class_of_character c) h)
-    by SlashRaw e h = ap (regular_by (record { item = SlashRaw; name = n; fused = f }) c) (in_slash (class_of_character c) h)
-    by _ e h = absurd (cc e)
+    by : (s : ItemState) → raw_state s ≡ true → regular_by (record { item = s; name = n; fused = f }) c (Some s) ≡ Some (record { item = s; name = prefix_with n c; fused = f })
+    by Raw e = refl
+    by SlashRaw e = refl
+    by _ e = absurd (cc e)
 
 -- the `]`
 closes : (p : RegularPoint) (n : MacroPrefix) → raw_state p.item ≡ true

@@ -242,7 +242,7 @@ module _ (text : List ℕ) (n : ℕ) (utf8 : IsUtf8 text) (within : n ≤ length
 
 -- ---- the characters after a known text
 
--- These bytes of the text were read, and of them the longest regular prefix has so many. The reading stands in that state.
+-- These bytes of the text were read, and of them the longest regular prefix has `regular`. The reading stands in that state.
 pub record IsReadTo (text : List ℕ) (state : RegularState) (read regular : ℕ) : Type 0 where
   pub done : List ℕ
   pub utf8 : IsUtf8 (drop read text)

@@ -1,10 +1,11 @@
 -- The short ways of the stage do what its general way does.
-use Rattle.std.proofs.Common.{◌≡◌, ℕ, ◌+◌, ◌-◌, ◌^◌, min, List, [], ◌∷◌, ◌++◌, Bool, true, false, cond, ◌&&◌, refl, sym, ap, ◌∙◌, Option, Some, None, option_to_list}
+use Rattle.std.proofs.Common.{◌≡◌, ℕ, ◌+◌, ◌-◌, ◌^◌, min, List, [], ◌∷◌, ◌++◌, Bool, true, false, cond, ◌==◌, ◌&&◌, refl, sym, ap, ◌∙◌, Option, Some, None, option_to_list}
+use Rattle.std.specs.Char.{len_utf8}
 use Rattle.gabc_places.specs.declared.place.Char.{Char}
 use Rattle.gabc_places.specs.BoundedList.{BoundedList, extended_by}
 use Rattle.gabc_places.specs.StageLaw.{Pushes}
 use Rattle.gabc_notes.specs.machine.CharClass.{class_of_character}
-use Rattle.gabc_notes.specs.machine.ItemMachine.{IsShortStep, next_state, raw_state, facts_by_states, stage_after, stage_kept, whole_at}
+use Rattle.gabc_notes.specs.machine.ItemMachine.{IsShortStep, attribute_state, next_state, prefix_with, raw_state, facts_by_states, stage_after, stage_kept, whole_at}
 use Rattle.gabc_notes.specs.witness.ItemMachine.{events_left}
 use Rattle.gabc_places.specs.declared.code.Code.TheVariants.{E6, W10}
 use Rattle.gabc_notes.specs.Events.{finding_event, end_by_mark}
@@ -20,6 +21,7 @@ use Rattle.gabc_notes.specs.declared.stage.CharRole.{CharRole}
 use Rattle.gabc_notes.specs.declared.stage.CharRole.TheVariants.{Silent, Comment, Ends, Keep, LeaveOut}
 use Rattle.gabc_notes.specs.declared.state.ItemState.{ItemState}
 use Rattle.gabc_notes.specs.declared.state.ItemState.TheVariants.{Raw, SlashRaw}
+use Rattle.gabc_notes.proofs.grammar.InsideRawIsAnOpenBracket.{raw_not_whole, raw_stays}
 use Rattle.gabc_notes.proofs.machine.StageEmitsItsEvents.{push_law, push_emits}
 
 -- ---- a character on the short way
@@ -55,6 +57,30 @@ module _ (st : NoteStage) (x : Char) (z : ItemState) (comment : st.before.commen
   note_emits next old new f n p =
       push_emits st next x (Some z) (short_facts st z) Keep _ old new f
       (sym step.step) refl (sym note_role) refl n (p ∙ ap (extended_by old) (sym note_events))
+
+-- ---- a character inside raw that does not end it
+
+no_attribute : (s : ItemState) → raw_state s ≡ true → attribute_state s ≡ false
+no_attribute Raw e = refl
+no_attribute SlashRaw e = refl
+no_attribute _ e = absurd (cc e)
+
+module _ (st : NoteStage) (x : Char) (comment : st.before.comment ≡ false) (inside : raw_state st.state ≡ true) (other : (x.c == 93) ≡ false) where
+  inside_role : role_in st.split st.before.comment (short_facts st st.state) x.c ≡ Keep
+  inside_role = rw (comment, inside) refl
+
+  inside_events : event_list (events_in Keep st.macros st.before (short_facts st st.state) x) ≡ Kept x ∷ []
+  inside_events = rw (inside, no_attribute st.state inside) refl
+
+  pub inside_stage : (n : MacroPrefix) (kept : ℕ) → n ≡ prefix_with st.name x.c → kept ≡ min (st.before.kept + len_utf8 x.c) (2 ^ 64 - 1)
+      → record st { name = n; before = record st.before { kept = kept } } ≡ stage_kept st st.state x
+  inside_stage n kept e h = rw (e, h, comment, inside, raw_not_whole st.state inside) refl
+
+  pub inside_emits : (next : NoteStage) (old new : BoundedList NoteEvent) → st.ended ≡ false → next ≡ stage_kept st st.state x → new ≡ extended_by old (Kept x ∷ [])
+      → Pushes (events_left st) (events_left next) x 3 old new
+  inside_emits next old new f n p =
+      push_emits st next x (Some st.state) (short_facts st st.state) Keep _ old new f
+      (sym (raw_stays st.state x.c inside other)) refl (sym inside_role) refl n (p ∙ ap (extended_by old) (sym inside_events))
 
 -- ---- a character that is kept with no warning
 

@@ -1,5 +1,5 @@
 -- What the calls of a stage do to the text that it keeps.
-use Rattle.std.proofs.Common.{◌≡◌, ◌&&◌, List, [], ◌∷◌, Bool, true, false, Option, Some, None, length, drop, refl, sym, ap, ◌∙◌, subst}
+use Rattle.std.proofs.Common.{◌≡◌, ◌==◌, ◌&&◌, List, [], ◌∷◌, Bool, true, false, Option, Some, None, length, drop, refl, sym, ap, ◌∙◌, subst}
 use Rattle.std.proofs.Math.Seq.{drop-append_seam}
 use Rattle.gabc_places.specs.BoundedList.{BoundedList}
 use Rattle.gabc_places.specs.StageLaw.{Pushes}
@@ -14,6 +14,7 @@ use Rattle.gabc_notes.specs.declared.stage.CharRole.{CharRole}
 use Rattle.gabc_notes.specs.declared.stage.NoteEvent.{NoteEvent}
 use Rattle.gabc_notes.specs.declared.stage.NoteStage.{NoteStage}
 use Rattle.gabc_notes.specs.declared.state.ItemState.{ItemState}
+use Rattle.gabc_notes.proofs.grammar.InsideRawIsAnOpenBracket.{raw_stays}
 use Rattle.gabc_notes.proofs.resuming.KeptTextGivesStage.{emits_on}
 use Rattle.gabc_notes.proofs.resuming.StagesKeep.{behind, push_keeps}
 
@@ -39,6 +40,13 @@ short_state s x z on no_comment step = sym (behind s x on ∙ same)
 
     same : stage_after s (role_of s x.c) (facts_of s x.c) (next_of s x.c) x ≡ stage_kept s z x
     same = rw (step.step, no_comment, step.outside, step.closes_no_notes, step.ends_no_snippet, never s.split, step.begins_no_comment) refl
+
+-- the one inside raw
+pub inside_state : (s : NoteStage) (x : Char) → s.ended ≡ false → s.before.comment ≡ false → raw_state s.state ≡ true → (x.c == 93) ≡ false → stage_kept s s.state x ≡ stage_behind s x
+inside_state s x on no_comment inside other = sym (behind s x on ∙ same)
+  where
+    same : stage_after s (role_of s x.c) (facts_of s x.c) (next_of s x.c) x ≡ stage_kept s s.state x
+    same = rw (raw_stays s.state x.c inside other, no_comment, inside) refl
 
 -- the one of a `)`
 pub close_state : (s : NoteStage) (x : Char) → s.ended ≡ false → s.before.comment ≡ false → raw_state s.state ≡ false → x.c ≡ 41 → record s { ended = true } ≡ stage_behind s x

@@ -44,8 +44,8 @@ regular_after r c = regular_by r c (next_state r.item (class_of_character c))
 abbrev pub ends_regularly : RegularState → Bool
 ends_regularly r = whole_at r.item && not r.fused
 
--- how many bytes the longest regular prefix has, where the reading stands there after so many bytes
--- and that prefix was so long before
+-- how many bytes the longest regular prefix has, where the reading stands there after `read` bytes
+-- and it had `before` bytes before
 abbrev pub longest_at : RegularState → ℕ → ℕ → ℕ
 longest_at r read before = if ends_regularly r then read else before
 

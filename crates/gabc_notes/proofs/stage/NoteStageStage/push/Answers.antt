@@ -30,3 +30,7 @@ returns-then-not-is_raw-clause-ended c = ended_as_before c.args.self.now c.read_
 
 pub returns-else-x-eq41-clause-ended : goal.returns-else-x-eq41-clause-ended
 returns-else-x-eq41-clause-ended c = ended_as_before c.args.self.now c.read-else-x-eq41.new.self c.args.x c.read-else-x-eq41.ensures.state
+
+pub returns-then-x-ne93-clause-steps : goal.returns-then-x-ne93-clause-steps
+returns-then-x-ne93-clause-steps c =
+    push_steps_in c.args.self.now c.read_within.new.self c.args.x c.args.out.now c.read_within.new.out c.if-self.false c.read_within.ensures.state c.read_within.ensures.events
