@@ -8,6 +8,7 @@ ghost use Rattle.gabc_text.specs.witness.Keeps.{Keeps};
 ghost use Rattle.gabc_text.specs.machine.TextStage.{token_stage, events_of_token, settle_stage, events_of_settling, read_stage, events_of_reading, events_of_end, end_stage, push_stage, events_of_push, finish_stage, events_of_finish, is_cut_end, end_by};
 ghost use Rattle.gabc_text.specs.View.{piece_kind};
 ghost use Rattle.gabc_text.specs.witness.EventsLeft.{events_left, parts_by};
+ghost use Rattle.gabc_text.specs.machine.TextFacts.{IsInTag};
 ghost use Rattle.gabc_text.specs.machine.TokenState.{IsLetterBetween};
 ghost use Rattle.gabc_text.specs.machine.RawPart.{stage_past, is_in_raw};
 ghost use Rattle.gabc_text.specs.Events.{CountsFit, codes_of, events_by_point};
@@ -21,7 +22,8 @@ use crate::text_facts::{
 };
 use crate::token::{TagEffect, TokenKind};
 use crate::token_state::{
-    Step, TokenState, is_plain, is_plain_letter, is_unmatched, kind_at_end, next_step, settled_kind,
+    Step, TokenState, is_in_tag, is_plain, is_plain_letter, is_unmatched, kind_at_end, next_step,
+    pass_in_tag, settled_kind,
 };
 use crate::view::PieceKind;
 use gabc_places::{Char, Place, Room, Stage};
@@ -187,6 +189,20 @@ impl TextStage {
         self.facts.pass(TokenKind::Letter, TagEffect::Other);
     }
 
+    /// The character, which begins a tag or goes on with one. This does what `read` does, without
+    /// its tests.
+    fn tag_character(&mut self, c: char, out: &mut Room<TextEvent>)
+        requires fits { Fits out.old 5 }
+        requires tag { IsInTag self.old.state c }
+        ensures stage { self.new ≡ read_stage self.old c }
+        ensures out { out.new ≡ extended_by out.old (events_of_reading self.old c) }
+        ensures few { length out.new.items ≤ length out.old.items + 5 }
+    {
+        emit_char(out, self.progress.next, Some(c));
+        self.progress.pass(c, Some(c));
+        pass_in_tag(&mut self.state, c);
+    }
+
     /// The text ends.
     fn end(&mut self, how: TextEnd, out: &mut Room<TextEvent>)
         requires { Fits out.old 4 }
@@ -205,6 +221,23 @@ impl TextStage {
         self.ended = true;
     }
 
+    /// The character, after the token, if any, that ends before it. A `(` between tokens ends the
+    /// text.
+    fn settle_and_read(&mut self, c: char, out: &mut Room<TextEvent>)
+        requires fits { Fits out.old 8 }
+        requires open { self.old.ended ≡ false }
+        ensures stage { self.new ≡ push_stage self.old c }
+        ensures out { out.new ≡ extended_by out.old (events_of_push self.old c) }
+        ensures few { length out.new.items ≤ length out.old.items + 8 }
+    {
+        self.settle(c, out);
+        if c == '(' && is_plain(self.state) {
+            self.end(TextEnd::Notes, out);
+        } else {
+            self.read(c, out);
+        }
+    }
+
     /// Takes a character.
     pub(crate) fn take(&mut self, c: char, out: &mut Room<TextEvent>)
         requires { Fits out.old 8 }
@@ -217,14 +250,8 @@ impl TextStage {
         }
         match self.state {
             TokenState::Plain if is_plain_letter(c) => self.letter(c, out),
-            _ => {
-                self.settle(c, out);
-                if c == '(' && is_plain(self.state) {
-                    self.end(TextEnd::Notes, out);
-                } else {
-                    self.read(c, out);
-                }
-            }
+            _ if is_in_tag(&self.state, c) => self.tag_character(c, out),
+            _ => self.settle_and_read(c, out),
         }
     }
 

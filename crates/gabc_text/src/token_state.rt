@@ -1,7 +1,8 @@
 //! How a text is cut into tokens as its characters come.
 
 ghost use Rattle.std.specs.Prelude.{◌≡◌, IsTrue};
-ghost use Rattle.gabc_text.specs.machine.TokenState.{settled_kind, wanted_char, step_in_raw, step_at_tag_end, first_step, next_step, kind_at_end, is_plain, IsLetterBetween};
+ghost use Rattle.gabc_text.specs.machine.TokenState.{settled_kind, wanted_char, step_in_raw, step_at_tag_end, first_step, next_step, kind_at_end, is_plain, with_name, IsLetterBetween};
+ghost use Rattle.gabc_text.specs.machine.TextFacts.{IsInTag};
 ghost use Rattle.gabc_text.specs.machine.RawPart.{is_unmatched};
 
 use crate::tag_name::TagPrefix;
@@ -177,6 +178,27 @@ pub(crate) fn next_step(state: TokenState, c: char) -> Step
                 Step::Stays(TokenState::Translation)
             }
         }
+    }
+}
+
+/// Returns whether a tag begins with the character or goes on with it.
+pub(crate) fn is_in_tag(state: &TokenState, c: char) -> bool
+    ensures { IsTrue result → IsInTag state.now c }
+{
+    match state {
+        TokenState::Plain => c == '<',
+        TokenState::Tag(_) => c != '>',
+        _ => false,
+    }
+}
+
+/// Goes past a character with which a tag begins or goes on.
+pub(crate) fn pass_in_tag(state: &mut TokenState, c: char)
+    ensures { state.new ≡ with_name state.old c }
+{
+    match state {
+        TokenState::Tag(name) => *name = name.with(c),
+        _ => *state = TokenState::Tag(TagPrefix::new()),
     }
 }
 

@@ -52,6 +52,11 @@ next_step (Tag name) c = cond (c == 62) (step_at_tag_end (effect_of (60 ∷ name
 next_step (Raw raw m) c = step_in_raw raw m c
 next_step Translation c = cond (c == 93) (Ends kind.Translation Other) (Stays Translation)
 
+-- in a tag, with its name so far
+abbrev pub with_name : TokenState → ℕ → TokenState
+with_name (Tag name) c = Tag (next_name name c)
+with_name _ c = Tag []
+
 abbrev pub kind_at_end : TokenState → Option TokenKind
 kind_at_end Plain = None
 kind_at_end Dollar = Some kind.Letter
