@@ -21,6 +21,7 @@ pub mod MovedIsTold
 pub mod NoStopWhereInputsCease
 pub mod NothingBehindAStop
 pub mod NothingBehindTheEnd
+pub mod NothingIsGiven
 pub mod OpenersInOrder
 pub mod OutputsAreCollected
 pub mod OutputsOfLentSyllables

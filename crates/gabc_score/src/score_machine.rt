@@ -134,6 +134,11 @@ impl ScoreMachine {
         let was = self.pair.sounded();
         self.gather(x);
         find_first(was, self.pair.sounded(), x.place, &mut self.found);
+        if self.pair.reads_on() && self.found.slice().is_empty() {
+            // Most characters bring nothing to give.
+            self.next = x.place.saturating_after(x.c);
+            return;
+        }
         match self.pair.code(self.limits) {
             Some(code) => self.stop(
                 Fault {
@@ -153,6 +158,7 @@ impl ScoreMachine {
     }
 
     /// Reads the end of the body.
+    #[inline(never)]
     fn end(&mut self, out: &mut Room<ScoreEvent>)
         requires stands { StandsInBody self.old }
         requires fits { Fits out.old 16 }
@@ -180,6 +186,7 @@ impl ScoreMachine {
     }
 
     /// Reads an input in the body.
+    #[inline(always)]
     fn push_in_body(&mut self, input: HeadEvent, out: &mut Room<ScoreEvent>)
         requires stands { StandsInBody self.old }
         requires fits { Fits out.old 16 }
@@ -198,6 +205,7 @@ impl ScoreMachine {
     }
 
     /// Reads an input before the body.
+    #[inline(never)]
     fn push_in_heads(&mut self, input: HeadEvent, out: &mut Room<ScoreEvent>)
         requires part { self.old.part ≡ ScorePart.Heads }
         requires rests { IsBeforeBody self.old }
@@ -230,6 +238,7 @@ impl ScoreMachine {
     }
 
     /// Reads an input.
+    #[inline(always)]
     pub(crate) fn push(&mut self, input: HeadEvent, out: &mut Room<ScoreEvent>)
         requires rests { IsScore self.old }
         requires fits { Fits out.old 16 }

@@ -236,6 +236,7 @@ impl Stage for ScoreStage {
         16
     }
 
+    #[inline(always)]
     fn push(&mut self, input: HeadEvent, out: &mut Room<ScoreEvent>)
         requires { Fits out.old 16 }
         ensures events { Pushes (events_left self.old) (events_left self.new)

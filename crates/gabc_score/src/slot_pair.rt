@@ -95,7 +95,7 @@ impl Model for SlotPair {
 }
 
 impl SlotPair {
-    ghost use Rattle.std.specs.Prelude.{◌≡◌, ◌≢◌, ◌||◌, ◌-◌, ◌<◌, ◌≤◌, ◌^◌, nat_lt, take, length, false, IfOk};
+    ghost use Rattle.std.specs.Prelude.{◌≡◌, ◌≢◌, ◌||◌, ◌-◌, ◌<◌, ◌≤◌, ◌^◌, nat_lt, take, length, true, false, IfOk};
     ghost use Rattle.gabc_score.specs.Body.{has_text, is_none};
     ghost use Rattle.gabc_score.specs.machine.BodyBuilder.{code_in, end_fault};
     ghost use Rattle.gabc_score.specs.machine.Gatherer.{nothing_gathered, with_mark, with_mark_of, with_text_end, with_text, with_syllable, with_note_end, with_note, with_last, awaits, first_past};
@@ -333,6 +333,19 @@ impl SlotPair {
             Some(Code::F7)
         } else {
             None
+        }
+    }
+
+    /// Returns whether a syllable is being read that is within its limit.
+    #[inline(always)]
+    pub(crate) fn reads_on(&self) -> bool
+        ensures short { result ≡ true →
+            length self.now.gathered.builder.kept ≤ self.now.gathered.limit }
+        ensures used { result ≡ true → self.now.used ≡ SlotUse.Filling }
+    {
+        match self.used {
+            SlotUse::Filling => self.kept_len() <= self.limit,
+            _ => false,
         }
     }
 

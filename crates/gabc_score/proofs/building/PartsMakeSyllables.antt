@@ -41,27 +41,34 @@ use Rattle.gabc_score.proofs.building.PartsMakeUnits.{HasRead, with_more, text_r
 use Rattle.gabc_score.proofs.building.SnippetsTakeCharacters.{Ending, InSnippet, close_ends, ending_close, ending_next, next_alone}
 use Rattle.gabc_score.proofs.building.PartsOfKeptText.{of_notes, notes_ended, snippet_is}
 use Rattle.gabc_score.proofs.building.SpansOfParts.{eu_open, nlba_open}
-use Rattle.gabc_score.proofs.syllables_of_units.LastTagOpensTheSpan.{behind_tags}
+use Rattle.gabc_score.proofs.syllables_of_units.LastTagOpensTheSpan.{after_tags}
 use Rattle.gabc_score.proofs.texts_of_body.SeamsOfCharacters.{size, size_append}
 
 -- ---- no syllable is made
 
+-- the syllables that are whole, their canonical bytes, and whether one of them is too long
+abbrev pub whole_in : Gathered → List UnplacedSyllable × (ℕ × Bool)
+whole_in g = (g.made, (g.total, g.over))
+
+pub whole_stays : (now : List BodyEvent) (g : Gathered) → list_any closes now ≡ false → whole_in (with_all g now) ≡ whole_in g
+whole_stays [] g e = refl
+whole_stays (event.Text (text_out.Kept c) ∷ now) g e = whole_stays now (with_event g (event.Text (text_out.Kept c))) e
+whole_stays (event.Text (text_out.Part text_part.WordStart) ∷ now) g e = whole_stays now (with_event g (event.Text (text_out.Part text_part.WordStart))) e
+whole_stays (event.Text (text_out.Part (text_part.Piece p)) ∷ now) g e = whole_stays now (with_event g (event.Text (text_out.Part (text_part.Piece p)))) e
+whole_stays (event.Text (text_out.Part (text_part.Centre s)) ∷ now) g e = whole_stays now (with_event g (event.Text (text_out.Part (text_part.Centre s)))) e
+whole_stays (event.Text (text_out.Part (text_part.Translation s)) ∷ now) g e = whole_stays now (with_event g (event.Text (text_out.Part (text_part.Translation s)))) e
+whole_stays (event.Text (text_out.Found f) ∷ now) g e = whole_stays now g e
+whole_stays (event.Text (text_out.Ended text_end.Notes) ∷ now) g e = whole_stays now (with_event g (event.Text (text_out.Ended text_end.Notes))) e
+whole_stays (event.Text (text_out.Ended text_end.Finished) ∷ now) g e = whole_stays now g e
+whole_stays (event.Text (text_out.Ended (text_end.Cut p)) ∷ now) g e = whole_stays now (with_event g (event.Text (text_out.Ended (text_end.Cut p)))) e
+whole_stays (event.Notes line (note.Kept c) ∷ now) g e = whole_stays now (with_event g (event.Notes line (note.Kept c))) e
+whole_stays (event.Notes line (note.Found f) ∷ now) g e = whole_stays now g e
+whole_stays (event.Notes line (note.Ended note_end.Next n) ∷ now) g e = whole_stays now (with_event g (event.Notes line (note.Ended note_end.Next n))) e
+whole_stays (event.Notes line (note.Ended note_end.Close n) ∷ now) g e = absurd (true≢false e)
+whole_stays (event.Notes line (note.Ended (note_end.Cut p) n) ∷ now) g e = whole_stays now (with_event g (event.Notes line (note.Ended (note_end.Cut p) n))) e
+
 pub made_stays : (now : List BodyEvent) (g : Gathered) → list_any closes now ≡ false → (with_all g now).made ≡ g.made
-made_stays [] g e = refl
-made_stays (event.Text (text_out.Kept c) ∷ now) g e = made_stays now (with_event g (event.Text (text_out.Kept c))) e
-made_stays (event.Text (text_out.Part text_part.WordStart) ∷ now) g e = made_stays now (with_event g (event.Text (text_out.Part text_part.WordStart))) e
-made_stays (event.Text (text_out.Part (text_part.Piece p)) ∷ now) g e = made_stays now (with_event g (event.Text (text_out.Part (text_part.Piece p)))) e
-made_stays (event.Text (text_out.Part (text_part.Centre s)) ∷ now) g e = made_stays now (with_event g (event.Text (text_out.Part (text_part.Centre s)))) e
-made_stays (event.Text (text_out.Part (text_part.Translation s)) ∷ now) g e = made_stays now (with_event g (event.Text (text_out.Part (text_part.Translation s)))) e
-made_stays (event.Text (text_out.Found f) ∷ now) g e = made_stays now g e
-made_stays (event.Text (text_out.Ended text_end.Notes) ∷ now) g e = made_stays now (with_event g (event.Text (text_out.Ended text_end.Notes))) e
-made_stays (event.Text (text_out.Ended text_end.Finished) ∷ now) g e = made_stays now g e
-made_stays (event.Text (text_out.Ended (text_end.Cut p)) ∷ now) g e = made_stays now (with_event g (event.Text (text_out.Ended (text_end.Cut p)))) e
-made_stays (event.Notes line (note.Kept c) ∷ now) g e = made_stays now (with_event g (event.Notes line (note.Kept c))) e
-made_stays (event.Notes line (note.Found f) ∷ now) g e = made_stays now g e
-made_stays (event.Notes line (note.Ended note_end.Next n) ∷ now) g e = made_stays now (with_event g (event.Notes line (note.Ended note_end.Next n))) e
-made_stays (event.Notes line (note.Ended note_end.Close n) ∷ now) g e = absurd (true≢false e)
-made_stays (event.Notes line (note.Ended (note_end.Cut p) n) ∷ now) g e = made_stays now (with_event g (event.Notes line (note.Ended (note_end.Cut p) n))) e
+made_stays now g e = ap (λ w. w.0) (whole_stays now g e)
 
 none_makes : (lines macros : ℕ) (before : BodyPart) (now : List BodyEvent) → list_any closes now ≡ false → PartMakes lines macros before now
 unfolding PartMakes
@@ -189,7 +196,7 @@ module _ (lines macros : ℕ) {x : Char} {line : ℕ} {opened : Place} {before s
           ∙ ap (with_more base.builder) closed.cut
 
       -- a span is open after what is made as after the tags of its text
-      opens : (opening closing : List ℕ) (was : Bool) → open_past opening closing made.kept made.text.pieces was ≡ behind_tags opening closing was (span_tags (t ++ 40 ∷ []))
+      opens : (opening closing : List ℕ) (was : Bool) → open_past opening closing made.kept made.text.pieces was ≡ after_tags opening closing was (span_tags (t ++ 40 ∷ []))
       opens opening closing was =
-          subst (λ (o : OpenSyllable). open_past opening closing (past_snippet o line n 41).kept (past_snippet o line n 41).view.pieces was ≡ behind_tags opening closing was (span_tags (t ++ 40 ∷ []))) (sym builder_is)
+          subst (λ (o : OpenSyllable). open_past opening closing (past_snippet o line n 41).kept (past_snippet o line n 41).view.pieces was ≡ after_tags opening closing was (span_tags (t ++ 40 ∷ []))) (sym builder_is)
           (close_opens laws lines t view line (length here.earlier) base.builder has_read closed.s closed.rest n count_is full refl opening closing was)

@@ -37,7 +37,7 @@ use Rattle.gabc_score.proofs.building.PartsOfKeptText.{cut_is, snippet_is}
 use Rattle.gabc_score.proofs.holding.PartsAreAUnit.{notes_are_unit}
 use Rattle.gabc_score.proofs.holding.SyllableHoldsPartByPart.{first_turn}
 use Rattle.gabc_score.proofs.holding.SnippetsAreHeld.{Placed, PlacedFrom, placed_push, all_held, next_turn, whole_of, span_behind}
-use Rattle.gabc_score.proofs.syllables_of_units.LastTagOpensTheSpan.{behind_tags}
+use Rattle.gabc_score.proofs.syllables_of_units.LastTagOpensTheSpan.{after_tags}
 use Rattle.gabc_score.proofs.syllables_of_units.UnitGivesOneSyllable.{view_past}
 use Rattle.gabc_score.proofs.texts_of_body.SeamsOfCharacters.{size}
 use Rattle.gabc_score.proofs.texts_of_body.ViewStandsInLongerText.{view_more}
@@ -123,9 +123,9 @@ module _ (laws : PartLaws) (lines : ℕ) (t : List ℕ) (view : ViewContent) whe
 
     -- a span is open after its pieces as after the tags of the text
     pub close_opens : (n : ℕ) → n ≡ size s → (full : IsSaidInFull t []) → view ≡ view_in (t ++ 40 ∷ []) → (opening closing : List ℕ) (was : Bool)
-        → (let b = past_snippet (with_more o (s ++ rest)) line n 41 in open_past opening closing b.kept b.view.pieces was ≡ behind_tags opening closing was (span_tags (t ++ 40 ∷ [])))
+        → (let b = past_snippet (with_more o (s ++ rest)) line n 41 in open_past opening closing b.kept b.view.pieces was ≡ after_tags opening closing was (span_tags (t ++ 40 ∷ [])))
     close_opens n e full same opening closing was =
-        subst (λ (b : OpenSyllable). open_past opening closing b.kept b.view.pieces was ≡ behind_tags opening closing was (span_tags (t ++ 40 ∷ []))) (sym (ended_is n 41 e))
+        subst (λ (b : OpenSyllable). open_past opening closing b.kept b.view.pieces was ≡ after_tags opening closing was (span_tags (t ++ 40 ∷ []))) (sym (ended_is n 41 e))
         (ap (λ (k : List ℕ). open_past opening closing k view.pieces was) whole_kept
         ∙ view_past opening closing (whole_of t h.reads new) (t ++ 40 ∷ []) view was (whole_stands full same))
 

@@ -22,7 +22,7 @@ use Rattle.gabc_score.proofs.building.BuilderHoldsDefinition.{gathered}
 use Rattle.gabc_score.proofs.building.EventsOfSyllableParts.{onto_append}
 use Rattle.gabc_score.proofs.resuming.MadeOfEvents.{MadeAlike, made_behind}
 use Rattle.gabc_score.proofs.resuming.OpenSpans.{opened, leaves_open}
-use Rattle.gabc_score.proofs.syllables_of_units.LastTagOpensTheSpan.{behind_tags, text_opens_span}
+use Rattle.gabc_score.proofs.syllables_of_units.LastTagOpensTheSpan.{after_tags, text_opens_span}
 
 module _ (opening closing : List ℕ) where
   abbrev open_at : List BodyEvent → Bool
@@ -65,7 +65,7 @@ module _ (opening closing : List ℕ) where
 
   -- the text of the parts
   parts_open : (lines : ℕ) (t : List ℕ) (earlier : List (List ℕ)) (k : List ℕ) (before : List BodyEvent) → IsSaidInFull t [] → since_close before ≡ []
-      → open_at (events_onto (said_by lines (in_notes t earlier k)) before) ≡ behind_tags opening closing (open_at before) (span_tags (t ++ 40 ∷ []))
+      → open_at (events_onto (said_by lines (in_notes t earlier k)) before) ≡ after_tags opening closing (open_at before) (span_tags (t ++ 40 ∷ []))
   parts_open lines t earlier k before full since =
       let said_text = text_events (said_of t ++ said_at_end t) in
       ap open_at (onto_append (events_before lines t earlier) (snippet_events (line_behind lines 0 earlier) k) before)
@@ -84,10 +84,10 @@ module _ (lines : ℕ) (t : List ℕ) (earlier : List (List ℕ)) (k : List ℕ)
   alike : MadeAlike (all_syllables (opened spans)) (with_all (begun spans) all) (gathered 0 0 (events_onto all (opened spans)))
   alike = made_behind (begun spans) spans refl refl refl refl (opened spans) (leaves_open spans) 0 (omega arith) all
 
-  pub eu_open : (with_all (begun spans) all).eu ≡ behind_tags (codes "<eu>") (codes "</eu>") spans.eu (span_tags (t ++ 40 ∷ []))
+  pub eu_open : (with_all (begun spans) all).eu ≡ after_tags (codes "<eu>") (codes "</eu>") spans.eu (span_tags (t ++ 40 ∷ []))
   eu_open = alike.read.eu ∙ parts_open (codes "<eu>") (codes "</eu>") lines t earlier k (opened spans) full (leaves_open spans).nothing
-      ∙ ap (λ (b : Bool). behind_tags (codes "<eu>") (codes "</eu>") b (span_tags (t ++ 40 ∷ []))) (leaves_open spans).eu
+      ∙ ap (λ (b : Bool). after_tags (codes "<eu>") (codes "</eu>") b (span_tags (t ++ 40 ∷ []))) (leaves_open spans).eu
 
-  pub nlba_open : (with_all (begun spans) all).nlba ≡ behind_tags (codes "<nlba>") (codes "</nlba>") spans.nlba (span_tags (t ++ 40 ∷ []))
+  pub nlba_open : (with_all (begun spans) all).nlba ≡ after_tags (codes "<nlba>") (codes "</nlba>") spans.nlba (span_tags (t ++ 40 ∷ []))
   nlba_open = alike.read.nlba ∙ parts_open (codes "<nlba>") (codes "</nlba>") lines t earlier k (opened spans) full (leaves_open spans).nothing
-      ∙ ap (λ (b : Bool). behind_tags (codes "<nlba>") (codes "</nlba>") b (span_tags (t ++ 40 ∷ []))) (leaves_open spans).nlba
+      ∙ ap (λ (b : Bool). after_tags (codes "<nlba>") (codes "</nlba>") b (span_tags (t ++ 40 ∷ []))) (leaves_open spans).nlba

@@ -12,30 +12,23 @@ use Rattle.gabc_score.specs.SpansPast.{eu_past, nlba_past}
 use Rattle.gabc_score.specs.SyllablesOfUnits.{HoldsUnit, ScoreUnit}
 use Rattle.gabc_score.specs.RegularSyllable.{SyllableParts, has_gap}
 use Rattle.gabc_score.specs.machine.RegularLen.{past_mark}
-use Rattle.gabc_score.proofs.syllables_of_units.LastTagOpensTheSpan.{behind_tags}
+use Rattle.gabc_score.proofs.syllables_of_units.LastTagOpensTheSpan.{after_tags}
 use Rattle.gabc_score.proofs.syllables_of_units.UnitGivesOneSyllable.{unit_past}
 
-behind_eu : (o : Option SpanMark) (spans : Spans) → behind_tags (codes "<eu>") (codes "</eu>") spans.eu (tags_of o) ≡ (past_mark o spans).eu
+after_mark : (o : Option SpanMark) (spans : Spans)
+    → (after_tags (codes "<eu>") (codes "</eu>") spans.eu (tags_of o) ≡ (past_mark o spans).eu) × (after_tags (codes "<nlba>") (codes "</nlba>") spans.nlba (tags_of o) ≡ (past_mark o spans).nlba)
 unfolding encode
-behind_eu None spans = refl
-behind_eu (Some OpensEu) spans = refl
-behind_eu (Some ClosesEu) spans = refl
-behind_eu (Some OpensNlba) spans = refl
-behind_eu (Some ClosesNlba) spans = refl
-
-behind_nlba : (o : Option SpanMark) (spans : Spans) → behind_tags (codes "<nlba>") (codes "</nlba>") spans.nlba (tags_of o) ≡ (past_mark o spans).nlba
-unfolding encode
-behind_nlba None spans = refl
-behind_nlba (Some OpensEu) spans = refl
-behind_nlba (Some ClosesEu) spans = refl
-behind_nlba (Some OpensNlba) spans = refl
-behind_nlba (Some ClosesNlba) spans = refl
+after_mark None spans = (refl, refl)
+after_mark (Some OpensEu) spans = (refl, refl)
+after_mark (Some ClosesEu) spans = (refl, refl)
+after_mark (Some OpensNlba) spans = (refl, refl)
+after_mark (Some ClosesNlba) spans = (refl, refl)
 
 pub spans_past : (lines : ℕ) (u : ScoreUnit) (m : UnplacedSyllable) (holds : HoldsUnit lines u m) (spans : Spans) (o : Option SpanMark) → span_tags u.text ≡ tags_of o
     → (eu_past m spans.eu ≡ (past_mark o spans).eu) × (nlba_past m spans.nlba ≡ (past_mark o spans).nlba)
 spans_past lines u m holds spans o e = (
-  unit_past (codes "<eu>") (codes "</eu>") lines u m spans.eu holds ∙ ap (behind_tags (codes "<eu>") (codes "</eu>") spans.eu) e ∙ behind_eu o spans,
-  unit_past (codes "<nlba>") (codes "</nlba>") lines u m spans.nlba holds ∙ ap (behind_tags (codes "<nlba>") (codes "</nlba>") spans.nlba) e ∙ behind_nlba o spans,
+  unit_past (codes "<eu>") (codes "</eu>") lines u m spans.eu holds ∙ ap (after_tags (codes "<eu>") (codes "</eu>") spans.eu) e ∙ (after_mark o spans).0,
+  unit_past (codes "<nlba>") (codes "</nlba>") lines u m spans.nlba holds ∙ ap (after_tags (codes "<nlba>") (codes "</nlba>") spans.nlba) e ∙ (after_mark o spans).1,
 )
 
 -- whether there is a gap says how many blanks it has

@@ -67,16 +67,16 @@ tags_but_blank (p ∷ q ∷ ps) =
 
 module _ (opening closing : List ℕ) where
   -- a span is open after a tag, and after tags, if it was open or not
-  abbrev pub behind_tag : Bool → List ℕ → Bool
-  behind_tag was tag = cond (bytes_eq (encodes tag) opening) true (cond (bytes_eq (encodes tag) closing) false was)
+  abbrev pub after_tag : Bool → List ℕ → Bool
+  after_tag was tag = cond (bytes_eq (encodes tag) opening) true (cond (bytes_eq (encodes tag) closing) false was)
 
-  abbrev pub behind_tags : Bool → List (List ℕ) → Bool
-  behind_tags was [] = was
-  behind_tags was (tag ∷ tags) = behind_tags (behind_tag was tag) tags
+  abbrev pub after_tags : Bool → List (List ℕ) → Bool
+  after_tags was [] = was
+  after_tags was (tag ∷ tags) = after_tags (after_tag was tag) tags
 
-  pub behind_append : (was : Bool) (xs ys : List (List ℕ)) → behind_tags was (xs ++ ys) ≡ behind_tags (behind_tags was xs) ys
-  behind_append was [] ys = refl
-  behind_append was (x ∷ xs) ys = behind_append (behind_tag was x) xs ys
+  pub after_append : (was : Bool) (xs ys : List (List ℕ)) → after_tags was (xs ++ ys) ≡ after_tags (after_tags was xs) ys
+  after_append was [] ys = refl
+  after_append was (x ∷ xs) ys = after_append (after_tag was x) xs ys
 
   abbrev open_at : List BodyEvent → Bool
   open_at ts = is_open opening closing ts
@@ -169,7 +169,7 @@ module _ (opening closing : List ℕ) where
       ∙ ap encodes (mark_kept k.kind (effect k) bs (spelling k) e)
 
   piece_emitted : (bs : List Token) (k : Token) (ts : List BodyEvent) → kept_at_point ts ≡ encodes (kept_before (k ∷ bs)) → (kind : PieceKind) → kind_of k ≡ Some kind
-      → open_at (event.Text (text.Part (part.Piece (piece_at bs k kind))) ∷ ts) ≡ behind_tags (open_at ts) (tags_among (piece_of bs k (Some kind)))
+      → open_at (event.Text (text.Part (part.Piece (piece_at bs k kind))) ∷ ts) ≡ after_tags (open_at ts) (tags_among (piece_of bs k (Some kind)))
   piece_emitted bs k ts h piece.Char e = refl
   piece_emitted bs k ts h piece.Blank e = refl
   piece_emitted bs k ts h piece.Raw e = refl
@@ -179,12 +179,12 @@ module _ (opening closing : List ℕ) where
 
   record PartsStep (bs : List Token) (k : Token) (before after : List BodyEvent) : Type 0 where
     kept : kept_at_point after ≡ kept_at_point before
-    span : open_at after ≡ behind_tags (open_at before) (tags_among (pieces_at bs k))
+    span : open_at after ≡ after_tags (open_at before) (tags_among (pieces_at bs k))
 
   abbrev AfterParts : List Token → Token → List BodyEvent → Option PieceKind → Type 0
   AfterParts bs k ts o =
       let after = events_onto (text_events (out_parts (parts_by bs k o))) ts in
-      (kept_at_point after ≡ kept_at_point ts) × (open_at after ≡ behind_tags (open_at ts) (tags_among (piece_of bs k o)))
+      (kept_at_point after ≡ kept_at_point ts) × (open_at after ≡ after_tags (open_at ts) (tags_among (piece_of bs k o)))
 
   parts_emit : (bs : List Token) (k : Token) (ts : List BodyEvent) → kept_at_point ts ≡ encodes (kept_before (k ∷ bs)) → PartsStep bs k ts (events_onto (text_events (out_parts (parts_at bs k))) ts)
   parts_emit bs k ts h = by (kind_of k) refl
@@ -201,7 +201,7 @@ module _ (opening closing : List ℕ) where
       none : AfterParts bs k ts None
       none =
           let s = others (is_space k.kind && (not (has_word bs) && not (starts_word bs))) (is_whole_translation k.kind && not (has_translation bs)) in
-          (s.kept, s.span ∙ sym (ap (behind_tags (open_at ts)) (blank (is_space k.kind && has_word bs && not (follows_blank bs)))))
+          (s.kept, s.span ∙ sym (ap (after_tags (open_at ts)) (blank (is_space k.kind && has_word bs && not (follows_blank bs)))))
 
       some : (kind : PieceKind) → kind_of k ≡ Some kind → AfterParts bs k ts (Some kind)
       some kind e =
@@ -212,7 +212,7 @@ module _ (opening closing : List ℕ) where
           ap (λ os. events_onto (text_events os) ts) (map-append (λ (p : TextPart). text.Part p) (map (λ (p : Piece). part.Piece p) (option_list_of (waiting_blank bs))) (part.Piece (piece_at bs k kind) ∷ []))
           ∙ events_append first (text.Part (part.Piece (piece_at bs k kind)) ∷ []) ts in (
             ap kept_at_point all ∙ w.kept,
-            ap open_at all ∙ piece_emitted bs k middle (w.kept ∙ h) kind e ∙ ap (λ was. behind_tags was (tags_among (piece_of bs k (Some kind)))) w.span,
+            ap open_at all ∙ piece_emitted bs k middle (w.kept ∙ h) kind e ∙ ap (λ was. after_tags was (tags_among (piece_of bs k (Some kind)))) w.span,
           )
 
       by : (o : Option PieceKind) → kind_of k ≡ o → PartsStep bs k ts (events_onto (text_events (out_parts (parts_at bs k))) ts)
@@ -237,7 +237,7 @@ module _ (opening closing : List ℕ) where
 
   record TokenStep (bs : List Token) (k : Token) (before after : List BodyEvent) : Type 0 where
     kept : kept_at_point after ≡ encodes (kept_before (k ∷ bs))
-    span : open_at after ≡ behind_tags (open_at before) (tags_among (pieces_at bs k))
+    span : open_at after ≡ after_tags (open_at before) (tags_among (pieces_at bs k))
 
   token_emits : (at : Place) (bs : List Token) (k : Token) (ts : List BodyEvent) → kept_at_point ts ≡ encodes (kept_before bs) → TokenStep bs k ts (events_onto (text_events (events_at at bs k)) ts)
   token_emits at bs k ts h =
@@ -259,19 +259,19 @@ module _ (opening closing : List ℕ) where
       let l = found_still at bs (late_codes bs k.kind (effect k)) c in
       record {
         kept = ap kept_at_point all ∙ l.kept ∙ p.kept ∙ here;
-        span = ap open_at all ∙ l.span ∙ p.span ∙ ap (λ was. behind_tags was (tags_among (pieces_at bs k))) (g.span ∙ f.span);
+        span = ap open_at all ∙ l.span ∙ p.span ∙ ap (λ was. after_tags was (tags_among (pieces_at bs k))) (g.span ∙ f.span);
       }
 
   tokens_emitted : (at : Place) (bs ks : List Token) (ts : List BodyEvent) → kept_at_point ts ≡ encodes (kept_before bs)
-      → open_at (events_onto (text_events (along (events_at at) bs ks)) ts) ≡ behind_tags (open_at ts) (tags_among (along pieces_at bs ks))
+      → open_at (events_onto (text_events (along (events_at at) bs ks)) ts) ≡ after_tags (open_at ts) (tags_among (along pieces_at bs ks))
   tokens_emitted at bs [] ts h = refl
   tokens_emitted at bs (k ∷ ks) ts h =
       let r = token_emits at bs k ts h in
       ap open_at (events_append (events_at at bs k) (along (events_at at) (k ∷ bs) ks) ts)
       ∙ tokens_emitted at (k ∷ bs) ks (events_onto (text_events (events_at at bs k)) ts) r.kept
-      ∙ ap (λ was. behind_tags was (tags_among (along pieces_at (k ∷ bs) ks))) r.span
-      ∙ sym (behind_append (open_at ts) (tags_among (pieces_at bs k)) (tags_among (along pieces_at (k ∷ bs) ks)))
-      ∙ ap (behind_tags (open_at ts)) (sym (tags_join (pieces_at bs k) (along pieces_at (k ∷ bs) ks)))
+      ∙ ap (λ was. after_tags was (tags_among (along pieces_at (k ∷ bs) ks))) r.span
+      ∙ sym (after_append (open_at ts) (tags_among (pieces_at bs k)) (tags_among (along pieces_at (k ∷ bs) ks)))
+      ∙ ap (after_tags (open_at ts)) (sym (tags_join (pieces_at bs k) (along pieces_at (k ∷ bs) ks)))
 
   -- ---- a text
 
@@ -292,13 +292,13 @@ module _ (opening closing : List ℕ) where
       ∙ end_centre (centre_of bs) (events_onto (text_events found) ts) ∙ end_found (findings_at_end at bs) ts
 
   -- after a text a span is open by the tags of the text, and by what was before
-  pub text_opens_span : (at : Place) (t : List ℕ) (ts : List BodyEvent) → since_close ts ≡ [] → open_at (events_onto (text_events (events_of at t)) ts) ≡ behind_tags (open_at ts) (span_tags t)
+  pub text_opens_span : (at : Place) (t : List ℕ) (ts : List BodyEvent) → since_close ts ≡ [] → open_at (events_onto (text_events (events_of at t)) ts) ≡ after_tags (open_at ts) (span_tags t)
   text_opens_span at t ts h =
       let tokens_events = along (events_at at) [] (tokens t) in
       ap open_at (events_append tokens_events (end_events at (reverse (tokens t)) (after_tokens t)) ts)
       ∙ end_still at (reverse (tokens t)) (after_tokens t) (events_onto (text_events tokens_events) ts)
       ∙ tokens_emitted at [] (tokens t) ts (ap kept_of h)
-      ∙ ap (behind_tags (open_at ts)) (sym (tags_but_blank (along pieces_at [] (tokens t))))
+      ∙ ap (after_tags (open_at ts)) (sym (tags_but_blank (along pieces_at [] (tokens t))))
 
   -- ---- the last tag
 
@@ -313,39 +313,39 @@ module _ (opening closing : List ℕ) where
     NoneCloses tags = All (λ tag. tag ≢ closing) tags
 
     -- a span that is open was opened, or was open before and is not closed
-    opened : (was : Bool) (tags : List (List ℕ)) → behind_tags was tags ≡ true → IsLeftOpen opening closing tags ⊎ ((was ≡ true) × NoneCloses tags)
+    opened : (was : Bool) (tags : List (List ℕ)) → after_tags was tags ≡ true → IsLeftOpen opening closing tags ⊎ ((was ≡ true) × NoneCloses tags)
     opened was [] h = inr (h, All-nil (λ tag. tag ≢ closing))
-    opened was (tag ∷ tags) h = by (bytes_eq (encodes tag) opening) refl (bytes_eq (encodes tag) closing) refl (opened (behind_tag was tag) tags h)
+    opened was (tag ∷ tags) h = by (bytes_eq (encodes tag) opening) refl (bytes_eq (encodes tag) closing) refl (opened (after_tag was tag) tags h)
       where
         later : IsLeftOpen opening closing tags → IsLeftOpen opening closing (tag ∷ tags)
         later l = record { before = tag ∷ l.before; after = l.after; tags_are = ap (λ ts. tag ∷ ts) l.tags_are; none_closes = l.none_closes }
 
         by : (a : Bool) → bytes_eq (encodes tag) opening ≡ a → (b : Bool) → bytes_eq (encodes tag) closing ≡ b
-            → IsLeftOpen opening closing tags ⊎ ((behind_tag was tag ≡ true) × NoneCloses tags) → IsLeftOpen opening closing (tag ∷ tags) ⊎ ((was ≡ true) × NoneCloses (tag ∷ tags))
+            → IsLeftOpen opening closing tags ⊎ ((after_tag was tag ≡ true) × NoneCloses tags) → IsLeftOpen opening closing (tag ∷ tags) ⊎ ((was ≡ true) × NoneCloses (tag ∷ tags))
         by a e b f (inl l) = inl (later l)
         by true e b f (inr n) = inl (record { before = []; after = tags; tags_are = ap (λ t. t ∷ tags) (is_tag tag opening same e); none_closes = n.1 })
-        by false e true f (inr n) = absurd (let g = n.0 in let k : behind_tag was tag ≡ false = rw (e, f) refl in cc)
+        by false e true f (inr n) = absurd (let g = n.0 in let k : after_tag was tag ≡ false = rw (e, f) refl in cc)
         by false e false f (inr n) =
-            let g : behind_tag was tag ≡ was = rw (e, f) refl in
+            let g : after_tag was tag ≡ was = rw (e, f) refl in
             let stays : tag ≢ closing = λ c. absurd (let k = is_named tag closing other c in cc) in
             inr (sym g ∙ n.0, All-cons (λ t. t ≢ closing) tag tags stays n.1)
 
-    stays_open : (tags : List (List ℕ)) → NoneCloses tags → behind_tags true tags ≡ true
+    stays_open : (tags : List (List ℕ)) → NoneCloses tags → after_tags true tags ≡ true
     stays_open [] h = refl
     stays_open (tag ∷ tags) h = by (bytes_eq (encodes tag) opening) (bytes_eq (encodes tag) closing) refl (stays_open tags (All-tail (λ t. t ≢ closing) tag tags h))
       where
-        by : (a b : Bool) → bytes_eq (encodes tag) closing ≡ b → behind_tags true tags ≡ true → behind_tags (cond a true (cond b false true)) tags ≡ true
+        by : (a b : Bool) → bytes_eq (encodes tag) closing ≡ b → after_tags true tags ≡ true → after_tags (cond a true (cond b false true)) tags ≡ true
         by true b f k = k
         by false true f k = absurd (All-head (λ t. t ≢ closing) tag tags h (is_tag tag closing other f))
         by false false f k = k
 
-    opens_at : (was : Bool) (before after : List (List ℕ)) → NoneCloses after → behind_tags was (before ++ opening ∷ after) ≡ true
+    opens_at : (was : Bool) (before after : List (List ℕ)) → NoneCloses after → after_tags was (before ++ opening ∷ after) ≡ true
     opens_at was [] after h =
-        ap (λ b. behind_tags (cond b true (cond (bytes_eq (encodes opening) closing) false was)) after) (is_named opening opening same refl) ∙ stays_open after h
-    opens_at was (tag ∷ before) after h = opens_at (behind_tag was tag) before after h
+        ap (λ b. after_tags (cond b true (cond (bytes_eq (encodes opening) closing) false was)) after) (is_named opening opening same refl) ∙ stays_open after h
+    opens_at was (tag ∷ before) after h = opens_at (after_tag was tag) before after h
 
-    pub last_tag_opens : (tags : List (List ℕ)) (b : Bool) → b ≡ behind_tags false tags → IsTrue b ↔ IsLeftOpen opening closing tags
-    last_tag_opens tags b e = (λ h. by (opened false tags (sym e ∙ h)), λ l. e ∙ ap (behind_tags false) l.tags_are ∙ opens_at false l.before l.after l.none_closes)
+    pub last_tag_opens : (tags : List (List ℕ)) (b : Bool) → b ≡ after_tags false tags → IsTrue b ↔ IsLeftOpen opening closing tags
+    last_tag_opens tags b e = (λ h. by (opened false tags (sym e ∙ h)), λ l. e ∙ ap (after_tags false) l.tags_are ∙ opens_at false l.before l.after l.none_closes)
       where
         by : IsLeftOpen opening closing tags ⊎ ((false ≡ true) × NoneCloses tags) → IsLeftOpen opening closing tags
         by (inl l) = l

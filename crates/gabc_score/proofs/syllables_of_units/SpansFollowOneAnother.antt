@@ -6,7 +6,7 @@ use Rattle.gabc_score.specs.SpansPast.{open_past, eu_past, nlba_past}
 use Rattle.gabc_score.specs.Syllable.{UnplacedSyllable, PlacedSyllable}
 use Rattle.gabc_text.specs.ViewFacts.{span_tags}
 use Rattle.gabc_score.specs.SyllablesOfUnits.{ScoreUnit, HoldsUnit, IsLeftOpen, AreSyllablesOf, tags_in}
-use Rattle.gabc_score.proofs.syllables_of_units.LastTagOpensTheSpan.{behind_tags, behind_append, last_tag_opens}
+use Rattle.gabc_score.proofs.syllables_of_units.LastTagOpensTheSpan.{after_tags, after_append, last_tag_opens}
 use Rattle.gabc_score.proofs.syllables_of_units.SyllablesAreThoseOfUnits.{eu_opened, eu_closed, nlba_opened, nlba_closed, tags_push}
 use Rattle.gabc_score.proofs.syllables_of_units.UnitGivesOneSyllable.{unit_past}
 
@@ -18,17 +18,17 @@ same_bool P false false h k = refl
 
 module _ (opening closing : List ℕ) (same : encodes opening ≡ opening) (other : encodes closing ≡ closing) (lines : ℕ) where
   -- a span is open by the last tag, or by the tags one after the other
-  by_tags : (tags : List (List ℕ)) (b : Bool) → IsTrue b ↔ IsLeftOpen opening closing tags → b ≡ behind_tags opening closing false tags
-  by_tags tags b h = same_bool (IsLeftOpen opening closing tags) b (behind_tags opening closing false tags) h (last_tag_opens opening closing same other tags (behind_tags opening closing false tags) refl)
+  by_tags : (tags : List (List ℕ)) (b : Bool) → IsTrue b ↔ IsLeftOpen opening closing tags → b ≡ after_tags opening closing false tags
+  by_tags tags b h = same_bool (IsLeftOpen opening closing tags) b (after_tags opening closing false tags) h (last_tag_opens opening closing same other tags (after_tags opening closing false tags) refl)
 
   -- a unit after others, after which the span is open so
-  pub one_past : (us : List ScoreUnit) (v : ScoreUnit) (m : UnplacedSyllable) (was now : Bool) → HoldsUnit lines v m → was ≡ behind_tags opening closing false (tags_in us)
+  pub one_past : (us : List ScoreUnit) (v : ScoreUnit) (m : UnplacedSyllable) (was now : Bool) → HoldsUnit lines v m → was ≡ after_tags opening closing false (tags_in us)
       → IsTrue now ↔ IsLeftOpen opening closing (tags_in (us ++ v ∷ [])) → now ≡ open_past opening closing m.kept m.text.pieces was
   one_past us v m was now holds h k =
       by_tags (tags_in (us ++ v ∷ [])) now k
-      ∙ ap (behind_tags opening closing false) (tags_push lines us v)
-      ∙ behind_append opening closing false (tags_in us) (span_tags v.text)
-      ∙ ap (λ (b : Bool). behind_tags opening closing b (span_tags v.text)) (sym h)
+      ∙ ap (after_tags opening closing false) (tags_push lines us v)
+      ∙ after_append opening closing false (tags_in us) (span_tags v.text)
+      ∙ ap (λ (b : Bool). after_tags opening closing b (span_tags v.text)) (sym h)
       ∙ sym (unit_past opening closing lines v m was holds)
 
   pub next_past : (us : List ScoreUnit) (u v : ScoreUnit) (m : UnplacedSyllable) (was now : Bool) → HoldsUnit lines v m → IsTrue was ↔ IsLeftOpen opening closing (tags_in (us ++ u ∷ []))
@@ -63,8 +63,8 @@ module _ (lines : ℕ) (units : List ScoreUnit) (syllables : List PlacedSyllable
       let p = split 0 units (omega (arith, size, count)) in
       let k = are.each p.before p.after p.one [] after s p.parts e (sym p.count) in
       let none : p.before ≡ [] = empty p.before p.count in (
-        one_past (codes "<eu>") (codes "</eu>") (eu_opened lines) (eu_closed lines) lines p.before p.one s.made false s.made.eu k.holds (ap (λ us. behind_tags (codes "<eu>") (codes "</eu>") false (tags_in us)) (sym none)) k.eu_is,
-        one_past (codes "<nlba>") (codes "</nlba>") (nlba_opened lines) (nlba_closed lines) lines p.before p.one s.made false s.made.nlba k.holds (ap (λ us. behind_tags (codes "<nlba>") (codes "</nlba>") false (tags_in us)) (sym none)) k.nlba_is,
+        one_past (codes "<eu>") (codes "</eu>") (eu_opened lines) (eu_closed lines) lines p.before p.one s.made false s.made.eu k.holds (ap (λ us. after_tags (codes "<eu>") (codes "</eu>") false (tags_in us)) (sym none)) k.eu_is,
+        one_past (codes "<nlba>") (codes "</nlba>") (nlba_opened lines) (nlba_closed lines) lines p.before p.one s.made false s.made.nlba k.holds (ap (λ us. after_tags (codes "<nlba>") (codes "</nlba>") false (tags_in us)) (sym none)) k.nlba_is,
       )
     where
       empty : (us : List ScoreUnit) → length us ≡ 0 → us ≡ []

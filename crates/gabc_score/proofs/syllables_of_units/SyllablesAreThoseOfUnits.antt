@@ -28,7 +28,7 @@ use Rattle.gabc_score.proofs.units.BodyHasOneCutting.{body_emits_all}
 use Rattle.gabc_score.proofs.units.UnitsEndAtMarks.{first_is}
 use Rattle.gabc_score.proofs.holding.SyllableHoldsPartByPart.{IsBack, last_text, last_text_sum, text_sum, cut_is}
 use Rattle.gabc_score.proofs.holding.SyllablesHoldParts.{nothing_of, comment_emits, fits_back}
-use Rattle.gabc_score.proofs.syllables_of_units.LastTagOpensTheSpan.{behind_append, text_opens_span, last_tag_opens}
+use Rattle.gabc_score.proofs.syllables_of_units.LastTagOpensTheSpan.{after_append, text_opens_span, last_tag_opens}
 use Rattle.gabc_score.proofs.syllables_of_units.UnitsGiveSyllables.{eu_behind, nlba_behind, through_more, all_events, AreMade, units_give}
 
 -- ---- the last text
@@ -76,8 +76,8 @@ all_append lines eu nlba (u ∷ us) vs [] ns h k = absurd h
 all_append lines eu nlba (u ∷ us) vs (m ∷ ms) ns h k = (
   h.0,
   all_append lines (eu_behind eu (span_tags u.text)) (nlba_behind nlba (span_tags u.text)) us vs ms ns h.1
-      (subst (λ b. AreMade lines (eu_behind (eu_behind eu (span_tags u.text)) (tags_in us)) b vs ns) (behind_append (codes "<nlba>") (codes "</nlba>") nlba (span_tags u.text) (tags_in us))
-      (subst (λ b. AreMade lines b (nlba_behind nlba (tags_in (u ∷ us))) vs ns) (behind_append (codes "<eu>") (codes "</eu>") eu (span_tags u.text) (tags_in us)) k)),
+      (subst (λ b. AreMade lines (eu_behind (eu_behind eu (span_tags u.text)) (tags_in us)) b vs ns) (after_append (codes "<nlba>") (codes "</nlba>") nlba (span_tags u.text) (tags_in us))
+      (subst (λ b. AreMade lines b (nlba_behind nlba (tags_in (u ∷ us))) vs ns) (after_append (codes "<eu>") (codes "</eu>") eu (span_tags u.text) (tags_in us)) k)),
 )
 
 module _ (lines : ℕ) where
@@ -144,9 +144,9 @@ module _ (lines : ℕ) where
   placed_from before (u ∷ us) [] h = absurd h
   placed_from before (u ∷ us) (m ∷ ms) h =
       let eu : eu_behind false (tags_in (before ++ u ∷ [])) ≡ eu_behind (eu_behind false (tags_in before)) (span_tags u.text) =
-      ap (eu_behind false) (tags_push before u) ∙ behind_append (codes "<eu>") (codes "</eu>") false (tags_in before) (span_tags u.text) in
+      ap (eu_behind false) (tags_push before u) ∙ after_append (codes "<eu>") (codes "</eu>") false (tags_in before) (span_tags u.text) in
       let nlba : nlba_behind false (tags_in (before ++ u ∷ [])) ≡ nlba_behind (nlba_behind false (tags_in before)) (span_tags u.text) =
-      ap (nlba_behind false) (tags_push before u) ∙ behind_append (codes "<nlba>") (codes "</nlba>") false (tags_in before) (span_tags u.text) in (
+      ap (nlba_behind false) (tags_push before u) ∙ after_append (codes "<nlba>") (codes "</nlba>") false (tags_in before) (span_tags u.text) in (
         record {
           holds = h.0.0;
           eu_is = last_tag_opens (codes "<eu>") (codes "</eu>") eu_opened eu_closed (tags_in (before ++ u ∷ [])) m.eu (h.0.1.0 ∙ sym eu);

@@ -38,7 +38,7 @@ use Rattle.gabc_score.proofs.order.FindingsOfParts.{found, found_onto}
 use Rattle.gabc_score.proofs.order.PartsThatWarn.{joined_found, text_some, snippet_some, Warn}
 use Rattle.gabc_score.proofs.stopped_scores.PrefixesAreReadAlike.{through_length}
 use Rattle.gabc_score.proofs.stopped_scores.ClosedWithin.{close_of, close_count, count_one, pieces_count, units_within_are}
-use Rattle.gabc_score.proofs.syllables_of_units.LastTagOpensTheSpan.{behind_tags}
+use Rattle.gabc_score.proofs.syllables_of_units.LastTagOpensTheSpan.{after_tags}
 use Rattle.gabc_score.proofs.syllables_of_units.UnitsGiveSyllables.{through_more, snippets_whole, unit_whole, units_whole, unit_emits}
 use Rattle.gabc_score.proofs.snippets_of_body.SnippetEmitsThroughEnd.{line_emitted}
 use Rattle.gabc_score.proofs.texts_of_body.TextEmitsThroughEnd.{text_ended}
@@ -121,43 +121,43 @@ tags_of qs = map (λ (p : PieceFacts). p.text) (filter (λ (p : PieceFacts). is_
 
 module _ (opening closing whole : List ℕ) where
   piece_past : (p : Piece) (q : PieceFacts) (was : Bool) → p.kind ≡ q.kind → slice p.span (encodes whole) ≡ encodes (kept_of_piece q)
-      → is_open_after opening closing was p.kind (slice p.span (encodes whole)) ≡ behind_tags opening closing was (tags_of (q ∷ []))
+      → is_open_after opening closing was p.kind (slice p.span (encodes whole)) ≡ after_tags opening closing was (tags_of (q ∷ []))
   piece_past p q was kind spelled =
       ap (λ (k : PieceKind). is_open_after opening closing was k (slice p.span (encodes whole))) kind
       ∙ ap (is_open_after opening closing was q.kind) spelled ∙ by q.kind
     where
-      by : (kind : PieceKind) → (let r = record q { kind = kind } in is_open_after opening closing was kind (encodes (kept_of_piece r)) ≡ behind_tags opening closing was (tags_of (r ∷ [])))
+      by : (kind : PieceKind) → (let r = record q { kind = kind } in is_open_after opening closing was kind (encodes (kept_of_piece r)) ≡ after_tags opening closing was (tags_of (r ∷ [])))
       by piece.Char = refl
       by piece.Blank = refl
       by piece.Raw = refl
       by piece.Tag = refl
       by piece.Mark = refl
 
-  tags_past : (was : Bool) (q : PieceFacts) (qs : List PieceFacts) → behind_tags opening closing (behind_tags opening closing was (tags_of (q ∷ []))) (tags_of qs) ≡ behind_tags opening closing was (tags_of (q ∷ qs))
+  tags_past : (was : Bool) (q : PieceFacts) (qs : List PieceFacts) → after_tags opening closing (after_tags opening closing was (tags_of (q ∷ []))) (tags_of qs) ≡ after_tags opening closing was (tags_of (q ∷ qs))
   tags_past was q qs = by (is_mark q.kind)
     where
-      by : (b : Bool) → behind_tags opening closing (behind_tags opening closing was (map (λ (p : PieceFacts). p.text) (cond b (q ∷ []) []))) (tags_of qs)
-          ≡ behind_tags opening closing was (map (λ (p : PieceFacts). p.text) (cond b (q ∷ filter (λ (p : PieceFacts). is_mark p.kind) qs) (filter (λ (p : PieceFacts). is_mark p.kind) qs)))
+      by : (b : Bool) → after_tags opening closing (after_tags opening closing was (map (λ (p : PieceFacts). p.text) (cond b (q ∷ []) []))) (tags_of qs)
+          ≡ after_tags opening closing was (map (λ (p : PieceFacts). p.text) (cond b (q ∷ filter (λ (p : PieceFacts). is_mark p.kind) qs) (filter (λ (p : PieceFacts). is_mark p.kind) qs)))
       by true = refl
       by false = refl
 
   -- after pieces a span is open as after the tags among what they say
-  pieces_past : (ps : List Piece) (qs : List PieceFacts) (was : Bool) → ArePiecesOf whole ps qs → open_past opening closing (encodes whole) ps was ≡ behind_tags opening closing was (tags_of qs)
+  pieces_past : (ps : List Piece) (qs : List PieceFacts) (was : Bool) → ArePiecesOf whole ps qs → open_past opening closing (encodes whole) ps was ≡ after_tags opening closing was (tags_of qs)
   pieces_past [] [] was h = refl
   pieces_past [] (q ∷ qs) was h = absurd h
   pieces_past (p ∷ ps) [] was h = absurd h
   pieces_past (p ∷ ps) (q ∷ qs) was h =
       pieces_past ps qs (is_open_after opening closing was p.kind (slice p.span (encodes whole))) h.1
-      ∙ ap (λ (b : Bool). behind_tags opening closing b (tags_of qs)) (piece_past p q was h.0.kind_is (bytes_stand whole p.span (kept_of_piece q) h.0.stands))
+      ∙ ap (λ (b : Bool). after_tags opening closing b (tags_of qs)) (piece_past p q was h.0.kind_is (bytes_stand whole p.span (kept_of_piece q) h.0.stands))
       ∙ tags_past was q qs
 
 -- after the pieces of a view that stand for a text a span is open as after the tags of the text
-pub view_past : (opening closing whole t : List ℕ) (v : ViewContent) (was : Bool) → StandsForView whole v t → open_past opening closing (encodes whole) v.pieces was ≡ behind_tags opening closing was (span_tags t)
+pub view_past : (opening closing whole t : List ℕ) (v : ViewContent) (was : Bool) → StandsForView whole v t → open_past opening closing (encodes whole) v.pieces was ≡ after_tags opening closing was (span_tags t)
 view_past opening closing whole t v was h = pieces_past opening closing whole v.pieces _ was h.pieces
 
 -- so after a syllable of a unit
 pub unit_past : (opening closing : List ℕ) (lines : ℕ) (u : ScoreUnit) (m : UnplacedSyllable) (was : Bool) → HoldsUnit lines u m
-    → open_past opening closing m.kept m.text.pieces was ≡ behind_tags opening closing was (span_tags u.text)
+    → open_past opening closing m.kept m.text.pieces was ≡ after_tags opening closing was (span_tags u.text)
 unit_past opening closing lines u m was h =
     ap (λ (k : List ℕ). open_past opening closing k m.text.pieces was) h.kept_is ∙ view_past opening closing h.whole u.text m.text was h.stands
 
@@ -354,9 +354,9 @@ module _ (ends : (at : Place) (t : List ℕ) → EndsOnce at t) (emits : (at : P
         let holds : HoldsUnit lines (score_unit u behind) g.step.made = subst (λ (ys : List Char). HoldsUnit lines (score_unit u ys) g.step.made) behind_is g.step.holds in
         let tags : span_tags (score_unit u (whole more end)).text ≡ span_tags (score_unit u behind).text = ap (λ (ys : List Char). span_tags (score_unit u ys).text) behind_is in
         let eu_is : g.step.made.eu ≡ eu_past g.step.made (is_eu before) =
-        g.step.made_eu ∙ ap (behind_tags (codes "<eu>") (codes "</eu>") (is_eu before)) tags ∙ sym (unit_past (codes "<eu>") (codes "</eu>") lines (score_unit u behind) g.step.made (is_eu before) holds) in
+        g.step.made_eu ∙ ap (after_tags (codes "<eu>") (codes "</eu>") (is_eu before)) tags ∙ sym (unit_past (codes "<eu>") (codes "</eu>") lines (score_unit u behind) g.step.made (is_eu before) holds) in
         let nlba_is : g.step.made.nlba ≡ nlba_past g.step.made (is_nlba before) =
-        g.step.made_nlba ∙ ap (behind_tags (codes "<nlba>") (codes "</nlba>") (is_nlba before)) tags ∙ sym (unit_past (codes "<nlba>") (codes "</nlba>") lines (score_unit u behind) g.step.made (is_nlba before) holds) in
+        g.step.made_nlba ∙ ap (after_tags (codes "<nlba>") (codes "</nlba>") (is_nlba before)) tags ∙ sym (unit_past (codes "<nlba>") (codes "</nlba>") lines (score_unit u behind) g.step.made (is_nlba before) holds) in
         record {
           made = g.step.made;
           none_earlier = λ n few. none_made (first_events lines macros at all n) before (none_within n few);

@@ -36,13 +36,13 @@ use Rattle.gabc_score.proofs.snippets_of_body.SnippetsEndAlike.{IsMark}
 use Rattle.gabc_score.proofs.snippets_of_body.SnippetEmitsThroughEnd.{LineEmitted, line_emitted}
 use Rattle.gabc_score.proofs.holding.SyllableHoldsPartByPart.{IsBack, codes_in, SoFar, text_opens, text_opens_is, new, close_unit, next_far, next_far_is, next_made}
 use Rattle.gabc_score.proofs.holding.SyllablesHoldParts.{fits_prefix, fits_back}
-use Rattle.gabc_score.proofs.syllables_of_units.LastTagOpensTheSpan.{behind_tags, behind_append, text_opens_span}
+use Rattle.gabc_score.proofs.syllables_of_units.LastTagOpensTheSpan.{after_tags, after_append, text_opens_span}
 
 abbrev pub eu_behind : Bool → List (List ℕ) → Bool
-eu_behind was tags = behind_tags (codes "<eu>") (codes "</eu>") was tags
+eu_behind was tags = after_tags (codes "<eu>") (codes "</eu>") was tags
 
 abbrev pub nlba_behind : Bool → List (List ℕ) → Bool
-nlba_behind was tags = behind_tags (codes "<nlba>") (codes "</nlba>") was tags
+nlba_behind was tags = after_tags (codes "<nlba>") (codes "</nlba>") was tags
 
 -- ---- characters
 
@@ -297,7 +297,7 @@ module _ (ends : (at : Place) (t : List ℕ) → EndsOnce at t) (emits : (at : P
     -- a text opens and closes spans by its tags
     text_spans : (at : Place) (prefix : List Char) (end : Char) (rest : List Char) (mark : Mark) (before : List BodyEvent) → since_close before ≡ []
         → (let xs = prefix ++ end ∷ rest in let part = InText (texts_by_definition at xs) in EndsAfter lines part prefix mark
-        → is_open opening closing (events_onto (concat_of (events_through part prefix)) before) ≡ behind_tags opening closing (is_open opening closing before) (span_tags (codes_of xs)))
+        → is_open opening closing (events_onto (concat_of (events_through part prefix)) before) ≡ after_tags opening closing (is_open opening closing before) (span_tags (codes_of xs)))
     text_spans at prefix end rest mark before since h =
         let xs = prefix ++ end ∷ rest in
         ap (λ ts. is_open opening closing (events_onto ts before)) (ended_emits ends emits lines at prefix end rest mark h ∙ ap text_events (in_order at (codes_of xs)))
@@ -387,9 +387,9 @@ module _ (ends : (at : Place) (t : List ℕ) → EndsOnce at t) (emits : (at : P
                 (subst (λ b. AreMade lines b (is_nlba one.mid) (closed_units units last) r.step.made) eu_is r.step.are),
           );
           eu = r.step.eu ∙ ap (λ b. eu_behind b (tags_in (closed_units units last))) eu_is
-              ∙ sym (behind_append (codes "<eu>") (codes "</eu>") (is_eu before) (span_tags v.text) (tags_in (closed_units units last)));
+              ∙ sym (after_append (codes "<eu>") (codes "</eu>") (is_eu before) (span_tags v.text) (tags_in (closed_units units last)));
           nlba = r.step.nlba ∙ ap (λ b. nlba_behind b (tags_in (closed_units units last))) nlba_is
-              ∙ sym (behind_append (codes "<nlba>") (codes "</nlba>") (is_nlba before) (span_tags v.text) (tags_in (closed_units units last)));
+              ∙ sym (after_append (codes "<nlba>") (codes "</nlba>") (is_nlba before) (span_tags v.text) (tags_in (closed_units units last)));
           uncut = r.step.uncut ∙ g.uncut;
           since = r.step.since;
         };

@@ -1,5 +1,7 @@
-use Rattle.std.proofs.Common.{rules, ◌≡◌, ◌||◌, Bool, Option, sym, ap, subst, ◌∙◌, arith}
+use Rattle.std.proofs.Common.{rules, ◌≡◌, ◌+◌, ◌||◌, ◌==◌, Bool, true, List, [], ◌∷◌, length, Option, refl, sym, ap, subst, ◌∙◌, arith}
+use Rattle.std.proofs.lemmas.Bool.Decides.{nat_tests}
 use Rattle.gabc_places.specs.BoundedList.{BoundedList, extended_by}
+use Rattle.gabc_places.specs.Place.{saturating_next_place}
 use Rattle.gabc_places.specs.declared.code.Finding.{Finding}
 use Rattle.gabc_places.specs.declared.place.Place.{Place}
 use Rattle.gabc_notes.specs.declared.item.ItemKind.{ItemKind}
@@ -13,6 +15,7 @@ use Rattle.gabc_score.specs.machine.SlotPair.{SlotPairState}
 use Rattle.gabc_score.proofs.building.EventsAreHeld.{never_lent}
 use Rattle.gabc_score.proofs.score_events.CharactersAreRead.{few_gathered, room_gathered}
 use Rattle.gabc_score.proofs.score_events.EventsStayWithinBounds.{few_with_first}
+use Rattle.gabc_score.proofs.score_events.NothingIsGiven.{nothing_given}
 use Rattle.gabc_score.proofs.score_machine.ScoreMachine.read.Goals as goal
 
 found_is : (found new : BoundedList Finding) {was was_is now now_is : Option ItemKind} (place : Place) → was ≡ was_is → now ≡ now_is → new ≡ extended_by found (found_first was now place) → new ≡ extended_by found (found_first was_is now_is place)
@@ -24,6 +27,11 @@ stands_past g q r {next} {lent = lent} {lent_is} {bounds_is = bounds_is} n l b =
     ap (λ k. record g { pair = q; found = r; next = k; has_lent = lent_is; bounds = bounds_is }) (sym n)
     ∙ ap (λ k. record g { pair = q; found = r; next = next; has_lent = k; bounds = bounds_is }) (sym l)
     ∙ ap (λ k. record g { pair = q; found = r; next = next; has_lent = lent; bounds = k }) (sym b)
+
+-- an empty list
+is_empty : {A : Type 0} (l : List A) → (length l == 0) ≡ true → l ≡ []
+is_empty [] e = refl
+is_empty (a ∷ l) e = absurd (let n : length l + 1 ≡ 0 = grind (arith, nat_tests, e) in omega (arith, n))
 
 pub find_first-requires : goal.find_first-requires
 find_first-requires c =
@@ -56,10 +64,23 @@ returns-after-self c =
     let give = c.give_point-gave in
     let lent : c.if-self.self ≡ (g.has_lent || give.result) = search rules in
     subst (ReadsChar m c.args.x c.args.out.now give.new.out)
-    (ap (λ (k : ScoreMachine). past_char k c.args.x g.body c.is_whole-is_whole.result give.result give.new.pair give.new.found) (sym same) ∙ stands_past g give.new.pair give.new.found c.saturating_after-self.ensures lent c.pass.ensures)
+    (ap (λ (k : ScoreMachine). past_char k c.args.x g.body c.is_whole-is_whole.result give.result give.new.pair give.new.found) (sym same) ∙ stands_past g give.new.pair give.new.found c.saturating_after-self-in-None.ensures lent c.pass.ensures)
     (goes c.gather.ensures.gathers (record {
       none = ap (λ (k : ScoreMachine). code_in k.limits g.pair.gathered) (sym same) ∙ (sym c.code.ensures.code ∙ c.in-None.is);
       whole_is = c.is_whole-is_whole.ensures.made;
       given = subst (λ (k : ScoreMachine). GivesPoint k.has_lent g.pair (found_past m c.args.x g.pair g.found) give.result give.new.pair give.new.found c.args.out.now give.new.out) same
           (subst (λ (f : BoundedList Finding). GivesPoint g.has_lent g.pair f give.result give.new.pair give.new.found c.args.out.now give.new.out) (found_is g.found c.find_first.new.found c.args.x.place c.sounded-was.ensures c.sounded.ensures c.find_first.ensures) give.ensures);
     }))
+
+pub returns-then-is_empty : goal.returns-then-is_empty
+returns-then-is_empty c =
+    let g = c.gather.new.self in
+    let m = c.args.self.now in
+    let same = c.gather.ensures.same in
+    let found = found_is g.found c.find_first.new.found c.args.x.place c.sounded-was.ensures c.sounded.ensures c.find_first.ensures in
+    let nothing = ap (λ (l : BoundedList Finding). l.items) (sym found) ∙ sym c.slice.ensures ∙ is_empty c.slice.result.now (sym c.is_empty.ensures ∙ c.if-is_empty.true) in
+    subst (ReadsChar m c.args.x c.args.out.now c.args.out.now)
+    (ap (λ (k : ScoreMachine). record k { body = g.body; pair = g.pair; found = found_past m c.args.x g.pair g.found; next = saturating_next_place c.args.x.place c.args.x.c }) (sym same)
+    ∙ ap (λ (f : BoundedList Finding). record g { found = f; next = saturating_next_place c.args.x.place c.args.x.c }) (sym found)
+    ∙ ap (λ (p : Place). record g { found = c.find_first.new.found; next = p }) (sym c.saturating_after-self.ensures))
+    (nothing_given c.requires.stands.rests c.gather.ensures.gathers (c.reads_on.ensures.used c.if-reads_on.true) (c.reads_on.ensures.short c.if-reads_on.true) c.args.out.now nothing)

@@ -1,0 +1,68 @@
+-- A character at which nothing is found, no syllable becomes whole and no limit is passed: nothing is given.
+use Rattle.std.proofs.Common.{◌≡◌, ℕ, ◌+◌, ◌-◌, ◌≤◌, ◌||◌, ◌&&◌, not, nat_lt, Bool, true, false, cond, List, [], length, take, Option, Some, None, refl, sym, ap, subst, ◌∙◌, arith, append-nil}
+use Rattle.std.specs.List.{list_any}
+use Rattle.std.proofs.Math.Bool.{or-false}
+use Rattle.std.proofs.lemmas.Bool.Decides.{nat_tests}
+use Rattle.gabc_places.specs.BoundedList.{BoundedList}
+use Rattle.gabc_places.specs.Place.{saturating_next_place}
+use Rattle.gabc_places.specs.declared.code.Code.{Code}
+use Rattle.gabc_places.specs.declared.code.Code.TheVariants.{F5, F7}
+use Rattle.gabc_places.specs.declared.code.Finding.{Finding}
+use Rattle.gabc_places.specs.declared.limits.Limits.{Limits}
+use Rattle.gabc_places.specs.declared.place.Char.{Char}
+use Rattle.gabc_score.specs.declared.score_event.ScoreEvent.{ScoreEvent}
+use Rattle.gabc_score.specs.declared.score_machine.ScoreMachine.{ScoreMachine}
+use Rattle.gabc_score.specs.declared.slot_pair.SlotUse.TheVariants.{Filling}
+use Rattle.gabc_score.specs.Body.{is_longer, is_none}
+use Rattle.gabc_score.specs.Syllable.{UnplacedSyllable, closes}
+use Rattle.gabc_score.specs.machine.BodyBuilder.{code_in}
+use Rattle.gabc_score.specs.machine.ReadsChar.{Gathers, Passes, ReadsChar, found_past, goes}
+use Rattle.gabc_score.specs.machine.ScoreMachine.{IsInBody}
+use Rattle.gabc_score.specs.machine.ScoreStage.{placed_behind}
+use Rattle.gabc_score.specs.machine.SlotPair.{SlotPairState, is_made, used_by}
+use Rattle.gabc_score.specs.witness.BodyStage.{BodyStageState}
+use Rattle.gabc_score.proofs.building.PartsMakeSyllables.{whole_in, whole_stays}
+use Rattle.gabc_score.proofs.resuming.CharactersGathered.{few_is, held_all}
+
+-- which limit is passed, where the kept text is longer than a syllable may be or not
+abbrev code_at : Limits → Bool → List UnplacedSyllable × (ℕ × Bool) → Option Code
+code_at limits longer w = cond (longer || w.1.1) (Some F5) (cond (not (is_none w.0) && nat_lt limits.input (w.1.0 + 1)) (Some F7) None)
+
+not_used : (b : Bool) → used_by b ≡ Filling → b ≡ false
+not_used false e = refl
+not_used true e = absurd (cc)
+
+module _ {m : ScoreMachine} {x : Char} {b : BodyStageState} {p : SlotPairState} {f : BoundedList Finding} (h : IsInBody m) (a : Gathers m x b p f)
+    (used : p.used ≡ Filling) (short : length p.gathered.builder.kept ≤ p.gathered.limit) where
+  whole : whole_in p.gathered ≡ whole_in m.pair.gathered
+  whole = ap whole_in a.gathered ∙ whole_stays b.events m.pair.gathered (not_used (list_any closes b.events) (sym a.used ∙ used))
+
+  none : code_in m.limits p.gathered ≡ None
+  none =
+      let now : is_longer p.gathered.limit p.gathered.builder.kept ≡ false = grind (arith, nat_tests, short) in
+      let before : is_longer m.pair.gathered.limit m.pair.gathered.builder.kept ≡ false = let k = h.kept in let l = h.rests.limit in grind (arith, nat_tests, k, l) in
+      ap (λ l. code_at m.limits l (whole_in p.gathered)) now ∙ ap (code_at m.limits false) whole ∙ sym (ap (λ l. code_at m.limits l (whole_in m.pair.gathered)) before) ∙ h.code
+
+  few : length p.gathered.made ≤ 1
+  few = let n = ap (λ w. length w.0) whole in let one = a.one in omega (arith, n, one)
+
+  module _ (out : BoundedList ScoreEvent) (nothing : (found_past m x p f).items ≡ []) where
+    none_given : take (length p.gathered.made - 1) (placed_behind m.has_lent p.gathered.made) ≡ []
+    none_given = let n : length p.gathered.made - 1 ≡ 0 = omega (arith, few) in ap (λ n. take n (placed_behind m.has_lent p.gathered.made)) n
+
+    passes : Passes m x p f false false p (found_past m x p f) out out
+    passes = record {
+      none = none;
+      whole_is = (let e = ap length a.held in let n = ap (λ w. length w.0) whole in grind (arith, nat_tests, e, n));
+      given = record {
+        gathered = sym (held_all p.gathered few);
+        used = ap is_made used;
+        gave = sym (few_is (length p.gathered.made) few);
+        emitted = rw (nothing, none_given) (record { events = ap (λ (es : List ScoreEvent). record out { items = es }) (sym (append-nil out.items)); few = omega arith; lent = refl });
+        few = rw none_given (omega arith);
+        found = ap (λ (fs : List Finding). record (found_past m x p f) { items = fs }) nothing;
+      };
+    }
+
+    pub nothing_given : ReadsChar m x out out (record m { body = b; pair = p; found = found_past m x p f; next = saturating_next_place x.place x.c })
+    nothing_given = subst (λ lent. ReadsChar m x out out (record m { body = b; pair = p; found = found_past m x p f; next = saturating_next_place x.place x.c; has_lent = lent })) (or-false m.has_lent) (goes a passes)
