@@ -250,6 +250,7 @@ impl Engine {
     }
 
     /// Takes a byte. Before it nothing is kept back.
+    #[inline(always)]
     pub(crate) fn take(&mut self, byte: u8)
         requires room { LeavesRoom self.old }
         ensures prompt { IsPrompt self.old.written.format (streams_left self.old Broken []) }

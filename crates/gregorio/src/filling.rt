@@ -75,7 +75,9 @@ impl Engine {
         ensures some { 0 < result }
         ensures takes { TakesFrom self.old (drop count piece.now) result self.new }
     {
-        if let Some((_, rest)) = text.split_at_checked(count) {
+        if self.is_between()
+            && let Some((_, rest)) = text.split_at_checked(count)
+        {
             let taken = self.take_run(rest);
             if taken > 0 {
                 return taken;
@@ -83,6 +85,13 @@ impl Engine {
         }
         self.take(piece[count]);
         1
+    }
+
+    /// Returns whether a syllable is held, and nothing of the next one is kept: a run begins
+    /// nowhere else.
+    #[inline(always)]
+    fn is_between(&self) -> bool {
+        self.score().held().is_some() && self.score().reading().is_empty()
     }
 
     /// Takes whole syllables from the front of `text`, and returns how many bytes. What they bring

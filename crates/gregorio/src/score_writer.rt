@@ -164,6 +164,7 @@ impl ScoreWriter {
     }
 
     /// Passes `event` on to the score, and writes what that gives.
+    #[inline(always)]
     pub(crate) fn pass(&mut self, event: HeadEvent)
         requires { FitsEvents self.old false (event ∷ []) }
         ensures takes { TakesEvent self.old.score self.old.writer event self.new }

@@ -57,7 +57,7 @@ outputs_of_syllables ss = map (λ (s : PlacedSyllable). Syllable s) ss
 abbrev pub past_syllables : RunWriterState → List PlacedSyllable → RunWriterState
 past_syllables w ss = past_outputs w (outputs_of_syllables ss)
 
--- where it has written this text of so many syllables more; the last value of a `u64` stays
+-- where it has written this text of `count` syllables more; the last value of a `u64` stays
 abbrev pub with_joined : RunWriterState → List ℕ → ℕ → RunWriterState
 with_joined w text count = record w { written = record w.written { count = min (w.written.count + count) (2 ^ 64 - 1) }; out = extended_by w.out text }
 

@@ -4,7 +4,7 @@ use Rattle.gregorio.specs.Engine.{is_running}
 use Rattle.gregorio.specs.machine.Taking.{Takes, TakesFrom}
 use Rattle.gregorio.specs.witness.Engine.{EngineState}
 use Rattle.gregorio.proofs.pieces.PiecesAreTaken.{byte_taken_from, taken_after_none, taken_of_front, takes_none}
-use Rattle.gregorio.proofs.engine.Engine.take_next.Goals.{in-Some+else-taken-gt0, in_default}
+use Rattle.gregorio.proofs.engine.Engine.take_next.Goals.{then-is_between+in-Some+else-taken-gt0, else-is_between}
 use Rattle.gregorio.proofs.engine.Engine.take_next.Goals as goal
 
 -- what is left of the front of a piece is a front of what is left of the piece
@@ -29,15 +29,15 @@ returns-then-taken-gt0-clause-takes c =
 pub returns-clause-takes : goal.returns-clause-takes
 returns-clause-takes c =
     let old = c.args.self.now in
-    let mid = c.match-split_at_checked.self in
+    let mid = c.if-is_between.self in
     let new = c.take.new.self in
     let byte = λ (runs : is_running mid ≡ true). byte_taken_from mid new c.args.piece.now c.args.count c.requires.more c.take.ensures.running runs c.take.ensures.takes in
-    elim c.match-split_at_checked.branch [
-      | in-Some+else-taken-gt0 w ↦
+    elim c.if-is_between.branch [
+      | then-is_between+in-Some+else-taken-gt0 w ↦
           let run = w.take_run-taken in
           let none : run.result ≡ 0 = (let few = w.if-taken-gt0.false in omega (arith, few)) in
           let takes : Takes old [] run.new.self = subst (λ (k : ℕ). Takes old (take k w.in-Some.rest.now) run.new.self) none run.ensures.takes in
           taken_after_none old mid new (drop c.args.count c.args.piece.now) 1 (subst (Takes old []) (sym w.self-is) takes) (byte (ap (λ (e : EngineState). is_running e) w.self-is ∙ run.ensures.running))
-      | in_default w ↦
+      | else-is_between w ↦
           taken_after_none old mid new (drop c.args.count c.args.piece.now) 1 (subst (Takes old []) (sym w.self-is) (takes_none old)) (byte (ap (λ (e : EngineState). is_running e) w.self-is ∙ c.requires.running))
     ]
