@@ -22,15 +22,16 @@ use std::alloc::{AllocError, Global};
 
 /// The most bytes of the output that the first run keeps. Where there are more, a second run writes
 /// them.
-const KEPT_OUTPUT: usize = 1_048_576;
+const KEPT_OUTPUT: usize = 16_777_216;
 
 /// How many bytes of the messages the first run keeps.
 const KEPT_MESSAGES: usize = 8192;
 
-/// Returns how many bytes of the output the first run over `score` keeps: 32 for each byte, which
-/// is more than most dumps have, and no more than a megabyte.
-fn kept_output(score: &[u8]) -> usize {
-    score.len().saturating_mul(32).min(KEPT_OUTPUT)
+/// Returns how many bytes of the output the first run over `score` keeps, where there is room for
+/// `room`: 32 for each byte of the score, which is more than most dumps have, and no more than
+/// there is room for, nor than 16 MB.
+fn kept_output(score: &[u8], room: usize) -> usize {
+    score.len().saturating_mul(32).min(room).min(KEPT_OUTPUT)
 }
 
 /// What a run over a score under `limits` has written, as far as it is kept, and how it ended.
@@ -57,20 +58,22 @@ impl Run {
     }
 }
 
-/// Runs over `score` under `limits`, and returns what it writes. It fails only for want of memory,
-/// and where it writes more than can be counted.
+/// Runs over `score` under `limits`, and returns what it writes; of the output it keeps no more
+/// than `room` bytes. It fails only for want of memory, and where it writes more than can be
+/// counted.
 fn run_under(
     alloc: Global,
     request: Request,
     limits: Limits,
     key: &[u64],
     score: &[u8],
+    room: usize,
 ) -> Result<Run, AllocError>
     ensures written { IfOk result (λ run.
         HasWritten run (streams_of_score request limits score.now)) }
     ensures limits { IfOk result (λ run. run.limits ≡ limits) }
 {
-    let mut output = FirstBytes::with_limit(alloc, kept_output(score))?;
+    let mut output = FirstBytes::with_limit(alloc, kept_output(score, room))?;
     let mut messages = FirstBytes::with_limit(alloc, KEPT_MESSAGES)?;
     let mut engine = engine_of(alloc, request, limits, key)?;
     let status = engine.run_over(score, &mut output, &mut messages);
@@ -90,18 +93,24 @@ fn run_under(
 }
 
 /// Runs over `score`, and returns what it writes: under small limits, or where these have stopped
-/// it, under the default ones. It fails as `run_under` does.
-fn run_over(alloc: Global, request: Request, key: &[u64], score: &[u8]) -> Result<Run, AllocError>
+/// it, under the default ones. It keeps and fails as `run_under` does.
+fn run_over(
+    alloc: Global,
+    request: Request,
+    key: &[u64],
+    score: &[u8],
+    room: usize,
+) -> Result<Run, AllocError>
     ensures written { IfOk result (λ run.
         HasWritten run (streams_of_score request run.limits score.now)) }
     ensures usual { IfOk result (λ run. IsAsUsual request run.limits score.now) }
 {
     gregorio::laws::larger_limits_change_nothing();
     let usual = Limits::default();
-    let run = run_under(alloc, request, small_limits(usual, score), key, score)?;
+    let run = run_under(alloc, request, small_limits(usual, score), key, score, room)?;
     if is_too_long(run.fault) {
         drop(run);
-        return run_under(alloc, request, usual, key, score);
+        return run_under(alloc, request, usual, key, score, room);
     }
     Ok(run)
 }
@@ -189,7 +198,7 @@ pub(crate) fn compile(
     ensures messages_unchanged { OnErr result (messages.new ≡ messages.old) }
     ensures lengths_unchanged { OnErr result (lengths.new ≡ lengths.old) }
 {
-    let run = run_over(alloc, request, key, score)?;
+    let run = run_over(alloc, request, key, score, output.len())?;
     let written = run.lengths();
     write_texts(alloc, request, key, score, &run, &written, output, messages)?;
     *lengths = written;
