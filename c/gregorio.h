@@ -11,7 +11,7 @@
  *   - What a call reads stays as it is until the call returns.
  *   - Stack: 64 KiB are enough (less is tried by the tests; a step of a run wrote into 34 kB).
  *   - Memory comes from `malloc` and `realloc` and goes back to `free`: all of it has been given back when a call returns. Beside the buffers a
- *     call asks for at most 24 MB at one time, and touches less than 2 MB and as many bytes as its output has, of which 16 MB at most; a step of
+ *     call asks for at most 25 MB at one time, and touches less than 2 MB and as many bytes as its output has, of which 17 MB at most; a step of
  *     a run, under the usual limits, asks for 8 MB and what it writes, and touches about 1 MB and what it writes. Bytes that are no state of the
  *     run cost by their length, whatever limits they name: at most 8 MB up to 64 kB, and in proportion above (measured, not proved).
  *   - Threads: calls share nothing, so any number of threads may call at once. Do not call from a signal handler, nor in a child that a
