@@ -5,7 +5,7 @@
  * caller" below is the caller's to keep; nothing checks it.
  *
  * The caller
- *   - Each pointer points to as many bytes, words of a key, options or messages as the count behind it says. A pointer may be null where its
+ *   - Each pointer points to as many bytes, words of a key, options or messages as the count after it says. A pointer may be null where its
  *     count is 0.
  *   - A buffer that is written overlaps no other buffer, not the score or the piece, not the options, and not the lengths, the step or the count.
  *   - What a call reads stays as it is until the call returns.

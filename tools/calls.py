@@ -22,7 +22,7 @@ def is_listed(function):
 
 
 def crates_in_order(repository):
-    """The crates with public calls, each behind those that it stands on."""
+    """The crates with public calls, each after those that it stands on."""
     with_calls = {it for it in repository.crates if any(is_listed(f) for source in repository.sources[it] for f in source.functions)}
     order = re.findall(r"(?m)^(\w+)[^:\n]*:", read(os.path.join(ROOT, "crates.txt")))
     return [it for it in order if it in with_calls]

@@ -73,7 +73,7 @@ class Declaration:
         return self.file.name.endswith("Examples")
 
     def dead_helpers(self) -> Iterator[tuple[int, str]]:
-        """The helpers behind its `where` that the rest of it does not name, with their lines."""
+        """The helpers after its `where` that the rest of it does not name, with their lines."""
         where = next((at for at, it in enumerate(self.lines) if re.search(r"(^|\s)where$", it)), len(self.lines))
         for at in range(where + 1, len(self.lines) if not re.search(r"\b(record|data)\b", self.lines[0]) else 0):
             found, depth = SIGNATURE.match(self.lines[at].strip()), depth_of(self.lines[at])

@@ -12,7 +12,7 @@ read_crates() {
   done <"$1/crates.txt"
 }
 
-# Puts a crate into `order`, behind those that it stands on. Names that crates.txt lacks are the kit's.
+# Puts a crate into `order`, after those that it stands on. Names that crates.txt lacks are the kit's.
 order=()
 declare -A is_placed=()
 place_crate() {

@@ -28,13 +28,13 @@ static void try_rooms(const struct test_case *it, size_t number, size_t output_r
   check(lengths.output == it->output.length && lengths.messages == it->messages.length, "lengths", number);
   if (output_room >= it->output.length) {
     check(is_text(&it->output, output, lengths.output), "output", number);
-    check(output[lengths.output] == UNTOUCHED, "the byte behind the output", number);
+    check(output[lengths.output] == UNTOUCHED, "the byte after the output", number);
   } else {
     check(output[0] == UNTOUCHED, "an output that does not fit", number);
   }
   if (messages_room >= it->messages.length) {
     check(is_text(&it->messages, messages, lengths.messages), "messages", number);
-    check(messages[lengths.messages] == UNTOUCHED, "the byte behind the messages", number);
+    check(messages[lengths.messages] == UNTOUCHED, "the byte after the messages", number);
   } else {
     check(messages[0] == UNTOUCHED, "messages that do not fit", number);
   }

@@ -22,7 +22,7 @@ int summary(const char *program) {
   return failed != 0;
 }
 
-/* The character that stands for an escape: \n, \t, \r, \\ or \xNN, behind its backslash at `at`. */
+/* The character that stands for an escape: \n, \t, \r, \\ or \xNN, after its backslash at `at`. */
 static uint8_t unescaped(const char **at) {
   char code = *(*at)++;
   if (code == 'x') {

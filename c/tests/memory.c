@@ -1,4 +1,4 @@
-/* Makes each allocation of a call fail in turn, alone and with all behind it: the call answers that there is no memory, writes nothing and
+/* Makes each allocation of a call fail in turn, alone and with all after it: the call answers that there is no memory, writes nothing and
  * keeps nothing, and then succeeds with the same arguments. Linked with `malloc`, `realloc` and `free` wrapped.
  *
  * Usage: memory TABLE */

@@ -1,5 +1,5 @@
 /* Compiles each case of tables in pieces of 1, of 7 and of 4,096 bytes, and compares what came of it. The state is in a fresh buffer at each step, a
- * guard stands behind each buffer, and each is too small by one once. Some runs have a process for each step. Then it bends states at random, and
+ * guard stands after each buffer, and each is too small by one once. Some runs have a process for each step. Then it bends states at random, and
  * tries what is refused.
  *
  * Usage: pieces TABLE.. */
@@ -79,17 +79,17 @@ static bool has_old_state(const struct run *run, const struct made *made) {
   return memcmp(made->state, run->state.bytes, run->state.length) == 0 && is_untouched(made->state, run->state.length, made->rooms.state);
 }
 
-/* Looks at what every answer promises: nothing is written behind a text, and nothing at all where the step was not made. */
+/* Looks at what every answer promises: nothing is written after a text, and nothing at all where the step was not made. */
 static void look_at(const struct run *run, const struct made *made, bool has_state) {
   bool is_made = made->status <= GREGORIO_FATAL || made->status == GREGORIO_BROKEN || made->status == GREGORIO_RUNS;
   size_t output = is_made ? made->step.output : 0, messages = is_made ? made->step.messages : 0;
   bool fits = output <= made->rooms.output && messages <= made->rooms.messages && (!has_state || made->step.state <= made->rooms.state);
   check(fits, "lengths within the buffers", run->number);
   if (!fits) exit(summary("pieces"));
-  check(is_untouched(made->output, output, made->rooms.output), "what is behind the output", run->number);
-  check(is_untouched(made->messages, messages, made->rooms.messages), "what is behind the messages", run->number);
+  check(is_untouched(made->output, output, made->rooms.output), "what is after the output", run->number);
+  check(is_untouched(made->messages, messages, made->rooms.messages), "what is after the messages", run->number);
   if (has_state) {
-    check(is_untouched(made->state, made->rooms.state, made->rooms.state), "what is behind the state", run->number);
+    check(is_untouched(made->state, made->rooms.state, made->rooms.state), "what is after the state", run->number);
   } else {
     check(has_old_state(run, made), "a state that was not to be written", run->number);
   }
@@ -105,7 +105,7 @@ static struct made feed(const struct run *run, const struct text *piece, struct 
   made.status = gregorio_feed(run->it->format, run->it->flags, options, count, made.state, rooms.state, run->state.length, piece->bytes,
                               piece->length, made.output, rooms.output, made.messages, rooms.messages, &made.step);
   look_at(run, &made, made.status == GREGORIO_RUNS);
-  if (made.status == GREGORIO_FATAL) check(made.step.state == 0, "no state behind a fatal fault", run->number);
+  if (made.status == GREGORIO_FATAL) check(made.step.state == 0, "no state after a fatal fault", run->number);
   return made;
 }
 
@@ -250,7 +250,7 @@ static struct run begin(const struct test_case *it, size_t number) {
   check(is_untouched(run.state.bytes, 0, run.state.length), "nothing is begun", number);
   run.status = gregorio_begin(it->format, it->flags, options, count, run.state.bytes, run.state.length, &step);
   check(run.status == GREGORIO_RUNS && step.state == run.state.length && !step.output && !step.messages, "a beginning", number);
-  check(is_untouched(run.state.bytes, run.state.length, run.state.length), "what is behind the first state", number);
+  check(is_untouched(run.state.bytes, run.state.length, run.state.length), "what is after the first state", number);
   return run;
 }
 
@@ -284,7 +284,7 @@ static void try_pieces(const struct test_case *it, size_t number, size_t size, s
 
 static bool is_refused(uint32_t status) { return status == GREGORIO_NO_STATE || status == GREGORIO_OTHER_STATE; }
 
-/* Feeds and ends from these bytes. They are refused by both, or by none; where they are taken, so is the state behind them. */
+/* Feeds and ends from these bytes. They are refused by both, or by none; where they are taken, so is the state after them. */
 static bool try_state(const struct run *run, uint8_t *bytes, size_t length) {
   static uint8_t some[] = "f)a(g";
   struct run other = *run;

@@ -234,7 +234,7 @@ class _Reader:
         return DumpError(f"line {self._before + self._at + 1} of the dump: {what}")
 
     def word(self) -> str:
-        """Returns the first word of the line that comes; nothing behind the last line."""
+        """Returns the first word of the line that comes; nothing after the last line."""
         return self._first_words[self._at]
 
     def line(self) -> str:
@@ -250,7 +250,7 @@ class _Reader:
         return found
 
     def text(self) -> str:
-        """Takes a line, and returns what stands behind its first colon."""
+        """Takes a line, and returns what stands after its first colon."""
         _, colon, text = self._lines[self._at].partition(":")
         if not colon:
             raise self.fail("a colon was awaited")

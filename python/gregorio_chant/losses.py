@@ -109,11 +109,11 @@ class Comparison:
         return [self._loss(at, SPELLING, "this would be spelled in another way")]
 
     def source_offset(self, offset: int) -> int:
-        """Returns where in the score the character stands that is written behind `offset` others; where it was changed, nearby."""
+        """Returns where in the score the character stands that is written after `offset` others; where it was changed, nearby."""
         return _follow(offset, [(it.written, it.source) for it in self.header_pairs], self.written, self.source)
 
     def written_offset(self, offset: int) -> int:
-        """Returns where the character is written that stands in the score behind `offset` others; where it was changed, nearby."""
+        """Returns where the character is written that stands in the score after `offset` others; where it was changed, nearby."""
         return _follow(offset, [(it.source, it.written) for it in self.header_pairs], self.source, self.written)
 
 

@@ -52,7 +52,7 @@ class Reporter(Protocol):
         """Returns what is written at once about a file."""
 
     def end(self, summary: str | None) -> str:
-        """Returns what is written behind the last file; without a summary where none is wanted."""
+        """Returns what is written after the last file; without a summary where none is wanted."""
 
 
 def line_of(name: str, message: Message) -> str:

@@ -48,7 +48,7 @@ class Subject:
 
 @dataclass(frozen=True)
 class Rule:
-    """A rule. `wrong` is a line that breaks it, and `right` one that does not, where `before` stands before and `after` behind it."""
+    """A rule. `wrong` is a line that breaks it, and `right` one that does not, where `before` stands before and `after` after it."""
 
     name: str
     meaning: str
@@ -86,7 +86,7 @@ def _bracket_in_attribute(subject: Subject) -> Iterator[Found]:
                 yield subject.found(item, "an attribute holds ( or ): look whether its ] is missing")
 
 
-def _nabc_behind_bars(subject: Subject) -> list[tuple[int, int]]:
+def _nabc_after_bars(subject: Subject) -> list[tuple[int, int]]:
     """Returns, for each syllable with a `|` that was left out of the notes, the offsets of the first one and of the syllable's end."""
     text = subject.comparison.lines.text
     offsets = [subject.comparison.lines.offset(it.line, it.column) for it in subject.messages if it.code == "E1"]
@@ -104,9 +104,9 @@ def _nabc_behind_bars(subject: Subject) -> list[tuple[int, int]]:
 def _nabc_without_header(subject: Subject) -> Iterator[Found]:
     if (subject.score.header("nabc-lines") or "0") != "0":
         return
-    behind = _nabc_behind_bars(subject)
-    if behind:
-        yield Found(behind[0][0], f"a | stands in the notes of {counted(len(behind), 'syllable')}, and there is no header nabc-lines: what follows it was left out")
+    after = _nabc_after_bars(subject)
+    if after:
+        yield Found(after[0][0], f"a | stands in the notes of {counted(len(after), 'syllable')}, and there is no header nabc-lines: what follows it was left out")
 
 
 def _comment(subject: Subject) -> Iterator[Found]:
@@ -202,7 +202,7 @@ _ALL = (
     Rule(
         "nabc-without-header",
         "A | stands in the notes, and there is no header nabc-lines. Write one, as nabc-lines: 1;. One line tells it, in place of an E1 for each "
-        "character behind the |.",
+        "character after the |.",
         _nabc_without_header, "%%\n(c4) Ky(f|pu) ri(gh|pe)", "nabc-lines: 1;\n%%\n(c4) Ky(f|pu) ri(gh|pe)", "name: Kyrie;\n", kind=Kind.ERROR,
     ),
     Rule(
@@ -277,13 +277,13 @@ def unsilenced(data: bytes, messages: tuple[Message, ...]) -> tuple[Message, ...
 
 
 def _without_nabc(subject: Subject) -> tuple[Message, ...]:
-    """Returns the messages without each `E1` behind a `|` in its syllable."""
-    behind = _nabc_behind_bars(subject)
-    begins = [begin for begin, _ in behind]
+    """Returns the messages without each `E1` after a `|` in its syllable."""
+    after = _nabc_after_bars(subject)
+    begins = [begin for begin, _ in after]
 
-    def is_behind(message: Message) -> bool:
+    def is_after(message: Message) -> bool:
         at = subject.comparison.lines.offset(message.line, message.column)
         nearest = bisect.bisect_right(begins, at) - 1
-        return nearest >= 0 and at < behind[nearest][1]
+        return nearest >= 0 and at < after[nearest][1]
 
-    return tuple(it for it in subject.messages if it.code != "E1" or not is_behind(it))
+    return tuple(it for it in subject.messages if it.code != "E1" or not is_after(it))

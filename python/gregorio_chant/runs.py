@@ -158,7 +158,7 @@ class Run:
 
     @property
     def state(self) -> bytes:
-        """The state: all that a later process needs to go on, besides the format and the warnings. Raises `RunOverError` behind the end."""
+        """The state: all that a later process needs to go on, besides the format and the warnings. Raises `RunOverError` after the end."""
         self._look_whether_over()
         return self._state
 

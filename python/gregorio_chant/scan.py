@@ -33,7 +33,7 @@ def letters_of(text: str) -> str:
 
 @dataclass(frozen=True, slots=True)
 class Span:
-    """The characters from `begin` up to `end`, which is the offset behind them."""
+    """The characters from `begin` up to `end`, which is the offset after them."""
 
     begin: int
     end: int
@@ -187,7 +187,7 @@ def _scan_score(found: Scan, left_out: Collection[int]) -> None:
 
 
 def _scan_text(found: Scan, at: int) -> int:
-    """Passes a text, and returns where the notes behind it begin: at the `(`."""
+    """Passes a text, and returns where the notes after it begin: at the `(`."""
     text = found.text
     while special := _IN_TEXT.search(text, at):
         begin, word = special.start(), special[0]
@@ -198,19 +198,19 @@ def _scan_text(found: Scan, at: int) -> int:
             found.comments.append(Span(begin, at))
         elif word == "<":
             raw = _RAW.match(text, begin)
-            at = _behind(text, f"</{raw[1]}>" if raw else ">", begin)
+            at = _after(text, f"</{raw[1]}>" if raw else ">", begin)
         else:
-            at = _behind(text, "]", begin) if word == "[" else special.end()
+            at = _after(text, "]", begin) if word == "[" else special.end()
     return len(text)
 
 
-def _behind(text: str, word: str, at: int) -> int:
+def _after(text: str, word: str, at: int) -> int:
     found = text.find(word, at)
     return len(text) if found < 0 else found + len(word)
 
 
 def _scan_notes(found: Scan, begin: int, left_out: Collection[int]) -> int:
-    """Passes the notes that begin at this `(`, and returns where they end: behind the `)`."""
+    """Passes the notes that begin at this `(`, and returns where they end: after the `)`."""
     text, at = found.text, begin + 1
     comment = Span(begin, begin + 1)
     while special := _IN_NOTES.search(text, at):
@@ -224,12 +224,12 @@ def _scan_notes(found: Scan, begin: int, left_out: Collection[int]) -> int:
             continue
         elif word == ")":
             return at
-        elif word == "[" and not _is_behind_fusion(text, here, left_out, comment):
-            at = _behind(text, "]", here)
+        elif word == "[" and not _is_after_fusion(text, here, left_out, comment):
+            at = _after(text, "]", here)
     return len(text)
 
 
-def _is_behind_fusion(text: str, at: int, left_out: Collection[int], comment: Span) -> bool:
+def _is_after_fusion(text: str, at: int, left_out: Collection[int], comment: Span) -> bool:
     """Returns whether the last character kept before `at` is an `@`; `comment` is the nearest one before."""
     at -= 1
     while at in left_out or comment.begin <= at < comment.end:

@@ -37,7 +37,7 @@ def names(codes: frozenset[str], code: str) -> bool:
 
 @dataclass(frozen=True)
 class Selection:
-    """What of the messages is told. A fatal fault always is, since behind it nothing was read."""
+    """What of the messages is told. A fatal fault always is, since after it nothing was read."""
 
     select: frozenset[str] | None = None
     ignore: frozenset[str] = frozenset()

@@ -84,7 +84,7 @@ class Lines:
         return min(self._starts[max(line, 1) - 1] + max(column, 1) - 1, len(self.text))
 
     def place(self, offset: int) -> Place:
-        """Returns the place of the character behind `offset` others."""
+        """Returns the place of the character after `offset` others."""
         line = bisect.bisect_right(self._starts, offset)
         return Place(offset, line, offset - self._starts[line - 1] + 1)
 

@@ -42,7 +42,7 @@ LAYOUTS: dict[str, tuple[str, str | None]] = {
     ),
     "tags": ("name: a;\n%%\n(c4) <i>b<b>i</i>s</b>(f)  <i></i>c(g)\n", "name: a;\n%%\n(c4) <i>b</i><b><i>i</i>s</b>(f) c(g)\n"),
     "dollars": ("name: a;\n%%\n(c4) $*(f) a$b(g)\n", None),
-    "a blank behind a tag": ("name: a;\n%%\n(c4) <eu>a(f)</eu> b(g)<i> c</i>(h)\n", None),
+    "a blank after a tag": ("name: a;\n%%\n(c4) <eu>a(f)</eu> b(g)<i> c</i>(h)\n", None),
     "lines in a text": ("name: a;\n%%\n(c4) a\nb(f) [c\nd](g) e\n(h)\n", None),
     "a translation inside": ("name: a;\n%%\n(c4) K[Lord]y(f)\n", None),
     "findings": (

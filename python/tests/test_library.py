@@ -67,7 +67,7 @@ class Memory(unittest.TestCase):
         return peak, len(output)
 
     def test_nothing_is_copied_whole(self) -> None:
-        """Behind the first call the text of the output is all that is made."""
+        """After the first call the text of the output is all that is made."""
         self.peak()
         peak, length = self.peak()
         self.assertLess(peak, length + 20_000)

@@ -50,7 +50,7 @@ def joined(steps: Iterable[Step]) -> tuple[bytes, bytes, Status | None]:
 
 class Runs(unittest.TestCase):
     def steps_of(self, case: Case, size: int, restores: bool) -> Iterator[Step]:
-        """Yields the steps of a run in pieces of `size` bytes, which is restored behind each if `restores`."""
+        """Yields the steps of a run in pieces of `size` bytes, which is restored after each if `restores`."""
         run = Run(case.format, all_warnings=case.all_warnings)
         for piece in cut(case.score, size):
             step = run.feed(piece)
@@ -219,7 +219,7 @@ class Memory(unittest.TestCase):
         return [SCORE, bytearray(SCORE), memoryview(SCORE), memoryview(bytearray(SCORE))[1:-1]]
 
     def test_no_score_is_copied(self) -> None:
-        """Behind the first call the text of the output is all that is made, and of a check nothing."""
+        """After the first call the text of the output is all that is made, and of a check nothing."""
         for score in self.kinds():
             compile(score)
             self.assertLess(self.peak(compile(it) for it in [score]), len(SCORE) + 20_000, type(score))
@@ -238,7 +238,7 @@ class Memory(unittest.TestCase):
         self.assertLess(peak, 60_000)
 
     def test_bytes_stay_where_they_are(self) -> None:
-        """A `bytearray` keeps its length as long as it is borrowed, and is free again behind a call."""
+        """A `bytearray` keeps its length as long as it is borrowed, and is free again after a call."""
         score = bytearray(b"%%\n(c4f)")
         with memory.Borrowed(score), self.assertRaises(BufferError):
             score.append(0)

@@ -10,7 +10,7 @@ from support import InFolder, command
 
 FOUND = "name: a;\n%%\n(c4) <it>a</it>(n&) b(g) *() c(h)\n"
 LOOSE = "name:a;\n%%\n(c4)  a(f) b(g) c(h)\n"
-# Settings that are refused, with what is said of them behind the name of the file.
+# Settings that are refused, with what is said of them after the name of the file.
 WRONG = [
     ('select = ["W99"]', ":1: select: W99 is no code: did you mean W9?"),
     ('\nignore = "W3"', ':2: ignore: a list of texts is wanted, as ["W3"]'),

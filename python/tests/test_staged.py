@@ -117,7 +117,7 @@ class Staged(InFolder):
         self.assertEqual(Path(".git/hooks/pre-commit").read_text(), "mine")
 
     def test_entries_for_pre_commit(self) -> None:
-        """Each entry of .pre-commit-hooks.yaml runs over the files that are named behind it."""
+        """Each entry of .pre-commit-hooks.yaml runs over the files that are named after it."""
         self.put("a.gabc", LOOSE)
         entries = re.findall(r"^  entry: gregorio-chant (.*)$", (ROOT / ".pre-commit-hooks.yaml").read_text(encoding="utf-8"), re.MULTILINE)
         self.assertEqual(sorted(entries), ["check", "format", "format --check"])

@@ -112,7 +112,7 @@ class UploadServer(Asking):
         self.assertEqual(self.ask("GET", f"{path}/messages")[1], result.messages_text.encode())
 
     def test_restarts(self) -> None:
-        """The server is ended and started again behind each piece."""
+        """The server is ended and started again after each piece."""
         score = (EXAMPLES / "introit.gabc").read_bytes()
         for format in ("gabc", "dump"):
             path = self.begin(format)
@@ -123,7 +123,7 @@ class UploadServer(Asking):
             self.check_answers(path, score, format)
 
     def test_broken_connection(self) -> None:
-        """What came before a connection broke is kept, and what the server wrote behind its last state is cut off."""
+        """What came before a connection broke is kept, and what the server wrote after its last state is cut off."""
         score = (EXAMPLES / "every-finding.gabc").read_bytes()
         path = self.begin()
         with socket.create_connection(("127.0.0.1", self.port), timeout=20) as half:

@@ -193,7 +193,7 @@ pub(crate) fn version() -> &'static CStr {
 /// Compiles `score` under the default limits into the buffers, and tells the lengths of both texts.
 pub(crate) fn compile(job: &Job, score: &[u8], output: &mut [u8], messages: &mut [u8], lengths: &mut Lengths) -> u32 {
     let key = new_key();
-    // SAFETY: each pointer is that of a slice whose length stands behind it, or of a value that is borrowed for the call.
+    // SAFETY: each pointer is that of a slice whose length stands after it, or of a value that is borrowed for the call.
     unsafe {
         gregorio_compile(
             score.as_ptr(),

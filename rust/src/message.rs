@@ -12,7 +12,7 @@ pub enum Severity {
     Warning,
     /// Something was left out.
     Error,
-    /// Nothing behind it was read.
+    /// Nothing after it was read.
     Fatal,
 }
 

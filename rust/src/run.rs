@@ -102,7 +102,7 @@ impl Run {
     ///
     /// # Errors
     ///
-    /// [`Error::Over`] behind a fatal fault, and [`Error::NoMemory`]; the run is as it was then, and can be fed again.
+    /// [`Error::Over`] after a fatal fault, and [`Error::NoMemory`]; the run is as it was then, and can be fed again.
     pub fn feed(&mut self, piece: &[u8]) -> Result<Step, Error> {
         if self.is_over {
             return Err(Error::Over);
@@ -137,7 +137,7 @@ impl Run {
     ///
     /// # Errors
     ///
-    /// [`Error::Over`] behind a fatal fault, and [`Error::NoMemory`].
+    /// [`Error::Over`] after a fatal fault, and [`Error::NoMemory`].
     pub fn end(&self) -> Result<Step, Error> {
         self.finish(false)
     }
@@ -147,7 +147,7 @@ impl Run {
     ///
     /// # Errors
     ///
-    /// [`Error::Over`] behind a fatal fault, and [`Error::NoMemory`].
+    /// [`Error::Over`] after a fatal fault, and [`Error::NoMemory`].
     pub fn broken(&self) -> Result<Step, Error> {
         self.finish(true)
     }

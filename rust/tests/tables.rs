@@ -84,7 +84,7 @@ fn cases() -> Vec<Case> {
     found
 }
 
-/// Returns what a run in pieces of `size` bytes gives. It is restored from its state behind each.
+/// Returns what a run in pieces of `size` bytes gives. It is restored from its state after each.
 fn compile_in_pieces(case: &Case, size: usize) -> Result<Compiled, Error> {
     let mut run = Run::new(case.job)?;
     let mut all = Compiled {

@@ -3,9 +3,9 @@
  * REFUSE is `none`, `one` or `rest`: no request is refused, the n-th, or all from the n-th on.
  *
  * With FROM=n requests are counted from the start of the program. When it ends, the file REPORT gets how many requests came, how many were
- * refused, and how many reads, writes and files opened came behind the first refusal; writes to standard error do not count.
+ * refused, and how many reads, writes and files opened came after the first refusal; writes to standard error do not count.
  *
- * Without FROM the lines that the program writes to standard output say where to count. Behind a line `call NAME` n is 0. Behind a line `try` n
+ * Without FROM the lines that the program writes to standard output say where to count. After a line `call NAME` n is 0. After a line `try` n
  * is one more, and requests are counted up to the next line. Before that line stands then how many requests came, how many were refused, and
  * how many blocks more are held. Before a line `end` stands how many blocks more are held than at its `call`. */
 #define _GNU_SOURCE

@@ -3,7 +3,7 @@ use Rattle.std.proofs.Common.{◌≡◌, ℕ, ◌+◌, ◌<◌, ◌≤◌, ◌==
 use Rattle.std.proofs.lemmas.Bool.{eqb-true, and_parts}
 use Rattle.std.proofs.lemmas.Bool.Decides.{nat_tests}
 use Rattle.std.proofs.Math.Seq.{take-append-add}
-use Rattle.gabc_places.proofs.NothingBehindAnEnd.{both_empty}
+use Rattle.gabc_places.proofs.NothingAfterAnEnd.{both_empty}
 use Rattle.gabc_places.specs.declared.limits.Limits.{Limits}
 use Rattle.gabc_places.specs.declared.code.Code.TheVariants.{F4, F7}
 use Rattle.gabc_places.specs.Findings.{Stop, earliest}
@@ -19,7 +19,7 @@ use Rattle.gabc_headers.specs.witness.Heads.{score_stops, head_stops, heads_by}
 use Rattle.gabc_headers.proofs.groups.TextBeforeScore.{head_text, is_scored, score_lines, head_length, parts_head}
 use Rattle.gabc_headers.proofs.stops.PointsOfStops.{above_within}
 use Rattle.gabc_headers.proofs.stops.TextTooLong.{take_head}
-use Rattle.gabc_headers.proofs.groups.BookNeedsScoreLine.{score_behind, has_score_line}
+use Rattle.gabc_headers.proofs.groups.BookNeedsScoreLine.{score_after, has_score_line}
 
 -- ---- the text before the line `%%`
 
@@ -119,20 +119,20 @@ module _ (limits : Limits) (t more : List ℕ) (heads : Heads) (ok : heads_of li
       by [] e = refl
       by (s ∷ stops) e = absurd (cc)
 
-  abbrev behind_line : List ℕ → List Stop
-  behind_line u = open_stops (head_len u + 1) (open_line (head_parts u)) ++ score_stops limits u
+  abbrev after_line : List ℕ → List Stop
+  after_line u = open_stops (head_len u + 1) (open_line (head_parts u)) ++ score_stops limits u
 
-  pub none_apart : (text_stops limits.header t ≡ []) × (behind_line t ≡ [])
+  pub none_apart : (text_stops limits.header t ≡ []) × (after_line t ≡ [])
   none_apart =
-      let all = ap (λ b. text_stops limits.header t ++ cond b (behind_line t) (open_stops (length t) (open_line (head_parts t)) ++ missing_score (open_line (head_parts t)) t)) (sym (has_score_line limits t heads ok)) ∙ none_stops in
-      both_empty (text_stops limits.header t) (behind_line t) all
+      let all = ap (λ b. text_stops limits.header t ++ cond b (after_line t) (open_stops (length t) (open_line (head_parts t)) ++ missing_score (open_line (head_parts t)) t)) (sym (has_score_line limits t heads ok)) ∙ none_stops in
+      both_empty (text_stops limits.header t) (after_line t) all
 
   not_long : (o : Option ℕ) → first_above limits.header (head_text true t) ≡ o → too_long t o ≡ [] → o ≡ None
   not_long None e h = refl
   not_long (Some i) e h =
       let low : i < length (head_text true t) = above_within limits.header (head_text true t) i e in
       let len : head_len t ≡ length (head_text true t) = head_length t in
-      let behind : head_len t + 2 ≤ length t = score_behind limits t heads ok in
+      let after : head_len t + 2 ≤ length t = score_after limits t heads ok in
       let inside : i + 1 < length t = omega arith in
       absurd (never_empty (stop_at (i + 1) (place_after (take i t)) F4) (is_line_percent t i) (i + 1) (length t) inside (stop_at i (place_after (take i t)) F4) h)
 
@@ -142,23 +142,23 @@ module _ (limits : Limits) (t more : List ℕ) (heads : Heads) (ok : heads_of li
       ap (λ x. too_long again (first_above limits.header x)) (take_head again ∙ text_is) ∙ ap (too_long again) none
 
   -- by the text before the line and its parts
-  abbrev behind_by : ℕ → List ℕ → List HeaderPart → List Stop
-  behind_by n before ps =
+  abbrev after_by : ℕ → List ℕ → List HeaderPart → List Stop
+  after_by n before ps =
       open_stops (n + 1) (open_line ps)
       ++ (cond (nat_lt limits.header (bytes_len (header_lines (book_of ps)))) (stop_at (n + 1) (place_after before) F4 ∷ []) []
       ++ cond (nat_lt limits.input (bytes_len (header_lines (book_of ps)) + 3)) (stop_at (n + 1) (place_after before) F7 ∷ []) [])
 
-  behind_again : behind_line again ≡ []
-  behind_again =
-      ap (λ n. behind_by n (take (head_len again) again) (head_parts again)) len_again
-      ∙ ap (λ x. behind_by (head_len t) x (head_parts again)) (take_head again ∙ text_is ∙ sym (take_head t))
-      ∙ ap (behind_by (head_len t) (take (head_len t) t)) parts_again
+  after_again : after_line again ≡ []
+  after_again =
+      ap (λ n. after_by n (take (head_len again) again) (head_parts again)) len_again
+      ∙ ap (λ x. after_by (head_len t) x (head_parts again)) (take_head again ∙ text_is ∙ sym (take_head t))
+      ∙ ap (after_by (head_len t) (take (head_len t) t)) parts_again
       ∙ none_apart.1
 
   none_again : head_stops limits again ≡ []
   none_again =
-      ap (λ b. text_stops limits.header again ++ cond b (behind_line again) (open_stops (length again) (open_line (head_parts again)) ++ missing_score (open_line (head_parts again)) again)) line_again
-      ∙ ap (λ xs. xs ++ behind_line again) text_again ∙ behind_again
+      ap (λ b. text_stops limits.header again ++ cond b (after_line again) (open_stops (length again) (open_line (head_parts again)) ++ missing_score (open_line (head_parts again)) again)) line_again
+      ∙ ap (λ xs. xs ++ after_line again) text_again ∙ after_again
 
   -- the headers of the prefix are read whole, with the same book
   pub heads_again : (other : Heads) × (heads_of limits again ≡ Ok other) × (other.book ≡ heads.book)

@@ -5,7 +5,7 @@ pub mod MachineOverText
 pub mod OnePush
 pub mod OneStepByCharacter
 pub mod PartMachineOfBytes
-pub mod PartsBehindState
+pub mod PartsAfterState
 pub mod SpansOfBytes
 pub mod TrimAsLoop
 pub mod TrimByCharacter

@@ -32,7 +32,7 @@ use std::marker::Model;
 #[derive(Clone, Copy)]
 pub(crate) enum HeadPart {
     InHeaders,
-    Behind,
+    After,
     Stopped,
     Over,
 }
@@ -44,7 +44,7 @@ impl HeadPart {
     {
         match self {
             HeadPart::InHeaders | HeadPart::Stopped => HeadPart::Stopped,
-            HeadPart::Behind | HeadPart::Over => HeadPart::Over,
+            HeadPart::After | HeadPart::Over => HeadPart::Over,
         }
     }
 }
@@ -216,7 +216,7 @@ impl HeaderStage {
                 let text = self.text.as_str();
                 match score_len(self.limits, text, &self.headers, place, open_line) {
                     Ok(size) => {
-                        self.part = HeadPart::Behind;
+                        self.part = HeadPart::After;
                         emit_heads(&Headers::of(text, &self.headers), place, size, out);
                     }
                     Err(fault) => self.stop(fault, out),
@@ -248,7 +248,7 @@ impl HeaderStage {
                 Ok(x) => self.read(x.c, out),
                 Err(fault) => self.stop(fault, out),
             },
-            HeadPart::Behind => match input {
+            HeadPart::After => match input {
                 Ok(x) => out.push(HeadEvent::Body(x)),
                 Err(fault) => self.stop(fault, out),
             },
@@ -271,7 +271,7 @@ impl HeaderStage {
                 };
                 out.push(HeadEvent::Stop(end_fault(place, open_line)));
             }
-            HeadPart::Behind => out.push(HeadEvent::End),
+            HeadPart::After => out.push(HeadEvent::End),
             HeadPart::Stopped => {}
             HeadPart::Over => {}
         }
@@ -289,7 +289,7 @@ impl HeaderStage {
     {
         match self.part {
             HeadPart::InHeaders => Some(self.text.as_str()),
-            HeadPart::Behind => None,
+            HeadPart::After => None,
             HeadPart::Stopped | HeadPart::Over => None,
         }
     }
@@ -302,7 +302,7 @@ impl HeaderStage {
         let text = self.text.as_str();
         match self.part {
             HeadPart::InHeaders | HeadPart::Stopped => Headers::none(text, &self.headers),
-            HeadPart::Behind | HeadPart::Over => Headers::of(text, &self.headers),
+            HeadPart::After | HeadPart::Over => Headers::of(text, &self.headers),
         }
     }
 }

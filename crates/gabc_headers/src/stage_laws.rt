@@ -16,7 +16,7 @@ ghost use Rattle.gabc_headers.specs.Heads.{heads_of};
 ghost use Rattle.gabc_headers.specs.declared.heads.Heads.{Heads};
 ghost use Rattle.gabc_headers.specs.HeldText.{IsHeld, IsWithinHeaders, findings_held, holding, inputs_of, text_in};
 ghost use Rattle.gabc_headers.specs.HeadEvents.{emitted_by, events_of_heads};
-ghost use Rattle.gabc_headers.specs.witness.HeadEvents.{HeaderStageState, reading, over, IsBehind, fresh_stage, stage_past, events_left, events_of_input, events_of_end, new_findings, stage_after, stage_at, text_held};
+ghost use Rattle.gabc_headers.specs.witness.HeadEvents.{HeaderStageState, reading, over, IsAfterHeaders, fresh_stage, stage_past, events_left, events_of_input, events_of_end, new_findings, stage_after, stage_at, text_held};
 
 use crate::head_event::HeadEvent;
 use crate::header_stage::HeaderStage;
@@ -69,7 +69,7 @@ pub fn a_fresh_stage_reads_bytes(
 /// Law: after its headers a stage passes on each character as it is, and stays after them: a run
 /// may leave the stage out there.
 pub fn the_body_is_passed_on(stage: &mut HeaderStage, c: Char, out: &mut Room<HeadEvent>)
-    requires behind { IsBehind stage.old.progress }
+    requires after { IsAfterHeaders stage.old.progress }
     requires room { Fits out.old 2 }
     ensures limits { stage.new.limits ≡ stage.old.limits }
     ensures progress { stage.new.progress ≡ stage.old.progress }
@@ -149,7 +149,7 @@ pub fn a_held_text_is_within_its_limit()
 /// Law: two stages after their headers emit the same of whatever follows, whatever the headers
 /// were.
 pub fn stages_after_headers_agree()
-    ensures { (one other : HeaderStageState) → IsBehind one.progress → IsBehind other.progress →
+    ensures { (one other : HeaderStageState) → IsAfterHeaders one.progress → IsAfterHeaders other.progress →
         (xs : List (Result Char Fault)) → events_left one.limits one.progress xs
         ≡ events_left other.limits other.progress xs }
 {}

@@ -19,7 +19,7 @@ use Rattle.gabc_notes.specs.declared.stage.NoteEvent.{NoteEvent}
 use Rattle.gabc_notes.specs.declared.stage.NoteEvent.TheVariants.{Kept, Ended}
 use Rattle.gabc_nabc.specs.Table.{nabc}
 use Rattle.gabc_nabc.specs.Events.{in_comment, is_character, is_end, has_end, kept_of, is_missing, first_of, bytes_in, end_events, character_events, events_at, nabc_events_after, nabc_events}
-use Rattle.gabc_nabc.specs.witness.Keeps.{comment_of, is_end_behind, kept_behind, IsKeptAgain, IsKeptWhole, with_comment, Keeps, GoesOn, EndsAfter, KeepsOn}
+use Rattle.gabc_nabc.specs.witness.Keeps.{comment_of, is_end_after, kept_after, IsKeptAgain, IsKeptWhole, with_comment, Keeps, GoesOn, EndsAfter, KeepsOn}
 use Rattle.gabc_nabc.specs.witness.DescriptorMachine.{comment_in, stage_events_at, stage_after, stage_moved_on, role_at, facts_at, next_at, events_left}
 use Rattle.gabc_nabc.specs.declared.stage.NabcRole.{NabcRole}
 use Rattle.gabc_nabc.specs.declared.stage.NabcRole.TheVariants.{Silent, Ends, Keep, LeaveOut}
@@ -31,9 +31,9 @@ use Rattle.gabc_nabc.proofs.machine.TextWithACharacterMore.{comment_more, end_mo
 
 -- what is emitted of a character
 abbrev events_by : Bool → List ℕ → Char → List NoteEvent
-events_by m k x = if is_end_behind m x.c then end_events k x else (if not m && not (is_in x.c (37 ∷ 32 ∷ 9 ∷ 10 ∷ [])) then character_events k x else [])
+events_by m k x = if is_end_after m x.c then end_events k x else (if not m && not (is_in x.c (37 ∷ 32 ∷ 9 ∷ 10 ∷ [])) then character_events k x else [])
 
-kept_next : (t : List ℕ) (c : ℕ) → kept_of (t ++ c ∷ []) ≡ kept_behind (kept_of t) (in_comment t) c
+kept_next : (t : List ℕ) (c : ℕ) → kept_of (t ++ c ∷ []) ≡ kept_after (kept_of t) (in_comment t) c
 kept_next t c = by (is_character t c) refl
   where
     by : (b : Bool) → is_character t c ≡ b → kept_of (t ++ c ∷ []) ≡ (if is_character t c then (if is_viable nabc (kept_of t ++ c ∷ []) then kept_of t ++ c ∷ [] else kept_of t) else kept_of t)
@@ -46,22 +46,22 @@ record AreAlike (t u : List ℕ) : Type 0 where
   pub comment : in_comment t ≡ in_comment u
   pub kept : kept_of t ≡ kept_of u
 
-same_behind : (xs : List Char) (t u : List ℕ) → AreAlike t u → nabc_events_after t xs ≡ nabc_events_after u xs
-same_behind [] t u h =
+same_after : (xs : List Char) (t u : List ℕ) → AreAlike t u → nabc_events_after t xs ≡ nabc_events_after u xs
+same_after [] t u h =
     ap (λ (b : Bool). (if b then [] else Ended (Cut (record { line = 0; column = 0 })) (bytes_in (kept_of t)) ∷ []) ∷ []) h.ends
     ∙ ap (λ (k : List ℕ). (if has_end u then [] else Ended (Cut (record { line = 0; column = 0 })) (bytes_in k) ∷ []) ∷ []) h.kept
-same_behind (x ∷ xs) t u h =
+same_after (x ∷ xs) t u h =
     ap (λ (events : List NoteEvent). events ∷ nabc_events_after (t ++ x.c ∷ []) xs)
     (ap (λ (b : Bool). if b then [] else events_by (in_comment t) (kept_of t) x) h.ends
     ∙ ap (λ (b : Bool). if has_end u then [] else events_by b (kept_of t) x) h.comment
     ∙ ap (λ (k : List ℕ). if has_end u then [] else events_by (in_comment u) k x) h.kept)
-    ∙ ap (λ (lists : List (List NoteEvent)). events_at u x ∷ lists) (same_behind xs (t ++ x.c ∷ []) (u ++ x.c ∷ []) next)
+    ∙ ap (λ (lists : List (List NoteEvent)). events_at u x ∷ lists) (same_after xs (t ++ x.c ∷ []) (u ++ x.c ∷ []) next)
   where
     next : AreAlike (t ++ x.c ∷ []) (u ++ x.c ∷ [])
     next = record {
-      ends = end_more t x.c ∙ ap (λ (b : Bool). b || is_end t x.c) h.ends ∙ ap (λ (b : Bool). has_end u || is_end_behind b x.c) h.comment ∙ sym (end_more u x.c);
+      ends = end_more t x.c ∙ ap (λ (b : Bool). b || is_end t x.c) h.ends ∙ ap (λ (b : Bool). has_end u || is_end_after b x.c) h.comment ∙ sym (end_more u x.c);
       comment = comment_more t x.c ∙ ap (λ (b : Bool). comment_in b x.c) h.comment ∙ sym (comment_more u x.c);
-      kept = kept_next t x.c ∙ ap (λ (k : List ℕ). kept_behind k (in_comment t) x.c) h.kept ∙ ap (λ (b : Bool). kept_behind (kept_of u) b x.c) h.comment ∙ sym (kept_next u x.c);
+      kept = kept_next t x.c ∙ ap (λ (k : List ℕ). kept_after k (in_comment t) x.c) h.kept ∙ ap (λ (b : Bool). kept_after (kept_of u) b x.c) h.comment ∙ sym (kept_next u x.c);
     }
 
 -- ---- a text that is kept whole
@@ -72,11 +72,11 @@ record TextIs (k : List ℕ) (m : Bool) (t : List ℕ) : Type 0 where
   pub comment : in_comment t ≡ m
   pub kept : kept_of t ≡ k
 
-text_on : (k : List ℕ) (m : Bool) (t : List ℕ) (c : ℕ) → TextIs k m t → is_end_behind m c ≡ false → TextIs (kept_behind k m c) (comment_in m c) (t ++ c ∷ [])
+text_on : (k : List ℕ) (m : Bool) (t : List ℕ) (c : ℕ) → TextIs k m t → is_end_after m c ≡ false → TextIs (kept_after k m c) (comment_in m c) (t ++ c ∷ [])
 text_on k m t c h e = record {
-  no_end = end_more t c ∙ ap (λ (b : Bool). b || is_end t c) h.no_end ∙ ap (λ (b : Bool). is_end_behind b c) h.comment ∙ e;
+  no_end = end_more t c ∙ ap (λ (b : Bool). b || is_end t c) h.no_end ∙ ap (λ (b : Bool). is_end_after b c) h.comment ∙ e;
   comment = comment_more t c ∙ ap (λ (b : Bool). comment_in b c) h.comment;
-  kept = kept_next t c ∙ ap (λ (u : List ℕ). kept_behind u (in_comment t) c) h.kept ∙ ap (λ (b : Bool). kept_behind k b c) h.comment;
+  kept = kept_next t c ∙ ap (λ (u : List ℕ). kept_after u (in_comment t) c) h.kept ∙ ap (λ (b : Bool). kept_after k b c) h.comment;
 }
 
 text_whole : (t k : List ℕ) → TextIs t false t → ((before more : List ℕ) (c : ℕ) → t ++ k ≡ before ++ c ∷ more → IsKeptAgain before c) → TextIs (t ++ k) false (t ++ k)
@@ -108,7 +108,7 @@ no_percent c e = by (c == 37) refl
     by true f = absurd (let g : true ≡ false = ap (λ (d : ℕ). is_in d (37 ∷ 32 ∷ 9 ∷ 10 ∷ [])) (sym (eqb-true c 37 f)) ∙ e in cc)
     by false f = rw f refl
 
-whole_on : (k : List ℕ) (m : Bool) (c : ℕ) → IsKeptWhole k → is_end_behind m c ≡ false → IsKeptWhole (kept_behind k m c)
+whole_on : (k : List ℕ) (m : Bool) (c : ℕ) → IsKeptWhole k → is_end_after m c ≡ false → IsKeptWhole (kept_after k m c)
 whole_on k true c w e = w
 whole_on k false c w e = by (is_in c (37 ∷ 32 ∷ 9 ∷ 10 ∷ [])) (is_viable nabc (k ++ c ∷ [])) refl refl
   where
@@ -127,9 +127,9 @@ module _ (m : Bool) (k : List ℕ) (x : Char) where
   abbrev Goes : List NoteEvent → List ℕ → Type 0
   Goes events kept = (ends_of events ≡ []) × (k ++ kept_in events ≡ kept)
 
-  going : is_end_behind m x.c ≡ false → Goes (events_by m k x) (kept_behind k m x.c)
+  going : is_end_after m x.c ≡ false → Goes (events_by m k x) (kept_after k m x.c)
   going e =
-      subst (λ (b : Bool). Goes (if b then end_events k x else (if not m && not (is_in x.c (37 ∷ 32 ∷ 9 ∷ 10 ∷ [])) then character_events k x else [])) (kept_behind k m x.c)) (sym e)
+      subst (λ (b : Bool). Goes (if b then end_events k x else (if not m && not (is_in x.c (37 ∷ 32 ∷ 9 ∷ 10 ∷ [])) then character_events k x else [])) (kept_after k m x.c)) (sym e)
       (by (not m && not (is_in x.c (37 ∷ 32 ∷ 9 ∷ 10 ∷ []))) (is_viable nabc (k ++ x.c ∷ [])) (is_missing (first_of k) x.c))
     where
       by : (a v w : Bool) → Goes (going_by a v w) (if a then (if v then k ++ x.c ∷ [] else k) else k)
@@ -138,7 +138,7 @@ module _ (m : Bool) (k : List ℕ) (x : Char) where
       by true true true = (refl, refl)
       by true true false = (refl, refl)
 
-  ending : is_end_behind m x.c ≡ true → EndsAfter k x.c (events_by m k x)
+  ending : is_end_after m x.c ≡ true → EndsAfter k x.c (events_by m k x)
   ending e =
       subst (λ (b : Bool). EndsAfter k x.c (if b then end_events k x else (if not m && not (is_in x.c (37 ∷ 32 ∷ 9 ∷ 10 ∷ [])) then character_events k x else []))) (sym e)
       (by (is_snippet nabc k))
@@ -156,7 +156,7 @@ not_ends false false true v e = absurd (cc)
 not_ends false false false true e = absurd (cc)
 not_ends false false false false e = absurd (cc)
 
-comment_after : (s : NabcStage) (c : ℕ) → s.ended ≡ false → is_end_behind (comment_of s) c ≡ false → comment_of (stage_after s c) ≡ comment_in (comment_of s) c
+comment_after : (s : NabcStage) (c : ℕ) → s.ended ≡ false → is_end_after (comment_of s) c ≡ false → comment_of (stage_after s c) ≡ comment_in (comment_of s) c
 comment_after s c on e =
     ap (λ (b : Bool). comment_of (if b then s else stage_moved_on s (role_at s c) (facts_at s c) (next_at s c) c)) on
     ∙ by (role_at s c) (next_at s c) (λ f. absurd (true≢false (sym (not_ends s.comment ((c == 41) || (c == 124)) (is_in c (37 ∷ 32 ∷ 9 ∷ 10 ∷ [])) (is_some (next_at s c)) f) ∙ e)))
@@ -188,7 +188,7 @@ module _ (s : NabcStage) (x : Char) (k : List ℕ) (h : Keeps s k) where
       ∙ ap (λ (b : Bool). events_by b (kept_of (with_comment k (comment_of s))) x) text.comment
       ∙ ap (λ (u : List ℕ). events_by (comment_of s) u x) text.kept
 
-  goes : is_end_behind (comment_of s) x.c ≡ false → GoesOn k s x (stage_events_at s x) (stage_after s x.c)
+  goes : is_end_after (comment_of s) x.c ≡ false → GoesOn k s x (stage_events_at s x) (stage_after s x.c)
   goes e = record {
     no_end = ap ends_of events_are ∙ (going (comment_of s) k x e).0;
     kept = kept;
@@ -196,23 +196,23 @@ module _ (s : NabcStage) (x : Char) (k : List ℕ) (h : Keeps s k) where
     comment = comment;
   }
     where
-      kept : k ++ kept_in (stage_events_at s x) ≡ kept_behind k (comment_of s) x.c
+      kept : k ++ kept_in (stage_events_at s x) ≡ kept_after k (comment_of s) x.c
       kept = ap (λ (events : List NoteEvent). k ++ kept_in events) events_are ∙ (going (comment_of s) k x e).1
 
       comment : comment_of (stage_after s x.c) ≡ comment_in (comment_of s) x.c
       comment = comment_after s x.c on e
 
-      whole : IsKeptWhole (kept_behind k (comment_of s) x.c)
+      whole : IsKeptWhole (kept_after k (comment_of s) x.c)
       whole = whole_on k (comment_of s) x.c h.whole e
 
-      emits : (xs : List Char) → events_left (stage_after s x.c) xs ≡ nabc_events_after (with_comment (kept_behind k (comment_of s) x.c) (comment_of (stage_after s x.c))) xs
+      emits : (xs : List Char) → events_left (stage_after s x.c) xs ≡ nabc_events_after (with_comment (kept_after k (comment_of s) x.c) (comment_of (stage_after s x.c))) xs
       emits xs =
           let both : stage_events_at s x ∷ events_left (stage_after s x.c) xs ≡ events_at (with_comment k (comment_of s)) x ∷ nabc_events_after (with_comment k (comment_of s) ++ x.c ∷ []) xs = h.emits (x ∷ xs) in
           let rest : events_left (stage_after s x.c) xs ≡ nabc_events_after (with_comment k (comment_of s) ++ x.c ∷ []) xs = cc both in
           let one = text_on k (comment_of s) (with_comment k (comment_of s)) x.c text e in
-          let other = text_with (kept_behind k (comment_of s) x.c) (comment_of (stage_after s x.c)) whole in
+          let other = text_with (kept_after k (comment_of s) x.c) (comment_of (stage_after s x.c)) whole in
           rest
-          ∙ same_behind xs (with_comment k (comment_of s) ++ x.c ∷ []) (with_comment (kept_behind k (comment_of s) x.c) (comment_of (stage_after s x.c)))
+          ∙ same_after xs (with_comment k (comment_of s) ++ x.c ∷ []) (with_comment (kept_after k (comment_of s) x.c) (comment_of (stage_after s x.c)))
           (record { ends = one.no_end ∙ sym other.no_end; comment = one.comment ∙ sym (other.comment ∙ comment); kept = one.kept ∙ sym other.kept })
 
 pub push_keeps : (s : NabcStage) (x : Char) → KeepsOn s x (stage_events_at s x) (stage_after s x.c)

@@ -9,7 +9,7 @@ use Rattle.gabc_notes.specs.Ends.{is_ended}
 use Rattle.gabc_notes.specs.declared.stage.NoteEnd.TheVariants.{Cut}
 use Rattle.gabc_notes.specs.declared.stage.NoteEvent.{NoteEvent}
 use Rattle.gabc_notes.specs.declared.stage.NoteEvent.TheVariants.{Kept, Ended}
-use Rattle.gabc_places.proofs.NothingBehindAnEnd.{stops-endless, stops-last}
+use Rattle.gabc_places.proofs.NothingAfterAnEnd.{stops-endless, stops-last}
 use Rattle.gabc_nabc.specs.witness.DescriptorMachine.{events_in, event_list, role_at, facts_at, next_at, stage_events_at, stage_after, stage_moved_on, events_of_cut, events_left}
 use Rattle.gabc_notes.specs.Events.{finding_event, end_by_mark}
 use Rattle.gabc_nabc.specs.declared.stage.NabcStage.{NabcStage}

@@ -38,26 +38,26 @@ pub alter_there : (outset : InForce) (before : List ScoreStep) (h : ℕ) → h <
 alter_there outset [] h l = refl
 alter_there outset (s ∷ before) h l = at_height (alter_in_force outset (s ∷ before)) h l
 
-clef_behind : (outset : InForce) (before more : List ScoreStep) → clef_in_force (in_force_after outset before) more ≡ clef_in_force outset (more ++ before)
-clef_behind outset before [] = clef_there outset before
-clef_behind outset before (s ∷ more) = ap (option_or (clef_of s)) (clef_behind outset before more)
+clef_after : (outset : InForce) (before more : List ScoreStep) → clef_in_force (in_force_after outset before) more ≡ clef_in_force outset (more ++ before)
+clef_after outset before [] = clef_there outset before
+clef_after outset before (s ∷ more) = ap (option_or (clef_of s)) (clef_after outset before more)
 
 -- the alteration of a step, else that in force before it
 abbrev by_step : Option Alter → Bool → Alter → Alter
 by_step own ends before = elim own as (λ _. Alter) [ Some a ↦ a | None ↦ if ends then alter.None else before ]
 
-alter_behind : (outset : InForce) (before more : List ScoreStep) (h : ℕ) → h < 15 → alter_in_force (in_force_after outset before) more h ≡ alter_in_force outset (more ++ before) h
-alter_behind outset before [] h l = alter_there outset before h l
-alter_behind outset before (s ∷ more) h l = ap (by_step (alter_of h s) (ends_alterations s)) (alter_behind outset before more h l)
+alter_after : (outset : InForce) (before more : List ScoreStep) (h : ℕ) → h < 15 → alter_in_force (in_force_after outset before) more h ≡ alter_in_force outset (more ++ before) h
+alter_after outset before [] h l = alter_there outset before h l
+alter_after outset before (s ∷ more) h l = ap (by_step (alter_of h s) (ends_alterations s)) (alter_after outset before more h l)
 
-pub behind_all : (outset : InForce) (before more : List ScoreStep) → in_force_after (in_force_after outset before) more ≡ in_force_after outset (more ++ before)
-behind_all outset before [] = refl
-behind_all outset before (s ∷ more) =
-    ap₂ in_force (clef_behind outset before (s ∷ more))
-    (same_heights (alter_in_force (in_force_after outset before) (s ∷ more)) (alter_in_force outset (s ∷ (more ++ before))) (alter_behind outset before (s ∷ more)))
+pub after_all : (outset : InForce) (before more : List ScoreStep) → in_force_after (in_force_after outset before) more ≡ in_force_after outset (more ++ before)
+after_all outset before [] = refl
+after_all outset before (s ∷ more) =
+    ap₂ in_force (clef_after outset before (s ∷ more))
+    (same_heights (alter_in_force (in_force_after outset before) (s ∷ more)) (alter_in_force outset (s ∷ (more ++ before))) (alter_after outset before (s ∷ more)))
 
 pub passed_all : (outset : InForce) (steps more : List ScoreStep) → passed (passed outset steps) more ≡ passed outset (steps ++ more)
-passed_all outset steps more = behind_all outset (reverse steps) (reverse more) ∙ ap (in_force_after outset) (sym (reverse-append steps more))
+passed_all outset steps more = after_all outset (reverse steps) (reverse more) ∙ ap (in_force_after outset) (sym (reverse-append steps more))
 
 -- ---- one step
 

@@ -15,7 +15,7 @@ pub record IsRun {X : Type 0} (p : X → Bool) (xs : List X) (s : Span) : Type 0
   pub some : s.from < s.to
   pub inside : (i : ℕ) → s.from ≤ i → i < s.to → passes_at p xs i ≡ true
   pub before : (i : ℕ) → i + 1 ≡ s.from → passes_at p xs i ≡ false
-  pub behind : passes_at p xs s.to ≡ false
+  pub after : passes_at p xs s.to ≡ false
 
 -- The spans are all runs of the list, in order.
 pub record AreRuns {X : Type 0} (p : X → Bool) (xs : List X) (spans : List Span) : Type 0 where

@@ -75,18 +75,18 @@ fn first_glyph(notes: &[Note]) -> Option<(GlyphKind, usize)>
 }
 
 /// Returns the first glyph of the notes of a segment from `first` on, which are `first` and those
-/// among the items of the segment that begin `behind`: the longest neume that begins there, as its
-/// kind, and how many notes it has. `behind` has to give items of `kept`, fewer than it has bytes,
+/// among the items of the segment that begin `later`: the longest neume that begins there, as its
+/// kind, and how many notes it has. `later` has to give items of `kept`, fewer than it has bytes,
 /// as `gabc_notes::items_in` does after an item. It asks for no memory.
-pub fn glyph_from(kept: &str, first: Note, behind: &ItemReader<'_>) -> Option<(GlyphKind, usize)>
-    requires within { AreWithin kept.now behind.now }
-    requires few { length behind.now < length kept.now }
-    ensures glyph { let notes = first ∷ notes_in kept.now (take_while is_in_segment behind.now) in
+pub fn glyph_from(kept: &str, first: Note, later: &ItemReader<'_>) -> Option<(GlyphKind, usize)>
+    requires within { AreWithin kept.now later.now }
+    requires few { length later.now < length kept.now }
+    ensures glyph { let notes = first ∷ notes_in kept.now (take_while is_in_segment later.now) in
         result ≡ longest_glyph (length notes) notes }
     ensures some { is_some result ≡ true }
 {
     let mut search = GlyphSearch::START.with(first)?;
-    for item in behind.ahead() {
+    for item in later.ahead() {
         if !is_in_segment(item) {
             return search.best;
         }

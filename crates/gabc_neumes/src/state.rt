@@ -66,7 +66,7 @@ fn is_joinable_shape(shape: Shape) -> bool
 }
 
 /// Returns the class of `note` after a note at the height `before`.
-fn class_behind(before: u8, note: Note) -> NoteClass
+fn class_after(before: u8, note: Note) -> NoteClass
     ensures { result ≡ step_class note.shape before note.height }
 {
     match note.shape {
@@ -98,7 +98,7 @@ pub(crate) fn class_of(before: Option<u8>, note: Note) -> NoteClass
     ensures { result ≡ class_at before note }
 {
     match before {
-        Some(height) => class_behind(height, note),
+        Some(height) => class_after(height, note),
         None => NoteClass::First(note.shape),
     }
 }

@@ -11,7 +11,7 @@ use Rattle.gabc_places.specs.StageLaw.{EmitsNothing, StopsAtEnd}
 use Rattle.gabc_places.proofs.PushesAreOne.{joined_silence}
 use Rattle.gabc_notes.specs.Ends.{is_ended}
 use Rattle.gabc_notes.specs.machine.ItemMachine.{stage_after}
-use Rattle.gabc_notes.specs.machine.StageBehind.{next_of, facts_of, role_of, stage_behind}
+use Rattle.gabc_notes.specs.machine.StageAfter.{next_of, facts_of, role_of, stage_after_one}
 use Rattle.gabc_notes.specs.witness.ItemMachine.{events_left}
 use Rattle.gabc_notes.specs.Events.{finding_event, end_by_mark, is_missing}
 use Rattle.gabc_notes.specs.witness.StageEvents.{events_in, event_list}
@@ -24,7 +24,7 @@ use Rattle.gabc_notes.specs.declared.stage.CharRole.{CharRole}
 use Rattle.gabc_notes.specs.declared.stage.CharRole.TheVariants.{Silent, Comment, Ends, Keep, LeaveOut}
 use Rattle.gabc_notes.specs.declared.stage.CharFacts.{CharFacts}
 use Rattle.gabc_notes.specs.declared.state.ItemState.{ItemState}
-use Rattle.gabc_places.proofs.NothingBehindAnEnd.{stops-endless, stops-last}
+use Rattle.gabc_places.proofs.NothingAfterAnEnd.{stops-endless, stops-last}
 
 -- a stage that has ended gives nothing
 pub ended-emits_nothing : (st : NoteStage) → st.ended ≡ true → EmitsNothing (events_left st)
@@ -68,7 +68,7 @@ push_stops st next x o e Silent g old new m n p = stops-endless is_ended (events
 push_stops st next x o e Comment g old new m n p = stops-endless is_ended (events_left next) old new (event_list g) p (ap (λ (y : CharEvents). list_any is_ended (event_list y)) m)
 
 -- a character that ends a stage changes nothing else of it
-pub ended_as_before : (st next : NoteStage) (x : Char) → next ≡ stage_behind st x → next.ended ≡ true → next ≡ record st { ended = true }
+pub ended_as_before : (st next : NoteStage) (x : Char) → next ≡ stage_after_one st x → next.ended ≡ true → next ≡ record st { ended = true }
 ended_as_before st next x n h = running st.ended refl
   where
     runs_on : (r : CharRole) (e : CharFacts) (o : Option ItemState) → (r ≡ Ends → ⊥) → (stage_after st r e o x).ended ≡ st.ended

@@ -11,11 +11,11 @@ use Rattle.gabc_notes.specs.declared.item.ItemKind.TheVariants.{Fusion}
 -- The text is a snippet whose last item is no `@`, a `[`, and no `]` from there on.
 pub record IsOpen (t : List ℕ) : Type 0 where
   pub before : List ℕ
-  pub behind : List ℕ
-  pub cut : t ≡ before ++ 91 ∷ behind
+  pub after : List ℕ
+  pub cut : t ≡ before ++ 91 ∷ after
   pub snippet : IsSnippet gabc before
   pub not_at : (items : List ItemText) → ¬ IsReading gabc (items ++ (Fusion, codes "@") ∷ []) before
-  pub unclosed : is_in 93 behind ≡ false
+  pub unclosed : is_in 93 after ≡ false
 
 -- The characters, the nearest first, end with a `%` outside raw and what follows it, and there is
 -- no LF from there on.
@@ -38,6 +38,6 @@ pub record IsOpenedAt (back : List Char) : Type 0 where
   pub bracket : mark.c ≡ 91
   pub place : mark.place ≡ opener back
   pub outside : in_raw (kept before) ≡ false
-  pub behind : List ℕ
-  pub kept_is : kept back ≡ kept before ++ 91 ∷ behind
-  pub unclosed : is_in 93 behind ≡ false
+  pub after : List ℕ
+  pub kept_is : kept back ≡ kept before ++ 91 ∷ after
+  pub unclosed : is_in 93 after ≡ false

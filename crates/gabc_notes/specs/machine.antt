@@ -4,5 +4,5 @@ pub mod ItemMachine
 pub mod Items
 pub mod Notes
 pub mod Regular
-pub mod StageBehind
+pub mod StageAfter
 pub mod StageEvents

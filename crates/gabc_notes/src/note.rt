@@ -119,7 +119,7 @@ fn count_in_a_row(letter: u8, text: &[u8]) -> u8
 }
 
 /// Returns the shape that `text`, which stands after a small pitch, names.
-fn shape_behind(text: &[u8]) -> Shape
+fn shape_after(text: &[u8]) -> Shape
     ensures { result ≡ shape_by (letters text.now) }
 {
     let Some((letter, rest)) = next_letter(text) else {
@@ -227,6 +227,6 @@ fn shape_of(pitch: u8, rest: &[u8]) -> Shape
 {
     match pitch {
         b'A'..=b'Z' => Shape::Inclinatum,
-        _ => shape_behind(rest),
+        _ => shape_after(rest),
     }
 }

@@ -7,7 +7,7 @@ ghost use Rattle.gabc_places.specs.StageLaw.{Pushes, StopsAtEnd};
 ghost use Rattle.gabc_notes.specs.declared.stage.CharFacts.{CharFacts};
 ghost use Rattle.gabc_notes.specs.machine.ItemMachine.{IsShortStep, raw_state, facts_by_states, prefix_after, stage_after, stage_kept};
 ghost use Rattle.gabc_notes.specs.witness.ItemMachine.{events_left};
-ghost use Rattle.gabc_notes.specs.machine.StageBehind.{stage_behind};
+ghost use Rattle.gabc_notes.specs.machine.StageAfter.{stage_after_one};
 ghost use Rattle.gabc_notes.specs.StageReports.{opener_of, comment_of};
 ghost use Rattle.gabc_notes.specs.witness.Keeps.{Keeps, Steps};
 ghost use Rattle.gabc_notes.specs.Ends.{is_ended};
@@ -322,7 +322,7 @@ impl NoteStage {
     fn read(&mut self, x: Char, out: &mut Room<NoteEvent>)
         requires fits { Fits out.old 3 }
         requires runs { self.old.ended ≡ false }
-        ensures state { self.new ≡ stage_behind self.old x }
+        ensures state { self.new ≡ stage_after_one self.old x }
         ensures events { Pushes (events_left self.old) (events_left self.new) x 3 out.old out.new }
         ensures end { StopsAtEnd is_ended (events_left self.new) out.old out.new }
     {
@@ -355,7 +355,7 @@ impl NoteStage {
         requires runs { self.old.ended ≡ false }
         requires comment { self.old.before.comment ≡ false }
         requires step { IsShortStep self.old.state x.c next }
-        ensures state { self.new ≡ stage_behind self.old x }
+        ensures state { self.new ≡ stage_after_one self.old x }
         ensures events { Pushes (events_left self.old) (events_left self.new) x 3 out.old out.new }
         ensures end { StopsAtEnd is_ended (events_left self.new) out.old out.new }
     {
@@ -370,7 +370,7 @@ impl NoteStage {
         requires comment { self.old.before.comment ≡ false }
         requires outside { raw_state self.old.state ≡ false }
         requires close { x.c ≡ 41 }
-        ensures state { self.new ≡ stage_behind self.old x }
+        ensures state { self.new ≡ stage_after_one self.old x }
         ensures events { Pushes (events_left self.old) (events_left self.new) x 3 out.old out.new }
         ensures end { StopsAtEnd is_ended (events_left self.new) out.old out.new }
     {
@@ -386,7 +386,7 @@ impl NoteStage {
         requires comment { self.old.before.comment ≡ false }
         requires inside { raw_state self.old.state ≡ true }
         requires other { (x.c == 93) ≡ false }
-        ensures state { self.new ≡ stage_behind self.old x }
+        ensures state { self.new ≡ stage_after_one self.old x }
         ensures events { Pushes (events_left self.old) (events_left self.new) x 3 out.old out.new }
         ensures end { StopsAtEnd is_ended (events_left self.new) out.old out.new }
     {

@@ -38,19 +38,19 @@ read_some count length old new some h = answered old new (h ∙ ap (λ (b : Bool
 pub goes_on_here : (c : Calls) → GoesOn c c
 goes_on_here c = record { failures = refl; is_stopped = refl; none_late = λ runs. refl }
 
-late_behind : (a b c : Calls) → GoesOn a b → NoneLate b c → NoneLate a c
-late_behind a b c first last runs = last (first.is_stopped ∙ runs) ∙ first.none_late runs
+late_after : (a b c : Calls) → GoesOn a b → NoneLate b c → NoneLate a c
+late_after a b c first last runs = last (first.is_stopped ∙ runs) ∙ first.none_late runs
 
-pub goes_on_behind : (a b c : Calls) → GoesOn a b → GoesOn b c → GoesOn a c
-goes_on_behind a b c first last = record {
+pub goes_on_after : (a b c : Calls) → GoesOn a b → GoesOn b c → GoesOn a c
+goes_on_after a b c first last = record {
   failures = last.failures ∙ first.failures;
   is_stopped = last.is_stopped ∙ first.is_stopped;
-  none_late = late_behind a b c first last.none_late;
+  none_late = late_after a b c first last.none_late;
 }
 
-pub fails_behind : (a b c : Calls) → GoesOn a b → FailsOnce b c → FailsOnce a c
-fails_behind a b c first last = record {
+pub fails_after : (a b c : Calls) → GoesOn a b → FailsOnce b c → FailsOnce a c
+fails_after a b c first last = record {
   failures = last.failures ∙ ap (λ (n : ℕ). n + 1) first.failures;
   is_stopped = last.is_stopped;
-  none_late = late_behind a b c first last.none_late;
+  none_late = late_after a b c first last.none_late;
 }

@@ -42,12 +42,12 @@ pub record IsLeast (stops : List Stop) (s : Stop) : Type 0 where
   pub found : Contains stops s
   pub least : All (IsNoLater s) stops
 
-behind : (x : Stop) (xs : List Stop) (s : Stop) → Contains xs s → Contains (x ∷ xs) s
-behind x xs s (k, less, is) = (suc k, omega arith, is)
+after : (x : Stop) (xs : List Stop) (s : Stop) → Contains xs s → Contains (x ∷ xs) s
+after x xs s (k, less, is) = (suc k, omega arith, is)
 
 found_of : (x m s : Stop) (xs : List Stop) → Contains xs m → (s ≡ x) ⊎ (s ≡ m) → Contains (x ∷ xs) s
 found_of x m s xs c (inl e) = (0, omega arith, sym e)
-found_of x m s xs c (inr e) = behind x xs s (subst (Contains xs) (sym e) c)
+found_of x m s xs c (inr e) = after x xs s (subst (Contains xs) (sym e) c)
 
 least_of : (x m s : Stop) (xs : List Stop) → All (IsNoLater m) xs → IsNoLater s x → IsNoLater s m → All (IsNoLater s) (x ∷ xs)
 least_of x m s xs all first second zero d less = first

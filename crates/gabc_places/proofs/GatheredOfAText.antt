@@ -10,8 +10,8 @@ use Rattle.gabc_places.proofs.PushesAreOne.{gathered-pushed, gathered-ended}
 pub gathered-character : {O : Type 0} {before after : List Char → List (List O)} {c : ℕ} {p : Place} {most : ℕ} {r s : BoundedList O} (all more end : List O) (q : Place) (cs next : List ℕ)
     → Pushes before after (record { c = c; place = p }) most r s → r.items ≡ [] → more ≡ all ++ s.items → q ≡ next_place p c → cs ≡ c ∷ next
     → all ++ concat_of (before (placed_characters_from p cs)) ≡ end → more ++ concat_of (after (placed_characters_from q next)) ≡ end
-gathered-character {before = before} {after = after} {c = c} {p = p} {r = r} {s = s} all more end q cs next g empty e behind past i =
-    ap (λ (x : Place). more ++ concat_of (after (placed_characters_from x next))) behind
+gathered-character {before = before} {after = after} {c = c} {p = p} {r = r} {s = s} all more end q cs next g empty e later past i =
+    ap (λ (x : Place). more ++ concat_of (after (placed_characters_from x next))) later
     ∙ gathered-pushed all more r s (placed_characters_from (next_place p c) next) g empty e
     ∙ ap (λ (xs : List ℕ). all ++ concat_of (before (placed_characters_from p xs))) (sym past)
     ∙ i

@@ -8,7 +8,7 @@ pub mod EarliestIsLeast
 pub mod GatheredOfAText
 mod Lent
 pub mod LimitsAreNumbers
-pub mod NothingBehindAnEnd
+pub mod NothingAfterAnEnd
 pub mod NumbersByTests
 pub mod PlacesInOrder
 pub mod PlacesOfAText

@@ -9,15 +9,15 @@ use Rattle.gabc_places.specs.Place.{next_place, is_line_feed, place_after, place
 pub next_after : (f : List ℕ) (c : ℕ) → next_place (place_after f) c ≡ place_after (f ++ c ∷ [])
 next_after f c = grind (arith, common_steps)
 
-pub placed_behind : (f cs : List ℕ) → placed_characters_from (place_after f) cs ≡ placed_characters_after f cs
-placed_behind f [] = refl
-placed_behind f (c ∷ cs) =
-    ap (λ (l : List Char). record { c = c; place = place_after f } ∷ l) (ap (λ p. placed_characters_from p cs) (next_after f c) ∙ placed_behind (f ++ c ∷ []) cs)
+pub placed_after : (f cs : List ℕ) → placed_characters_from (place_after f) cs ≡ placed_characters_after f cs
+placed_after f [] = refl
+placed_after f (c ∷ cs) =
+    ap (λ (l : List Char). record { c = c; place = place_after f } ∷ l) (ap (λ p. placed_characters_from p cs) (next_after f c) ∙ placed_after (f ++ c ∷ []) cs)
 
-pub behind_after : (f cs : List ℕ) → place_past (place_after f) cs ≡ place_after (f ++ cs)
-behind_after f [] = ap place_after (sym (append-nil f))
-behind_after f (c ∷ cs) =
-    ap (λ p. place_past p cs) (next_after f c) ∙ behind_after (f ++ c ∷ []) cs ∙ ap place_after (append_assoc f (c ∷ []) cs)
+pub after_joined : (f cs : List ℕ) → place_past (place_after f) cs ≡ place_after (f ++ cs)
+after_joined f [] = ap place_after (sym (append-nil f))
+after_joined f (c ∷ cs) =
+    ap (λ p. place_past p cs) (next_after f c) ∙ after_joined (f ++ c ∷ []) cs ∙ ap place_after (append_assoc f (c ∷ []) cs)
 
 -- as many characters with places as characters
 pub length_placed : (p : Place) (cs : List ℕ) → length (placed_characters_from p cs) ≡ length cs

@@ -16,14 +16,14 @@ none_taken before inputs = (record { taken = []; left = inputs; inputs_are = ref
 
 pub one_taken : {O : Type 0} {before now after : List Char → List (List O)} {c : ℕ} {p : Place} {most : ℕ} {r s : BoundedList O} (inputs : List Char) (q : Place) (cs next : List ℕ)
     → Pushes now after (record { c = c; place = p }) most r s → q ≡ next_place p c → cs ≡ c ∷ next → TakenTo before now inputs (placed_characters_from p cs) → TakenTo before after inputs (placed_characters_from q next)
-one_taken {before = before} {now = now} {after = after} {c = c} {p = p} inputs q cs next g behind past h =
+one_taken {before = before} {now = now} {after = after} {c = c} {p = p} inputs q cs next g later past h =
     let x : Char = record { c = c; place = p } in
     let t = h.0 in
     let left_is : t.left ≡ x ∷ placed_characters_from (next_place p c) next = h.1 ∙ ap (placed_characters_from p) past in (
       record {
         taken = t.taken ++ x ∷ [];
         left = placed_characters_from q next;
-        inputs_are = t.inputs_are ∙ ap (λ (xs : List Char). t.taken ++ xs) left_is ∙ ap (λ (o : Place). t.taken ++ x ∷ placed_characters_from o next) (sym behind)
+        inputs_are = t.inputs_are ∙ ap (λ (xs : List Char). t.taken ++ xs) left_is ∙ ap (λ (o : Place). t.taken ++ x ∷ placed_characters_from o next) (sym later)
             ∙ sym (append_assoc t.taken (x ∷ []) (placed_characters_from q next));
         emitted = t.emitted ++ g.events ∷ [];
         law = λ xs. ap before (append_assoc t.taken (x ∷ []) xs) ∙ t.law (x ∷ xs) ∙ ap (λ ls. t.emitted ++ ls) (g.law xs) ∙ sym (append_assoc t.emitted (g.events ∷ []) (after xs));

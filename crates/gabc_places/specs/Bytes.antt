@@ -12,8 +12,8 @@ bytes_in chars = sum_by (λ (x : Char). len_utf8 x.c) chars
 pub record IsByteAt (chars : List Char) (byte : ℕ) (place : Place) : Type 0 where
   pub before : List Char
   pub here : Char
-  pub behind : List Char
-  pub chars_are : chars ≡ before ++ here ∷ behind
+  pub after : List Char
+  pub chars_are : chars ≡ before ++ here ∷ after
   pub from : bytes_in before ≤ byte
   pub to : byte < bytes_in before + len_utf8 here.c
   pub place_is : place ≡ here.place

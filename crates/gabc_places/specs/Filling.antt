@@ -49,7 +49,7 @@ module _ {X : Type 0} where
   take_both (suc n) (x ∷ a) b = let less : suc n - suc (length a) ≡ n - length a = omega arith in rw less (ap (λ (l : List X). x ∷ l) (take_both n a b))
 
   within : (buf : List X) (at : ℕ) (a b : List X) → at ≤ length buf → filled (filled buf at a) (filled_len buf at a) b ≡ filled buf at (a ++ b)
-  within buf at a b le = rw (front, behind, room) (append_assoc f t (take (length r) b ++ drop (length b) r) ∙ ap (λ (l : List X). f ++ l) inner)
+  within buf at a b le = rw (front, after, room) (append_assoc f t (take (length r) b ++ drop (length b) r) ∙ ap (λ (l : List X). f ++ l) inner)
     where
       f : List X
       f = take at buf
@@ -69,8 +69,8 @@ module _ {X : Type 0} where
       front : take (filled_len buf at a) (filled buf at a) ≡ f ++ t
       front = ap (take (filled_len buf at a)) joined ∙ take_at (f ++ t) r (filled_len buf at a) here
 
-      behind : drop (filled_len buf at a + length b) (filled buf at a) ≡ drop (length b) r
-      behind = sym (drop-drop (length b) (filled_len buf at a) (filled buf at a)) ∙ ap (λ (l : List X). drop (length b) (drop (filled_len buf at a) l)) joined ∙ ap (drop (length b)) (drop_at (f ++ t) r (filled_len buf at a) here)
+      after : drop (filled_len buf at a + length b) (filled buf at a) ≡ drop (length b) r
+      after = sym (drop-drop (length b) (filled_len buf at a) (filled buf at a)) ∙ ap (λ (l : List X). drop (length b) (drop (filled_len buf at a) l)) joined ∙ ap (drop (length b)) (drop_at (f ++ t) r (filled_len buf at a) here)
 
       room : length (filled buf at a) - filled_len buf at a ≡ length r
       room = omega (arith, le, filled_length buf at a, length-drop (at + length a) buf)

@@ -36,4 +36,4 @@ EmitsNothing after = (xs : _) → concat_of (after xs) ≡ []
 -- from then on it emits nothing.
 abbrev pub StopsAtEnd : {I O : Type 0} → (O → Bool) → (List I → List (List O)) → BoundedList O → BoundedList O → Type 0
 StopsAtEnd ends after old new =
-    (before behind : List _) (x : _) → new ≡ extended_by old (before ++ x ∷ behind) → ends x ≡ true → (behind ≡ []) × EmitsNothing after
+    (before later : List _) (x : _) → new ≡ extended_by old (before ++ x ∷ later) → ends x ≡ true → (later ≡ []) × EmitsNothing after

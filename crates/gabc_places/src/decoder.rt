@@ -106,8 +106,8 @@ fn may_be_told(limit: u32, taken: u32, place: Place, pending: &[u8], after_cr: b
     if !is_partial(pending) {
         return false;
     }
-    let behind = !after_cr || (begins_line(place) && pending.is_empty());
-    taken <= limit && behind && is_reached(place, pending.len(), taken)
+    let after = !after_cr || (begins_line(place) && pending.is_empty());
+    taken <= limit && after && is_reached(place, pending.len(), taken)
 }
 
 impl Decoder {

@@ -17,7 +17,7 @@ pub mod OpenSpans
 pub mod HeldIsRead
 pub mod NothingIsRead
 pub mod HeldIsHeld
-pub mod BehindSyllables
+pub mod AfterSyllables
 pub mod ResumedIsOfText
 pub mod BeginsAnywhere
 pub mod FrontsAgree

@@ -19,8 +19,8 @@ pub mod HeldWithinLimits
 pub mod LastHasNoNotes
 pub mod MovedIsTold
 pub mod NoStopWhereInputsCease
-pub mod NothingBehindAStop
-pub mod NothingBehindTheEnd
+pub mod NothingAfterAStop
+pub mod NothingAfterTheEnd
 pub mod NothingIsGiven
 pub mod OpenersInOrder
 pub mod OutputsAreCollected

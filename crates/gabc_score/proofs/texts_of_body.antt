@@ -1,4 +1,4 @@
-pub mod BodyBehindHeads
+pub mod BodyAfterHeads
 pub mod SeamsOfCharacters
 pub mod SlicesOfTexts
 pub mod StageAndDefinitionAgree

@@ -25,9 +25,9 @@ TextWarns t = (at : Place) → All IsWarning (findings at t)
 module _ (lines macros : ℕ) where
   -- so is what is found in snippets, from that line on, with those characters after them
   abbrev pub SnippetsWarn : ℕ → List EndedPart → List Char → Type 0
-  SnippetsWarn line [] behind = Unit {0}
-  SnippetsWarn line (e ∷ es) behind =
-      All IsWarning (findings_of (concat_of (snippet_events lines macros line (e.characters ++ e.end ∷ (with_ends es ++ behind))))) × SnippetsWarn (next_line lines line) es behind
+  SnippetsWarn line [] after = Unit {0}
+  SnippetsWarn line (e ∷ es) after =
+      All IsWarning (findings_of (concat_of (snippet_events lines macros line (e.characters ++ e.end ∷ (with_ends es ++ after))))) × SnippetsWarn (next_line lines line) es after
 
   -- and in the texts and snippets of units
   abbrev pub UnitsWarn : List BodyUnit → LastUnit → Type 0

@@ -53,7 +53,7 @@ pub record IsHeld (lines : ℕ) (whole text : List ℕ) (before : List ReadSnipp
   pub kept_is : s.kept ≡ kept_on_line s.snippet.line s.characters
   pub is_snippet : IsSnippetOf s.snippet.line s.kept
   pub stands : StandsFor whole s.snippet.span s.kept
-  pub behind : stands.prefix ≡ text ++ bracket_with (λ b. b.kept) before
+  pub after : stands.prefix ≡ text ++ bracket_with (λ b. b.kept) before
 
 -- Notes that were read from these characters: after the text the whole has the kept texts of their
 -- snippets, each held in its place.

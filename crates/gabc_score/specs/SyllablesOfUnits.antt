@@ -60,8 +60,8 @@ pub record ScoreUnit : Type 0 where
   pub snippets : List (List Char)
 
 abbrev pub score_unit : BodyUnit → List Char → ScoreUnit
-score_unit u behind = record {
-  text = codes_of (characters_in u ++ behind);
+score_unit u after = record {
+  text = codes_of (characters_in u ++ after);
   notes = codes_of (u.text.end ∷ with_ends (snippets_in u));
   snippets = map (λ (e : EndedPart). e.characters) (snippets_in u);
 }

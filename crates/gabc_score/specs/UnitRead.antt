@@ -25,11 +25,11 @@ pub record HoldsSomeUnit (lines : ℕ) (m : UnplacedSyllable) : Type 0 where
 abbrev pub first_events : ℕ → ℕ → Place → List Char → ℕ → List BodyEvent
 first_events lines macros at xs n = concat_of (take n (events_from texts_by_definition lines macros (text_from texts_by_definition at xs) xs))
 
-module _ (lines macros : ℕ) (at : Place) (u : BodyUnit) (behind : List Char) (before : List BodyEvent) where
+module _ (lines macros : ℕ) (at : Place) (u : BodyUnit) (after : List Char) (before : List BodyEvent) where
   -- what was emitted, the nearest first, after the first n characters of a unit whose text begins
   -- at this place, with those characters after it and this before it
   abbrev pub emitted_within : ℕ → List BodyEvent
-  emitted_within n = events_onto (first_events lines macros at (characters_in u ++ behind) n) before
+  emitted_within n = events_onto (first_events lines macros at (characters_in u ++ after) n) before
 
   abbrev pub emitted_through : List BodyEvent
   emitted_through = emitted_within (length (characters_in u))
@@ -41,10 +41,10 @@ module _ (lines macros : ℕ) (at : Place) (u : BodyUnit) (behind : List Char) (
     pub made : UnplacedSyllable
     pub none_earlier : (n : ℕ) → n < length (characters_in u) → all_syllables (emitted_within n) ≡ all_syllables before
     pub given : all_syllables emitted_through ≡ all_syllables before ++ made ∷ []
-    pub nothing_behind : since_close emitted_through ≡ []
-    pub holds : HoldsUnit lines (score_unit u behind) made
-    pub few_on_the_way : (limit n : ℕ) → KeepsWithin limit (score_unit u behind) → n ≤ length (characters_in u) → length (kept_of (since_close (emitted_within n))) ≤ limit
-    pub few : (limit : ℕ) → KeepsWithin limit (score_unit u behind) → length made.kept ≤ limit
+    pub nothing_after : since_close emitted_through ≡ []
+    pub holds : HoldsUnit lines (score_unit u after) made
+    pub few_on_the_way : (limit n : ℕ) → KeepsWithin limit (score_unit u after) → n ≤ length (characters_in u) → length (kept_of (since_close (emitted_within n))) ≤ limit
+    pub few : (limit : ℕ) → KeepsWithin limit (score_unit u after) → length made.kept ≤ limit
     pub eu_is : made.eu ≡ eu_past made (is_eu before)
     pub nlba_is : made.nlba ≡ nlba_past made (is_nlba before)
     pub open_eu : is_eu emitted_through ≡ made.eu

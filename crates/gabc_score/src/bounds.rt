@@ -1,7 +1,7 @@
 //! What stands before and after the syllable that is held.
 
 ghost use Rattle.std.specs.Prelude.{◌≡◌};
-ghost use Rattle.gabc_score.specs.machine.Preceded.{behind_headers, past_point};
+ghost use Rattle.gabc_score.specs.machine.Preceded.{after_headers, past_point};
 
 use crate::before::{Preceding, Spans};
 use crate::slot_pair::SlotPair;
@@ -11,14 +11,14 @@ use crate::slot_pair::SlotPair;
 #[derive(Clone, Copy)]
 pub(crate) struct Bounds {
     pub(crate) before: Preceding,
-    pub(crate) behind: Preceding,
+    pub(crate) after: Preceding,
 }
 
 impl Bounds {
     /// Returns what stands before the first syllable, where the canonical headers have `canonical`
     /// bytes.
-    pub(crate) fn behind_headers(canonical: usize) -> Bounds
-        ensures { result ≡ behind_headers canonical }
+    pub(crate) fn after_headers(canonical: usize) -> Bounds
+        ensures { result ≡ after_headers canonical }
     {
         let preceding = Preceding {
             syllables: 0,
@@ -31,7 +31,7 @@ impl Bounds {
         };
         Bounds {
             before: preceding,
-            behind: preceding,
+            after: preceding,
         }
     }
 
@@ -45,11 +45,11 @@ impl Bounds {
             return;
         }
         if gave {
-            self.before = self.behind;
+            self.before = self.after;
         }
-        self.behind.syllables = self.before.syllables.saturating_add(1);
-        self.behind.canonical = pair.canonical();
-        self.behind.spans = pair.spans();
-        self.behind.sounded = pair.has_sounded();
+        self.after.syllables = self.before.syllables.saturating_add(1);
+        self.after.canonical = pair.canonical();
+        self.after.spans = pair.spans();
+        self.after.sounded = pair.has_sounded();
     }
 }

@@ -3,7 +3,7 @@
 ghost use Rattle.std.specs.Prelude.{◌≡◌, ◌-◌, ◌^◌, ◌++◌, [], ◌∷◌, codes, cond, false, min, length, string_bytes};
 ghost use Rattle.gabc_score.specs.Syllable.{unplaced_of};
 ghost use Rattle.gabc_score.specs.Canonical.{canonical, starts_word, translation_text, with_bars};
-ghost use Rattle.gabc_score.specs.machine.SyllableText.{snippets_behind_bars};
+ghost use Rattle.gabc_score.specs.machine.SyllableText.{snippets_after_bars};
 
 use crate::kept_text::kept_from;
 use crate::snippets::Snippet;
@@ -36,7 +36,7 @@ fn put_translation<S: Put>(syllable: &Syllable, out: &mut S)
 /// Puts `snippets` of `syllable`, each with a `|` before it.
 fn put_barred<S: Put>(syllable: &Syllable, snippets: &[Snippet], out: &mut S)
     ensures { out.new
-        ≡ S.taken out.old (snippets_behind_bars (string_bytes syllable.now.kept) snippets.now) }
+        ≡ S.taken out.old (snippets_after_bars (string_bytes syllable.now.kept) snippets.now) }
 {
     for snippet in snippets {
         out.put(b"|");
@@ -45,7 +45,7 @@ fn put_barred<S: Put>(syllable: &Syllable, snippets: &[Snippet], out: &mut S)
 }
 
 /// Puts `snippets` of `syllable`, with a `|` between them.
-#[tactic(auto, using(crate::proofs::building::SnippetsWithBars::bars_behind_first))]
+#[tactic(auto, using(crate::proofs::building::SnippetsWithBars::bars_after_first))]
 fn put_snippets<S: Put>(syllable: &Syllable, snippets: &[Snippet], out: &mut S)
     ensures { out.new
         ≡ S.taken out.old (with_bars (string_bytes syllable.now.kept) snippets.now) }

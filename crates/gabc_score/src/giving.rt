@@ -7,7 +7,7 @@ ghost use Rattle.gabc_score.specs.ScoreEvents.{outputs_of, Stop, End};
 ghost use Rattle.gabc_score.specs.machine.BodyBuilder.{end_findings};
 ghost use Rattle.gabc_score.specs.machine.FirstSound.{kind_of};
 ghost use Rattle.gabc_score.specs.machine.ReadsChar.{GivesAsLast, GivesPoint};
-ghost use Rattle.gabc_score.specs.machine.ScoreStage.{placed_behind};
+ghost use Rattle.gabc_score.specs.machine.ScoreStage.{placed_after};
 ghost use Rattle.gabc_score.specs.machine.SlotPair.{lent_of};
 
 use crate::first_sound::FirstSound;
@@ -113,7 +113,7 @@ pub(crate) fn give_stop(
 )
     requires used { pair.old.used ≢ SlotUse.Lent }
     requires fits { Fits out.old 16 }
-    ensures { let held = placed_behind has_lent pair.old.held in
+    ensures { let held = placed_after has_lent pair.old.held in
         GivesAsLast pair.old (outputs_of [] held ++ Stop fault ∷ []) held 1
         out.old out.new pair.new }
 {
@@ -126,7 +126,7 @@ pub(crate) fn give_stop(
 pub(crate) fn give_broken(pair: &mut SlotPair, has_lent: bool, out: &mut Room<ScoreEvent>)
     requires used { pair.old.used ≢ SlotUse.Lent }
     requires fits { Fits out.old 16 }
-    ensures { let held = placed_behind has_lent pair.old.held in
+    ensures { let held = placed_after has_lent pair.old.held in
         GivesAsLast pair.old (outputs_of [] held) held 1 out.old out.new pair.new }
 {
     let count = pair.give_held(has_lent);
@@ -147,7 +147,7 @@ pub(crate) fn give_end(
     requires few { length found.now ≤ 8 }
     requires fits { Fits out.old 16 }
     ensures { let g = pair.old.gathered in
-        let made = placed_behind has_lent g.made in
+        let made = placed_after has_lent g.made in
         GivesAsLast pair.old
         (outputs_of (found.now ++ end_findings at has_last (g.eu || g.nlba)) made ++ End ∷ [])
         made 2 out.old out.new pair.new }

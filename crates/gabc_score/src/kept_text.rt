@@ -3,7 +3,7 @@
 ghost use Rattle.std.specs.Prelude.{◌≡◌, ◌≤◌, ◌++◌, ℕ, IsTrue, Some, false, codes, drop, length, string_bytes};
 ghost use Rattle.gabc_score.specs.Syllable.{unplaced_of};
 ghost use Rattle.gabc_score.specs.Canonical.{canonical, with_bars};
-ghost use Rattle.gabc_score.specs.machine.SyllableText.{snippets_behind_bars};
+ghost use Rattle.gabc_score.specs.machine.SyllableText.{snippets_after_bars};
 
 use crate::snippets::Snippet;
 use crate::syllable::Syllable;
@@ -14,7 +14,7 @@ use gabc_text::text_span;
 #[inline(always)]
 fn rest_is_snippets(kept: &[u8], snippets: &[Snippet], from: usize) -> bool
     ensures { IsTrue result →
-        snippets_behind_bars kept.now snippets.now ++ codes ")" ≡ drop from kept.now }
+        snippets_after_bars kept.now snippets.now ++ codes ")" ≡ drop from kept.now }
 {
     let mut end = from;
     for snippet in snippets {

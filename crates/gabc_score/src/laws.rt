@@ -342,7 +342,7 @@ pub fn a_stage_of_headers_emits_the_events()
 /// Law: after a stop or the end a score emits nothing, whatever it takes.
 pub fn nothing_follows_the_end()
     ensures { (texts : Texts) (limits : Limits) (inputs : List HeadEvent)
-        (before behind : List ScoreOutput) (o : ScoreOutput)
-        → concat_of (score_outputs texts limits inputs) ≡ before ++ o ∷ behind
-        → is_last o ≡ true → behind ≡ [] }
+        (before after : List ScoreOutput) (o : ScoreOutput)
+        → concat_of (score_outputs texts limits inputs) ≡ before ++ o ∷ after
+        → is_last o ≡ true → after ≡ [] }
 {}

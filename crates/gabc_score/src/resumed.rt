@@ -15,7 +15,7 @@ ghost use Rattle.gabc_score.specs.machine.PartCounts.{CountsHold};
 ghost use Rattle.gabc_score.specs.machine.PartKeeps.{in_text, PartKeeps};
 ghost use Rattle.gabc_score.specs.machine.SyllableBuilder.{nothing_open};
 ghost use Rattle.gabc_score.specs.machine.ReadAlone.{is_error_event, BeginsAlone, HasRoomFor, HoldsAlone, IsFree, ReadsAll, ReadsAlone, StandsAlone};
-ghost use Rattle.gabc_score.specs.machine.Resumed.{gathered_behind};
+ghost use Rattle.gabc_score.specs.machine.Resumed.{gathered_after};
 ghost use Rattle.gabc_score.specs.machine.ScoreMachine.{shown, IsInBody, IsScore};
 
 use crate::before::{Before, Preceding};
@@ -49,7 +49,7 @@ impl SlotPair {
     /// Says what stands before the syllable that is read.
     fn follow(&mut self, before: Before)
         ensures { self.new ≡ record self.old {
-          gathered = gathered_behind before self.old.gathered;
+          gathered = gathered_after before self.old.gathered;
         } }
     {
         self.eu = before.spans.eu;
@@ -100,7 +100,7 @@ impl ScoreMachine {
             has_lent: 0 < before.syllables,
             bounds: Bounds {
                 before: preceding,
-                behind: preceding,
+                after: preceding,
             },
         })
     }

@@ -367,7 +367,7 @@ impl ScoreMachine {
         self.has_lent = true;
         self.bounds = Bounds {
             before,
-            behind: before,
+            after: before,
         };
         self.body.begin_text(at);
         self.next = at;
@@ -395,7 +395,7 @@ impl ScoreMachine {
         let (before, _) = text.split_at(bytes - last.spelled.len());
         let start = place_past(at, before);
         let next = place_past(start, last.spelled);
-        self.go_before(reached.preceding(self.bounds.behind), start);
+        self.go_before(reached.preceding(self.bounds.after), start);
         self.read_all(start, last.spelled, room);
         self.body.begin_text(next);
         self.next = next;
@@ -421,7 +421,7 @@ impl ScoreMachine {
         if !is_low(at, text) || !self.is_between(at) {
             return none;
         }
-        let before = self.bounds.behind;
+        let before = self.bounds.after;
         let lines = self.body.nabc_lines();
         let Some(first) = find(lines, &self.limits, text, 0, before.canonical) else {
             return none;

@@ -10,7 +10,7 @@ ghost use Rattle.gabc_score.specs.ScoreStage.{GivesOutputs, GivesAt, GivesLast};
 ghost use Rattle.gabc_score.specs.ScoreReports.{before_with, held_of, reading_of};
 ghost use Rattle.gabc_score.specs.Syllable.{unplaced_of};
 ghost use Rattle.gabc_score.specs.witness.ScoreStage.{left_of};
-ghost use Rattle.gabc_score.specs.machine.ScoreStage.{placed_behind, begun_score, body_left};
+ghost use Rattle.gabc_score.specs.machine.ScoreStage.{placed_after, begun_score, body_left};
 ghost use Rattle.gabc_score.specs.machine.ScoreMachine.{shown, IsInBody, IsBeforeBody, IsScore, KeepsMemory};
 ghost use Rattle.gabc_score.specs.machine.ReadsChar.{EndsInputs, Gathers, ReadsChar, StandsInBody, StopsWith, TakesInput};
 
@@ -70,7 +70,7 @@ impl ScoreMachine {
         let mut pair = SlotPair::with_limit(memory, limits.syllable as usize)?;
         pair.start(head);
         let found = Room::in_memory(memory, 9)?;
-        let bounds = Bounds::behind_headers(head);
+        let bounds = Bounds::after_headers(head);
         Ok(ScoreMachine {
             limits,
             part: ScorePart::Body,
@@ -96,7 +96,7 @@ impl ScoreMachine {
         self.found.clear();
         self.next = Place::START;
         self.has_lent = false;
-        self.bounds = Bounds::behind_headers(0);
+        self.bounds = Bounds::after_headers(0);
     }
 
     /// Gives the last whole syllable and the fault. Nothing follows.
@@ -221,7 +221,7 @@ impl ScoreMachine {
             } => {
                 self.body.restart(nabc_lines, macros);
                 self.pair.start(canonical as usize);
-                self.bounds = Bounds::behind_headers(canonical as usize);
+                self.bounds = Bounds::after_headers(canonical as usize);
                 self.next = Place::START;
                 self.part = ScorePart::Body;
             }

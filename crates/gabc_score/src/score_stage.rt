@@ -76,7 +76,7 @@ impl ScoreStage {
         let body = BodyStage::new(memory, 0, 0)?;
         let pair = SlotPair::with_limit(memory, limits.syllable as usize)?;
         let found = Room::in_memory(memory, 9)?;
-        let bounds = Bounds::behind_headers(0);
+        let bounds = Bounds::after_headers(0);
         Ok(ScoreStage {
             machine: ScoreMachine {
                 limits,

@@ -99,7 +99,7 @@ impl SlotPair {
     ghost use Rattle.gabc_score.specs.Body.{has_text, is_none};
     ghost use Rattle.gabc_score.specs.machine.BodyBuilder.{code_in, end_fault};
     ghost use Rattle.gabc_score.specs.machine.Gatherer.{nothing_gathered, with_mark, with_mark_of, with_text_end, with_text, with_syllable, with_note_end, with_note, with_last, awaits, first_past};
-    ghost use Rattle.gabc_score.specs.machine.ScoreStage.{placed_behind, with_held};
+    ghost use Rattle.gabc_score.specs.machine.ScoreStage.{placed_after, with_held};
     ghost use Rattle.gabc_score.specs.machine.Slot.{FitsText, FitsNote, FitsKept, FitsSnippet};
     ghost use Rattle.gabc_score.specs.machine.SlotPair.{HasGathered, LendsLast, is_made, used_past, lent_syllables};
 
@@ -388,7 +388,7 @@ impl SlotPair {
     pub(crate) fn turn(&mut self, has_lent: bool) -> usize
         ensures gathered { self.new.gathered ≡ with_held self.old.gathered }
         ensures lends { lent_syllables result self.new ≡ take (length self.old.gathered.made - 1)
-            (placed_behind has_lent self.old.gathered.made) }
+            (placed_after has_lent self.old.gathered.made) }
         ensures most { result ≤ 1 }
         ensures some { nat_lt 0 result ≡ nat_lt 1 (length self.old.gathered.made) }
         ensures used { is_made self.new.used ≡ false }
@@ -414,7 +414,7 @@ impl SlotPair {
     /// Gives the held syllable as the last one. Returns how many it gave, one or none.
     pub(crate) fn give_held(&mut self, has_lent: bool) -> usize
         requires { self.old.used ≢ SlotUse.Lent }
-        ensures { LendsLast self.old (placed_behind has_lent self.old.held) 1 result self.new }
+        ensures { LendsLast self.old (placed_after has_lent self.old.held) 1 result self.new }
     {
         let starts = !has_lent || self.holder.syllable().text.word_start;
         self.holder.place(position_by(starts, true));
@@ -424,7 +424,7 @@ impl SlotPair {
     /// Gives the held syllable, and after it the one that was made last. Returns how many it gave.
     pub(crate) fn give_all(&mut self, has_lent: bool) -> usize
         requires { self.old.used ≢ SlotUse.Lent }
-        ensures { LendsLast self.old (placed_behind has_lent self.old.gathered.made) 2
+        ensures { LendsLast self.old (placed_after has_lent self.old.gathered.made) 2
             result self.new }
     {
         let SlotUse::Made = self.used else {

@@ -35,10 +35,10 @@ pub fn a_unit_gives_one_syllable()
         → GivesOneSyllable lines macros at u (characters_from units last) before }
     ensures warns { (lines macros : ℕ) (at : Place) (u : BodyUnit) (units : List BodyUnit)
         (last : LastUnit) → let xs = characters_from (u ∷ units) last in
-        let behind = characters_from units last in
+        let after = characters_from units last in
         length (encode_utf8_all (codes_of xs)) < 2 ^ 63 → Cuts texts_by_definition lines macros
         (text_from texts_by_definition at xs) (units_pieces lines (u ∷ units) last) (last_characters last)
-        → TextWarns (score_unit u behind).text → SnippetsWarn lines macros 0 (snippets_in u) behind
+        → TextWarns (score_unit u after).text → SnippetsWarn lines macros 0 (snippets_in u) after
         → All IsWarning (findings_of (events_onto
         (first_events lines macros at xs (length (characters_in u))) [])) }
 {

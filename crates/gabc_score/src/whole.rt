@@ -49,7 +49,7 @@ pub fn score_whole_with_hasher(
 {
     gabc_headers::laws::heads_are_of_groups();
     match headers_whole_with_hasher(alloc, text, limits, hasher)? {
-        Ok(heads) => score_behind(alloc, text, ending, limits, heads),
+        Ok(heads) => score_after(alloc, text, ending, limits, heads),
         Err(stop) => Ok(stopped_in_heads(alloc, ending, stop)),
     }
 }
@@ -91,7 +91,7 @@ fn head_fault(ending: InputEnding, at_end: bool, fault: Fault) -> Option<Fault>
 }
 
 /// The score of a text with these headers.
-fn score_behind(
+fn score_after(
     alloc: Global,
     text: &Text,
     ending: InputEnding,
@@ -107,7 +107,7 @@ fn score_behind(
         body,
         findings,
     } = heads;
-    let (prefix, behind) = text.as_str().split_at(body);
+    let (prefix, after) = text.as_str().split_at(body);
     let memory = Memory::with_capacity(alloc, 0)?;
     let stage = BodyStage::new(&memory, book.nabc_lines(), book.macros())?;
     let start = BodyContext {
@@ -119,7 +119,7 @@ fn score_behind(
         syllables,
         findings,
         fault,
-    } = build_body(&memory, stage, behind, start, limits, ending)?;
+    } = build_body(&memory, stage, after, start, limits, ending)?;
     Ok(Score {
         book: Some(book),
         syllables,

@@ -7,7 +7,7 @@ pub mod spans
 pub mod tokens
 pub mod EndedStages
 pub mod KeptCharacters
-pub mod NothingBehindTheEnd
+pub mod NothingAfterTheEnd
 pub mod PiecesFollowCharacters
 pub mod RegularBytes
 pub mod RegularParts

@@ -35,7 +35,7 @@ use Rattle.gabc_text.specs.View.{centre_by, piece_kind, is_space, kept_as}
 use Rattle.gabc_text.specs.machine.TagPrefix.{next_name}
 use Rattle.gabc_text.specs.witness.FactsPast.{leaves_out}
 use Rattle.gabc_text.specs.Events.{option_list_of, count_by, is_whole_translation}
-use Rattle.gabc_text.specs.witness.EventsLeft.{findings_there, parts_by, codes_by, codes_last, piece_there, waiting_behind}
+use Rattle.gabc_text.specs.witness.EventsLeft.{findings_there, parts_by, codes_by, codes_last, piece_there, waiting_after}
 use Rattle.gabc_text.specs.machine.TextFacts.{early_at, facts_after}
 use Rattle.gabc_text.specs.machine.TokenState.{settled_kind, next_step, first_step, wanted_char, step_at_tag_end, keep, keep_first, kind_at_end, is_plain}
 use Rattle.gabc_text.specs.machine.TextStage.{char_event, token_stage, events_of_token, events_of_settling, events_of_settling_by, settle_stage, settle_stage_by, stage_after_step, events_of_step, stage_past_char, events_of_reading, events_of_end, end_stage, settled_push_stage, events_of_settled_push, read_stage, push_stage, events_of_push, events_of_finish, events_of_finish_by, progress_after, end_by, is_cut_end}
@@ -121,7 +121,7 @@ no_more true s b = omega arith
 no_more false s b = omega arith
 
 blank_waits : (was : Option Piece) (p : Piece) (e : TagEffect) (w b s : Bool)
-    → one_if (is_some (waiting_behind p was (cond (true && (w && not b)) (Some piece.Blank) (piece_kind kind.Blank e)))) ≤ one_if (is_some was) + one_if (s && not b) + (0 + one_if (not s))
+    → one_if (is_some (waiting_after p was (cond (true && (w && not b)) (Some piece.Blank) (piece_kind kind.Blank e)))) ≤ one_if (is_some was) + one_if (s && not b) + (0 + one_if (not s))
 blank_waits was p e true false true = omega arith
 blank_waits was p e true false false = omega arith
 blank_waits was p e true true s = omega arith

@@ -345,23 +345,23 @@ module _ (l : List ℕ) (a b : ℕ) (first : a ≡ get_or l 0 0) (second : b ≡
       ∙ ap (λ (z : ℕ). is_first_of_three a && (is_continuation b && is_continuation z)) (sym third) ∙ h)
 
 -- all that is after n bytes
-pub behind_is : (l : List ℕ) (n : ℕ) → take (length l - n) (drop n l) ≡ drop n l
-behind_is l n = take_all (length l - n) (drop n l) (omega (arith, length-drop n l))
+pub after_is : (l : List ℕ) (n : ℕ) → take (length l - n) (drop n l) ≡ drop n l
+after_is l n = take_all (length l - n) (drop n l) (omega (arith, length-drop n l))
 
 -- the first byte is no `<`, if that of what follows n bytes is none where n is 0
 pub first_stays : (l : List ℕ) (n : ℕ) → (0 < n → slice_index l 0 ≢ 60) → slice_index (take (length l - n) (drop n l)) 0 ≢ 60 → slice_index l 0 ≢ 60
-first_stays l zero h g = subst (λ (t : List ℕ). slice_index t 0 ≢ 60) (behind_is l 0) g
+first_stays l zero h g = subst (λ (t : List ℕ). slice_index t 0 ≢ 60) (after_is l 0) g
 first_stays l (suc n) h g = h (omega arith)
 
 pub word_step : (l : List ℕ) (n r : ℕ) → IsWord (take r (take (length l - n) (drop n l))) → IsRun (take n l) → IsRun (take (n + r) l)
 word_step l n r h s =
     subst IsRun (sym (take-add n r l))
-    (run_more (take n l) (take r (drop n l)) (subst (λ (xs : List ℕ). IsWord (take r xs)) (behind_is l n) h) s)
+    (run_more (take n l) (take r (drop n l)) (subst (λ (xs : List ℕ). IsWord (take r xs)) (after_is l n) h) s)
 
 pub inner_step : (stop : ℕ) (l : List ℕ) (n r : ℕ) → IsInner stop (take r (take (length l - n) (drop n l))) → IsInner stop (take n l) → IsInner stop (take (n + r) l)
 inner_step stop l n r h s =
     subst (IsInner stop) (sym (take-add n r l))
-    (inner_join stop (take n l) (take r (drop n l)) s (subst (λ (xs : List ℕ). IsInner stop (take r xs)) (behind_is l n) h))
+    (inner_join stop (take n l) (take r (drop n l)) s (subst (λ (xs : List ℕ). IsInner stop (take r xs)) (after_is l n) h))
 
 -- from where a blank stands
 pub at_blank : (l : List ℕ) (n r : ℕ) → n < length l → get_or l n 0 ≡ 32 → take (r + 1) (drop n l) ≡ 32 ∷ take r (drop (n + 1) l)
@@ -372,7 +372,7 @@ pub blank_step : (l : List ℕ) (n r : ℕ) → 0 < n → n < length l → get_o
 blank_step l n r some less e h s =
     let cut : take (r + 1) (drop n l) ≡ 32 ∷ take r (drop (n + 1) l) = at_blank l n r less e in
     subst IsRun (sym (take-add n (r + 1) l ∙ ap (λ (xs : List ℕ). take n l ++ xs) cut))
-    (run_blank (take n l) (take r (drop (n + 1) l)) (omega (arith, length-take-le n l (omega arith))) (subst (λ (xs : List ℕ). IsWord (take r xs)) (behind_is l (n + 1)) h) s)
+    (run_blank (take n l) (take r (drop (n + 1) l)) (omega (arith, length-take-le n l (omega arith))) (subst (λ (xs : List ℕ). IsWord (take r xs)) (after_is l (n + 1)) h) s)
 
 -- ---- what they are
 

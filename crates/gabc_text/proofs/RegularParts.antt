@@ -19,8 +19,8 @@ use Rattle.gabc_text.specs.Printed.{print_from, text_of_tokens, opening_tag, clo
 use Rattle.gabc_text.specs.machine.PrintedPieces.{Good, AllGood}
 use Rattle.gabc_text.specs.machine.RegularBytes.{in_style, is_style, word_after, blank_after, first_styles, last_styles, AreApart, printed_text, IsSpelled, IsRun, IsEnclosed, IsPart, IsBegun, nothing_before}
 use Rattle.gabc_text.proofs.printing.PiecesPrintWell.{any_blank}
-use Rattle.gabc_text.proofs.RegularBytes.{ascii_spelled, spelled_join, one_spelled, none_spelled, behind_is, at_blank, blank, blank_good}
-use Rattle.gabc_text.proofs.printing.PrintedPiecesAreJoined.{in_styles, good_in, known_in, blank_in, word_in, first_in, last_in, plain_printed, styled_printed, text_join, good_join, good_behind, known_join, tags_in, tags_join, word_join, word_stays, blank_join, among_more, centre_text, last_join, after_blank, some_blank, apart_none}
+use Rattle.gabc_text.proofs.RegularBytes.{ascii_spelled, spelled_join, one_spelled, none_spelled, after_is, at_blank, blank, blank_good}
+use Rattle.gabc_text.proofs.printing.PrintedPiecesAreJoined.{in_styles, good_in, known_in, blank_in, word_in, first_in, last_in, plain_printed, styled_printed, text_join, good_join, good_after, known_join, tags_in, tags_join, word_join, word_stays, blank_join, among_more, centre_text, last_join, after_blank, some_blank, apart_none}
 
 -- ---- styles
 
@@ -119,7 +119,7 @@ pub between_is : (l a b : List ℕ) (n : ℕ) (x y : Bool) → x ≡ pointwise (
     → take (length a + n + length b) l ≡ a ++ (take n (drop (length a) l) ++ b)
 between_is l a b n x y e f g h =
     let first = taken_first l a (starts_so l a x e f) in
-    let last = taken_first (drop (length a + n) l) b (starts_so (drop (length a + n) l) b y (g ∙ ap (λ (u : List ℕ). pointwise (λ u v. u == v) b (take (length b) u)) (behind_is l (length a + n))) h) in
+    let last = taken_first (drop (length a + n) l) b (starts_so (drop (length a + n) l) b y (g ∙ ap (λ (u : List ℕ). pointwise (λ u v. u == v) b (take (length b) u)) (after_is l (length a + n))) h) in
     take-add (length a + n) (length b) l ∙ ap₂ (λ (u v : List ℕ). u ++ v) (take-add (length a) n l ∙ ap (λ (u : List ℕ). u ++ take n (drop (length a) l)) first) last
     ∙ append_assoc a (take n (drop (length a) l)) b
 
@@ -128,8 +128,8 @@ pub enclosed_is : (l a b : List ℕ) (n : ℕ) (x y : Bool) → x ≡ pointwise 
     → 0 < n → n ≤ length (take (length l - length a) (drop (length a) l)) → IsRun (take n (take (length l - length a) (drop (length a) l))) → IsEnclosed a b (take (length a + n + length b) l)
 enclosed_is l a b n x y e f g h some less r = record {
   inner = take n (drop (length a) l);
-  run = subst (λ (u : List ℕ). IsRun (take n u)) (behind_is l (length a)) r;
-  some = omega (arith, length-take-le n (drop (length a) l) (omega (arith, ap (λ (u : List ℕ). length u) (behind_is l (length a)))));
+  run = subst (λ (u : List ℕ). IsRun (take n u)) (after_is l (length a)) r;
+  some = omega (arith, length-take-le n (drop (length a) l) (omega (arith, ap (λ (u : List ℕ). length u) (after_is l (length a)))));
   parts = between_is l a b n x y e f g h;
 }
 
@@ -156,7 +156,7 @@ module _ (mark : Option SpanMark) (b : Before) (style : Option Style) (bs more :
         middle = x.middle;
         spells = subst (λ (t : List ℕ). IsSpelled t (bs ++ more)) (sym (text_join x.middle x.pieces p.pieces x.middle_in p.some apart))
             (spelled_join (text_of_tokens (print_from x.middle 0 [] x.pieces)) (text_of_tokens (print_from None 0 [] p.pieces)) bs more x.spells p.spells);
-        good = good_join false false x.pieces p.pieces x.good (subst (λ (z : Bool). AllGood (word_after false x.pieces) z p.pieces) (sym x.no_blank) (good_behind false (word_after false x.pieces) false p.pieces p.good (λ e. absurd (cc))));
+        good = good_join false false x.pieces p.pieces x.good (subst (λ (z : Bool). AllGood (word_after false x.pieces) z p.pieces) (sym x.no_blank) (good_after false (word_after false x.pieces) false p.pieces p.good (λ e. absurd (cc))));
         known = known_join x.pieces p.pieces x.known p.known;
         no_blank = blank_join false x.pieces p.pieces ∙ some_blank (blank_after false x.pieces) p.pieces p.some;
         last_are = last_join [] x.pieces p.pieces p.some ∙ p.last_are;
@@ -178,7 +178,7 @@ module _ (mark : Option SpanMark) (b : Before) (style : Option Style) (bs more :
             (spelled_join (32 ∷ []) (text_of_tokens (print_from None 0 [] p.pieces)) (32 ∷ []) more (one_spelled 32 (omega arith) (λ e. omega arith)) p.spells));
         good = good_join false false x.pieces (blank ∷ p.pieces) x.good (
           subst (λ (z : Bool). Good blank z (blank_after false x.pieces)) (sym word) (subst (λ (z : Bool). Good blank true z) (sym x.no_blank) blank_good),
-          good_behind false true true p.pieces (any_blank false true p.pieces p.good) (λ e. refl),
+          good_after false true true p.pieces (any_blank false true p.pieces p.good) (λ e. refl),
         );
         known = known_join x.pieces (blank ∷ p.pieces) x.known (refl, p.known);
         no_blank = blank_join false x.pieces (blank ∷ p.pieces) ∙ some_blank true p.pieces p.some;
@@ -229,7 +229,7 @@ centre_begun mark b bs more x h m =
           (spelled_join (123 ∷ []) (inner ++ 125 ∷ []) (123 ∷ []) (m.inner ++ 125 ∷ []) (ascii_spelled (123 ∷ []) refl)
           (spelled_join inner (125 ∷ []) m.inner (125 ∷ []) r.spells (ascii_spelled (125 ∷ []) refl)))));
       good = good_join false false x.pieces qs x.good (subst (λ (z : Bool). AllGood (word_after false x.pieces) z qs) (sym x.no_blank)
-          (good_behind false (word_after false x.pieces) false qs (good_in [] (λ s. false) false false r.pieces refl r.good) (λ g. absurd (cc))));
+          (good_after false (word_after false x.pieces) false qs (good_in [] (λ s. false) false false r.pieces refl r.good) (λ g. absurd (cc))));
       known = known_join x.pieces qs x.known (known_in [] r.pieces r.known);
       no_blank = blank_join false x.pieces qs ∙ some_blank (blank_after false x.pieces) qs (blank_in [] true r.pieces ∙ some);
       last_are = last_join [] x.pieces qs (blank_in [] true r.pieces ∙ some) ∙ last_in [] r.pieces some;
@@ -246,20 +246,20 @@ module _ (mark : Option SpanMark) (b : Before) (l : List ℕ) (n r : ℕ) where
       → IsBegun mark (record { style = style; word = true; centre = b.centre }) (take (n + r) l)
   more_step style h g x =
       subst (IsBegun mark (record { style = style; word = true; centre = b.centre })) (sym (take-add n r l))
-      (more_begun mark b style (take n l) (take r (drop n l)) x (subst (λ (xs : List ℕ). IsPart style (take r xs)) (behind_is l n) h) g)
+      (more_begun mark b style (take n l) (take r (drop n l)) x (subst (λ (xs : List ℕ). IsPart style (take r xs)) (after_is l n) h) g)
 
   pub centre_step : IsEnclosed (123 ∷ []) (125 ∷ []) (take r (take (length l - n) (drop n l))) → b.centre ≡ false → IsBegun mark b (take n l)
       → IsBegun mark (record { style = None; word = true; centre = true }) (take (n + r) l)
   centre_step h g x =
       subst (IsBegun mark (record { style = None; word = true; centre = true })) (sym (take-add n r l))
-      (centre_begun mark b (take n l) (take r (drop n l)) x g (subst (λ (xs : List ℕ). IsEnclosed (123 ∷ []) (125 ∷ []) (take r xs)) (behind_is l n) h))
+      (centre_begun mark b (take n l) (take r (drop n l)) x g (subst (λ (xs : List ℕ). IsEnclosed (123 ∷ []) (125 ∷ []) (take r xs)) (after_is l n) h))
 
   pub blank_more_step : (style : Option Style) → not b.word ≡ false → n < length l → get_or l n 0 ≡ 32 → IsPart style (take r (take (length l - (n + 1)) (drop (n + 1) l)))
       → IsBegun mark b (take n l) → IsBegun mark (record { style = style; word = true; centre = b.centre }) (take (n + (r + 1)) l)
   blank_more_step style some less e h x =
       let cut : take (r + 1) (drop n l) ≡ 32 ∷ take r (drop (n + 1) l) = at_blank l n r less e in
       subst (IsBegun mark (record { style = style; word = true; centre = b.centre })) (sym (take-add n (r + 1) l ∙ ap (λ (xs : List ℕ). take n l ++ xs) cut))
-      (blank_begun mark b style (take n l) (take r (drop (n + 1) l)) x (subst (λ (xs : List ℕ). IsPart style (take r xs)) (behind_is l (n + 1)) h) (yes b.word some))
+      (blank_begun mark b style (take n l) (take r (drop (n + 1) l)) x (subst (λ (xs : List ℕ). IsPart style (take r xs)) (after_is l (n + 1)) h) (yes b.word some))
     where
       yes : (a : Bool) → not a ≡ false → a ≡ true
       yes true e = refl

@@ -21,7 +21,7 @@ use Rattle.gabc_text.specs.Printed.{print, print_from, text_of_tokens, text_toke
 use Rattle.gabc_text.specs.RegularText.{IsRegularText, begins_letter, has_letter_at, begins_with, mark_at, tag_of, tags_of, text_part, translation_part}
 use Rattle.gabc_text.specs.machine.PrintedPieces.{Says, Stable}
 use Rattle.gabc_text.specs.machine.RegularBytes.{is_low, IsSpelled, IsWord, IsInner, IsBracketed, IsRun, IsBegun, mark_length, nothing_before}
-use Rattle.gabc_text.proofs.RegularBytes.{ascii_spelled, none_spelled, spelled_join, chars_of, is_text, behind_is}
+use Rattle.gabc_text.proofs.RegularBytes.{ascii_spelled, none_spelled, spelled_join, chars_of, is_text, after_is}
 use Rattle.gabc_text.proofs.RegularParts.{between_is, nothing_begun, run_begun}
 use Rattle.std.proofs.Math.Seq.{take-add, take-append_seam, take-append-add, get_or-append_seam}
 use Rattle.std.proofs.lemmas.List.{get_or-drop, take-append-drop}
@@ -257,7 +257,7 @@ pub bracketed_is : (l a b : List ℕ) (stop n : ℕ) (x y : Bool) → x ≡ poin
     → IsInner stop (take n (take (length l - length a) (drop (length a) l))) → IsBracketed a stop b (take (length a + n + length b) l)
 bracketed_is l a b stop n x y e f g h p = record {
   inner = take n (drop (length a) l);
-  within = subst (λ (u : List ℕ). IsInner stop (take n u)) (behind_is l (length a)) p;
+  within = subst (λ (u : List ℕ). IsInner stop (take n u)) (after_is l (length a)) p;
   parts = between_is l a b n x y e f g h;
 }
 
@@ -269,7 +269,7 @@ whole mark b l n r x h = subst (λ (u : List ℕ). IsTranslatedText mark u (take
     by : (r : ℕ) → (0 < r → IsBracketed (91 ∷ []) 93 (93 ∷ []) (take r (take (length l - n) (drop n l)))) → IsTranslatedText mark (take n l ++ take r (drop n l)) (take n l) (take r (drop n l))
     by zero h = translated mark b (take n l) [] x None tt none_spelled
     by (suc r) h =
-        bracketed_text mark b (take n l) (take (suc r) (drop n l)) x (subst (λ (u : List ℕ). IsBracketed (91 ∷ []) 93 (93 ∷ []) (take (suc r) u)) (behind_is l n) (h (omega arith)))
+        bracketed_text mark b (take n l) (take (suc r) (drop n l)) x (subst (λ (u : List ℕ). IsBracketed (91 ∷ []) 93 (93 ∷ []) (take (suc r) u)) (after_is l n) (h (omega arith)))
 
 -- that is all of these bytes
 pub parted : (mark : Option SpanMark) (l : List ℕ) (n r : ℕ) → n + r ≡ length l → IsTranslatedText mark (take (n + r) l) (take n l) (take r (drop n l)) → IsTranslatedText mark l (take n l) (drop n l)
@@ -281,7 +281,7 @@ parted mark l n r e x =
 pub whole_stops : (l : List ℕ) (n r : ℕ) → (n < length l → has_letter_at l n ≡ false) → (0 < r → get_or (take (length l - n) (drop n l)) r 0 ≡ 40) → n + r < length l → has_letter_at l (n + r) ≡ false
 whole_stops l n zero h g less = let same : n ≡ n + 0 = omega arith in subst (λ (m : ℕ). has_letter_at l m ≡ false) same (h (omega arith))
 whole_stops l n (suc r) h g less =
-    let here : get_or l (n + suc r) 0 ≡ 40 = sym (get_or-drop n l (suc r) 0) ∙ ap (λ (u : List ℕ). get_or u (suc r) 0) (sym (behind_is l n)) ∙ g (omega arith) in
+    let here : get_or l (n + suc r) 0 ≡ 40 = sym (get_or-drop n l (suc r) 0) ∙ ap (λ (u : List ℕ). get_or u (suc r) 0) (sym (after_is l n)) ∙ g (omega arith) in
     ap (λ (x : ℕ). begins_letter x (get_or l (n + suc r + 1) 0) (get_or l (n + suc r + 2) 0)) here
 
 -- ---- no translation

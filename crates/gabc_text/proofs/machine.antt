@@ -1,6 +1,6 @@
 pub mod EventsFromAnyState
 pub mod EventsLeftAreThoseAhead
-pub mod EventsNeedNothingBehind
+pub mod EventsNeedNothingAfter
 pub mod EventsOfOpenToken
 pub mod EventsStepByStep
 pub mod ExampleTextIsRead

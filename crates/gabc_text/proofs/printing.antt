@@ -1,4 +1,4 @@
-pub mod BehindTheLastPiece
+pub mod AfterTheLastPiece
 pub mod BlanksBeforeRegularText
 pub mod CanonicalTextIsPrinted
 pub mod ChangedStylesCloseFromTheFirst

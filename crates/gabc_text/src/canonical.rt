@@ -2,7 +2,7 @@
 
 ghost use Rattle.std.specs.Prelude.{◌≡◌, ◌-◌, ◌^◌, ◌≤◌, ◌↔◌, IsTrue, IsSome, None, Some, length, min, cond, [], drop, reverse, List, ℕ};
 ghost use Rattle.std.specs.List.{flat_map};
-ghost use Rattle.gabc_text.specs.machine.Runs.{text_at, text_behind, text_behind_run};
+ghost use Rattle.gabc_text.specs.machine.Runs.{text_at, text_after, text_after_run};
 ghost use Rattle.gabc_text.specs.machine.ChangedStyles.{common_styles, differs, changed_styles};
 ghost use Rattle.gabc_text.specs.TextSpan.{GoOn, GoOnAt, GoesOnAt, IsAsKept, IsOnePart};
 ghost use Rattle.gabc_text.specs.TextView.{content_of};
@@ -299,9 +299,9 @@ fn first_run(pieces: &[Piece]) -> Run
 fn joined_run(pieces: &[Piece], centre: Option<Span>, kept: &str, old: Styles, run: Run) -> Run
     requires ordered { run.span.from ≤ run.span.to }
     requires within { run.next ≤ length pieces.now }
-    ensures text { text_behind_run centre pieces.now kept.now old result
-        ≡ text_behind_run centre pieces.now kept.now old run }
-    ensures behind { run.next ≤ result.next }
+    ensures text { text_after_run centre pieces.now kept.now old result
+        ≡ text_after_run centre pieces.now kept.now old run }
+    ensures after { run.next ≤ result.next }
     ensures within { result.next ≤ length pieces.now }
     ensures all { centre ≡ None → GoOnAt kept.now old run.span.to (drop run.next pieces.now) →
         result.next ≡ length pieces.now }
@@ -325,9 +325,9 @@ fn joined_run(pieces: &[Piece], centre: Option<Span>, kept: &str, old: Styles, r
 fn whole_run(view: &TextView, kept: &str, old: Styles, run: Run) -> Run
     requires ordered { run.span.from ≤ run.span.to }
     requires within { run.next ≤ length view.now.pieces.items }
-    ensures text { text_behind view.now kept.now old result
-        ≡ text_behind view.now kept.now old run }
-    ensures behind { run.next ≤ result.next }
+    ensures text { text_after view.now kept.now old result
+        ≡ text_after view.now kept.now old run }
+    ensures after { run.next ≤ result.next }
     ensures within { result.next ≤ length view.now.pieces.items }
 {
     joined_run(view.pieces.as_slice(), view.centre, kept, old, run)
@@ -339,8 +339,8 @@ fn put_run<S: Put>(view: &TextView, kept: &str, old: Styles, run: Run, out: &mut
     requires ordered { run.span.from ≤ run.span.to }
     requires within { run.next ≤ length view.now.pieces.items }
     ensures text { S.taken out.new (text_at view.now kept.now old result)
-        ≡ S.taken out.old (text_behind view.now kept.now old run) }
-    ensures behind { run.next ≤ result }
+        ≡ S.taken out.old (text_after view.now kept.now old run) }
+    ensures after { run.next ≤ result }
     ensures within { result ≤ length view.now.pieces.items }
 {
     let whole = whole_run(view, kept, old, run);

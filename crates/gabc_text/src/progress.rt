@@ -4,7 +4,7 @@ ghost use Rattle.std.specs.Prelude.{◌≡◌, None, ℕ};
 ghost use Rattle.gabc_text.specs.TextStage.{count_plus, fresh_stage};
 ghost use Rattle.gabc_text.specs.View.{centre_by};
 ghost use Rattle.gabc_text.specs.Events.{count_by, option_list_of};
-ghost use Rattle.gabc_text.specs.witness.EventsLeft.{parts_by, piece_by, piece_there, waiting_behind};
+ghost use Rattle.gabc_text.specs.witness.EventsLeft.{parts_by, piece_by, piece_there, waiting_after};
 ghost use Rattle.gabc_text.specs.machine.TextStage.{progress_after, progress_past};
 
 use crate::text_event::TextPart;
@@ -105,7 +105,7 @@ pub(crate) fn waiting_piece(
     effect: TagEffect,
 ) -> Option<Piece>
     ensures { let blank = piece_there facts progress PieceKind.Blank progress.start progress.kept in
-        result ≡ waiting_behind blank progress.blank (piece_by facts kind effect) }
+        result ≡ waiting_after blank progress.blank (piece_by facts kind effect) }
 {
     match piece_at(facts, kind, effect) {
         Some(PieceKind::Blank) => Some(piece_there(

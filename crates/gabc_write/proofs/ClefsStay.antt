@@ -75,14 +75,14 @@ at_first position = by (starts_word position)
 abbrev ArePassedOneByOne : Type 0
 ArePassedOneByOne = (outset : InForce) (steps more : List ScoreStep) → passed (passed outset steps) more ≡ passed outset (steps ++ more)
 
-behind_steps : ArePassedOneByOne → (steps : List ScoreStep) (outset : InForce) → AreNoClefs steps → (passed outset steps).clef ≡ outset.clef
-behind_steps law [] outset none = refl
-behind_steps law (s ∷ steps) outset none =
+after_steps : ArePassedOneByOne → (steps : List ScoreStep) (outset : InForce) → AreNoClefs steps → (passed outset steps).clef ≡ outset.clef
+after_steps law [] outset none = refl
+after_steps law (s ∷ steps) outset none =
     ap (λ (v : InForce). v.clef) (sym (law outset (s ∷ []) steps))
-    ∙ (behind_steps law steps (passed outset (s ∷ [])) none.1
+    ∙ (after_steps law steps (passed outset (s ∷ [])) none.1
     ∙ ap (λ (o : Option Clef). option_or o outset.clef) none.0)
 
 pub clef_stays : ArePassedOneByOne → (outset : InForce) (s : PlacedSyllable) → sounds s.made ≡ false → (passed outset (steps_of_syllable s)).clef ≡ outset.clef
 clef_stays law outset s silent =
-    behind_steps law (steps_of_syllable s) outset
+    after_steps law (steps_of_syllable s) outset
     (both_none (first_steps s.position) (steps_of_snippets s.made.kept s.made.snippets) (at_first s.position) (of_snippets s.made.kept s.made.snippets silent))

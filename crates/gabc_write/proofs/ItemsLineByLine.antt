@@ -106,7 +106,7 @@ cut_first ahead = record { written = []; most = length ahead; fits = omega arith
 -- What a note does: the line of the glyph that begins with it, and where the cut stands after it.
 record AtNote (done ahead : List Note) (n : Note) (left : ℕ) : Type 0 where
   line : line_of_glyph_at (glyphs_of (done ++ n ∷ ahead)) (length done) ≡ line_of_next left (longest_glyph (length (n ∷ ahead)) (n ∷ ahead))
-  behind : Cut (done ++ n ∷ []) ahead (left_after left (longest_glyph (length (n ∷ ahead)) (n ∷ ahead)))
+  after : Cut (done ++ n ∷ []) ahead (left_after left (longest_glyph (length (n ∷ ahead)) (n ∷ ahead)))
 
 -- a note of a glyph that is written
 note_inside : (done ahead : List Note) (n : Note) (left : ℕ) → Cut done (n ∷ ahead) (suc left) → AtNote done ahead n (suc left)
@@ -119,7 +119,7 @@ note_inside done ahead n left c =
     record {
       line = ap (λ (gs : List Glyph). line_of_glyph_at gs (length done)) c.all
           ∙ (later_line (length done) c.written later c.below ∙ none_at (length done + suc left) (length done) later (within_ascends c.most (length done + suc left) (drop left ahead)) (omega arith));
-      behind = record {
+      after = record {
         written = c.written;
         most = c.most;
         fits = omega arith;
@@ -182,7 +182,7 @@ at_note law done ahead n zero c = go (longest_glyph (length (n ∷ ahead)) (n �
         let b = note_begins done ahead n g e c in
         record {
           line = b.0 ∙ ap (line_of_next zero) (sym e);
-          behind = subst (λ (o : Option (GlyphKind × ℕ)). Cut (done ++ n ∷ []) ahead (left_after zero o)) (sym e) b.1;
+          after = subst (λ (o : Option (GlyphKind × ℕ)). Cut (done ++ n ∷ []) ahead (left_after zero o)) (sym e) b.1;
         }
 
 -- ---- the notes before an item and after it
@@ -200,13 +200,13 @@ before_none : (kept : List ℕ) (before : List Item) (i : Item) → is_in_segmen
 before_none kept before i e =
     ap (λ (x : List Item). notes_in kept (reverse x)) (take_while-cons is_in_segment i before ∙ ap (λ (b : Bool). cond b (i ∷ take_while is_in_segment before) []) e)
 
-behind_more : (kept : List ℕ) (items : List Item) (i : Item) → is_in_segment i ≡ true → notes_after kept (i ∷ items) ≡ notes_in kept (i ∷ []) ++ notes_after kept items
-behind_more kept items i e =
+after_more : (kept : List ℕ) (items : List Item) (i : Item) → is_in_segment i ≡ true → notes_after kept (i ∷ items) ≡ notes_in kept (i ∷ []) ++ notes_after kept items
+after_more kept items i e =
     let run : List Item = take_while is_in_segment items in
     ap (notes_in kept) (take_while-cons is_in_segment i items ∙ ap (λ (b : Bool). cond b (i ∷ run) []) e) ∙ filter_map-append (note_in kept) (i ∷ []) run
 
-behind_none : (kept : List ℕ) (items : List Item) (i : Item) → is_in_segment i ≡ false → notes_after kept (i ∷ items) ≡ []
-behind_none kept items i e = ap (notes_in kept) (take_while-cons is_in_segment i items ∙ ap (λ (b : Bool). cond b (i ∷ take_while is_in_segment items) []) e)
+after_none : (kept : List ℕ) (items : List Item) (i : Item) → is_in_segment i ≡ false → notes_after kept (i ∷ items) ≡ []
+after_none kept items i e = ap (notes_in kept) (take_while-cons is_in_segment i items ∙ ap (λ (b : Bool). cond b (i ∷ take_while is_in_segment items) []) e)
 
 -- ---- where the writer stands
 
@@ -222,42 +222,42 @@ stands_first kept items = record { in_element = refl; cut = cut_first (notes_aft
 -- What an item does to the cut of its segment, and the line of the glyph that begins with it.
 record AtItem (kept : List ℕ) (before items : List Item) (i : Item) (left : ℕ) : Type 0 where
   line : (if is_note i.kind then line_of_next left (glyph_at kept (i ∷ items)) else []) ≡ glyph_line kept before i items
-  behind : Cut (notes_before kept (i ∷ before)) (notes_after kept items) (if is_note i.kind then left_after left (glyph_at kept (i ∷ items)) else left)
+  after : Cut (notes_before kept (i ∷ before)) (notes_after kept items) (if is_note i.kind then left_after left (glyph_at kept (i ∷ items)) else left)
 
 at_item : ((notes : List Note) → AreGlyphsOf notes (glyphs_of notes)) → (kept : List ℕ) (before items : List Item) (i : Item) (left : ℕ)
     → Cut (notes_before kept before) (notes_after kept (i ∷ items)) left → Kinds i.kind i.span (bytes_of kept i) → AtItem kept before items i left
 at_item law kept before items i left c (outside e f g) =
-    let none : notes_after kept (i ∷ items) ≡ [] = behind_none kept items i e in
+    let none : notes_after kept (i ∷ items) ≡ [] = after_none kept items i e in
     let size = ap (length {A = Note}) none in
     let fits = c.fits in
     let zero_left : left ≡ 0 = omega arith in
     let fresh = cut_first (notes_after kept items) in
     record {
       line = rw f refl;
-      behind = rw f (subst (Cut (notes_before kept (i ∷ before)) (notes_after kept items)) (sym zero_left)
+      after = rw f (subst (Cut (notes_before kept (i ∷ before)) (notes_after kept items)) (sym zero_left)
           (subst (λ (ns : List Note). Cut ns (notes_after kept items) 0) (sym (before_none kept before i e)) fresh));
     }
 at_item law kept before items i left c (inside e f g) =
     let one : notes_in kept (i ∷ []) ≡ [] = rw g refl in
-    let same_behind : notes_after kept (i ∷ items) ≡ notes_after kept items = behind_more kept items i e ∙ ap (λ (x : List Note). x ++ notes_after kept items) one in
+    let same_after : notes_after kept (i ∷ items) ≡ notes_after kept items = after_more kept items i e ∙ ap (λ (x : List Note). x ++ notes_after kept items) one in
     let same_before : notes_before kept (i ∷ before) ≡ notes_before kept before =
     before_more kept before i e ∙ (ap (λ (x : List Note). notes_before kept before ++ x) one ∙ append-nil (notes_before kept before)) in
     record {
       line = rw f refl;
-      behind = rw f (subst (λ (ns : List Note). Cut ns (notes_after kept items) left) (sym same_before) (subst (λ (ns : List Note). Cut (notes_before kept before) ns left) same_behind c));
+      after = rw f (subst (λ (ns : List Note). Cut ns (notes_after kept items) left) (sym same_before) (subst (λ (ns : List Note). Cut (notes_before kept before) ns left) same_after c));
     }
 at_item law kept before items i left c (a_note n e f g s l) =
     let one : notes_in kept (i ∷ []) ≡ n ∷ [] = rw g refl in
     let nb : List Note = notes_before kept before in
     let na : List Note = notes_after kept items in
-    let more_behind : notes_after kept (i ∷ items) ≡ n ∷ na = behind_more kept items i e ∙ ap (λ (x : List Note). x ++ na) one in
+    let more_after : notes_after kept (i ∷ items) ≡ n ∷ na = after_more kept items i e ∙ ap (λ (x : List Note). x ++ na) one in
     let more_before : notes_before kept (i ∷ before) ≡ nb ++ n ∷ [] = before_more kept before i e ∙ ap (λ (x : List Note). nb ++ x) one in
-    let at = at_note law nb na n left (subst (λ (ns : List Note). Cut nb ns left) more_behind c) in
-    let found : longest_glyph (length (n ∷ na)) (n ∷ na) ≡ glyph_at kept (i ∷ items) = ap (λ (ns : List Note). longest_glyph (length ns) ns) (sym more_behind) in
+    let at = at_note law nb na n left (subst (λ (ns : List Note). Cut nb ns left) more_after c) in
+    let found : longest_glyph (length (n ∷ na)) (n ∷ na) ≡ glyph_at kept (i ∷ items) = ap (λ (ns : List Note). longest_glyph (length ns) ns) (sym more_after) in
     record {
-      line = rw f (sym (ap (λ (ns : List Note). line_of_glyph_at (glyphs_of (nb ++ ns)) (length nb)) more_behind ∙ (at.line ∙ ap (line_of_next left) found)));
-      behind = rw f (subst (λ (ns : List Note). Cut ns na (left_after left (glyph_at kept (i ∷ items)))) (sym more_before)
-          (subst (λ (o : Option (GlyphKind × ℕ)). Cut (nb ++ n ∷ []) na (left_after left o)) found at.behind));
+      line = rw f (sym (ap (λ (ns : List Note). line_of_glyph_at (glyphs_of (nb ++ ns)) (length nb)) more_after ∙ (at.line ∙ ap (line_of_next left) found)));
+      after = rw f (subst (λ (ns : List Note). Cut ns na (left_after left (glyph_at kept (i ∷ items)))) (sym more_before)
+          (subst (λ (o : Option (GlyphKind × ℕ)). Cut (nb ++ n ∷ []) na (left_after left o)) found at.after));
     }
 
 -- What an item's step does: its lines are those of the definition, and the writer stands after it.
@@ -282,7 +282,7 @@ step law outset kept before items i place s =
       lines = append_assoc first (glyph ++ line) later
           ∙ (ap (λ (t : List ℕ). first ++ t) (append_assoc glyph line later ∙ ap (λ (t : List ℕ). t ++ (line ++ later)) at.line)
           ∙ element_same kept before i place.in_element (glyph_line kept before i items ++ (line ++ later)) s.in_element);
-      stands = record { in_element = refl; cut = at.behind };
+      stands = record { in_element = refl; cut = at.after };
     }
 
 -- ---- the items of a list, passed in order

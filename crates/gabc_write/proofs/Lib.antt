@@ -5,7 +5,7 @@ pub mod DumpOfWhatIsSaid
 mod DumpExamples
 pub mod dump_is_short
 pub mod ItemsLineByLine
-pub mod NamesBehindFirst
+pub mod NamesAfterFirst
 pub mod plain
 pub mod reading_again
 pub mod SnippetOfPitch

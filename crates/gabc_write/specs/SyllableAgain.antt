@@ -70,36 +70,36 @@ pub record AreUnitsFrom (lines macros : ℕ) (at : Place) (xs : List Char) (unit
 
 -- The part has the characters of the snippet, keeps all of them, and no error is found in it, if it
 -- is read from there on.
-pub record IsSnippetAgain (lines macros line : ℕ) (e : EndedPart) (behind : List Char) (s : List ℕ) : Type 0 where
+pub record IsSnippetAgain (lines macros line : ℕ) (e : EndedPart) (after : List Char) (s : List ℕ) : Type 0 where
   pub characters : codes_of e.characters ≡ s
   pub kept : kept_on_line line e.characters ≡ s
-  pub warnings : All IsWarning (findings_of (concat_of (snippet_events lines macros line (e.characters ++ e.end ∷ behind))))
+  pub warnings : All IsWarning (findings_of (concat_of (snippet_events lines macros line (e.characters ++ e.end ∷ after))))
 
 -- so do all parts from that line on, with the characters after them
 abbrev pub AreSnippetsAgain : ℕ → ℕ → ℕ → List EndedPart → List Char → List (List ℕ) → Type 0
-AreSnippetsAgain lines macros line [] behind [] = Unit {0}
-AreSnippetsAgain lines macros line (e ∷ es) behind (s ∷ ss) =
-    IsSnippetAgain lines macros line e (with_ends es ++ behind) s × AreSnippetsAgain lines macros (next_line lines line) es behind ss
-AreSnippetsAgain lines macros line _ behind _ = ⊥
+AreSnippetsAgain lines macros line [] after [] = Unit {0}
+AreSnippetsAgain lines macros line (e ∷ es) after (s ∷ ss) =
+    IsSnippetAgain lines macros line e (with_ends es ++ after) s × AreSnippetsAgain lines macros (next_line lines line) es after ss
+AreSnippetsAgain lines macros line _ after _ = ⊥
 
 -- The unit, with these characters after it, says this: its text says the same without an error, and
 -- its snippets are the same. All of its text is kept, the LF before a word as a blank, and its
 -- notes are these snippets.
-pub record SaysAgain (lines macros : ℕ) (unit : BodyUnit) (behind : List Char) (v : ViewFacts) (ss : List (List ℕ)) : Type 0 where
-  pub view_stays : view_facts (score_unit unit behind).text ≡ v
-  pub errors : (place : Place) → has_error (findings place (score_unit unit behind).text) ≡ false
-  pub kept : kept (score_unit unit behind).text ≡ cond v.word_start (codes " ") [] ++ text_of_tokens (text_tokens v ++ translation_tokens v.translation)
-  pub snippets : AreSnippetsAgain lines macros 0 (snippets_in unit) behind ss
-  pub notes : (score_unit unit behind).notes ≡ 40 ∷ (barred ss ++ 41 ∷ [])
+pub record SaysAgain (lines macros : ℕ) (unit : BodyUnit) (after : List Char) (v : ViewFacts) (ss : List (List ℕ)) : Type 0 where
+  pub view_stays : view_facts (score_unit unit after).text ≡ v
+  pub errors : (place : Place) → has_error (findings place (score_unit unit after).text) ≡ false
+  pub kept : kept (score_unit unit after).text ≡ cond v.word_start (codes " ") [] ++ text_of_tokens (text_tokens v ++ translation_tokens v.translation)
+  pub snippets : AreSnippetsAgain lines macros 0 (snippets_in unit) after ss
+  pub notes : (score_unit unit after).notes ≡ 40 ∷ (barred ss ++ 41 ∷ [])
 
 -- A printed syllable whose characters stand from this place on, whatever follows, is one unit that
 -- says the same: if what follows is cut into units, then with the syllable in front there is one
 -- more, wherever its text is said to begin.
 pub record IsOneUnit (lines macros : ℕ) (at : Place) (v : ViewFacts) (ss : List (List ℕ)) (rest : List ℕ) : Type 0 where
   pub unit : BodyUnit
-  pub behind : List Char
-  pub behind_is : behind ≡ placed_characters_from (place_past at (printed_syllable v ss)) rest
-  pub characters : placed_characters_from at (printed_syllable v ss ++ rest) ≡ characters_in unit ++ behind
-  pub one_more : (begins : Place) (units : List BodyUnit) (last : LastUnit) → AreUnitsFrom lines macros (after_mark unit.final.end.place) behind units last
+  pub after : List Char
+  pub after_is : after ≡ placed_characters_from (place_past at (printed_syllable v ss)) rest
+  pub characters : placed_characters_from at (printed_syllable v ss ++ rest) ≡ characters_in unit ++ after
+  pub one_more : (begins : Place) (units : List BodyUnit) (last : LastUnit) → AreUnitsFrom lines macros (after_mark unit.final.end.place) after units last
       → AreUnitsFrom lines macros begins (placed_characters_from at (printed_syllable v ss ++ rest)) (unit ∷ units) last
-  pub again : SaysAgain lines macros unit behind v ss
+  pub again : SaysAgain lines macros unit after v ss

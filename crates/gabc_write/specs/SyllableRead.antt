@@ -43,7 +43,7 @@ module _ (lines macros : ℕ) (m : UnplacedSyllable) (text : List ℕ) (at : Pla
     pub again : UnplacedSyllable
     pub none_earlier : (n : ℕ) → n < length text → all_syllables (emitted_within n) ≡ all_syllables before
     pub one : all_syllables emitted_through ≡ all_syllables before ++ again ∷ []
-    pub nothing_behind : since_close emitted_through ≡ []
+    pub nothing_after : since_close emitted_through ≡ []
     pub warnings : All IsWarning (findings_of (events_onto (first_events lines macros at (placed_characters_from at text) (length text)) []))
     pub few_on_the_way : (n : ℕ) → n ≤ length text → length (kept_of (since_close (emitted_within n))) ≤ length (encode_utf8_all text)
     pub few : length again.kept ≤ length (encode_utf8_all text)

@@ -1,6 +1,6 @@
 pub mod FirstLine
 pub mod DumpOfTexts
-pub mod NamesBehindFirst
+pub mod NamesAfterFirst
 pub mod NoteLines
 pub mod SetDown
 pub mod TextLine

@@ -5,7 +5,7 @@ ghost use Rattle.std.specs.Fmt.{decimal};
 ghost use Rattle.std.specs.List.{flat_map};
 ghost use Rattle.gabc_nabc.specs.Parts.{parts_of};
 ghost use Rattle.gabc_write.specs.DumpOfNabc.{name_of_code, names_of, line_of_part, lines_of_nabc};
-ghost use Rattle.gabc_write.specs.machine.NamesBehindFirst.{names_behind};
+ghost use Rattle.gabc_write.specs.machine.NamesAfterFirst.{names_after};
 
 use crate::dump_item::put_last;
 use crate::escape::put_ended;
@@ -35,7 +35,7 @@ fn put_name<S: Put>(code: GlyphCode, out: &mut S)
 
 /// Puts the names of `codes`, each with a `!` before it.
 fn put_joined<S: Put>(codes: CodeReader<'_>, out: &mut S)
-    ensures { out.new ≡ S.taken out.old (names_behind codes.entry) }
+    ensures { out.new ≡ S.taken out.old (names_after codes.entry) }
 {
     for code in codes {
         out.put(b"!");
@@ -44,7 +44,7 @@ fn put_joined<S: Put>(codes: CodeReader<'_>, out: &mut S)
 }
 
 /// Puts the names of `codes`, with a `!` between them.
-#[tactic(auto, using(crate::proofs::NamesBehindFirst::names_by_first))]
+#[tactic(auto, using(crate::proofs::NamesAfterFirst::names_by_first))]
 fn put_names<S: Put>(codes: CodeReader<'_>, out: &mut S)
     ensures { out.new ≡ S.taken out.old (names_of codes.entry) }
 {

@@ -99,16 +99,16 @@ fn put_glyph<S: Put>(kind: GlyphKind, count: usize, out: &mut S)
     }
 }
 
-/// Puts the line of the glyph that begins with the note `first`, which `behind` stands after.
+/// Puts the line of the glyph that begins with the note `first`, which `after` stands after.
 /// Returns how many of its notes are to come after `first`.
-fn put_glyph_from<S: Put>(kept: &str, first: Note, behind: &ItemReader<'_>, out: &mut S) -> usize
-    requires within { AreWithin kept.now behind.now }
-    requires few { length behind.now < length kept.now }
+fn put_glyph_from<S: Put>(kept: &str, first: Note, after: &ItemReader<'_>, out: &mut S) -> usize
+    requires within { AreWithin kept.now after.now }
+    requires few { length after.now < length kept.now }
     ensures line { out.new
-        ≡ S.taken out.old (line_of_next 0 (glyph_of (notes_from kept.now first behind.now))) }
-    ensures left { result ≡ left_after 0 (glyph_of (notes_from kept.now first behind.now)) }
+        ≡ S.taken out.old (line_of_next 0 (glyph_of (notes_from kept.now first after.now))) }
+    ensures left { result ≡ left_after 0 (glyph_of (notes_from kept.now first after.now)) }
 {
-    match glyph_from(kept, first, behind) {
+    match glyph_from(kept, first, after) {
         Some((kind, count)) => {
             put_glyph(kind, count, out);
             count - 1
@@ -117,56 +117,56 @@ fn put_glyph_from<S: Put>(kept: &str, first: Note, behind: &ItemReader<'_>, out:
     }
 }
 
-/// Puts the line of the glyph that begins with `item`, a note that `behind` stands after, if none
+/// Puts the line of the glyph that begins with `item`, a note that `after` stands after, if none
 /// of the notes of the glyph before are `left`. Returns how many of the glyph's notes are left
 /// after it.
 fn put_next_glyph<S: Put>(
     kept: &str,
     left: usize,
     item: Item,
-    behind: &ItemReader<'_>,
+    after: &ItemReader<'_>,
     out: &mut S,
 ) -> usize
     requires is_note { item.kind ≡ ItemKind.Note }
-    requires within { AreWithin kept.now (item ∷ behind.now) }
-    requires few { length behind.now < length kept.now }
+    requires within { AreWithin kept.now (item ∷ after.now) }
+    requires few { length after.now < length kept.now }
     ensures line { out.new
-        ≡ S.taken out.old (line_of_next left (glyph_at kept.now (item ∷ behind.now))) }
-    ensures left { result ≡ left_after left (glyph_at kept.now (item ∷ behind.now)) }
+        ≡ S.taken out.old (line_of_next left (glyph_at kept.now (item ∷ after.now))) }
+    ensures left { result ≡ left_after left (glyph_at kept.now (item ∷ after.now)) }
 {
     if left > 0 {
         return left - 1;
     }
     match note_of(kept, item) {
-        Some(note) => put_glyph_from(kept, note, behind, out),
+        Some(note) => put_glyph_from(kept, note, after, out),
         None => 0,
     }
 }
 
 /// Puts the lines of `item` at `place`, and passes it: before its own line those of an element and
-/// of a glyph that it begins. `behind` are the items after it. Returns the place after the item.
+/// of a glyph that it begins. `after` are the items after it. Returns the place after the item.
 fn put_at<S: Put>(
     kept: &str,
     place: ItemPlace,
     item: Item,
-    behind: &ItemReader<'_>,
+    after: &ItemReader<'_>,
     alterations: &mut Alterations,
     out: &mut S,
 ) -> ItemPlace
-    requires within { AreWithin kept.now (item ∷ behind.now) }
-    requires few { length behind.now < length kept.now }
+    requires within { AreWithin kept.now (item ∷ after.now) }
+    requires few { length after.now < length kept.now }
     ensures lines { out.new ≡ S.taken out.old
-        (lines_at alterations.old kept.now place item behind.now) }
+        (lines_at alterations.old kept.now place item after.now) }
     ensures alterations { alterations.new
         ≡ in_force_after alterations.old (step_of kept.now item ∷ []) }
-    ensures place { result ≡ place_after_input kept.now place item behind.now }
+    ensures place { result ≡ place_after_input kept.now place item after.now }
 {
     let in_element = is_in_element(kept, item);
     if in_element && !place.in_element {
         out.put(b"element\n");
     }
     let left = match item.kind {
-        ItemKind::Note => put_next_glyph(kept, place.left, item, behind, out),
+        ItemKind::Note => put_next_glyph(kept, place.left, item, after, out),
         _ => place.left,
     };
     put_item(kept, item, alterations, out);

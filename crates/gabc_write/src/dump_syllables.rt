@@ -46,7 +46,7 @@ fn put_spans<S: Put>(eu: bool, nlba: bool, out: &mut S)
 
 /// Puts what stands after the number in the first line of a syllable. Few have a span, so the rest
 /// is put at once.
-fn put_behind_number<S: Put>(position: Position, eu: bool, nlba: bool, out: &mut S)
+fn put_after_number<S: Put>(position: Position, eu: bool, nlba: bool, out: &mut S)
     ensures { out.new
         ≡ S.taken out.old (codes " " ++ (position_word position ++ words_of_spans eu nlba)) }
 {
@@ -69,7 +69,7 @@ pub(crate) fn put_first_line<S: Put>(number: u64, position: Position, spans: Spa
 {
     out.put(b"syllable ");
     out.put(Buffer::new().format(number).as_bytes());
-    put_behind_number(position, spans.eu, spans.nlba, out);
+    put_after_number(position, spans.eu, spans.nlba, out);
 }
 
 /// Puts the line of the text of `view`, whose spans count the bytes of `kept`, if there is a text:
@@ -183,7 +183,7 @@ pub fn dump_len(number: u64, syllable: &Syllable, alterations: &Alterations) -> 
         (2 ^ 64 - 1) }
 {
     let mut counter = ByteCounter::new();
-    let mut behind = *alterations;
-    dump_syllable(number, syllable, &mut behind, &mut counter);
+    let mut after = *alterations;
+    dump_syllable(number, syllable, &mut after, &mut counter);
     counter.count()
 }

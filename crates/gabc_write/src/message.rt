@@ -9,13 +9,13 @@ ghost use Rattle.gabc_write.specs.Message.{line_of};
 use gabc_places::{ByteCounter, Code, Place, Put};
 use itoa::Buffer;
 
-/// Puts `number` in decimal digits, and `behind`.
-fn put_number<S: Put>(number: u64, behind: &str, out: &mut S)
-    ensures put { out.new ≡ S.taken out.old (decimal number ++ behind.now) }
+/// Puts `number` in decimal digits, and `after`.
+fn put_number<S: Put>(number: u64, after: &str, out: &mut S)
+    ensures put { out.new ≡ S.taken out.old (decimal number ++ after.now) }
     ensures short { length (decimal number) ≤ 20 }
 {
     out.put(Buffer::new().format(number).as_bytes());
-    out.put(behind.as_bytes());
+    out.put(after.as_bytes());
 }
 
 /// Puts `LINE:COLUMN: `.
@@ -27,12 +27,12 @@ fn put_place<S: Put>(place: Place, out: &mut S)
     put_number(place.column, ": ", out);
 }
 
-/// Puts `text` and `behind`.
-fn put_both<S: Put>(text: &str, behind: &str, out: &mut S)
-    ensures { out.new ≡ S.taken out.old (text.now ++ behind.now) }
+/// Puts `text` and `after`.
+fn put_both<S: Put>(text: &str, after: &str, out: &mut S)
+    ensures { out.new ≡ S.taken out.old (text.now ++ after.now) }
 {
     out.put(text.as_bytes());
-    out.put(behind.as_bytes());
+    out.put(after.as_bytes());
 }
 
 /// Puts `CODE: TEXT` and LF.

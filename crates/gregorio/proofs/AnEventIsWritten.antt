@@ -18,7 +18,7 @@ use Rattle.gregorio.specs.machine.RunWriter.{RunWriterState, HasRoomFor, IsInRoo
 use Rattle.gregorio.specs.machine.ScoreWriter.{ScoreWriterState, FitsEvents, IsSilent, IsSteady, WritesLast, event_room, needed_in, outputs_of_events}
 use Rattle.gregorio.proofs.PassedInHeads.{passed_in_heads}
 use Rattle.gregorio.proofs.OutputsOfEvents.{as_many_emitted, emitted_is, ends_at_last, nothing_left}
-use Rattle.gregorio.proofs.RoomForAnEvent.{event_has_room, event_in_room, lines_within, needed_for, nothing_over, one_within, room_behind}
+use Rattle.gregorio.proofs.RoomForAnEvent.{event_has_room, event_in_room, lines_within, needed_for, nothing_over, one_within, room_after}
 use Rattle.gregorio.proofs.StreamsOfOutputs.{EndsAtLast, headed_stays, job_stays, second_empty}
 use Rattle.gregorio.proofs.pieces.WrittenGoesOn.{steady_past}
 
@@ -96,8 +96,8 @@ module _ (score mid : ScoreStageState) (writer : RunWriterState) (now : ScoreWri
     })
 
     -- where the run is over, the stage gives nothing more
-    pub silent_behind : (IsSome writer.written.ended → IsSilent score) → IsSome new.written.ended → IsSilent mid
-    silent_behind before over =
+    pub silent_after : (IsSome writer.written.ended → IsSilent score) → IsSome new.written.ended → IsSilent mid
+    silent_after before over =
         over_by_last (IsSilent mid) writer.written step.outputs ends
         (λ some xs. second_empty step.outputs (concat_of (left_of mid xs)) (sym (ap (λ (lists : List (List ScoreOutput)). concat_of lists) (step.law xs)) ∙ before some (x ∷ xs)))
         (subst (λ (v : RunWriterState). IsSome v.written.ended) new_is over)
@@ -110,7 +110,7 @@ module _ (score mid : ScoreStageState) (writer : RunWriterState) (now : ScoreWri
         let fits = subst (λ (s : ScoreWriterState). FitsEvents s last (x ∷ more)) (sym view) room in
         let before = of_events (λ limits outputs. IsInRoom limits lines texts writer outputs) (event_in_room (IsSilent mid) old x step.outputs step.lends few ends none) in
         let after = subst (λ (limits : Limits). IsInRoom limits lines texts new []) step.limits (kept lines texts before) in
-        room_behind old (record { score = mid; writer = new }) x step.outputs last more
+        room_after old (record { score = mid; writer = new }) x step.outputs last more
         (steady_past old (record { score = mid; writer = new }) writer step.outputs (record { limits = step.limits; format = refl; name = refl; all_warnings = refl; out = refl; messages = refl }) new_is)
         (ap (λ (v : RunWriterState). v.written.headed) new_is ∙ headed_stays writer.written step.outputs) step.part step.last after fits
 

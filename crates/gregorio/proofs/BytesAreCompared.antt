@@ -9,9 +9,9 @@ use Rattle.gregorio.specs.machine.Comparison.{compared_with, left_past}
 left_at_one : (b : ℕ) (left : Option (List ℕ)) → (if b == b then left else None) ≡ left
 left_at_one b left = let same : (b == b) ≡ true = (Decides-eqb b b).1 refl in rw same refl
 
-pub left_behind_front : (bytes rest : List ℕ) → left_past bytes (bytes ++ rest) ≡ Some rest
-left_behind_front [] rest = refl
-left_behind_front (b ∷ bytes) rest = left_at_one b (left_past bytes (bytes ++ rest)) ∙ left_behind_front bytes rest
+pub left_after_front : (bytes rest : List ℕ) → left_past bytes (bytes ++ rest) ≡ Some rest
+left_after_front [] rest = refl
+left_after_front (b ∷ bytes) rest = left_at_one b (left_past bytes (bytes ++ rest)) ∙ left_after_front bytes rest
 
 one_more : (b c : ℕ) (left : Option (List ℕ)) (text more rest : List ℕ) → (left ≡ Some rest → text ≡ more) → (if b == c then left else None) ≡ Some rest → c ∷ text ≡ b ∷ more
 one_more b c left text more rest front is = elim (eqb_tells b c) [
@@ -34,13 +34,13 @@ none_if (Some rest) h = absurd (h rest refl)
 
 pub left_is : (bytes text : List ℕ) (r : Option (Bor (List ℕ))) → MatchOption r ((rest : List ℕ) → text ≢ bytes ++ rest) (λ x. text ≡ bytes ++ x.now) → option_map (λ (x : Bor (List ℕ)). x.now) r ≡ left_past bytes text
 left_is bytes text None none = none_if (left_past bytes text) (λ rest is. none rest (front_of_left bytes text rest is))
-left_is bytes text (Some x) is = sym (ap (left_past bytes) is ∙ left_behind_front bytes x.now)
+left_is bytes text (Some x) is = sym (ap (left_past bytes) is ∙ left_after_front bytes x.now)
 
 -- a text of which nothing is left after these bytes, and only that, is the same
 pub same_text : (before after : Option (List ℕ)) (text bytes : List ℕ) (is_same : Bool) → before ≡ Some text → after ≡ compared_with before bytes → (IsTrue is_same ↔ after ≡ Some []) → IsTrue is_same ↔ bytes ≡ text
 same_text before after text bytes is_same fresh came told = (
   λ same. sym (front_of_left bytes text [] (sym left ∙ told.0 same) ∙ append-nil bytes),
-  λ same. told.1 (left ∙ ap (λ (t : List ℕ). left_past bytes t) (sym same ∙ sym (append-nil bytes)) ∙ left_behind_front bytes []),
+  λ same. told.1 (left ∙ ap (λ (t : List ℕ). left_past bytes t) (sym same ∙ sym (append-nil bytes)) ∙ left_after_front bytes []),
 )
   where
     left : after ≡ left_past bytes text

@@ -55,15 +55,15 @@ module _ (w : RunWriterState) (s : PlacedSyllable) (dump : w.written.format ≡ 
   dump_is_written force out headed fits out_is force_is =
       ap (λ (n : ℕ). record w { written = record w.written { count = n; force = force }; out = out }) number_is
       ∙ (ap (λ (f : InForce). record w { written = record w.written { count = next_number w.written.count; force = f }; out = out }) force_is
-      ∙ (ap (λ (r : BoundedList ℕ). record w { written = behind; out = r }) all
-      ∙ (ap (λ (lines : List ℕ). record w { written = behind; out = extended_by w.out text; messages = record w.messages { items = lines } }) (sym (append-nil w.messages.items))
+      ∙ (ap (λ (r : BoundedList ℕ). record w { written = after; out = r }) all
+      ∙ (ap (λ (lines : List ℕ). record w { written = after; out = extended_by w.out text; messages = record w.messages { items = lines } }) (sym (append-nil w.messages.items))
       ∙ (ap (λ (f : Format). past true f) (sym dump) ∙ ap (λ (b : Bool). past b w.written.format) (sym headed)))))
     where
       text : List ℕ
       text = lines_of_syllable (next_number w.written.count) w.written.force s
 
-      behind : Written
-      behind = record w.written { count = next_number w.written.count; force = passed w.written.force (steps_of_syllable s) }
+      after : Written
+      after = record w.written { count = next_number w.written.count; force = passed w.written.force (steps_of_syllable s) }
 
       all : out ≡ extended_by w.out text
       all =

@@ -34,7 +34,7 @@ use Rattle.gregorio.specs.Outcome.{is_whole, is_cut_short, ending_by, outcome_of
 use Rattle.gregorio.specs.witness.Engine.{head_events_left, streams_from, text_of_heads}
 use Rattle.gregorio.specs.Streams.{Streams, after_bytes, streams_of_outcome}
 use Rattle.gregorio.specs.machine.ScoreWriter.{fresh_writer}
-use Rattle.gregorio.proofs.HeadersComeFirst.{NothingBehind, heads_first, nothing_behind}
+use Rattle.gregorio.proofs.HeadersComeFirst.{NothingAfter, heads_first, nothing_after}
 use Rattle.gregorio.proofs.StreamsOfAFreshEngine.{SaysScore, stops_at, streams_same}
 use Rattle.gregorio.proofs.StreamsOfOutputs.{EndsAtLast, outputs_are_said}
 
@@ -111,7 +111,7 @@ pub record LawsBelow : Type 0 where
   pub findings : (limits : Limits) (e : InputEnding) (t : List ℕ) → findings_in (outputs_of_text limits e t) ≡ (score_of limits e t).findings
   pub syllables : (limits : Limits) (e : InputEnding) (t : List ℕ) → syllables_in (outputs_of_text limits e t) ≡ (score_of limits e t).syllables
   pub fault : (limits : Limits) (e : InputEnding) (t : List ℕ) → fault_in (outputs_of_text limits e t) ≡ (score_of limits e t).fault
-  pub nothing_behind : (limits : Limits) (xs : List HeadEvent) → NothingBehind (concat_of (score_outputs texts_by_definition limits xs))
+  pub nothing_after : (limits : Limits) (xs : List HeadEvent) → NothingAfter (concat_of (score_outputs texts_by_definition limits xs))
   pub end : (limits : Limits) (e : InputEnding) (t : List ℕ) → has_end (outputs_of_text limits e t) ≡ is_whole_score e (score_of limits e t).fault
   pub few : (limits : Limits) (e : InputEnding) (t : List ℕ) → 2 * length (score_of limits e t).syllables ≤ limits.input
 
@@ -136,7 +136,7 @@ module _ (below : LawsBelow) (job : Job) (limits : Limits) (hasher : DefaultHash
           fault = below.fault limits e t;
           end = below.end limits e t;
         };
-        ends = nothing_behind (outputs_of_text limits e t) (below.nothing_behind limits (head_events limits e t));
+        ends = nothing_after (outputs_of_text limits e t) (below.nothing_after limits (head_events limits e t));
         few = omega (arith, few, most);
       }
 

@@ -21,18 +21,18 @@ use Rattle.gregorio.proofs.StreamsOfOutputs.{EndsAtLast, going_on, in_body, one_
 
 -- ---- nothing stands after the last
 
-abbrev pub NothingBehind : List ScoreOutput → Type 0
-NothingBehind outputs = (before behind : List ScoreOutput) (o : ScoreOutput) → outputs ≡ before ++ o ∷ behind → is_last o ≡ true → behind ≡ []
+abbrev pub NothingAfter : List ScoreOutput → Type 0
+NothingAfter outputs = (before after : List ScoreOutput) (o : ScoreOutput) → outputs ≡ before ++ o ∷ after → is_last o ≡ true → after ≡ []
 
-behind_first : (x : ScoreOutput) (outputs : List ScoreOutput) → NothingBehind (x ∷ outputs) → NothingBehind outputs
-behind_first x outputs law before behind o e last = law (x ∷ before) behind o (ap (λ (l : List ScoreOutput). x ∷ l) e) last
+after_first : (x : ScoreOutput) (outputs : List ScoreOutput) → NothingAfter (x ∷ outputs) → NothingAfter outputs
+after_first x outputs law before after o e last = law (x ∷ before) after o (ap (λ (l : List ScoreOutput). x ∷ l) e) last
 
-pub nothing_behind : (outputs : List ScoreOutput) → NothingBehind outputs → EndsAtLast (Unit {0}) outputs
-nothing_behind [] law = tt
-nothing_behind (Found f ∷ outputs) law = nothing_behind outputs (behind_first (Found f) outputs law)
-nothing_behind (Stop fault ∷ outputs) law = (law [] outputs (Stop fault) refl refl, tt)
-nothing_behind (Syllable s ∷ outputs) law = nothing_behind outputs (behind_first (Syllable s) outputs law)
-nothing_behind (End ∷ outputs) law = (law [] outputs End refl refl, tt)
+pub nothing_after : (outputs : List ScoreOutput) → NothingAfter outputs → EndsAtLast (Unit {0}) outputs
+nothing_after [] law = tt
+nothing_after (Found f ∷ outputs) law = nothing_after outputs (after_first (Found f) outputs law)
+nothing_after (Stop fault ∷ outputs) law = (law [] outputs (Stop fault) refl refl, tt)
+nothing_after (Syllable s ∷ outputs) law = nothing_after outputs (after_first (Syllable s) outputs law)
+nothing_after (End ∷ outputs) law = (law [] outputs End refl refl, tt)
 
 -- ---- the headers
 

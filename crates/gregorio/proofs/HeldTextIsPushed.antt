@@ -13,7 +13,7 @@ use Rattle.gabc_headers.specs.declared.heads.Heads.{Heads}
 use Rattle.gabc_headers.specs.declared.heads.HeadFault.{HeadFault}
 use Rattle.gabc_headers.specs.Heads.{heads_of}
 use Rattle.gabc_headers.specs.HeldText.{IsHeld, findings_held, inputs_of, text_in}
-use Rattle.gabc_headers.specs.witness.HeadEvents.{HeaderStageState, HeadProgress, reading, behind, over, events_by, events_of_input, fresh_stage, new_findings, progress_after, progress_by, stage_after, stage_past}
+use Rattle.gabc_headers.specs.witness.HeadEvents.{HeaderStageState, HeadProgress, reading, after_headers, over, events_by, events_of_input, fresh_stage, new_findings, progress_after, progress_by, stage_after, stage_past}
 use Rattle.gregorio.specs.Outcome.{is_error_finding}
 use Rattle.gregorio.specs.machine.HeldHeaders.{HoldsSo, IsHeldSo, IsPushed, is_error_event}
 
@@ -35,11 +35,11 @@ text_past (y ∷ xs) x = ap (λ (cs : List ℕ). y.c ∷ cs) (text_past xs x)
 
 -- ---- a character
 
-abbrev pub IsFoundBehind : Type 0
-IsFoundBehind = (limits : Limits) (t : List ℕ) (c : ℕ) → All IsScalar t → IsScalar c → IsHeld limits t → IsHeld limits (t ++ c ∷ [])
+abbrev pub IsFoundAfter : Type 0
+IsFoundAfter = (limits : Limits) (t : List ℕ) (c : ℕ) → All IsScalar t → IsScalar c → IsHeld limits t → IsHeld limits (t ++ c ∷ [])
     → findings_held limits (t ++ c ∷ []) ≡ findings_held limits t ++ new_findings limits t (t ++ c ∷ [])
 
-module _ (law : IsFoundBehind) (limits : Limits) (t : List ℕ) (x : Char) (scalars : All IsScalar t) (scalar : IsScalar x.c) (error : Bool) (before : IsHeld limits t)
+module _ (law : IsFoundAfter) (limits : Limits) (t : List ℕ) (x : Char) (scalars : All IsScalar t) (scalar : IsScalar x.c) (error : Bool) (before : IsHeld limits t)
     (errors : error ≡ list_any is_error_finding (findings_held limits t)) where
   abbrev longer : List ℕ
   longer = t ++ x.c ∷ []
@@ -67,13 +67,13 @@ module _ (law : IsFoundBehind) (limits : Limits) (t : List ℕ) (x : Char) (scal
   holds_by (Ok heads) is = tt
   holds_by (Err stopped) is = holds_by_end stopped stopped.at_end is refl
 
-module _ (law : IsFoundBehind) (limits : Limits) (t : List ℕ) (x : Char) (scalars : All IsScalar t) (scalar : IsScalar x.c) (error : Bool) where
+module _ (law : IsFoundAfter) (limits : Limits) (t : List ℕ) (x : Char) (scalars : All IsScalar t) (scalar : IsScalar x.c) (error : Bool) where
   holds_on : (progress : HeadProgress) → HoldsSo limits t error progress
       → HoldsSo limits (t ++ x.c ∷ []) (error || list_any is_error_event (events_of_input limits progress (Ok x))) (progress_after limits progress (Ok x))
   holds_on (reading u) h =
       subst (λ (v : List ℕ). HoldsSo limits (t ++ x.c ∷ []) (error || list_any is_error_event (events_of_input limits (reading v) (Ok x))) (progress_after limits (reading v) (Ok x))) (sym h.text)
       (holds_by law limits t x scalars scalar error h.held h.errors (heads_of limits (t ++ x.c ∷ [])) refl)
-  holds_on (behind book) h = tt
+  holds_on (after_headers book) h = tt
   holds_on over h = tt
 
 past_limits : (xs : List Char) (h : HeaderStageState) → (stage_past h (inputs_of xs)).limits ≡ h.limits
@@ -83,7 +83,7 @@ past_limits (x ∷ xs) h = past_limits xs (stage_after h (Ok x))
 pub pushed_limits : (limits : Limits) (hasher : DefaultHasher) (t : List ℕ) (h : HeaderStageState) (error : Bool) → IsPushed limits hasher t h error → h.limits ≡ limits
 pushed_limits limits hasher t h error p = ap (λ (s : HeaderStageState). s.limits) p.past ∙ past_limits p.xs (fresh_stage limits hasher)
 
-pub pushed_on : IsFoundBehind → (limits : Limits) (hasher : DefaultHasher) (t : List ℕ) (x : Char) (old new : HeaderStageState) (error found : Bool) → IsScalar x.c → IsPushed limits hasher t old error → new ≡ stage_after old (Ok x)
+pub pushed_on : IsFoundAfter → (limits : Limits) (hasher : DefaultHasher) (t : List ℕ) (x : Char) (old new : HeaderStageState) (error found : Bool) → IsScalar x.c → IsPushed limits hasher t old error → new ≡ stage_after old (Ok x)
     → found ≡ list_any is_error_event (events_of_input old.limits old.progress (Ok x)) → IsPushed limits hasher (t ++ x.c ∷ []) new (error || found)
 pushed_on law limits hasher t x old new error found scalar p is found_is =
     let at = pushed_limits limits hasher t old error p in

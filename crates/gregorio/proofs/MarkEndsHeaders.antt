@@ -9,7 +9,7 @@ use Rattle.gabc_places.specs.declared.place.Char.{Char}
 use Rattle.gabc_headers.specs.HeldText.{inputs_of, text_in}
 use Rattle.gabc_headers.specs.Heads.{line_place, stop_at, too_long}
 use Rattle.gabc_headers.specs.witness.Heads.{heads_by}
-use Rattle.gabc_headers.specs.witness.HeadEvents.{HeadProgress, reading, behind, fresh_stage, progress_after, progress_by, progress_with, stage_at, stage_past}
+use Rattle.gabc_headers.specs.witness.HeadEvents.{HeadProgress, reading, after_headers, fresh_stage, progress_after, progress_by, progress_with, stage_at, stage_past}
 use Rattle.gregorio.specs.machine.HeldHeaders.{after_mark}
 
 -- where no limit is passed
@@ -19,7 +19,7 @@ one_by true e = absurd (false≢true (sym e))
 one_by false e = refl
 
 two_by : (b d : Bool) → b ≡ false → d ≡ false
-    → progress_by (37 ∷ 37 ∷ []) (heads_by (37 ∷ 37 ∷ []) (earliest (cond b (stop_at 1 (line_place 1) F4 ∷ []) [] ++ cond d (stop_at 1 (line_place 1) F7 ∷ []) []))) ≡ behind []
+    → progress_by (37 ∷ 37 ∷ []) (heads_by (37 ∷ 37 ∷ []) (earliest (cond b (stop_at 1 (line_place 1) F4 ∷ []) [] ++ cond d (stop_at 1 (line_place 1) F7 ∷ []) []))) ≡ after_headers []
 two_by true d e f = absurd (false≢true (sym e))
 two_by false true e f = absurd (false≢true (sym f))
 two_by false false e f = refl
@@ -27,12 +27,12 @@ two_by false false e f = refl
 one_percent : (limits : Limits) → progress_with limits [] 37 ≡ reading (37 ∷ [])
 one_percent limits = one_by (nat_lt limits.header 1) (le-ltb limits.header 1 (let h = limits.in_range.header_least in omega (arith, h)))
 
-two_percents : (limits : Limits) → progress_with limits (37 ∷ []) 37 ≡ behind []
+two_percents : (limits : Limits) → progress_with limits (37 ∷ []) 37 ≡ after_headers []
 two_percents limits =
     two_by (nat_lt limits.header 0) (nat_lt limits.input 3) (le-ltb limits.header 0 (omega arith)) (le-ltb limits.input 3 (let h = limits.in_range.input_least in omega (arith, h)))
 
-behind_two : (limits : Limits) (hasher : DefaultHasher) (x y : Char) → x.c ≡ 37 → y.c ≡ 37 → stage_past (fresh_stage limits hasher) (Ok x ∷ Ok y ∷ []) ≡ after_mark limits hasher
-behind_two limits hasher x y one two =
+after_two : (limits : Limits) (hasher : DefaultHasher) (x y : Char) → x.c ≡ 37 → y.c ≡ 37 → stage_past (fresh_stage limits hasher) (Ok x ∷ Ok y ∷ []) ≡ after_mark limits hasher
+after_two limits hasher x y one two =
     ap (λ (p : HeadProgress). stage_at (stage_at (fresh_stage limits hasher) p) (progress_after limits p (Ok y))) (ap (λ (c : ℕ). progress_with limits [] c) one ∙ one_percent limits)
     ∙ ap (λ (p : HeadProgress). stage_at (stage_at (fresh_stage limits hasher) (reading (37 ∷ []))) p) (ap (λ (c : ℕ). progress_with limits (37 ∷ []) c) two ∙ two_percents limits)
 
@@ -41,4 +41,4 @@ pub mark_ends : (limits : Limits) (hasher : DefaultHasher) (xs : List Char) → 
 mark_ends limits hasher [] is = absurd (cc is)
 mark_ends limits hasher (x ∷ []) is = absurd (cc is)
 mark_ends limits hasher (x ∷ y ∷ z ∷ xs) is = absurd (cc is)
-mark_ends limits hasher (x ∷ y ∷ []) is = behind_two limits hasher x y (cc is) (cc is)
+mark_ends limits hasher (x ∷ y ∷ []) is = after_two limits hasher x y (cc is) (cc is)

@@ -73,8 +73,8 @@ none_emitted lent (End ∷ outputs) h = no_item _ _ h
 -- ---- where they stop
 
 module _ {P : Type 0} (after : List HeadEvent → List (List ScoreEvent)) (old new : BoundedList ScoreEvent) (stops : StopsAtEnd is_last_event after old new) (score_is : EmitsNothing after → P) where
-  one_on : (before : List ScoreEvent) (x : ScoreEvent) (behind : List ScoreEvent) → new ≡ extended_by old (before ++ x ∷ behind) → new ≡ extended_by old ((before ++ x ∷ []) ++ behind)
-  one_on before x behind e = e ∙ ap (λ (l : List ScoreEvent). extended_by old l) (sym (append_assoc before (x ∷ []) behind))
+  one_on : (before : List ScoreEvent) (x : ScoreEvent) (later : List ScoreEvent) → new ≡ extended_by old (before ++ x ∷ later) → new ≡ extended_by old ((before ++ x ∷ []) ++ later)
+  one_on before x later e = e ∙ ap (λ (l : List ScoreEvent). extended_by old l) (sym (append_assoc before (x ∷ []) later))
 
   pub ends_at_last : (lent : BorrowedSyllable) (before : List ScoreEvent) (outputs : List ScoreOutput) → new ≡ extended_by old (before ++ events_borrowed lent outputs) → EndsAtLast P outputs
   ends_at_last lent before [] e = tt

@@ -6,7 +6,7 @@ use Rattle.std.proofs.KnownBytes.{Appends-nil, Appends-trans, Consumes-nil, Cons
 use Rattle.std.specs.Result.{OnErr}
 use Rattle.std.specs.Io.KnownBytes.{Appends, Consumes, Keeps}
 use Rattle.gabc_places.specs.Calls.{Calls, GoesOn, FailsOnce}
-use Rattle.gabc_places.proofs.CallsInTime.{goes_on_here, goes_on_behind, fails_behind}
+use Rattle.gabc_places.proofs.CallsInTime.{goes_on_here, goes_on_after, fails_after}
 use Rattle.gregorio.specs.declared.source_ending.SourceEnding.{SourceEnding}
 use Rattle.gregorio.specs.declared.source_ending.SourceEnding.TheVariants.{Broken}
 use Rattle.gregorio_jobs.specs.declared.job.Format.{Format}
@@ -25,8 +25,8 @@ on_err_any (Err e) h = h
 
 -- one sink fails after what both took
 one_fails : (a b c d e f : Calls) → GoesOn a b → GoesOn d e → (FailsOnce b c × GoesOn e f) ⊎ (GoesOn b c × FailsOnce e f) → (FailsOnce a c × GoesOn d f) ⊎ (GoesOn a c × FailsOnce d f)
-one_fails a b c d e f h k (inl x) = inl (fails_behind a b c h x.0, goes_on_behind d e f k x.1)
-one_fails a b c d e f h k (inr x) = inr (goes_on_behind a b c h x.0, fails_behind d e f k x.1)
+one_fails a b c d e f h k (inl x) = inl (fails_after a b c h x.0, goes_on_after d e f k x.1)
+one_fails a b c d e f h k (inr x) = inr (goes_on_after a b c h x.0, fails_after d e f k x.1)
 
 -- where nothing waited these bytes were taken
 abbrev pub IsTaken : EngineState → EngineState → List ℕ → Type 0
@@ -36,19 +36,19 @@ pub taken_from : (e f : EngineState) (piece : List ℕ) (count : ℕ) → Nothin
 taken_from e f piece count waits takes rest ending = sym (none_wait e waits (streams_left e ending (take count piece ++ rest))) ∙ takes.brings rest ending
 
 -- all after n bytes
-pub all_behind : (count : ℕ) (piece : List ℕ) → take (length piece - count) (drop count piece) ≡ drop count piece
-all_behind count piece = take_all (length piece - count) (drop count piece) (omega (arith, length-drop count piece))
+pub all_after : (count : ℕ) (piece : List ℕ) → take (length piece - count) (drop count piece) ≡ drop count piece
+all_after count piece = take_all (length piece - count) (drop count piece) (omega (arith, length-drop count piece))
 
 -- nothing waits in an engine that forgot what waited
-pub nothing_waits_behind : (f g : EngineState) → g ≡ record f { output = []; messages = [] } → NothingWaits g
-nothing_waits_behind f g h = subst NothingWaits (sym h) (record { output = refl; messages = refl })
+pub nothing_waits_after : (f g : EngineState) → g ≡ record f { output = []; messages = [] } → NothingWaits g
+nothing_waits_after f g h = subst NothingWaits (sym h) (record { output = refl; messages = refl })
 
 -- ---- points of the reading
 
 -- after bytes of which this was written a point of the rest is a point
-is_point_behind : (xs rest front : List ℕ) (ending at : SourceEnding) → IsPointOf rest ending front at → IsPointOf (xs ++ rest) ending (xs ++ front) at
-is_point_behind xs rest front ending at (inl p) = inl (p.0, (ap (λ (l : List ℕ). xs ++ l) p.1.0 ∙ sym (append_assoc xs front p.0), p.1.1))
-is_point_behind xs rest front ending at (inr p) = inr (ap (λ (l : List ℕ). xs ++ l) p.0, p.1)
+is_point_after : (xs rest front : List ℕ) (ending at : SourceEnding) → IsPointOf rest ending front at → IsPointOf (xs ++ rest) ending (xs ++ front) at
+is_point_after xs rest front ending at (inl p) = inl (p.0, (ap (λ (l : List ℕ). xs ++ l) p.1.0 ∙ sym (append_assoc xs front p.0), p.1.1))
+is_point_after xs rest front ending at (inr p) = inr (ap (λ (l : List ℕ). xs ++ l) p.0, p.1)
 
 -- a point before the end is one of more bytes, whatever ends them
 pub knows_longer : (e : EngineState) (xs rest : List ℕ) (ending : SourceEnding) (o l : List ℕ) → Knows e xs Broken o l → Knows e (xs ++ rest) ending o l
@@ -59,13 +59,13 @@ knows_longer e xs rest ending o l k = record { front = k.front; at = k.at; is_po
     by (inr p) = inl (rest, (ap (λ (x : List ℕ). x ++ rest) (sym p.0), p.1))
 
 -- after bytes of which this was written the same holds of what is known of the rest
-pub knows_behind : (e f : EngineState) (xs rest : List ℕ) (ending : SourceEnding) (output lines : List ℕ) → f.written.format ≡ e.written.format
+pub knows_after : (e f : EngineState) (xs rest : List ℕ) (ending : SourceEnding) (output lines : List ℕ) → f.written.format ≡ e.written.format
     → ((more : List ℕ) (at : SourceEnding) → streams_left e at (xs ++ more) ≡ after_bytes output lines (streams_left f at more))
     → (o l : List ℕ) → Knows f rest ending o l → Knows e (xs ++ rest) ending (output ++ o) (lines ++ l)
-knows_behind e f xs rest ending output lines format law o l k = record {
+knows_after e f xs rest ending output lines format law o l k = record {
   front = xs ++ k.front;
   at = k.at;
-  is_point = is_point_behind xs rest k.front ending k.at k.is_point;
+  is_point = is_point_after xs rest k.front ending k.at k.is_point;
   left = k.left;
   known = law k.front k.at ∙ (ap (after_bytes output lines) k.known ∙ sym (with_both_after output lines o l k.left));
   prompt = subst (λ (x : Format). IsPrompt x k.left) format k.prompt;
@@ -97,8 +97,8 @@ module _ {A B : Type 0} (wrote : A → Option (List ℕ)) (went : A → Calls) (
   sent_on o p q m n r xs ls ys ks s t = record {
     written = Appends-trans (wrote o) (wrote p) (wrote q) xs ys s.written t.written;
     messages_written = Appends-trans (emitted m) (emitted n) (emitted r) ls ks s.messages_written t.messages_written;
-    goes_on = goes_on_behind (went o) (went p) (went q) s.goes_on t.goes_on;
-    messages_go_on = goes_on_behind (went_too m) (went_too n) (went_too r) s.messages_go_on t.messages_go_on;
+    goes_on = goes_on_after (went o) (went p) (went q) s.goes_on t.goes_on;
+    messages_go_on = goes_on_after (went_too m) (went_too n) (went_too r) s.messages_go_on t.messages_go_on;
   }
 
   -- a point of what follows is one after what was sent
@@ -136,9 +136,9 @@ module _ {A B : Type 0} (wrote : A → Option (List ℕ)) (went : A → Calls) (
   }
 
   -- the output was sent, and the messages were cut
-  pub cut_behind_output : (o p : A) (m n : B) (xs ls : List ℕ) (count : ℕ) → count < length ls → Appends (wrote o) (wrote p) xs → Appends (emitted m) (emitted n) (take count ls) → GoesOn (went o) (went p) → FailsOnce (went_too m) (went_too n)
+  pub cut_after_output : (o p : A) (m n : B) (xs ls : List ℕ) (count : ℕ) → count < length ls → Appends (wrote o) (wrote p) xs → Appends (emitted m) (emitted n) (take count ls) → GoesOn (went o) (went p) → FailsOnce (went_too m) (went_too n)
       → AreCut (NoneOrAll xs ls) (used wrote went o p) (used emitted went_too m n) xs ls
-  cut_behind_output o p m n xs ls count less w t g f = record {
+  cut_after_output o p m n xs ls count less w t g f = record {
     output_count = length xs;
     lines_count = count;
     output_within = omega arith;
@@ -186,7 +186,7 @@ module _ {A B : Type 0} (wrote : A → Option (List ℕ)) (went : A → Calls) (
   cut_by o p q m n r e f xs rest ending a c =
       let s = streams_left f ending rest in
       subst (λ (y : Streams). AreCut (Knows e (xs ++ rest) ending) (used wrote went o q) (used emitted went_too m r) y.output y.messages) (sym (a.law rest ending))
-      (cut_after (Knows f rest ending) (Knows e (xs ++ rest) ending) o p q m n r a.output a.lines s.output s.messages (knows_behind e f xs rest ending a.output a.lines a.prompt.format a.law) a.sent c)
+      (cut_after (Knows f rest ending) (Knows e (xs ++ rest) ending) o p q m n r a.output a.lines s.output s.messages (knows_after e f xs rest ending a.output a.lines a.prompt.format a.law) a.sent c)
 
   -- what a front of the rest of a piece brings is sent
   pub front_is_sent : (o p q : A) (m n r : B) (e f g h : EngineState) (piece rest : List ℕ) (count k : ℕ) → rest ≡ drop count piece
@@ -238,7 +238,7 @@ module _ {A B : Type 0} (wrote : A → Option (List ℕ)) (went : A → Calls) (
       counted = omega (arith, a.counted, k_is, length-append a.bytes xs);
       reads = omega (arith, a.reads, once, some);
       consumed = Consumes-trans (left s) (left t) (left u) a.bytes xs a.consumed c;
-      goes_on = goes_on_behind (reads_went s) (reads_went t) (reads_went u) a.goes_on st;
+      goes_on = goes_on_after (reads_went s) (reads_went t) (reads_went u) a.goes_on st;
       fed = fed_on o p q m n r e f g a.bytes xs a.fed b;
     }
 
@@ -248,7 +248,7 @@ module _ {A B : Type 0} (wrote : A → Option (List ℕ)) (went : A → Calls) (
     in_part limit s t u o p q m n r e f xs count a c g once some within cut = record {
       bytes = a.bytes ++ xs;
       consumed = Consumes-trans (left s) (left t) (left u) a.bytes xs a.consumed c;
-      goes_on = goes_on_behind (reads_went s) (reads_went t) (reads_went u) a.goes_on g;
+      goes_on = goes_on_after (reads_went s) (reads_went t) (reads_went u) a.goes_on g;
       reads = omega (arith, a.reads, a.counted, once, some, length-append a.bytes xs);
       within = omega (arith, a.counted, within, length-append a.bytes xs);
       cut = cut_by o p q m n r e f a.bytes xs Broken a.fed (cut Broken);
@@ -257,7 +257,7 @@ module _ {A B : Type 0} (wrote : A → Option (List ℕ)) (went : A → Calls) (
     pub all_broken : (limit : ℕ) (s t u : C) (o p : A) (m n : B) (e f : EngineState) (count : ℕ) → IsFedFrom (used left reads_went s t) (used wrote went o p) (used emitted went_too m n) e f count
         → Keeps (left t) (left u) → FailsOnce (reads_went t) (reads_went u) → (reads_went u).made ≡ (reads_went t).made + 1 → count ≤ limit + 1 → IsFedAll limit (used left reads_went s u) (used wrote went o p) (used emitted went_too m n) e f Broken
     all_broken limit s t u o p m n e f count a k fails once within =
-        let all : FailsOnce (reads_went s) (reads_went u) = fails_behind (reads_went s) (reads_went t) (reads_went u) a.goes_on fails in
+        let all : FailsOnce (reads_went s) (reads_went u) = fails_after (reads_went s) (reads_went t) (reads_went u) a.goes_on fails in
         record {
           bytes = a.bytes;
           reads = record {

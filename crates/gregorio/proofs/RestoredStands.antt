@@ -15,7 +15,7 @@ use Rattle.gabc_places.specs.declared.limits.Limits.{Limits}
 use Rattle.gabc_places.specs.declared.place.Place.{Place}
 use Rattle.gabc_headers.specs.HeldText.{holding}
 use Rattle.gabc_headers.specs.declared.head_event.HeadEvent.{HeadEvent}
-use Rattle.gabc_headers.specs.witness.HeadEvents.{HeaderStageState, reading, behind}
+use Rattle.gabc_headers.specs.witness.HeadEvents.{HeaderStageState, reading, after_headers}
 use Rattle.gabc_score.specs.Syllable.{UnplacedSyllable}
 use Rattle.gabc_score.specs.ScoreReports.{IsAt, held_of}
 use Rattle.gabc_score.specs.declared.score_machine.ScorePart.TheVariants as score_part
@@ -136,7 +136,7 @@ module _ (job : Job) (s : StateFields) (limits : Limits) (is_job : IsOfJob job l
       headed : w.writer.written.headed ≡ true
       headed = ap (λ (v : Written). v.headed) is_w
 
-      body_parts : AreInOnePart (behind []) w.score.part w.writer.written.headed
+      body_parts : AreInOnePart (after_headers []) w.score.part w.writer.written.headed
       body_parts = record { in_part = d.body; written_so = headed }
 
       pub engine_in_score : IsEngine decoder (after_mark limits hasher) from_heads w
@@ -170,7 +170,7 @@ module _ (job : Job) (s : StateFields) (limits : Limits) (is_job : IsOfJob job l
             next = d.next;
             told = d.told;
             holds = d.holds;
-            comment = λ behind_cr. ap (λ (g : ScoreFields). g.in_comment) d.tells ∙ are.comment.cr (sym cr ∙ behind_cr);
+            comment = λ was_cr. ap (λ (g : ScoreFields). g.in_comment) d.tells ∙ are.comment.cr (sym cr ∙ was_cr);
           };
         };
       }

@@ -156,10 +156,10 @@ final_is_over score_part.Body (head_event.Found f) outputs final last = absurd (
 final_is_over score_part.Body (head_event.Heads lines macros canonical) outputs final last = absurd (cc final)
 
 -- after an event no more is needed than was left after it
-needed_behind : (old new : ScorePart) (x : HeadEvent) (outputs : List ScoreOutput) (one rest : ℕ) → new ≡ part_past old x outputs
+needed_after : (old new : ScorePart) (x : HeadEvent) (outputs : List ScoreOutput) (one rest : ℕ) → new ≡ part_past old x outputs
     → ((old ≡ score_part.Over → ⊥) → is_final x ≡ true → list_any is_last outputs ≡ true)
     → needed_in old one + needed_in new rest ≤ needed_in old (one + (if is_final x then 0 else rest))
-needed_behind old new x outputs one rest is last = by old (is_final x) refl refl
+needed_after old new x outputs one rest is last = by old (is_final x) refl refl
   where
     over : (part : ScorePart) → part ≡ score_part.Over → needed_in part rest ≡ 0
     over part e = ap (λ (p : ScorePart). needed_in p rest) e
@@ -214,12 +214,12 @@ heads_same old new steady headed =
     ∙ ap (λ (limits : Limits). heads_left old.writer.written limits.header) steady.limits)
 
 -- after an event there is room for those that follow
-pub room_behind : (old new : ScoreWriterState) (x : HeadEvent) (outputs : List ScoreOutput) (ends : Bool) (events : List HeadEvent) → IsSteady old new → new.writer.written.headed ≡ old.writer.written.headed
+pub room_after : (old new : ScoreWriterState) (x : HeadEvent) (outputs : List ScoreOutput) (ends : Bool) (events : List HeadEvent) → IsSteady old new → new.writer.written.headed ≡ old.writer.written.headed
     → new.score.part ≡ part_past old.score.part x outputs → ((old.score.part ≡ score_part.Over → ⊥) → is_final x ≡ true → list_any is_last outputs ≡ true)
     → IsInRoom old.score.limits (length old.writer.messages.items + 16 * line_room old.writer.written.name)
     (length old.writer.out.items + needed_in old.score.part (event_room old.writer.written.format old.score.limits.syllable x)) new.writer []
     → FitsEvents old ends (x ∷ events) → FitsEvents new ends events
-room_behind old new x outputs ends events steady headed part last room h =
+room_after old new x outputs ends events steady headed part last room h =
     let lines_same : (length events + 1) * (16 * line_room new.writer.written.name) ≡ (length events + 1) * (16 * line_room old.writer.written.name) =
     ap (λ (name : List ℕ). (length events + 1) * (16 * line_room name)) steady.name in
     let Room : Format → ℕ → ℕ = λ format limit. needed_in new.score.part (events_room format limit ends events) in
@@ -227,10 +227,10 @@ room_behind old new x outputs ends events steady headed part last room h =
     ap (λ (format : Format). Room format new.score.limits.syllable) steady.format ∙ ap (λ (limits : Limits). Room old.writer.written.format limits.syllable) steady.limits in
     let one = event_room old.writer.written.format old.score.limits.syllable x in
     let rest = events_room old.writer.written.format old.score.limits.syllable ends events in
-    let behind = needed_behind old.score.part new.score.part x outputs one rest part last in
+    let after = needed_after old.score.part new.score.part x outputs one rest part last in
     let kept = heads_same old new steady headed in
     let limit_same : new.score.limits.syllable ≡ old.score.limits.syllable = ap (λ (limits : Limits). limits.syllable) steady.limits in
     record {
       lines = omega (arith, room.lines, h.lines, lines_same, one_more (length events) (16 * line_room old.writer.written.name), steady.messages);
-      texts = omega (arith, room.texts, h.texts, texts_same, behind, kept, steady.out);
+      texts = omega (arith, room.texts, h.texts, texts_same, after, kept, steady.out);
     }

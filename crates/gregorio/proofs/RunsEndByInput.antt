@@ -8,7 +8,7 @@ use Rattle.gregorio.specs.declared.run_ending.RunEnding.{RunEnding}
 use Rattle.gregorio.specs.declared.run_ending.RunEnding.TheVariants.{Whole, Errors, Fatal, ReadFault}
 use Rattle.gregorio.specs.declared.source_ending.SourceEnding.{SourceEnding}
 use Rattle.gregorio.specs.Engine.{EndsByInput}
-use Rattle.gregorio.specs.witness.Engine.{EngineState, Written, after_heads, after_outputs, book_behind, ceased_ending, first_list, head_events_left, items_left, status_of_ending, streams_from, streams_left, writes_heads}
+use Rattle.gregorio.specs.witness.Engine.{EngineState, Written, after_heads, after_outputs, book_after, ceased_ending, first_list, head_events_left, items_left, status_of_ending, streams_from, streams_left, writes_heads}
 
 ended_so : (how : RunEnding) → EndsByInput (status_of_ending how)
 ended_so Whole = tt
@@ -24,4 +24,4 @@ pub ends_by_input : (e : EngineState) (ending : SourceEnding) (bytes : List ℕ)
 ends_by_input e ending bytes =
     let items = items_left e ending bytes in
     let from_heads = head_events_left e.heads ending items in
-    ends e.written (book_behind e.heads items) from_heads (left_of e.score from_heads)
+    ends e.written (book_after e.heads items) from_heads (left_of e.score from_heads)

@@ -52,9 +52,9 @@ lines_are : (n : ℕ) (force : InForce) (ss : List PlacedSyllable) → n + lengt
 lines_are n force [] h = refl
 lines_are n force (s ∷ ss) h =
     let e = next_is n (omega (arith, h)) in
-    let behind = force_after Dump force s in
-    ap (λ (k : ℕ). lines_of_syllable k force s ++ texts_after Dump k behind ss) e
-    ∙ ap (λ (t : List ℕ). lines_of_syllable (n + 1) force s ++ t) (lines_are (n + 1) behind ss (omega (arith, h)))
+    let after = force_after Dump force s in
+    ap (λ (k : ℕ). lines_of_syllable k force s ++ texts_after Dump k after ss) e
+    ∙ ap (λ (t : List ℕ). lines_of_syllable (n + 1) force s ++ t) (lines_are (n + 1) after ss (omega (arith, h)))
 
 canonical_are : (n : ℕ) (force : InForce) (ss : List PlacedSyllable) → texts_after Gabc n force ss ≡ flat_map canonical_in_place ss
 canonical_are n force [] = refl

@@ -2,7 +2,7 @@
 use Rattle.std.specs.Prelude.{◌≡◌, ℕ, ◌+◌, ◌==◌, ◌||◌, List, [], length, Bool, Option, Some, None, encode_utf8_all}
 use Rattle.std.specs.List.{list_any}
 use Rattle.gabc_headers.specs.HeldText.{IsHeld, findings_held}
-use Rattle.gabc_headers.specs.witness.HeadEvents.{HeadProgress, reading, behind, over}
+use Rattle.gabc_headers.specs.witness.HeadEvents.{HeadProgress, reading, after_headers, over}
 use Rattle.gabc_neumes.specs.InForce.{InForce}
 use Rattle.gabc_places.specs.DecoderReports.{is_after_cr}
 use Rattle.gabc_places.specs.Place.{place_after}
@@ -51,7 +51,7 @@ score_fields force s =
 -- in the headers their text so far
 abbrev pub phase_fields : HeadProgress → InForce → ScoreStageState → PhaseFields
 phase_fields (reading t) force s = InHeaders (encode_utf8_all t)
-phase_fields (behind book) force s = InScore (score_fields force s)
+phase_fields (after_headers book) force s = InScore (score_fields force s)
 phase_fields over force s = InScore (score_fields force s)
 
 -- the state of an engine that runs, and of which nothing waits

@@ -109,7 +109,7 @@ pub(crate) fn what_is_saved_is_a_state(engine: &Engine)
 /// Law: after its headers an engine that runs stands in the body.
 pub(crate) fn the_body_comes_after_the_headers(engine: &Engine)
     requires runs { is_running engine.now ≡ true }
-    requires behind { IsInHeaders engine.now.heads.progress → ⊥ }
+    requires after { IsInHeaders engine.now.heads.progress → ⊥ }
     ensures { engine.now.score.part ≡ Body }
 {
     an_engine_may_run(engine);

@@ -102,7 +102,7 @@ fn heads_holding(
 }
 
 /// Returns a stage of headers after their line `%%`.
-fn heads_behind(
+fn heads_after(
     memory: &Memory,
     limits: Limits,
     hasher: DefaultHasher,
@@ -169,7 +169,7 @@ fn writer_of(
         Phase::Headers(_) => writer.go_on_in_headers(state.has_error),
         Phase::Score(fields) => {
             let count = u64::from(fields.syllables.saturating_sub(1));
-            writer.go_on_behind(count, force_of(fields), state.has_error);
+            writer.go_on_after(count, force_of(fields), state.has_error);
         }
     }
     Ok(writer)
@@ -306,7 +306,7 @@ fn engine_in_score(
     ensures never { result ≡ Err StateFault.K2 → ⊥ }
 {
     let score = set_down(memory, state, fields)?;
-    match heads_behind(memory, limits, hasher) {
+    match heads_after(memory, limits, hasher) {
         Ok(heads) => engine_with(memory, job, limits, state, heads, score),
         Err(fault) => {
             drop(score);

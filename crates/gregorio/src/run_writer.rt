@@ -133,7 +133,7 @@ impl RunWriter {
 
     /// Goes on after the headers and `count` syllables that were written, after which `alterations`
     /// are in force. An error was found or not.
-    pub(crate) fn go_on_behind(&mut self, count: u64, alterations: Alterations, errors: bool)
+    pub(crate) fn go_on_after(&mut self, count: u64, alterations: Alterations, errors: bool)
         ensures { self.new ≡ record self.old {
           written = record self.old.written {
             headed = true;

@@ -59,7 +59,7 @@ fn event_room(memory: &Memory) -> Result<Room<ScoreEvent>, StateFault>
 
 /// Returns a stage in `memory` under the limits of `state` that stands after what stands before the
 /// syllable of which `fields` have the text.
-fn stage_behind(
+fn stage_after(
     memory: &Memory,
     state: &StateFields<'_>,
     fields: &ScoreFields<'_>,
@@ -179,7 +179,7 @@ pub(crate) fn set_down(
     ensures never { result ≡ Err StateFault.K2 → ⊥ }
 {
     let mut room = event_room(memory)?;
-    let mut stage = stage_behind(memory, state, fields)?;
+    let mut stage = stage_after(memory, state, fields)?;
     if read_texts(&mut stage, state, fields, &mut room) {
         Ok(stage)
     } else {

@@ -102,10 +102,10 @@ line_at place code = fault_line stdin_name (Some (record { place = place; code =
 pub line_is_read : (place : Place) (code : Code) (rest : List ℕ) → messages_in before_line (line_at place code ++ rest) ≡ as_read (message_at place code) ∷ messages_in before_line rest
 line_is_read place code rest =
     ap (messages_in before_line) joined
-    ∙ digits_stay Line nothing (decimal place.line) behind_line (decimal_are_digits place.line)
-    ∙ ap (λ m. messages_in (in_field Line m) behind_line) (line_onto nothing (decimal place.line))
-    ∙ digits_stay Column with_line (decimal place.column) behind_column (decimal_are_digits place.column)
-    ∙ ap (λ m. messages_in (in_field Column m) behind_column) (column_onto with_line (decimal place.column))
+    ∙ digits_stay Line nothing (decimal place.line) after_line (decimal_are_digits place.line)
+    ∙ ap (λ m. messages_in (in_field Line m) after_line) (line_onto nothing (decimal place.line))
+    ∙ digits_stay Column with_line (decimal place.column) after_column (decimal_are_digits place.column)
+    ∙ ap (λ m. messages_in (in_field Column m) after_column) (column_onto with_line (decimal place.column))
     ∙ code_is_read code (number_onto 0 (decimal place.line)) (number_onto 0 (decimal place.column)) rest
   where
     nothing : Message
@@ -114,11 +114,11 @@ line_is_read place code rest =
     with_line : Message
     with_line = record nothing { line = number_onto 0 (decimal place.line) }
 
-    behind_column : List ℕ
-    behind_column = codes ": " ++ (code_text code ++ (10 ∷ rest))
+    after_column : List ℕ
+    after_column = codes ": " ++ (code_text code ++ (10 ∷ rest))
 
-    behind_line : List ℕ
-    behind_line = 58 ∷ (decimal place.column ++ behind_column)
+    after_line : List ℕ
+    after_line = 58 ∷ (decimal place.column ++ after_column)
 
-    joined : line_at place code ++ rest ≡ stdin_name ++ (58 ∷ (decimal place.line ++ behind_line))
+    joined : line_at place code ++ rest ≡ stdin_name ++ (58 ∷ (decimal place.line ++ after_line))
     joined = simp append_assoc refl

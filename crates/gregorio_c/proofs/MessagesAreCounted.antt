@@ -37,9 +37,9 @@ are_as_read count (message ∷ messages) below =
         → cond b (min (count + 1) most) most < most → AreAsRead count (message ∷ messages)
     by true has rest lt =
         let next : counted_by count (as_read message) ≡ count + 1 = rw has (omega (arith, lt)) in
-        let behind = rest (count + 1) (subst (λ n. counted_after n (map as_read messages) < 2 ^ 64 - 1) next below) in
+        let after = rest (count + 1) (subst (λ n. counted_after n (map as_read messages) < 2 ^ 64 - 1) next below) in
         record {
-          same = ap₂ (λ m ms. m ∷ ms) (message_is_read message has) behind.same;
-          counted = ap (λ n. counted_after n (map as_read messages)) next ∙ behind.counted ∙ omega arith;
+          same = ap₂ (λ m ms. m ∷ ms) (message_is_read message has) after.same;
+          counted = ap (λ n. counted_after n (map as_read messages)) next ∙ after.counted ∙ omega arith;
         }
     by false has rest lt = absurd (omega (arith, lt))

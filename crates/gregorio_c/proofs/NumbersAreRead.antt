@@ -36,13 +36,13 @@ one_more j n w big (inr (inr (inl none))) = elim (digit_is w (n % 10)) [ inl e �
 one_more j n w big (inr (inr (inr long))) = elim (digit_is w (n % 10)) [ inl e ↦ inl e | inr e ↦ inr (inr (inr (omega (arith, e, pow-suc 10 j)))) ]
 
 -- the number of digits, after which others stand
-pub record ReadBehind (k n : ℕ) (acc digits : List ℕ) : Type 0 where
+pub record ReadAfter (k n : ℕ) (acc digits : List ℕ) : Type 0 where
   pub number : ℕ
-  pub behind : number_onto 0 digits ≡ number_onto number acc
+  pub after : number_onto 0 digits ≡ number_onto number acc
   pub is : IsReadOf k n number
 
-onto_is : (k n : ℕ) (acc : List ℕ) → ReadBehind k n acc (digits_onto k 10 false n acc)
-onto_is zero n acc = record { number = 0; behind = refl; is = inr (inr (inl (refl, refl))) }
+onto_is : (k n : ℕ) (acc : List ℕ) → ReadAfter k n acc (digits_onto k 10 false n acc)
+onto_is zero n acc = record { number = 0; after = refl; is = inr (inr (inl (refl, refl))) }
 onto_is (suc k) n acc = by (λ d. onto_is k (n / 10) (d ∷ acc)) (n / 10 == 0) refl
   where
     g : ℕ
@@ -56,15 +56,15 @@ onto_is (suc k) n acc = by (λ d. onto_is k (n / 10) (d ∷ acc)) (n / 10 == 0) 
         subst (λ c. IsReadOf (suc k) n (with_digit 0 c)) (sym is_digit)
         (elim (digit_is 0 (n % 10)) [ inl most_is ↦ inl most_is | inr is ↦ inr (inl (omega (arith, is.0, e))) ])
 
-    more : (n / 10 ≡ 0 → ⊥) → ReadBehind k (n / 10) (g ∷ acc) (digits_onto k 10 false (n / 10) (g ∷ acc)) → ReadBehind (suc k) n acc (digits_onto k 10 false (n / 10) (g ∷ acc))
+    more : (n / 10 ≡ 0 → ⊥) → ReadAfter k (n / 10) (g ∷ acc) (digits_onto k 10 false (n / 10) (g ∷ acc)) → ReadAfter (suc k) n acc (digits_onto k 10 false (n / 10) (g ∷ acc))
     more some rest = record {
       number = with_digit rest.number g;
-      behind = rest.behind;
+      after = rest.after;
       is = subst (λ c. IsReadOf (suc k) n (with_digit rest.number c)) (sym is_digit) (one_more k n rest.number (omega (arith, some)) rest.is);
     }
 
-    by : ((d : ℕ) → ReadBehind k (n / 10) (d ∷ acc) (digits_onto k 10 false (n / 10) (d ∷ acc))) → (b : Bool) → (n / 10 == 0) ≡ b → ReadBehind (suc k) n acc (cond b (g ∷ acc) (digits_onto k 10 false (n / 10) (g ∷ acc)))
-    by rest true e = record { number = with_digit 0 g; behind = refl; is = last (eqb-true (n / 10) 0 e) }
+    by : ((d : ℕ) → ReadAfter k (n / 10) (d ∷ acc) (digits_onto k 10 false (n / 10) (d ∷ acc))) → (b : Bool) → (n / 10 == 0) ≡ b → ReadAfter (suc k) n acc (cond b (g ∷ acc) (digits_onto k 10 false (n / 10) (g ∷ acc)))
+    by rest true e = record { number = with_digit 0 g; after = refl; is = last (eqb-true (n / 10) 0 e) }
     by rest false e = more (eqb-false (n / 10) 0 e) (rest g)
 
 pub number_is_read : (n : ℕ) → number_onto 0 (decimal n) < 2 ^ 64 - 1 → number_onto 0 (decimal n) ≡ n
@@ -72,8 +72,8 @@ unfolding digits
 number_is_read n small =
     let read = onto_is 64 n [] in
     let w = read.number in
-    let below : w < most = subst (λ v. v < most) read.behind small in
-    read.behind ∙ elim read.is [
+    let below : w < most = subst (λ v. v < most) read.after small in
+    read.after ∙ elim read.is [
       | inl most_is ↦ absurd (omega (arith, below, most_is))
       | inr (inl same) ↦ same
       | inr (inr (inl none)) ↦ absurd (omega (arith, none.0))

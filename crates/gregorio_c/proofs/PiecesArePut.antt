@@ -32,8 +32,8 @@ joined_both : (one more : List (Bor (List ℕ))) → joined (one ++ more) ≡ jo
 joined_both [] more = refl
 joined_both (p ∷ one) more = ap (λ (bytes : List ℕ). p.now ++ bytes) (joined_both one more) ∙ sym (append_assoc p.now (joined one) (joined more))
 
-joined_behind : (pieces : List (Bor (List ℕ))) (piece : Bor (List ℕ)) → joined (pieces ++ (piece ∷ [])) ≡ joined pieces ++ piece.now
-joined_behind pieces piece = joined_both pieces (piece ∷ []) ∙ ap (λ (bytes : List ℕ). joined pieces ++ bytes) (append-nil piece.now)
+joined_after : (pieces : List (Bor (List ℕ))) (piece : Bor (List ℕ)) → joined (pieces ++ (piece ∷ [])) ≡ joined pieces ++ piece.now
+joined_after pieces piece = joined_both pieces (piece ∷ []) ∙ ap (λ (bytes : List ℕ). joined pieces ++ bytes) (append-nil piece.now)
 
 -- the heads of the buffers, where all that was made stands in them
 record Took (made : Made) (state output messages : Buffer) (number : ℕ) : Type 0 where
@@ -181,7 +181,7 @@ module _ (job : Job) (limits : Limits) (before : List ℕ) (left : Writes) (stan
 
 -- a piece stands after those before it
 pub joined_next : (pieces : List (Bor (List ℕ))) (count : ℕ) (piece : Bor (List ℕ)) → take (count + 1) pieces ≡ take count pieces ++ (piece ∷ []) → joined (take (count + 1) pieces) ≡ joined (take count pieces) ++ piece.now
-joined_next pieces count piece is = ap (λ (l : List (Bor (List ℕ))). joined l) is ∙ joined_behind (take count pieces) piece
+joined_next pieces count piece is = ap (λ (l : List (Bor (List ℕ))). joined l) is ∙ joined_after (take count pieces) piece
 
 -- after a piece stand those that follow
 pub joined_rest : (pieces : List (Bor (List ℕ))) (count : ℕ) → joined (take count pieces) ++ joined (drop count pieces) ≡ joined pieces

@@ -46,7 +46,7 @@ fn number_with(number: u64, byte: u8) -> u64
 
 /// Returns the number of a severity once `byte` of its word is read: one letter of each word is
 /// enough it.
-fn severity_behind(severity: u32, byte: u8) -> u32
+fn severity_after(severity: u32, byte: u8) -> u32
     ensures { result ≡ severity_with severity byte }
 {
     match byte {
@@ -59,7 +59,7 @@ fn severity_behind(severity: u32, byte: u8) -> u32
 
 /// Returns the number of a code once `byte` of its name is read: its letter gives the hundreds, and
 /// its digits what is after them.
-fn code_behind(code: u32, byte: u8) -> u32
+fn code_after(code: u32, byte: u8) -> u32
     ensures { result ≡ code_with code byte }
 {
     match byte {
@@ -75,7 +75,7 @@ fn code_behind(code: u32, byte: u8) -> u32
 }
 
 /// Returns `message` once `byte` is read in `field`.
-fn message_behind(field: Field, message: Message, byte: u8) -> Message
+fn message_after(field: Field, message: Message, byte: u8) -> Message
     ensures { result ≡ message_with field message byte }
 {
     match field {
@@ -89,11 +89,11 @@ fn message_behind(field: Field, message: Message, byte: u8) -> Message
             ..message
         },
         Field::Kind => Message {
-            severity: severity_behind(message.severity, byte),
+            severity: severity_after(message.severity, byte),
             ..message
         },
         Field::Code => Message {
-            code: code_behind(message.code, byte),
+            code: code_after(message.code, byte),
             ..message
         },
     }
@@ -134,7 +134,7 @@ impl LineReader {
                 None
             }
             _ => {
-                self.message = message_behind(self.field, self.message, byte);
+                self.message = message_after(self.field, self.message, byte);
                 None
             }
         }

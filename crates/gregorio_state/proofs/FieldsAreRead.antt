@@ -12,7 +12,7 @@ use Rattle.gabc_neumes.specs.declared.sound.Clef.{Clef}
 use Rattle.gregorio_jobs.specs.declared.job.Format.{Format}
 use Rattle.gregorio_jobs.specs.declared.job.Format.TheVariants as format
 use Rattle.gregorio_state.specs.StateBytes.{number_bytes, flag_bytes, text_bytes, place_bytes, opener_bytes, spans_number, format_number, clef_bytes, alter_number}
-use Rattle.gregorio_state.specs.machine.Reading.{number_at, front_at, flag_at, format_at, spans_at, text_at, pending_at, place_at, opener_of, opener_at, clef_at, alter_of, alters_of, alters_at, behind_tag, limits_at, last_text}
+use Rattle.gregorio_state.specs.machine.Reading.{number_at, front_at, flag_at, format_at, spans_at, text_at, pending_at, place_at, opener_of, opener_at, clef_at, alter_of, alters_of, alters_at, after_tag, limits_at, last_text}
 use Rattle.gregorio_state.proofs.NumbersAreRead.{wide_16, wide_32, wide_64, number_again}
 use Rattle.gregorio_state.proofs.TextsAreRead.{text_read}
 
@@ -104,8 +104,8 @@ alters_again alters rest len = rw (front, each_again alters) refl
     front : front_at 15 (map alter_number alters ++ rest) ≡ Some (map alter_number alters, rest)
     front = ap (λ (n : ℕ). front_at n (map alter_number alters ++ rest)) (sym numbers) ∙ front_again (map alter_number alters) rest
 
-pub tag_again : (rest : List ℕ) → behind_tag (codes "GSAV" ++ 3 ∷ rest) ≡ Some rest
-unfolding behind_tag
+pub tag_again : (rest : List ℕ) → after_tag (codes "GSAV" ++ 3 ∷ rest) ≡ Some rest
+unfolding after_tag
 tag_again rest = refl
 
 pub end_again : (t : List ℕ) → IsUtf8 t → length t < 2 ^ 32 → last_text (text_bytes t ++ []) ≡ Some t

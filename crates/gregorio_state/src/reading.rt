@@ -6,7 +6,7 @@ ghost use Rattle.std.specs.Str.{IsUtf8};
 ghost use Rattle.gregorio_state.specs.StateBytes.{number_bytes, flag_bytes, text_bytes, place_bytes, opener_bytes, spans_number, format_number, clef_bytes, alter_number, score_bytes, phase_bytes, state_bytes};
 ghost use Rattle.gregorio_state.specs.Fields.{StateFields as Fields, score_of, phase_of, fields_of};
 ghost use Rattle.gregorio_state.specs.Conditions.{AreStateFields};
-ghost use Rattle.gregorio_state.specs.machine.Reading.{Gives, byte_at, number_at, flag_of, flag_at, format_of, format_at, spans_of, spans_at, text_of, text_at, pending_at, place_at, opener_at, clef_of, clef_at, alter_of, alters_of, alters_at, behind_tag, limits_of, limits_at, last_text, score_of_bytes, phase_of_bytes, state_of_bytes};
+ghost use Rattle.gregorio_state.specs.machine.Reading.{Gives, byte_at, number_at, flag_of, flag_at, format_of, format_at, spans_of, spans_at, text_of, text_at, pending_at, place_at, opener_at, clef_of, clef_at, alter_of, alters_of, alters_at, after_tag, limits_of, limits_at, last_text, score_of_bytes, phase_of_bytes, state_of_bytes};
 
 use crate::fields::{Phase, ScoreFields, StateFields};
 use gabc_neumes::{Alter, Clef};
@@ -247,9 +247,9 @@ fn alter_of(number: u8) -> Option<Alter>
 }
 
 /// Returns what follows `GSAV` and the version 3.
-#[tactic(auto, unfolding(crate::specs::machine::Reading::behind_tag))]
-fn behind_tag(bytes: &[u8]) -> Option<&[u8]>
-    ensures read { Gives (λ rest. rest.now) result (behind_tag bytes.now) }
+#[tactic(auto, unfolding(crate::specs::machine::Reading::after_tag))]
+fn after_tag(bytes: &[u8]) -> Option<&[u8]>
+    ensures read { Gives (λ rest. rest.now) result (after_tag bytes.now) }
     ensures written { IfSome result
         (λ rest. bytes.now ≡ codes "GSAV" ++ (3 ∷ []) ++ rest.now) }
 {
@@ -379,7 +379,7 @@ fn state_of_bytes(bytes: &[u8]) -> Option<StateFields<'_>>
     ensures read { Gives fields_of result (state_of_bytes bytes.now) }
     ensures written { IfSome result (λ s. bytes.now ≡ state_bytes (fields_of s)) }
 {
-    let rest = behind_tag(bytes)?;
+    let rest = after_tag(bytes)?;
     let (format, rest) = format_at(rest)?;
     let (all_warnings, rest) = flag_at(rest)?;
     let (limits, rest) = limits_at(rest)?;

@@ -54,7 +54,7 @@ impl Fed {
 
     /// Returns whether this many bytes can be all that are taken when a run goes on no more: it
     /// went on before the last of them.
-    fn stops_behind(&self, count: usize) -> bool {
+    fn stops_after(&self, count: usize) -> bool {
         match self.points.as_slice().get(count.saturating_sub(2)) {
             Some(point) => count < 2 || point.goes_on,
             None => true,
@@ -111,7 +111,7 @@ fn fill_piece(engine: &mut Engine, piece: &[u8], count: usize, fed: &Fed) -> Opt
     let ran = engine.running();
     let taken = engine.fill(piece);
     let stopped = ran && !engine.running();
-    if stopped && !fed.stops_behind(count.saturating_add(taken)) {
+    if stopped && !fed.stops_after(count.saturating_add(taken)) {
         return None;
     }
     Some(taken)

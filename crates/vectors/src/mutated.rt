@@ -79,8 +79,8 @@ fn place_near(numbers: &mut Numbers, score: &[u8], at: usize) -> usize
     ensures { result ≤ length score.now }
 {
     let before = numbers.below(12);
-    let behind = numbers.below(12);
-    at.saturating_add(behind)
+    let after = numbers.below(12);
+    at.saturating_add(after)
         .saturating_sub(before)
         .min(score.len())
 }

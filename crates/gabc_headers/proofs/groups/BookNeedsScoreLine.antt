@@ -33,5 +33,5 @@ has_score_line limits t heads e = by (has_score (lines t)) refl
         none : {r : Result Heads HeadFault} → {h : HeadFault} → r ≡ Err h → r ≡ Ok heads → ⊥
         none f g = cc
 
-pub score_behind : (limits : Limits) (t : List ℕ) (heads : Heads) → heads_of limits t ≡ Ok heads → head_len t + 2 ≤ length t
-score_behind limits t heads e = score_within t (has_score_line limits t heads e)
+pub score_after : (limits : Limits) (t : List ℕ) (heads : Heads) → heads_of limits t ≡ Ok heads → head_len t + 2 ≤ length t
+score_after limits t heads e = score_within t (has_score_line limits t heads e)

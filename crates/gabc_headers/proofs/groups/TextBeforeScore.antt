@@ -5,7 +5,7 @@ use Rattle.gabc_headers.specs.Lines.{lines, on_first, is_percent, is_score_line,
 use Rattle.gabc_headers.specs.Parts.{HeaderPart}
 use Rattle.gabc_headers.specs.witness.Parts.{LineContext, outside, within, parts, parts_of_line, context_below, head_parts}
 use Rattle.gabc_headers.specs.Heads.{head_len}
-use Rattle.gabc_headers.proofs.machines.PartsBehindState.{first_line, later_lines, lines_split}
+use Rattle.gabc_headers.proofs.machines.PartsAfterState.{first_line, later_lines, lines_split}
 
 -- what stands before the line `%%`; the text begins a line, or goes on with one
 abbrev pub head_text : Bool → List ℕ → List ℕ

@@ -18,7 +18,7 @@ use Rattle.gabc_headers.specs.machine.PartMachine.{next_trim, span_of, at_line_s
 use Rattle.gabc_headers.specs.machine.Events.{IsLate, AreLate, open_part}
 use Rattle.gabc_headers.proofs.machines.EventsAreParts.{seen, last_in}
 use Rattle.gabc_headers.proofs.machines.SpansOfBytes.{span_order}
-use Rattle.gabc_headers.proofs.machines.PartsBehindState.{StandsIn}
+use Rattle.gabc_headers.proofs.machines.PartsAfterState.{StandsIn}
 use Rattle.gabc_headers.proofs.machines.OneStepByCharacter.{one_step, the_end}
 
 -- ---- the spans lie in what is read

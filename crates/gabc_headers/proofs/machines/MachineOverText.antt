@@ -19,7 +19,7 @@ use Rattle.gabc_headers.specs.machine.PartMachine.{at_line_start, next_part_mach
 use Rattle.gabc_headers.specs.machine.HeaderMachine.{fresh_machine, part_step, machine_with}
 use Rattle.gabc_headers.specs.machine.Events.{AreEventsOf, AreEarly, with_event}
 use Rattle.gabc_headers.proofs.groups.TextBeforeScore.{head_text, Scan, begin_scan, scan_more, head_next, head_prefix, parts_head}
-use Rattle.gabc_headers.proofs.machines.PartsBehindState.{StandsIn, begin_line}
+use Rattle.gabc_headers.proofs.machines.PartsAfterState.{StandsIn, begin_line}
 use Rattle.gabc_headers.proofs.machines.OneStepByCharacter.{one_step}
 use Rattle.gabc_headers.proofs.machines.EventsAreParts.{seen, span_slice}
 use Rattle.gabc_headers.proofs.machines.PartMachineOfBytes.{moved, moved_both, step_moved, span_moved}

@@ -16,7 +16,7 @@ use Rattle.gabc_headers.specs.machine.PartMachine.{at_line_start, event_at_end, 
 use Rattle.gabc_headers.specs.machine.Events.{open_part}
 use Rattle.gabc_headers.proofs.machines.EventsAreParts.{seen, last_in}
 use Rattle.gabc_headers.proofs.marks_of_lines.RunByCharacter.{run_semi, run_other, run_blank}
-use Rattle.gabc_headers.proofs.machines.PartsBehindState.{InName, InSkip, InValue, StandsIn, skip_more, skip_line, name_more, name_line, name_percent, name_colon, value_more, value_line, value_ends, value_percent, end_name, end_marked, end_open}
+use Rattle.gabc_headers.proofs.machines.PartsAfterState.{InName, InSkip, InValue, StandsIn, skip_more, skip_line, name_more, name_line, name_percent, name_colon, value_more, value_line, value_ends, value_percent, end_name, end_marked, end_open}
 
 -- ---- kinds
 

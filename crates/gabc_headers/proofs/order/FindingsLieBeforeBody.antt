@@ -19,10 +19,10 @@ use Rattle.gabc_headers.proofs.order.FindingsStandInOrder.{Rise, rise_up, rises,
 -- ---- places
 
 -- no place of a text stands before its first
-behind_first : (p : Place) (n : ℕ) → p.line ≡ n → 0 < n → 1 ≤ p.column → IsUpTo (line_place 1) p
-behind_first p zero e l h = absurd (omega arith)
-behind_first p (suc zero) e l h = inr (sym e, h)
-behind_first p (suc (suc n)) e l h = inl (omega arith)
+after_first : (p : Place) (n : ℕ) → p.line ≡ n → 0 < n → 1 ≤ p.column → IsUpTo (line_place 1) p
+after_first p zero e l h = absurd (omega arith)
+after_first p (suc zero) e l h = inr (sym e, h)
+after_first p (suc (suc n)) e l h = inl (omega arith)
 
 -- the findings stand at the first places of their lines
 abbrev AtFirst : List Known → Type 0
@@ -47,7 +47,7 @@ rise_between k m p q [] h a l = tt
 rise_between k m p q (f ∷ fs) h a l = by (nat_lt f.point p) (rise_between f.finding.place.line m p q fs h.1 a.1 l)
   where
     low : IsUpTo (line_place 1) f.finding.place
-    low = (let x : k < f.finding.place.line = h.0 in let c : f.finding.place.column ≡ 1 = a.0 in behind_first f.finding.place f.finding.place.line refl (omega arith) (omega arith))
+    low = (let x : k < f.finding.place.line = h.0 in let c : f.finding.place.column ≡ 1 = a.0 in after_first f.finding.place f.finding.place.line refl (omega arith) (omega arith))
 
     high : IsUpTo f.finding.place q
     high = (let x = rise_up f.finding.place.line m fs h.1 in inl (omega arith))
@@ -62,7 +62,7 @@ nameless_between : (t : List ℕ) (p : ℕ) → LieBetween (line_place 1) (place
 nameless_between t p = by (has_score (lines t) && not (has_header (codes "name") (book_of (head_parts t))))
   where
     stands : IsUpTo (line_place 1) (place_after (take (head_len t) t)) × IsUpTo (place_after (take (head_len t) t)) (place_after (take (head_len t) t))
-    stands = (behind_first (place_after (take (head_len t) t)) (place_after (take (head_len t) t)).line refl (omega arith) (omega arith), inr (refl, omega arith))
+    stands = (after_first (place_after (take (head_len t) t)) (place_after (take (head_len t) t)).line refl (omega arith) (omega arith), inr (refl, omega arith))
 
     early : (b : Bool) → LieBetween (line_place 1) (place_after (take (head_len t) t)) (map (λ (x : Known). x.finding) (cond b (known_at (head_len t + 1) (place_after (take (head_len t) t)) W1 ∷ []) []))
     early true = (stands, tt)

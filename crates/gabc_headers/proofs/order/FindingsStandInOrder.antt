@@ -51,11 +51,11 @@ rise_known k m p (f ∷ fs) h = by (nat_lt f.point p) (rise_known f.finding.plac
 
 lines_order : (k : ℕ) (fs : List Finding) → Lines k fs → AreInOrder fs
 lines_order k [] h = tt
-lines_order k (f ∷ fs) h = behind f fs h.1
+lines_order k (f ∷ fs) h = after f fs h.1
   where
-    behind : (f : Finding) (fs : List Finding) → Lines f.place.line fs → ComeAfter f fs
-    behind f [] h = tt
-    behind f (g ∷ gs) h = (inl h.0, behind g gs h.1)
+    after : (f : Finding) (fs : List Finding) → Lines f.place.line fs → ComeAfter f fs
+    after f [] h = tt
+    after f (g ∷ gs) h = (inl h.0, after g gs h.1)
 
 -- ---- the parts
 

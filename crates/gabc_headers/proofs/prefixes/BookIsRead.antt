@@ -9,17 +9,17 @@ use Rattle.gabc_places.specs.Decoder.{fault_items}
 use Rattle.gabc_headers.specs.declared.heads.Heads.{Heads}
 use Rattle.gabc_headers.specs.Heads.{heads_of}
 use Rattle.gabc_headers.specs.HeadEvents.{inputs_after}
-use Rattle.gabc_headers.specs.witness.HeadEvents.{HeadProgress, HeaderStageState, reading, behind, over, progress_after, progress_by, stage_at, stage_after, stage_past, fresh_stage}
+use Rattle.gabc_headers.specs.witness.HeadEvents.{HeadProgress, HeaderStageState, reading, after_headers, over, progress_after, progress_by, stage_at, stage_after, stage_past, fresh_stage}
 use Rattle.gabc_headers.proofs.prefixes.EventsNeedNoEnd.{progress_past, standing}
 
 -- after the headers the book is theirs
 abbrev IsBookOf : HeadProgress → List (List ℕ × List ℕ) → Type 0
-IsBookOf (behind book) held = held ≡ book
+IsBookOf (after_headers book) held = held ≡ book
 IsBookOf (reading t) held = Unit {0}
 IsBookOf over held = Unit {0}
 
 at_progress : (s : HeaderStageState) (p : HeadProgress) → IsBookOf p (stage_at s p).book
-at_progress s (behind book) = refl
+at_progress s (after_headers book) = refl
 at_progress s (reading t) = tt
 at_progress s over = tt
 
@@ -41,7 +41,7 @@ fault_keeps s None = refl
 fault_keeps s (Some fault) = by s.progress
   where
     by : (p : HeadProgress) → (stage_at s (progress_after s.limits p (Err fault))).book ≡ s.book
-    by (behind book) = refl
+    by (after_headers book) = refl
     by (reading t) = refl
     by over = refl
 
@@ -49,7 +49,7 @@ pub book_is_read : (limits : Limits) (hasher : DefaultHasher) (t : List ℕ) (he
     → (stage_past (fresh_stage limits hasher) (inputs_after [] t ++ fault_items fault)).book ≡ heads.book
 book_is_read limits hasher t heads fault u h =
     let s = stage_past (fresh_stage limits hasher) (inputs_after [] t) in
-    let stands : s.progress ≡ behind heads.book = stands_past (fresh_stage limits hasher) (inputs_after [] t) ∙ (standing limits t u ∙ ap (progress_by t) h) in
+    let stands : s.progress ≡ after_headers heads.book = stands_past (fresh_stage limits hasher) (inputs_after [] t) ∙ (standing limits t u ∙ ap (progress_by t) h) in
     let fits : IsBookOf s.progress s.book = keeps_book (fresh_stage limits hasher) (inputs_after [] t) tt in
     ap (λ (x : HeaderStageState). x.book) (past_both (fresh_stage limits hasher) (inputs_after [] t) (fault_items fault))
     ∙ (fault_keeps s fault ∙ subst (λ (p : HeadProgress). IsBookOf p s.book) stands fits)

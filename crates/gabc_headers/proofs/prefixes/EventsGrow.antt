@@ -42,9 +42,9 @@ with_last text [] e c = refl
 with_last text (d ∷ es) e c = with_last text es e (collected_with text d c)
 
 -- what is found at an event stands after what was found
-pub found_behind : (text : List ℕ) (e : HeaderEvent) (c : Collected) → (collected_with text e c).findings ≡ c.findings ++ found_with text e c
-found_behind text (LeftOut k p) c = refl
-found_behind text (Header k n v p) c = by (is_kept (text_at text n) (text_at text v)) (comes_again c.headers (text_at text n))
+pub found_after : (text : List ℕ) (e : HeaderEvent) (c : Collected) → (collected_with text e c).findings ≡ c.findings ++ found_with text e c
+found_after text (LeftOut k p) c = refl
+found_after text (Header k n v p) c = by (is_kept (text_at text n) (text_at text v)) (comes_again c.headers (text_at text n))
   where
     by : (a b : Bool) → (cond {A = Collected} a (record {
       headers = put_entry c.headers (text_at text n) v;

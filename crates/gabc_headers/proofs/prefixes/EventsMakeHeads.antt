@@ -28,7 +28,7 @@ use Rattle.gabc_headers.specs.declared.header_machine.HeaderStep.{HeaderStep}
 use Rattle.gabc_headers.specs.declared.header_machine.HeaderStep.TheVariants.{Read, Ended}
 use Rattle.gabc_headers.specs.Heads.{heads_of, findings_of, head_len}
 use Rattle.gabc_headers.specs.HeadEvents.{event_of_book, inputs_after, body_characters, events_of_heads}
-use Rattle.gabc_headers.specs.witness.HeadEvents.{HeadProgress, reading, behind, over, events_by, events_at, progress_by, events_left, events_at_end, new_findings}
+use Rattle.gabc_headers.specs.witness.HeadEvents.{HeadProgress, reading, after_headers, over, events_by, events_at, progress_by, events_left, events_at_end, new_findings}
 use Rattle.gabc_headers.specs.Entries.{spelled_entries}
 use Rattle.gabc_headers.specs.machine.EntryMap.{AreWithin}
 use Rattle.gabc_headers.specs.machine.Collected.{heads_at_score}
@@ -36,7 +36,7 @@ use Rattle.gabc_headers.specs.machine.HeaderMachine.{push_one, take_one, then_ta
 use Rattle.gabc_headers.specs.machine.Events.{with_event}
 use Rattle.gabc_headers.proofs.collecting.HeadsFollowFromEvents.{collected_of, read_within}
 use Rattle.gabc_places.proofs.texts.CharactersOfStrings.{scalars_split}
-use Rattle.gabc_headers.proofs.groups.BookNeedsScoreLine.{score_behind}
+use Rattle.gabc_headers.proofs.groups.BookNeedsScoreLine.{score_after}
 use Rattle.gabc_headers.proofs.PrefixHasTheSameHeaders.{len_again, heads_again}
 use Rattle.gabc_headers.proofs.entries.TextsGoOn.{spelled_longer}
 use Rattle.gabc_headers.proofs.prefixes.HeadsSoFar.{HasRead, begin_read, read_more, read_ended, kept_so_far, heads_at, heads_at_end, AreOpen, open_so_far, found_at, found_more}
@@ -84,9 +84,9 @@ moved a new more rest e = sym (append_assoc (map (λ f. Found f) a) (map (λ f. 
     ∙ ap (λ (x : List HeadEvent). x ++ rest) (sym (map-append (λ f. Found f) a new) ∙ ap (λ (x : List Finding). map (λ f. Found f) x) e)
 
 -- the characters after the headers
-body_given : (limits : Limits) (book : List (List ℕ × List ℕ)) (cs : List Char) → concat_of (events_left limits (behind book) (map (λ c. Ok c) cs)) ≡ map (λ c. Body c) cs ++ End ∷ []
+body_given : (limits : Limits) (book : List (List ℕ × List ℕ)) (cs : List Char) → concat_of (events_left limits (after_headers book) (map (λ c. Ok c) cs)) ≡ map (λ c. Body c) cs ++ End ∷ []
 body_given limits book [] = concat-cons (End ∷ []) []
-body_given limits book (c ∷ cs) = concat-cons (Body c ∷ []) (events_left limits (behind book) (map (λ c. Ok c) cs)) ∙ ap (λ (x : List HeadEvent). Body c ∷ x) (body_given limits book cs)
+body_given limits book (c ∷ cs) = concat-cons (Body c ∷ []) (events_left limits (after_headers book) (map (λ c. Ok c) cs)) ∙ ap (λ (x : List HeadEvent). Body c ∷ x) (body_given limits book cs)
 
 placed_drop : (t xs : List ℕ) (n : ℕ) → n ≡ length t → drop n (placed_characters (t ++ xs)) ≡ placed_characters_after t xs
 placed_drop t xs n e =
@@ -136,7 +136,7 @@ module _ (limits : Limits) (held : List ℕ) (c : ℕ) (heads : Heads) (now : he
 
   pub mark_last : head_len t + 2 ≡ length t
   mark_last =
-      let l = score_behind limits t heads now in
+      let l = score_after limits t heads now in
       let n = length-append held (c ∷ []) in
       by (nat_le (head_len t + 2) (length held)) refl l n
     where
@@ -271,7 +271,7 @@ module _ (limits : Limits) (held xs : List ℕ) (c : ℕ) (r new : HeaderMachine
 
   -- what the second `%` emits of whole headers
   pub whole_emits : (heads : Heads) (more : List Finding) → heads_of limits longer ≡ Ok heads → heads.findings ≡ (collected_of held es).findings ++ more
-      → (events_at limits held c ≡ map (λ f. Found f) more ++ event_of_book heads.book ∷ []) × (progress_by longer (heads_of limits longer) ≡ behind heads.book)
+      → (events_at limits held c ≡ map (λ f. Found f) more ++ event_of_book heads.book ∷ []) × (progress_by longer (heads_of limits longer) ≡ after_headers heads.book)
   whole_emits heads more now g = (
     ap (λ (x : Result Heads HeadFault). events_by (new_findings limits held longer) x) now
         ∙ ap (λ (x : List Finding). map (λ f. Found f) x ++ event_of_book heads.book ∷ []) (new_is more (Ok heads) now g),
@@ -281,12 +281,12 @@ module _ (limits : Limits) (held xs : List ℕ) (c : ℕ) (r new : HeaderMachine
   whole_makes : (heads : Heads) (more : List Finding) → heads_of limits longer ≡ Ok heads → heads_of limits (held ++ c ∷ xs) ≡ Ok heads → heads.findings ≡ (collected_of held es).findings ++ more → Makes limits held es (c ∷ xs)
   whole_makes heads more now all g =
       let emits = whole_emits heads more now g in
-      let head_items : rest (behind heads.book) ≡ map (λ c. Body c) (placed_characters_after longer xs) ++ End ∷ [] = body_given limits heads.book (placed_characters_after longer xs) in
+      let head_items : rest (after_headers heads.book) ≡ map (λ c. Body c) (placed_characters_after longer xs) ++ End ∷ [] = body_given limits heads.book (placed_characters_after longer xs) in
       let body : body_characters (held ++ c ∷ xs) ≡ placed_characters_after longer xs = subst (λ (x : List ℕ). body_characters x ≡ placed_characters_after longer xs) whole_is (body_is limits held c heads now o.fault o.heads xs) in
       ap (λ (x : List HeadEvent). map (λ f. Found f) (collected_of held es).findings ++ x)
       (split ∙ (ap (λ (x : List HeadEvent). x ++ rest (progress_by longer (heads_of limits longer))) emits.0
       ∙ (ap (λ (x : HeadProgress). (map (λ f. Found f) more ++ event_of_book heads.book ∷ []) ++ rest x) emits.1
-      ∙ (append_assoc (map (λ f. Found f) more) (event_of_book heads.book ∷ []) (rest (behind heads.book))
+      ∙ (append_assoc (map (λ f. Found f) more) (event_of_book heads.book ∷ []) (rest (after_headers heads.book))
       ∙ ap (λ (x : List HeadEvent). map (λ f. Found f) more ++ event_of_book heads.book ∷ x) head_items))))
       ∙ (moved (collected_of held es).findings more heads.findings (event_of_book heads.book ∷ (map (λ c. Body c) (placed_characters_after longer xs) ++ End ∷ [])) (sym g)
       ∙ (ap (λ (x : List Char). map (λ f. Found f) heads.findings ++ event_of_book heads.book ∷ (map (λ c. Body c) x ++ End ∷ [])) (sym body)

@@ -17,7 +17,7 @@ use Rattle.gabc_headers.specs.declared.heads.Heads.{Heads}
 use Rattle.gabc_headers.specs.declared.heads.HeadFault.{HeadFault}
 use Rattle.gabc_headers.specs.Heads.{heads_of}
 use Rattle.gabc_headers.specs.HeadEvents.{event_of_book, inputs_after, body_characters, events_of_heads, events_of_broken, events_of_stopped, emitted_by}
-use Rattle.gabc_headers.specs.witness.HeadEvents.{HeadProgress, reading, behind, over, progress_by, progress_after, events_of_input, events_of_end, events_at_end, events_left}
+use Rattle.gabc_headers.specs.witness.HeadEvents.{HeadProgress, reading, after_headers, over, progress_by, progress_after, events_of_input, events_of_end, events_at_end, events_left}
 use Rattle.gabc_headers.specs.machine.HeaderMachine.{push_one, fresh_machine}
 use Rattle.gabc_headers.specs.machine.Events.{with_event}
 use Rattle.gabc_headers.proofs.collecting.HeadsFollowFromEvents.{collected_of}
@@ -34,9 +34,9 @@ pub stays_over : (limits : Limits) (xs : List (Result Char Fault)) → progress_
 stays_over limits [] = refl
 stays_over limits (x ∷ xs) = stays_over limits xs
 
-pub stays_behind : (limits : Limits) (book : List (List ℕ × List ℕ)) (cs : List Char) → progress_past limits (behind book) (map (λ c. Ok c) cs) ≡ behind book
-stays_behind limits book [] = refl
-stays_behind limits book (c ∷ cs) = stays_behind limits book cs
+pub stays_after : (limits : Limits) (book : List (List ℕ × List ℕ)) (cs : List Char) → progress_past limits (after_headers book) (map (λ c. Ok c) cs) ≡ after_headers book
+stays_after limits book [] = refl
+stays_after limits book (c ∷ cs) = stays_after limits book cs
 
 -- after a text it stands where the headers of the text say
 abbrev StandsPast : Limits → List ℕ → List ℕ → Type 0
@@ -59,10 +59,10 @@ stands_step limits held xs c r es u h next = by (push_one r c) refl
         ∙ (stays_over limits (inputs_after (held ++ c ∷ []) xs)
         ∙ sym (ap (progress_by (held ++ c ∷ xs)) same ∙ closed (held ++ c ∷ xs)))
     by_end found result (whole heads more e g) now same =
-        let behind_is : (t : List ℕ) → progress_by t (heads_of limits (held ++ c ∷ [])) ≡ behind heads.book = λ t. ap (progress_by t) (sym now ∙ e) in
-        ap (λ (p : HeadProgress). progress_past limits p (inputs_after (held ++ c ∷ []) xs)) (behind_is (held ++ c ∷ []))
-        ∙ (stays_behind limits heads.book (placed_characters_after (held ++ c ∷ []) xs)
-        ∙ sym (ap (progress_by (held ++ c ∷ xs)) same ∙ behind_is (held ++ c ∷ xs)))
+        let after_is : (t : List ℕ) → progress_by t (heads_of limits (held ++ c ∷ [])) ≡ after_headers heads.book = λ t. ap (progress_by t) (sym now ∙ e) in
+        ap (λ (p : HeadProgress). progress_past limits p (inputs_after (held ++ c ∷ []) xs)) (after_is (held ++ c ∷ []))
+        ∙ (stays_after limits heads.book (placed_characters_after (held ++ c ∷ []) xs)
+        ∙ sym (ap (progress_by (held ++ c ∷ xs)) same ∙ after_is (held ++ c ∷ xs)))
 
     by : (p : HeaderMachine × HeaderStep) → push_one r c ≡ p → StandsPast limits held (c ∷ xs)
     by (new, Read e) p =
@@ -112,10 +112,10 @@ past_one_more limits progress [] last = refl
 past_one_more limits progress (x ∷ xs) last = past_one_more limits (progress_after limits progress x) xs last
 
 -- after a fault nothing is given at the end
-silent_behind_fault : (limits : Limits) (progress : HeadProgress) (fault : Fault) → events_of_end limits (progress_after limits progress (Err fault)) ≡ []
-silent_behind_fault limits (reading t) fault = refl
-silent_behind_fault limits (behind book) fault = refl
-silent_behind_fault limits over fault = refl
+silent_after_fault : (limits : Limits) (progress : HeadProgress) (fault : Fault) → events_of_end limits (progress_after limits progress (Err fault)) ≡ []
+silent_after_fault limits (reading t) fault = refl
+silent_after_fault limits (after_headers book) fault = refl
+silent_after_fault limits over fault = refl
 
 -- ---- by the headers of the text
 
@@ -167,5 +167,5 @@ module _ (limits : Limits) (t : List ℕ) (u : scalars t ≡ true) where
   stopped_gives true fault =
       with_end limits (reading []) (head_items ++ Err fault ∷ [])
       ∙ (ap (λ (p : HeadProgress). given_so_far limits (reading []) (head_items ++ Err fault ∷ []) ++ events_of_end limits p) (past_one_more limits (reading []) head_items (Err fault))
-      ∙ (ap (λ (l : List HeadEvent). given_so_far limits (reading []) (head_items ++ Err fault ∷ []) ++ l) (silent_behind_fault limits (progress_past limits (reading []) head_items) fault)
+      ∙ (ap (λ (l : List HeadEvent). given_so_far limits (reading []) (head_items ++ Err fault ∷ []) ++ l) (silent_after_fault limits (progress_past limits (reading []) head_items) fault)
       ∙ (append-nil (given_so_far limits (reading []) (head_items ++ Err fault ∷ [])) ∙ stopped_so_far fault)))

@@ -23,7 +23,7 @@ use Rattle.gabc_headers.specs.machine.Events.{AreHeaderEvents, with_event}
 use Rattle.gabc_headers.specs.Heads.{heads_of}
 use Rattle.gabc_headers.proofs.machines.OnePush.{Following, AfterPush, begin_following, pushes, ends}
 use Rattle.gabc_headers.proofs.collecting.HeadsFollowFromEvents.{collected_of, case_limit, case_score, case_text}
-use Rattle.gabc_headers.proofs.prefixes.EventsGrow.{grown, with_last, found_behind}
+use Rattle.gabc_headers.proofs.prefixes.EventsGrow.{grown, with_last, found_after}
 
 -- The machine has read this text, and stands before whatever follows.
 pub record HasRead (limit : ℕ) (t : List ℕ) (r : HeaderMachine) (es : List HeaderEvent) : Type 0 where
@@ -91,5 +91,5 @@ pub found_more : (limit : ℕ) (t : List ℕ) (r : HeaderMachine) (es : List Hea
 found_more limit t r es c None u h = ap (λ (x : Collected). x.findings) (kept_so_far limit t (c ∷ []) r es u h) ∙ sym (append-nil (collected_of t es).findings)
 found_more limit t r es c (Some e) u h =
     ap (λ (x : Collected). x.findings) (with_last (encodes (t ++ c ∷ [])) es e none)
-    ∙ (found_behind (encodes (t ++ c ∷ [])) e (collected_with_all (encodes (t ++ c ∷ [])) es none)
+    ∙ (found_after (encodes (t ++ c ∷ [])) e (collected_with_all (encodes (t ++ c ∷ [])) es none)
     ∙ ap (λ (x : Collected). x.findings ++ found_with (encodes (t ++ c ∷ [])) e x) (kept_so_far limit t (c ∷ []) r es u h))

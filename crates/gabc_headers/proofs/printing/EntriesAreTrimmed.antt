@@ -4,7 +4,7 @@ use Rattle.std.proofs.lemmas.Bool.{eqb-true}
 use Rattle.gabc_headers.specs.Lines.{lines, on_first, lines_len, head_of, is_blank, is_bare, has_colon, before_colon, after_colon, before_mark, is_blank_or_lf, ends_no_value, trim_start, trim_end, trim_name, trim_value, is_score_line}
 use Rattle.gabc_headers.specs.Parts.{HeaderPart, left_out, header, unended, is_good_name, good_name, name_of, bad_name_parts, ended_parts}
 use Rattle.gabc_headers.specs.Groups.{Group, skipped, colonless, valued, unfinished, EndAtMark, BeginsHeader, EndsValue, AreGroups, value_below, value_text, mark_point, parts_of_groups}
-use Rattle.gabc_headers.proofs.machines.PartsBehindState.{first_line, later_lines, lines_split}
+use Rattle.gabc_headers.proofs.machines.PartsAfterState.{first_line, later_lines, lines_split}
 use Rattle.gabc_headers.proofs.printing.LinesOfTexts.{has}
 use Rattle.gabc_headers.proofs.printing.TrimmedTexts.{StartsWell, EndsWell, start_kept, end_kept, starts_well, ends_well, end_of_suffix, start_suffix, end_prefix, has_front, has_back, has_no_start, has_no_end, not_bare}
 use Rattle.gabc_headers.proofs.printing.MarksInTexts.{Free, free_back, free_front, free_append, free_alone, free_line, free_before, mark_of_one, no_mark_of_one, NoScore, score_front, no_score_front, no_score_back, no_score_line}
@@ -125,10 +125,10 @@ score_feed (c ∷ d ∷ l) y h = h
 
 -- the lines of a value below its first
 record Below (ms : List (List ℕ)) : Type 0 where
-  behind : List ℕ
+  after : List ℕ
   tail : List ℕ
   starts : value_below ms ≡ 10 ∷ tail
-  free : Free (value_below ms) behind
+  free : Free (value_below ms) after
   no_score : NoScore (value_below ms)
 
 below_is : (ms : List (List ℕ)) → EndAtMark ms → AreHeadLines ms → Below ms
@@ -136,20 +136,20 @@ below_is [] h g = absurd h
 below_is (l ∷ []) h g =
     let f = free_before 2 (λ x e. e) l g.0.0 in
     record {
-      behind = f.behind;
+      after = f.after;
       tail = before_mark 2 l;
       starts = refl;
       free = (refl, f.free);
-      no_score = (λ e. score_front (before_mark 2 l) f.behind (ap is_score_line f.parts ∙ g.0.1), no_feed (before_mark 2 l) (has_front 10 (before_mark 2 l) f.behind (ap (has 10) f.parts ∙ g.0.0)));
+      no_score = (λ e. score_front (before_mark 2 l) f.after (ap is_score_line f.parts ∙ g.0.1), no_feed (before_mark 2 l) (has_front 10 (before_mark 2 l) f.after (ap (has 10) f.parts ∙ g.0.0)));
     }
 below_is (l ∷ m ∷ ms) h g =
     let b = below_is (m ∷ ms) h.1 g.1 in
-    let onward : Free l (value_below (m ∷ ms) ++ b.behind) = subst (λ (x : List ℕ). Free l (x ++ b.behind)) (sym b.starts) (free_line l (b.tail ++ b.behind) g.0.0 h.0) in
+    let onward : Free l (value_below (m ∷ ms) ++ b.after) = subst (λ (x : List ℕ). Free l (x ++ b.after)) (sym b.starts) (free_line l (b.tail ++ b.after) g.0.0 h.0) in
     record {
-      behind = b.behind;
+      after = b.after;
       tail = l ++ value_below (m ∷ ms);
       starts = refl;
-      free = (refl, free_append l (value_below (m ∷ ms)) b.behind onward b.free);
+      free = (refl, free_append l (value_below (m ∷ ms)) b.after onward b.free);
       no_score = (λ e. ap (λ (x : List ℕ). is_score_line (l ++ x)) b.starts ∙ score_feed l b.tail g.0.1, no_score_line l (value_below (m ∷ ms)) g.0.0 b.no_score);
     }
 
@@ -158,13 +158,13 @@ value_of_lines l [] g e h =
     let p : l ≡ before_colon l ++ 58 ∷ after_colon l = colon_parts l g.colon in
     let feed : has 10 (after_colon l) ≡ false = has_back 10 (58 ∷ []) (after_colon l) (has_back 10 (before_colon l) (58 ∷ after_colon l) (sym (ap (has 10) p) ∙ h.0.0)) in
     let f = free_before 1 mark_of_one (after_colon l) feed in
-    value_is (before_mark 1 (after_colon l)) f.behind f.free (no_feed (before_mark 1 (after_colon l)) (has_front 10 (before_mark 1 (after_colon l)) f.behind (ap (has 10) f.parts ∙ feed)))
+    value_is (before_mark 1 (after_colon l)) f.after f.free (no_feed (before_mark 1 (after_colon l)) (has_front 10 (before_mark 1 (after_colon l)) f.after (ap (has 10) f.parts ∙ feed)))
 value_of_lines l (m ∷ ms) g e h =
     let p : l ≡ before_colon l ++ 58 ∷ after_colon l = colon_parts l g.colon in
     let feed : has 10 (after_colon l) ≡ false = has_back 10 (58 ∷ []) (after_colon l) (has_back 10 (before_colon l) (58 ∷ after_colon l) (sym (ap (has 10) p) ∙ h.0.0)) in
     let b = below_is (m ∷ ms) e.1 h.1 in
-    let first : Free (after_colon l) (value_below (m ∷ ms) ++ b.behind) = subst (λ (x : List ℕ). Free (after_colon l) (x ++ b.behind)) (sym b.starts) (free_line (after_colon l) (b.tail ++ b.behind) feed (no_mark_of_one (after_colon l) e.0)) in
-    value_is (after_colon l ++ value_below (m ∷ ms)) b.behind (free_append (after_colon l) (value_below (m ∷ ms)) b.behind first b.free) (no_score_line (after_colon l) (value_below (m ∷ ms)) feed b.no_score)
+    let first : Free (after_colon l) (value_below (m ∷ ms) ++ b.after) = subst (λ (x : List ℕ). Free (after_colon l) (x ++ b.after)) (sym b.starts) (free_line (after_colon l) (b.tail ++ b.after) feed (no_mark_of_one (after_colon l) e.0)) in
+    value_is (after_colon l ++ value_below (m ∷ ms)) b.after (free_append (after_colon l) (value_below (m ∷ ms)) b.after first b.free) (no_score_line (after_colon l) (value_below (m ∷ ms)) feed b.no_score)
 
 -- ---- the parts
 

@@ -3,7 +3,7 @@ use Rattle.std.proofs.Common.{◌≡◌, ℕ, ◌-◌, ◌==◌, List, [], ◌�
 use Rattle.std.proofs.lemmas.Bool.{or_parts}
 use Rattle.gabc_headers.specs.Lines.{lines, on_first, is_blank, is_bare, is_mark, has_mark, before_mark, is_blank_or_lf, ends_no_value, is_score_line}
 use Rattle.gabc_headers.specs.Groups.{HaveNoMark}
-use Rattle.gabc_headers.proofs.machines.PartsBehindState.{first_line, later_lines, lines_split}
+use Rattle.gabc_headers.proofs.machines.PartsAfterState.{first_line, later_lines, lines_split}
 use Rattle.gabc_headers.proofs.marks_of_lines.PrefixOfMark.{Passed, pass_none, pass_one, pass_more}
 use Rattle.gabc_headers.proofs.printing.LinesOfTexts.{has}
 use Rattle.gabc_headers.proofs.printing.TrimmedTexts.{EndsWell}
@@ -124,28 +124,28 @@ free_line (c ∷ a) y h m =
 
 -- what stands before the first mark of a line
 pub record FreeBefore (n : ℕ) (l : List ℕ) : Type 0 where
-  pub behind : List ℕ
-  pub parts : before_mark n l ++ behind ≡ l
-  pub free : Free (before_mark n l) behind
+  pub after : List ℕ
+  pub parts : before_mark n l ++ after ≡ l
+  pub free : Free (before_mark n l) after
 
 pub free_before : (n : ℕ) → ((x : List ℕ) → is_mark n x ≡ false → is_mark 2 x ≡ false) → (l : List ℕ) → has 10 l ≡ false → FreeBefore n l
-free_before n sub [] h = record { behind = []; parts = refl; free = tt }
+free_before n sub [] h = record { after = []; parts = refl; free = tt }
 free_before n sub (c ∷ l) h = by (is_mark n (c ∷ l)) refl (free_before n sub l (or_parts (c == 10) (has 10 l) h).1)
   where
     by : (b : Bool) → is_mark n (c ∷ l) ≡ b → FreeBefore n l → FreeBefore n (c ∷ l)
     by true e f =
         let none : before_mark n (c ∷ l) ≡ [] = ap (λ (b : Bool). cond b [] (c ∷ before_mark n l)) e in
         record {
-          behind = c ∷ l;
+          after = c ∷ l;
           parts = ap (λ (x : List ℕ). x ++ c ∷ l) none;
           free = subst (λ (x : List ℕ). Free x (c ∷ l)) (sym none) tt;
         }
     by false e f =
         let some : before_mark n (c ∷ l) ≡ c ∷ before_mark n l = ap (λ (b : Bool). cond b [] (c ∷ before_mark n l)) e in
         record {
-          behind = f.behind;
-          parts = ap (λ (x : List ℕ). x ++ f.behind) some ∙ ap (λ (x : List ℕ). c ∷ x) f.parts;
-          free = subst (λ (x : List ℕ). Free x f.behind) (sym some)
+          after = f.after;
+          parts = ap (λ (x : List ℕ). x ++ f.after) some ∙ ap (λ (x : List ℕ). c ∷ x) f.parts;
+          free = subst (λ (x : List ℕ). Free x f.after) (sym some)
               (ap (λ (x : List ℕ). is_mark 2 (first_line (c ∷ x))) f.parts ∙ ap (is_mark 2) (first_all (c ∷ l) h) ∙ sub (c ∷ l) e, f.free);
         }
 

@@ -2,7 +2,7 @@
 use Rattle.std.proofs.Common.{◌≡◌, ℕ, ◌+◌, ◌<◌, ◌≤◌, List, [], ◌∷◌, ◌++◌, Bool, true, false, cond, not, ◌||◌, ◌&&◌, codes, length, length-append, take, nat_lt, map, refl, sym, ap, subst, ◌∙◌, append_assoc, append-nil, arith, Option, None, Ok}
 use Rattle.std.proofs.lemmas.Bool.Decides.{nat_tests}
 use Rattle.std.proofs.Math.Seq.{take-append_seam, take-append-add}
-use Rattle.gabc_places.proofs.NothingBehindAnEnd.{both_empty}
+use Rattle.gabc_places.proofs.NothingAfterAnEnd.{both_empty}
 use Rattle.gabc_places.specs.declared.limits.Limits.{Limits}
 use Rattle.gabc_places.specs.LargerLimits.{AreNoLess}
 use Rattle.gabc_places.specs.declared.place.Place.{Place}
@@ -21,7 +21,7 @@ use Rattle.gabc_headers.specs.Heads.{head_len, open_line, findings_after, known_
 use Rattle.gabc_headers.specs.witness.Heads.{name_findings, head_findings, score_stops, head_stops, heads_by}
 use Rattle.gabc_headers.specs.HeadsAgain.{nameless, heads_again}
 use Rattle.gabc_headers.proofs.canonical_form.HeadersEndInTwoPercents.{heads_len}
-use Rattle.gabc_headers.proofs.machines.PartsBehindState.{first_line, later_lines, lines_split}
+use Rattle.gabc_headers.proofs.machines.PartsAfterState.{first_line, later_lines, lines_split}
 use Rattle.gabc_headers.proofs.groups.GroupsAreUnique.{some_groups}
 use Rattle.gabc_headers.proofs.groups.GroupsTellParts.{groups_tell}
 use Rattle.gabc_headers.proofs.stops.PointsOfStops.{lines_all}
@@ -65,10 +65,10 @@ printed_book (e ∷ es) h more =
     }
 
 -- lines in front of the line `%%`
-head_behind : (ls ms : List (List ℕ)) → AreNoScore ls → (head_of (ls ++ ms) ≡ ls ++ head_of ms) × (has_score (ls ++ ms) ≡ has_score ms)
-head_behind [] ms h = (refl, refl)
-head_behind (l ∷ ls) ms h =
-    let r = head_behind ls ms h.1 in (
+head_after : (ls ms : List (List ℕ)) → AreNoScore ls → (head_of (ls ++ ms) ≡ ls ++ head_of ms) × (has_score (ls ++ ms) ≡ has_score ms)
+head_after [] ms h = (refl, refl)
+head_after (l ∷ ls) ms h =
+    let r = head_after ls ms h.1 in (
       ap (λ (b : Bool). cond b [] (l ∷ head_of (ls ++ ms))) h.0 ∙ ap (λ (x : List (List ℕ)). l ∷ x) r.0,
       ap (λ (b : Bool). b || has_score (ls ++ ms)) h.0 ∙ r.1,
     )
@@ -126,19 +126,19 @@ module _ (limits : Limits) (book : List (List ℕ × List ℕ)) (w : IsWithinLim
   lines_are = ap lines again_is ∙ printed.text
 
   head_is : head_of (lines again) ≡ printed.heads
-  head_is = ap head_of lines_are ∙ (head_behind printed.heads (lines (37 ∷ 37 ∷ more)) printed.no_score).0
+  head_is = ap head_of lines_are ∙ (head_after printed.heads (lines (37 ∷ 37 ∷ more)) printed.no_score).0
       ∙ ap (λ (x : List (List ℕ)). printed.heads ++ x) (score_first_line more).0 ∙ append-nil printed.heads
 
   score_is : has_score (lines again) ≡ true
-  score_is = ap has_score lines_are ∙ (head_behind printed.heads (lines (37 ∷ 37 ∷ more)) printed.no_score).1 ∙ (score_first_line more).1
+  score_is = ap has_score lines_are ∙ (head_after printed.heads (lines (37 ∷ 37 ∷ more)) printed.no_score).1 ∙ (score_first_line more).1
 
   len_is : head_len again ≡ length (header_lines book)
   len_is =
       let own : head_len again ≡ lines_len printed.heads = ap (λ (b : Bool). cond b (lines_len (head_of (lines again))) (length again)) score_is ∙ ap lines_len head_is in
       let all : length again + 1 ≡ lines_len printed.heads + lines_len (lines (37 ∷ 37 ∷ more)) = sym (lines_all again) ∙ ap lines_len lines_are ∙ lines_len-append printed.heads (lines (37 ∷ 37 ∷ more)) in
-      let behind : lines_len (lines (37 ∷ 37 ∷ more)) ≡ length (37 ∷ 37 ∷ more) + 1 = lines_all (37 ∷ 37 ∷ more) in
+      let after : lines_len (lines (37 ∷ 37 ∷ more)) ≡ length (37 ∷ 37 ∷ more) + 1 = lines_all (37 ∷ 37 ∷ more) in
       let both : length again ≡ length (header_lines book) + length (37 ∷ 37 ∷ more) = ap (length {A = ℕ}) again_is ∙ length-append (header_lines book) (37 ∷ 37 ∷ more) in
-      own ∙ (let h : lines_len printed.heads ≡ length (header_lines book) = omega (arith, all, behind, both) in h)
+      own ∙ (let h : lines_len printed.heads ≡ length (header_lines book) = omega (arith, all, after, both) in h)
 
   text_is : take (head_len again) again ≡ header_lines book
   text_is = ap (λ (n : ℕ). take n again) len_is ∙ ap (take (length (header_lines book))) again_is ∙ take-append_seam (header_lines book) (37 ∷ 37 ∷ more)

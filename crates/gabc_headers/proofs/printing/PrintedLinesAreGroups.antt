@@ -5,7 +5,7 @@ use Rattle.gabc_headers.specs.Lines.{lines, on_first, is_bare, has_mark, before_
 use Rattle.gabc_headers.specs.Parts.{good_name, name_of}
 use Rattle.gabc_headers.specs.Groups.{EndAtMark, HaveNoMark, BeginsHeader, EndsValue, value_below, value_text}
 use Rattle.gabc_headers.specs.Canonical.{wants_lines, header_line}
-use Rattle.gabc_headers.proofs.machines.PartsBehindState.{first_line, later_lines, lines_split}
+use Rattle.gabc_headers.proofs.machines.PartsAfterState.{first_line, later_lines, lines_split}
 use Rattle.gabc_headers.proofs.marks_of_lines.PrefixOfMark.{mark_here}
 use Rattle.gabc_headers.proofs.printing.LinesOfTexts.{has, has-append, lines_after, one_line, with_last, lines_with, below_text, lines_joined}
 use Rattle.gabc_headers.proofs.printing.TrimmedTexts.{EndsWell, start_kept, end_kept}
@@ -26,10 +26,10 @@ pub record PrintedEntry (e : List ℕ × List ℕ) : Type 0 where
 
 -- ---- a header's first line
 
-colon_behind : (name x : List ℕ) → has 58 name ≡ false
+colon_after : (name x : List ℕ) → has 58 name ≡ false
     → (has_colon (name ++ 58 ∷ x) ≡ true) × (before_colon (name ++ 58 ∷ x) ≡ name) × (after_colon (name ++ 58 ∷ x) ≡ x)
-colon_behind [] x h = (refl, refl, refl)
-colon_behind (c ∷ name) x h = by (c == 58) h (colon_behind name x)
+colon_after [] x h = (refl, refl, refl)
+colon_after (c ∷ name) x h = by (c == 58) h (colon_after name x)
   where
     by : (b : Bool) → (b || has 58 name) ≡ false
         → (has 58 name ≡ false → (has_colon (name ++ 58 ∷ x) ≡ true) × (before_colon (name ++ 58 ∷ x) ≡ name) × (after_colon (name ++ 58 ∷ x) ≡ x))
@@ -50,7 +50,7 @@ record FirstLine (name x : List ℕ) : Type 0 where
 
 first_is : (name x : List ℕ) → IsName name → FirstLine name x
 first_is name x g =
-    let q = colon_behind name x g.no_colon in
+    let q = colon_after name x g.no_colon in
     record {
       begins = record { seen = g.begins (58 ∷ x); colon = q.0 };
       name_is = ap (λ (y : List ℕ). good_name (trim_name y)) q.1 ∙ ap good_name g.trimmed ∙ ap (λ (b : Bool). cond b (Some name) None) g.good;

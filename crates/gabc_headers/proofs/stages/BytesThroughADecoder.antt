@@ -16,7 +16,7 @@ use Rattle.gabc_headers.specs.declared.head_event.HeadEvent.{HeadEvent}
 use Rattle.gabc_headers.specs.declared.head_event.HeadEvent.TheVariants.{Body}
 use Rattle.gabc_headers.specs.Heads.{heads_of}
 use Rattle.gabc_headers.specs.HeadEvents.{events_of_heads}
-use Rattle.gabc_headers.specs.witness.HeadEvents.{HeadProgress, reading, behind, over, IsBehind, events_left, events_of_input}
+use Rattle.gabc_headers.specs.witness.HeadEvents.{HeadProgress, reading, after_headers, over, IsAfterHeaders, events_left, events_of_input}
 use Rattle.gabc_headers.proofs.prefixes.EventsMakeHeads.{events_make_heads}
 
 -- ---- both stages
@@ -47,7 +47,7 @@ pub push_gives : (limits : Limits) (progress : HeadProgress) (after : List (Resu
 push_gives limits progress after x most old new p = p.out ∙ ap (extended_by old) (sym (ap first_of (p.law [])))
 
 -- after the headers
-pub body_given : (limits : Limits) (progress : HeadProgress) (c : Char) → IsBehind progress → events_of_input limits progress (Ok c) ≡ Body c ∷ []
+pub body_given : (limits : Limits) (progress : HeadProgress) (c : Char) → IsAfterHeaders progress → events_of_input limits progress (Ok c) ≡ Body c ∷ []
 body_given limits (reading t) c h = absurd h
-body_given limits (behind book) c h = refl
+body_given limits (after_headers book) c h = refl
 body_given limits over c h = absurd h

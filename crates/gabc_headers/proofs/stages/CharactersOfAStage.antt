@@ -10,10 +10,10 @@ use Rattle.gabc_headers.specs.declared.head_event.HeadEvent.{HeadEvent}
 use Rattle.gabc_headers.specs.declared.head_event.HeadEvent.TheVariants.{Found, End}
 use Rattle.gabc_headers.specs.declared.header_machine.HeaderMachine.{HeaderMachine}
 use Rattle.gabc_headers.specs.declared.header_stage.HeadPart.{HeadPart}
-use Rattle.gabc_headers.specs.declared.header_stage.HeadPart.TheVariants.{InHeaders, Behind, Stopped, Over}
+use Rattle.gabc_headers.specs.declared.header_stage.HeadPart.TheVariants.{InHeaders, After, Stopped, Over}
 use Rattle.gabc_headers.specs.Book.{has_header}
 use Rattle.gabc_headers.specs.Heads.{heads_of}
-use Rattle.gabc_headers.specs.witness.HeadEvents.{IsInHeaders, reading, behind, over, HeaderStageState, stage_at, events_at, events_at_end, events_of_end, text_held, progress_with}
+use Rattle.gabc_headers.specs.witness.HeadEvents.{IsInHeaders, reading, after_headers, over, HeaderStageState, stage_at, events_at, events_at_end, events_of_end, text_held, progress_with}
 use Rattle.gabc_headers.specs.machine.Collected.{found_list, name_found}
 use Rattle.gabc_headers.specs.Entries.{EntryMapState, spelled_entries}
 use Rattle.gabc_headers.specs.ShownStage.{book_in, progress_in}
@@ -40,7 +40,7 @@ stands limits part text space machine headers view e r i = by part (subst (λ (v
   where
     by : (part : HeadPart) → IsInHeaders (progress_in part text (book_in part text headers.items)) → IsStageIn part limits text space machine headers → StandsInHeaders limits part text space machine headers
     by InHeaders r i = record { part_is = refl; reads = i }
-    by Behind r i = absurd r
+    by After r i = absurd r
     by Stopped r i = absurd r
     by Over r i = absurd r
 
@@ -71,9 +71,9 @@ pub state_over : (limits : Limits) (part : HeadPart) (text : List ℕ) (headers 
 state_over limits part text headers view new c p e q n = n ∙ rw (← e, p, q) refl
 
 -- with which they are whole
-pub state_behind : (limits : Limits) (part : HeadPart) (text : List ℕ) (headers : EntryMapState) (view : HeaderStageState) (c : ℕ) → part ≡ InHeaders → view_of limits part text headers ≡ view
-    → progress_with limits (chars text) c ≡ behind (spelled_entries text headers.items) → view_of limits Behind text headers ≡ stage_at view (progress_with view.limits (text_held view.progress) c)
-state_behind limits part text headers view c p e q = rw (← e, p, q) refl
+pub state_after : (limits : Limits) (part : HeadPart) (text : List ℕ) (headers : EntryMapState) (view : HeaderStageState) (c : ℕ) → part ≡ InHeaders → view_of limits part text headers ≡ view
+    → progress_with limits (chars text) c ≡ after_headers (spelled_entries text headers.items) → view_of limits After text headers ≡ stage_at view (progress_with view.limits (text_held view.progress) c)
+state_after limits part text headers view c p e q = rw (← e, p, q) refl
 
 -- ---- the end
 
@@ -81,9 +81,9 @@ pub end_reading : (limits : Limits) (part : HeadPart) (text : List ℕ) (headers
     → events_at_end (heads_of limits (chars text)) ≡ events → events_of_end view.limits view.progress ≡ events
 end_reading limits part text headers view events p e q = sym (ap (λ (v : HeaderStageState). events_of_end v.limits v.progress) e) ∙ (ap (λ (p : HeadPart). events_of_end limits (progress_in p text (book_in p text headers.items))) p ∙ q)
 
-pub end_behind : (limits : Limits) (part : HeadPart) (text : List ℕ) (headers : EntryMapState) (view : HeaderStageState) → part ≡ Behind → view_of limits part text headers ≡ view
+pub end_after : (limits : Limits) (part : HeadPart) (text : List ℕ) (headers : EntryMapState) (view : HeaderStageState) → part ≡ After → view_of limits part text headers ≡ view
     → events_of_end view.limits view.progress ≡ End ∷ []
-end_behind limits part text headers view p e = sym (ap (λ (v : HeaderStageState). events_of_end v.limits v.progress) e) ∙ ap (λ (p : HeadPart). events_of_end limits (progress_in p text (book_in p text headers.items))) p
+end_after limits part text headers view p e = sym (ap (λ (v : HeaderStageState). events_of_end v.limits v.progress) e) ∙ ap (λ (p : HeadPart). events_of_end limits (progress_in p text (book_in p text headers.items))) p
 
 pub end_over : (limits : Limits) (part : HeadPart) (text : List ℕ) (headers : EntryMapState) (view : HeaderStageState) → part ≡ Over → view_of limits part text headers ≡ view
     → events_of_end view.limits view.progress ≡ []
@@ -101,7 +101,7 @@ shows_over limits part text headers view e = by part ∙ ap (λ (v : HeaderStage
   where
     by : (part : HeadPart) → view_of limits (part_over part) text headers ≡ stage_at (view_of limits part text headers) over
     by InHeaders = refl
-    by Behind = refl
+    by After = refl
     by Stopped = refl
     by Over = refl
 
@@ -124,14 +124,14 @@ few_heads place book event = by (has_header (codes "name") book)
 pub keeps : (limits : Limits) (part : HeadPart) (text : List ℕ) (space : ℕ) (machine : HeaderMachine) (headers : EntryMapState) → IsUtf8 text → IsStageIn part limits text space machine headers
     → KeepsHeaders limits text space headers
 keeps limits InHeaders text space machine headers u i = record { text_fits = i.fits; headers_fit = i.limit; within = values_lie_within limits text space machine headers u i }
-keeps limits Behind text space machine headers u i = i
+keeps limits After text space machine headers u i = i
 keeps limits Stopped text space machine headers u i = i
 keeps limits Over text space machine headers u i = i
 
 pub stands_over : (limits : Limits) (part : HeadPart) (text : List ℕ) (space : ℕ) (machine : HeaderMachine) (headers : EntryMapState) → KeepsHeaders limits text space headers
     → IsStageIn (part_over part) limits text space machine headers
 stands_over limits InHeaders text space machine headers k = k
-stands_over limits Behind text space machine headers k = k
+stands_over limits After text space machine headers k = k
 stands_over limits Stopped text space machine headers k = k
 stands_over limits Over text space machine headers k = k
 

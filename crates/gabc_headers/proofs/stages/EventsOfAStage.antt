@@ -27,7 +27,7 @@ use Rattle.gabc_headers.specs.Entries.{EntryMapState, text_at, spelled_entries}
 use Rattle.gabc_headers.specs.EntryMap.{put_entry}
 use Rattle.gabc_headers.specs.Heads.{heads_of}
 use Rattle.gabc_headers.specs.HeadEvents.{event_of_book}
-use Rattle.gabc_headers.specs.witness.HeadEvents.{HeadProgress, reading, behind, over, events_at, events_at_end, progress_with}
+use Rattle.gabc_headers.specs.witness.HeadEvents.{HeadProgress, reading, after_headers, over, events_at, events_at_end, progress_with}
 use Rattle.gabc_headers.specs.Lines.{bytes_len}
 use Rattle.gabc_headers.specs.machine.Collected.{Collected, IsGoodEvent, AreGoodEvents, collected_with, collected_with_all, of_headers, none, name_found, len_at_score, end_fault, finding_at}
 use Rattle.gabc_headers.specs.machine.EntryMap.{AreWithin, comes_again, HasPlace}
@@ -222,7 +222,7 @@ module _ (limits : Limits) (text : List ℕ) (space : ℕ) (machine new : Header
       record { events_are = k.0; progress_is = k.1 }
 
   pub emits_whole : (place : Place) (body : ℕ) (line : Option ℕ) (size : ℕ) → push_one machine c ≡ (new, Ended (Score place body line)) → len_at_score limits place line book ≡ Ok size
-      → EndsHeaders limits text c (map (λ f. Found f) (name_found place book) ++ event_of_book book ∷ []) (behind book)
+      → EndsHeaders limits text c (map (λ f. Found f) (name_found place book) ++ event_of_book book ∷ []) (after_headers book)
   emits_whole place body line size p e =
       let now = heads_are place body line p ∙ ap (λ (x : Result ℕ Fault). heads_by_len place body book (collected_of t h.events).findings x) e in
       let k = whole_emits limits t [] c machine new h.events scalars_more read _ (name_found place book) now (more_found (has_header (codes "name") book)) in

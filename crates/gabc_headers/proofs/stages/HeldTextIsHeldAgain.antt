@@ -18,12 +18,12 @@ use Rattle.gabc_headers.specs.declared.heads.Heads.{Heads}
 use Rattle.gabc_headers.specs.declared.heads.HeadFault.{HeadFault}
 use Rattle.gabc_headers.specs.Heads.{findings_of}
 use Rattle.gabc_headers.specs.HeadEvents.{events_of_broken, inputs_after, emitted_by}
-use Rattle.gabc_headers.specs.witness.HeadEvents.{HeadProgress, reading, behind, over, book_at, stage_past, text_held, progress_by, progress_with, events_at, events_left}
+use Rattle.gabc_headers.specs.witness.HeadEvents.{HeadProgress, reading, after_headers, over, book_at, stage_past, text_held, progress_by, progress_with, events_at, events_left}
 use Rattle.gabc_headers.specs.HeldText.{IsHeld, findings_held, holding, text_in, inputs_of}
 use Rattle.gabc_headers.specs.machine.HeaderMachine.{fresh_machine}
 use Rattle.gabc_headers.specs.machine.HeaderStage.{IsReading}
 use Rattle.gabc_headers.proofs.prefixes.EventsMakeHeads.{concat-cons, open_progress}
-use Rattle.gabc_headers.proofs.prefixes.EventsNeedNoEnd.{progress_past, stays_over, stays_behind, stands, broken_gives}
+use Rattle.gabc_headers.proofs.prefixes.EventsNeedNoEnd.{progress_past, stays_over, stays_after, stands, broken_gives}
 use Rattle.gabc_headers.proofs.prefixes.HeadsSoFar.{begin_read, open_so_far}
 use Rattle.gabc_headers.proofs.stages.MachineTakesText.{has_read}
 
@@ -40,14 +40,14 @@ so_far limits progress xs = emitted_by false xs (events_left limits progress xs)
 
 abbrev is_open : HeadProgress → Bool
 is_open (reading t) = true
-is_open (behind book) = false
+is_open (after_headers book) = false
 is_open over = false
 
 closed_stays : (limits : Limits) (xs : List Char) (q : List ℕ) → progress_past limits over (inputs_of xs) ≡ reading q → {A : Type 0} → A
 closed_stays limits xs q e = absurd (let f : false ≡ true = ap is_open (sym (stays_over limits (inputs_of xs)) ∙ e) in cc)
 
-passed_stays : (limits : Limits) (book : List (List ℕ × List ℕ)) (xs : List Char) (q : List ℕ) → progress_past limits (behind book) (inputs_of xs) ≡ reading q → {A : Type 0} → A
-passed_stays limits book xs q e = absurd (let f : false ≡ true = ap is_open (sym (stays_behind limits book xs) ∙ e) in cc)
+passed_stays : (limits : Limits) (book : List (List ℕ × List ℕ)) (xs : List Char) (q : List ℕ) → progress_past limits (after_headers book) (inputs_of xs) ≡ reading q → {A : Type 0} → A
+passed_stays limits book xs q e = absurd (let f : false ≡ true = ap is_open (sym (stays_after limits book xs) ∙ e) in cc)
 
 -- The stage that stands in the headers after these characters, however they are placed.
 pub record IsHeldPast (limits : Limits) (hasher : DefaultHasher) (p : List ℕ) (xs : List Char) (b q : List ℕ) : Type 0 where
@@ -73,14 +73,14 @@ held_past limits hasher p (x ∷ xs) b q e = by (λ t f. held_past limits hasher
           events = split (progress_with limits p x.c) (inputs_of xs) ∙ ap (λ (n : HeadProgress). first ++ so_far limits n (inputs_of xs)) f ∙ ap (λ (es : List HeadEvent). first ++ es) more.events
               ∙ sym (ap (λ (n : HeadProgress). first ++ so_far limits n (inputs_after (b ++ x.c ∷ []) (text_in xs))) f) ∙ sym (split (progress_with limits p x.c) (inputs_after (b ++ x.c ∷ []) (text_in xs)));
         }
-    by again (behind book) f g = passed_stays limits book xs q (subst (λ (n : HeadProgress). progress_past limits n (inputs_of xs) ≡ reading q) f g)
+    by again (after_headers book) f g = passed_stays limits book xs q (subst (λ (n : HeadProgress). progress_past limits n (inputs_of xs) ≡ reading q) f g)
     by again over f g = closed_stays limits xs q (subst (λ (n : HeadProgress). progress_past limits n (inputs_of xs) ≡ reading q) f g)
 
 -- where a stage stands does not depend on where the characters do
 same_progress : (limits : Limits) (progress : HeadProgress) (xs : List Char) (b : List ℕ) → progress_past limits progress (inputs_of xs) ≡ progress_past limits progress (inputs_after b (text_in xs))
 same_progress limits progress [] b = refl
 same_progress limits (reading t) (x ∷ xs) b = same_progress limits (progress_with limits t x.c) xs (b ++ x.c ∷ [])
-same_progress limits (behind book) (x ∷ xs) b = same_progress limits (behind book) xs (b ++ x.c ∷ [])
+same_progress limits (after_headers book) (x ∷ xs) b = same_progress limits (after_headers book) xs (b ++ x.c ∷ [])
 same_progress limits over (x ∷ xs) b = same_progress limits over xs (b ++ x.c ∷ [])
 
 pub held_again : (limits : Limits) (hasher : DefaultHasher) (xs : List Char) → scalars (text_in xs) ≡ true → IsHeld limits (text_in xs) → IsHeldPast limits hasher [] xs [] (text_in xs)

@@ -132,8 +132,8 @@ all_front : {X : Type 0} (P : X → Type 0) (xs ys : List X) → All P (xs ++ ys
 all_front P xs ys all k d less = subst P (get_or_append_left xs ys d k less) (all k d (omega (arith, less, length-append xs ys)))
 
 -- what stops them after their text
-abbrev behind_text : Limits → List ℕ → Bool → List Stop
-behind_text limits t b = cond b (open_stops (head_len t + 1) (open_line (head_parts t)) ++ score_stops limits t) (open_stops (length t) (open_line (head_parts t)) ++ missing_score (open_line (head_parts t)) t)
+abbrev after_text : Limits → List ℕ → Bool → List Stop
+after_text limits t b = cond b (open_stops (head_len t + 1) (open_line (head_parts t)) ++ score_stops limits t) (open_stops (length t) (open_line (head_parts t)) ++ missing_score (open_line (head_parts t)) t)
 
 -- where there is a line `%%`, what stops the headers stands before the end
 text_before : (limit : ℕ) (t : List ℕ) → has_score (lines t) ≡ true → AreBefore (length t) (text_stops limit t)
@@ -151,7 +151,7 @@ text_before limit t score = by (first_above limit (take (head_len t) t)) refl
         cases (is_line_percent t i) (nat_lt (i + 1) (length t)) i (omega (arith, within, short, score_within t score))
 
 score_before : (limits : Limits) (t : List ℕ) → has_score (lines t) ≡ true → AreBefore (length t) (head_stops limits t)
-score_before limits t score = All-append (StopsBefore n) (text_stops limits.header t) (behind_text limits t (has_score (lines t))) (text_before limits.header t score) (subst (λ (b : Bool). AreBefore n (behind_text limits t b)) (sym score) scored)
+score_before limits t score = All-append (StopsBefore n) (text_stops limits.header t) (after_text limits t (has_score (lines t))) (text_before limits.header t score) (subst (λ (b : Bool). AreBefore n (after_text limits t b)) (sym score) scored)
   where
     n : ℕ
     n = length t
@@ -190,7 +190,7 @@ module _ (limits : Limits) (t : List ℕ) (some : 1 ≤ limits.header) (r : Stop
   text_is_whole = ap (λ (n : ℕ). too_long t (first_above limits.header (take n t))) (rw unscored refl) ∙ ap (λ (x : List ℕ). too_long t (first_above limits.header x)) (take-length t)
 
   none_before : All (IsNoLater r) (too_long t (first_above limits.header t))
-  none_before = subst (All (IsNoLater r)) text_is_whole (all_front (IsNoLater r) (text_stops limits.header t) (behind_text limits t (has_score (lines t))) least)
+  none_before = subst (All (IsNoLater r)) text_is_whole (all_front (IsNoLater r) (text_stops limits.header t) (after_text limits t (has_score (lines t))) least)
 
   by_percent : (i : ℕ) → first_above limits.header t ≡ Some i → (b d : Bool) → is_line_percent t i ≡ b → nat_lt (i + 1) (length t) ≡ d
       → All (IsNoLater r) (cond b (cond d (stop_at (i + 1) (place_after (take i t)) F4 ∷ []) []) (stop_at i (place_after (take i t)) F4 ∷ [])) → IsWithinHeaders limits.header (encode_utf8_all t)

@@ -18,7 +18,7 @@ use Rattle.gabc_headers.specs.witness.Parts.{head_parts}
 use Rattle.gabc_headers.specs.machine.Collected.{heads_at_body}
 use Rattle.gabc_headers.specs.machine.Events.{AreEarly, AreLate}
 use Rattle.gabc_headers.proofs.order.FoundBeforeAPoint.{all_known, known-append, known_one, known_none, early_all, still_early}
-use Rattle.gabc_headers.proofs.stops.PointsOfStops.{AllBehind, behind-append, limit_within, first_earliest, open_first, size_first, score_within}
+use Rattle.gabc_headers.proofs.stops.PointsOfStops.{AllAfter, after-append, limit_within, first_earliest, open_first, size_first, score_within}
 
 -- ---- what is found before a point
 
@@ -92,30 +92,30 @@ text_ended limits t events rest e a b s n o =
     faulted limits t (stop_at (length t) (place_after t) F2) (all_known (findings_after [] events)) true
     (ap (λ (x : List Stop). earliest x) (stops_text limits t None s n o)) (before t (length t) events rest e a b (omega arith)) (same_eqb (length t))
 
-open_behind : (p q : ℕ) (o : Option ℕ) → p < q → AllBehind p (open_stops q o)
-open_behind p q None h = tt
-open_behind p q (Some k) h = (h, tt)
+open_after : (p q : ℕ) (o : Option ℕ) → p < q → AllAfter p (open_stops q o)
+open_after p q None h = tt
+open_after p q (Some k) h = (h, tt)
 
-pub others_behind : (limits : Limits) (t : List ℕ) (p : ℕ) → p < length t → p ≤ head_len t
-    → AllBehind p (cond (has_score (lines t)) (open_stops (head_len t + 1) (open_line (head_parts t)) ++ score_stops limits t) (open_stops (length t) (open_line (head_parts t)) ++ missing_score (open_line (head_parts t)) t))
-others_behind limits t p h l = by (has_score (lines t))
+pub others_after : (limits : Limits) (t : List ℕ) (p : ℕ) → p < length t → p ≤ head_len t
+    → AllAfter p (cond (has_score (lines t)) (open_stops (head_len t + 1) (open_line (head_parts t)) ++ score_stops limits t) (open_stops (length t) (open_line (head_parts t)) ++ missing_score (open_line (head_parts t)) t))
+others_after limits t p h l = by (has_score (lines t))
   where
     m : p < head_len t + 1
     m = omega arith
 
-    sizes : (x y : Bool) (place : Place) → AllBehind p (cond x (stop_at (head_len t + 1) place F4 ∷ []) [] ++ cond y (stop_at (head_len t + 1) place F7 ∷ []) [])
+    sizes : (x y : Bool) (place : Place) → AllAfter p (cond x (stop_at (head_len t + 1) place F4 ∷ []) [] ++ cond y (stop_at (head_len t + 1) place F7 ∷ []) [])
     sizes true true place = (m, (m, tt))
     sizes true false place = (m, tt)
     sizes false true place = (m, tt)
     sizes false false place = tt
 
-    missing : (o : Option ℕ) → AllBehind p (missing_score o t)
+    missing : (o : Option ℕ) → AllAfter p (missing_score o t)
     missing None = (h, tt)
     missing (Some k) = tt
 
-    by : (b : Bool) → AllBehind p (cond b (open_stops (head_len t + 1) (open_line (head_parts t)) ++ score_stops limits t) (open_stops (length t) (open_line (head_parts t)) ++ missing_score (open_line (head_parts t)) t))
-    by true = behind-append p (open_stops (head_len t + 1) (open_line (head_parts t))) (score_stops limits t) (open_behind p (head_len t + 1) (open_line (head_parts t)) m) (sizes _ _ _)
-    by false = behind-append p (open_stops (length t) (open_line (head_parts t))) (missing_score (open_line (head_parts t)) t) (open_behind p (length t) (open_line (head_parts t)) h) (missing (open_line (head_parts t)))
+    by : (b : Bool) → AllAfter p (cond b (open_stops (head_len t + 1) (open_line (head_parts t)) ++ score_stops limits t) (open_stops (length t) (open_line (head_parts t)) ++ missing_score (open_line (head_parts t)) t))
+    by true = after-append p (open_stops (head_len t + 1) (open_line (head_parts t))) (score_stops limits t) (open_after p (head_len t + 1) (open_line (head_parts t)) m) (sizes _ _ _)
+    by false = after-append p (open_stops (length t) (open_line (head_parts t))) (missing_score (open_line (head_parts t)) t) (open_after p (length t) (open_line (head_parts t)) h) (missing (open_line (head_parts t)))
 
 -- the text is too long
 pub text_limit : (limits : Limits) (t : List ℕ) (events rest : List HeaderPart) (p : ℕ) (place : Place) → head_parts t ≡ events ++ rest → AreEarly p events → AreLate p rest
@@ -126,7 +126,7 @@ text_limit limits t events rest p place e a b n =
     let l : p < length t = w.0 in
     let m : p ≤ head_len t = w.1 in
     faulted limits t (stop_at p place F4) (all_known (findings_after [] events)) false
-    (rw n (first_earliest (stop_at p place F4) _ (others_behind limits t p l m)))
+    (rw n (first_earliest (stop_at p place F4) _ (others_after limits t p l m)))
     (before t p events rest e a b (omega arith)) (below_eqb p (length t) l)
 
 pub sizes_first : (p : ℕ) (b : Place) (x y : Bool) → earliest (cond x (stop_at p b F4 ∷ []) [] ++ cond y (stop_at p b F7 ∷ []) []) ≡ cond x (Some (stop_at p b F4)) (cond y (Some (stop_at p b F7)) None)

@@ -20,7 +20,7 @@ use Rattle.gabc_headers.specs.Heads.{head_len, open_line, line_place, stop_at, f
 use Rattle.gabc_headers.specs.witness.Heads.{score_stops, head_stops, heads_by}
 use Rattle.gabc_headers.specs.witness.Parts.{head_parts}
 use Rattle.gabc_headers.proofs.stops.PointsOfStops.{above_within, limit_within, first_earliest, open_first, score_within}
-use Rattle.gabc_headers.proofs.stops.HeadsByEnding.{others_behind, sizes_first}
+use Rattle.gabc_headers.proofs.stops.HeadsByEnding.{others_after, sizes_first}
 
 -- ---- the text before the line `%%`
 
@@ -126,7 +126,7 @@ heads_long : (limits : Limits) (t : List ℕ) (p : ℕ) (place : Place) → text
 heads_long limits t p place e =
     let w = limit_within limits.header t p place e in
     ap (λ (x : List Stop). heads_by t (earliest (x ++ cond (has_score (lines t)) (open_stops (head_len t + 1) (open_line (head_parts t)) ++ score_stops limits t) (open_stops (length t) (open_line (head_parts t)) ++ missing_score (open_line (head_parts t)) t)))) e
-    ∙ ap (heads_by t) (first_earliest (stop_at p place F4) _ (others_behind limits t p w.0 w.1))
+    ∙ ap (heads_by t) (first_earliest (stop_at p place F4) _ (others_after limits t p w.0 w.1))
 
 -- ---- larger limits
 

@@ -19,7 +19,7 @@ use Rattle.gabc_headers.specs.witness.Parts.{head_parts}
 use Rattle.gabc_headers.specs.machine.PartMachine.{open_in}
 use Rattle.gabc_headers.specs.machine.Events.{AreHeaderEvents, open_part}
 use Rattle.gabc_headers.proofs.groups.TextBeforeScore.{head_text, is_scored, head_length, head_next}
-use Rattle.gabc_headers.proofs.machines.PartsBehindState.{StandsIn}
+use Rattle.gabc_headers.proofs.machines.PartsAfterState.{StandsIn}
 use Rattle.gabc_headers.proofs.machines.OneStepByCharacter.{the_end}
 use Rattle.gabc_headers.proofs.machines.EventsAreParts.{seen, last_in}
 use Rattle.gabc_headers.proofs.machines.EventSpansLieInText.{Near, drop_next, near_step, near_last, later, late_seen, open_late, quiet_event, quiet_open, quiet_last}

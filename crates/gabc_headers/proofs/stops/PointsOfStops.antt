@@ -70,37 +70,37 @@ size_first p b true = rw (same_ltb p, same_eqb p) refl
 size_first p b false = refl
 
 -- stops after a point
-abbrev pub AllBehind : ℕ → List Stop → Type 0
-AllBehind p [] = Unit {0}
-AllBehind p (s ∷ ss) = (p < s.point) × AllBehind p ss
+abbrev pub AllAfter : ℕ → List Stop → Type 0
+AllAfter p [] = Unit {0}
+AllAfter p (s ∷ ss) = (p < s.point) × AllAfter p ss
 
-abbrev IsBehind : ℕ → Option Stop → Type 0
-IsBehind p None = Unit {0}
-IsBehind p (Some s) = p < s.point
+abbrev IsAfterHeaders : ℕ → Option Stop → Type 0
+IsAfterHeaders p None = Unit {0}
+IsAfterHeaders p (Some s) = p < s.point
 
 one_of : (p : ℕ) (b : Bool) (s r : Stop) → p < s.point → p < r.point → p < (cond b r s).point
 one_of p true s r h k = k
 one_of p false s r h k = h
 
-behind_earliest : (p : ℕ) (ss : List Stop) → AllBehind p ss → IsBehind p (earliest ss)
-behind_earliest p [] h = tt
-behind_earliest p (s ∷ ss) h = by (earliest ss) (behind_earliest p ss h.1)
+after_earliest : (p : ℕ) (ss : List Stop) → AllAfter p ss → IsAfterHeaders p (earliest ss)
+after_earliest p [] h = tt
+after_earliest p (s ∷ ss) h = by (earliest ss) (after_earliest p ss h.1)
   where
-    by : (o : Option Stop) → IsBehind p o → p < (or_earlier s o).point
+    by : (o : Option Stop) → IsAfterHeaders p o → p < (or_earlier s o).point
     by None k = h.0
     by (Some r) k = one_of p (nat_lt r.point s.point || ((r.point == s.point) && nat_lt (rank_of r.fault.code) (rank_of s.fault.code))) s r h.0 k
 
 -- a stop before all others is the earliest
-pub first_earliest : (s : Stop) (ss : List Stop) → AllBehind s.point ss → earliest (s ∷ ss) ≡ Some s
-first_earliest s ss h = by (earliest ss) (behind_earliest s.point ss h)
+pub first_earliest : (s : Stop) (ss : List Stop) → AllAfter s.point ss → earliest (s ∷ ss) ≡ Some s
+first_earliest s ss h = by (earliest ss) (after_earliest s.point ss h)
   where
-    by : (o : Option Stop) → IsBehind s.point o → Some (or_earlier s o) ≡ Some s
+    by : (o : Option Stop) → IsAfterHeaders s.point o → Some (or_earlier s o) ≡ Some s
     by None k = refl
     by (Some r) k = rw (le-ltb r.point s.point (let l : s.point < r.point = k in omega arith), above_eqb r.point s.point k) refl
 
-pub behind-append : (p : ℕ) (ss rs : List Stop) → AllBehind p ss → AllBehind p rs → AllBehind p (ss ++ rs)
-behind-append p [] rs h k = k
-behind-append p (s ∷ ss) rs h k = (h.0, behind-append p ss rs h.1 k)
+pub after-append : (p : ℕ) (ss rs : List Stop) → AllAfter p ss → AllAfter p rs → AllAfter p (ss ++ rs)
+after-append p [] rs h k = k
+after-append p (s ∷ ss) rs h k = (h.0, after-append p ss rs h.1 k)
 
 -- ---- the limit
 

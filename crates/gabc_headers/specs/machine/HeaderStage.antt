@@ -6,7 +6,7 @@ use Rattle.gabc_headers.specs.declared.events.HeaderEvent.{HeaderEvent}
 use Rattle.gabc_headers.specs.declared.header_machine.HeaderMachine.{HeaderMachine}
 use Rattle.gabc_headers.specs.declared.header_machine.HeaderStep.TheVariants.{Read}
 use Rattle.gabc_headers.specs.declared.header_stage.HeadPart.{HeadPart}
-use Rattle.gabc_headers.specs.declared.header_stage.HeadPart.TheVariants.{InHeaders, Behind, Stopped, Over}
+use Rattle.gabc_headers.specs.declared.header_stage.HeadPart.TheVariants.{InHeaders, After, Stopped, Over}
 use Rattle.gabc_headers.specs.machine.Collected.{collected_with_all, none}
 use Rattle.gabc_headers.specs.Entries.{EntryMapState}
 use Rattle.gabc_headers.specs.machine.EntryMap.{AreWithin}
@@ -42,13 +42,13 @@ pub record KeepsHeaders (limits : Limits) (text : List ℕ) (space : ℕ) (heade
 
 abbrev pub IsStageIn : HeadPart → Limits → List ℕ → ℕ → HeaderMachine → EntryMapState → Type 0
 IsStageIn InHeaders limits text space machine headers = IsReading limits text space machine headers
-IsStageIn Behind limits text space machine headers = KeepsHeaders limits text space headers
+IsStageIn After limits text space machine headers = KeepsHeaders limits text space headers
 IsStageIn Stopped limits text space machine headers = KeepsHeaders limits text space headers
 IsStageIn Over limits text space machine headers = KeepsHeaders limits text space headers
 
 -- after the last event
 abbrev pub part_over : HeadPart → HeadPart
 part_over InHeaders = Stopped
-part_over Behind = Over
+part_over After = Over
 part_over Stopped = Stopped
 part_over Over = Over

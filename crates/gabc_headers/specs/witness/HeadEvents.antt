@@ -18,7 +18,7 @@ pub data HeadProgress : Type 0 where
   -- in the headers, of which this text is read
   reading : List ℕ → HeadProgress
   -- after them, with this book
-  behind : List (List ℕ × List ℕ) → HeadProgress
+  after_headers : List (List ℕ × List ℕ) → HeadProgress
   -- after its last event
   over : HeadProgress
 
@@ -36,7 +36,7 @@ abbrev pub events_at : Limits → List ℕ → ℕ → List HeadEvent
 events_at limits t c = events_by (new_findings limits t (t ++ c ∷ [])) (heads_of limits (t ++ c ∷ []))
 
 abbrev pub progress_by : List ℕ → Result Heads HeadFault → HeadProgress
-progress_by t (Ok heads) = behind heads.book
+progress_by t (Ok heads) = after_headers heads.book
 progress_by t (Err stopped) = if stopped.at_end then reading t else over
 
 -- what stops the headers at the end of their text
@@ -48,8 +48,8 @@ events_at_end (Err stopped) = Stop stopped.fault ∷ []
 abbrev pub events_of_input : Limits → HeadProgress → Result Char Fault → List HeadEvent
 events_of_input limits (reading t) (Ok c) = events_at limits t c.c
 events_of_input limits (reading t) (Err fault) = Stop fault ∷ []
-events_of_input limits (behind book) (Ok c) = Body c ∷ []
-events_of_input limits (behind book) (Err fault) = Stop fault ∷ []
+events_of_input limits (after_headers book) (Ok c) = Body c ∷ []
+events_of_input limits (after_headers book) (Err fault) = Stop fault ∷ []
 events_of_input limits over x = []
 
 -- where a stage stands that has read one character more of the headers
@@ -58,15 +58,15 @@ progress_with limits t c = progress_by (t ++ c ∷ []) (heads_of limits (t ++ c 
 
 abbrev pub progress_after : Limits → HeadProgress → Result Char Fault → HeadProgress
 progress_after limits (reading t) (Ok c) = progress_with limits t c.c
-progress_after limits (behind book) (Ok c) = behind book
+progress_after limits (after_headers book) (Ok c) = after_headers book
 progress_after limits over x = over
 progress_after limits (reading t) (Err fault) = over
-progress_after limits (behind book) (Err fault) = over
+progress_after limits (after_headers book) (Err fault) = over
 
 -- what is given of the end of the inputs
 abbrev pub events_of_end : Limits → HeadProgress → List HeadEvent
 events_of_end limits (reading t) = events_at_end (heads_of limits t)
-events_of_end limits (behind book) = End ∷ []
+events_of_end limits (after_headers book) = End ∷ []
 events_of_end limits over = []
 
 -- a list for each input to come, and one for the end
@@ -88,7 +88,7 @@ fresh_stage limits hasher = record { limits = limits; progress = reading []; boo
 
 -- the headers are kept from where they are whole
 abbrev pub book_at : HeadProgress → List (List ℕ × List ℕ) → List (List ℕ × List ℕ)
-book_at (behind book) old = book
+book_at (after_headers book) old = book
 book_at (reading t) old = old
 book_at over old = old
 
@@ -106,17 +106,17 @@ stage_past s (x ∷ xs) = stage_past (stage_after s x) xs
 -- the stage is in the headers
 abbrev pub IsInHeaders : HeadProgress → Type 0
 IsInHeaders (reading t) = Unit {0}
-IsInHeaders (behind book) = ⊥
+IsInHeaders (after_headers book) = ⊥
 IsInHeaders over = ⊥
 
 -- the headers are read whole, and nothing has stopped the text
-abbrev pub IsBehind : HeadProgress → Type 0
-IsBehind (reading t) = ⊥
-IsBehind (behind book) = Unit {0}
-IsBehind over = ⊥
+abbrev pub IsAfterHeaders : HeadProgress → Type 0
+IsAfterHeaders (reading t) = ⊥
+IsAfterHeaders (after_headers book) = Unit {0}
+IsAfterHeaders over = ⊥
 
 -- the text of the headers, as long as they are read
 abbrev pub text_held : HeadProgress → List ℕ
 text_held (reading t) = t
-text_held (behind book) = []
+text_held (after_headers book) = []
 text_held over = []

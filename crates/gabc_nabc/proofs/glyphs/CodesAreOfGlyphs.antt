@@ -8,7 +8,7 @@ use Rattle.gabc_patterns.specs.Pattern.{Pattern, never, nothing, one_of, any_but
 use Rattle.gabc_patterns.proofs.BothOfTwoTests.{and_true}
 use Rattle.gabc_nabc.specs.Table.{code, glyph, points, letters, descriptor}
 use Rattle.gabc_nabc.specs.Codes.{code_at, codes_in, glyphs_joined, code_of_glyph, HasCodesOfGlyphs}
-use Rattle.gabc_nabc.proofs.glyphs.CodesAreTwoLetters.{same_in, firsts, letters as all_letters, behind_s, behind_p, behind_l}
+use Rattle.gabc_nabc.proofs.glyphs.CodesAreTwoLetters.{same_in, firsts, letters as all_letters, after_s, after_p, after_l}
 use Rattle.gabc_nabc.specs.declared.code.GlyphCode.{GlyphCode}
 
 -- ---- from left to right
@@ -143,9 +143,9 @@ pair_two cs ds t (x, y, (k, h, e), (l, i, f), g) = (k, l, [], g ∙ (ap (λ (u :
 
 code_two : (t : List ℕ) → Spells code t → Two t
 code_two t (inl h) = pair_two firsts all_letters t h
-code_two t (inr (inl h)) = pair_two (115 ∷ []) behind_s t h
-code_two t (inr (inr (inl h))) = pair_two (112 ∷ []) behind_p t h
-code_two t (inr (inr (inr h))) = pair_two (108 ∷ []) behind_l t h
+code_two t (inr (inl h)) = pair_two (115 ∷ []) after_s t h
+code_two t (inr (inr (inl h))) = pair_two (112 ∷ []) after_p t h
+code_two t (inr (inr (inr h))) = pair_two (108 ∷ []) after_l t h
 
 glyph_two : (t : List ℕ) → Spells glyph t → Two t
 glyph_two t (a, b, h, i, e) =

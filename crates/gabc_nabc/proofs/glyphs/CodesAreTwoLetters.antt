@@ -15,14 +15,14 @@ letters = codes "abcdefghijklmnopqrstuvwxyz"
 abbrev pub firsts : List ℕ
 firsts = codes "abcdefgijkmnoqrtuvwxyz"
 
-abbrev pub behind_s : List ℕ
-behind_s = codes "abcdefghijklmnopqrstvwxyz"
+abbrev pub after_s : List ℕ
+after_s = codes "abcdefghijklmnopqrstvwxyz"
 
-abbrev pub behind_p : List ℕ
-behind_p = codes "abcdefghijklmnoqrstuvwxyz"
+abbrev pub after_p : List ℕ
+after_p = codes "abcdefghijklmnoqrstuvwxyz"
 
-abbrev pub behind_l : List ℕ
-behind_l = codes "abcdefghijklmnopqruvwxyz"
+abbrev pub after_l : List ℕ
+after_l = codes "abcdefghijklmnopqruvwxyz"
 
 -- ---- two tests of one character are alike
 
@@ -38,14 +38,14 @@ letters_are = below_or_beyond (λ c. is_in c letters) is_letter refl (λ c h. gr
 firsts_are : (a : ℕ) → is_in a firsts ≡ (begins_code a && (not (a == 115) && (not (a == 112) && not (a == 108))))
 firsts_are = below_or_beyond (λ a. is_in a firsts) (λ a. begins_code a && (not (a == 115) && (not (a == 112) && not (a == 108)))) refl (λ c h. grind (arith, nat_tests))
 
-behind_s_are : (c : ℕ) → is_in c behind_s ≡ is_code 115 c
-behind_s_are = below_or_beyond (λ c. is_in c behind_s) (is_code 115) refl (λ c h. grind (arith, nat_tests))
+after_s_are : (c : ℕ) → is_in c after_s ≡ is_code 115 c
+after_s_are = below_or_beyond (λ c. is_in c after_s) (is_code 115) refl (λ c h. grind (arith, nat_tests))
 
-behind_p_are : (c : ℕ) → is_in c behind_p ≡ is_code 112 c
-behind_p_are = below_or_beyond (λ c. is_in c behind_p) (is_code 112) refl (λ c h. grind (arith, nat_tests))
+after_p_are : (c : ℕ) → is_in c after_p ≡ is_code 112 c
+after_p_are = below_or_beyond (λ c. is_in c after_p) (is_code 112) refl (λ c h. grind (arith, nat_tests))
 
-behind_l_are : (c : ℕ) → is_in c behind_l ≡ is_code 108 c
-behind_l_are = below_or_beyond (λ c. is_in c behind_l) (is_code 108) refl (λ c h. grind (arith, nat_tests))
+after_l_are : (c : ℕ) → is_in c after_l ≡ is_code 108 c
+after_l_are = below_or_beyond (λ c. is_in c after_l) (is_code 108) refl (λ c h. grind (arith, nat_tests))
 
 -- ---- what two letters spell
 
@@ -88,13 +88,13 @@ spelled a c e = go (a == 115) (a == 112) (a == 108) refl refl refl
     go : (s p l : Bool) → (a == 115) ≡ s → (a == 112) ≡ p → (a == 108) ≡ l → Spells code (a ∷ c ∷ [])
     go true p l f g h =
         let same : a ≡ 115 = grind (arith, nat_tests) in
-        inr (inl (pair_from (115 ∷ []) behind_s a c (in_same 115 a same) (behind_s_are c ∙ (ap (λ (n : ℕ). is_code n c) (sym same) ∙ e))))
+        inr (inl (pair_from (115 ∷ []) after_s a c (in_same 115 a same) (after_s_are c ∙ (ap (λ (n : ℕ). is_code n c) (sym same) ∙ e))))
     go false true l f g h =
         let same : a ≡ 112 = grind (arith, nat_tests) in
-        inr (inr (inl (pair_from (112 ∷ []) behind_p a c (in_same 112 a same) (behind_p_are c ∙ (ap (λ (n : ℕ). is_code n c) (sym same) ∙ e)))))
+        inr (inr (inl (pair_from (112 ∷ []) after_p a c (in_same 112 a same) (after_p_are c ∙ (ap (λ (n : ℕ). is_code n c) (sym same) ∙ e)))))
     go false false true f g h =
         let same : a ≡ 108 = grind (arith, nat_tests) in
-        inr (inr (inr (pair_from (108 ∷ []) behind_l a c (in_same 108 a same) (behind_l_are c ∙ (ap (λ (n : ℕ). is_code n c) (sym same) ∙ e)))))
+        inr (inr (inr (pair_from (108 ∷ []) after_l a c (in_same 108 a same) (after_l_are c ∙ (ap (λ (n : ℕ). is_code n c) (sym same) ∙ e)))))
     go false false false f g h =
         let both = and_true (begins_code a) (is_letter c) (sym (plain_code a c f g h) ∙ e) in
         inl (pair_from firsts letters a c (firsts_are a ∙ rw (both.0, f, g, h) refl) (letters_are c ∙ both.1))
@@ -107,14 +107,14 @@ is_spelled a c (inl h) =
     let w = and_true (not (a == 112)) (not (a == 108)) z.1 in
     plain_code a c (not-true (a == 115) z.0) (not-true (a == 112) w.0) (not-true (a == 108) w.1) ∙ rw (y.0, sym (letters_are c) ∙ x.1) refl
 is_spelled a c (inr (inl h)) =
-    let x = pair_to (115 ∷ []) behind_s a c h in
-    ap (λ (n : ℕ). is_code n c) (same_in 115 a x.0) ∙ (sym (behind_s_are c) ∙ x.1)
+    let x = pair_to (115 ∷ []) after_s a c h in
+    ap (λ (n : ℕ). is_code n c) (same_in 115 a x.0) ∙ (sym (after_s_are c) ∙ x.1)
 is_spelled a c (inr (inr (inl h))) =
-    let x = pair_to (112 ∷ []) behind_p a c h in
-    ap (λ (n : ℕ). is_code n c) (same_in 112 a x.0) ∙ (sym (behind_p_are c) ∙ x.1)
+    let x = pair_to (112 ∷ []) after_p a c h in
+    ap (λ (n : ℕ). is_code n c) (same_in 112 a x.0) ∙ (sym (after_p_are c) ∙ x.1)
 is_spelled a c (inr (inr (inr h))) =
-    let x = pair_to (108 ∷ []) behind_l a c h in
-    ap (λ (n : ℕ). is_code n c) (same_in 108 a x.0) ∙ (sym (behind_l_are c) ∙ x.1)
+    let x = pair_to (108 ∷ []) after_l a c h in
+    ap (λ (n : ℕ). is_code n c) (same_in 108 a x.0) ∙ (sym (after_l_are c) ∙ x.1)
 
 -- the table spells two letters exactly if they are a code
 pub letters_spell : (a c : ℕ) → IsTrue (is_code a c) ↔ Spells code (a ∷ c ∷ [])

@@ -38,11 +38,11 @@ no_code a b i rows l = ap (λ (u : List Row). name_among a b (map plain u)) (dro
 -- ---- the letters of a text
 
 -- the characters of a text after its first one
-abbrev pub Behind : List ℕ → ℕ → List ℕ → Type 0
-Behind bs c rest = (chars bs ≡ c ∷ chars rest) × IsUtf8 rest
+abbrev pub After : List ℕ → ℕ → List ℕ → Type 0
+After bs c rest = (chars bs ≡ c ∷ chars rest) × IsUtf8 rest
 
-behind : (bs rest : List ℕ) (c : ℕ) → IsUtf8 bs → bs ≡ encode c ++ rest → Behind bs c rest
-behind bs rest c u e = (chars_past_char bs rest c u e, IsUtf8-past_char bs rest c u e)
+after : (bs rest : List ℕ) (c : ℕ) → IsUtf8 bs → bs ≡ encode c ++ rest → After bs c rest
+after bs rest c u e = (chars_past_char bs rest c u e, IsUtf8-past_char bs rest c u e)
 
 -- what is known where there is none
 pub none_of : (A : Type 0) (B : ℕ → Type 0) (o : Option ℕ) → o ≡ None → MatchOption o A B → A
@@ -55,20 +55,20 @@ no_letters bs l = ap name_in (chars-none bs l)
 
 -- one
 pub one_letter : (bs more : List ℕ) (a : ℕ) → IsUtf8 bs → bs ≡ encode a ++ more → length more ≡ 0 → name_in (chars bs) ≡ None
-one_letter bs more a u e l = ap name_in ((behind bs more a u e).0 ∙ ap (λ (t : List ℕ). a ∷ t) (chars-none more l))
+one_letter bs more a u e l = ap name_in ((after bs more a u e).0 ∙ ap (λ (t : List ℕ). a ∷ t) (chars-none more l))
 
 -- two
 pub two_letters : (bs more rest : List ℕ) (a b : ℕ) → IsUtf8 bs → bs ≡ encode a ++ more → more ≡ encode b ++ rest → length rest ≡ 0 → name_in (chars bs) ≡ name_by a b
 two_letters bs more rest a b u e f l =
-    let x = behind bs more a u e in
-    let y = behind more rest b x.1 f in
+    let x = after bs more a u e in
+    let y = after more rest b x.1 f in
     ap name_in (x.0 ∙ ap (λ (t : List ℕ). a ∷ t) (y.0 ∙ ap (λ (t : List ℕ). b ∷ t) (chars-none rest l)))
 
 -- three
 pub three_letters : (bs more rest last : List ℕ) (a b d : ℕ) → IsUtf8 bs → bs ≡ encode a ++ more → more ≡ encode b ++ rest → rest ≡ encode d ++ last
     → name_in (chars bs) ≡ None
 three_letters bs more rest last a b d u e f g =
-    let x = behind bs more a u e in
-    let y = behind more rest b x.1 f in
-    let z = behind rest last d y.1 g in
+    let x = after bs more a u e in
+    let y = after more rest b x.1 f in
+    let z = after rest last d y.1 g in
     ap name_in (x.0 ∙ ap (λ (t : List ℕ). a ∷ t) (y.0 ∙ ap (λ (t : List ℕ). b ∷ t) z.0))

@@ -253,23 +253,23 @@ split t (c ∷ cs) at running = go (is_end t c) refl (λ r. split (t ++ c ∷ []
         }
 
 -- a text without an end, by its characters
-none_ends : (t front before behind : List ℕ) (c : ℕ) → has_end_after t front ≡ false → front ≡ before ++ c ∷ behind → is_end (t ++ before) c ≡ false
-none_ends t [] [] behind c e f = absurd (cc)
-none_ends t [] (d ∷ before) behind c e f = absurd (cc)
-none_ends t (d ∷ front) [] behind c e f =
+none_ends : (t front before after : List ℕ) (c : ℕ) → has_end_after t front ≡ false → front ≡ before ++ c ∷ after → is_end (t ++ before) c ≡ false
+none_ends t [] [] after c e f = absurd (cc)
+none_ends t [] (d ∷ before) after c e f = absurd (cc)
+none_ends t (d ∷ front) [] after c e f =
     let g : c ≡ d = cc in
     ap (λ (u : List ℕ). is_end u c) (append-nil t) ∙ (ap (is_end t) g ∙ (or_parts (is_end t d) (has_end_after (t ++ d ∷ []) front) e).0)
-none_ends t (d ∷ front) (b ∷ before) behind c e f =
+none_ends t (d ∷ front) (b ∷ before) after c e f =
     let g : b ≡ d = cc in
-    let h : front ≡ before ++ c ∷ behind = cc in
+    let h : front ≡ before ++ c ∷ after = cc in
     ap (λ (u : List ℕ). is_end u c) (sym (append_assoc t (b ∷ []) before)) ∙ (ap (λ (a : ℕ). is_end ((t ++ a ∷ []) ++ before) c) g
-    ∙ none_ends (t ++ d ∷ []) front before behind c (or_parts (is_end t d) (has_end_after (t ++ d ∷ []) front) e).1 h)
+    ∙ none_ends (t ++ d ∷ []) front before after c (or_parts (is_end t d) (has_end_after (t ++ d ∷ []) front) e).1 h)
 
-none_end : (t front : List ℕ) → ((before behind : List ℕ) (c : ℕ) → front ≡ before ++ c ∷ behind → is_end (t ++ before) c ≡ false) → has_end_after t front ≡ false
+none_end : (t front : List ℕ) → ((before after : List ℕ) (c : ℕ) → front ≡ before ++ c ∷ after → is_end (t ++ before) c ≡ false) → has_end_after t front ≡ false
 none_end t [] h = refl
 none_end t (d ∷ front) h =
     ap (λ (b : Bool). b || has_end_after (t ++ d ∷ []) front) (ap (λ (u : List ℕ). is_end u d) (sym (append-nil t)) ∙ h [] front d refl)
-    ∙ none_end (t ++ d ∷ []) front (λ before behind c e. ap (λ (u : List ℕ). is_end u c) (append_assoc t (d ∷ []) before) ∙ h (d ∷ before) behind c (ap (λ (u : List ℕ). d ∷ u) e))
+    ∙ none_end (t ++ d ∷ []) front (λ before after c e. ap (λ (u : List ℕ). is_end u c) (append_assoc t (d ∷ []) before) ∙ h (d ∷ before) after c (ap (λ (u : List ℕ). d ∷ u) e))
 
 -- what stands before the first mark
 before_is : (t front rest : List ℕ) → has_end_after t front ≡ false → StopsAt (t ++ front) rest → before_end_after t (front ++ rest) ≡ front
@@ -296,7 +296,7 @@ read_by_relations at t r h =
       front = s.before;
       rest = s.rest;
       cut = s.cut;
-      unended = λ before behind c. none_ends [] s.before before behind c s.unended;
+      unended = λ before after c. none_ends [] s.before before after c s.unended;
       kept = kept_of s.before;
       keeps = kept_keeps s.before;
       found = s.found;
@@ -360,12 +360,12 @@ relations_are_computed at t r h = go h.rest h.cut h.is_read
         let later : from_end t ≡ rest = rest_is t h.front rest front cut in
         let s = split [] t at refl in
         let same : s.before ≡ h.front = sym s.is_before ∙ front in
-        let behind : s.rest ≡ rest = sym (rest_is t s.before s.rest s.is_before s.cut) ∙ later in
+        let after : s.rest ≡ rest = sym (rest_is t s.before s.rest s.is_before s.cut) ∙ later in
         let found : h.found ≡ s.found =
         one_found [] (placed_characters_from at h.front) h.found s.found h.finds (subst (λ (u : List ℕ). AreFound [] (placed_characters_from at u) s.found) same s.finds) in
         record {
           kept_is = text rest i ∙ (ap (λ (u : List ℕ). encodes (kept_before u rest)) (sym front) ∙ ap (λ (u : List ℕ). encodes (kept_before (before_end t) u)) (sym later));
           findings_are = at_end rest i ∙ (ap (λ (u : List Finding). u ++ endings h.front rest (place_past at h.front)) found
-              ∙ (ap (λ (u : List ℕ). s.found ++ endings u rest (place_past at u)) (sym same) ∙ (ap (λ (u : List ℕ). s.found ++ endings s.before u (place_past at s.before)) (sym behind) ∙ sym s.all)));
+              ∙ (ap (λ (u : List ℕ). s.found ++ endings u rest (place_past at u)) (sym same) ∙ (ap (λ (u : List ℕ). s.found ++ endings s.before u (place_past at s.before)) (sym after) ∙ sym s.all)));
           how_is = how rest i ∙ (ap (λ (u : List ℕ). ending_past u rest) (sym front) ∙ ap (ending_past (before_end t)) (sym later));
         }

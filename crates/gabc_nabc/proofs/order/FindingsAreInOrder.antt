@@ -60,8 +60,8 @@ InOrderFrom p [] = Unit {0}
 InOrderFrom p (f ∷ fs) = From p f × ComeAfter f fs
 
 -- the next place is after this one
-next_behind : (p : Place) (c : ℕ) (f : Finding) → From (next_place p c) f → (p.line < f.place.line) ⊎ ((p.line ≡ f.place.line) × (p.column + 1 ≤ f.place.column))
-next_behind p c f h = go (is_line_feed c) h
+next_after : (p : Place) (c : ℕ) (f : Finding) → From (next_place p c) f → (p.line < f.place.line) ⊎ ((p.line ≡ f.place.line) × (p.column + 1 ≤ f.place.column))
+next_after p c f h = go (is_line_feed c) h
   where
     go : (b : Bool) → From (cond b (record { line = p.line + 1; column = 1 }) (record { line = p.line; column = p.column + 1 })) f
         → (p.line < f.place.line) ⊎ ((p.line ≡ f.place.line) × (p.column + 1 ≤ f.place.column))
@@ -73,7 +73,7 @@ next_behind p c f h = go (is_line_feed c) h
 -- so findings from the next place on are findings from this one on
 from_next : (p : Place) (c : ℕ) (fs : List Finding) → InOrderFrom (next_place p c) fs → InOrderFrom p fs
 from_next p c [] h = tt
-from_next p c (f ∷ fs) h = (go (next_behind p c f h.0), h.1)
+from_next p c (f ∷ fs) h = (go (next_after p c f h.0), h.1)
   where
     go : (p.line < f.place.line) ⊎ ((p.line ≡ f.place.line) × (p.column + 1 ≤ f.place.column)) → From p f
     go (inl l) = inl l
@@ -82,7 +82,7 @@ from_next p c (f ∷ fs) h = (go (next_behind p c f h.0), h.1)
 -- and a finding at this place stands before them
 before_next : (p : Place) (c : ℕ) (code : Code) (fs : List Finding) → InOrderFrom (next_place p c) fs → ComeAfter (record { place = p; code = code }) fs
 before_next p c code [] h = tt
-before_next p c code (f ∷ fs) h = (go (next_behind p c f h.0), h.1)
+before_next p c code (f ∷ fs) h = (go (next_after p c f h.0), h.1)
   where
     go : (p.line < f.place.line) ⊎ ((p.line ≡ f.place.line) × (p.column + 1 ≤ f.place.column)) → ComesBefore (record { place = p; code = code }) f
     go (inl l) = inl l

@@ -21,16 +21,16 @@ abbrev pub part_at : ℕ → Bool × ℕ → Descriptor
 part_at at i = record { space = i.0; span = record { from = at; to = at + i.1 } }
 
 -- What is left of a text after its first part.
-pub record Behind (text : List ℕ) (at : ℕ) (i : Bool × ℕ) : Type 0 where
+pub record After (text : List ℕ) (at : ℕ) (i : Bool × ℕ) : Type 0 where
   pub some : 0 < i.1
   pub within : i.1 ≤ length text
   pub utf8 : IsUtf8 (drop i.1 text)
   pub parts : placed_parts at (items nabc (chars text)) ≡ part_at at i ∷ placed_parts (at + i.1) (items nabc (chars (drop i.1 text)))
 
-pub behind_first : (text : List ℕ) (at : ℕ) (i : Bool × ℕ) → IsUtf8 text → first_part_of text ≡ Some i → Behind text at i
-behind_first text at i u e = go (longest_item nabc (chars text)) (longest_item_best nabc (chars text)) refl
+pub after_first : (text : List ℕ) (at : ℕ) (i : Bool × ℕ) → IsUtf8 text → first_part_of text ≡ Some i → After text at i
+after_first text at i u e = go (longest_item nabc (chars text)) (longest_item_best nabc (chars text)) refl
   where
-    go : (o : Option (Bool × ℕ)) → IsBest nabc (chars text) (length (chars text)) o → longest_item nabc (chars text) ≡ o → Behind text at i
+    go : (o : Option (Bool × ℕ)) → IsBest nabc (chars text) (length (chars text)) o → longest_item nabc (chars text) ≡ o → After text at i
     go None h f = absurd (let g : in_bytes (chars text) None ≡ Some i = ap (in_bytes (chars text)) (sym f) ∙ e in cc)
     go (Some (k, n)) h f =
         let t : List ℕ = chars text in
@@ -45,7 +45,7 @@ behind_first text at i u e = go (longest_item nabc (chars text)) (longest_item_b
         let same : i ≡ (k, length (encodes a)) = cc in
         let x = h.0 in
         let y = h.1 in
-        subst (Behind text at) (sym same) (record {
+        subst (After text at) (sym same) (record {
           some = omega (arith, length-le-encodes a, length-take-le n t y, x);
           within = omega (arith, ap length bytes, length-append (encodes a) (encodes b));
           utf8 = rw left (b, (s.1, refl));

@@ -20,19 +20,19 @@ comment_of s = s.comment
 -- ---- a character c after the kept text k, by whether a comment is open
 
 -- it ends the snippet
-abbrev pub is_end_behind : Bool → ℕ → Bool
-is_end_behind comment c = not comment && ((c == 41) || (c == 124))
+abbrev pub is_end_after : Bool → ℕ → Bool
+is_end_after comment c = not comment && ((c == 41) || (c == 124))
 
 -- what is kept with it
-abbrev pub kept_behind : List ℕ → Bool → ℕ → List ℕ
-kept_behind k comment c =
+abbrev pub kept_after : List ℕ → Bool → ℕ → List ℕ
+kept_after k comment c =
     if not comment && not (is_in c (37 ∷ 32 ∷ 9 ∷ 10 ∷ [])) then (if is_viable nabc (k ++ c ∷ []) then k ++ c ∷ [] else k) else k
 
 -- it is kept, where no comment is open, and none is open after it
 pub record IsKeptAgain (k : List ℕ) (c : ℕ) : Type 0 where
   pub no_comment : comment_in false c ≡ false
-  pub goes_on : is_end_behind false c ≡ false
-  pub kept : kept_behind k false c ≡ k ++ c ∷ []
+  pub goes_on : is_end_after false c ≡ false
+  pub kept : kept_after k false c ≡ k ++ c ∷ []
 
 -- ---- a stage after a kept text
 
@@ -53,7 +53,7 @@ pub record Keeps (s : NabcStage) (k : List ℕ) : Type 0 where
 -- The stage goes on after a character.
 pub record GoesOn (k : List ℕ) (before : NabcStage) (x : Char) (events : List NoteEvent) (after : NabcStage) : Type 0 where
   pub no_end : ends_of events ≡ []
-  pub kept : k ++ kept_of events ≡ kept_behind k (comment_of before) x.c
+  pub kept : k ++ kept_of events ≡ kept_after k (comment_of before) x.c
   pub keeps : Keeps after (k ++ kept_of events)
   pub comment : comment_of after ≡ comment_in (comment_of before) x.c
 
@@ -66,8 +66,8 @@ pub record EndsAfter (k : List ℕ) (c : ℕ) (events : List NoteEvent) : Type 0
 -- What a character does to a stage, by the text that it kept and whether a comment is open: it goes
 -- on or ends.
 pub record KeepsOn (before : NabcStage) (x : Char) (events : List NoteEvent) (after : NabcStage) : Type 0 where
-  pub goes : (k : List ℕ) → Keeps before k → is_end_behind (comment_of before) x.c ≡ false → GoesOn k before x events after
-  pub ends : (k : List ℕ) → Keeps before k → is_end_behind (comment_of before) x.c ≡ true → EndsAfter k x.c events
+  pub goes : (k : List ℕ) → Keeps before k → is_end_after (comment_of before) x.c ≡ false → GoesOn k before x events after
+  pub ends : (k : List ℕ) → Keeps before k → is_end_after (comment_of before) x.c ≡ true → EndsAfter k x.c events
 
 -- The step of a stage: it takes a character with these events, and stands there then.
 pub record Steps (before : NabcStage) (x : Char) (events : List NoteEvent) (after : NabcStage) : Type 0 where

@@ -54,24 +54,24 @@ searched_with ns rest note s z h w = go (next_state s.state (class_at s.before n
     go None e = absurd (let f : search_with s note ≡ None = rw e refl in cc)
     go (Some after) e = on (kind_at_end after) refl
       where
-        behind : Option (GlyphKind × ℕ) → GlyphSearch
-        behind best = record { state = after; before = Some note.height; read = s.read + 1; best = best }
+        further : Option (GlyphKind × ℕ) → GlyphSearch
+        further best = record { state = after; before = Some note.height; read = s.read + 1; best = best }
 
-        found : search_with s note ≡ Some (behind (best_of (kind_at_end after) (s.read + 1) s.best))
+        found : search_with s note ≡ Some (further (best_of (kind_at_end after) (s.read + 1) s.best))
         found = rw e refl
 
         on : (o : Option GlyphKind) → kind_at_end after ≡ o → Searched ns rest z
         on None f =
-            let f2 : search_with s note ≡ Some (behind s.best) = found ∙ ap (λ (k : Option GlyphKind). Some (behind (best_of k (s.read + 1) s.best))) f in
-            let same : behind s.best ≡ z = cc in
+            let f2 : search_with s note ≡ Some (further s.best) = found ∙ ap (λ (k : Option GlyphKind). Some (further (best_of k (s.read + 1) s.best))) f in
+            let same : further s.best ≡ z = cc in
             let r = reading_on ns s.read s.state after s.before note s.best p.inside h.far (class_same (Some after) e) f in
             subst (Searched ns rest) same (record {
               far = subst (λ (n : Note). ReadSoFar ns (s.read + 1) after (Some n.height) s.best) p.note_is r;
               left_is = p.rest_is;
             })
         on (Some k) f =
-            let f2 : search_with s note ≡ Some (behind (Some (k, s.read + 1))) = found ∙ ap (λ (k : Option GlyphKind). Some (behind (best_of k (s.read + 1) s.best))) f in
-            let same : behind (Some (k, s.read + 1)) ≡ z = cc in
+            let f2 : search_with s note ≡ Some (further (Some (k, s.read + 1))) = found ∙ ap (λ (k : Option GlyphKind). Some (further (best_of k (s.read + 1) s.best))) f in
+            let same : further (Some (k, s.read + 1)) ≡ z = cc in
             let r = reading_ends ns s.read s.state after s.before note k s.best p.inside h.far (class_same (Some after) e) f in
             subst (Searched ns rest) same (record {
               far = subst (λ (n : Note). ReadSoFar ns (s.read + 1) after (Some n.height) (Some (k, s.read + 1))) p.note_is r;

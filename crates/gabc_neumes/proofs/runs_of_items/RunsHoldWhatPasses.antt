@@ -47,4 +47,4 @@ module _ {X : Type 0} (p : X → Bool) (xs : List X) where
       let o = on (length xs) b.0 (i + 1) (omega arith) b.2 in
       let low = b.1 in
       let high = o.1 in
-      (record { from = b.0; to = o.0 }, record { some = omega arith; inside = o.2; before = b.3; behind = o.3 }, low, omega arith)
+      (record { from = b.0; to = o.0 }, record { some = omega arith; inside = o.2; before = b.3; after = o.3 }, low, omega arith)

@@ -40,7 +40,7 @@ module _ {X : Type 0} (p : X → Bool) (xs : List X) where
       → (from < i) × (s.from ≡ from) × (s.to ≡ i)
   last_run i from spans h s r a l =
       let some = r.some in
-      let to : s.to ≡ i = elim (dec_lt s.to i) [ no n ↦ omega arith | yes y ↦ absurd (not_both s.to (h.open_run s.to a y) r.behind) ] in
+      let to : s.to ≡ i = elim (dec_lt s.to i) [ no n ↦ omega arith | yes y ↦ absurd (not_both s.to (h.open_run s.to a y) r.after) ] in
       let low : from ≤ s.from = elim (dec_lt s.from from) [ no n ↦ omega arith | yes y ↦ (let back : (from - 1) + 1 ≡ from = omega arith in absurd (not_both (from - 1) (r.inside (from - 1) (omega arith) (omega arith)) (h.closed (from - 1) back))) ] in
       let high : s.from ≤ from = elim (dec_lt from s.from) [ no n ↦ omega arith | yes y ↦ (let back : (s.from - 1) + 1 ≡ s.from = omega arith in absurd (not_both (s.from - 1) (h.open_run (s.from - 1) (omega arith) (omega arith)) (r.before (s.from - 1) back))) ] in
       (omega arith, omega arith, to)
@@ -67,7 +67,7 @@ module _ {X : Type 0} (p : X → Bool) (xs : List X) where
       → RunsSoFar p xs (i + 1) (i + 1) (spans ++ record { from = from; to = i } ∷ [])
   one_more i from spans e y h =
       let new : Span = record { from = from; to = i } in
-      let run : IsRun p xs new = record { some = y; inside = h.open_run; before = h.closed; behind = e } in
+      let run : IsRun p xs new = record { some = y; inside = h.open_run; before = h.closed; after = e } in
       let few = h.few in
       record {
         within = omega arith;

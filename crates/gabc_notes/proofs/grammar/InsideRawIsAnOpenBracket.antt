@@ -25,11 +25,11 @@ use Rattle.gabc_notes.proofs.machine.StageEmitsItsEvents.{raw_is}
 -- The text is a snippet, a `[` with which it is none, and no `]` from there on.
 pub record OpenBy (t : List ℕ) : Type 0 where
   pub before : List ℕ
-  pub behind : List ℕ
-  pub cut : t ≡ before ++ 91 ∷ behind
+  pub after : List ℕ
+  pub cut : t ≡ before ++ 91 ∷ after
   pub snippet : IsSnippet gabc before
   pub opens : ¬ IsSnippet gabc (before ++ 91 ∷ [])
-  pub unclosed : is_in 93 behind ≡ false
+  pub unclosed : is_in 93 after ≡ false
 
 -- the state after a character, and after a text
 abbrev pub on : ItemState → ℕ → Option ItemState
@@ -242,7 +242,7 @@ open_to t h = elim (find Start t (sym (raw_emitted t) ∙ h)) [
   | inl x ↦ absurd (let f : false ≡ true = x.0 in cc)
   | inr x ↦ record {
     before = x.0;
-    behind = x.1;
+    after = x.1;
     cut = x.3;
     snippet = snippet_from gabc refl x.0 (whole_emitted x.0 ∙ (ap is_whole_state x.4 ∙ x.5));
     opens = λ i. (
@@ -267,16 +267,16 @@ stays s (c ∷ r) h e =
 
 -- where a bracket is open the text lies inside raw
 pub open_from : (t : List ℕ) → OpenBy t → in_raw t ≡ true
-open_from t h = raw_emitted t ∙ (ap (λ (u : List ℕ). is_raw (walk_from (Some Start) u)) h.cut ∙ (ap is_raw (walk_append (Some Start) h.before (91 ∷ h.behind))
+open_from t h = raw_emitted t ∙ (ap (λ (u : List ℕ). is_raw (walk_from (Some Start) u)) h.cut ∙ (ap is_raw (walk_append (Some Start) h.before (91 ∷ h.after))
     ∙ go (walk_from (Some Start) h.before) (sym (whole_emitted h.before) ∙ snippet_to gabc refl h.before h.snippet) here))
   where
     here : is_whole_state (walk_from (walk_from (Some Start) h.before) (91 ∷ [])) ≡ true → ⊥
     here e = h.opens (snippet_from gabc refl (h.before ++ 91 ∷ []) (whole_emitted (h.before ++ 91 ∷ []) ∙ (ap is_whole_state (walk_append (Some Start) h.before (91 ∷ [])) ∙ e)))
 
-    next : (z : Option ItemState) → whole_or_raw z ≡ true → (is_whole_state z ≡ true → ⊥) → is_raw (walk_from z h.behind) ≡ true
+    next : (z : Option ItemState) → whole_or_raw z ≡ true → (is_whole_state z ≡ true → ⊥) → is_raw (walk_from z h.after) ≡ true
     next None w n = absurd (cc)
-    next (Some z) w n = elim (or_true (whole_at z) (raw_state z) w) [ inl x ↦ absurd (n x) | inr x ↦ stays z h.behind x h.unclosed ]
+    next (Some z) w n = elim (or_true (whole_at z) (raw_state z) w) [ inl x ↦ absurd (n x) | inr x ↦ stays z h.after x h.unclosed ]
 
-    go : (o : Option ItemState) → is_whole_state o ≡ true → (is_whole_state (walk_from o (91 ∷ [])) ≡ true → ⊥) → is_raw (walk_from o (91 ∷ h.behind)) ≡ true
+    go : (o : Option ItemState) → is_whole_state o ≡ true → (is_whole_state (walk_from o (91 ∷ [])) ≡ true → ⊥) → is_raw (walk_from o (91 ∷ h.after)) ≡ true
     go None w n = absurd (cc)
     go (Some y) w n = next (on y 91) (raw_then (whole_at y) (whole_or_raw (on y 91)) true w (opened y)) n

@@ -188,7 +188,7 @@ open_unkept back x n same h = record {
   bracket = h.bracket;
   place = h.place ∙ sym (opener_more back x ∙ ap (λ (a : Bool). cond (a && not (is_in_raw (point back x))) x.place (opener back)) n);
   outside = h.outside;
-  behind = h.behind;
+  after = h.after;
   kept_is = same ∙ h.kept_is;
   unclosed = h.unclosed;
 }
@@ -204,9 +204,9 @@ open_kept back x k same r n h = record {
   bracket = h.bracket;
   place = h.place ∙ sym (opener_more back x ∙ (ap (λ (a : Bool). cond (a && not (in_raw (kept back))) x.place (opener back)) k ∙ ap (λ (a : Bool). cond (not a) x.place (opener back)) r));
   outside = h.outside;
-  behind = h.behind ++ x.c ∷ [];
-  kept_is = same ∙ (ap (λ (t : List ℕ). t ++ x.c ∷ []) h.kept_is ∙ append_assoc (kept h.before) (91 ∷ h.behind) (x.c ∷ []));
-  unclosed = none h.behind h.unclosed;
+  after = h.after ++ x.c ∷ [];
+  kept_is = same ∙ (ap (λ (t : List ℕ). t ++ x.c ∷ []) h.kept_is ∙ append_assoc (kept h.before) (91 ∷ h.after) (x.c ∷ []));
+  unclosed = none h.after h.unclosed;
 }
   where
     none : (t : List ℕ) → is_in 93 t ≡ false → is_in 93 (t ++ x.c ∷ []) ≡ false
@@ -227,7 +227,7 @@ open_here back x k same r e = record {
   bracket = e;
   place = sym (opener_more back x ∙ (ap (λ (a : Bool). cond (a && not (in_raw (kept back))) x.place (opener back)) k ∙ ap (λ (a : Bool). cond (not a) x.place (opener back)) r));
   outside = r;
-  behind = [];
+  after = [];
   kept_is = same ∙ ap (λ (c : ℕ). kept back ++ c ∷ []) e;
   unclosed = refl;
 }

@@ -91,7 +91,7 @@ pub open_decides : (t : List ℕ) → Decides (in_raw t) (IsOpen t)
 open_decides t = (
   λ e. (let h = open_to t e in record {
     before = h.before;
-    behind = h.behind;
+    after = h.after;
     cut = h.cut;
     snippet = h.snippet;
     not_at = λ items r. h.opens (at_joins h.before items h.snippet r);
@@ -99,7 +99,7 @@ open_decides t = (
   }),
   λ h. open_from t (record {
     before = h.before;
-    behind = h.behind;
+    after = h.after;
     cut = h.cut;
     snippet = h.snippet;
     opens = λ i. (let y = joins_at h.before h.snippet i in h.not_at y.0 y.1);

@@ -68,9 +68,9 @@ end_from split back x h =
     go (inl e) = ap (λ (c : ℕ). (c == 41) || (split && (x.c == 124))) e
     go (inr e) = ap (λ (b : Bool). (x.c == 41) || (b && (x.c == 124))) e.0 ∙ (ap (λ (c : ℕ). (x.c == 41) || (c == 124)) e.1 ∙ last (x.c == 41))
 
-over_from : (split : Bool) (behind before : List Char) (x : Char) → is_end split (point before x) ≡ true → is_over split (behind ++ x ∷ before) ≡ true
+over_from : (split : Bool) (after before : List Char) (x : Char) → is_end split (point before x) ≡ true → is_over split (after ++ x ∷ before) ≡ true
 over_from split [] before x e = ap (λ (b : Bool). b || is_over split before) e
-over_from split (y ∷ behind) before x e = ap (λ (b : Bool). is_end split (point (behind ++ x ∷ before) y) || b) (over_from split behind before x e) ∙ last (is_end split (point (behind ++ x ∷ before) y))
+over_from split (y ∷ after) before x e = ap (λ (b : Bool). is_end split (point (after ++ x ∷ before) y) || b) (over_from split after before x e) ∙ last (is_end split (point (after ++ x ∷ before) y))
   where
     last : (b : Bool) → (b || true) ≡ true
     last true = refl
@@ -81,20 +81,20 @@ unfolding marks
 tail_is before m e = cc
 
 -- nothing in a text that is not over ends it
-none_ends : (split : Bool) (back : List Char) → is_over split back ≡ false → (behind before : List Marked) (m : Marked) → marks back ≡ behind ++ m ∷ before → ¬ IsEnd split before m.0
-none_ends split back o behind before m e h =
-    let c = marks_cut back behind (m ∷ before) e in
+none_ends : (split : Bool) (back : List Char) → is_over split back ≡ false → (after before : List Marked) (m : Marked) → marks back ≡ after ++ m ∷ before → ¬ IsEnd split before m.0
+none_ends split back o after before m e h =
+    let c = marks_cut back after (m ∷ before) e in
     let same : before ≡ marks (chars_of before) = tail_is before m c.1 in
-    let over = over_from split (chars_of behind) (chars_of before) m.0 (end_from split (chars_of before) m.0 (subst (λ (u : List Marked). IsEnd split u m.0) same h)) in
+    let over = over_from split (chars_of after) (chars_of before) m.0 (end_from split (chars_of before) m.0 (subst (λ (u : List Marked). IsEnd split u m.0) same h)) in
     let f = ap (is_over split) c.0 in
     absurd (cc)
 
-pub none_over : (split : Bool) (back : List Char) → ((behind before : List Marked) (m : Marked) → marks back ≡ behind ++ m ∷ before → ¬ IsEnd split before m.0) → is_over split back ≡ false
+pub none_over : (split : Bool) (back : List Char) → ((after before : List Marked) (m : Marked) → marks back ≡ after ++ m ∷ before → ¬ IsEnd split before m.0) → is_over split back ≡ false
 unfolding marks
 none_over split [] h = refl
 none_over split (x ∷ back) h =
     ap (λ (b : Bool). b || is_over split back) (false_from_ne_true (is_end split (point back x)) (λ e. h [] (marks back) (x, is_comment (point back x)) refl (end_to split back x e)))
-    ∙ none_over split back (λ behind before m e. h ((x, is_comment (point back x)) ∷ behind) before m (ap (λ (u : List Marked). (x, is_comment (point back x)) ∷ u) e))
+    ∙ none_over split back (λ after before m e. h ((x, is_comment (point back x)) ∷ after) before m (ap (λ (u : List Marked). (x, is_comment (point back x)) ∷ u) e))
 
 -- ---- the snippet and what follows it
 
@@ -328,13 +328,13 @@ pub back_is : (at : Place) (split : Bool) (macros : ℕ) (t : List ℕ) (r : Sni
 back_is at split macros t r h =
     let e = marked_only h.back h.marked in
     let back : List Char = chars_of h.back in
-    let over = none_over split back (subst (λ (u : List Marked). (behind before : List Marked) (m : Marked) → u ≡ behind ++ m ∷ before → ¬ IsEnd split before m.0) e h.unended) in
+    let over = none_over split back (subst (λ (u : List Marked). (after before : List Marked) (m : Marked) → u ≡ after ++ m ∷ before → ¬ IsEnd split before m.0) e h.unended) in
     let mark = stops split back h.rest h.kept h.found r (subst (λ (u : List Marked). IsRead split u h.kept h.found h.rest r) e h.is_read) in
     e ∙ ap marks (sym (ap (λ (p : SnippetStop). p.back) (stop_read split (placed_characters_from at t) back h.rest h.cut over mark)))
 
 -- a reading whose characters are marked by what is computed
 computed : (at : Place) (split : Bool) (macros : ℕ) (t : List ℕ) (r : SnippetRead) (back rest : List Char) (text : List ℕ) (found : List Finding)
-    → placed_characters_from at t ≡ reverse back ++ rest → ((behind before : List Marked) (m : Marked) → marks back ≡ behind ++ m ∷ before → ¬ IsEnd split before m.0)
+    → placed_characters_from at t ≡ reverse back ++ rest → ((after before : List Marked) (m : Marked) → marks back ≡ after ++ m ∷ before → ¬ IsEnd split before m.0)
     → IsKeptOf (marks back) text → AreFound macros (marks back) found → IsRead split (marks back) text found rest r → IsComputed at split macros t r
 unfolding note_events marks
 computed at split macros t r back rest text found cut unended keeps finds read =
@@ -373,7 +373,7 @@ pub relations_are_computed : (at : Place) (split : Bool) (macros : ℕ) (t : Lis
 relations_are_computed at split macros t r h =
     let e = marked_only h.back h.marked in
     computed at split macros t r (chars_of h.back) h.rest h.kept h.found h.cut
-    (subst (λ (u : List Marked). (behind before : List Marked) (m : Marked) → u ≡ behind ++ m ∷ before → ¬ IsEnd split before m.0) e h.unended)
+    (subst (λ (u : List Marked). (after before : List Marked) (m : Marked) → u ≡ after ++ m ∷ before → ¬ IsEnd split before m.0) e h.unended)
     (subst (λ (u : List Marked). IsKeptOf u h.kept) e h.keeps)
     (subst (λ (u : List Marked). AreFound macros u h.found) e h.finds)
     (subst (λ (u : List Marked). IsRead split u h.kept h.found h.rest r) e h.is_read)

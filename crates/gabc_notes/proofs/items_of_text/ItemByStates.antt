@@ -168,11 +168,11 @@ item_closed k s z h r = elim (closed_by s z h.next) [
 -- The text is one outside raw, and then the raw: a bracket from which on each prefix lies inside raw.
 pub record RawFrom (k raw : List ℕ) : Type 0 where
   pub before : List ℕ
-  pub behind : List ℕ
-  pub cut : k ≡ before ++ 91 ∷ behind
-  pub raw_is : raw ≡ 91 ∷ behind
+  pub after : List ℕ
+  pub cut : k ≡ before ++ 91 ∷ after
+  pub raw_is : raw ≡ 91 ∷ after
   pub outside : in_raw before ≡ false
-  pub inside : (a b : List ℕ) → behind ≡ a ++ b → in_raw (before ++ 91 ∷ a) ≡ true
+  pub inside : (a b : List ℕ) → after ≡ a ++ b → in_raw (before ++ 91 ∷ a) ≡ true
 
 -- a snippet lies outside raw
 pub snippet_outside : (t : List ℕ) → IsSnippet gabc t → in_raw t ≡ false
@@ -190,25 +190,25 @@ attribute_raw k raw u h e =
     let t = attribute_text u e.has in
     let same : k ≡ e.prefix ++ 91 ∷ t.0 = (same_from_push k (e.prefix ++ 91 ∷ t.0) 93 93 (e.cut ∙ (ap (λ (v : List ℕ). e.prefix ++ v) t.1 ∙ sym (append_assoc e.prefix (91 ∷ t.0) (93 ∷ []))))).0 in
     let on : ReadsOn gabc e.before e.prefix (91 ∷ (t.0 ++ 93 ∷ [])) = subst (λ (v : List ℕ). ReadsOn gabc e.before e.prefix v) t.1 e.reads in
-    let equal : t.0 ≡ h.behind → u ≡ raw ++ 93 ∷ [] = λ f. t.1 ∙ (ap (λ (v : List ℕ). 91 ∷ v ++ 93 ∷ []) f ∙ ap (λ (v : List ℕ). v ++ 93 ∷ []) (sym h.raw_is)) in
-    elim (compare e.prefix h.before (91 ∷ t.0) (91 ∷ h.behind) (sym same ∙ h.cut)) [
+    let equal : t.0 ≡ h.after → u ≡ raw ++ 93 ∷ [] = λ f. t.1 ∙ (ap (λ (v : List ℕ). 91 ∷ v ++ 93 ∷ []) f ∙ ap (λ (v : List ℕ). v ++ 93 ∷ []) (sym h.raw_is)) in
+    elim (compare e.prefix h.before (91 ∷ t.0) (91 ∷ h.after) (sym same ∙ h.cut)) [
       | inl x ↦ shorter x.0 x.1 x.2 equal t.2 on
       | inr x ↦ longer x.0 x.1 x.2 equal
     ]
   where
-    shorter : (m : List ℕ) {r : List ℕ} → h.before ≡ e.prefix ++ m → 91 ∷ r ≡ m ++ 91 ∷ h.behind → (r ≡ h.behind → u ≡ raw ++ 93 ∷ []) → is_in 93 r ≡ false
+    shorter : (m : List ℕ) {r : List ℕ} → h.before ≡ e.prefix ++ m → 91 ∷ r ≡ m ++ 91 ∷ h.after → (r ≡ h.after → u ≡ raw ++ 93 ∷ []) → is_in 93 r ≡ false
         → ReadsOn gabc e.before e.prefix (91 ∷ (r ++ 93 ∷ [])) → u ≡ raw ++ 93 ∷ []
     shorter [] f g E n o = E (cc)
     shorter (d ∷ m) {r} f g E n o =
         let first : d ≡ 91 = cc in
-        let rest : r ≡ m ++ 91 ∷ h.behind = cc in
+        let rest : r ≡ m ++ 91 ∷ h.after = cc in
         let opened : OpenBy h.before = record {
           before = e.prefix;
-          behind = m;
+          after = m;
           cut = f ∙ ap (λ (c : ℕ). e.prefix ++ c ∷ m) first;
           snippet = prefix_snippet e.before e.prefix _ o;
           opens = not_joined e.before e.prefix _ o;
-          unclosed = none m (91 ∷ h.behind) (ap (is_in 93) (sym rest) ∙ n);
+          unclosed = none m (91 ∷ h.after) (ap (is_in 93) (sym rest) ∙ n);
         } in
         absurd (let v : true ≡ false = sym (open_from h.before opened) ∙ h.outside in cc)
       where
@@ -220,11 +220,11 @@ attribute_raw k raw u h e =
             go true e F = e
             go false e F = F e
 
-    longer : (m : List ℕ) {r : List ℕ} → e.prefix ≡ h.before ++ m → 91 ∷ h.behind ≡ m ++ 91 ∷ r → (r ≡ h.behind → u ≡ raw ++ 93 ∷ []) → u ≡ raw ++ 93 ∷ []
+    longer : (m : List ℕ) {r : List ℕ} → e.prefix ≡ h.before ++ m → 91 ∷ h.after ≡ m ++ 91 ∷ r → (r ≡ h.after → u ≡ raw ++ 93 ∷ []) → u ≡ raw ++ 93 ∷ []
     longer [] f g E = E (cc)
     longer (d ∷ m) {r} f g E =
         let first : d ≡ 91 = cc in
-        let rest : h.behind ≡ m ++ 91 ∷ r = cc in
+        let rest : h.after ≡ m ++ 91 ∷ r = cc in
         let inside : in_raw e.prefix ≡ true = ap in_raw (f ∙ ap (λ (c : ℕ). h.before ++ c ∷ m) first) ∙ h.inside m (91 ∷ r) rest in
         let outside : in_raw e.prefix ≡ false = snippet_outside e.prefix (prefix_snippet e.before e.prefix u e.reads) in
         absurd (let v : true ≡ false = sym inside ∙ outside in cc)

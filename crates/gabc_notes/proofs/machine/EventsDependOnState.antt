@@ -5,7 +5,7 @@ use Rattle.gabc_places.specs.StageLaw.{silence}
 use Rattle.gabc_patterns.specs.Derivative.{Munch, start, step, run, is_whole, is_alive}
 use Rattle.gabc_patterns.proofs.StatesAfterTexts.{run-append}
 use Rattle.gabc_notes.specs.Table.{gabc}
-use Rattle.gabc_notes.specs.witness.StageEvents.{is_attribute_kind, kind_at, macro_digit, char_facts, role_in, before_in, events_in, event_list, cut_event, raw_with, events_following, events_behind}
+use Rattle.gabc_notes.specs.witness.StageEvents.{is_attribute_kind, kind_at, macro_digit, char_facts, role_in, before_in, events_in, event_list, cut_event, raw_with, events_following, events_after}
 use Rattle.gabc_notes.specs.Events.{in_raw}
 use Rattle.gabc_notes.specs.declared.item.ItemKind.{ItemKind}
 use Rattle.gabc_notes.specs.declared.stage.Before.{Before}
@@ -60,7 +60,7 @@ alike_with e r s c h = go e.raw_after
 
 -- two texts at which the reading stands alike are emitted alike
 pub events_alike : (split : Bool) (macros : ℕ) (xs : List Char) (t u r s : List ℕ) (b : Before) → at_end t ≡ at_end u → NameAlike r s
-    → events_behind split macros t r b xs ≡ events_behind split macros u s b xs
+    → events_after split macros t r b xs ≡ events_after split macros u s b xs
 events_alike split macros [] t u r s b e h = ap (λ (x : Bool). (cut_event x b ∷ []) ∷ []) (raw_by t ∙ (ap raw_at e ∙ sym (raw_by u)))
 events_alike split macros (x ∷ xs) t u r s b e h =
     let same : char_facts t r x.c ≡ char_facts u s x.c = facts_by t r x.c ∙ (rw (e, alike_now r s h) refl ∙ sym (facts_by u s x.c)) in
@@ -71,7 +71,7 @@ events_alike split macros (x ∷ xs) t u r s b e h =
     let kept = events_alike split macros xs (t ++ x.c ∷ []) (u ++ x.c ∷ []) (raw_with v r x.c) (raw_with v s x.c) after next (alike_with v r s x.c h) in
     let left = events_alike split macros xs t u r s after e h in
     ap (λ (v : CharFacts). event_list (events_in (role_in split b.comment v x.c) macros b v x) ∷ events_following (role_in split b.comment v x.c) (silence xs)
-    (events_behind split macros (t ++ x.c ∷ []) (raw_with v r x.c) (before_in (role_in split b.comment v x.c) b v x) xs)
-    (events_behind split macros t r (before_in (role_in split b.comment v x.c) b v x) xs)) same
-    ∙ (ap (λ (k : List (List NoteEvent)). event_list (events_in role macros b v x) ∷ events_following role (silence xs) k (events_behind split macros t r after xs)) kept
-    ∙ ap (λ (k : List (List NoteEvent)). event_list (events_in role macros b v x) ∷ events_following role (silence xs) (events_behind split macros (u ++ x.c ∷ []) (raw_with v s x.c) after xs) k) left)
+    (events_after split macros (t ++ x.c ∷ []) (raw_with v r x.c) (before_in (role_in split b.comment v x.c) b v x) xs)
+    (events_after split macros t r (before_in (role_in split b.comment v x.c) b v x) xs)) same
+    ∙ (ap (λ (k : List (List NoteEvent)). event_list (events_in role macros b v x) ∷ events_following role (silence xs) k (events_after split macros t r after xs)) kept
+    ∙ ap (λ (k : List (List NoteEvent)). event_list (events_in role macros b v x) ∷ events_following role (silence xs) (events_after split macros (u ++ x.c ∷ []) (raw_with v s x.c) after xs) k) left)

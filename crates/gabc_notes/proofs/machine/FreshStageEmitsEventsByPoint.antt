@@ -13,7 +13,7 @@ use Rattle.gabc_patterns.proofs.LongestPrefixIsOne.{split_push}
 use Rattle.gabc_patterns.proofs.StatesAfterTexts.{Stands, state_of, after_char}
 use Rattle.gabc_notes.specs.Table.{gabc}
 use Rattle.gabc_notes.specs.machine.ItemMachine.{whole_at, raw_state, attribute_state}
-use Rattle.gabc_notes.specs.witness.StageEvents.{ends_with_attribute, kind_at, is_attribute_kind, macro_digit, char_facts, role_in, before_in, fused_in, events_in, warning_in, event_list, raw_with, count_plus, cut_event, events_following, events_behind}
+use Rattle.gabc_notes.specs.witness.StageEvents.{ends_with_attribute, kind_at, is_attribute_kind, macro_digit, char_facts, role_in, before_in, fused_in, events_in, warning_in, event_list, raw_with, count_plus, cut_event, events_following, events_after}
 use Rattle.gabc_notes.specs.machine.StageEvents.{nothing_before}
 use Rattle.gabc_notes.specs.Events.{in_raw, finding_event, end_by_mark, is_missing, ends_in_comment, with_comments, kept, is_comment, is_in_raw, kept_with, is_kept, last_item, item_at, opens_fusion, closes_fusion, macro_of, is_fused, opener, bytes_of, is_end, is_over, is_unpaired, warnings, at_end, events_at, cut_events, note_events_after, note_events}
 use Rattle.gabc_notes.specs.declared.item.ItemKind.{ItemKind}
@@ -148,19 +148,19 @@ raw_on : (k raw : List ℕ) (c : ℕ) (y : KeptBy k c) → (in_raw k ≡ true �
 raw_on k raw c y f n r = elim (step_in y.from y.to c y.steps.next (sym y.raw_after ∙ r)) [
   | inl x ↦ (let h = f (y.raw ∙ x.0) in record {
     before = h.before;
-    behind = h.behind ++ c ∷ [];
-    cut = ap (λ (t : List ℕ). t ++ c ∷ []) h.cut ∙ append_assoc h.before (91 ∷ h.behind) (c ∷ []);
+    after = h.after ++ c ∷ [];
+    cut = ap (λ (t : List ℕ). t ++ c ∷ []) h.cut ∙ append_assoc h.before (91 ∷ h.after) (c ∷ []);
     raw_is = ap (λ (t : List ℕ). t ++ c ∷ []) h.raw_is;
     outside = h.outside;
-    inside = λ a b e. elim (split_push h.behind a b c e) [
+    inside = λ a b e. elim (split_push h.after a b c e) [
       | inl z ↦ ap (λ (t : List ℕ). in_raw (h.before ++ 91 ∷ t)) z
-          ∙ (ap in_raw (sym (ap (λ (t : List ℕ). t ++ c ∷ []) h.cut ∙ append_assoc h.before (91 ∷ h.behind) (c ∷ []))) ∙ r)
+          ∙ (ap in_raw (sym (ap (λ (t : List ℕ). t ++ c ∷ []) h.cut ∙ append_assoc h.before (91 ∷ h.after) (c ∷ []))) ∙ r)
       | inr z ↦ h.inside a z.0 z.1
     ];
   })
   | inr x ↦ (let out : in_raw k ≡ false = y.raw ∙ outside y.from x.1 in record {
     before = k;
-    behind = [];
+    after = [];
     cut = ap (λ (d : ℕ). k ++ d ∷ []) x.0;
     raw_is = ap (λ (t : List ℕ). t ++ c ∷ []) (n out) ∙ ap (λ (d : ℕ). d ∷ []) x.0;
     outside = out;
@@ -314,7 +314,7 @@ cut_emits split back raw b h =
     ∙ sym (ap (λ (o : Bool). cond o [] (Ended (Cut (cond (in_raw (kept back)) (opener back) (record { line = 0; column = 0 }))) (bytes_of (kept back)) ∷ [])) h.over))
 
 pub events_emits : (split : Bool) (macros : ℕ) (xs back : List Char) (raw : List ℕ) (b : Before) → Holds split back raw b
-    → events_behind split macros (kept back) raw b xs ≡ note_events_after split macros back xs
+    → events_after split macros (kept back) raw b xs ≡ note_events_after split macros back xs
 events_emits split macros [] back raw b h = ap (λ (o : List NoteEvent). o ∷ []) (cut_emits split back raw b h)
 events_emits split macros (x ∷ xs) back raw b h =
     go (role_in split b.comment (char_facts (kept back) raw x.c) x.c) refl (λ r d. events_emits split macros xs (x ∷ back) r d)
@@ -330,10 +330,10 @@ events_emits split macros (x ∷ xs) back raw b h =
 
     -- of a character that is not kept
     left : (d : Before) (emitted : List NoteEvent) → kept (x ∷ back) ≡ kept back → Holds split (x ∷ back) raw d → emitted ≡ events_at split macros (point back x)
-        → ((r : List ℕ) (d : Before) → Holds split (x ∷ back) r d → events_behind split macros (kept (x ∷ back)) r d xs ≡ note_events_after split macros (x ∷ back) xs)
-        → emitted ∷ events_behind split macros (kept back) raw d xs ≡ events_at split macros (point back x) ∷ note_events_after split macros (x ∷ back) xs
+        → ((r : List ℕ) (d : Before) → Holds split (x ∷ back) r d → events_after split macros (kept (x ∷ back)) r d xs ≡ note_events_after split macros (x ∷ back) xs)
+        → emitted ∷ events_after split macros (kept back) raw d xs ≡ events_at split macros (point back x) ∷ note_events_after split macros (x ∷ back) xs
     left d emitted same holds g F =
-        ap (λ (l : List (List NoteEvent)). emitted ∷ l) (ap (λ (t : List ℕ). events_behind split macros t raw d xs) (sym same) ∙ F raw d holds)
+        ap (λ (l : List (List NoteEvent)). emitted ∷ l) (ap (λ (t : List ℕ). events_after split macros t raw d xs) (sym same) ∙ F raw d holds)
         ∙ ap (λ (l : List NoteEvent). l ∷ note_events_after split macros (x ∷ back) xs) g
 
     no_end : is_comment (point back x) ≡ true → is_end split (point back x) ≡ false
@@ -343,10 +343,10 @@ events_emits split macros (x ∷ xs) back raw b h =
     not_kept c = ap (λ (a : Bool). not a && is_viable gabc (kept back ++ x.c ∷ [])) c
 
     go : (r : CharRole) → role_in split b.comment (char_facts (kept back) raw x.c) x.c ≡ r
-        → ((r : List ℕ) (d : Before) → Holds split (x ∷ back) r d → events_behind split macros (kept (x ∷ back)) r d xs ≡ note_events_after split macros (x ∷ back) xs)
+        → ((r : List ℕ) (d : Before) → Holds split (x ∷ back) r d → events_after split macros (kept (x ∷ back)) r d xs ≡ note_events_after split macros (x ∷ back) xs)
         → event_list (events_in r macros b (char_facts (kept back) raw x.c) x)
-        ∷ events_following r (silence xs) (events_behind split macros (kept back ++ x.c ∷ []) (raw_with (char_facts (kept back) raw x.c) raw x.c) (before_in r b (char_facts (kept back) raw x.c) x) xs)
-        (events_behind split macros (kept back) raw (before_in r b (char_facts (kept back) raw x.c) x) xs)
+        ∷ events_following r (silence xs) (events_after split macros (kept back ++ x.c ∷ []) (raw_with (char_facts (kept back) raw x.c) raw x.c) (before_in r b (char_facts (kept back) raw x.c) x) xs)
+        (events_after split macros (kept back) raw (before_in r b (char_facts (kept back) raw x.c) x) xs)
         ≡ events_at split macros (point back x) ∷ note_events_after split macros (x ∷ back) xs
     go Silent e F =
         let R = roles Silent e in
@@ -379,11 +379,11 @@ events_emits split macros (x ∷ xs) back raw b h =
           viable = R.2;
         } in
         let same : kept (x ∷ back) ≡ kept back ++ x.c ∷ [] = kept_more back x R.0 ∙ ap (λ (a : Bool). cond a (kept back ++ x.c ∷ []) (kept back)) R.2 in
-        ap (λ (l : List NoteEvent). (Kept x ∷ l) ∷ events_behind split macros (kept back ++ x.c ∷ []) (raw_with (char_facts (kept back) raw x.c) raw x.c) (before_in Keep b (char_facts (kept back) raw x.c) x) xs)
+        ap (λ (l : List NoteEvent). (Kept x ∷ l) ∷ events_after split macros (kept back ++ x.c ∷ []) (raw_with (char_facts (kept back) raw x.c) raw x.c) (before_in Keep b (char_facts (kept back) raw x.c) x) xs)
         (kept_warns split back raw b x here macros)
-        ∙ (ap (λ (l : List NoteEvent). l ∷ events_behind split macros (kept back ++ x.c ∷ []) (raw_with (char_facts (kept back) raw x.c) raw x.c) (before_in Keep b (char_facts (kept back) raw x.c) x) xs)
+        ∙ (ap (λ (l : List NoteEvent). l ∷ events_after split macros (kept back ++ x.c ∷ []) (raw_with (char_facts (kept back) raw x.c) raw x.c) (before_in Keep b (char_facts (kept back) raw x.c) x) xs)
         (sym (pick_kept _ _ _ _ _ _ _ h.over R.0 R.1 R.2))
-        ∙ (ap (λ (t : List ℕ). events_at split macros (point back x) ∷ events_behind split macros t (raw_with (char_facts (kept back) raw x.c) raw x.c) (before_in Keep b (char_facts (kept back) raw x.c) x) xs) (sym same)
+        ∙ (ap (λ (t : List ℕ). events_at split macros (point back x) ∷ events_after split macros t (raw_with (char_facts (kept back) raw x.c) raw x.c) (before_in Keep b (char_facts (kept back) raw x.c) x) xs) (sym same)
         ∙ ap (λ (l : List (List NoteEvent)). events_at split macros (point back x) ∷ l) (F _ _ (kept_holds split back raw b x here))))
 
 -- before the first character
@@ -400,6 +400,6 @@ begun split = record {
 }
 
 -- so a fresh stage emits what the definition says
-pub fresh_says : (split : Bool) (macros : ℕ) (xs : List Char) → events_behind split macros [] [] nothing_before xs ≡ note_events split macros xs
+pub fresh_says : (split : Bool) (macros : ℕ) (xs : List Char) → events_after split macros [] [] nothing_before xs ≡ note_events split macros xs
 unfolding note_events
 fresh_says split macros xs = events_emits split macros xs [] [] nothing_before (begun split)

@@ -21,7 +21,7 @@ use Rattle.gabc_notes.specs.Regular.{IsRegular, each_kept, only_kept}
 use Rattle.gabc_notes.specs.machine.CharClass.{class_of_character}
 use Rattle.gabc_notes.specs.machine.ItemMachine.{next_state, raw_state, whole_at, facts_by_states, stage_after}
 use Rattle.gabc_notes.specs.machine.Regular.{RegularState, warns_at, regular_at, regular_by, regular_after, ends_regularly}
-use Rattle.gabc_notes.specs.machine.StageBehind.{fresh_stage}
+use Rattle.gabc_notes.specs.machine.StageAfter.{fresh_stage}
 use Rattle.gabc_notes.specs.witness.ItemMachine.{events_left}
 use Rattle.gabc_notes.specs.witness.StageEvents.{role_in, warning_in, events_in, event_list}
 use Rattle.gabc_notes.specs.declared.macro_prefix.MacroPrefix.TheVariants.{Closed}
@@ -41,7 +41,7 @@ use Rattle.gabc_notes.proofs.machine.FreshStageEmitsEventsByPoint.{fresh_says}
 use Rattle.gabc_notes.proofs.machine.MachineReadsTable.{machine, snippets_read}
 use Rattle.gabc_notes.proofs.machine.ShortWays.{kept_taken, emits_otherwise, not_raw}
 use Rattle.gabc_notes.proofs.machine.StageEmitsItsEvents.{push_law, not_kept}
-use Rattle.gabc_notes.proofs.resuming.StagesKeep.{Behind, fresh_behind, kept_one, raw_behind, viable_behind}
+use Rattle.gabc_notes.proofs.resuming.StagesKeep.{After, fresh_after, kept_one, raw_after_text, viable_after}
 
 -- ---- one character
 
@@ -99,7 +99,7 @@ warned b e x h = by e.raw e.attribute e.digit (((x.c == 91) && (not e.raw_after 
 -- A stage has read it, wherever it stood: each character was kept, and nothing else emitted. The reading stands where that stage does.
 pub record ReadsSo (split : Bool) (macros : ℕ) (at : Place) (t : List ℕ) (r : RegularState) : Type 0 where
   pub st : NoteStage
-  pub behind : Behind split macros st t
+  pub after : After split macros st t
   pub no_comment : st.before.comment ≡ false
   pub is : r ≡ seen st
   pub events : (xs : List Char) → note_events split macros (placed_characters_from at t ++ xs) ≡ each_kept (placed_characters_from at t) ++ events_left st xs
@@ -110,13 +110,13 @@ Reads t r = (split : Bool) (macros : ℕ) (at : Place) → ReadsSo split macros 
 pub reads_first : Reads [] (record { item = Start; name = Closed; fused = false })
 reads_first split macros at = record {
   st = fresh_stage split macros;
-  behind = fresh_behind split macros;
+  after = fresh_after split macros;
   no_comment = refl;
   is = refl;
   events = λ xs. sym (fresh_says split macros xs);
 }
 
-module _ (split : Bool) (macros : ℕ) (at : Place) (t : List ℕ) (c : ℕ) (st : NoteStage) (h : Behind split macros st t) (comment : st.before.comment ≡ false) where
+module _ (split : Bool) (macros : ℕ) (at : Place) (t : List ℕ) (c : ℕ) (st : NoteStage) (h : After split macros st t) (comment : st.before.comment ≡ false) where
   abbrev x : Char
   x = record { c = c; place = place_past at t }
 
@@ -124,10 +124,10 @@ module _ (split : Bool) (macros : ℕ) (at : Place) (t : List ℕ) (c : ℕ) (st
   role_keeps : (z : ItemState) → next_state st.state (class_of_character c) ≡ Some z → role_in st.split st.before.comment (facts_by_states st.state (Some z) st.name) c ≡ Keep
   role_keeps z n =
       ap (λ (b : Bool). role_in st.split b (facts_by_states st.state (Some z) st.name) c) comment
-      ∙ keeps_plain st.split (raw_state st.state) c (λ r. plain_outside t c viable (sym (raw_behind split macros st t h) ∙ r))
+      ∙ keeps_plain st.split (raw_state st.state) c (λ r. plain_outside t c viable (sym (raw_after_text split macros st t h) ∙ r))
     where
       viable : is_viable gabc (t ++ c ∷ []) ≡ true
-      viable = sym (viable_behind split macros st t h c) ∙ ap is_some n
+      viable = sym (viable_after split macros st t h c) ∙ ap is_some n
 
   abbrev st_after : ItemState → NoteStage
   st_after z = stage_after st Keep (facts_by_states st.state (Some z) st.name) (Some z) x
@@ -161,14 +161,14 @@ more split macros at t r after c h e = by (next_state h.st.state (class_of_chara
             let next : NoteStage = stage_after h.st Keep (facts_by_states h.st.state (Some z) h.st.name) (Some z) x in
             record {
               st = next;
-              behind = kept_one split macros h.st t x z h.behind n;
+              after = kept_one split macros h.st t x z h.after n;
               no_comment = refl;
               is = cc f;
               events = λ xs.
                   ap (λ (l : List Char). note_events split macros (l ++ xs)) placed
                   ∙ (ap (note_events split macros) (append_assoc (placed_characters_from at t) (x ∷ []) xs)
                   ∙ (h.events (x ∷ xs)
-                  ∙ (ap (λ (l : List (List NoteEvent)). each_kept (placed_characters_from at t) ++ l) (goes_on_to split macros at t c h.st h.behind h.no_comment z n w xs)
+                  ∙ (ap (λ (l : List (List NoteEvent)). each_kept (placed_characters_from at t) ++ l) (goes_on_to split macros at t c h.st h.after h.no_comment z n w xs)
                   ∙ (sym (append_assoc (each_kept (placed_characters_from at t)) ((Kept x ∷ []) ∷ []) (events_left next xs))
                   ∙ ap (λ (l : List (List NoteEvent)). l ++ events_left next xs) (sym (map-append only_kept (placed_characters_from at t) (x ∷ [])) ∙ ap each_kept (sym placed))))));
             })
@@ -205,8 +205,8 @@ module _ (split : Bool) (macros : ℕ) (at : Place) (t : List ℕ) (r : RegularS
 
   ends_there : events_left h.st (x_mark ∷ []) ≡ at_mark ∷ silence {I = Char} []
   ends_there =
-      push_law h.st x_mark [] o_mark (facts_by_states h.st.state o_mark h.st.name) Ends h.behind.goes_on refl refl
-      (sym (end_role split false mark o_mark h.st refl (mark_is split how mark m).ends h.behind.splits h.no_comment (not_raw h.st.state whole)))
+      push_law h.st x_mark [] o_mark (facts_by_states h.st.state o_mark h.st.name) Ends h.after.goes_on refl refl
+      (sym (end_role split false mark o_mark h.st refl (mark_is split how mark m).ends h.after.splits h.no_comment (not_raw h.st.state whole)))
 
   emitted : note_events split macros (placed_characters_from at (t ++ mark ∷ [])) ≡ each_kept (placed_characters_from at t) ++ at_mark ∷ silence {I = Char} []
   emitted =
@@ -237,14 +237,14 @@ reads_regular t r h e = record {
       ∙ ap (λ (l : List NoteEvent). each_kept (placed_characters_from at t) ++ l ∷ ([] ∷ []))
       (plain_end split macros at t r g how mark m w.0 w.1
       ∙ ap (λ (k : NoteEnd). Ended k g.st.before.whole ∷ []) (mark_ends split how mark m)
-      ∙ ap (λ (n : ℕ). Ended how n ∷ []) (g.behind.whole ∙ ap bytes_of (trim_snippet gabc refl t is)));
+      ∙ ap (λ (n : ℕ). Ended how n ∷ []) (g.after.whole ∙ ap bytes_of (trim_snippet gabc refl t is)));
 }
   where
     whole : {split : Bool} {macros : ℕ} {at : Place} → (g : ReadsSo split macros at t r) → (whole_at g.st.state ≡ true) × (g.st.before.fused ≡ false)
     whole g = (let b = and_true (whole_at g.st.state) (not g.st.before.fused) (ap ends_regularly (sym g.is) ∙ e) in (b.0, not-true g.st.before.fused b.1))
 
     is : IsSnippet gabc t
-    is = (let g = h false 0 (record { line = 1; column = 1 }) in snippet_at gabc machine snippets_read g.st.state t g.behind.stands (whole g).0)
+    is = (let g = h false 0 (record { line = 1; column = 1 }) in snippet_at gabc machine snippets_read g.st.state t g.after.stands (whole g).0)
 
 -- ---- where it may not, and where it does not go on
 
@@ -258,7 +258,7 @@ regular_ends t r h i = ap ends_regularly g.is ∙ (ap (λ (b : Bool). b && not g
     g = h true 0 start_place
 
     whole : whole_at g.st.state ≡ true
-    whole = sym (whole_is gabc machine snippets_read g.st.state t g.behind.stands) ∙ (snippet_decides gabc refl t).1 i.snippet
+    whole = sym (whole_is gabc machine snippets_read g.st.state t g.after.stands) ∙ (snippet_decides gabc refl t).1 i.snippet
 
     alone : at_mark true 0 start_place t r g Close 41 refl whole ≡ Ended Close (bytes_of t) ∷ []
     alone =
@@ -307,7 +307,7 @@ stuck_there t u c r h e i = emits_otherwise role g.st.macros g.st.before facts x
         ∙ append_assoc (each_kept (placed_characters_from start_place t)) ((Kept x ∷ []) ∷ each_kept (placed_characters_from (next_place (place_past start_place t) c) u)) ((Ended Close (bytes_of (t ++ c ∷ u)) ∷ []) ∷ ([] ∷ []))))))
 
     first : event_list (events_in role g.st.macros g.st.before facts x) ≡ Kept x ∷ []
-    first = (let same = sym (push_law g.st x later o facts role g.behind.goes_on refl refl refl) ∙ both_ways in cc same)
+    first = (let same = sym (push_law g.st x later o facts role g.after.goes_on refl refl refl) ∙ both_ways in cc same)
 
     never : role ≡ Keep → warning_in g.st.macros g.st.before facts x ≡ None → ⊥
     never keep none = by o refl keep none (ap (λ (q : RegularState). regular_after q c) (sym g.is) ∙ e)
@@ -317,7 +317,7 @@ stuck_there t u c r h e i = emits_otherwise role g.st.macros g.st.before facts x
         by (Some z) n k w f =
             (let quiet : warns_at (seen g.st) z c ≡ false =
             warned g.st.before (facts_by_states g.st.state (Some z) g.st.name) x
-            (ap (λ (d : ℕ). warning_in d g.st.before (facts_by_states g.st.state (Some z) g.st.name) x) (sym g.behind.defines)
+            (ap (λ (d : ℕ). warning_in d g.st.before (facts_by_states g.st.state (Some z) g.st.name) x) (sym g.after.defines)
             ∙ (ap (λ (q : Option ItemState). warning_in g.st.macros g.st.before (facts_by_states g.st.state q g.st.name) x) (sym n) ∙ w)) in
             let on : Some (regular_at (seen g.st) z c) ≡ None =
             ap (λ (b : Bool). if b then None else Some (regular_at (seen g.st) z c)) (sym quiet) ∙ (ap (regular_by (seen g.st) c) (sym n) ∙ f) in cc)

@@ -7,7 +7,7 @@ use Rattle.gabc_patterns.proofs.StatesAfterTexts.{run-append}
 use Rattle.gabc_patterns.proofs.AutomatonsByTests.{reading, reading_of}
 use Rattle.gabc_notes.specs.Table.{gabc}
 use Rattle.gabc_notes.specs.machine.CharClass.{class_of_character}
-use Rattle.gabc_notes.specs.witness.StageEvents.{is_attribute_kind, kind_at, macro_digit, char_facts, role_in, before_in, events_in, event_list, raw_with, events_following, events_behind}
+use Rattle.gabc_notes.specs.witness.StageEvents.{is_attribute_kind, kind_at, macro_digit, char_facts, role_in, before_in, events_in, event_list, raw_with, events_following, events_after}
 use Rattle.gabc_notes.specs.machine.ItemMachine.{next_state, raw_state, attribute_state, digit_of_prefix, facts_by_states, prefix_with, prefix_after, stage_after}
 use Rattle.gabc_notes.specs.witness.ItemMachine.{example, example_prefix, events_left}
 use Rattle.gabc_notes.specs.declared.item.ItemKind.{ItemKind}
@@ -176,8 +176,8 @@ not_kept split comment s n c e = go (comment && not (c == 10)) (not (raw_state s
 -- what follows a character is what the stage emits from there on
 follow_rest : (st : NoteStage) (x : Char) (xs : List Char) (o : Option ItemState) (e : CharFacts) (r : CharRole) → st.ended ≡ false
     → next_state st.state (class_of_character x.c) ≡ o → (o ≡ None → r ≡ Keep → ⊥)
-    → events_following r (silence xs) (events_behind st.split st.macros (example st.state ++ x.c ∷ []) (raw_with e (example_prefix st.name) x.c) (before_in r st.before e x) xs)
-    (events_behind st.split st.macros (example st.state) (example_prefix st.name) (before_in r st.before e x) xs)
+    → events_following r (silence xs) (events_after st.split st.macros (example st.state ++ x.c ∷ []) (raw_with e (example_prefix st.name) x.c) (before_in r st.before e x) xs)
+    (events_after st.split st.macros (example st.state) (example_prefix st.name) (before_in r st.before e x) xs)
     ≡ events_left (stage_after st r e o x) xs
 follow_rest st x xs o e Silent f g h = rw f refl
 follow_rest st x xs o e Comment f g h = rw f refl
@@ -198,13 +198,13 @@ push_law st x xs o e r f g h k =
     let same : char_facts (example st.state) (example_prefix st.name) x.c ≡ e = looked_is st.state st.name x.c ∙ (ap (λ (p : Option ItemState). facts_by_states st.state p st.name) (sym g) ∙ sym h) in
     let none : o ≡ None → r ≡ Keep → ⊥ = λ a b. not_kept st.split st.before.comment st.state st.name x.c
     (ap (λ (v : CharFacts). role_in st.split st.before.comment v x.c) (ap (λ (p : Option ItemState). facts_by_states st.state p st.name) (sym a) ∙ sym h) ∙ (sym k ∙ b)) in
-    let kept : CharFacts → List (List NoteEvent) = λ v. events_behind st.split st.macros (example st.state ++ x.c ∷ []) (raw_with v (example_prefix st.name) x.c) (before_in (role_in st.split st.before.comment v x.c) st.before v x) xs in
-    let left : CharFacts → List (List NoteEvent) = λ v. events_behind st.split st.macros (example st.state) (example_prefix st.name) (before_in (role_in st.split st.before.comment v x.c) st.before v x) xs in
+    let kept : CharFacts → List (List NoteEvent) = λ v. events_after st.split st.macros (example st.state ++ x.c ∷ []) (raw_with v (example_prefix st.name) x.c) (before_in (role_in st.split st.before.comment v x.c) st.before v x) xs in
+    let left : CharFacts → List (List NoteEvent) = λ v. events_after st.split st.macros (example st.state) (example_prefix st.name) (before_in (role_in st.split st.before.comment v x.c) st.before v x) xs in
     let all : CharFacts → List (List NoteEvent) = λ v. event_list (events_in (role_in st.split st.before.comment v x.c) st.macros st.before v x) ∷ events_following (role_in st.split st.before.comment v x.c) (silence xs) (kept v) (left v) in
     let one : CharRole → List (List NoteEvent) = λ q. event_list (events_in q st.macros st.before e x)
-    ∷ events_following q (silence xs) (events_behind st.split st.macros (example st.state ++ x.c ∷ []) (raw_with e (example_prefix st.name) x.c) (before_in q st.before e x) xs)
-    (events_behind st.split st.macros (example st.state) (example_prefix st.name) (before_in q st.before e x) xs) in
-    let outer : Bool → List (List NoteEvent) = λ b. cond b (silence (x ∷ xs)) (events_behind st.split st.macros (example st.state) (example_prefix st.name) st.before (x ∷ xs)) in
+    ∷ events_following q (silence xs) (events_after st.split st.macros (example st.state ++ x.c ∷ []) (raw_with e (example_prefix st.name) x.c) (before_in q st.before e x) xs)
+    (events_after st.split st.macros (example st.state) (example_prefix st.name) (before_in q st.before e x) xs) in
+    let outer : Bool → List (List NoteEvent) = λ b. cond b (silence (x ∷ xs)) (events_after st.split st.macros (example st.state) (example_prefix st.name) st.before (x ∷ xs)) in
     ap outer f
     ∙ (ap all same ∙ (ap one (sym k) ∙ ap (λ (l : List (List NoteEvent)). event_list (events_in r st.macros st.before e x) ∷ l) (follow_rest st x xs o e r f (sym g) none)))
 

@@ -7,17 +7,17 @@ use Rattle.gabc_patterns.specs.Derivative.{is_viable}
 use Rattle.gabc_notes.specs.Table.{gabc}
 use Rattle.gabc_notes.specs.Events.{in_raw, note_events}
 use Rattle.gabc_notes.specs.witness.ItemMachine.{example, events_left}
-use Rattle.gabc_notes.specs.witness.Keeps.{Keeps, is_comment_behind, is_end_behind, kept_behind, opener_behind, GoesOn, set_down, OpensAt, IsKeptAgain}
+use Rattle.gabc_notes.specs.witness.Keeps.{Keeps, is_comment_after, is_end_after, kept_after, opener_after, GoesOn, set_down, OpensAt, IsKeptAgain}
 use Rattle.gabc_notes.specs.SnippetRead.{kept_of}
 use Rattle.gabc_notes.specs.StageReports.{opener_of, comment_of, told}
-use Rattle.gabc_notes.specs.machine.StageBehind.{next_of, facts_of, role_of, stage_behind, events_of_push, at_nowhere, aside, fresh_stage, stage_past, AreKept}
+use Rattle.gabc_notes.specs.machine.StageAfter.{next_of, facts_of, role_of, stage_after_one, events_of_push, at_nowhere, aside, fresh_stage, stage_past, AreKept}
 use Rattle.gabc_notes.specs.declared.stage.CharRole.TheVariants.{Keep}
 use Rattle.gabc_notes.specs.declared.stage.NoteEvent.{NoteEvent}
 use Rattle.gabc_notes.specs.declared.stage.NoteStage.{NoteStage}
 use Rattle.gabc_notes.proofs.machine.FreshStageEmitsEventsByPoint.{fresh_says}
 use Rattle.gabc_notes.proofs.machine.StageEmitsItsEvents.{push_law}
 use Rattle.gabc_notes.proofs.resuming.StagesAgree.{told_suffices}
-use Rattle.gabc_notes.proofs.resuming.StagesKeep.{Behind, behind, text_behind, fresh_behind, keeps_behind, role_says, opener_is, kept_aside, past_more, emitted, events_are, push_keeps, fresh_keeps}
+use Rattle.gabc_notes.proofs.resuming.StagesKeep.{After, goes_after, text_after, fresh_after, keeps_after, role_says, opener_is, kept_aside, past_more, emitted, events_are, push_keeps, fresh_keeps}
 
 -- ---- two stages after one text
 
@@ -44,7 +44,7 @@ keeps_agree split macros s r k h g o m xs =
     ∙ sym (told_is split macros r k g))
 
 pub told_inside_raw : (split : Bool) (macros : ℕ) (s : NoteStage) (k : List ℕ) → Keeps split macros s k → is_some (opener_of s) ≡ in_raw k
-told_inside_raw split macros s k h = ap (λ (o : Option Place). is_some o) (opener_is split macros s k (keeps_behind split macros s k h)) ∙ by (in_raw k)
+told_inside_raw split macros s k h = ap (λ (o : Option Place). is_some o) (opener_is split macros s k (keeps_after split macros s k h)) ∙ by (in_raw k)
   where
     by : (b : Bool) → is_some (if b then Some s.before.place else None) ≡ b
     by true = refl
@@ -59,10 +59,10 @@ kept_again_by split macros t c a e = record {
   kept = ap (λ (b : Bool). if not b && is_viable gabc (t ++ c ∷ []) then t ++ c ∷ [] else t) says.0 ∙ ap (λ (b : Bool). if b then t ++ c ∷ [] else t) says.2;
 }
   where
-    b : Behind split macros (stage_past (fresh_stage split macros) t) t
-    b = text_behind split macros (fresh_stage split macros) [] t (fresh_behind split macros) a
+    b : After split macros (stage_past (fresh_stage split macros) t) t
+    b = text_after split macros (fresh_stage split macros) [] t (fresh_after split macros) a
 
-    says : (is_comment_behind t false c ≡ false) × ((not (in_raw t) && ((c == 41) || (split && (c == 124)))) ≡ false) × (is_viable gabc (t ++ c ∷ []) ≡ true)
+    says : (is_comment_after t false c ≡ false) × ((not (in_raw t) && ((c == 41) || (split && (c == 124)))) ≡ false) × (is_viable gabc (t ++ c ∷ []) ≡ true)
     says =
         role_says split macros (aside (stage_past (fresh_stage split macros) t)) t
         (record { goes_on = b.goes_on; splits = b.splits; defines = b.defines; stands = b.stands; bytes = b.bytes; whole = b.whole }) c Keep
@@ -70,20 +70,20 @@ kept_again_by split macros t c a e = record {
 
 are_before : (s : NoteStage) (k : List ℕ) (c : ℕ) (more : List ℕ) → AreKept s (k ++ c ∷ more) → AreKept s k × (role_of (stage_past s k) c ≡ Keep)
 are_before s [] c more a = (tt, a.0)
-are_before s (d ∷ k) c more a = (let y = are_before (stage_behind s (at_nowhere d)) k c more a.1 in ((a.0, y.0), y.1))
+are_before s (d ∷ k) c more a = (let y = are_before (stage_after_one s (at_nowhere d)) k c more a.1 in ((a.0, y.0), y.1))
 
 pub kept_again : (split : Bool) (macros : ℕ) (s : NoteStage) (k more : List ℕ) (c : ℕ) → Keeps split macros s (k ++ c ∷ more) → IsKeptAgain split k c
 kept_again split macros s k more c h = (let y = are_before (fresh_stage split macros) k c more h.whole in kept_again_by split macros k c y.0 y.1)
 
 -- ---- a stage restored
 
-pub emits_on : (s : NoteStage) (x : Char) (xs : List Char) → s.ended ≡ false → events_left s (x ∷ xs) ≡ events_of_push s x ∷ events_left (stage_behind s x) xs
+pub emits_on : (s : NoteStage) (x : Char) (xs : List Char) → s.ended ≡ false → events_left s (x ∷ xs) ≡ events_of_push s x ∷ events_left (stage_after_one s x) xs
 emits_on s x xs on =
     push_law s x xs (next_of s x.c) (facts_of s x.c) (role_of s x.c) on refl refl refl
-    ∙ ap (λ (r : NoteStage). emitted s x (role_of s x.c) ∷ events_left r xs) (sym (behind s x on))
-    ∙ ap (λ (events : List NoteEvent). events ∷ events_left (stage_behind s x) xs) (sym (events_are s x (role_of s x.c) on refl))
+    ∙ ap (λ (r : NoteStage). emitted s x (role_of s x.c) ∷ events_left r xs) (sym (goes_after s x on))
+    ∙ ap (λ (events : List NoteEvent). events ∷ events_left (stage_after_one s x) xs) (sym (events_are s x (role_of s x.c) on refl))
 
-opens_on : (a : Bool) (before after : Option Place) (at : Place) → ((p : Place) → before ≡ Some p → p ≡ at) → after ≡ opener_behind a before at → (p : Place) → after ≡ Some p → p ≡ at
+opens_on : (a : Bool) (before after : Option Place) (at : Place) → ((p : Place) → before ≡ Some p → p ≡ at) → after ≡ opener_after a before at → (p : Place) → after ≡ Some p → p ≡ at
 opens_on false before after at h e p f = absurd (let g : None ≡ Some p = sym e ∙ f in cc)
 opens_on true None after at h e p f = let g : Some at ≡ Some p = sym e ∙ f in cc
 opens_on true (Some q) after at h e p f = h p (sym e ∙ f)
@@ -106,11 +106,11 @@ module _ (split : Bool) (macros : ℕ) (at : Place) where
   reread s t (c ∷ k) h o m a b =
       let x : Char = record { c = c; place = at } in
       let again = kept_again_by split macros t c a b.0 in
-      let goes = (push_keeps s x).goes split macros t h (ap (λ (v : Bool). is_end_behind split t v c) m ∙ again.goes_on) in
-      let text : t ++ kept_of (events_of_push s x) ≡ t ++ c ∷ [] = goes.kept ∙ ap (λ (v : Bool). kept_behind t v c) m ∙ again.kept in
-      let keeps : Keeps split macros (stage_behind s x) (t ++ c ∷ []) = subst (Keeps split macros (stage_behind s x)) text goes.keeps in
-      let r = reread (stage_behind s x) (t ++ c ∷ []) k keeps (opens_on _ (opener_of s) (opener_of (stage_behind s x)) at o goes.opener)
-      (goes.comment ∙ ap (λ (v : Bool). is_comment_behind t v c) m ∙ again.no_comment) keeps.whole
+      let goes = (push_keeps s x).goes split macros t h (ap (λ (v : Bool). is_end_after split t v c) m ∙ again.goes_on) in
+      let text : t ++ kept_of (events_of_push s x) ≡ t ++ c ∷ [] = goes.kept ∙ ap (λ (v : Bool). kept_after t v c) m ∙ again.kept in
+      let keeps : Keeps split macros (stage_after_one s x) (t ++ c ∷ []) = subst (Keeps split macros (stage_after_one s x)) text goes.keeps in
+      let r = reread (stage_after_one s x) (t ++ c ∷ []) k keeps (opens_on _ (opener_of s) (opener_of (stage_after_one s x)) at o goes.opener)
+      (goes.comment ∙ ap (λ (v : Bool). is_comment_after t v c) m ∙ again.no_comment) keeps.whole
       (subst (λ (n : NoteStage). AreKept n k) (sym (past_more (fresh_stage split macros) t c)) b.1) in
       record {
         stage = r.stage;
@@ -125,9 +125,9 @@ module _ (split : Bool) (macros : ℕ) (at : Place) where
       → Reread s k (down ++ (if m then record { c = 37; place = at } ∷ [] else [])) m
   with_comment s k down false outside r = record { stage = r.stage; keeps = r.keeps; opens = r.opens; comment = r.comment; emits = λ xs. ap (λ (d : List Char). drop (length d) (events_left s (d ++ xs))) (append-nil down) ∙ r.emits xs }
   with_comment s k down true outside r = record {
-    stage = stage_behind r.stage x;
-    keeps = subst (Keeps split macros (stage_behind r.stage x)) text goes.keeps;
-    opens = opens_on _ (opener_of r.stage) (opener_of (stage_behind r.stage x)) at r.opens goes.opener;
+    stage = stage_after_one r.stage x;
+    keeps = subst (Keeps split macros (stage_after_one r.stage x)) text goes.keeps;
+    opens = opens_on _ (opener_of r.stage) (opener_of (stage_after_one r.stage x)) at r.opens goes.opener;
     comment = goes.comment ∙ comments;
     emits = λ xs.
         ap (λ (ys : List Char). drop (length (down ++ x ∷ [])) (events_left s ys)) (append_assoc down (x ∷ []) xs)
@@ -139,17 +139,17 @@ module _ (split : Bool) (macros : ℕ) (at : Place) where
       x : Char
       x = record { c = 37; place = at }
 
-      comments : is_comment_behind k (comment_of r.stage) 37 ≡ true
+      comments : is_comment_after k (comment_of r.stage) 37 ≡ true
       comments = rw (r.comment, outside refl) refl
 
-      goes : GoesOn split macros k r.stage x (events_of_push r.stage x) (stage_behind r.stage x)
+      goes : GoesOn split macros k r.stage x (events_of_push r.stage x) (stage_after_one r.stage x)
       goes = (push_keeps r.stage x).goes split macros k r.keeps (ap (λ (v : Bool). not v && (not (in_raw k) && ((37 == 41) || (split && (37 == 124))))) comments)
 
       text : k ++ kept_of (events_of_push r.stage x) ≡ k
       text = goes.kept ∙ ap (λ (v : Bool). if not v && is_viable gabc (k ++ 37 ∷ []) then k ++ 37 ∷ [] else k) comments
 
   opened_at : (s : NoteStage) (k : List ℕ) → Keeps split macros s k → OpensAt at s → opener_of s ≡ (if in_raw k then Some at else None)
-  opened_at s k h o = opener_is split macros s k (keeps_behind split macros s k h) ∙ by (in_raw k) (opener_is split macros s k (keeps_behind split macros s k h))
+  opened_at s k h o = opener_is split macros s k (keeps_after split macros s k h) ∙ by (in_raw k) (opener_is split macros s k (keeps_after split macros s k h))
     where
       by : (b : Bool) → opener_of s ≡ (if b then Some s.before.place else None) → (if b then Some s.before.place else None) ≡ (if b then Some at else None)
       by true e = ap (λ (p : Place). Some p) (o s.before.place e)

@@ -12,12 +12,12 @@ use Rattle.gabc_patterns.proofs.StatesFollowExamples.{viable_next}
 use Rattle.gabc_notes.specs.Table.{gabc}
 use Rattle.gabc_notes.specs.Events.{in_raw, bytes_of, finding_event, is_missing, end_by_mark}
 use Rattle.gabc_notes.specs.witness.ItemMachine.{example}
-use Rattle.gabc_notes.specs.witness.Keeps.{Keeps, is_comment_behind, is_end_behind, kept_behind, opener_behind, GoesOn, EndsAfter, KeepsOn}
+use Rattle.gabc_notes.specs.witness.Keeps.{Keeps, is_comment_after, is_end_after, kept_after, opener_after, GoesOn, EndsAfter, KeepsOn}
 use Rattle.gabc_notes.specs.SnippetRead.{kept_of, ends_of}
 use Rattle.gabc_notes.specs.witness.StageEvents.{role_in, warning_in, events_in, event_list, count_plus}
 use Rattle.gabc_notes.specs.StageReports.{opener_of, comment_of}
 use Rattle.gabc_notes.specs.machine.ItemMachine.{raw_state, facts_by_states, stage_after}
-use Rattle.gabc_notes.specs.machine.StageBehind.{next_of, facts_of, role_of, stage_behind, events_of_push, at_nowhere, aside, fresh_stage, stage_past, AreKept}
+use Rattle.gabc_notes.specs.machine.StageAfter.{next_of, facts_of, role_of, stage_after_one, events_of_push, at_nowhere, aside, fresh_stage, stage_past, AreKept}
 use Rattle.gabc_notes.specs.declared.stage.CharRole.{CharRole}
 use Rattle.gabc_notes.specs.declared.stage.CharRole.TheVariants.{Silent, Comment, Ends, Keep, LeaveOut}
 use Rattle.gabc_notes.specs.declared.stage.NoteEnd.{NoteEnd}
@@ -32,7 +32,7 @@ use Rattle.gabc_notes.proofs.machine.StageEmitsItsEvents.{raw_is, not_kept}
 
 -- ---- a stage by the text that it kept
 
-pub record Behind (split : Bool) (macros : ℕ) (s : NoteStage) (k : List ℕ) : Type 0 where
+pub record After (split : Bool) (macros : ℕ) (s : NoteStage) (k : List ℕ) : Type 0 where
   pub goes_on : s.ended ≡ false
   pub splits : s.split ≡ split
   pub defines : s.macros ≡ macros
@@ -41,8 +41,8 @@ pub record Behind (split : Bool) (macros : ℕ) (s : NoteStage) (k : List ℕ) :
   pub whole : s.before.whole ≡ bytes_of (trim gabc k)
 
 -- the stage after a character, if it goes on before it
-pub behind : (s : NoteStage) (x : Char) → s.ended ≡ false → stage_behind s x ≡ stage_after s (role_of s x.c) (facts_of s x.c) (next_of s x.c) x
-behind s x on = ap (λ (b : Bool). if b then s else stage_after s (role_of s x.c) (facts_of s x.c) (next_of s x.c) x) on
+pub goes_after : (s : NoteStage) (x : Char) → s.ended ≡ false → stage_after_one s x ≡ stage_after s (role_of s x.c) (facts_of s x.c) (next_of s x.c) x
+goes_after s x on = ap (λ (b : Bool). if b then s else stage_after s (role_of s x.c) (facts_of s x.c) (next_of s x.c) x) on
 
 -- the state after one that is kept
 kept_state : (s : NoteStage) (c : ℕ) → role_of s c ≡ Keep → (z : ItemState) × (next_of s c ≡ Some z)
@@ -52,8 +52,8 @@ kept_state s c e = by (next_of s c) refl
     by None n = absurd (not_kept s.split s.before.comment s.state s.name c (ap (λ (o : Option ItemState). role_in s.split s.before.comment (facts_by_states s.state o s.name) c) (sym n) ∙ e))
     by (Some z) n = (z, n)
 
-pub kept_one : (split : Bool) (macros : ℕ) (s : NoteStage) (k : List ℕ) (x : Char) (z : ItemState) → Behind split macros s k → next_of s x.c ≡ Some z
-    → Behind split macros (stage_after s Keep (facts_by_states s.state (Some z) s.name) (Some z) x) (k ++ x.c ∷ [])
+pub kept_one : (split : Bool) (macros : ℕ) (s : NoteStage) (k : List ℕ) (x : Char) (z : ItemState) → After split macros s k → next_of s x.c ≡ Some z
+    → After split macros (stage_after s Keep (facts_by_states s.state (Some z) s.name) (Some z) x) (k ++ x.c ∷ [])
 kept_one split macros s k x z h n = record {
   goes_on = h.goes_on;
   splits = h.splits;
@@ -76,39 +76,39 @@ kept_one split macros s k x z h n = record {
 
 -- a character that is kept, as the stage after it
 kept_step : (s : NoteStage) (x : Char) (z : ItemState) → s.ended ≡ false → role_of s x.c ≡ Keep → next_of s x.c ≡ Some z
-    → stage_behind s x ≡ stage_after s Keep (facts_by_states s.state (Some z) s.name) (Some z) x
+    → stage_after_one s x ≡ stage_after s Keep (facts_by_states s.state (Some z) s.name) (Some z) x
 kept_step s x z on keep n =
-    behind s x on
+    goes_after s x on
     ∙ ap (λ (r : CharRole). stage_after s r (facts_of s x.c) (next_of s x.c) x) keep
     ∙ ap (λ (o : Option ItemState). stage_after s Keep (facts_by_states s.state o s.name) o x) n
 
-pub text_behind : (split : Bool) (macros : ℕ) (s : NoteStage) (t k : List ℕ) → Behind split macros s t → AreKept s k → Behind split macros (stage_past s k) (t ++ k)
-text_behind split macros s t [] h a = subst (Behind split macros s) (sym (append-nil t)) h
-text_behind split macros s t (c ∷ k) h a =
-    subst (Behind split macros (stage_past (stage_behind s (at_nowhere c)) k)) (append_assoc t (c ∷ []) k)
-    (text_behind split macros (stage_behind s (at_nowhere c)) (t ++ c ∷ []) k next a.1)
+pub text_after : (split : Bool) (macros : ℕ) (s : NoteStage) (t k : List ℕ) → After split macros s t → AreKept s k → After split macros (stage_past s k) (t ++ k)
+text_after split macros s t [] h a = subst (After split macros s) (sym (append-nil t)) h
+text_after split macros s t (c ∷ k) h a =
+    subst (After split macros (stage_past (stage_after_one s (at_nowhere c)) k)) (append_assoc t (c ∷ []) k)
+    (text_after split macros (stage_after_one s (at_nowhere c)) (t ++ c ∷ []) k next a.1)
   where
-    next : Behind split macros (stage_behind s (at_nowhere c)) (t ++ c ∷ [])
+    next : After split macros (stage_after_one s (at_nowhere c)) (t ++ c ∷ [])
     next =
         let y = kept_state s c a.0 in
-        subst (λ (r : NoteStage). Behind split macros r (t ++ c ∷ [])) (sym (kept_step s (at_nowhere c) y.0 h.goes_on a.0 y.1)) (kept_one split macros s t (at_nowhere c) y.0 h y.1)
+        subst (λ (r : NoteStage). After split macros r (t ++ c ∷ [])) (sym (kept_step s (at_nowhere c) y.0 h.goes_on a.0 y.1)) (kept_one split macros s t (at_nowhere c) y.0 h y.1)
 
-pub fresh_behind : (split : Bool) (macros : ℕ) → Behind split macros (fresh_stage split macros) []
-fresh_behind split macros = record { goes_on = refl; splits = refl; defines = refl; stands = stands_first gabc machine snippets_read; bytes = refl; whole = refl }
+pub fresh_after : (split : Bool) (macros : ℕ) → After split macros (fresh_stage split macros) []
+fresh_after split macros = record { goes_on = refl; splits = refl; defines = refl; stands = stands_first gabc machine snippets_read; bytes = refl; whole = refl }
 
-pub keeps_behind : (split : Bool) (macros : ℕ) (s : NoteStage) (k : List ℕ) → Keeps split macros s k → Behind split macros s k
-keeps_behind split macros s k h =
-    let b = subst (λ (r : NoteStage). Behind split macros r k) (sym h.alike) (text_behind split macros (fresh_stage split macros) [] k (fresh_behind split macros) h.whole) in
+pub keeps_after : (split : Bool) (macros : ℕ) (s : NoteStage) (k : List ℕ) → Keeps split macros s k → After split macros s k
+keeps_after split macros s k h =
+    let b = subst (λ (r : NoteStage). After split macros r k) (sym h.alike) (text_after split macros (fresh_stage split macros) [] k (fresh_after split macros) h.whole) in
     record { goes_on = h.goes_on; splits = b.splits; defines = b.defines; stands = b.stands; bytes = b.bytes; whole = b.whole }
 
 -- ---- what becomes of a character, by that text
 
-module _ (split : Bool) (macros : ℕ) (s : NoteStage) (k : List ℕ) (h : Behind split macros s k) where
-  pub raw_behind : raw_state s.state ≡ in_raw k
-  raw_behind = sym (raw_by k ∙ ap raw_at (sym h.stands.reads) ∙ raw_is s.state)
+module _ (split : Bool) (macros : ℕ) (s : NoteStage) (k : List ℕ) (h : After split macros s k) where
+  pub raw_after_text : raw_state s.state ≡ in_raw k
+  raw_after_text = sym (raw_by k ∙ ap raw_at (sym h.stands.reads) ∙ raw_is s.state)
 
-  pub viable_behind : (c : ℕ) → is_some (next_of s c) ≡ is_viable gabc (k ++ c ∷ [])
-  viable_behind c = by (next_of s c) ∙ sym (viable_next gabc machine snippets_read s.state k c h.stands)
+  pub viable_after : (c : ℕ) → is_some (next_of s c) ≡ is_viable gabc (k ++ c ∷ [])
+  viable_after c = by (next_of s c) ∙ sym (viable_next gabc machine snippets_read s.state k c h.stands)
     where
       by : (o : Option ItemState) → is_some o ≡ is_alive (reading_of gabc machine o)
       by None = refl
@@ -122,24 +122,24 @@ module _ (split : Bool) (macros : ℕ) (s : NoteStage) (k : List ℕ) (h : Behin
   role_is_by c =
       by (next_of s c)
       ∙ ap (λ (b : Bool). role_by b s.before.comment (raw_state s.state) (is_some (next_of s c)) c) h.splits
-      ∙ ap (λ (r : Bool). role_by split s.before.comment r (is_some (next_of s c)) c) raw_behind
-      ∙ ap (λ (v : Bool). role_by split s.before.comment (in_raw k) v c) (viable_behind c)
+      ∙ ap (λ (r : Bool). role_by split s.before.comment r (is_some (next_of s c)) c) raw_after_text
+      ∙ ap (λ (v : Bool). role_by split s.before.comment (in_raw k) v c) (viable_after c)
     where
       by : (o : Option ItemState) → role_in s.split s.before.comment (facts_by_states s.state o s.name) c ≡ role_by s.split s.before.comment (raw_state s.state) (is_some o) c
       by None = refl
       by (Some z) = refl
 
   pub role_says : (c : ℕ) (r : CharRole) → role_of s c ≡ r
-      → RoleIs r s.before.comment (is_comment_behind k s.before.comment c) (not (in_raw k) && ((c == 41) || (split && (c == 124)))) (is_viable gabc (k ++ c ∷ []))
+      → RoleIs r s.before.comment (is_comment_after k s.before.comment c) (not (in_raw k) && ((c == 41) || (split && (c == 124)))) (is_viable gabc (k ++ c ∷ []))
   role_says c r e =
-      subst (λ (q : CharRole). RoleIs q s.before.comment (is_comment_behind k s.before.comment c) (not (in_raw k) && ((c == 41) || (split && (c == 124)))) (is_viable gabc (k ++ c ∷ [])))
+      subst (λ (q : CharRole). RoleIs q s.before.comment (is_comment_after k s.before.comment c) (not (in_raw k) && ((c == 41) || (split && (c == 124)))) (is_viable gabc (k ++ c ∷ [])))
       (sym (role_is_by c) ∙ e)
       (role_is s.before.comment (not (c == 10)) (not (in_raw k) && ((c == 41) || (split && (c == 124)))) (not (in_raw k) && (c == 37)) (is_viable gabc (k ++ c ∷ []))
       (no_percent (in_raw k) split c) (no_feed (in_raw k) c))
 
   -- the bracket that is open
   pub opener_is : opener_of s ≡ (if in_raw k then Some s.before.place else None)
-  opener_is = ap (λ (b : Bool). if b then Some s.before.place else None) (raw_by (example s.state) ∙ raw_is s.state ∙ raw_behind)
+  opener_is = ap (λ (b : Bool). if b then Some s.before.place else None) (raw_by (example s.state) ∙ raw_is s.state ∙ raw_after_text)
 
 -- ---- what is emitted of a character
 
@@ -194,13 +194,13 @@ module _ (s : NoteStage) (x : Char) where
 
 -- ---- one character more is kept
 
-pub past_more : (s : NoteStage) (k : List ℕ) (c : ℕ) → stage_past s (k ++ c ∷ []) ≡ stage_behind (stage_past s k) (at_nowhere c)
+pub past_more : (s : NoteStage) (k : List ℕ) (c : ℕ) → stage_past s (k ++ c ∷ []) ≡ stage_after_one (stage_past s k) (at_nowhere c)
 past_more s [] c = refl
-past_more s (d ∷ k) c = past_more (stage_behind s (at_nowhere d)) k c
+past_more s (d ∷ k) c = past_more (stage_after_one s (at_nowhere d)) k c
 
 are_more : (s : NoteStage) (k : List ℕ) (c : ℕ) → AreKept s k → role_of (stage_past s k) c ≡ Keep → AreKept s (k ++ c ∷ [])
 are_more s [] c a e = (e, tt)
-are_more s (d ∷ k) c a e = (a.0, are_more (stage_behind s (at_nowhere d)) k c a.1 e)
+are_more s (d ∷ k) c a e = (a.0, are_more (stage_after_one s (at_nowhere d)) k c a.1 e)
 
 -- what is kept is kept where no comment is open
 pub kept_aside : (s : NoteStage) (c : ℕ) → role_of s c ≡ Keep → role_of (aside s) c ≡ Keep
@@ -228,23 +228,23 @@ aside_kept s x z = by (raw_state s.state)
 -- ---- what a character does
 
 module _ (split : Bool) (macros : ℕ) (s : NoteStage) (x : Char) (k : List ℕ) (h : Keeps split macros s k) where
-  b : Behind split macros s k
-  b = keeps_behind split macros s k h
+  b : After split macros s k
+  b = keeps_after split macros s k h
 
   abbrev marks : Bool
   marks = not (in_raw k) && ((x.c == 41) || (split && (x.c == 124)))
 
   -- of one that is not kept
-  stays : (m : Bool) (events : List NoteEvent) → is_comment_behind k (comment_of s) x.c ≡ m → IsQuiet events → kept_behind k (comment_of s) x.c ≡ k
+  stays : (m : Bool) (events : List NoteEvent) → is_comment_after k (comment_of s) x.c ≡ m → IsQuiet events → kept_after k (comment_of s) x.c ≡ k
       → GoesOn split macros k s x events (record s { before = record s.before { comment = m } })
   stays m events c quiet same = record {
     no_end = quiet.1;
     kept = text ∙ sym same;
     keeps = subst (Keeps split macros after) (sym text) (record { goes_on = h.goes_on; outside = λ e. outside (c ∙ e); alike = h.alike; whole = h.whole });
     comment = sym c;
-    opener = ap (λ (a : Bool). if a then Some s.before.place else None) (raw_by (example s.state) ∙ raw_is s.state ∙ raw_behind split macros s k b) ∙ by (in_raw k)
-        ∙ ap (λ (t : List ℕ). opener_behind (in_raw t) (if in_raw k then Some s.before.place else None) x.place) (sym text)
-        ∙ ap (λ (o : Option Place). opener_behind (in_raw (k ++ kept_of events)) o x.place) (sym (opener_is split macros s k b));
+    opener = ap (λ (a : Bool). if a then Some s.before.place else None) (raw_by (example s.state) ∙ raw_is s.state ∙ raw_after_text split macros s k b) ∙ by (in_raw k)
+        ∙ ap (λ (t : List ℕ). opener_after (in_raw t) (if in_raw k then Some s.before.place else None) x.place) (sym text)
+        ∙ ap (λ (o : Option Place). opener_after (in_raw (k ++ kept_of events)) o x.place) (sym (opener_is split macros s k b));
   }
     where
       after : NoteStage
@@ -253,7 +253,7 @@ module _ (split : Bool) (macros : ℕ) (s : NoteStage) (x : Char) (k : List ℕ)
       text : k ++ kept_of events ≡ k
       text = ap (λ (t : List ℕ). k ++ t) quiet.0 ∙ append-nil k
 
-      outside : is_comment_behind k (comment_of s) x.c ≡ true → in_raw k ≡ false
+      outside : is_comment_after k (comment_of s) x.c ≡ true → in_raw k ≡ false
       outside e = go (not (x.c == 10)) (comment_of s) (in_raw k) (x.c == 37) h.outside e
         where
           go : (n m r p : Bool) → (m ≡ true → r ≡ false) → (n && (m || (not r && p))) ≡ true → r ≡ false
@@ -262,7 +262,7 @@ module _ (split : Bool) (macros : ℕ) (s : NoteStage) (x : Char) (k : List ℕ)
           go true false true p f g = absurd (true≢false (sym g))
           go false m r p f g = absurd (true≢false (sym g))
 
-      by : (a : Bool) → (if a then Some s.before.place else None) ≡ opener_behind a (if a then Some s.before.place else None) x.place
+      by : (a : Bool) → (if a then Some s.before.place else None) ≡ opener_after a (if a then Some s.before.place else None) x.place
       by true = refl
       by false = refl
 
@@ -275,15 +275,15 @@ module _ (split : Bool) (macros : ℕ) (s : NoteStage) (x : Char) (k : List ℕ)
     keeps = subst (Keeps split macros after) (sym text) (record {
       goes_on = h.goes_on;
       outside = λ f. absurd (true≢false (sym f));
-      alike = aside_kept s x z ∙ sym (kept_step (aside s) (at_nowhere x.c) z h.goes_on plain n) ∙ ap (λ (r : NoteStage). stage_behind r (at_nowhere x.c)) h.alike ∙ sym (past_more fresh k x.c);
+      alike = aside_kept s x z ∙ sym (kept_step (aside s) (at_nowhere x.c) z h.goes_on plain n) ∙ ap (λ (r : NoteStage). stage_after_one r (at_nowhere x.c)) h.alike ∙ sym (past_more fresh k x.c);
       whole = are_more fresh k x.c h.whole (ap (λ (r : NoteStage). role_of r x.c) (sym h.alike) ∙ plain);
     });
     comment = sym says.0;
     opener = opener_is split macros after (k ++ x.c ∷ []) (kept_one split macros s k x z b n)
-        ∙ ap (λ (r : Bool). if in_raw (k ++ x.c ∷ []) then Some (if r then s.before.place else x.place) else None) (raw_behind split macros s k b)
+        ∙ ap (λ (r : Bool). if in_raw (k ++ x.c ∷ []) then Some (if r then s.before.place else x.place) else None) (raw_after_text split macros s k b)
         ∙ by (in_raw (k ++ x.c ∷ [])) (in_raw k)
-        ∙ ap (λ (t : List ℕ). opener_behind (in_raw t) (if in_raw k then Some s.before.place else None) x.place) (sym text)
-        ∙ ap (λ (o : Option Place). opener_behind (in_raw (k ++ kept_of (emitted s x Keep))) o x.place) (sym (opener_is split macros s k b));
+        ∙ ap (λ (t : List ℕ). opener_after (in_raw t) (if in_raw k then Some s.before.place else None) x.place) (sym text)
+        ∙ ap (λ (o : Option Place). opener_after (in_raw (k ++ kept_of (emitted s x Keep))) o x.place) (sym (opener_is split macros s k b));
   }
     where
       fresh : NoteStage
@@ -292,7 +292,7 @@ module _ (split : Bool) (macros : ℕ) (s : NoteStage) (x : Char) (k : List ℕ)
       after : NoteStage
       after = stage_after s Keep (facts_by_states s.state (Some z) s.name) (Some z) x
 
-      says : (is_comment_behind k (comment_of s) x.c ≡ false) × (marks ≡ false) × (is_viable gabc (k ++ x.c ∷ []) ≡ true)
+      says : (is_comment_after k (comment_of s) x.c ≡ false) × (marks ≡ false) × (is_viable gabc (k ++ x.c ∷ []) ≡ true)
       says = role_says split macros s k b x.c Keep e
 
       text : k ++ kept_of (emitted s x Keep) ≡ k ++ x.c ∷ []
@@ -301,28 +301,28 @@ module _ (split : Bool) (macros : ℕ) (s : NoteStage) (x : Char) (k : List ℕ)
       plain : role_of (aside s) x.c ≡ Keep
       plain = kept_aside s x.c e
 
-      by : (a r : Bool) → (if a then Some (if r then s.before.place else x.place) else None) ≡ opener_behind a (if r then Some s.before.place else None) x.place
+      by : (a r : Bool) → (if a then Some (if r then s.before.place else x.place) else None) ≡ opener_after a (if r then Some s.before.place else None) x.place
       by true true = refl
       by true false = refl
       by false r = refl
 
-  goes : is_end_behind split k (comment_of s) x.c ≡ false → GoesOn split macros k s x (events_of_push s x) (stage_behind s x)
+  goes : is_end_after split k (comment_of s) x.c ≡ false → GoesOn split macros k s x (events_of_push s x) (stage_after_one s x)
   goes ongoing = by (role_of s x.c) refl
     where
-      same_text : is_comment_behind k (comment_of s) x.c ≡ true → kept_behind k (comment_of s) x.c ≡ k
+      same_text : is_comment_after k (comment_of s) x.c ≡ true → kept_after k (comment_of s) x.c ≡ k
       same_text c = ap (λ (a : Bool). if not a && is_viable gabc (k ++ x.c ∷ []) then k ++ x.c ∷ [] else k) c
 
       at : (r : CharRole) (events : List NoteEvent) (after : NoteStage) → role_of s x.c ≡ r → emitted s x r ≡ events → stage_after s r (facts_of s x.c) (next_of s x.c) x ≡ after
-          → GoesOn split macros k s x events after → GoesOn split macros k s x (events_of_push s x) (stage_behind s x)
+          → GoesOn split macros k s x events after → GoesOn split macros k s x (events_of_push s x) (stage_after_one s x)
       at r events after e f g i =
-          subst (λ (o : List NoteEvent). GoesOn split macros k s x o (stage_behind s x)) (sym (events_are s x r h.goes_on e ∙ f))
-          (subst (GoesOn split macros k s x events) (sym (behind s x h.goes_on ∙ ap (λ (q : CharRole). stage_after s q (facts_of s x.c) (next_of s x.c) x) e ∙ g)) i)
+          subst (λ (o : List NoteEvent). GoesOn split macros k s x o (stage_after_one s x)) (sym (events_are s x r h.goes_on e ∙ f))
+          (subst (GoesOn split macros k s x events) (sym (goes_after s x h.goes_on ∙ ap (λ (q : CharRole). stage_after s q (facts_of s x.c) (next_of s x.c) x) e ∙ g)) i)
 
-      by : (r : CharRole) → role_of s x.c ≡ r → GoesOn split macros k s x (events_of_push s x) (stage_behind s x)
+      by : (r : CharRole) → role_of s x.c ≡ r → GoesOn split macros k s x (events_of_push s x) (stage_after_one s x)
       by Silent e = (let R = role_says split macros s k b x.c Silent e in
           at Silent [] (record s { before = record s.before { comment = true } }) e refl (ap (λ (m : Bool). record s { before = record s.before { comment = m } }) R.1)
           (stays true [] R.0 (refl, refl) (same_text R.0)))
-      by Comment e = (let R : is_comment_behind k (comment_of s) x.c ≡ true = role_says split macros s k b x.c Comment e in
+      by Comment e = (let R : is_comment_after k (comment_of s) x.c ≡ true = role_says split macros s k b x.c Comment e in
           at Comment [] (record s { before = record s.before { comment = true } }) e refl refl (stays true [] R (refl, refl) (same_text R)))
       by LeaveOut e = (let R = role_says split macros s k b x.c LeaveOut e in
           at LeaveOut (emitted s x LeaveOut) (record s { before = record s.before { comment = false } }) e refl refl
@@ -334,13 +334,13 @@ module _ (split : Bool) (macros : ℕ) (s : NoteStage) (x : Char) (k : List ℕ)
       by Ends e = (let R = role_says split macros s k b x.c Ends e in
           absurd (true≢false (sym (ap (λ (a : Bool). not a && marks) R.0 ∙ R.1) ∙ ongoing)))
 
-  ends : is_end_behind split k (comment_of s) x.c ≡ true → EndsAfter k x.c (events_of_push s x)
+  ends : is_end_after split k (comment_of s) x.c ≡ true → EndsAfter k x.c (events_of_push s x)
   ends over = by (role_of s x.c) refl
     where
-      never : is_comment_behind k (comment_of s) x.c ≡ true → EndsAfter k x.c (events_of_push s x)
+      never : is_comment_after k (comment_of s) x.c ≡ true → EndsAfter k x.c (events_of_push s x)
       never c = absurd (true≢false (sym over ∙ ap (λ (a : Bool). not a && marks) c))
 
-      no_mark : marks ≡ false → is_comment_behind k (comment_of s) x.c ≡ false → EndsAfter k x.c (events_of_push s x)
+      no_mark : marks ≡ false → is_comment_after k (comment_of s) x.c ≡ false → EndsAfter k x.c (events_of_push s x)
       no_mark m c = absurd (true≢false (sym over ∙ ap (λ (a : Bool). not a && marks) c ∙ m))
 
       by : (r : CharRole) → role_of s x.c ≡ r → EndsAfter k x.c (events_of_push s x)
@@ -354,7 +354,7 @@ module _ (split : Bool) (macros : ℕ) (s : NoteStage) (x : Char) (k : List ℕ)
       })
 
 -- what a push does
-pub push_keeps : (s : NoteStage) (x : Char) → KeepsOn s x (events_of_push s x) (stage_behind s x)
+pub push_keeps : (s : NoteStage) (x : Char) → KeepsOn s x (events_of_push s x) (stage_after_one s x)
 push_keeps s x = record { goes = λ split macros k h. goes split macros s x k h; ends = λ split macros k h. ends split macros s x k h }
 
 pub fresh_keeps : (split : Bool) (macros : ℕ) → Keeps split macros (fresh_stage split macros) []

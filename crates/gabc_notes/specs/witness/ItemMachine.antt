@@ -3,7 +3,7 @@
 use Rattle.std.specs.Prelude.{ℕ, List, [], ◌∷◌, codes, if◌then◌else◌}
 use Rattle.gabc_places.specs.declared.place.Char.{Char}
 use Rattle.gabc_places.specs.StageLaw.{silence}
-use Rattle.gabc_notes.specs.witness.StageEvents.{events_behind}
+use Rattle.gabc_notes.specs.witness.StageEvents.{events_after}
 use Rattle.gabc_notes.specs.declared.stage.NoteEvent.{NoteEvent}
 use Rattle.gabc_notes.specs.declared.stage.NoteStage.{NoteStage}
 use Rattle.gabc_notes.specs.declared.macro_prefix.MacroPrefix.{MacroPrefix}
@@ -60,4 +60,4 @@ example_prefix Other = codes "[other"
 -- What a stage will still emit for these characters, and then the end: it depends on a text that
 -- ends in its state.
 abbrev pub events_left : NoteStage → List Char → List (List NoteEvent)
-events_left st xs = if st.ended then silence xs else events_behind st.split st.macros (example st.state) (example_prefix st.name) st.before xs
+events_left st xs = if st.ended then silence xs else events_after st.split st.macros (example st.state) (example_prefix st.name) st.before xs

@@ -9,7 +9,7 @@ use Rattle.gabc_notes.specs.Table.{gabc}
 use Rattle.gabc_notes.specs.Events.{in_raw, end_by_mark, bytes_of, note_events}
 use Rattle.gabc_notes.specs.SnippetRead.{kept_of, ends_of}
 use Rattle.gabc_notes.specs.StageReports.{opener_of, comment_of}
-use Rattle.gabc_notes.specs.machine.StageBehind.{aside, fresh_stage, stage_past, AreKept}
+use Rattle.gabc_notes.specs.machine.StageAfter.{aside, fresh_stage, stage_past, AreKept}
 use Rattle.gabc_notes.specs.witness.ItemMachine.{events_left}
 use Rattle.gabc_notes.specs.declared.stage.NoteEnd.TheVariants.{Cut}
 use Rattle.gabc_notes.specs.declared.stage.NoteEvent.{NoteEvent}
@@ -27,31 +27,31 @@ pub record Keeps (split : Bool) (macros : ℕ) (s : NoteStage) (k : List ℕ) : 
 -- ---- a character c after the kept text k, by whether a comment is open
 
 -- it lies in a comment
-abbrev pub is_comment_behind : List ℕ → Bool → ℕ → Bool
-is_comment_behind k comment c = not (c == 10) && (comment || (not (in_raw k) && (c == 37)))
+abbrev pub is_comment_after : List ℕ → Bool → ℕ → Bool
+is_comment_after k comment c = not (c == 10) && (comment || (not (in_raw k) && (c == 37)))
 
 -- it ends the snippet
-abbrev pub is_end_behind : Bool → List ℕ → Bool → ℕ → Bool
-is_end_behind split k comment c = not (is_comment_behind k comment c) && (not (in_raw k) && ((c == 41) || (split && (c == 124))))
+abbrev pub is_end_after : Bool → List ℕ → Bool → ℕ → Bool
+is_end_after split k comment c = not (is_comment_after k comment c) && (not (in_raw k) && ((c == 41) || (split && (c == 124))))
 
 -- what is kept with it
-abbrev pub kept_behind : List ℕ → Bool → ℕ → List ℕ
-kept_behind k comment c = if not (is_comment_behind k comment c) && is_viable gabc (k ++ c ∷ []) then k ++ c ∷ [] else k
+abbrev pub kept_after : List ℕ → Bool → ℕ → List ℕ
+kept_after k comment c = if not (is_comment_after k comment c) && is_viable gabc (k ++ c ∷ []) then k ++ c ∷ [] else k
 
 -- the place of the bracket that is open after it, where it stands at p: inside raw that of the one
 -- open before it, else its own
-abbrev pub opener_behind : Bool → Option Place → Place → Option Place
-opener_behind false before p = None
-opener_behind true (Some q) p = Some q
-opener_behind true None p = Some p
+abbrev pub opener_after : Bool → Option Place → Place → Option Place
+opener_after false before p = None
+opener_after true (Some q) p = Some q
+opener_after true None p = Some p
 
 -- The stage goes on after a character.
 pub record GoesOn (split : Bool) (macros : ℕ) (k : List ℕ) (before : NoteStage) (x : Char) (events : List NoteEvent) (after : NoteStage) : Type 0 where
   pub no_end : ends_of events ≡ []
-  pub kept : k ++ kept_of events ≡ kept_behind k (comment_of before) x.c
+  pub kept : k ++ kept_of events ≡ kept_after k (comment_of before) x.c
   pub keeps : Keeps split macros after (k ++ kept_of events)
-  pub comment : comment_of after ≡ is_comment_behind k (comment_of before) x.c
-  pub opener : opener_of after ≡ opener_behind (in_raw (k ++ kept_of events)) (opener_of before) x.place
+  pub comment : comment_of after ≡ is_comment_after k (comment_of before) x.c
+  pub opener : opener_of after ≡ opener_after (in_raw (k ++ kept_of events)) (opener_of before) x.place
 
 -- It ends with the bytes of the kept text k without an unfinished end, and nothing is kept with the
 -- mark c.
@@ -62,9 +62,9 @@ pub record EndsAfter (k : List ℕ) (c : ℕ) (events : List NoteEvent) : Type 0
 -- What a character does to a stage, by the text that it kept and what it reports: it goes on or
 -- ends.
 pub record KeepsOn (before : NoteStage) (x : Char) (events : List NoteEvent) (after : NoteStage) : Type 0 where
-  pub goes : (split : Bool) (macros : ℕ) (k : List ℕ) → Keeps split macros before k → is_end_behind split k (comment_of before) x.c ≡ false
+  pub goes : (split : Bool) (macros : ℕ) (k : List ℕ) → Keeps split macros before k → is_end_after split k (comment_of before) x.c ≡ false
       → GoesOn split macros k before x events after
-  pub ends : (split : Bool) (macros : ℕ) (k : List ℕ) → Keeps split macros before k → is_end_behind split k (comment_of before) x.c ≡ true → EndsAfter k x.c events
+  pub ends : (split : Bool) (macros : ℕ) (k : List ℕ) → Keeps split macros before k → is_end_after split k (comment_of before) x.c ≡ true → EndsAfter k x.c events
 
 -- The step of a stage: it takes a character with these events, and stands there then.
 pub record Steps (before : NoteStage) (x : Char) (events : List NoteEvent) (after : NoteStage) : Type 0 where
@@ -83,9 +83,9 @@ OpensAt at s = (place : Place) → opener_of s ≡ Some place → place ≡ at
 
 -- The character c after k is kept again, where no comment is open, and none is open after it.
 pub record IsKeptAgain (split : Bool) (k : List ℕ) (c : ℕ) : Type 0 where
-  pub no_comment : is_comment_behind k false c ≡ false
-  pub goes_on : is_end_behind split k false c ≡ false
-  pub kept : kept_behind k false c ≡ k ++ c ∷ []
+  pub no_comment : is_comment_after k false c ≡ false
+  pub goes_on : is_end_after split k false c ≡ false
+  pub kept : kept_after k false c ≡ k ++ c ∷ []
 
 -- ---- a stage and each character
 

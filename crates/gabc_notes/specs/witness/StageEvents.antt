@@ -126,10 +126,10 @@ events_following _ over kept left = left
 
 -- What is emitted of the characters after this kept text, a list for each, and of their end, a list
 -- more.
-abbrev pub events_behind : Bool → ℕ → List ℕ → List ℕ → Before → List Char → List (List NoteEvent)
-events_behind split macros kept raw b [] = (cut_event (in_raw kept) b ∷ []) ∷ []
-events_behind split macros kept raw b (x ∷ xs) =
+abbrev pub events_after : Bool → ℕ → List ℕ → List ℕ → Before → List Char → List (List NoteEvent)
+events_after split macros kept raw b [] = (cut_event (in_raw kept) b ∷ []) ∷ []
+events_after split macros kept raw b (x ∷ xs) =
     let e = char_facts kept raw x.c in
     let r = role_in split b.comment e x.c in
     event_list (events_in r macros b e x)
-    ∷ events_following r (silence xs) (events_behind split macros (kept ++ x.c ∷ []) (raw_with e raw x.c) (before_in r b e x) xs) (events_behind split macros kept raw (before_in r b e x) xs)
+    ∷ events_following r (silence xs) (events_after split macros (kept ++ x.c ∷ []) (raw_with e raw x.c) (before_in r b e x) xs) (events_after split macros kept raw (before_in r b e x) xs)

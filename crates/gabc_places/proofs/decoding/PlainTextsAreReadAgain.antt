@@ -30,12 +30,12 @@ read_one q = read_as q.1
 abbrev pub is_read : ℕ × ℕ → Bool
 is_read q = not (is_left_out q)
 
-plain_behind : (p : ℕ) (cs : List ℕ) → p ≢ 13 → All IsPlain cs → map read_one (filter is_read (zip (p ∷ cs) cs)) ≡ cs
-plain_behind p [] before h = refl
-plain_behind p (c ∷ cs) before h =
+plain_after : (p : ℕ) (cs : List ℕ) → p ≢ 13 → All IsPlain cs → map read_one (filter is_read (zip (p ∷ cs) cs)) ≡ cs
+plain_after p [] before h = refl
+plain_after p (c ∷ cs) before h =
     let plain = All-head IsPlain c cs h in
     let k = kept p c before plain in
-    by (is_read (p, c)) (ap not k.0) k.1 (plain_behind c cs plain.0 (All-tail IsPlain c cs h))
+    by (is_read (p, c)) (ap not k.0) k.1 (plain_after c cs plain.0 (All-tail IsPlain c cs h))
   where
     by : (b : Bool) → b ≡ true → read_as c ≡ c → map read_one (filter is_read (zip (c ∷ cs) cs)) ≡ cs
         → map read_one (cond b ((p, c) ∷ filter is_read (zip (c ∷ cs) cs)) (filter is_read (zip (c ∷ cs) cs))) ≡ c ∷ cs
@@ -57,4 +57,4 @@ pub read_again : (limits : Limits) (ended : Bool) (text : List ℕ) → All IsSc
     → decoded_of limits ended (encodes text) ≡ record { text = text; fault = None }
 read_again limits ended text scalar plain within =
     characters_are_read limits ended text (all_scalars text scalar) within
-    ∙ ap (λ (t : List ℕ). record { text = t; fault = None }) (plain_behind 0 text (λ e. absurd (omega (arith, e))) plain)
+    ∙ ap (λ (t : List ℕ). record { text = t; fault = None }) (plain_after 0 text (λ e. absurd (omega (arith, e))) plain)

@@ -10,7 +10,7 @@ use lib.Utf8.{encodes, scalars}
 use Rattle.gabc_places.specs.declared.limits.Limits.{Limits}
 use Rattle.gabc_places.specs.Text.{decoded_of, utf8_prefix_of}
 use Rattle.gabc_places.proofs.decoding.PlainTextsAreReadAgain.{characters_are_read, is_read, read_one}
-use Rattle.gabc_places.proofs.texts.TextIsReadLineByLine.{text_behind}
+use Rattle.gabc_places.proofs.texts.TextIsReadLineByLine.{text_after}
 use Rattle.gabc_places.proofs.texts.TextsAreScalars.{prefix_scalars, prefix_short}
 use Rattle.gabc_places.proofs.utf8.CharacterByCharacter.{valid_len-front}
 
@@ -18,7 +18,7 @@ use Rattle.gabc_places.proofs.utf8.CharacterByCharacter.{valid_len-front}
 
 -- n characters have so much of the text that follows this one
 abbrev IsReadOf : ℕ → List ℕ → ℕ → ℕ → Type 0
-IsReadOf p cs n k = text_behind p (take k cs) ≡ take n (text_behind p cs)
+IsReadOf p cs n k = text_after p (take k cs) ≡ take n (text_after p cs)
 
 prefix_of_text : (p : ℕ) (cs : List ℕ) (n : ℕ) → (k : ℕ) × IsReadOf p cs n k
 prefix_of_text p cs zero = (0, refl)

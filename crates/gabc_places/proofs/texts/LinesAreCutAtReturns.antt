@@ -7,7 +7,7 @@ use Rattle.std.proofs.lemmas.Str.{encodes-chars, encode_ascii, IsCharBoundary-af
 use Rattle.memchr.specs.Find.{Nowhere, NoneBefore, Passes, is_byte}
 use Rattle.gabc_places.specs.Text.{is_shown, text_of_characters}
 use Rattle.gabc_places.proofs.texts.CharactersOfStrings.{chars-split}
-use Rattle.gabc_places.proofs.texts.TextIsReadLineByLine.{text_behind, line-shown, line-last, behind-return}
+use Rattle.gabc_places.proofs.texts.TextIsReadLineByLine.{text_after, line-shown, line-last, after-return}
 use lib.Utf8.{encode, encodes}
 
 -- no byte is a CR
@@ -53,9 +53,9 @@ pub line-read : (bs prefix after next : List ℕ) (at : ℕ) → IsUtf8 prefix �
     → chars next ≡ cond (slice_index (chars after) 0 == 10) (drop 1 (chars after)) (chars after)
     → text_of_characters (chars bs) ≡ filter is_shown (chars prefix) ++ 10 ∷ text_of_characters (chars next)
 line-read bs prefix after next at u v e f first is n =
-    ap (text_behind 0) (chars-cut bs prefix after at first.high is e f u v)
+    ap (text_after 0) (chars-cut bs prefix after at first.high is e f u v)
     ∙ line-shown 0 (chars prefix) (chars after) refl (no-return-prefix bs prefix at e (omega arith) u first.before)
-    ∙ ap (λ l. filter is_shown (chars prefix) ++ 10 ∷ l) (behind-return (chars after) (chars next) n)
+    ∙ ap (λ l. filter is_shown (chars prefix) ++ 10 ∷ l) (after-return (chars after) (chars next) n)
 
 -- the text of bytes without CR
 pub last-read : (bs : List ℕ) → IsUtf8 bs → Nowhere (Passes (is_byte 13) bs) 0 (length bs) → text_of_characters (chars bs) ≡ filter is_shown (chars bs)
@@ -66,5 +66,5 @@ pub line-added : (text shown rest before : List ℕ) → before ≡ shown ++ 10 
 line-added text shown rest before e = append_assoc (text ++ shown) (10 ∷ []) rest ∙ append_assoc text shown (10 ∷ rest) ∙ ap (λ l. text ++ l) (sym e)
 
 -- bytes may be cut after a CR byte
-pub cut-behind : (bs : List ℕ) (at : ℕ) → IsUtf8 bs → at < length bs → (slice_index bs at == 13) ≡ true → IsCharBoundary bs (at + 1)
-cut-behind bs at u less is = IsCharBoundary-after_ascii bs at u less (let same : slice_index bs at ≡ 13 = grind (arith, nat_tests) in omega arith)
+pub cut-after : (bs : List ℕ) (at : ℕ) → IsUtf8 bs → at < length bs → (slice_index bs at == 13) ≡ true → IsCharBoundary bs (at + 1)
+cut-after bs at u less is = IsCharBoundary-after_ascii bs at u less (let same : slice_index bs at ≡ 13 = grind (arith, nat_tests) in omega arith)

@@ -8,8 +8,8 @@ use Rattle.std.proofs.lemmas.Bool.Decides.{nat_tests}
 use Rattle.gabc_places.specs.Text.{is_left_out, is_shown, read_as}
 
 -- the text of the characters that follow this one
-abbrev pub text_behind : ℕ → List ℕ → List ℕ
-text_behind p cs = map (λ (p : ℕ × ℕ). read_as p.1) (filter (λ (p : ℕ × ℕ). not (is_left_out p)) (zip (p ∷ cs) cs))
+abbrev pub text_after : ℕ → List ℕ → List ℕ
+text_after p cs = map (λ (p : ℕ × ℕ). read_as p.1) (filter (λ (p : ℕ × ℕ). not (is_left_out p)) (zip (p ∷ cs) cs))
 
 first_by : (s : Bool) (p c : ℕ) (rest : List (ℕ × ℕ)) (line after : List ℕ) → (c == 13) ≡ false
     → map (λ (p : ℕ × ℕ). read_as p.1) rest ≡ line ++ after
@@ -19,16 +19,16 @@ first_by false p c rest line after plain e = e
 
 -- a line without CR, and what follows it, after a character that is no CR
 pub line-shown : (p : ℕ) (line after : List ℕ) → (p == 13) ≡ false → NonePass (λ c. c == 13) line
-    → text_behind p (line ++ 13 ∷ after) ≡ filter is_shown line ++ 10 ∷ text_behind 13 after
+    → text_after p (line ++ 13 ∷ after) ≡ filter is_shown line ++ 10 ∷ text_after 13 after
 line-shown p [] after plain none = rw plain refl
-line-shown p (c ∷ cs) after plain none = rw plain (first_by (is_shown c) p c _ (filter is_shown cs) (10 ∷ text_behind 13 after) none.0 (line-shown c cs after none.0 none.1))
+line-shown p (c ∷ cs) after plain none = rw plain (first_by (is_shown c) p c _ (filter is_shown cs) (10 ∷ text_after 13 after) none.0 (line-shown c cs after none.0 none.1))
 
-last_with : (p : ℕ) (line : List ℕ) → (p == 13) ≡ false → NonePass (λ c. c == 13) line → text_behind p line ≡ filter is_shown line ++ []
+last_with : (p : ℕ) (line : List ℕ) → (p == 13) ≡ false → NonePass (λ c. c == 13) line → text_after p line ≡ filter is_shown line ++ []
 last_with p [] plain none = refl
 last_with p (c ∷ cs) plain none = rw plain (first_by (is_shown c) p c _ (filter is_shown cs) [] none.0 (last_with c cs none.0 none.1))
 
 -- a last line without CR
-pub line-last : (p : ℕ) (line : List ℕ) → (p == 13) ≡ false → NonePass (λ c. c == 13) line → text_behind p line ≡ filter is_shown line
+pub line-last : (p : ℕ) (line : List ℕ) → (p == 13) ≡ false → NonePass (λ c. c == 13) line → text_after p line ≡ filter is_shown line
 line-last p line plain none = last_with p line plain none ∙ append-nil (filter is_shown line)
 
 same_by : (b : Bool) (p q c : ℕ) (rest : List (ℕ × ℕ))
@@ -37,21 +37,21 @@ same_by true p q c rest = refl
 same_by false p q c rest = refl
 
 -- after characters that are no CR the text is the same
-pub same-behind : (p q : ℕ) (cs : List ℕ) → (p == 13) ≡ false → (q == 13) ≡ false → text_behind p cs ≡ text_behind q cs
-same-behind p q [] e f = refl
-same-behind p q (c ∷ cs) e f = rw (e, f) (same_by (not (not (is_shown c))) p q c _)
+pub same-after : (p q : ℕ) (cs : List ℕ) → (p == 13) ≡ false → (q == 13) ≡ false → text_after p cs ≡ text_after q cs
+same-after p q [] e f = refl
+same-after p q (c ∷ cs) e f = rw (e, f) (same_by (not (not (is_shown c))) p q c _)
 
 no_return : (c : ℕ) → (c == 10) ≡ true → (c == 13) ≡ false
 no_return c e = grind (arith, nat_tests)
 
-return_by : (b : Bool) (c : ℕ) (cs : List ℕ) → (c == 10) ≡ b → text_behind 13 (c ∷ cs) ≡ text_behind 0 (cond b cs (c ∷ cs))
-return_by true c cs e = rw e (same-behind c 0 cs (no_return c e) refl)
+return_by : (b : Bool) (c : ℕ) (cs : List ℕ) → (c == 10) ≡ b → text_after 13 (c ∷ cs) ≡ text_after 0 (cond b cs (c ∷ cs))
+return_by true c cs e = rw e (same-after c 0 cs (no_return c e) refl)
 return_by false c cs e = rw e (same_by (not (not (is_shown c))) 13 0 c _)
 
 -- directly after a CR an LF is left out
-pub behind-return : (cs rest : List ℕ) → rest ≡ cond (slice_index cs 0 == 10) (drop 1 cs) cs → text_behind 13 cs ≡ text_behind 0 rest
-behind-return [] rest e = ap (text_behind 0) (sym e)
-behind-return (c ∷ cs) rest e = return_by (c == 10) c cs refl ∙ ap (text_behind 0) (sym e)
+pub after-return : (cs rest : List ℕ) → rest ≡ cond (slice_index cs 0 == 10) (drop 1 cs) cs → text_after 13 cs ≡ text_after 0 rest
+after-return [] rest e = ap (text_after 0) (sym e)
+after-return (c ∷ cs) rest e = return_by (c == 10) c cs refl ∙ ap (text_after 0) (sym e)
 
 plain_by : (s t : Bool) (p c : ℕ) → (c == 0xFEFF) ≡ s → (c == 13) ≡ t → not (is_left_out (p, c)) ≡ true → (cond t 10 c ≢ 13) × (cond t 10 c ≢ 0xFEFF)
 plain_by true t p c e f kept = absurd (grind (arith, nat_tests))

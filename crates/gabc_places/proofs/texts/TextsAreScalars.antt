@@ -8,7 +8,7 @@ use Rattle.std.specs.List.{zip, All}
 use Rattle.std.specs.Str.Lossy.{utf8_valid_len}
 use lib.Utf8.{encode, encodes, scalars}
 use Rattle.gabc_places.specs.Text.{is_left_out, read_as, utf8_prefix_of, text_of_bytes}
-use Rattle.gabc_places.proofs.texts.TextIsReadLineByLine.{text_behind}
+use Rattle.gabc_places.proofs.texts.TextIsReadLineByLine.{text_after}
 use Rattle.gabc_places.proofs.utf8.CharacterByCharacter.{valid_len-front}
 
 read_scalar : (c : ℕ) → IsScalar c → IsScalar (read_as c)
@@ -18,13 +18,13 @@ read_scalar c h = by (c == 13)
     by true = refl
     by false = h
 
-behind_scalars : (p : ℕ) (cs : List ℕ) → scalars cs ≡ true → All IsScalar (text_behind p cs)
-behind_scalars p [] h = All-nil IsScalar
-behind_scalars p (c ∷ cs) h = let s = and_parts _ _ h in by (not (is_left_out (p, c))) (read_scalar c s.0) (behind_scalars c cs s.1)
+after_scalars : (p : ℕ) (cs : List ℕ) → scalars cs ≡ true → All IsScalar (text_after p cs)
+after_scalars p [] h = All-nil IsScalar
+after_scalars p (c ∷ cs) h = let s = and_parts _ _ h in by (not (is_left_out (p, c))) (read_scalar c s.0) (after_scalars c cs s.1)
   where
-    by : (b : Bool) → IsScalar (read_as c) → All IsScalar (text_behind c cs)
+    by : (b : Bool) → IsScalar (read_as c) → All IsScalar (text_after c cs)
         → All IsScalar (map (λ (p : ℕ × ℕ). read_as p.1) (cond b ((p, c) ∷ filter (λ (p : ℕ × ℕ). not (is_left_out p)) (zip (c ∷ cs) cs)) (filter (λ (p : ℕ × ℕ). not (is_left_out p)) (zip (c ∷ cs) cs))))
-    by true one rest = All-cons IsScalar (read_as c) (text_behind c cs) one rest
+    by true one rest = All-cons IsScalar (read_as c) (text_after c cs) one rest
     by false one rest = rest
 
 read_short : (c : ℕ) → length (encode (read_as c)) ≤ length (encode c)
@@ -35,17 +35,17 @@ read_short c = by (c == 13)
     by true = omega (arith, length-encode c, (len_utf8_bounds c).0)
     by false = omega arith
 
-behind_short : (p : ℕ) (cs : List ℕ) → length (encodes (text_behind p cs)) ≤ length (encodes cs)
-behind_short p [] = omega arith
-behind_short p (c ∷ cs) = by (not (is_left_out (p, c))) (behind_short c cs)
+after_short : (p : ℕ) (cs : List ℕ) → length (encodes (text_after p cs)) ≤ length (encodes cs)
+after_short p [] = omega arith
+after_short p (c ∷ cs) = by (not (is_left_out (p, c))) (after_short c cs)
   where
     all : length (encodes (c ∷ cs)) ≡ length (encode c) + length (encodes cs)
     all = length-append (encode c) (encodes cs)
 
-    by : (b : Bool) → length (encodes (text_behind c cs)) ≤ length (encodes cs)
+    by : (b : Bool) → length (encodes (text_after c cs)) ≤ length (encodes cs)
         → length (encodes (map (λ (p : ℕ × ℕ). read_as p.1) (cond b ((p, c) ∷ filter (λ (p : ℕ × ℕ). not (is_left_out p)) (zip (c ∷ cs) cs)) (filter (λ (p : ℕ × ℕ). not (is_left_out p)) (zip (c ∷ cs) cs))))) ≤ length (encodes (c ∷ cs))
     by true rest =
-        let one : length (encodes (read_as c ∷ text_behind c cs)) ≡ length (encode (read_as c)) + length (encodes (text_behind c cs)) = length-append (encode (read_as c)) (encodes (text_behind c cs)) in
+        let one : length (encodes (read_as c ∷ text_after c cs)) ≡ length (encode (read_as c)) + length (encodes (text_after c cs)) = length-append (encode (read_as c)) (encodes (text_after c cs)) in
         let less : length (encode (read_as c)) ≤ length (encode c) = read_short c in
         let whole = all in
         omega arith
@@ -63,12 +63,12 @@ prefix_short bytes =
     omega arith
 
 pub text_scalars : (limit : ℕ) (bytes : List ℕ) → All IsScalar (text_of_bytes limit bytes)
-text_scalars limit bytes = behind_scalars 0 (utf8_prefix_of (take limit bytes)) (prefix_scalars (take limit bytes))
+text_scalars limit bytes = after_scalars 0 (utf8_prefix_of (take limit bytes)) (prefix_scalars (take limit bytes))
 
 pub text_short : (limit : ℕ) (bytes : List ℕ) → length (encodes (text_of_bytes limit bytes)) ≤ limit
 text_short limit bytes =
     let cs = utf8_prefix_of (take limit bytes) in
-    let a : length (encodes (text_behind 0 cs)) ≤ length (encodes cs) = behind_short 0 cs in
+    let a : length (encodes (text_after 0 cs)) ≤ length (encodes cs) = after_short 0 cs in
     let b : length (encodes cs) ≤ length (take limit bytes) = prefix_short (take limit bytes) in
     let c = length-take limit bytes in
     omega arith

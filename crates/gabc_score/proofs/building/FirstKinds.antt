@@ -93,8 +93,8 @@ module _ (ended kept mark : List ℕ) (begins : is_seam kept ≡ true) (marks : 
   rest : drop (length ended) whole ≡ kept ++ mark
   rest = ap (drop (length ended)) split ∙ drop_at ended (kept ++ mark) (length ended) refl
 
-  behind : drop (length (ended ++ kept)) whole ≡ mark
-  behind = drop_at (ended ++ kept) mark (length (ended ++ kept)) refl
+  after : drop (length (ended ++ kept)) whole ≡ mark
+  after = drop_at (ended ++ kept) mark (length (ended ++ kept)) refl
 
   kept_seam : (k : List ℕ) → is_seam k ≡ true → is_seam (k ++ mark) ≡ true
   kept_seam [] h = marks
@@ -110,7 +110,7 @@ module _ (ended kept mark : List ℕ) (begins : is_seam kept ≡ true) (marks : 
   pub snippet_text : text_at span whole ≡ kept
   snippet_text =
       text_is span whole (omega (arith, length-append ended kept)) (omega (arith, length-append (ended ++ kept) mark))
-      (subst (λ t. is_seam t ≡ true) (sym rest) (kept_seam kept begins)) (subst (λ t. is_seam t ≡ true) (sym behind) marks)
+      (subst (λ t. is_seam t ≡ true) (sym rest) (kept_seam kept begins)) (subst (λ t. is_seam t ≡ true) (sym after) marks)
       ∙ sliced
 
 -- ---- one more snippet

@@ -20,7 +20,7 @@ pub keeps_on : {lines macros : ℕ} {x : Char} {before after : BodyPart} {now : 
 keeps_on {lines} {macros} (step.in_front h) = λ spans g fits r. read_on lines macros part.Comment part.Comment spans g g refl r
 keeps_on {x = x} (step.leaves_front h s) = λ spans g fits r. keeps_on s spans g fits (reading_begins x.place r)
 keeps_on {lines} {macros} {x} (step.text_goes {s} {t} {es} h e) = text_keeps_on lines macros s t x.c es h.keeps e
-keeps_on {lines} {macros} {x} (step.text_ends {s} {t} {es} {after} h e b) = text_ends_on lines macros s t x.c es after h.keeps e (λ u behind. b.keeps u [] behind)
+keeps_on {lines} {macros} {x} (step.text_ends {s} {t} {es} {after} h e b) = text_ends_on lines macros s t x.c es after h.keeps e (λ u later. b.keeps u [] later)
 keeps_on {lines} {macros} (step.snippet_goes s n c) = notes_keep_on lines macros s n c
 keeps_on {lines} {macros} (step.snippet_next {after = after} s n b) = notes_end_on lines macros s after n b.keeps
 keeps_on {lines} {macros} {x} (step.snippet_closes s n c) = notes_close_on lines macros s (part.Text (fresh_stage (after_mark x.place))) c (fresh_keeps (after_mark x.place))

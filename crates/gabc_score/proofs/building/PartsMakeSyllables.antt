@@ -32,7 +32,7 @@ use Rattle.gabc_text.specs.ViewFacts.{span_tags}
 use Rattle.gabc_score.specs.UnitRead.{HoldsSomeUnit}
 use Rattle.gabc_score.specs.machine.BodyBuilder.{with_all}
 use Rattle.gabc_score.specs.machine.Gatherer.{Gathered, with_event}
-use Rattle.gabc_score.specs.machine.PartKeeps.{KeptParts, in_text, barred, text_before, joined, line_behind, text_events, snippet_events, earlier_events, events_before, said_by, AreEnded, begun, ReadAlike, IsReading}
+use Rattle.gabc_score.specs.machine.PartKeeps.{KeptParts, in_text, barred, text_before, joined, line_after, text_events, snippet_events, earlier_events, events_before, said_by, AreEnded, begun, ReadAlike, IsReading}
 use Rattle.gabc_score.specs.machine.PartMakes.{FollowEach, AreHeld, HoldUnits, PartMakes}
 use Rattle.gabc_score.specs.machine.PartSteps.{SnippetSteps}
 use Rattle.gabc_score.specs.machine.SyllableBuilder.{OpenSyllable, made_from, past_snippet}
@@ -130,7 +130,7 @@ module _ (lines macros : ℕ) {x : Char} {line : ℕ} {opened : Place} {before s
       subst (λ (i : Gathered). AreHeld lines p i.made) (sym (notes_ended line opened es g note_end.Close n closed.none_kept (close_ends es x.c n closed.end close))) (record {
         units = All-push (HoldsSomeUnit lines) g.made made (h laws).units
             (subst (λ (o : OpenSyllable). HoldsSomeUnit lines (made_from (past_snippet o line n 41) g.eu g.nlba)) (sym builder_is)
-            (close_holds laws lines t view line (length here.earlier) base.builder has_read closed.s closed.rest closed.whole n count_is full refl (none_ended lines macros here.earlier here.behind.snippets_ended) g.eu g.nlba));
+            (close_holds laws lines t view line (length here.earlier) base.builder has_read closed.s closed.rest closed.whole n count_is full refl (none_ended lines macros here.earlier here.after.snippets_ended) g.eu g.nlba));
         follow = follow_push p g.made made (h laws).follow (record {
           eu = r.said.eu ∙ ap (λ (k : KeptParts). (with_all (begun spans) (said_by lines k)).eu) here.is ∙ eu_open lines t here.earlier here.k spans full ∙ sym (opens (codes "<eu>") (codes "</eu>") spans.eu);
           nlba = r.said.nlba ∙ ap (λ (k : KeptParts). (with_all (begun spans) (said_by lines k)).nlba) here.is ∙ nlba_open lines t here.earlier here.k spans full ∙ sym (opens (codes "<nlba>") (codes "</nlba>") spans.nlba);
@@ -177,21 +177,21 @@ module _ (lines macros : ℕ) {x : Char} {line : ℕ} {opened : Place} {before s
           omega (arith, fits, all_size, part_size)
 
       full : IsSaidInFull t []
-      full = laws.said t here.behind.text_ended (omega (arith, fits, all_size))
+      full = laws.said t here.after.text_ended (omega (arith, fits, all_size))
 
       has_read : HasRead laws lines t (view_in (t ++ 40 ∷ [])) line (length here.earlier) base.builder
       has_read =
-          subst (λ (l : ℕ). HasRead laws lines t (view_in (t ++ 40 ∷ [])) l (length here.earlier) base.builder) here.behind.line_is
-          (subst (λ (m : ℕ). HasRead laws lines t (view_in (t ++ 40 ∷ [])) (line_behind lines 0 here.earlier) m base.builder) (let same : 0 + length here.earlier ≡ length here.earlier = omega arith in same)
-          (earlier_read laws lines t (view_in (t ++ 40 ∷ [])) macros 0 0 first here.earlier (text_read laws lines t full (begun spans) refl) here.behind.snippets_ended))
+          subst (λ (l : ℕ). HasRead laws lines t (view_in (t ++ 40 ∷ [])) l (length here.earlier) base.builder) here.after.line_is
+          (subst (λ (m : ℕ). HasRead laws lines t (view_in (t ++ 40 ∷ [])) (line_after lines 0 here.earlier) m base.builder) (let same : 0 + length here.earlier ≡ length here.earlier = omega arith in same)
+          (earlier_read laws lines t (view_in (t ++ 40 ∷ [])) macros 0 0 first here.earlier (text_read laws lines t full (begun spans) refl) here.after.snippets_ended))
 
       -- what was gathered is what the parts say
       builder_is : g.builder ≡ with_more base.builder (closed.s ++ closed.rest)
       builder_is =
           r.said.builder
           ∙ ap (λ (p : KeptParts). (with_all (begun spans) (said_by lines p)).builder) here.is
-          ∙ ap (λ (i : Gathered). i.builder) (with_all_append (begun spans) (events_before lines t here.earlier) (snippet_events (line_behind lines 0 here.earlier) here.k))
-          ∙ ap (λ (i : Gathered). i.builder) (snippet_is (line_behind lines 0 here.earlier) here.k (with_all (begun spans) (events_before lines t here.earlier)))
+          ∙ ap (λ (i : Gathered). i.builder) (with_all_append (begun spans) (events_before lines t here.earlier) (snippet_events (line_after lines 0 here.earlier) here.k))
+          ∙ ap (λ (i : Gathered). i.builder) (snippet_is (line_after lines 0 here.earlier) here.k (with_all (begun spans) (events_before lines t here.earlier)))
           ∙ ap (λ (i : Gathered). with_more i.builder here.k) (with_all_append (begun spans) (text_events (text.said_of t ++ text.said_at_end t)) (earlier_events lines 0 here.earlier))
           ∙ ap (with_more base.builder) closed.cut
 

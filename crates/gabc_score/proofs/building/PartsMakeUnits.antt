@@ -29,14 +29,14 @@ use Rattle.gabc_score.specs.SpansPast.{open_past}
 use Rattle.gabc_score.specs.UnitRead.{HoldsSomeUnit}
 use Rattle.gabc_score.specs.machine.BodyBuilder.{with_all}
 use Rattle.gabc_score.specs.machine.Gatherer.{Gathered, with_event}
-use Rattle.gabc_score.specs.machine.PartKeeps.{line_behind, text_events, snippet_events, ended_events, earlier_events, IsEndedOn, AreEnded}
+use Rattle.gabc_score.specs.machine.PartKeeps.{line_after, text_events, snippet_events, ended_events, earlier_events, IsEndedOn, AreEnded}
 use Rattle.gabc_score.specs.machine.PartMakes.{PartLaws, characters_of}
 use Rattle.gabc_score.specs.machine.SyllableBuilder.{OpenSyllable, nothing_open, made_from, past_text, past_snippet}
 use Rattle.gabc_score.proofs.building.EventsOfOnePoint.{with_all_append}
 use Rattle.gabc_score.proofs.building.PartsOfKeptText.{cut_is, snippet_is}
 use Rattle.gabc_score.proofs.holding.PartsAreAUnit.{notes_are_unit}
 use Rattle.gabc_score.proofs.holding.SyllableHoldsPartByPart.{first_turn}
-use Rattle.gabc_score.proofs.holding.SnippetsAreHeld.{Placed, PlacedFrom, placed_push, all_held, next_turn, whole_of, span_behind}
+use Rattle.gabc_score.proofs.holding.SnippetsAreHeld.{Placed, PlacedFrom, placed_push, all_held, next_turn, whole_of, span_after}
 use Rattle.gabc_score.proofs.syllables_of_units.LastTagOpensTheSpan.{after_tags}
 use Rattle.gabc_score.proofs.syllables_of_units.UnitGivesOneSyllable.{view_past}
 use Rattle.gabc_score.proofs.texts_of_body.SeamsOfCharacters.{size}
@@ -52,8 +52,8 @@ abbrev snippet_in : ReadSnippet → Snippet
 snippet_in s = s.snippet
 
 -- the snippet of this kept text after that one
-abbrev read_behind : ℕ → List ℕ → List ℕ → ReadSnippet
-read_behind line prefix s = record { snippet = record { line = line; span = span_behind prefix s }; characters = characters_of s; kept = s }
+abbrev read_after : ℕ → List ℕ → List ℕ → ReadSnippet
+read_after line prefix s = record { snippet = record { line = line; span = span_after prefix s }; characters = characters_of s; kept = s }
 
 bracket_more : (reads : List ReadSnippet) (new : ReadSnippet) → bracket_with kept_text reads ++ (new.kept ++ codes "|") ≡ bracket_with kept_text (reads ++ new ∷ [])
 bracket_more reads new =
@@ -78,8 +78,8 @@ module _ (laws : PartLaws) (lines : ℕ) (t : List ℕ) (view : ViewContent) whe
     pub line_is : line ≡ length reads % (lines + 1)
 
   -- after a snippet that ends with this mark
-  abbrev behind : List ReadSnippet → ReadSnippet → ℕ → OpenSyllable
-  behind reads new mark =
+  abbrev after : List ReadSnippet → ReadSnippet → ℕ → OpenSyllable
+  after reads new mark =
       let all : List ℕ = ((t ++ bracket_with kept_text reads) ++ new.kept) ++ mark ∷ [] in
       record { kept = encode_utf8_all all; from = size all; view = view; snippets = map snippet_in (reads ++ new ∷ []) }
 
@@ -88,7 +88,7 @@ module _ (laws : PartLaws) (lines : ℕ) (t : List ℕ) (view : ViewContent) whe
     prefix = t ++ bracket_with kept_text h.reads
 
     abbrev new : ReadSnippet
-    new = read_behind line prefix s
+    new = read_after line prefix s
 
     abbrev cut_with : List ℕ → ℕ → ViewContent → List Snippet → ℕ → OpenSyllable
     cut_with kept from shown snippets mark = record {
@@ -101,7 +101,7 @@ module _ (laws : PartLaws) (lines : ℕ) (t : List ℕ) (view : ViewContent) whe
     abbrev closed_with : List ℕ → OpenSyllable
     closed_with k = record { kept = k; from = length k; view = view; snippets = map snippet_in h.reads ++ new.snippet ∷ [] }
 
-    ended_is : (n mark : ℕ) → n ≡ size s → past_snippet (with_more o (s ++ rest)) line n mark ≡ behind h.reads new mark
+    ended_is : (n mark : ℕ) → n ≡ size s → past_snippet (with_more o (s ++ rest)) line n mark ≡ after h.reads new mark
     ended_is n mark e =
         ap (λ (k : List ℕ). cut_with k o.from o.view o.snippets mark)
         (cut_is o.from n (o.kept ++ encode_utf8_all (s ++ rest)) prefix s rest (ap (λ (k : List ℕ). k ++ encode_utf8_all (s ++ rest)) h.kept_is ∙ sym (encodes-append prefix (s ++ rest))) h.from_is e)
@@ -110,7 +110,7 @@ module _ (laws : PartLaws) (lines : ℕ) (t : List ℕ) (view : ViewContent) whe
         ∙ ap (λ (ss : List Snippet). cut_with (encode_utf8_all (prefix ++ s)) (size prefix) view ss mark) h.snippets_are
         ∙ ap closed_with
         (ap (λ (k : List ℕ). encode_utf8_all (prefix ++ s) ++ k) (sym (append-nil (encode_utf8 mark))) ∙ sym (encodes-append (prefix ++ s) (mark ∷ [])))
-        ∙ ap (λ (ss : List Snippet). record (behind h.reads new mark) { snippets = ss }) (sym (map-append snippet_in h.reads (new ∷ [])))
+        ∙ ap (λ (ss : List Snippet). record (after h.reads new mark) { snippets = ss }) (sym (map-append snippet_in h.reads (new ∷ [])))
 
     -- what is kept at the `)`, and the view that stands for it
     whole_kept : encode_utf8_all ((prefix ++ s) ++ codes ")") ≡ encode_utf8_all (whole_of t h.reads new)
@@ -159,7 +159,7 @@ module _ (laws : PartLaws) (lines : ℕ) (t : List ℕ) (view : ViewContent) whe
       pub close_holds : (n : ℕ) → n ≡ size s → (full : IsSaidInFull t []) → view ≡ view_in (t ++ 40 ∷ []) → (lines ≡ 0 → count ≡ 0) → (eu nlba : Bool)
           → HoldsSomeUnit lines (made_from (past_snippet (with_more o (s ++ rest)) line n 41) eu nlba)
       close_holds n e full same few eu nlba = subst (λ (b : OpenSyllable). HoldsSomeUnit lines (made_from b eu nlba)) (sym (ended_is n 41 e))
-          (notes_are_unit lines (made_from (behind h.reads new 41) eu nlba) (t ++ 40 ∷ []) (in_brackets codes_in h.reads new) (whole_of t h.reads new)
+          (notes_are_unit lines (made_from (after h.reads new 41) eu nlba) (t ++ 40 ∷ []) (in_brackets codes_in h.reads new) (whole_of t h.reads new)
           whole_kept
           same
           (whole_stands full same)
@@ -188,11 +188,11 @@ module _ (laws : PartLaws) (lines : ℕ) (t : List ℕ) (view : ViewContent) whe
       (next_read line count g.builder h s [] (of_line macros line s e) (size s) refl))
 
   pub earlier_read : (macros line count : ℕ) (g : Gathered) (ss : List (List ℕ)) → HasRead line count g.builder → AreEnded lines macros line ss
-      → HasRead (line_behind lines line ss) (count + length ss) (with_all g (earlier_events lines line ss)).builder
+      → HasRead (line_after lines line ss) (count + length ss) (with_all g (earlier_events lines line ss)).builder
   earlier_read macros line count g [] h e = subst (λ (n : ℕ). HasRead line n g.builder) (let same : count ≡ count + 0 = omega arith in same) h
   earlier_read macros line count g (s ∷ ss) h e =
-      subst (λ (i : Gathered). HasRead (line_behind lines (next_line lines line) ss) (count + suc (length ss)) i.builder) (sym (with_all_append g (ended_events line s) (earlier_events lines (next_line lines line) ss)))
-      (subst (λ (n : ℕ). HasRead (line_behind lines (next_line lines line) ss) n (with_all (with_all g (ended_events line s)) (earlier_events lines (next_line lines line) ss)).builder) (let same : (count + 1) + length ss ≡ count + suc (length ss) = omega arith in same)
+      subst (λ (i : Gathered). HasRead (line_after lines (next_line lines line) ss) (count + suc (length ss)) i.builder) (sym (with_all_append g (ended_events line s) (earlier_events lines (next_line lines line) ss)))
+      (subst (λ (n : ℕ). HasRead (line_after lines (next_line lines line) ss) n (with_all (with_all g (ended_events line s)) (earlier_events lines (next_line lines line) ss)).builder) (let same : (count + 1) + length ss ≡ count + suc (length ss) = omega arith in same)
       (earlier_read macros (next_line lines line) (count + 1) (with_all g (ended_events line s)) ss (one_read macros line count g s h e.0) e.1))
 
 -- ---- a text that has ended

@@ -18,7 +18,7 @@ use Rattle.gabc_score.specs.Events.{is_close, is_next, next_line, note_event}
 use Rattle.gabc_score.specs.Syllable.{prefix_of}
 use Rattle.gabc_score.specs.machine.BodyBuilder.{with_all}
 use Rattle.gabc_score.specs.machine.Gatherer.{Gathered, with_event, with_snippet}
-use Rattle.gabc_score.specs.machine.PartKeeps.{KeptParts, in_text, in_notes, barred, text_before, joined, line_behind, kept_char, text_events, snippet_events, ended_events, earlier_events, events_before, said_by, IsEndedOn, AreEnded, BeginsSnippet, PartKeeps, begun, ReadAlike, IsReading, spans_past, PartKeepsOn}
+use Rattle.gabc_score.specs.machine.PartKeeps.{KeptParts, in_text, in_notes, barred, text_before, joined, line_after, kept_char, text_events, snippet_events, ended_events, earlier_events, events_before, said_by, IsEndedOn, AreEnded, BeginsSnippet, PartKeeps, begun, ReadAlike, IsReading, spans_past, PartKeepsOn}
 use Rattle.gabc_score.specs.machine.PartSteps.{SnippetSteps}
 use Rattle.gabc_score.specs.machine.Preceded.{spans_of}
 use Rattle.gabc_score.specs.machine.SyllableBuilder.{OpenSyllable, made_from, past_mark, past_snippet, snippet_from}
@@ -28,19 +28,19 @@ use Rattle.gabc_score.proofs.texts_of_body.SeamsOfCharacters.{size, size_append}
 use Rattle.gabc_score.proofs.building.PartsOfKeptText.{Grows, all_alike, of_notes, notes_said, notes_ended, snippet_grows, snippet_is, cut_is, read_on}
 
 module _ (lines macros : ℕ) where
-  line_more : (line : ℕ) (earlier : List (List ℕ)) (s : List ℕ) → line_behind lines line (earlier ++ s ∷ []) ≡ next_line lines (line_behind lines line earlier)
+  line_more : (line : ℕ) (earlier : List (List ℕ)) (s : List ℕ) → line_after lines line (earlier ++ s ∷ []) ≡ next_line lines (line_after lines line earlier)
   line_more line [] s = refl
   line_more line (u ∷ earlier) s = line_more (next_line lines line) earlier s
 
-  ended_more : (line : ℕ) (earlier : List (List ℕ)) (s : List ℕ) → AreEnded lines macros line earlier → IsEndedOn lines macros (line_behind lines line earlier) s → AreEnded lines macros line (earlier ++ s ∷ [])
+  ended_more : (line : ℕ) (earlier : List (List ℕ)) (s : List ℕ) → AreEnded lines macros line earlier → IsEndedOn lines macros (line_after lines line earlier) s → AreEnded lines macros line (earlier ++ s ∷ [])
   ended_more line [] s h e = (e, tt)
   ended_more line (u ∷ earlier) s h e = (h.0, ended_more (next_line lines line) earlier s h.1 e)
 
-  earlier_more : (line : ℕ) (earlier : List (List ℕ)) (s : List ℕ) → earlier_events lines line (earlier ++ s ∷ []) ≡ earlier_events lines line earlier ++ ended_events (line_behind lines line earlier) s
+  earlier_more : (line : ℕ) (earlier : List (List ℕ)) (s : List ℕ) → earlier_events lines line (earlier ++ s ∷ []) ≡ earlier_events lines line earlier ++ ended_events (line_after lines line earlier) s
   earlier_more line [] s = append-nil (ended_events line s)
   earlier_more line (u ∷ earlier) s =
       ap (λ (es : List BodyEvent). ended_events line u ++ es) (earlier_more (next_line lines line) earlier s)
-      ∙ sym (append_assoc (ended_events line u) (earlier_events lines (next_line lines line) earlier) (ended_events (line_behind lines (next_line lines line) earlier) s))
+      ∙ sym (append_assoc (ended_events line u) (earlier_events lines (next_line lines line) earlier) (ended_events (line_after lines (next_line lines line) earlier) s))
 
   module _ {x : Char} {line : ℕ} {opened : Place} {before same : BodyPart} {es : List NoteEvent} (s : SnippetSteps x line opened before es same) where
     pub notes_keep_on : list_any is_next es ≡ false → list_any is_close es ≡ false → PartKeepsOn lines macros before same (of_notes line opened es)
@@ -73,10 +73,10 @@ module _ (lines macros : ℕ) where
 
         said_more : with_all (begun spans) (said_by lines (in_notes here.t here.earlier (here.k ++ kept_of es))) ≡ with_all (with_all (begun spans) (said_by lines (in_notes here.t here.earlier here.k))) (snippet_events line (kept_of es))
         said_more =
-            ap (λ (ks : List BodyEvent). with_all (begun spans) (events_before lines here.t here.earlier ++ ks)) (map-append (λ (c : ℕ). event.Notes (line_behind lines 0 here.earlier) (note.Kept (kept_char c))) here.k (kept_of es))
-            ∙ ap (with_all (begun spans)) (sym (append_assoc (events_before lines here.t here.earlier) (snippet_events (line_behind lines 0 here.earlier) here.k) (snippet_events (line_behind lines 0 here.earlier) (kept_of es))))
-            ∙ with_all_append (begun spans) (said_by lines (in_notes here.t here.earlier here.k)) (snippet_events (line_behind lines 0 here.earlier) (kept_of es))
-            ∙ ap (λ (l : ℕ). with_all (with_all (begun spans) (said_by lines (in_notes here.t here.earlier here.k))) (snippet_events l (kept_of es))) here.behind.line_is
+            ap (λ (ks : List BodyEvent). with_all (begun spans) (events_before lines here.t here.earlier ++ ks)) (map-append (λ (c : ℕ). event.Notes (line_after lines 0 here.earlier) (note.Kept (kept_char c))) here.k (kept_of es))
+            ∙ ap (with_all (begun spans)) (sym (append_assoc (events_before lines here.t here.earlier) (snippet_events (line_after lines 0 here.earlier) here.k) (snippet_events (line_after lines 0 here.earlier) (kept_of es))))
+            ∙ with_all_append (begun spans) (said_by lines (in_notes here.t here.earlier here.k)) (snippet_events (line_after lines 0 here.earlier) (kept_of es))
+            ∙ ap (λ (l : ℕ). with_all (with_all (begun spans) (said_by lines (in_notes here.t here.earlier here.k))) (snippet_events l (kept_of es))) here.after.line_is
 
     -- the `)`, after which a text begins
     pub notes_close_on : (after : BodyPart) → list_any is_close es ≡ true → PartKeeps lines macros after (in_text []) → PartKeepsOn lines macros before after (of_notes line opened es)
@@ -105,9 +105,9 @@ module _ (lines macros : ℕ) where
         (read_on lines macros before after spans g ended refl (record {
           parts = in_notes here.t earlier [];
           keeps = begins here.t earlier (record {
-            text_ended = here.behind.text_ended;
-            snippets_ended = ended_more 0 here.earlier e.s here.behind.snippets_ended (subst (λ (l : ℕ). IsEndedOn lines macros l e.s) (sym here.behind.line_is) (e.ended (next_mark es x.c n e.end next)));
-            line_is = line_more 0 here.earlier e.s ∙ ap (next_line lines) here.behind.line_is;
+            text_ended = here.after.text_ended;
+            snippets_ended = ended_more 0 here.earlier e.s here.after.snippets_ended (subst (λ (l : ℕ). IsEndedOn lines macros l e.s) (sym here.after.line_is) (e.ended (next_mark es x.c n e.end next)));
+            line_is = line_more 0 here.earlier e.s ∙ ap (next_line lines) here.after.line_is;
           });
           said = subst (ReadAlike ended) (sym said_more) (record {
             builder = ap (λ (o : OpenSyllable). past_snippet o line n 124) builder_is ∙ ap (λ (b : List ℕ). record (past_mark b 124 all) { snippets = all.snippets ++ snippet_from all line b ∷ [] }) cut_same;
@@ -149,7 +149,7 @@ module _ (lines macros : ℕ) where
 
         was : ReadAlike g (with_all base (snippet_events line here.k))
         was = subst (ReadAlike g) (with_all_append (begun spans) (events_before lines here.t here.earlier) (snippet_events line here.k))
-            (subst (λ (l : ℕ). ReadAlike g (with_all (begun spans) (events_before lines here.t here.earlier ++ snippet_events l here.k))) here.behind.line_is
+            (subst (λ (l : ℕ). ReadAlike g (with_all (begun spans) (events_before lines here.t here.earlier ++ snippet_events l here.k))) here.after.line_is
             (subst (λ (p : KeptParts). ReadAlike g (with_all (begun spans) (said_by lines p))) here.is r.said))
 
         builder_is : g.builder ≡ all
@@ -209,8 +209,8 @@ module _ (lines macros : ℕ) where
             ap (with_all (begun spans))
             (append-nil (events_before lines here.t earlier)
             ∙ ap (λ (es : List BodyEvent). text_events (text.said_of here.t ++ text.said_at_end here.t) ++ es) (earlier_more 0 here.earlier e.s)
-            ∙ sym (append_assoc (text_events (text.said_of here.t ++ text.said_at_end here.t)) (earlier_events lines 0 here.earlier) (ended_events (line_behind lines 0 here.earlier) e.s))
-            ∙ ap (λ (l : ℕ). events_before lines here.t here.earlier ++ ended_events l e.s) here.behind.line_is)
+            ∙ sym (append_assoc (text_events (text.said_of here.t ++ text.said_at_end here.t)) (earlier_events lines 0 here.earlier) (ended_events (line_after lines 0 here.earlier) e.s))
+            ∙ ap (λ (l : ℕ). events_before lines here.t here.earlier ++ ended_events l e.s) here.after.line_is)
             ∙ with_all_append (begun spans) (events_before lines here.t here.earlier) (ended_events line e.s)
             ∙ with_all_append base (snippet_events line e.s) (event.Notes line (note.Ended note_end.Next (size e.s)) ∷ [])
             ∙ ap (λ (i : Gathered). with_event i (event.Notes line (note.Ended note_end.Next (size e.s)))) (snippet_is line e.s base)

@@ -30,7 +30,7 @@ use Rattle.gabc_score.specs.Events.{is_text_end, note_event}
 use Rattle.gabc_score.specs.Syllable.{UnplacedSyllable, prefix_of}
 use Rattle.gabc_score.specs.machine.BodyBuilder.{with_all}
 use Rattle.gabc_score.specs.machine.Gatherer.{Gathered, with_event}
-use Rattle.gabc_score.specs.machine.PartKeeps.{KeptParts, in_text, in_notes, text_before, joined, kept_char, text_events, snippet_events, said_by, AreBehind, PartKeeps, begun, ReadAlike, IsReading, spans_past, PartKeepsOn}
+use Rattle.gabc_score.specs.machine.PartKeeps.{KeptParts, in_text, in_notes, text_before, joined, kept_char, text_events, snippet_events, said_by, AreAfter, PartKeeps, begun, ReadAlike, IsReading, spans_past, PartKeepsOn}
 use Rattle.gabc_score.proofs.building.EventsOfOnePoint.{with_all_append}
 use Rattle.gabc_score.proofs.texts_of_body.SeamsOfCharacters.{size, cut_between}
 
@@ -292,7 +292,7 @@ module _ (lines macros : ℕ) where
 
   -- the part after it reads the first snippet of GABC
   pub text_ends_on : (s t : TextStage) (c : ℕ) (es : List TextEvent) (after : BodyPart) → text.KeepsOn s c es t → list_any is_text_end es ≡ true
-      → ((u : List ℕ) → AreBehind lines macros 0 u [] → PartKeeps lines macros after (in_notes u [] [])) → PartKeepsOn lines macros (part.Text s) after (text_events es)
+      → ((u : List ℕ) → AreAfter lines macros 0 u [] → PartKeeps lines macros after (in_notes u [] [])) → PartKeepsOn lines macros (part.Text s) after (text_events es)
   text_ends_on s t c es after on over begins spans g fits r =
       read_on (part.Text s) after spans g (with_all g (text_events es)) marked.made (record {
         parts = in_notes k [] [];

@@ -9,8 +9,8 @@ use Rattle.gabc_text.specs.Canonical.{span_bytes}
 use Rattle.gabc_score.specs.declared.snippets.Snippet.{Snippet}
 use Rattle.gabc_score.specs.Syllable.{slice}
 use Rattle.gabc_score.specs.Canonical.{translation_text, with_bars}
-use Rattle.gabc_score.specs.machine.SyllableText.{snippets_behind_bars}
-use Rattle.gabc_score.proofs.building.SnippetsWithBars.{bars_behind_first}
+use Rattle.gabc_score.specs.machine.SyllableText.{snippets_after_bars}
+use Rattle.gabc_score.proofs.building.SnippetsWithBars.{bars_after_first}
 
 -- what lies between a and b, and then all from b on
 part_and_rest : (xs : List ℕ) (a b : ℕ) → a ≤ b → take (b - a) (drop a xs) ++ drop b xs ≡ drop a xs
@@ -35,21 +35,21 @@ mark_and_span kept i mark s h m f o =
 pub next_as_kept : (kept : List ℕ) (snippets : List Snippet) (i end : ℕ) (d : Snippet) → i < length snippets
     → end < length kept → get_or kept end 0 ≡ 124 → (get_or snippets i d).span.from ≡ end + 1
     → (get_or snippets i d).span.from ≤ (get_or snippets i d).span.to
-    → snippets_behind_bars kept (drop (i + 1) snippets) ++ codes ")" ≡ drop (get_or snippets i d).span.to kept
-    → snippets_behind_bars kept (drop i snippets) ++ codes ")" ≡ drop end kept
+    → snippets_after_bars kept (drop (i + 1) snippets) ++ codes ")" ≡ drop (get_or snippets i d).span.to kept
+    → snippets_after_bars kept (drop i snippets) ++ codes ")" ≡ drop end kept
 next_as_kept kept snippets i end d h w m f o rest =
     let next : drop i snippets ≡ get_or snippets i d ∷ drop (i + 1) snippets = rw add-one (drop-cons snippets i d h) in
     let s = (get_or snippets i d).span in
-    let split = append_assoc (slice s kept) (snippets_behind_bars kept (drop (i + 1) snippets)) (codes ")") in
+    let split = append_assoc (slice s kept) (snippets_after_bars kept (drop (i + 1) snippets)) (codes ")") in
     rw next (ap (λ (x : List ℕ). 124 ∷ x) (split ∙ ap (λ (x : List ℕ). slice s kept ++ x) rest) ∙ mark_and_span kept end 124 s w m f o)
 
 -- the notes in their brackets
 pub notes_as_kept : (kept : List ℕ) (first : Snippet) (others : List Snippet) (from : ℕ) → from < length kept → get_or kept from 0 ≡ 40
-    → first.span.from ≡ from + 1 → first.span.from ≤ first.span.to → snippets_behind_bars kept others ++ codes ")" ≡ drop first.span.to kept
+    → first.span.from ≡ from + 1 → first.span.from ≤ first.span.to → snippets_after_bars kept others ++ codes ")" ≡ drop first.span.to kept
     → codes "(" ++ (with_bars kept (first ∷ others) ++ codes ")") ≡ drop from kept
 notes_as_kept kept first others from h m f o rest =
-    let split = append_assoc (slice first.span kept) (snippets_behind_bars kept others) (codes ")") in
-    rw (bars_behind_first kept first others)
+    let split = append_assoc (slice first.span kept) (snippets_after_bars kept others) (codes ")") in
+    rw (bars_after_first kept first others)
     (ap (λ (x : List ℕ). 40 ∷ x) (split ∙ ap (λ (x : List ℕ). slice first.span kept ++ x) rest) ∙ mark_and_span kept from 40 first.span h m f o)
 
 -- a text, and then all after it

@@ -30,7 +30,7 @@ use Rattle.gabc_score.specs.declared.body_stage.BodyPart.TheVariants as part
 use Rattle.gabc_score.specs.Events.{is_close, is_next}
 use Rattle.gabc_score.specs.Holding.{IsSnippetOf}
 use Rattle.gabc_score.specs.ScoreReports.{IsAt, is_in_comment, is_in_front, openers_of}
-use Rattle.gabc_score.specs.machine.PartKeeps.{KeptParts, in_text, in_notes, IsEnded, IsEndedOn, AreBehind, PartKeeps}
+use Rattle.gabc_score.specs.machine.PartKeeps.{KeptParts, in_text, in_notes, IsEnded, IsEndedOn, AreAfter, PartKeeps}
 use Rattle.gabc_score.specs.machine.PartSteps.{SnippetSteps}
 use Rattle.gabc_score.specs.machine.PartSteps as step
 use Rattle.gabc_score.specs.machine.ReadAgain.{place_in}
@@ -118,7 +118,7 @@ pub record InSnippet (lines macros line : ℕ) (p : KeptParts) : Type 0 where
   pub earlier : List (List ℕ)
   pub k : List ℕ
   pub is : p ≡ in_notes t earlier k
-  pub behind : AreBehind lines macros line t earlier
+  pub after : AreAfter lines macros line t earlier
 
 -- It goes on: the character is kept, or nothing. The bracket that is open was so before, or is the
 -- character.
@@ -158,22 +158,22 @@ module _ (lines macros : ℕ) (x : Char) where
     abbrev split : Bool
     split = nat_lt 0 lines
 
-    behind : (b : Bool) (before : Option Place) → (notes.opener_behind b before x.place ≡ None) ⊎ ((notes.opener_behind b before x.place ≡ before) ⊎ (notes.opener_behind b before x.place ≡ Some x.place))
-    behind false before = inl refl
-    behind true (Some q) = inr (inl refl)
-    behind true None = inr (inr refl)
+    after : (b : Bool) (before : Option Place) → (notes.opener_after b before x.place ≡ None) ⊎ ((notes.opener_after b before x.place ≡ before) ⊎ (notes.opener_after b before x.place ≡ Some x.place))
+    after false before = inl refl
+    after true (Some q) = inr (inl refl)
+    after true None = inr (inr refl)
 
-    gabc_goes : notes.is_end_behind split k (tells.comment_of s) x.c ≡ false → Going lines macros 0 x (part.Notes opened s) (part.Notes opened t) es (in_notes u earlier k)
+    gabc_goes : notes.is_end_after split k (tells.comment_of s) x.c ≡ false → Going lines macros 0 x (part.Notes opened s) (part.Notes opened t) es (in_notes u earlier k)
     gabc_goes e =
         let g = h.keeps.goes split macros k keeps.1 e in
         record {
-          here = record { t = u; earlier = earlier; k = k; is = refl; behind = keeps.0 };
+          here = record { t = u; earlier = earlier; k = k; is = refl; after = keeps.0 };
           no_end = g.no_end;
-          kept = one_of (not (notes.is_comment_behind k (tells.comment_of s) x.c) && is_viable gabc (k ++ x.c ∷ [])) k (kept_of es) x.c g.kept;
+          kept = one_of (not (notes.is_comment_after k (tells.comment_of s) x.c) && is_viable gabc (k ++ x.c ∷ [])) k (kept_of es) x.c g.kept;
           keeps = (keeps.0, g.keeps);
           none = λ comment. nothing_of k (kept_of es) (g.kept ∙ ap (λ (b : Bool). if not b && is_viable gabc (k ++ x.c ∷ []) then k ++ x.c ∷ [] else k) (sym g.comment ∙ comment));
-          line_ends = λ lf. g.comment ∙ ap (notes.is_comment_behind k (tells.comment_of s)) lf;
-          opener = subst (λ (o : Option Place). (o ≡ None) ⊎ ((o ≡ tells.opener_of s) ⊎ (o ≡ Some x.place))) (sym g.opener) (behind (in_raw (k ++ kept_of es)) (tells.opener_of s));
+          line_ends = λ lf. g.comment ∙ ap (notes.is_comment_after k (tells.comment_of s)) lf;
+          opener = subst (λ (o : Option Place). (o ≡ None) ⊎ ((o ≡ tells.opener_of s) ⊎ (o ≡ Some x.place))) (sym g.opener) (after (in_raw (k ++ kept_of es)) (tells.opener_of s));
         }
 
     -- a `|` ends it only where snippets are split
@@ -194,12 +194,12 @@ module _ (lines macros : ℕ) (x : Char) where
     gabc_mark true false b s d f g e = absurd (true≢false (sym e))
     gabc_mark false r b s d f g e = absurd (true≢false (sym e))
 
-    gabc_ends : notes.is_end_behind split k (tells.comment_of s) x.c ≡ true → Ending lines macros 0 x es (in_notes u earlier k)
+    gabc_ends : notes.is_end_after split k (tells.comment_of s) x.c ≡ true → Ending lines macros 0 x es (in_notes u earlier k)
     gabc_ends over =
         let e = h.keeps.ends split macros k keeps.1 over in
         let cut : Trims gabc k (trim gabc k) = trim_trims gabc refl k in
         record {
-          here = record { t = u; earlier = earlier; k = k; is = refl; behind = keeps.0 };
+          here = record { t = u; earlier = earlier; k = k; is = refl; after = keeps.0 };
           s = trim gabc k;
           rest = cut.rest;
           cut = cut.cut;
@@ -222,19 +222,19 @@ module _ (lines macros : ℕ) (x : Char) where
     nabc_kept false b ds e = one_of false k ds x.c e
 
     -- in a comment nothing is kept
-    none_in_comment : (m : Bool) → nabc.comment_of s ≡ m → comment_in m x.c ≡ true → nabc.kept_behind k m x.c ≡ k
+    none_in_comment : (m : Bool) → nabc.comment_of s ≡ m → comment_in m x.c ≡ true → nabc.kept_after k m x.c ≡ k
     none_in_comment true e i = refl
-    none_in_comment false e i = ap (nabc.kept_behind k false) (eqb-true x.c 37 (by (x.c == 37) i))
+    none_in_comment false e i = ap (nabc.kept_after k false) (eqb-true x.c 37 (by (x.c == 37) i))
       where
         by : (b : Bool) → (b || (false && not (x.c == 10))) ≡ true → b ≡ true
         by true i = refl
         by false i = absurd (true≢false (sym i))
 
-    nabc_goes : nabc.is_end_behind (nabc.comment_of s) x.c ≡ false → Going lines macros line x (part.Nabc line opened s) (part.Nabc line opened t) es (in_notes u earlier k)
+    nabc_goes : nabc.is_end_after (nabc.comment_of s) x.c ≡ false → Going lines macros line x (part.Nabc line opened s) (part.Nabc line opened t) es (in_notes u earlier k)
     nabc_goes e =
         let g = h.keeps.goes k keeps.1.1 e in
         record {
-          here = record { t = u; earlier = earlier; k = k; is = refl; behind = keeps.0 };
+          here = record { t = u; earlier = earlier; k = k; is = refl; after = keeps.0 };
           no_end = g.no_end;
           kept = nabc_kept (not (nabc.comment_of s) && not (is_in x.c (37 ∷ 32 ∷ 9 ∷ 10 ∷ []))) (is_viable nabc_table (k ++ x.c ∷ [])) (kept_of es) g.kept;
           keeps = (keeps.0, (keeps.1.0, g.keeps));
@@ -257,12 +257,12 @@ module _ (lines macros : ℕ) (x : Char) where
     on_line zero v some i = absurd (some refl)
     on_line (suc l) v some i = i
 
-    nabc_ends : nabc.is_end_behind (nabc.comment_of s) x.c ≡ true → Ending lines macros line x es (in_notes u earlier k)
+    nabc_ends : nabc.is_end_after (nabc.comment_of s) x.c ≡ true → Ending lines macros line x es (in_notes u earlier k)
     nabc_ends over =
         let e = h.keeps.ends k keeps.1.1 over in
         let cut : Trims nabc_table k (trim nabc_table k) = trim_trims nabc_table refl k in
         record {
-          here = record { t = u; earlier = earlier; k = k; is = refl; behind = keeps.0 };
+          here = record { t = u; earlier = earlier; k = k; is = refl; after = keeps.0 };
           s = trim nabc_table k;
           rest = cut.rest;
           cut = cut.cut;
@@ -278,16 +278,16 @@ module _ (lines macros : ℕ) (x : Char) where
 pub takes : (lines macros : ℕ) {x : Char} {line : ℕ} {opened : Place} {before after : BodyPart} {es : List NoteEvent} → SnippetSteps x line opened before es after → (p : KeptParts) → PartKeeps lines macros before p
     → Going lines macros line x before after es p ⊎ Ending lines macros line x es p
 takes lines macros (step.in_gabc h) (in_text k) keeps = absurd keeps
-takes lines macros {x} (step.in_gabc {opened} {s} {t} {es} h) (in_notes u earlier k) keeps = by (notes.is_end_behind (nat_lt 0 lines) k (tells.comment_of s) x.c) refl
+takes lines macros {x} (step.in_gabc {opened} {s} {t} {es} h) (in_notes u earlier k) keeps = by (notes.is_end_after (nat_lt 0 lines) k (tells.comment_of s) x.c) refl
   where
-    by : (b : Bool) → notes.is_end_behind (nat_lt 0 lines) k (tells.comment_of s) x.c ≡ b
+    by : (b : Bool) → notes.is_end_after (nat_lt 0 lines) k (tells.comment_of s) x.c ≡ b
         → Going lines macros 0 x (part.Notes opened s) (part.Notes opened t) es (in_notes u earlier k) ⊎ Ending lines macros 0 x es (in_notes u earlier k)
     by false e = inl (gabc_goes lines macros x opened s t es h u earlier k keeps e)
     by true e = inr (gabc_ends lines macros x opened s t es h u earlier k keeps e)
 takes lines macros (step.in_nabc h) (in_text k) keeps = absurd keeps
-takes lines macros {x} (step.in_nabc {line} {opened} {s} {t} {es} h) (in_notes u earlier k) keeps = by (nabc.is_end_behind (nabc.comment_of s) x.c) refl
+takes lines macros {x} (step.in_nabc {line} {opened} {s} {t} {es} h) (in_notes u earlier k) keeps = by (nabc.is_end_after (nabc.comment_of s) x.c) refl
   where
-    by : (b : Bool) → nabc.is_end_behind (nabc.comment_of s) x.c ≡ b
+    by : (b : Bool) → nabc.is_end_after (nabc.comment_of s) x.c ≡ b
         → Going lines macros line x (part.Nabc line opened s) (part.Nabc line opened t) es (in_notes u earlier k) ⊎ Ending lines macros line x es (in_notes u earlier k)
     by false e = inl (nabc_goes lines macros x line opened s t es h u earlier k keeps e)
     by true e = inr (nabc_ends lines macros x line opened s t es h u earlier k keeps e)
@@ -340,7 +340,7 @@ stays_in_notes (step.in_nabc h) = record { was = refl; is = refl; front = refl; 
 
 -- it keeps parts of which a snippet is read
 pub in_snippet : (lines macros : ℕ) {x : Char} {line : ℕ} {opened : Place} {before after : BodyPart} {es : List NoteEvent} → SnippetSteps x line opened before es after → (P : KeptParts → Type 0)
-    → ((u : List ℕ) (earlier : List (List ℕ)) (k : List ℕ) → AreBehind lines macros line u earlier → PartKeeps lines macros before (in_notes u earlier k) → P (in_notes u earlier k)) → (p : KeptParts) → PartKeeps lines macros before p → P p
+    → ((u : List ℕ) (earlier : List (List ℕ)) (k : List ℕ) → AreAfter lines macros line u earlier → PartKeeps lines macros before (in_notes u earlier k) → P (in_notes u earlier k)) → (p : KeptParts) → PartKeeps lines macros before p → P p
 in_snippet lines macros (step.in_gabc h) P f (in_text k) keeps = absurd keeps
 in_snippet lines macros (step.in_gabc h) P f (in_notes u earlier k) keeps = f u earlier k keeps.0 keeps
 in_snippet lines macros (step.in_nabc h) P f (in_text k) keeps = absurd keeps

@@ -3,8 +3,8 @@ use Rattle.std.proofs.Common.{◌≡◌, ℕ, List, [], ◌∷◌, ◌++◌, sym
 use Rattle.gabc_score.specs.declared.snippets.Snippet.{Snippet}
 use Rattle.gabc_score.specs.Syllable.{slice}
 use Rattle.gabc_score.specs.Canonical.{with_bars}
-use Rattle.gabc_score.specs.machine.SyllableText.{snippets_behind_bars}
+use Rattle.gabc_score.specs.machine.SyllableText.{snippets_after_bars}
 
-pub bars_behind_first : (kept : List ℕ) (s : Snippet) (rest : List Snippet) → with_bars kept (s ∷ rest) ≡ slice s.span kept ++ snippets_behind_bars kept rest
-bars_behind_first kept s [] = sym (append-nil (slice s.span kept))
-bars_behind_first kept s (t ∷ rest) = ap (λ x. slice s.span kept ++ (codes "|" ++ x)) (bars_behind_first kept t rest)
+pub bars_after_first : (kept : List ℕ) (s : Snippet) (rest : List Snippet) → with_bars kept (s ∷ rest) ≡ slice s.span kept ++ snippets_after_bars kept rest
+bars_after_first kept s [] = sym (append-nil (slice s.span kept))
+bars_after_first kept s (t ∷ rest) = ap (λ x. slice s.span kept ++ (codes "|" ++ x)) (bars_after_first kept t rest)

@@ -17,10 +17,10 @@ use Rattle.gabc_score.specs.Events.{next_line}
 use Rattle.gabc_score.specs.Syllable.{all_syllables, since_close, part_of, ended_parts_of, slice, is_open, is_open_after}
 use Rattle.gabc_text.specs.ViewFacts.{span_tags}
 use Rattle.gabc_score.specs.machine.BodyBuilder.{with_all}
-use Rattle.gabc_score.specs.machine.PartKeeps.{in_notes, line_behind, kept_char, text_events, snippet_events, ended_events, earlier_events, events_before, said_by, begun}
+use Rattle.gabc_score.specs.machine.PartKeeps.{in_notes, line_after, kept_char, text_events, snippet_events, ended_events, earlier_events, events_before, said_by, begun}
 use Rattle.gabc_score.proofs.building.BuilderHoldsDefinition.{gathered}
 use Rattle.gabc_score.proofs.building.EventsOfSyllableParts.{onto_append}
-use Rattle.gabc_score.proofs.resuming.MadeOfEvents.{MadeAlike, made_behind}
+use Rattle.gabc_score.proofs.resuming.MadeOfEvents.{MadeAlike, made_after}
 use Rattle.gabc_score.proofs.resuming.OpenSpans.{opened, leaves_open}
 use Rattle.gabc_score.proofs.syllables_of_units.LastTagOpensTheSpan.{after_tags, text_opens_span}
 
@@ -68,8 +68,8 @@ module _ (opening closing : List ℕ) where
       → open_at (events_onto (said_by lines (in_notes t earlier k)) before) ≡ after_tags opening closing (open_at before) (span_tags (t ++ 40 ∷ []))
   parts_open lines t earlier k before full since =
       let said_text = text_events (said_of t ++ said_at_end t) in
-      ap open_at (onto_append (events_before lines t earlier) (snippet_events (line_behind lines 0 earlier) k) before)
-      ∙ snippet_still (line_behind lines 0 earlier) k (events_onto (events_before lines t earlier) before)
+      ap open_at (onto_append (events_before lines t earlier) (snippet_events (line_after lines 0 earlier) k) before)
+      ∙ snippet_still (line_after lines 0 earlier) k (events_onto (events_before lines t earlier) before)
       ∙ ap open_at (onto_append said_text (earlier_events lines 0 earlier) before)
       ∙ earlier_still lines 0 earlier (events_onto said_text before)
       ∙ ap (λ (es : List TextEvent). open_at (events_onto (text_events es) before)) (sym full.emitted_are)
@@ -82,7 +82,7 @@ module _ (lines : ℕ) (t : List ℕ) (earlier : List (List ℕ)) (k : List ℕ)
   all = said_by lines (in_notes t earlier k)
 
   alike : MadeAlike (all_syllables (opened spans)) (with_all (begun spans) all) (gathered 0 0 (events_onto all (opened spans)))
-  alike = made_behind (begun spans) spans refl refl refl refl (opened spans) (leaves_open spans) 0 (omega arith) all
+  alike = made_after (begun spans) spans refl refl refl refl (opened spans) (leaves_open spans) 0 (omega arith) all
 
   pub eu_open : (with_all (begun spans) all).eu ≡ after_tags (codes "<eu>") (codes "</eu>") spans.eu (span_tags (t ++ 40 ∷ []))
   eu_open = alike.read.eu ∙ parts_open (codes "<eu>") (codes "</eu>") lines t earlier k (opened spans) full (leaves_open spans).nothing

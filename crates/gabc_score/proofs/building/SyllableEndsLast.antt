@@ -23,16 +23,16 @@ use Rattle.gabc_score.specs.declared.events.BodyEvent.{BodyEvent}
 use Rattle.gabc_score.specs.machine.PartSteps.{IsBounded, PartSteps}
 use Rattle.gabc_score.specs.machine.PartSteps as step
 
-pub ends_last : {O : Type 0} (ends : O → Bool) (es : List O) → ((before behind : List O) (x : O) → es ≡ before ++ x ∷ behind → ends x ≡ true → behind ≡ []) → EndsLast ends es
+pub ends_last : {O : Type 0} (ends : O → Bool) (es : List O) → ((before after : List O) (x : O) → es ≡ before ++ x ∷ after → ends x ≡ true → after ≡ []) → EndsLast ends es
 ends_last ends [] h = tt
-ends_last ends (e ∷ es) h = (h [] es e refl, ends_last ends es (λ before behind x k. h (e ∷ before) behind x (ap (λ ys. e ∷ ys) k)))
+ends_last ends (e ∷ es) h = (h [] es e refl, ends_last ends es (λ before after x k. h (e ∷ before) after x (ap (λ ys. e ∷ ys) k)))
 
 -- so it is where a push to an empty room stops at an end
 pub pushed_last : {O R : Type 0} (ends stops : O → Bool) → ((x : O) → ends x ≡ true → stops x ≡ true) → (old new : BoundedList O) → old.items ≡ [] → new.limit ≡ old.limit
-    → ((before behind : List O) (x : O) → new ≡ extended_by old (before ++ x ∷ behind) → stops x ≡ true → (behind ≡ []) × R) → EndsLast ends new.items
+    → ((before after : List O) (x : O) → new ≡ extended_by old (before ++ x ∷ after) → stops x ≡ true → (after ≡ []) × R) → EndsLast ends new.items
 pushed_last ends stops imp old new none limit stop =
-    ends_last ends new.items (λ before behind x e h. (stop before behind x
-    (ap (λ es. record new { items = es }) e ∙ (ap (λ n. record { items = before ++ x ∷ behind; limit = n }) limit ∙ ap (λ es. record { items = es ++ (before ++ x ∷ behind); limit = old.limit }) (sym none))) (imp x h)).0)
+    ends_last ends new.items (λ before after x e h. (stop before after x
+    (ap (λ es. record new { items = es }) e ∙ (ap (λ n. record { items = before ++ x ∷ after; limit = n }) limit ∙ ap (λ es. record { items = es ++ (before ++ x ∷ after); limit = old.limit }) (sym none))) (imp x h)).0)
 
 -- so the last event says whether one ends a part so
 pub last_emits_so : {O : Type 0} (ends : O → Bool) (es : List O) (x : O) → EndsLast ends es → slice_get es (length es - 1) ≡ Some x → list_any ends es ≡ ends x

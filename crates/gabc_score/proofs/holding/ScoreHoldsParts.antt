@@ -151,24 +151,24 @@ module _ (P L : UnplacedSyllable → Type 0) where
 
 -- ---- the score
 
-pub codes_placed : (prefix behind : List ℕ) → codes_of (placed_characters_after prefix behind) ≡ behind
+pub codes_placed : (prefix after : List ℕ) → codes_of (placed_characters_after prefix after) ≡ after
 codes_placed prefix [] = refl
-codes_placed prefix (c ∷ behind) = ap (λ cs. c ∷ cs) (codes_placed (prefix ++ c ∷ []) behind)
+codes_placed prefix (c ∷ after) = ap (λ cs. c ∷ cs) (codes_placed (prefix ++ c ∷ []) after)
 
-size_behind : (n : ℕ) (t : List ℕ) → size (drop n t) ≤ size t
-size_behind n t =
+size_after : (n : ℕ) (t : List ℕ) → size (drop n t) ≤ size t
+size_after n t =
     let all : size t ≡ size (take n t) + size (drop n t) = ap size (sym (take-append-drop n t)) ∙ size_append (take n t) (drop n t) in
     omega arith
 
 module _ (ends : (at : Place) (t : List ℕ) → EndsOnce at t) (emits : (at : Place) (t : List ℕ) → with_events empty_text (concat_of (events_by_point at t)) ≡ text_built_at at t) (spans : (t : List ℕ) → StandsForView (kept t) (view_in t) t) (limits : Limits) (ending : InputEnding) (t : List ℕ) (short : size t < 2 ^ 63) where
-  pub behind_short : size (codes_of (placed_characters_after (heads_text t) (after_heads t))) < 2 ^ 63
-  behind_short =
-      let less : size (after_heads t) ≤ size t = size_behind (head_len t + 2) t in
+  pub after_short : size (codes_of (placed_characters_after (heads_text t) (after_heads t))) < 2 ^ 63
+  after_short =
+      let less : size (after_heads t) ≤ size t = size_after (head_len t + 2) t in
       let same : size (codes_of (placed_characters_after (heads_text t) (after_heads t))) ≡ size (after_heads t) = ap size (codes_placed (heads_text t) (after_heads t)) in
       omega arith
 
-  behind_back : IsBack t (codes_of (placed_characters_after (heads_text t) (after_heads t)))
-  behind_back = (heads_text t, sym (take-append-drop (head_len t + 2) t) ∙ ap (λ cs. heads_text t ++ cs) (sym (codes_placed (heads_text t) (after_heads t))))
+  after_back : IsBack t (codes_of (placed_characters_after (heads_text t) (after_heads t)))
+  after_back = (heads_text t, sym (take-append-drop (head_len t + 2) t) ∙ ap (λ cs. heads_text t ++ cs) (sym (codes_placed (heads_text t) (after_heads t))))
 
   abbrev Says : List PlacedSyllable → ℕ → Type 0
   Says ss lines = FactsHold (HoldsWithNotes t lines) (Holds HoldsNoNotes t) ss
@@ -179,7 +179,7 @@ module _ (ends : (at : Place) (t : List ℕ) → EndsOnce at t) (emits : (at : P
       let lines = nabc_lines_of heads.book in
       let macros = macros_of heads.book in
       let xs = placed_characters_after (heads_text t) (after_heads t) in
-      let holds = body_holds ends emits spans t lines macros xs behind_back behind_short in
+      let holds = body_holds ends emits spans t lines macros xs after_back after_short in
       body_hold (HoldsWithNotes t lines) (Holds HoldsNoNotes t) limits (bytes_len (canonical_heads heads.book)) heads.findings (place_after t) ending xs (body_events lines macros xs) holds.made holds.last
 
   pub score_holds : (let score = plain_of limits ending t in All (λ (s : PlacedSyllable). HoldsParts t (lines_of score) s.made) score.syllables)

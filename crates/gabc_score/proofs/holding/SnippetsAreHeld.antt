@@ -42,15 +42,15 @@ next_turn lines n =
 abbrev pub whole_of : List ℕ → List ReadSnippet → ReadSnippet → List ℕ
 whole_of text earlier last = text ++ in_brackets (λ s. s.kept) earlier last
 
-abbrev pub span_behind : List ℕ → List ℕ → Span
-span_behind prefix part = record { from = size prefix; to = size (prefix ++ part) }
+abbrev pub span_after : List ℕ → List ℕ → Span
+span_after prefix part = record { from = size prefix; to = size (prefix ++ part) }
 
 -- a snippet in its place, whatever follows
 pub record Placed (lines : ℕ) (text : List ℕ) (before : List ReadSnippet) (s : ReadSnippet) : Type 0 where
   pub line_is : s.snippet.line ≡ length before % (lines + 1)
   pub kept_is : s.kept ≡ kept_on_line s.snippet.line s.characters
   pub is_snippet : IsSnippetOf s.snippet.line s.kept
-  pub span_is : s.snippet.span ≡ span_behind (text ++ bracket_with (λ b. b.kept) before) s.kept
+  pub span_is : s.snippet.span ≡ span_after (text ++ bracket_with (λ b. b.kept) before) s.kept
 
 -- what stands after those before: these, and the `)`
 abbrev closing : List ReadSnippet → List ℕ
@@ -65,11 +65,11 @@ closing_begins s (t ∷ after) = (codes "|" ++ closing (t ∷ after), refl)
 abbrev barred : List ReadSnippet → List ℕ
 barred before = flat_map (λ s. s.kept ++ codes "|") before
 
-closing_behind : (before : List ReadSnippet) (s : ReadSnippet) (after : List ReadSnippet) → closing (before ++ s ∷ after) ≡ barred before ++ closing (s ∷ after)
-closing_behind [] s after = refl
-closing_behind (b ∷ []) s after = sym (ap (λ (t : List ℕ). t ++ closing (s ∷ after)) (append-nil (b.kept ++ codes "|")) ∙ append_assoc b.kept (codes "|") (closing (s ∷ after)))
-closing_behind (b ∷ d ∷ before) s after =
-    ap (λ t. b.kept ++ (codes "|" ++ t)) (closing_behind (d ∷ before) s after)
+closing_after : (before : List ReadSnippet) (s : ReadSnippet) (after : List ReadSnippet) → closing (before ++ s ∷ after) ≡ barred before ++ closing (s ∷ after)
+closing_after [] s after = refl
+closing_after (b ∷ []) s after = sym (ap (λ (t : List ℕ). t ++ closing (s ∷ after)) (append-nil (b.kept ++ codes "|")) ∙ append_assoc b.kept (codes "|") (closing (s ∷ after)))
+closing_after (b ∷ d ∷ before) s after =
+    ap (λ t. b.kept ++ (codes "|" ++ t)) (closing_after (d ∷ before) s after)
     ∙ sym (append_assoc b.kept (codes "|") (barred (d ∷ before) ++ closing (s ∷ after)))
     ∙ sym (append_assoc (b.kept ++ codes "|") (barred (d ∷ before)) (closing (s ∷ after)))
 
@@ -101,12 +101,12 @@ module _ (lines : ℕ) (text : List ℕ) where
           prefix = prefix;
           back = begins.0;
           parts =
-              ap (λ t. text ++ (codes "(" ++ t)) (sym (closing_behind earlier last []) ∙ ap closing e ∙ closing_behind before s after ∙ ap (λ t. barred before ++ t) begins.1)
+              ap (λ t. text ++ (codes "(" ++ t)) (sym (closing_after earlier last []) ∙ ap closing e ∙ closing_after before s after ∙ ap (λ t. barred before ++ t) begins.1)
               ∙ sym (append_assoc text (bracket_with (λ b. b.kept) before) (s.kept ++ begins.0));
           from_is = ap (λ (w : Span). w.from) p.span_is ∙ sym (bytes_are_size prefix);
           to_is = ap (λ (w : Span). w.to) p.span_is ∙ sym (bytes_are_size (prefix ++ s.kept));
         };
-        behind = refl;
+        after = refl;
       }
 
 -- ---- bytes

@@ -18,8 +18,8 @@ use Rattle.gabc_score.specs.Syllable.{UnplacedSyllable, PlacedSyllable, is_seam,
 use Rattle.gabc_score.specs.declared.snippets.Snippet.{Snippet}
 
 -- after a part of a text a character begins, or the text ends
-seam_behind : (a b : List ℕ) → is_seam (drop (length (encodes a)) (encodes (a ++ b))) ≡ true
-seam_behind a b =
+seam_after : (a b : List ℕ) → is_seam (drop (length (encodes a)) (encodes (a ++ b))) ≡ true
+seam_after a b =
     subst (λ t. is_seam t ≡ true) (sym (ap (drop (length (encodes a))) (encodes-append a b) ∙ drop_at (encodes a) (encodes b) (length (encodes a)) refl)) (texts_begin b)
 
 -- so a span that stands for a part of a text
@@ -29,9 +29,9 @@ part_text whole span part h =
     let to : span.to ≡ length (encodes (h.prefix ++ part)) = h.to_is ∙ bytes_are_size (h.prefix ++ part) in
     let all : whole ≡ (h.prefix ++ part) ++ h.back = h.parts ∙ sym (append_assoc h.prefix part h.back) in
     let first : is_seam (drop span.from (encodes whole)) ≡ true =
-    subst (λ n. is_seam (drop n (encodes whole)) ≡ true) (sym from) (subst (λ t. is_seam (drop (length (encodes h.prefix)) (encodes t)) ≡ true) (sym h.parts) (seam_behind h.prefix (part ++ h.back))) in
+    subst (λ n. is_seam (drop n (encodes whole)) ≡ true) (sym from) (subst (λ t. is_seam (drop (length (encodes h.prefix)) (encodes t)) ≡ true) (sym h.parts) (seam_after h.prefix (part ++ h.back))) in
     let last : is_seam (drop span.to (encodes whole)) ≡ true =
-    subst (λ n. is_seam (drop n (encodes whole)) ≡ true) (sym to) (subst (λ t. is_seam (drop (length (encodes (h.prefix ++ part))) (encodes t)) ≡ true) (sym all) (seam_behind (h.prefix ++ part) h.back)) in
+    subst (λ n. is_seam (drop n (encodes whole)) ≡ true) (sym to) (subst (λ t. is_seam (drop (length (encodes (h.prefix ++ part))) (encodes t)) ≡ true) (sym all) (seam_after (h.prefix ++ part) h.back)) in
     let front = ap (length {A = ℕ}) (encodes-append h.prefix part) ∙ length-append (encodes h.prefix) (encodes part) in
     let size = ap (length {A = ℕ}) (ap encodes all ∙ encodes-append (h.prefix ++ part) h.back) ∙ length-append (encodes (h.prefix ++ part)) (encodes h.back) in
     text_is span (encodes whole) (omega arith) (omega arith) first last

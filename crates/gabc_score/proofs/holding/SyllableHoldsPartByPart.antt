@@ -185,16 +185,16 @@ module _ (input : List ℕ) (lines line : ℕ) (opened_at : Place) (from : List 
   all_placed = placed_push lines (kept far.text) [] far.earlier new far.placed new_placed
 
   -- the sum after the mark
-  abbrev behind : ℕ → Sum
-  behind c = record {
+  abbrev later : ℕ → Sum
+  later c = record {
     view = view_in far.text;
     ended = encodes (prefix ++ (l.kept ++ c ∷ []));
     part = [];
     snippets = map (λ (s : ReadSnippet). s.snippet) (far.earlier ++ new ∷ []);
   }
 
-  behind_by : (c : ℕ) (part : List ℕ) → Sum
-  behind_by c part = record {
+  after_by : (c : ℕ) (part : List ℕ) → Sum
+  after_by c part = record {
     view = view_in far.text;
     ended = encodes prefix ++ (part ++ c ∷ []);
     part = [];
@@ -204,12 +204,12 @@ module _ (input : List ℕ) (lines line : ℕ) (opened_at : Place) (from : List 
   marked : (c : ℕ) → encode c ≡ c ∷ [] → encodes prefix ++ (encodes l.kept ++ c ∷ []) ≡ encodes (prefix ++ (l.kept ++ c ∷ []))
   marked c h = sym (encodes-append prefix (l.kept ++ c ∷ []) ∙ ap (λ e. encodes prefix ++ e) (encodes-append l.kept (c ∷ []) ∙ ap (λ e. encodes l.kept ++ e) (append-nil (encode c) ∙ h)))
 
-  behind_is : (c : ℕ) → encode c ≡ c ∷ [] → behind_by c (prefix_of (size l.kept) (encodes (l.kept ++ l.rest))) ≡ behind c
-  unfolding behind_by
-  behind_is c h =
-      ap (behind_by c) (cut_between l.kept l.rest)
-      ∙ ap (λ e. record (behind_by c (encodes l.kept)) { ended = e }) (marked c h)
-      ∙ ap (λ ss. record (behind c) { snippets = ss }) (sym (map-append (λ (s : ReadSnippet). s.snippet) far.earlier (new ∷ [])))
+  after_is : (c : ℕ) → encode c ≡ c ∷ [] → after_by c (prefix_of (size l.kept) (encodes (l.kept ++ l.rest))) ≡ later c
+  unfolding after_by
+  after_is c h =
+      ap (after_by c) (cut_between l.kept l.rest)
+      ∙ ap (λ e. record (after_by c (encodes l.kept)) { ended = e }) (marked c h)
+      ∙ ap (λ ss. record (later c) { snippets = ss }) (sym (map-append (λ (s : ReadSnippet). s.snippet) far.earlier (new ∷ [])))
 
   bar : encode 124 ≡ 124 ∷ []
   unfolding encode
@@ -219,13 +219,13 @@ module _ (input : List ℕ) (lines line : ℕ) (opened_at : Place) (from : List 
   unfolding encode
   closing = refl
 
-  next_sum : l.how ≡ note_end.Next → sum_of (since_close (events_onto emitted before)) ≡ behind 124
-  unfolding behind_by
+  next_sum : l.how ≡ note_end.Next → sum_of (since_close (events_onto emitted before)) ≡ later 124
+  unfolding after_by
   next_sum h =
       ap (λ b. sum_of (since_close b)) line_onto
       ∙ ap (λ how. sum_of (since_close (Notes line (note.Ended how (size l.kept)) ∷ before_end))) h
       ∙ ap (λ s. with_event s (Notes line (note.Ended note_end.Next (size l.kept)))) gathered
-      ∙ behind_is 124 bar
+      ∙ after_is 124 bar
 
   abbrev close_event : BodyEvent
   close_event = Notes line (note.Ended note_end.Close (size l.kept))
@@ -233,9 +233,9 @@ module _ (input : List ℕ) (lines line : ℕ) (opened_at : Place) (from : List 
   close_onto : l.how ≡ note_end.Close → events_onto emitted before ≡ close_event ∷ before_end
   close_onto h = line_onto ∙ ap (λ how. Notes line (note.Ended how (size l.kept)) ∷ before_end) h
 
-  close_sum : with_event (sum_of (since_close before_end)) close_event ≡ behind 41
-  unfolding behind_by
-  close_sum = ap (λ s. with_event s close_event) gathered ∙ behind_is 41 closing
+  close_sum : with_event (sum_of (since_close before_end)) close_event ≡ later 41
+  unfolding after_by
+  close_sum = ap (λ s. with_event s close_event) gathered ∙ after_is 41 closing
 
   -- what the text and the notes after it were read from, with this snippet
   text_more : (c : ℕ) → end.c ≡ c → far.text ≡ far.characters ++ ((bracket_with codes_in far.earlier ++ (codes_of from ++ c ∷ [])) ++ codes_of rest)
@@ -244,8 +244,8 @@ module _ (input : List ℕ) (lines line : ℕ) (opened_at : Place) (from : List 
       ∙ ap (λ t. far.characters ++ (bracket_with codes_in far.earlier ++ t)) (codes_append from (end ∷ rest) ∙ ap (λ d. codes_of from ++ d ∷ codes_of rest) e ∙ sym (append_assoc (codes_of from) (c ∷ []) (codes_of rest)))
       ∙ ap (λ t. far.characters ++ t) (sym (append_assoc (bracket_with codes_in far.earlier) (codes_of from ++ c ∷ []) (codes_of rest)))
 
-  holds_behind : end.c ≡ 41 → (eu nlba : Bool) → HoldsWithNotes input lines (made_from (behind 41) eu nlba)
-  holds_behind e eu nlba = record {
+  holds_after : end.c ≡ 41 → (eu nlba : Bool) → HoldsWithNotes input lines (made_from (later 41) eu nlba)
+  holds_after e eu nlba = record {
     before = far.back.0;
     text = far.text;
     input_is = far.back.1;
@@ -269,10 +269,10 @@ module _ (input : List ℕ) (lines line : ℕ) (opened_at : Place) (from : List 
 
   -- after the `)` the syllable holds the unit of this text, whose snippets are these
   holds_unit : (u : ScoreUnit) → u.text ≡ far.text → u.notes ≡ in_brackets codes_in far.earlier new → (xs : List Char) (xss : List (List Char)) → u.snippets ≡ xs ∷ xss
-      → map (λ (s : ReadSnippet). s.characters) (far.earlier ++ new ∷ []) ≡ u.snippets → (eu nlba : Bool) → HoldsUnit lines u (made_from (behind 41) eu nlba)
+      → map (λ (s : ReadSnippet). s.characters) (far.earlier ++ new ∷ []) ≡ u.snippets → (eu nlba : Bool) → HoldsUnit lines u (made_from (later 41) eu nlba)
   holds_unit u t n xs xss some c eu nlba =
       let whole = whole_of (kept far.text) far.earlier new in
-      let read : HoldsNotes lines u.notes whole (kept u.text) (behind 41).snippets = record {
+      let read : HoldsNotes lines u.notes whole (kept u.text) (later 41).snippets = record {
         earlier = far.earlier;
         last = new;
         characters_are = n;
@@ -285,7 +285,7 @@ module _ (input : List ℕ) (lines line : ℕ) (opened_at : Place) (from : List 
         kept_is = append-nil (encodes (prefix ++ (l.kept ++ codes ")"))) ∙ ap encodes (append_assoc (kept far.text) (bracket_with kept_in far.earlier) (l.kept ++ codes ")"));
         view_is = ap view_in (sym t);
         stands = subst (λ v. StandsForView whole (view_in far.text) v) (sym t) (view_more (kept far.text) (in_brackets kept_in far.earlier new) (view_in far.text) far.text stands);
-        notes = subst (λ yss. NotesAre lines u yss whole (behind 41).snippets) (sym some) (record { holds = read; characters_are = c });
+        notes = subst (λ yss. NotesAre lines u yss whole (later 41).snippets) (sym some) (record { holds = read; characters_are = c });
       }
 
   pub close_unit : l.how ≡ note_end.Close → end.c ≡ 41 → (u : ScoreUnit) → u.text ≡ far.text → u.notes ≡ in_brackets codes_in far.earlier new → (xs : List Char) (xss : List (List Char)) → u.snippets ≡ xs ∷ xss
@@ -309,7 +309,7 @@ module _ (input : List ℕ) (lines line : ℕ) (opened_at : Place) (from : List 
       let m = syllable_by (close_event ∷ since_close before_end) eu nlba in (
         m,
         ap all_syllables (close_onto h) ∙ ap (λ (ms : List UnplacedSyllable). ms ++ m ∷ []) (notes_within line opened_at l.mids before l.silent).made,
-        subst (HoldsWithNotes input lines) (sym (ap (λ s. made_from s eu nlba) close_sum)) (holds_behind e eu nlba),
+        subst (HoldsWithNotes input lines) (sym (ap (λ s. made_from s eu nlba) close_sum)) (holds_after e eu nlba),
         ap since_close (close_onto h),
       )
 
@@ -326,7 +326,7 @@ module _ (input : List ℕ) (lines line : ℕ) (opened_at : Place) (from : List 
     characters = far.characters;
     earlier = far.earlier ++ new ∷ [];
     text_is = text_more 124 e ∙ ap (λ t. far.characters ++ (t ++ codes_of rest)) (opened_next codes_in);
-    sum_is = next_sum h ∙ ap (λ t. record (behind 124) { ended = encodes t }) (append_assoc (kept far.text) (bracket_with kept_in far.earlier) (l.kept ++ codes "|") ∙ ap (λ t. kept far.text ++ t) (opened_next kept_in));
+    sum_is = next_sum h ∙ ap (λ t. record (later 124) { ended = encodes t }) (append_assoc (kept far.text) (bracket_with kept_in far.earlier) (l.kept ++ codes "|") ∙ ap (λ t. kept far.text ++ t) (opened_next kept_in));
     placed = all_placed;
     line_is = ap (next_line lines) far.line_is ∙ next_turn lines (length far.earlier)
         ∙ ap (λ n. n % (lines + 1)) (sym (length-append far.earlier (new ∷ []) ∙ add-one (length far.earlier)));

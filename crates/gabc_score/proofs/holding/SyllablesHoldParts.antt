@@ -43,8 +43,8 @@ fits_back xs ys h =
     omega arith
 
 -- what stands after a prefix of a back of the input is a back of it
-back_behind : (input : List ℕ) (xs ys : List Char) → IsBack input (codes_of (xs ++ ys)) → IsBack input (codes_of ys)
-back_behind input xs ys b = (b.0 ++ codes_of xs, b.1 ∙ ap (λ cs. b.0 ++ cs) (codes_append xs ys) ∙ sym (append_assoc b.0 (codes_of xs) (codes_of ys)))
+back_after : (input : List ℕ) (xs ys : List Char) → IsBack input (codes_of (xs ++ ys)) → IsBack input (codes_of ys)
+back_after input xs ys b = (b.0 ++ codes_of xs, b.1 ∙ ap (λ cs. b.0 ++ cs) (codes_append xs ys) ∙ sym (append_assoc b.0 (codes_of xs) (codes_of ys)))
 
 -- ---- parts
 
@@ -148,7 +148,7 @@ module _ (ends : (at : Place) (t : List ℕ) → EndsOnce at t) (emits : (at : P
       subst (λ all. AtEnd all)
       (sym (ap (λ ts. events_onto ts before) (flat_map-append (λ (ts : List BodyEvent). ts) (events_through part p.characters) (events_of_cutting texts_by_definition lines macros next pieces last))
       ∙ onto_append (concat_of (events_through part p.characters)) (concat_of (events_of_cutting texts_by_definition lines macros next pieces last)) before))
-      (pieces_hold next pieces last (through part p.characters before) (back_behind input (p.end ∷ []) rest (back_behind input p.characters (p.end ∷ rest) back)) f.0 (fits_back (p.end ∷ []) rest (fits_back p.characters (p.end ∷ rest) fits)) h.1 f.1)
+      (pieces_hold next pieces last (through part p.characters before) (back_after input (p.end ∷ []) rest (back_after input p.characters (p.end ∷ rest) back)) f.0 (fits_back (p.end ∷ []) rest (fits_back p.characters (p.end ∷ rest) fits)) h.1 f.1)
 
   -- ---- a body
 
@@ -168,7 +168,7 @@ module _ (ends : (at : Place) (t : List ℕ) → EndsOnce at t) (emits : (at : P
   cut_holds xs comment None back fits h = record { made = All-nil (HoldsWithNotes input lines); last = λ none has. cc }
   cut_holds xs comment (Some d) back fits h =
       let ys = whole d.pieces d.last in
-      first_holds ys d (back_behind input comment ys (subst (λ zs. IsBack input (codes_of zs)) h.0 back)) refl h.1.1.0 (fits_back comment ys (subst (λ zs. size (codes_of zs) < 2 ^ 63) h.0 fits)) h.1.1.1
+      first_holds ys d (back_after input comment ys (subst (λ zs. IsBack input (codes_of zs)) h.0 back)) refl h.1.1.0 (fits_back comment ys (subst (λ zs. size (codes_of zs) < 2 ^ 63) h.0 fits)) h.1.1.1
 
   pub body_holds : (xs : List Char) → IsBack input (codes_of xs) → size (codes_of xs) < 2 ^ 63 → AtEnd (events_onto (concat_of (body_events lines macros xs)) [])
   body_holds xs back fits =

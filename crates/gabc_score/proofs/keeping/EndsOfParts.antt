@@ -27,22 +27,22 @@ use Rattle.gabc_score.specs.Events.{events_at_end, first_list, note_event}
 use Rattle.gabc_score.specs.KeptAgain.{is_other}
 use Rattle.gabc_score.specs.ScoreReports.{is_in_front, openers_of}
 use Rattle.gabc_score.specs.ReportedWithin.{AreOpenersBefore}
-use Rattle.gabc_score.specs.machine.PartKeeps.{KeptParts, in_text, in_notes, line_behind, text_events, PartKeeps}
+use Rattle.gabc_score.specs.machine.PartKeeps.{KeptParts, in_text, in_notes, line_after, text_events, PartKeeps}
 use Rattle.gabc_score.specs.witness.BodyStage.{part_with}
 use Rattle.gabc_score.specs.machine.StageLaws.{Ends}
 
 -- ---- what is open, by the parts of the kept text
 
-abbrev pub is_behind_text : KeptParts → Bool
-is_behind_text (in_text k) = false
-is_behind_text (in_notes u earlier k) = true
+abbrev pub is_after_text : KeptParts → Bool
+is_after_text (in_text k) = false
+is_after_text (in_notes u earlier k) = true
 
 abbrev pub is_open_in : ℕ → KeptParts → Bool
 is_open_in lines (in_text k) = text.is_open_after_text k
-is_open_in lines (in_notes u earlier k) = if line_behind lines 0 earlier == 0 then in_raw k else false
+is_open_in lines (in_notes u earlier k) = if line_after lines 0 earlier == 0 then in_raw k else false
 
 module _ (laws : Ends) (lines macros : ℕ) where
-  pub notes_by : (b : BodyPart) (p : KeptParts) → PartKeeps lines macros b p → is_in_front b ≡ false → is_some (openers_of b).notes ≡ is_behind_text p
+  pub notes_by : (b : BodyPart) (p : KeptParts) → PartKeeps lines macros b p → is_in_front b ≡ false → is_some (openers_of b).notes ≡ is_after_text p
   notes_by part.Comment p keeps front = absurd (false≢true (sym front))
   notes_by (part.Text s) (in_text k) keeps front = refl
   notes_by (part.Text s) (in_notes u earlier k) keeps front = absurd keeps

@@ -45,24 +45,24 @@ module _ (laws : StageLaws) (reads : FromBeginning) (lines macros : ℕ) (t : Li
   r : Reaches laws.steps lines macros first_place begun_text [] t
   r = reaches laws.steps lines macros t first_place begun_text [] no_spans (begins_text laws reads lines macros).reading refl (omega (arith, few))
 
-  behind : List BodyEvent
-  behind = events_onto (concat_of r.read.lists) []
+  after : List BodyEvent
+  after = events_onto (concat_of r.read.lists) []
 
   module _ (openers : Openers) (comment : Bool) (h : IsKeptAgain lines macros t openers comment) where
-    none : all_syllables behind ≡ []
-    unfolding behind
+    none : all_syllables after ≡ []
+    unfolding after
     none = ap all_syllables (sym (emitted_plain reads laws.steps lines macros t few r.read)) ∙ h.none
 
-    kept : (gathered_of behind).builder.kept ≡ encode_utf8_all t
-    unfolding behind
-    kept = ap kept_of (since_all behind none ∙ sym (emitted_plain reads laws.steps lines macros t few r.read)) ∙ h.kept
+    kept : (gathered_of after).builder.kept ≡ encode_utf8_all t
+    unfolding after
+    kept = ap kept_of (since_all after none ∙ sym (emitted_plain reads laws.steps lines macros t few r.read)) ∙ h.kept
 
     plain : is_in_comment r.read.after ≡ false
-    unfolding behind fresh_events.events_left
+    unfolding after fresh_events.events_left
     plain = r.outside refl (let e = ap length kept in omega (arith, e))
 
     keeps_plain : KeepsText lines macros t false
-    unfolding behind
+    unfolding after
     keeps_plain = record {
       part = r.read.after;
       parts = r.reading.parts;
@@ -74,14 +74,14 @@ module _ (laws : StageLaws) (reads : FromBeginning) (lines macros : ℕ) (t : Li
 
     -- with the `%`
     percent_fits : length (gathered_of (events_onto (concat_of r.read.lists) [])).builder.kept < 2 ^ 64
-    unfolding behind
+    unfolding after
     percent_fits = let e = ap length kept in omega (arith, e, few)
 
     o : TakesOne lines macros r.read.after (record { c = 37; place = place_past first_place t })
     o = one laws.steps lines macros (place_past first_place t) r.read.after (events_onto (concat_of r.read.lists) []) r.spans r.reading r.front 37
 
     keeps_percent : comment ≡ true → KeepsText lines macros t true
-    unfolding behind o
+    unfolding after o
     keeps_percent is =
         let reading = reads_one laws.steps lines macros (place_past first_place t) r.read.after (events_onto (concat_of r.read.lists) []) r.spans r.reading r.front 37 percent_fits in
         let same : with_all (gathered_of (events_onto (concat_of r.read.lists) [])) o.now ≡ gathered_of (events_onto o.now (events_onto (concat_of r.read.lists) [])) =

@@ -187,9 +187,9 @@ module _ (laws : Steps) (lines macros : ℕ) where
   nabc_percent : (line : ℕ) (opened : Place) (s : NabcStage) (x : Char) (t : nabc.Takes s x) (p : KeptParts) → PartKeeps lines macros (part.Nabc line opened s) p → x.c ≡ 37 → kept_of t.events ≡ [] → nabc.comment_of t.after ≡ true
   nabc_percent line opened s x t (in_text k) keeps is none = absurd keeps
   nabc_percent line opened s x t (in_notes u earlier k) keeps is none =
-      (t.keeps.goes k keeps.1.1 (ap (nabc.is_end_behind (nabc.comment_of s)) is ∙ goes_on (nabc.comment_of s))).comment ∙ ap (comment_in (nabc.comment_of s)) is
+      (t.keeps.goes k keeps.1.1 (ap (nabc.is_end_after (nabc.comment_of s)) is ∙ goes_on (nabc.comment_of s))).comment ∙ ap (comment_in (nabc.comment_of s)) is
     where
-      goes_on : (a : Bool) → nabc.is_end_behind a 37 ≡ false
+      goes_on : (a : Bool) → nabc.is_end_after a 37 ≡ false
       goes_on true = refl
       goes_on false = refl
 

@@ -53,8 +53,8 @@ same_place p c n h = by (is_line_feed c)
     by true = let l = h.line in ap (λ (n : ℕ). let q : Place = record { line = n; column = 1 } in q) (omega (arith, l))
     by false = let l = h.column in ap (λ (n : ℕ). let q : Place = record { line = p.line; column = n } in q) (omega (arith, l))
 
-pub room_behind : (p : Place) (c n : ℕ) → HasRoom p (suc n) → HasRoom (next_place p c) n
-room_behind p c n h = by (is_line_feed c)
+pub room_after : (p : Place) (c n : ℕ) → HasRoom p (suc n) → HasRoom (next_place p c) n
+room_after p c n h = by (is_line_feed c)
   where
     by : (b : Bool) → HasRoom (unbounded p b) n
     by true = let l = h.line in let k = h.column in record { line = omega (arith, l); column = omega (arith, k) }
@@ -122,9 +122,9 @@ module _ (steps : Steps) (lines macros : ℕ) where
     outside = reads.comment_is;
     front = t.front;
     stands = subst (λ (q : Place). IsAt q t.after) (same_place at c n room) (t.stands h.reading.parts h.reading.keeps h.stands);
-    place = subst IsPlace (same_place at c n room) behind.0;
+    place = subst IsPlace (same_place at c n room) after.0;
     openers = subst (λ (q : Place). AreOpenersBefore q (openers_of t.after)) (same_place at c n room)
-        (opens_in_order at (saturating_next_place at c) behind.1 h.place (openers_of b) (openers_of t.after) (t.opens_on h.reading.parts h.reading.keeps h.stands) h.openers);
+        (opens_in_order at (saturating_next_place at c) after.1 h.place (openers_of b) (openers_of t.after) (t.opens_on h.reading.parts h.reading.keeps h.stands) h.openers);
   }
     where
       t : TakesOne lines macros b (char_at at c)
@@ -145,8 +145,8 @@ module _ (steps : Steps) (lines macros : ℕ) where
       more : AddsAfter before t.now (c ∷ [])
       more = adds_after before t.now (c ∷ []) adds
 
-      behind : IsPlace (saturating_next_place at c) × IsEarlier at (saturating_next_place at c)
-      behind = let l = room.line in let k = room.column in place_after_input at c h.place (omega (arith, l)) (omega (arith, k))
+      after : IsPlace (saturating_next_place at c) × IsEarlier at (saturating_next_place at c)
+      after = let l = room.line in let k = room.column in place_after_input at c h.place (omega (arith, l)) (omega (arith, k))
 
   -- ---- all characters
 
@@ -212,7 +212,7 @@ module _ (steps : Steps) (lines macros : ℕ) where
         let next : IsNext lines h.reading.parts c = next_told b before done rest at c h is in
         let t : TakesOne lines macros b x = takes_one steps lines macros b h.reading.parts h.reading.keeps h.front x in
         let on : StandsAfter lines macros (next_place at c) t.after (events_onto t.now before) (done ++ c ∷ []) = stands_on at b before done c (length rest) h next (few_done done (c ∷ rest) is) room in
-        let r = reads_on rest (next_place at c) t.after (events_onto t.now before) (done ++ c ∷ []) on (room_behind at c (length rest) room) (append_assoc done (c ∷ []) rest ∙ is) in
+        let r = reads_on rest (next_place at c) t.after (events_onto t.now before) (done ++ c ∷ []) on (room_after at c (length rest) room) (append_assoc done (c ∷ []) rest ∙ is) in
         let xs : List Char = placed_characters_from (next_place at c) rest in
         record {
           read = emits_one at b c rest t r.read;

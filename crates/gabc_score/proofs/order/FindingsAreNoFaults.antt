@@ -210,14 +210,14 @@ module _ (low : (at : Place) (t : List ℕ) → All (λ (f : Finding). rank_of f
   standing_finds (InText lists) x xs h = h
   standing_finds (InNotes line opened lists) x xs h = h
 
-  behind_finds : (part : PartAhead) (x : Char) (xs : List Char) → PartFinds part → PartFinds (part_after_character texts_by_definition lines macros part x xs)
-  behind_finds InComment x xs h = tt
-  behind_finds (InText lists) x xs h = by (list_any is_text_end (first_list lists))
+  after_finds : (part : PartAhead) (x : Char) (xs : List Char) → PartFinds part → PartFinds (part_after_character texts_by_definition lines macros part x xs)
+  after_finds InComment x xs h = tt
+  after_finds (InText lists) x xs h = by (list_any is_text_end (first_list lists))
     where
       by : (b : Bool) → PartFinds (if b then snippet_from lines macros 0 x.place xs else InText (other_lists lists))
       by true = snippet_finds 0 x.place xs
       by false = (text_first lists h).1
-  behind_finds (InNotes line opened lists) x xs h = by (list_any is_next (first_list lists)) (list_any is_close (first_list lists))
+  after_finds (InNotes line opened lists) x xs h = by (list_any is_next (first_list lists)) (list_any is_close (first_list lists))
     where
       by : (b d : Bool) → PartFinds (if b then snippet_from lines macros (next_line lines line) opened xs else if d then text_from texts_by_definition (after_mark x.place) xs else InNotes line opened (other_lists lists))
       by true d = snippet_finds (next_line lines line) opened xs
@@ -230,7 +230,7 @@ module _ (low : (at : Place) (t : List ℕ) → All (λ (f : Finding). rank_of f
       let now = part_at texts_by_definition part x xs in
       let s = standing_finds part x xs h in
       subst NoFaults (sym (found_append (events_in now) (concat_of (events_from texts_by_definition lines macros (part_after_character texts_by_definition lines macros now x xs) xs))))
-      (both (found (events_in now)) _ (part_emits now s) (events_finds (part_after_character texts_by_definition lines macros now x xs) xs (behind_finds now x xs s)))
+      (both (found (events_in now)) _ (part_emits now s) (events_finds (part_after_character texts_by_definition lines macros now x xs) xs (after_finds now x xs s)))
 
 -- ---- of a score
 

@@ -31,16 +31,16 @@ record Split (xs : List Char) (x : Char) (ys : List Char) (p : Place) (cs : List
   all : cs ≡ prefix ++ c ∷ rest
   size : length xs ≡ length prefix
   here : x ≡ record { c = c; place = place_past p prefix }
-  behind : ys ≡ placed_characters_from (next_place (place_past p prefix) c) rest
+  after : ys ≡ placed_characters_from (next_place (place_past p prefix) c) rest
 
 split : (xs : List Char) (x : Char) (ys : List Char) (p : Place) (cs : List ℕ) → xs ++ x ∷ ys ≡ placed_characters_from p cs → Split xs x ys p cs
 split [] x ys p [] e = absurd (cc)
-split [] x ys p (c ∷ cs) e = record { prefix = []; c = c; rest = cs; all = refl; size = refl; here = cc; behind = cc }
+split [] x ys p (c ∷ cs) e = record { prefix = []; c = c; rest = cs; all = refl; size = refl; here = cc; after = cc }
 split (z ∷ xs) x ys p [] e = absurd (cc)
 split (z ∷ xs) x ys p (c ∷ cs) e =
     let f : xs ++ x ∷ ys ≡ placed_characters_from (next_place p c) cs = cc in
     let s = split xs x ys (next_place p c) cs f in
-    record { prefix = c ∷ s.prefix; c = s.c; rest = s.rest; all = ap (λ ds. c ∷ ds) s.all; size = ap suc s.size; here = s.here; behind = s.behind }
+    record { prefix = c ∷ s.prefix; c = s.c; rest = s.rest; all = ap (λ ds. c ∷ ds) s.all; size = ap suc s.size; here = s.here; after = s.after }
 
 -- ---- no column reaches its last value
 
@@ -63,8 +63,8 @@ short_past p [] rest h = h
 short_past p (c ∷ prefix) rest h = short_past (next_place p c) prefix rest (short_next p c (prefix ++ rest) h)
 
 -- after a `)`
-behind_is : (q : Place) (c : ℕ) (rest : List ℕ) → c ≡ 41 → Short q (c ∷ rest) → after_mark q ≡ next_place q c
-behind_is q c rest e h =
+after_is : (q : Place) (c : ℕ) (rest : List ℕ) → c ≡ 41 → Short q (c ∷ rest) → after_mark q ≡ next_place q c
+after_is q c rest e h =
     let less : q.column + 1 ≤ 2 ^ 64 - 1 = omega (arith, h.here, some) in
     rw e (ap (λ n. record { line = q.line; column = n }) (let m : min (q.column + 1) (2 ^ 64 - 1) ≡ q.column + 1 = grind (arith, less) in m))
   where
@@ -120,7 +120,7 @@ module _ (lines macros : ℕ) (texts : TextsLie) (gabc : SnippetsLie (λ xs. not
       let at = ap (λ (y : Char). y.place) s.here in
       let c : s.c ≡ 41 = sym (ap (λ (y : Char). y.c) s.here) ∙ closes_at part p xs x ys b h in
       inl (ap (λ q. text_from texts_by_definition q ys)
-      (ap after_mark at ∙ behind_is (place_past p s.prefix) s.c s.rest c (short_past p s.prefix (s.c ∷ s.rest) (subst (Short p) s.all short))))
+      (ap after_mark at ∙ after_is (place_past p s.prefix) s.c s.rest c (short_past p s.prefix (s.c ∷ s.rest) (subst (Short p) s.all short))))
 
   both_lie : (p q r e : Place) (fs gs : List Finding) → IsUpTo p r → IsEarlier q r → IsUpTo r e → Lie p q fs → LieLast r e gs → LieLast p e (fs ++ gs)
   both_lie p q r e fs gs u l m f g = record {
@@ -144,7 +144,7 @@ module _ (lines macros : ℕ) (texts : TextsLie) (gabc : SnippetsLie (λ xs. not
       let at : q.end.place ≡ place_past p s.prefix = ap (λ (y : Char). y.place) s.here in
       let f = lies_with_first p (place_past p s.prefix) (found (concat_of (events_through part q.characters))) w.0 w.1 (up_to_past p s.prefix)
       (through_lies part p cs q.characters q.end (whole pieces last) s e b) (begun_codes part p q.characters (q.characters ++ q.end ∷ whole pieces last) b) in
-      let g = pieces_lie pieces last (part_following texts_by_definition lines macros q.mark q.end (whole pieces last)) (next_place (place_past p s.prefix) s.c) s.rest s.behind
+      let g = pieces_lie pieces last (part_following texts_by_definition lines macros q.mark q.end (whole pieces last)) (next_place (place_past p s.prefix) s.c) s.rest s.after
       (short_next (place_past p s.prefix) s.c s.rest (short_past p s.prefix (s.c ∷ s.rest) (subst (Short p) s.all short)))
       (next_begins part p cs q.characters q.end (whole pieces last) q.mark s short b h.0) h.1 w.2 in
       let end : place_past (next_place (place_past p s.prefix) s.c) s.rest ≡ place_past p cs = sym (place_append p s.prefix (s.c ∷ s.rest)) ∙ ap (place_past p) (sym s.all) in

@@ -28,23 +28,23 @@ use Rattle.gabc_score.specs.Units.{Closes, Cutting, IsCutFrom, EndsAfter, whole,
 use Rattle.gabc_score.specs.Body.{events_onto, findings_of, EventsToStop, events_to_stop, stopped_events, code_at, result_by, result_at_end, result_by_fault, result_whole, result_stopped, found_at_end, has_last, fault_of_end, cut_of}
 use Rattle.gabc_score.specs.Score.{heads_text, after_heads, score_of, score_by}
 use Rattle.gabc_score.proofs.units.BodyHasOneCutting.{one, body_emits_all}
-use Rattle.gabc_places.proofs.PlacesOfAText.{placed_behind, behind_after, place_append}
+use Rattle.gabc_places.proofs.PlacesOfAText.{placed_after, after_joined, place_append}
 use Rattle.gabc_places.proofs.PlacesInOrder.{before_then, before_next, up_to_past}
 use Rattle.gabc_score.proofs.order.FindingsOneAfterAnother.{AllFrom, AllUpTo, AllBefore, from_earlier, from_prefix, before_append, order_append, order_then, order_prefix, all_before, lie_up_to, no_notes}
 use Rattle.gabc_score.proofs.order.FindingsOfParts.{found, found_append, found_onto, TextsLie, SnippetsLie, LieLast}
-use Rattle.gabc_score.proofs.order.FirstNotesOfParts.{behind_comment}
+use Rattle.gabc_score.proofs.order.FirstNotesOfParts.{after_comment}
 use Rattle.gabc_score.proofs.order.FindingsOfCutParts.{Short, short_past, pieces_lie}
 use Rattle.gabc_score.proofs.building.EventsOfSyllableParts.{onto_append}
 
 -- ---- the body
 
-record Behind (prefix : List Char) (ys : List Char) (p : Place) (cs : List ℕ) : Type 0 where
+record After (prefix : List Char) (ys : List Char) (p : Place) (cs : List ℕ) : Type 0 where
   before : List ℕ
   rest : List ℕ
   all : cs ≡ before ++ rest
   placed : ys ≡ placed_characters_from (place_past p before) rest
 
-part_after_character : (prefix ys : List Char) (p : Place) (cs : List ℕ) → placed_characters_from p cs ≡ prefix ++ ys → Behind prefix ys p cs
+part_after_character : (prefix ys : List Char) (p : Place) (cs : List ℕ) → placed_characters_from p cs ≡ prefix ++ ys → After prefix ys p cs
 part_after_character [] ys p cs e = record { before = []; rest = cs; all = refl; placed = sym e }
 part_after_character (x ∷ prefix) ys p [] e = absurd (cc)
 part_after_character (x ∷ prefix) ys p (c ∷ cs) e =
@@ -67,7 +67,7 @@ module _ (texts : TextsLie)
       → IsCutFrom texts_by_definition lines macros (placed_characters_from p cs) comment parts
       → LieLast p (place_past p cs) (found (concat_of (with_first_each [] (placed_characters_from p cs) (map (λ (x : Char). []) comment ++ events_of_parts texts_by_definition lines macros parts))))
   parts_lie lines macros p cs comment None short h =
-      rw (h.0 ∙ sym (append-nil comment), behind_comment comment [] [] (events_of_parts texts_by_definition lines macros None)) (record { order = tt; from = tt; before = tt })
+      rw (h.0 ∙ sym (append-nil comment), after_comment comment [] [] (events_of_parts texts_by_definition lines macros None)) (record { order = tt; from = tt; before = tt })
   parts_lie lines macros p cs comment (Some d) short h =
       let ys = whole d.pieces d.last in
       let b = part_after_character comment (whole d.pieces d.last) p cs h.0 in
@@ -75,7 +75,7 @@ module _ (texts : TextsLie)
       let k = pieces_lie lines macros texts (gabc lines macros) marks (closes lines macros) d.pieces d.last (first_text texts_by_definition (whole d.pieces d.last)) (place_past p b.before) b.rest b.placed
       (short_past p b.before b.rest (subst (Short p) b.all short))
       (inl (first_begins (whole d.pieces d.last) (place_past p b.before) b.rest b.placed h.1.1.0)) h.1.1.1 [] in
-      rw (h.0, behind_comment comment (whole d.pieces d.last) [] (events_of_parts texts_by_definition lines macros (Some d)))
+      rw (h.0, after_comment comment (whole d.pieces d.last) [] (events_of_parts texts_by_definition lines macros (Some d)))
       (subst (λ e. LieLast p e (found (concat_of (with_first_each [] (whole d.pieces d.last) (events_of_cutting texts_by_definition lines macros (first_text texts_by_definition (whole d.pieces d.last)) d.pieces d.last)))))
       (sym (place_append p b.before b.rest) ∙ ap (place_past p) (sym b.all))
       (record { order = k.order; from = from_earlier p (place_past p b.before) _ (up_to_past p b.before) k.from; before = k.before }))
@@ -167,11 +167,11 @@ module _ (limits : Limits) (head : ℕ) (fs : List Finding) (at q p : Place) (ts
 pub record HeadsLie : Type 0 where
   pub order : (limits : Limits) (t : List ℕ) → AreInOrder (heads_found (heads_of limits t))
   pub within : (limits : Limits) (t : List ℕ) (heads : Heads) → heads_of limits t ≡ Ok heads → LieBetween (place_after []) (place_after (take (head_len t) t)) heads.findings
-  pub behind : (limits : Limits) (t : List ℕ) (heads : Heads) → heads_of limits t ≡ Ok heads → head_len t + 2 ≤ length t
+  pub after : (limits : Limits) (t : List ℕ) (heads : Heads) → heads_of limits t ≡ Ok heads → head_len t + 2 ≤ length t
 
 -- the body begins after the line `%%`
-body_behind : (t : List ℕ) → head_len t + 2 ≤ length t → IsEarlier (place_after (take (head_len t) t)) (place_after (heads_text t))
-body_behind t h =
+body_after : (t : List ℕ) → head_len t + 2 ≤ length t → IsEarlier (place_after (take (head_len t) t)) (place_after (heads_text t))
+body_after t h =
     let n = head_len t in
     let f = take (head_len t) t in
     let c = get_or t (head_len t) 0 in
@@ -181,31 +181,31 @@ body_behind t h =
     let same : take (head_len t + 1 + 1) t ≡ (take (head_len t) t ++ c ∷ []) ++ d ∷ [] = take_more t (head_len t + 1) 0 two ∙ ap (λ g. g ++ d ∷ []) (take_more t (head_len t) 0 one) in
     let count : head_len t + 1 + 1 ≡ head_len t + 2 = omega arith in
     let all : heads_text t ≡ take (head_len t) t ++ (c ∷ d ∷ []) = ap (λ m. take m t) (sym count) ∙ same ∙ append_assoc (take (head_len t) t) (c ∷ []) (d ∷ []) in
-    subst (IsEarlier (place_after (take (head_len t) t))) (behind_after (take (head_len t) t) (c ∷ d ∷ []) ∙ ap place_after (sym all))
+    subst (IsEarlier (place_after (take (head_len t) t))) (after_joined (take (head_len t) t) (c ∷ d ∷ []) ∙ ap place_after (sym all))
     (before_then (place_after (take (head_len t) t)) (next_place (place_after (take (head_len t) t)) c) _ (before_next (place_after (take (head_len t) t)) c)
     (up_to_past (next_place (place_after (take (head_len t) t)) c) (d ∷ [])))
 
 short_body : (t : List ℕ) → length t < 2 ^ 63 → Short (place_after (heads_text t)) (after_heads t)
 short_body t h =
-    subst (λ p. Short p (after_heads t)) (behind_after [] (heads_text t))
+    subst (λ p. Short p (after_heads t)) (after_joined [] (heads_text t))
     (short_past (place_after []) (heads_text t) (after_heads t)
     (subst (Short (place_after [])) (sym (take-append-drop (head_len t + 2) t)) (record { here = omega (arith, h); begun = omega (arith, h) })))
 
 module _ (texts : TextsLie) (heads : HeadsLie)
     (gabc : (lines macros : ℕ) → SnippetsLie (λ xs. notes.note_events (nat_lt 0 lines) macros xs)) (marks : SnippetsLie (λ xs. nabc.nabc_events xs))
     (closes : (lines macros line : ℕ) (opened : Place) (prefix : List Char) (x : Char) (rest : List Char) → EndsAfter lines (snippet_from lines macros line opened (prefix ++ x ∷ rest)) prefix Closes → x.c ≡ 41) where
-  behind_sorted : (limits : Limits) (ending : InputEnding) (t : List ℕ) (h : Heads) → length t < 2 ^ 63 → heads_of limits t ≡ Ok h → AreInOrder (score_by limits ending t (Ok h)).findings
-  behind_sorted limits ending t h short e =
+  after_sorted : (limits : Limits) (ending : InputEnding) (t : List ℕ) (h : Heads) → length t < 2 ^ 63 → heads_of limits t ≡ Ok h → AreInOrder (score_by limits ending t (Ok h)).findings
+  after_sorted limits ending t h short e =
       let f = heads_text t in
       let u = after_heads t in
-      let xs : placed_characters_from (place_after (heads_text t)) (after_heads t) ≡ placed_characters_after (heads_text t) (after_heads t) = placed_behind (heads_text t) (after_heads t) in
-      let end : place_past (place_after (heads_text t)) (after_heads t) ≡ place_after t = behind_after (heads_text t) (after_heads t) ∙ ap place_after (take-append-drop (head_len t + 2) t) in
+      let xs : placed_characters_from (place_after (heads_text t)) (after_heads t) ≡ placed_characters_after (heads_text t) (after_heads t) = placed_after (heads_text t) (after_heads t) in
+      let end : place_past (place_after (heads_text t)) (after_heads t) ≡ place_after t = after_joined (heads_text t) (after_heads t) ∙ ap place_after (take-append-drop (head_len t + 2) t) in
       let lists = score_events (nabc_lines_of h.book) (macros_of h.book) (placed_characters_after (heads_text t) (after_heads t)) in
       let all = body_lies texts gabc marks closes (nabc_lines_of h.book) (macros_of h.book) (place_after (heads_text t)) (after_heads t) (short_body t short) in
       read_sorted limits _ h.findings (place_after t) (place_after (take (head_len t) t)) (place_after (heads_text t)) (concat_of lists)
       (subst (λ r. AreInOrder (heads_found r)) e (heads.order limits t))
       (lie_up_to (place_after []) (place_after (take (head_len t) t)) h.findings (heads.within limits t h e))
-      (body_behind t (heads.behind limits t h e))
+      (body_after t (heads.after limits t h e))
       (subst (IsUpTo (place_after (heads_text t))) end (up_to_past (place_after (heads_text t)) (after_heads t)))
       (subst (λ p. LieLast (place_after (heads_text t)) p (found (concat_of lists))) end
       (subst (λ ys. LieLast (place_after (heads_text t)) (place_past (place_after (heads_text t)) (after_heads t)) (found (concat_of (score_events (nabc_lines_of h.book) (macros_of h.book) ys)))) xs all))
@@ -215,5 +215,5 @@ module _ (texts : TextsLie) (heads : HeadsLie)
   score_sorted limits ending t short = by (heads_of limits t) refl
     where
       by : (r : Result Heads HeadFault) → heads_of limits t ≡ r → AreInOrder (score_by limits ending t r).findings
-      by (Ok h) e = behind_sorted limits ending t h short e
+      by (Ok h) e = after_sorted limits ending t h short e
       by (Err stop) e = subst (λ r. AreInOrder (heads_found r)) e (heads.order limits t)

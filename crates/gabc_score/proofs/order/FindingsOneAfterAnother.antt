@@ -54,15 +54,15 @@ pub all_before : (q : Place) (g : Finding) (fs : List Finding) → AllUpTo q fs 
 all_before q g [] h l = tt
 all_before q g (f ∷ fs) h l = (stands_before f g (then_before f.place q g.place h.0 l), all_before q g fs h.1 l)
 
-behind_one : (f : Finding) (fs gs : List Finding) (q r : Place) → IsUpTo f.place q → AllUpTo q fs → IsEarlier q r → ComeAfter f fs → AreInOrder gs → AllFrom r gs → ComeAfter f (fs ++ gs)
-behind_one f [] [] q r u h l s o k = tt
-behind_one f [] (g ∷ gs) q r u h l s o k = (stands_before f g (before_then f.place r g.place (then_before f.place q r u l) k.0), o)
-behind_one f (x ∷ fs) gs q r u h l s o k = (s.0, behind_one x fs gs q r h.0 h.1 l s.1 o k)
+after_one : (f : Finding) (fs gs : List Finding) (q r : Place) → IsUpTo f.place q → AllUpTo q fs → IsEarlier q r → ComeAfter f fs → AreInOrder gs → AllFrom r gs → ComeAfter f (fs ++ gs)
+after_one f [] [] q r u h l s o k = tt
+after_one f [] (g ∷ gs) q r u h l s o k = (stands_before f g (before_then f.place r g.place (then_before f.place q r u l) k.0), o)
+after_one f (x ∷ fs) gs q r u h l s o k = (s.0, after_one x fs gs q r h.0 h.1 l s.1 o k)
 
 -- findings in order up to q, and findings in order from a place after q on
 pub order_append : (fs gs : List Finding) (q r : Place) → AreInOrder fs → AllUpTo q fs → IsEarlier q r → AreInOrder gs → AllFrom r gs → AreInOrder (fs ++ gs)
 order_append [] gs q r s h l o k = o
-order_append (f ∷ fs) gs q r s h l o k = behind_one f fs gs q r h.0 h.1 l s o k
+order_append (f ∷ fs) gs q r s h l o k = after_one f fs gs q r h.0 h.1 l s o k
 
 one_more : (f : Finding) (fs : List Finding) (g : Finding) (gs : List Finding) → ComesBefore f g → AllBefore g fs → ComeAfter f fs → AreInOrder (g ∷ gs) → ComeAfter f (fs ++ g ∷ gs)
 one_more f [] g gs l h s o = (l, o)

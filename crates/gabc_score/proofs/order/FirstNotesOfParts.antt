@@ -77,17 +77,17 @@ module _ (lines : ℕ) where
 
   -- what a part finds through its end, with what the score finds at the mark, and what is found after it
   pub through_end : (part : PartAhead) (xs : List Char) (x : Char) (ys : List Char) (mark : Mark) (before : List BodyEvent) (later : List (List BodyEvent)) → EndsAfter lines part xs mark
-      → (was : Option ItemKind) × (now : Option ItemKind) × (behind : List BodyEvent)
+      → (was : Option ItemKind) × (now : Option ItemKind) × (after : List BodyEvent)
       × (found (concat_of (with_first_each before (xs ++ x ∷ ys) (events_through part xs ++ later)))
-      ≡ (found (concat_of (events_through part xs)) ++ found_first was now x.place) ++ found (concat_of (with_first_each behind ys later)))
+      ≡ (found (concat_of (events_through part xs)) ++ found_first was now x.place) ++ found (concat_of (with_first_each after ys later)))
   through_end part [] x ys mark before later h =
       let now = events_in part in
-      let behind = events_onto (with_first before x now) before in (
+      let after = events_onto (with_first before x now) before in (
         first_of before,
         first_of (events_onto now before),
-        behind,
-        found_append (with_first before x now) (concat_of (with_first_each behind ys later))
-            ∙ ap (λ (fs : List Finding). fs ++ found (concat_of (with_first_each behind ys later)))
+        after,
+        found_append (with_first before x now) (concat_of (with_first_each after ys later))
+            ∙ ap (λ (fs : List Finding). fs ++ found (concat_of (with_first_each after ys later)))
             (found_here before x now ∙ ap (λ (ts : List BodyEvent). found ts ++ found_first (first_of before) (first_of (events_onto now before)) x.place) (sym (append-nil now))),
       )
   through_end part (z ∷ xs) x ys mark before later h =
@@ -120,13 +120,13 @@ module _ (lines : ℕ) where
 
 -- ---- the comment
 
-pub behind_comment : (comment ys : List Char) (before : List BodyEvent) (lists : List (List BodyEvent))
+pub after_comment : (comment ys : List Char) (before : List BodyEvent) (lists : List (List BodyEvent))
     → found (concat_of (with_first_each before (comment ++ ys) (map (λ (x : Char). []) comment ++ lists))) ≡ found (concat_of (with_first_each before ys lists))
-behind_comment [] ys before lists = refl
-behind_comment (x ∷ comment) ys before lists =
+after_comment [] ys before lists = refl
+after_comment (x ∷ comment) ys before lists =
     ap (λ (fs : List Finding). found (concat_of (map (λ (f : Finding). event.Notes 0 (note.Found f)) fs ∷ with_first_each (events_onto (map (λ (f : Finding). event.Notes 0 (note.Found f)) fs) before) (comment ++ ys) (map (λ (z : Char). []) comment ++ lists))))
     (no_first (first_of before) x.place)
-    ∙ behind_comment comment ys before lists
+    ∙ after_comment comment ys before lists
 
 -- ---- all that is found
 

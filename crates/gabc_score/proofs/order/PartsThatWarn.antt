@@ -95,13 +95,13 @@ module _ (all : (at : Place) (t : List ℕ) → found_in (concat_of (events_by_p
       let more = units_pieces lines units (JustText last) in
       let pieces = snippets_with lines 0 u.text.end.place u.nexts (cut_part u.final Closes ∷ more) in
       let xs = u.text.characters ++ u.text.end ∷ whole pieces last in
-      let behind = characters_from units (JustText last) in
-      let behind_is : whole more last ≡ behind = units_whole lines units (JustText last) in
-      let text_is : codes_of xs ≡ (score_unit u behind).text = ap codes_of (unit_whole lines u more last) ∙ ap (λ ys. (score_unit u ys).text) behind_is in
+      let after = characters_from units (JustText last) in
+      let after_is : whole more last ≡ after = units_whole lines units (JustText last) in
+      let text_is : codes_of xs ≡ (score_unit u after).text = ap codes_of (unit_whole lines u more last) ∙ ap (λ ys. (score_unit u ys).text) after_is in
       let first = events_through (text_from texts_by_definition at xs) u.text.characters in
       subst Warn (sym (joined_found first _))
-      (All-append IsWarning (found (concat_of first)) _ (text_warns at (score_unit u behind).text xs u.text.characters text_is h.0.0)
-      (notes_warn u.nexts u.final more last 0 u.text.end.place (subst (SnippetsWarn lines macros 0 (snippets_in u)) (sym behind_is) h.0.1)
+      (All-append IsWarning (found (concat_of first)) _ (text_warns at (score_unit u after).text xs u.text.characters text_is h.0.0)
+      (notes_warn u.nexts u.final more last 0 u.text.end.place (subst (SnippetsWarn lines macros 0 (snippets_in u)) (sym after_is) h.0.1)
       (units_warn units last (after_mark u.final.end.place) h.1 k)))
 
   comment_warns : (comment : List Char) (lists : List (List BodyEvent)) → Warn (found (concat_of lists)) → Warn (found (concat_of (map nothing_of comment ++ lists)))

@@ -8,7 +8,7 @@ use Rattle.gabc_places.specs.declared.code.Finding.{Finding}
 use Rattle.gabc_places.specs.declared.limits.Limits.{Limits}
 use Rattle.gabc_places.specs.declared.place.Char.{Char}
 use Rattle.gabc_places.specs.declared.place.Place.{Place}
-use Rattle.gabc_places.proofs.NothingBehindAnEnd.{both_empty}
+use Rattle.gabc_places.proofs.NothingAfterAnEnd.{both_empty}
 use Rattle.gabc_text.specs.declared.text_event.TextEnd.TheVariants as text_end
 use Rattle.gabc_text.specs.declared.text_event.TextEvent.TheVariants as text
 use Rattle.gabc_text.specs.declared.text_event.TextPart.{TextPart}
@@ -24,7 +24,7 @@ use Rattle.gabc_score.specs.ScoreEvents.{ScoreOutput, Syllable, findings_now, ou
 use Rattle.gabc_score.specs.Syllable.{UnplacedSyllable, PlacedSyllable}
 use Rattle.gabc_score.specs.machine.BodyBuilder.{with_all, code_in}
 use Rattle.gabc_score.specs.machine.Gatherer.{Gathered, with_event, with_snippet}
-use Rattle.gabc_score.specs.machine.ScoreStage.{HeldScore, placed_behind, point_outputs, with_held, score_past}
+use Rattle.gabc_score.specs.machine.ScoreStage.{HeldScore, placed_after, point_outputs, with_held, score_past}
 use Rattle.gabc_score.specs.machine.SyllableBuilder.{made_from}
 use Rattle.gabc_score.proofs.building.EventsOfOnePoint.{with_all_append}
 use Rattle.gabc_score.proofs.order.FindingsOfParts.{found, found_append, found_onto}
@@ -204,7 +204,7 @@ module _ (limits : Limits) (lent : Bool) (ms : List UnplacedSyllable) (few : len
     past_by h = record { next = saturating_next_place x.place x.c; gathered = with_held h; has_lent = lent || nat_lt 1 (length h.made) }
 
     abbrev outputs_by : Gathered → List ScoreOutput
-    outputs_by h = outputs_of (findings_now now ++ found_first g.first_kind h.first_kind x.place) (take (length h.made - 1) (placed_behind lent h.made))
+    outputs_by h = outputs_of (findings_now now ++ found_first g.first_kind h.first_kind x.place) (take (length h.made - 1) (placed_after lent h.made))
 
     goes_on : (made : List UnplacedSyllable) → (with_all g now).made ≡ made → code_in limits (with_all s.gathered now) ≡ None
     goes_on made e = ap (code_in limits) (made_before now ms made g a.none e) ∙ fits_any limits (with_all g now) (ms ++ made) (fits_now limits g now lists m a)
@@ -229,7 +229,7 @@ module _ (limits : Limits) (lent : Bool) (ms : List UnplacedSyllable) (few : len
       early_outputs : point_outputs s x now ≡ []
       early_outputs =
           ap outputs_by early_is
-          ∙ ap (λ (fs : List Finding). outputs_of fs (take (length ms - 1) (placed_behind lent ms))) found_none
+          ∙ ap (λ (fs : List Finding). outputs_of fs (take (length ms - 1) (placed_after lent ms))) found_none
           ∙ ap (λ (ss : List PlacedSyllable). outputs_of [] ss) (few_given (not lent) ms few)
 
     -- the last one
@@ -243,14 +243,14 @@ module _ (limits : Limits) (lent : Bool) (ms : List UnplacedSyllable) (few : len
           ∙ ap (λ (made : List UnplacedSyllable). record { next = saturating_next_place x.place x.c; gathered = record (with_all g now) { made = made }; has_lent = lent || nat_lt 1 (length (ms ++ m ∷ [])) }) (held_more ms m few)
           ∙ ap (λ (b : Bool). record { next = saturating_next_place x.place x.c; gathered = record (with_all g now) { made = m ∷ [] }; has_lent = lent || b }) (lent_more ms m few)
 
-      last_outputs : point_outputs s x now ≡ map (λ (s : PlacedSyllable). Syllable s) (take (length ms) (placed_behind lent (ms ++ m ∷ [])))
+      last_outputs : point_outputs s x now ≡ map (λ (s : PlacedSyllable). Syllable s) (take (length ms) (placed_after lent (ms ++ m ∷ [])))
       last_outputs =
           ap outputs_by last_is
-          ∙ ap (λ (fs : List Finding). outputs_of fs (take (length (ms ++ m ∷ []) - 1) (placed_behind lent (ms ++ m ∷ [])))) found_none
-          ∙ ap (λ (n : ℕ). outputs_of [] (take n (placed_behind lent (ms ++ m ∷ [])))) (count_more ms m few)
+          ∙ ap (λ (fs : List Finding). outputs_of fs (take (length (ms ++ m ∷ []) - 1) (placed_after lent (ms ++ m ∷ [])))) found_none
+          ∙ ap (λ (n : ℕ). outputs_of [] (take n (placed_after lent (ms ++ m ∷ [])))) (count_more ms m few)
 
   pub one_passes : (next : Place) (g : Gathered) (us : List Char) (lists : List (List BodyEvent)) (m : UnplacedSyllable) → length us ≡ length lists → Gathers limits g lists m
-      → Pass (holding next g) us lists (holding_one (next_of us next) (with_all g (concat_of lists)) m) (take (length ms) (placed_behind lent (ms ++ m ∷ [])))
+      → Pass (holding next g) us lists (holding_one (next_of us next) (with_all g (concat_of lists)) m) (take (length ms) (placed_after lent (ms ++ m ∷ [])))
   one_passes next g us [] m each a = absurd (none_made (sym a.made ∙ a.none))
     where
       none_made : m ∷ [] ≡ [] → ⊥

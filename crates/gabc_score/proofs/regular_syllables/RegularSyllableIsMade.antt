@@ -169,10 +169,10 @@ module _ (gabc_again : (split : Bool) (macros : ℕ) (at : Place) (how : NoteEnd
 -- ---- the text as it stands
 
 module _ (kept_alone : (t rest : List ℕ) → IsRegularText t → kept (t ++ 40 ∷ rest) ≡ t)
-    (kept_behind : (b : ℕ) (gap t rest : List ℕ) → is_gap (b ∷ gap) ≡ true → IsRegularText t → kept (b ∷ gap ++ (t ++ 40 ∷ rest)) ≡ 32 ∷ t) where
+    (kept_after : (b : ℕ) (gap t rest : List ℕ) → is_gap (b ∷ gap) ≡ true → IsRegularText t → kept (b ∷ gap ++ (t ++ 40 ∷ rest)) ≡ 32 ∷ t) where
   pub text_kept : (gap t rest : List ℕ) → is_gap gap ≡ true → IsRegularText t → kept ((gap ++ t) ++ 40 ∷ rest) ≡ gap_kept gap ++ t
   text_kept [] t rest b r = kept_alone t rest r
-  text_kept (c ∷ gap) t rest b r = ap kept (append_assoc (c ∷ gap) t (40 ∷ rest)) ∙ kept_behind c gap t rest b r
+  text_kept (c ∷ gap) t rest b r = ap kept (append_assoc (c ∷ gap) t (40 ∷ rest)) ∙ kept_after c gap t rest b r
 
 -- ---- its text and its translation
 
@@ -190,13 +190,13 @@ translation_said all (Some span) (Some part) h =
 
 module _ (starts : (t : List ℕ) → (view_in t).word_start ≡ (view_facts t).word_start)
     (says_alone : (t rest : List ℕ) → IsRegularText t → view_facts (t ++ 40 ∷ rest) ≡ view_facts t)
-    (says_behind : (b : ℕ) (gap t rest : List ℕ) → is_gap (b ∷ gap) ≡ true → IsRegularText t → view_facts (b ∷ gap ++ (t ++ 40 ∷ rest)) ≡ record (view_facts t) { word_start = true })
+    (says_after : (b : ℕ) (gap t rest : List ℕ) → is_gap (b ∷ gap) ≡ true → IsRegularText t → view_facts (b ∷ gap ++ (t ++ 40 ∷ rest)) ≡ record (view_facts t) { word_start = true })
     (kept_alone : (t rest : List ℕ) → IsRegularText t → kept (t ++ 40 ∷ rest) ≡ t)
-    (kept_behind : (b : ℕ) (gap t rest : List ℕ) → is_gap (b ∷ gap) ≡ true → IsRegularText t → kept (b ∷ gap ++ (t ++ 40 ∷ rest)) ≡ 32 ∷ t)
+    (kept_after : (b : ℕ) (gap t rest : List ℕ) → is_gap (b ∷ gap) ≡ true → IsRegularText t → kept (b ∷ gap ++ (t ++ 40 ∷ rest)) ≡ 32 ∷ t)
     (is_printed : (whole t : List ℕ) → StandsForView whole (view_in t) t → canonical_text (view_in t) (encodes whole) ≡ encodes (text_of_tokens (text_tokens (view_facts t)))) where
   text_says : (gap t rest : List ℕ) → is_gap gap ≡ true → IsRegularText t → view_facts ((gap ++ t) ++ 40 ∷ rest) ≡ record (view_facts t) { word_start = has_gap gap }
   text_says [] t rest b r = says_alone t rest r ∙ ap (λ (w : Bool). record (view_facts t) { word_start = w }) r.no_start
-  text_says (c ∷ gap) t rest b r = ap view_facts (append_assoc (c ∷ gap) t (40 ∷ rest)) ∙ says_behind c gap t rest b r
+  text_says (c ∷ gap) t rest b r = ap view_facts (append_assoc (c ∷ gap) t (40 ∷ rest)) ∙ says_after c gap t rest b r
 
   -- the canonical text of a syllable that has this text and these notes
   canonical_by : (w : Bool) (a b t notes bars : List ℕ) → a ++ b ≡ encodes t → bars ++ codes ")" ≡ encodes notes
@@ -247,7 +247,7 @@ module _ (starts : (t : List ℕ) → (view_in t).word_start ≡ (view_facts t).
             let kepts : kept_texts ss ≡ r.nexts ++ r.final ∷ [] =
             kept_all gabc_again nabc_again lines h.whole (kept u.text) r.nexts r.final (after_part at (r.gap ++ r.text) 40) 0 [] ss (sym (mod-eq_of_lt (let some : zero < lines + 1 = omega arith in some))) regular.notes n.characters_are k.each in
             let whole_is : h.whole ≡ kept_spelled r =
-            k.whole_is ∙ ap (λ (t : List ℕ). t ++ in_brackets (λ (s : ReadSnippet). s.kept) k.earlier k.last) (ap kept unit_text ∙ text_kept kept_alone kept_behind r.gap r.text notes regular.blanks regular.text)
+            k.whole_is ∙ ap (λ (t : List ℕ). t ++ in_brackets (λ (s : ReadSnippet). s.kept) k.earlier k.last) (ap kept unit_text ∙ text_kept kept_alone kept_after r.gap r.text notes regular.blanks regular.text)
             ∙ ap (λ (t : List ℕ). (gap_kept r.gap ++ r.text) ++ 40 ∷ t) (brackets k.earlier k.last r.nexts r.final kepts) in
             let spelled_bars : with_bars m.kept m.snippets ++ codes ")" ≡ encodes notes =
             ap (λ (bytes : List ℕ). with_bars bytes m.snippets ++ codes ")") h.kept_is ∙ ap (λ (ps : List Snippet). with_bars (encodes h.whole) ps ++ codes ")") k.snippets_are
@@ -288,7 +288,7 @@ module _ (gabc_prefix : (split : Bool) (macros : ℕ) (xs ys zs : List Char) →
       (all_found : (at : Place) (t : List ℕ) → found_in (concat_of (events_by_point at t)) ≡ findings at t)
       (found_alone : (at : Place) (t rest : List ℕ) → IsRegularText t → findings at (t ++ 40 ∷ rest) ≡ [])
       (ends_alone : (t rest : List ℕ) → IsRegularText t → after_tokens (t ++ 40 ∷ rest) ≡ 40 ∷ rest)
-      (found_behind : (at : Place) (b : ℕ) (gap t rest : List ℕ) → is_gap (b ∷ gap) ≡ true → IsRegularText t → findings at (b ∷ gap ++ (t ++ 40 ∷ rest)) ≡ [])
+      (found_after : (at : Place) (b : ℕ) (gap t rest : List ℕ) → is_gap (b ∷ gap) ≡ true → IsRegularText t → findings at (b ∷ gap ++ (t ++ 40 ∷ rest)) ≡ [])
       (ends_after_it : (b : ℕ) (gap t rest : List ℕ) → is_gap (b ∷ gap) ≡ true → IsRegularText t → after_tokens (b ∷ gap ++ (t ++ 40 ∷ rest)) ≡ 40 ∷ rest)
       (at : Place) (r : SyllableParts) (regular : IsRegularSyllable lines r) where
     abbrev unit : BodyUnit
@@ -300,10 +300,10 @@ module _ (gabc_prefix : (split : Bool) (macros : ℕ) (xs ys zs : List Char) →
     cuts : Cuts texts_by_definition lines macros (text_from texts_by_definition at (characters_from (unit ∷ []) (JustText []))) pieces []
     cuts =
         subst (λ (ys : List Char). Cuts texts_by_definition lines macros (text_from texts_by_definition at ys) pieces []) (units_whole lines (unit ∷ []) (JustText [])) (
-          text_there lines macros gabc_prefix nabc_prefix ends all_found found_alone ends_alone found_behind ends_after_it at r
+          text_there lines macros gabc_prefix nabc_prefix ends all_found found_alone ends_alone found_after ends_after_it at r
               (whole (snippets_with lines 0 unit.text.end.place unit.nexts (cut_part unit.final Closes ∷ [])) []) regular,
           notes_cut 0 unit.text.end.place (after_part at (r.gap ++ r.text) 40) r.nexts r.final regular.notes
-              (split_of lines macros gabc_prefix nabc_prefix ends all_found found_alone ends_alone found_behind ends_after_it lines r.nexts regular.single),
+              (split_of lines macros gabc_prefix nabc_prefix ends all_found found_alone ends_alone found_after ends_after_it lines r.nexts regular.single),
         )
 
     pub given : length (encodes (codes_of (characters_in unit ++ []))) < 2 ^ 63 → (before : List BodyEvent) → since_close before ≡ [] → GivesOneSyllable lines macros at unit [] before
@@ -312,7 +312,7 @@ module _ (gabc_prefix : (split : Bool) (macros : ℕ) (xs ys zs : List Char) →
     pub found_none : (before : List BodyEvent) → findings_of (emitted_through lines macros at unit [] before) ≡ findings_of before
     found_none before =
         let us = characters_in unit in
-        let p = syllable_passes lines macros gabc_prefix nabc_prefix ends all_found found_alone ends_alone found_behind ends_after_it at r [] regular in
+        let p = syllable_passes lines macros gabc_prefix nabc_prefix ends all_found found_alone ends_alone found_after ends_after_it at r [] regular in
         let first : first_events lines macros at (us ++ []) (length us) ≡ concat_of p.front =
         ap (λ (ls : List (List BodyEvent)). concat_of (take (length us) ls)) p.all_is ∙ ap concat_of (take_at p.front _ (length us) p.count) in
         found_onto (first_events lines macros at (us ++ []) (length us)) before

@@ -125,13 +125,13 @@ module _ (lines macros : ℕ) where
     module _ (ends : (at : Place) (t : List ℕ) → EndsOnce at t) (all_found : (at : Place) (t : List ℕ) → found_in (concat_of (events_by_point at t)) ≡ findings at t)
         (found_alone : (at : Place) (t rest : List ℕ) → IsRegularText t → findings at (t ++ 40 ∷ rest) ≡ [])
         (ends_alone : (t rest : List ℕ) → IsRegularText t → after_tokens (t ++ 40 ∷ rest) ≡ 40 ∷ rest)
-        (found_behind : (at : Place) (b : ℕ) (gap t rest : List ℕ) → is_gap (b ∷ gap) ≡ true → IsRegularText t → findings at (b ∷ gap ++ (t ++ 40 ∷ rest)) ≡ [])
+        (found_after : (at : Place) (b : ℕ) (gap t rest : List ℕ) → is_gap (b ∷ gap) ≡ true → IsRegularText t → findings at (b ∷ gap ++ (t ++ 40 ∷ rest)) ≡ [])
         (ends_after_it : (b : ℕ) (gap t rest : List ℕ) → is_gap (b ∷ gap) ≡ true → IsRegularText t → after_tokens (b ∷ gap ++ (t ++ 40 ∷ rest)) ≡ 40 ∷ rest) where
       text_laws : (gap t rest : List ℕ) → is_gap gap ≡ true → IsRegularText t → TextLaws gap t rest
       text_laws [] t rest b r = record { ends = ends_alone t rest r; nothing = λ at. found_alone at t rest r }
       text_laws (c ∷ gap) t rest b r = let e = append_assoc (c ∷ gap) t (40 ∷ rest) in record {
         ends = ap after_tokens e ∙ ends_after_it c gap t rest b r;
-        nothing = λ at. ap (findings at) e ∙ found_behind at c gap t rest b r;
+        nothing = λ at. ap (findings at) e ∙ found_after at c gap t rest b r;
       }
 
       codes_are : (at : Place) (t : List ℕ) (ys : List Char) → (let e = ended_at at t 40 in codes_of (e.characters ++ e.end ∷ ys) ≡ t ++ 40 ∷ codes_of ys)

@@ -89,7 +89,7 @@ module _ (lines macros : ℕ) (at : Place) (r : SyllableParts) (regular : IsRegu
 
   module _ (spans : Spans) (s : MakesItsSpelling lines macros at r (opened spans))
       (kept_alone : (t rest : List ℕ) → IsRegularText t → kept (t ++ 40 ∷ rest) ≡ t)
-      (kept_behind : (b : ℕ) (gap t rest : List ℕ) → is_gap (b ∷ gap) ≡ true → IsRegularText t → kept (b ∷ gap ++ (t ++ 40 ∷ rest)) ≡ 32 ∷ t) where
+      (kept_after : (b : ℕ) (gap t rest : List ℕ) → is_gap (b ∷ gap) ≡ true → IsRegularText t → kept (b ∷ gap ++ (t ++ 40 ∷ rest)) ≡ 32 ∷ t) where
     abbrev m : UnplacedSyllable
     m = s.one.made
 
@@ -104,9 +104,9 @@ module _ (lines macros : ℕ) (at : Place) (r : SyllableParts) (regular : IsRegu
 
     -- its unit has the span marks of its text
     tags_are : (says_alone : (t rest : List ℕ) → IsRegularText t → view_facts (t ++ 40 ∷ rest) ≡ view_facts t)
-        → (says_behind : (b : ℕ) (gap t rest : List ℕ) → is_gap (b ∷ gap) ≡ true → IsRegularText t → view_facts (b ∷ gap ++ (t ++ 40 ∷ rest)) ≡ record (view_facts t) { word_start = true })
+        → (says_after : (b : ℕ) (gap t rest : List ℕ) → is_gap (b ∷ gap) ≡ true → IsRegularText t → view_facts (b ∷ gap ++ (t ++ 40 ∷ rest)) ≡ record (view_facts t) { word_start = true })
         → span_tags (units.score_unit unit []).text ≡ span_tags r.text
-    tags_are says_alone says_behind = ap span_tags text_is ∙ by r.gap regular.blanks
+    tags_are says_alone says_after = ap span_tags text_is ∙ by r.gap regular.blanks
       where
         text_is : (units.score_unit unit []).text ≡ (r.gap ++ r.text) ++ 40 ∷ notes_spelled r.nexts r.final
         text_is = ap codes_of (append-nil (units.characters_in unit) ∙ unit_placed at r) ∙ codes_placed at (spelled r)
@@ -115,19 +115,19 @@ module _ (lines macros : ℕ) (at : Place) (r : SyllableParts) (regular : IsRegu
         by [] b = ap tags_said (says_alone r.text (notes_spelled r.nexts r.final) regular.text)
         by (c ∷ gap) b =
             ap span_tags (append_assoc (c ∷ gap) r.text (40 ∷ notes_spelled r.nexts r.final))
-            ∙ ap tags_said (says_behind c gap r.text (notes_spelled r.nexts r.final) b regular.text)
+            ∙ ap tags_said (says_after c gap r.text (notes_spelled r.nexts r.final) b regular.text)
 
     pub made_of : (says_alone : (t rest : List ℕ) → IsRegularText t → view_facts (t ++ 40 ∷ rest) ≡ view_facts t)
-        → (says_behind : (b : ℕ) (gap t rest : List ℕ) → is_gap (b ∷ gap) ≡ true → IsRegularText t → view_facts (b ∷ gap ++ (t ++ 40 ∷ rest)) ≡ record (view_facts t) { word_start = true })
+        → (says_after : (b : ℕ) (gap t rest : List ℕ) → is_gap (b ∷ gap) ≡ true → IsRegularText t → view_facts (b ∷ gap ++ (t ++ 40 ∷ rest)) ≡ record (view_facts t) { word_start = true })
         → IsMadeOf lines spans r m
-    made_of says_alone says_behind = record {
+    made_of says_alone says_after = record {
       kept = s.kept_is;
       starts = s.starts_is;
       canonical_is = s.canonical_is;
       text_is = s.text_is;
       snippets_are = s.snippets_are;
       unit = record { unit = units.score_unit unit []; noted = none_left unit.nexts unit.final; single = single; holds = s.one.holds };
-      tags = tags_are says_alone says_behind;
+      tags = tags_are says_alone says_after;
       follows = record { eu = s.one.eu_is ∙ ap (eu_past m) (leaves_open spans).eu; nlba = s.one.nlba_is ∙ ap (nlba_past m) (leaves_open spans).nlba };
     }
       where
@@ -149,7 +149,7 @@ module _ (lines macros : ℕ) (at : Place) (r : SyllableParts) (regular : IsRegu
       gathers =
           unit_gathers g spans nothing eu_is nlba_is none follows (opened spans) (leaves_open spans) (none_cut spans) lines macros at unit s.one sounded lists unit_each first_are limits
           (length (encodes (spelled r))) (record { limit = limit; over = over; syllable = room.syllable; input = room.input })
-          (keeps_within r kept_alone kept_behind lines at regular limits.syllable room.syllable) (canonical_short r m s.starts_is s.canonical_is) nothing_found
+          (keeps_within r kept_alone kept_after lines at regular limits.syllable room.syllable) (canonical_short r m s.starts_is s.canonical_is) nothing_found
 
       gathered_is : (ms : List UnplacedSyllable) → record (with_all g (concat_of lists)) { made = m ∷ [] } ≡ with_one (record g { made = ms }) m
       gathered_is ms = unit_is_gathered g spans nothing eu_is nlba_is none follows (opened spans) (leaves_open spans) (none_cut spans) lines macros at unit s.one sounded lists unit_each first_are ms

@@ -53,7 +53,7 @@ module _ (r : SyllableParts) where
   -- ---- what is kept of its unit
 
   module _ (kept_alone : (t rest : List ℕ) → IsRegularText t → kept (t ++ 40 ∷ rest) ≡ t)
-      (kept_behind : (b : ℕ) (gap t rest : List ℕ) → is_gap (b ∷ gap) ≡ true → IsRegularText t → kept (b ∷ gap ++ (t ++ 40 ∷ rest)) ≡ 32 ∷ t)
+      (kept_after : (b : ℕ) (gap t rest : List ℕ) → is_gap (b ∷ gap) ≡ true → IsRegularText t → kept (b ∷ gap ++ (t ++ 40 ∷ rest)) ≡ 32 ∷ t)
       (lines : ℕ) (at : Place) (regular : IsRegularSyllable lines r) where
     abbrev codes : List ℕ
     codes = codes_of (characters_in (unit_at at r))
@@ -62,7 +62,7 @@ module _ (r : SyllableParts) where
     codes_are = ap codes_of (unit_placed at r) ∙ codes_placed at (spelled r)
 
     text_is : kept (score_unit (unit_at at r) []).text ≡ gap_kept r.gap ++ r.text
-    text_is = ap kept (ap codes_of (append-nil (characters_in (unit_at at r))) ∙ codes_are) ∙ text_kept kept_alone kept_behind r.gap r.text (notes_spelled r.nexts r.final) regular.blanks regular.text
+    text_is = ap kept (ap codes_of (append-nil (characters_in (unit_at at r))) ∙ codes_are) ∙ text_kept kept_alone kept_after r.gap r.text (notes_spelled r.nexts r.final) regular.blanks regular.text
 
     notes_are : (score_unit (unit_at at r) []).notes ≡ notes
     notes_are =

@@ -123,7 +123,7 @@ module _ (fresh_is : (at : Place) (t : List ℕ) → CountsFit at t → events_l
   module _ (ends : (at : Place) (t : List ℕ) → EndsOnce at t) (all_found : (at : Place) (t : List ℕ) → found_in (concat_of (events_by_point at t)) ≡ findings at t)
       (found_alone : (at : Place) (t rest : List ℕ) → IsRegularText t → findings at (t ++ 40 ∷ rest) ≡ [])
       (ends_alone : (t rest : List ℕ) → IsRegularText t → after_tokens (t ++ 40 ∷ rest) ≡ 40 ∷ rest)
-      (found_behind : (at : Place) (b : ℕ) (gap t rest : List ℕ) → is_gap (b ∷ gap) ≡ true → IsRegularText t → findings at (b ∷ gap ++ (t ++ 40 ∷ rest)) ≡ [])
+      (found_after : (at : Place) (b : ℕ) (gap t rest : List ℕ) → is_gap (b ∷ gap) ≡ true → IsRegularText t → findings at (b ∷ gap ++ (t ++ 40 ∷ rest)) ≡ [])
       (ends_after_it : (b : ℕ) (gap t rest : List ℕ) → is_gap (b ∷ gap) ≡ true → IsRegularText t → after_tokens (b ∷ gap ++ (t ++ 40 ∷ rest)) ≡ 40 ∷ rest)
       (at : Place) (r : SyllableParts) (regular : IsRegularSyllable lines r) (fits : CountsFit at (spelled r)) where
     abbrev us : List Char
@@ -142,8 +142,8 @@ module _ (fresh_is : (at : Place) (t : List ℕ) → CountsFit at t → events_l
         let part = text_from texts at (e.characters ++ e.end ∷ (ns ++ xs)) in
         let alone = text_from texts_by_definition at (e.characters ++ e.end ∷ ns) in
         let later = lists_by texts (text_from texts (after_mark (final_at next r.nexts r.final).end.place) xs) xs in
-        let there = text_there lines macros gabc_prefix nabc_prefix ends all_found found_alone ends_alone found_behind ends_after_it at r ns regular in
-        let split = split_of lines macros gabc_prefix nabc_prefix ends all_found found_alone ends_alone found_behind ends_after_it lines r.nexts regular.single in
+        let there = text_there lines macros gabc_prefix nabc_prefix ends all_found found_alone ends_alone found_after ends_after_it at r ns regular in
+        let split = split_of lines macros gabc_prefix nabc_prefix ends all_found found_alone ends_alone found_after ends_after_it lines r.nexts regular.single in
         ap (λ (ys : List Char). lists_by texts (text_from texts at ys) ys) (append_assoc e.characters (e.end ∷ ns) xs)
         ∙ ends_emitted texts lines macros part e.characters Opens e.end (ns ++ xs) tt (agree_ends lines alone part e.characters Opens alike there)
         ∙ ap (λ (ls : List (List BodyEvent)). ls ++ lists_by texts (snippet_from lines macros 0 e.end.place (ns ++ xs)) (ns ++ xs)) (sym (agree_through alone part e.characters alike))

@@ -38,7 +38,7 @@ use Rattle.gabc_score.proofs.building.BuilderHoldsDefinition.{gathered}
 use Rattle.gabc_score.proofs.order.FindingsOfParts.{found}
 use Rattle.gabc_score.proofs.regular_syllables.OneMore.{Fits, Gathers, stays_before}
 use Rattle.gabc_score.proofs.resuming.HeldIsRead.{neither_is}
-use Rattle.gabc_score.proofs.resuming.MadeOfEvents.{open_of, MadeAlike, made_behind, Counts, counts_from, size_of}
+use Rattle.gabc_score.proofs.resuming.MadeOfEvents.{open_of, MadeAlike, made_after, Counts, counts_from, size_of}
 use Rattle.gabc_score.proofs.resuming.ScoresAgree.{same_but}
 use Rattle.gabc_score.proofs.score_events.WhatPrecedes.{preceded_all}
 
@@ -134,7 +134,7 @@ module _ (g : Gathered) (spans : Spans) (nothing : g.builder ≡ nothing_open) (
   alike : (n : ℕ) → n ≤ length lists → MadeAlike (all_syllables before) (past n) (gathered 0 0 (events_onto (first_events lines macros at (characters_in u ++ []) n) before))
   alike n h =
       subst (λ (es : List BodyEvent). MadeAlike (all_syllables before) (past n) (gathered 0 0 (events_onto es before))) (sym (are n h))
-      (made_behind g spans nothing eu nlba none before leaves 0 (omega arith) (concat_of (take n lists)))
+      (made_after g spans nothing eu nlba none before leaves 0 (omega arith) (concat_of (take n lists)))
 
   all_are : past (length lists) ≡ with_all g (concat_of lists)
   all_are = ap (λ (ls : List (List BodyEvent)). with_all g (concat_of ls)) (take_all (length lists) lists (omega arith))
@@ -171,7 +171,7 @@ module _ (g : Gathered) (spans : Spans) (nothing : g.builder ≡ nothing_open) (
   sounds_on : is_some (with_all g (concat_of lists)).first_kind ≡ is_some g.first_kind
   sounds_on =
       let h = with_all g (concat_of lists) in
-      let builder : h.builder ≡ nothing_open = through.read.builder ∙ ap open_of one.nothing_behind in
+      let builder : h.builder ≡ nothing_open = through.read.builder ∙ ap open_of one.nothing_after in
       (preceded_all preceding g (concat_of lists) preceded_now).sounded
       ∙ ap (λ (ms : List UnplacedSyllable). (with_each preceding ms).sounded || sounds_in h.builder.kept h.builder.snippets) made
       ∙ ap (λ (o : OpenSyllable). (is_some g.first_kind || sounds m) || sounds_in o.kept o.snippets) builder
@@ -218,7 +218,7 @@ module _ (g : Gathered) (spans : Spans) (nothing : g.builder ≡ nothing_open) (
       let events = emitted_through lines macros at u [] before in
       let uncut : h.cut ≡ g.cut = stays_uncut (concat_of lists) before g (ap (λ (es : List BodyEvent). cut_of (events_onto es before)) (sym whole_is) ∙ one.uncut ∙ whole) in
       let read : ReadAlike after h = record {
-        builder = sym (through.read.builder ∙ ap open_of one.nothing_behind);
+        builder = sym (through.read.builder ∙ ap open_of one.nothing_after);
         eu = sym (through.read.eu ∙ one.open_eu);
         nlba = sym (through.read.nlba ∙ one.open_nlba);
       } in

@@ -94,11 +94,11 @@ module _ (m : ScoreMachine) (front : is_in_front m.body.part ≡ true) (first : 
       nothing : m.pair.gathered.builder ≡ nothing_open
       nothing = front_reads m.body.part m.pair.gathered.builder front h.counts
 
-      alike : ReadAlike m.pair.gathered (begun m.bounds.behind.spans)
-      alike = nothing_alike m.body.nabc_lines m.body.macros m.body.part m.bounds.behind.spans m.pair.gathered h.reading (ap (λ (o : OpenSyllable). o.kept) nothing)
+      alike : ReadAlike m.pair.gathered (begun m.bounds.after.spans)
+      alike = nothing_alike m.body.nabc_lines m.body.macros m.body.part m.bounds.after.spans m.pair.gathered h.reading (ap (λ (o : OpenSyllable). o.kept) nothing)
 
-      closed : m.bounds.behind.spans ≡ record { eu = false; nlba = false }
-      closed = ap (λ (p : Preceding). p.spans) (h.behind ∙ ap (with_each m.bounds.before) none ∙ h.within.outset first)
+      closed : m.bounds.after.spans ≡ record { eu = false; nlba = false }
+      closed = ap (λ (p : Preceding). p.spans) (h.after ∙ ap (with_each m.bounds.before) none ∙ h.within.outset first)
 
   in_body : IsInBody m → m.pair.gathered.made ≡ [] → (xs : List HeadEvent)
       → body_left m.limits (record (held_score m) { next = place }) (running_events_left (record m.body { part = moved_part place m.body.part }) (characters_in xs)) xs

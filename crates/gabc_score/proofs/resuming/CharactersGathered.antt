@@ -27,7 +27,7 @@ use Rattle.gabc_score.specs.machine.PartPushes.{ClosesLast}
 use Rattle.gabc_score.specs.machine.ReadAlone.{is_error, is_error_event, ReadsAlone}
 use Rattle.gabc_score.specs.machine.ReadsChar.{Gathers, Passes, ReadsChar, found_past, past_char, stops, goes}
 use Rattle.gabc_score.specs.machine.ScoreMachine.{IsInBody}
-use Rattle.gabc_score.specs.machine.ScoreStage.{placed_behind, with_held}
+use Rattle.gabc_score.specs.machine.ScoreStage.{placed_after, with_held}
 use Rattle.gabc_score.specs.machine.SlotPair.{SlotPairState}
 use Rattle.gabc_score.specs.machine.SyllableBuilder.{nothing_open}
 use Rattle.gabc_score.specs.witness.BodyStage.{BodyStageState}
@@ -101,7 +101,7 @@ module _ {old : ScoreMachine} {x : Char} {given left : BoundedList ScoreEvent} (
 
     -- n are given
     abbrev given_of : ℕ → List PlacedSyllable
-    given_of n = take n (placed_behind old.has_lent p.gathered.made)
+    given_of n = take n (placed_after old.has_lent p.gathered.made)
 
     left_none : length p.gathered.made - 1 ≡ 0
     left_none = none_left (length p.gathered.made) (let is = ap (λ (k : Gathered). length k.made) a.gathered in omega (arith, few, is))

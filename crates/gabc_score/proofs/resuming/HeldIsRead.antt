@@ -31,7 +31,7 @@ use Rattle.gabc_score.specs.machine.Gatherer.{Gathered}
 use Rattle.gabc_score.specs.machine.ReadAlone.{is_grave, is_error, is_fine, is_alone}
 use Rattle.gabc_score.specs.machine.SyllableBuilder.{nothing_open}
 use Rattle.gabc_score.proofs.building.EventsOfOnePoint.{with_all_append, found_on}
-use Rattle.gabc_score.proofs.resuming.MadeOfEvents.{Counts, counts_from, made_behind, size_of}
+use Rattle.gabc_score.proofs.resuming.MadeOfEvents.{Counts, counts_from, made_after, size_of}
 use Rattle.gabc_score.proofs.resuming.OpenSpans.{opened, leaves_open}
 use Rattle.gabc_score.proofs.score_events.WhatPrecedes.{not_some}
 use Rattle.gabc_score.proofs.building.EventsOfSyllableParts.{onto_append}
@@ -174,17 +174,17 @@ module _ (limits : Limits) (b : Before) (g : Gathered) (limit : g.limit ≡ limi
     made_then : (n : ℕ) → n ≤ length text → all_syllables (emitted_after b.nabc_lines b.macros first_place text before n) ≡ all_syllables before ++ (with_all g (concat_of (take n lists))).made
     made_then n h =
         ap (λ (es : List BodyEvent). all_syllables (events_onto es before)) (emitted n h)
-        ∙ (made_behind g b.spans nothing eu nlba none before leaves limits.syllable small (concat_of (take n lists))).made
+        ∙ (made_after g b.spans nothing eu nlba none before leaves limits.syllable small (concat_of (take n lists))).made
 
     made_whole : all_syllables (emitted_after b.nabc_lines b.macros first_place text before (length text)) ≡ all_syllables before ++ (with_all g (concat_of lists)).made
     made_whole =
         ap (λ (es : List BodyEvent). all_syllables (events_onto es before)) whole
-        ∙ (made_behind g b.spans nothing eu nlba none before leaves limits.syllable small (concat_of lists)).made
+        ∙ (made_after g b.spans nothing eu nlba none before leaves limits.syllable small (concat_of lists)).made
 
     kept_then : (n : ℕ) → n ≤ length text → kept_of (since_close (emitted_after b.nabc_lines b.macros first_place text before n)) ≡ (with_all g (concat_of (take n lists))).builder.kept
     kept_then n h =
         ap (λ (es : List BodyEvent). kept_of (since_close (events_onto es before))) (emitted n h)
-        ∙ sym (ap (λ o. o.kept) (made_behind g b.spans nothing eu nlba none before leaves limits.syllable small (concat_of (take n lists))).read.builder)
+        ∙ sym (ap (λ o. o.kept) (made_after g b.spans nothing eu nlba none before leaves limits.syllable small (concat_of (take n lists))).read.builder)
 
   counted : (n : ℕ) → Counts g (with_all g (concat_of (take n lists)))
   counted n = counts_from g none (concat_of (take n lists))

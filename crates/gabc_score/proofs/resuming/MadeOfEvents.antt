@@ -59,8 +59,8 @@ module _ (g : Gathered) (spans : Spans) (nothing : g.builder ≡ nothing_open) (
     made = sym (append-nil (all_syllables before)) ∙ ap (λ ms. all_syllables before ++ ms) (sym none);
   }
 
-  pub made_behind : (limit : ℕ) → limit < 2 ^ 64 - 1 → (es : List BodyEvent) → MadeAlike (all_syllables before) (with_all g es) (gathered limit 0 (events_onto es before))
-  made_behind limit small es = subst (MadeAlike (all_syllables before) (with_all g es)) (gathered_all limit 0 before small es) (all_made es (all_syllables before) g (gathered limit 0 before) (begin_alike limit 0))
+  pub made_after : (limit : ℕ) → limit < 2 ^ 64 - 1 → (es : List BodyEvent) → MadeAlike (all_syllables before) (with_all g es) (gathered limit 0 (events_onto es before))
+  made_after limit small es = subst (MadeAlike (all_syllables before) (with_all g es)) (gathered_all limit 0 before small es) (all_made es (all_syllables before) g (gathered limit 0 before) (begin_alike limit 0))
 
 -- ---- what they count
 

@@ -8,7 +8,7 @@ use Rattle.gabc_notes.specs.Table.{gabc}
 use Rattle.gabc_nabc.specs.Table.{nabc as nabc_table}
 use Rattle.gabc_score.specs.declared.body_stage.BodyPart.{BodyPart}
 use Rattle.gabc_score.specs.Events.{next_line}
-use Rattle.gabc_score.specs.machine.PartKeeps.{KeptParts, in_text, in_notes, barred, joined, line_behind, IsEndedText, IsEndedOn, AreEnded, PartKeeps}
+use Rattle.gabc_score.specs.machine.PartKeeps.{KeptParts, in_text, in_notes, barred, joined, line_after, IsEndedText, IsEndedOn, AreEnded, PartKeeps}
 use Rattle.gabc_score.specs.machine.ReadAgain.{IsNextIn, IsNext}
 use Rattle.gabc_score.specs.machine.StageLaws.{Again}
 use Rattle.gabc_score.proofs.resuming.PartsAreOne.{AreKept, IsKeptOn, Split, bar_first, in_text_alone, kept_by, no_bar, no_longer, no_notes, nothing_marked, part_of_whole, split_at}
@@ -34,8 +34,8 @@ module _ (again : Again) (lines macros : ℕ) where
   bar_next (suc line) s k c h same is = inr (is, subst (IsSnippet nabc_table) (sym same) h.whole)
 
   next_notes : (line : ℕ) (e f : List (List ℕ)) (k l : List ℕ) (c : ℕ) (rest : List ℕ) → AreEnded lines macros line e → AreEnded lines macros line f
-      → IsKeptOn again lines macros (line_behind lines line e) k → IsKeptOn again lines macros (line_behind lines line f) l
-      → barred e ++ (k ++ c ∷ rest) ≡ barred f ++ l → IsNextIn lines (line_behind lines line e) k c
+      → IsKeptOn again lines macros (line_after lines line e) k → IsKeptOn again lines macros (line_after lines line f) l
+      → barred e ++ (k ++ c ∷ rest) ≡ barred f ++ l → IsNextIn lines (line_after lines line e) k c
   next_notes line [] [] k l c rest he hf hk hl same = next_in line k rest c (subst (IsKeptOn again lines macros line) (sym same) hl)
   next_notes line [] (s ∷ f) k l c rest he hf hk hl same = by (split_at c 124 k s rest (barred f ++ l) (same ∙ bar_first again lines macros s f l))
     where
@@ -54,7 +54,7 @@ module _ (again : Again) (lines macros : ℕ) where
       (λ g. next_notes (next_line lines line) e f k l c rest he.1 hf.1 hk hl g)
     where
       by : Split 124 124 s t (barred e ++ (k ++ c ∷ rest)) (barred f ++ l)
-          → (barred e ++ (k ++ c ∷ rest) ≡ barred f ++ l → IsNextIn lines (line_behind lines (next_line lines line) e) k c) → IsNextIn lines (line_behind lines (next_line lines line) e) k c
+          → (barred e ++ (k ++ c ∷ rest) ≡ barred f ++ l → IsNextIn lines (line_after lines (next_line lines line) e) k c) → IsNextIn lines (line_after lines (next_line lines line) e) k c
       by (inl h) later = later h.2
       by (inr (inl h)) later = absurd (no_longer again lines macros line s t he.0 hf.0 h)
       by (inr (inr h)) later = absurd (no_longer again lines macros line t s hf.0 he.0 h)
@@ -85,7 +85,7 @@ module _ (again : Again) (lines macros : ℕ) where
       by (split_at 40 40 t u (barred e ++ (k ++ c ∷ rest)) (barred f ++ l)
       (sym (append_assoc (t ++ 40 ∷ barred e) k (c ∷ rest) ∙ append_assoc t (40 ∷ barred e) (k ++ c ∷ rest)) ∙ same ∙ append_assoc u (40 ∷ barred f) l))
     where
-      by : Split 40 40 t u (barred e ++ (k ++ c ∷ rest)) (barred f ++ l) → IsNextIn lines (line_behind lines 0 e) k c
+      by : Split 40 40 t u (barred e ++ (k ++ c ∷ rest)) (barred f ++ l) → IsNextIn lines (line_after lines 0 e) k c
       by (inl h) = next_notes 0 e f k l c rest hq.1.0 hp.1.0 hq.1.1 hp.1.1 h.2
       by (inr (inl h)) = absurd (no_notes again lines macros hp.0.stage t h.0 hq.0.ends (subst (text.Keeps hp.0.stage) h.1 hp.0.keeps))
       by (inr (inr h)) = absurd (no_notes again lines macros hq.0.stage u h.0 hp.0.ends (subst (text.Keeps hq.0.stage) h.1 hq.0.keeps))

@@ -9,7 +9,7 @@ use Rattle.gabc_score.specs.ScoreEvents.{first_place}
 use Rattle.gabc_score.specs.Syllable.{UnplacedSyllable, all_syllables}
 use Rattle.gabc_score.specs.machine.BodyBuilder.{with_all}
 use Rattle.gabc_score.specs.machine.PartKeeps.{begun}
-use Rattle.gabc_score.proofs.resuming.MadeOfEvents.{made_behind}
+use Rattle.gabc_score.proofs.resuming.MadeOfEvents.{made_after}
 
 module _ (limits : Limits) (b : Before) (text : List ℕ) where
   -- what it emits
@@ -24,7 +24,7 @@ module _ (limits : Limits) (b : Before) (text : List ℕ) where
   made_is m may =
       let r = may.read in
       append_cancel_left (all_syllables r.before) made (m ∷ [])
-      (sym (made_behind (begun b.spans) b.spans refl refl refl refl r.before r.leaves 0 (omega arith) events).made ∙ r.one)
+      (sym (made_after (begun b.spans) b.spans refl refl refl refl r.before r.leaves 0 (omega arith) events).made ∙ r.one)
 
   pub one_syllable : (m n : UnplacedSyllable) → MayBeHeld limits b text m → MayBeHeld limits b text n → m ≡ n
   one_syllable m n may other = first (sym (made_is m may) ∙ made_is n other)

@@ -17,7 +17,7 @@ use Rattle.gabc_score.specs.declared.body_stage.BodyPart.{BodyPart}
 use Rattle.gabc_score.specs.declared.body_stage.BodyPart.TheVariants as part
 use Rattle.gabc_score.specs.Events.{next_line}
 use Rattle.gabc_score.specs.machine.StageLaws.{Again}
-use Rattle.gabc_score.specs.machine.PartKeeps.{KeptParts, in_text, in_notes, barred, joined, line_behind, IsEndedText, IsEndedOn, AreEnded, PartKeeps}
+use Rattle.gabc_score.specs.machine.PartKeeps.{KeptParts, in_text, in_notes, barred, joined, line_after, IsEndedText, IsEndedOn, AreEnded, PartKeeps}
 
 -- ---- two texts with a mark in them
 
@@ -88,7 +88,7 @@ module _ (again : Again) (lines macros : ℕ) where
   pub bar_first : (s : List ℕ) (earlier : List (List ℕ)) (k : List ℕ) → barred (s ∷ earlier) ++ k ≡ s ++ 124 ∷ (barred earlier ++ k)
   bar_first s earlier k = append_assoc (s ++ 124 ∷ []) (barred earlier) k ∙ append_assoc s (124 ∷ []) (barred earlier ++ k)
 
-  one_notes : (line : ℕ) (e f : List (List ℕ)) (k l : List ℕ) → AreEnded lines macros line e → AreEnded lines macros line f → IsKeptOn (line_behind lines line e) k → IsKeptOn (line_behind lines line f) l
+  one_notes : (line : ℕ) (e f : List (List ℕ)) (k l : List ℕ) → AreEnded lines macros line e → AreEnded lines macros line f → IsKeptOn (line_after lines line e) k → IsKeptOn (line_after lines line f) l
       → barred e ++ k ≡ barred f ++ l → (e ≡ f) × (k ≡ l)
   one_notes line [] [] k l he hf hk hl same = (refl, same)
   one_notes line [] (t ∷ f) k l he hf hk hl same = absurd (no_bar line t (barred f ++ l) hf.0 (subst (IsKeptOn line) (same ∙ bar_first t f l) hk))
@@ -108,7 +108,7 @@ module _ (again : Again) (lines macros : ℕ) where
   -- parts that stand
   abbrev pub AreKept : KeptParts → Type 0
   AreKept (in_text k) = (k ≡ []) ⊎ ((s : TextStage) × text.Keeps s k)
-  AreKept (in_notes t earlier k) = IsEndedText t × (AreEnded lines macros 0 earlier × IsKeptOn (line_behind lines 0 earlier) k)
+  AreKept (in_notes t earlier k) = IsEndedText t × (AreEnded lines macros 0 earlier × IsKeptOn (line_after lines 0 earlier) k)
 
   pub kept_by : (b : BodyPart) (p : KeptParts) → PartKeeps lines macros b p → AreKept p
   kept_by part.Comment (in_text k) h = inl (text_is k h)

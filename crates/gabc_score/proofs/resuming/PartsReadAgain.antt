@@ -207,8 +207,8 @@ module _ (lines macros : ℕ) (opened : Place) (s t : NoteStage) (x : Char) (es 
   abbrev GoesOn : List ℕ → Bool → Type 0
   GoesOn more comment = GoesWith es (part.Notes opened s) (part.Notes opened t) x.place more comment
 
-  gabc_goes : (k more : List ℕ) (comment : Bool) → Keep k → notes.is_end_behind split k (tells.comment_of s) x.c ≡ false → notes.kept_behind k (tells.comment_of s) x.c ≡ k ++ more
-      → notes.is_comment_behind k (tells.comment_of s) x.c ≡ comment → GoesOn more comment
+  gabc_goes : (k more : List ℕ) (comment : Bool) → Keep k → notes.is_end_after split k (tells.comment_of s) x.c ≡ false → notes.kept_after k (tells.comment_of s) x.c ≡ k ++ more
+      → notes.is_comment_after k (tells.comment_of s) x.c ≡ comment → GoesOn more comment
   gabc_goes k more comment keeps goes_on kept is =
       let g = on.goes split macros k keeps goes_on in
       record {
@@ -218,15 +218,15 @@ module _ (lines macros : ℕ) (opened : Place) (s t : NoteStage) (x : Char) (es 
         opener = λ o e. by (in_raw (k ++ kept_of es)) (tells.opener_of s) o (sym g.opener ∙ e);
       }
     where
-      by : (b : Bool) (q : Option Place) (o : Place) → notes.opener_behind b q x.place ≡ Some o → (q ≡ Some o) ⊎ (x.place ≡ o)
+      by : (b : Bool) (q : Option Place) (o : Place) → notes.opener_after b q x.place ≡ Some o → (q ≡ Some o) ⊎ (x.place ≡ o)
       by false q o e = absurd (none_some o e)
       by true (Some q) o e = inl e
       by true None o e = inr (sym (some_same x.place o e))
 
   gabc_again : (k : List ℕ) → Keep k → tells.comment_of s ≡ false → notes.IsKeptAgain split k x.c → GoesOn (x.c ∷ []) false
   gabc_again k keeps plain is =
-      gabc_goes k (x.c ∷ []) false keeps (ap (λ (b : Bool). notes.is_end_behind split k b x.c) plain ∙ is.goes_on) (ap (λ (b : Bool). notes.kept_behind k b x.c) plain ∙ is.kept)
-      (ap (λ (b : Bool). notes.is_comment_behind k b x.c) plain ∙ is.no_comment)
+      gabc_goes k (x.c ∷ []) false keeps (ap (λ (b : Bool). notes.is_end_after split k b x.c) plain ∙ is.goes_on) (ap (λ (b : Bool). notes.kept_after k b x.c) plain ∙ is.kept)
+      (ap (λ (b : Bool). notes.is_comment_after k b x.c) plain ∙ is.no_comment)
 
   gabc_percent : (k : List ℕ) → Keep k → tells.comment_of s ≡ false → x.c ≡ 37 → in_raw k ≡ false → GoesOn [] true
   gabc_percent k keeps plain is raw =
@@ -234,16 +234,16 @@ module _ (lines macros : ℕ) (opened : Place) (s t : NoteStage) (x : Char) (es 
       (ap (λ (b : Bool). not b && (not (in_raw k) && ((x.c == 41) || (split && (x.c == 124))))) begins)
       (ap (λ (b : Bool). if not b && is_viable gabc (k ++ x.c ∷ []) then k ++ x.c ∷ [] else k) begins ∙ sym (append-nil k)) begins
     where
-      begins : notes.is_comment_behind k (tells.comment_of s) x.c ≡ true
+      begins : notes.is_comment_after k (tells.comment_of s) x.c ≡ true
       begins =
-          ap (λ (b : Bool). notes.is_comment_behind k b x.c) plain
+          ap (λ (b : Bool). notes.is_comment_after k b x.c) plain
           ∙ ap (λ (c : ℕ). not (c == 10) && (false || (not (in_raw k) && (c == 37)))) is
           ∙ ap (λ (r : Bool). not (37 == 10) && (false || (not r && (37 == 37)))) raw
 
   gabc_bar : (k : List ℕ) → Keep k → tells.comment_of s ≡ false → x.c ≡ 124 → split ≡ true → IsSnippet gabc k → notes.EndsAfter k x.c es
   gabc_bar k keeps plain is splits snippet = on.ends split macros k keeps (
-      ap (λ (b : Bool). notes.is_end_behind split k b x.c) plain
-      ∙ ap (λ (c : ℕ). notes.is_end_behind split k false c) is
+      ap (λ (b : Bool). notes.is_end_after split k b x.c) plain
+      ∙ ap (λ (c : ℕ). notes.is_end_after split k false c) is
       ∙ ap (λ (r : Bool). not (not (124 == 10) && (false || (not r && (124 == 37)))) && (not r && ((124 == 41) || (split && (124 == 124))))) (outside k snippet)
       ∙ ap (λ (b : Bool). (124 == 41) || (b && (124 == 124))) splits)
 
@@ -268,7 +268,7 @@ module _ (lines macros line : ℕ) (opened : Place) (s t : NabcStage) (x : Char)
   abbrev NabcGoesOn : List ℕ → Bool → Type 0
   NabcGoesOn more comment = GoesWith es (part.Nabc line opened s) (part.Nabc line opened t) x.place more comment
 
-  nabc_goes : (k more : List ℕ) (comment : Bool) → nabc.Keeps s k → nabc.is_end_behind (nabc.comment_of s) x.c ≡ false → nabc.kept_behind k (nabc.comment_of s) x.c ≡ k ++ more
+  nabc_goes : (k more : List ℕ) (comment : Bool) → nabc.Keeps s k → nabc.is_end_after (nabc.comment_of s) x.c ≡ false → nabc.kept_after k (nabc.comment_of s) x.c ≡ k ++ more
       → comment_in (nabc.comment_of s) x.c ≡ comment → NabcGoesOn more comment
   nabc_goes k more comment keeps goes_on kept is =
       let g = on.goes k keeps goes_on in
@@ -281,17 +281,17 @@ module _ (lines macros line : ℕ) (opened : Place) (s t : NabcStage) (x : Char)
 
   nabc_again : (k : List ℕ) → nabc.Keeps s k → nabc.comment_of s ≡ false → nabc.IsKeptAgain k x.c → NabcGoesOn (x.c ∷ []) false
   nabc_again k keeps plain is =
-      nabc_goes k (x.c ∷ []) false keeps (ap (λ (b : Bool). nabc.is_end_behind b x.c) plain ∙ is.goes_on) (ap (λ (b : Bool). nabc.kept_behind k b x.c) plain ∙ is.kept)
+      nabc_goes k (x.c ∷ []) false keeps (ap (λ (b : Bool). nabc.is_end_after b x.c) plain ∙ is.goes_on) (ap (λ (b : Bool). nabc.kept_after k b x.c) plain ∙ is.kept)
       (ap (λ (b : Bool). comment_in b x.c) plain ∙ is.no_comment)
 
   nabc_percent : (k : List ℕ) → nabc.Keeps s k → nabc.comment_of s ≡ false → x.c ≡ 37 → NabcGoesOn [] true
   nabc_percent k keeps plain is =
-      nabc_goes k [] true keeps (ap (λ (b : Bool). nabc.is_end_behind b x.c) plain ∙ ap (λ (c : ℕ). nabc.is_end_behind false c) is)
-      (ap (λ (b : Bool). nabc.kept_behind k b x.c) plain ∙ ap (λ (c : ℕ). nabc.kept_behind k false c) is ∙ sym (append-nil k))
+      nabc_goes k [] true keeps (ap (λ (b : Bool). nabc.is_end_after b x.c) plain ∙ ap (λ (c : ℕ). nabc.is_end_after false c) is)
+      (ap (λ (b : Bool). nabc.kept_after k b x.c) plain ∙ ap (λ (c : ℕ). nabc.kept_after k false c) is ∙ sym (append-nil k))
       (ap (λ (b : Bool). comment_in b x.c) plain ∙ ap (λ (c : ℕ). comment_in false c) is)
 
   nabc_bar : (k : List ℕ) → nabc.Keeps s k → nabc.comment_of s ≡ false → x.c ≡ 124 → nabc.EndsAfter k x.c es
-  nabc_bar k keeps plain is = on.ends k keeps (ap (λ (b : Bool). nabc.is_end_behind b x.c) plain ∙ ap (λ (c : ℕ). nabc.is_end_behind false c) is)
+  nabc_bar k keeps plain is = on.ends k keeps (ap (λ (b : Bool). nabc.is_end_after b x.c) plain ∙ ap (λ (c : ℕ). nabc.is_end_after false c) is)
 
   nabc_next : (l : ℕ) (k : List ℕ) → l ≢ 0 → nabc.Keeps s k → nabc.comment_of s ≡ false → ReadsNext lines l x (part.Nabc line opened s) (part.Nabc line opened t) es k
   nabc_next zero k some keeps plain = absurd (some refl)
@@ -319,9 +319,9 @@ module _ (lines macros : ℕ) {x : Char} {line : ℕ} {opened : Place} {before s
       → ((u : List ℕ) (earlier : List (List ℕ)) (k : List ℕ) → x.c ≡ 124 → EndsWhole es x.c k → ReadsIn after (in_notes u earlier k) (x.c ∷ []) false) → ReadsAgain lines macros x before after (of_notes line opened es)
   snippet_reads after goes ends = record {
     next = λ p keeps plain is. in_snippet lines macros s (λ (p : KeptParts). IsNext lines p x.c → ReadsIn after p (x.c ∷ []) false)
-        (λ u earlier k behind here is. by u earlier k ((reads_next lines macros s u earlier k here plain).next (subst (λ (l : ℕ). IsNextIn lines l k x.c) behind.line_is is))) p keeps is;
+        (λ u earlier k later here is. by u earlier k ((reads_next lines macros s u earlier k here plain).next (subst (λ (l : ℕ). IsNextIn lines l k x.c) later.line_is is))) p keeps is;
     comment = λ p keeps plain is begins. in_snippet lines macros s (λ (p : KeptParts). BeginsComment lines p → ReadsIn after p [] true)
-        (λ u earlier k behind here begins. goes u earlier k [] true ((reads_next lines macros s u earlier k here plain).comment is (subst (λ (l : ℕ). BeginsIn l k) behind.line_is begins))) p keeps begins;
+        (λ u earlier k later here begins. goes u earlier k [] true ((reads_next lines macros s u earlier k here plain).comment is (subst (λ (l : ℕ). BeginsIn l k) later.line_is begins))) p keeps begins;
   }
     where
       by : (u : List ℕ) (earlier : List (List ℕ)) (k : List ℕ) → GoesWith es before same x.place (x.c ∷ []) false ⊎ ((x.c ≡ 124) × EndsWhole es x.c k) → ReadsIn after (in_notes u earlier k) (x.c ∷ []) false

@@ -34,9 +34,9 @@ told_again old m next same run now is openers text told body =
     record { counts = rw (run.limits, run.lines, run.macros, same.bounds) t.counts; next = is; openers = openers; reading = rw now at text; held = rw same.made t.held }
 
 -- so it is where nothing was read yet
-pub told_behind : (limits : Limits) (before : Before) (s : ScoreStageState) → IsAfterSyllables limits before s → AreCountsWithin limits before.nabc_lines before.macros before.canonical → ReportsText s
+pub told_after : (limits : Limits) (before : Before) (s : ScoreStageState) → IsAfterSyllables limits before s → AreCountsWithin limits before.nabc_lines before.macros before.canonical → ReportsText s
 unfolding fresh_events.events_left
-told_behind limits before s stands counts body =
+told_after limits before s stands counts body =
     let b = stands.begins in
     let is : before_with s.body s.before ≡ before = before_is_told s.part score_part.Body (before_with s.body s.before) before body refl stands.before_is in
     record {

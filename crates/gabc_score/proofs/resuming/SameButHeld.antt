@@ -34,7 +34,7 @@ use Rattle.gabc_score.specs.machine.BodyBuilder.{with_all, code_in, end_fault, e
 use Rattle.gabc_score.specs.machine.Gatherer.{Gathered, first_past, span_of, with_event, with_syllable, with_no_notes, with_last}
 use Rattle.gabc_score.specs.machine.HeldAside.{AreInputsAlike, AreMadeAlike, IsEquivalentAside}
 use Rattle.gabc_score.specs.machine.SyllableBuilder.{past_snippet}
-use Rattle.gabc_score.specs.machine.ScoreStage.{HeldScore, placed_behind, held_outputs, stop_outputs, point_outputs, with_held, score_past, end_outputs_by, end_outputs, left_by, body_left}
+use Rattle.gabc_score.specs.machine.ScoreStage.{HeldScore, placed_after, held_outputs, stop_outputs, point_outputs, with_held, score_past, end_outputs_by, end_outputs, left_by, body_left}
 
 -- ---- which came first, a note or a clef
 
@@ -139,12 +139,12 @@ module _ (m n : UnplacedSyllable) where
   taken_same (suc k) (o ∷ os) (p ∷ ps) h = (h.0, taken_same k os ps h.1)
   taken_same (suc k) _ _ h = absurd h
 
-  placed_same : (l : Bool) (ms ns : List UnplacedSyllable) → AreMadeAlike m n l ms ns → AreSamePlaced (placed_behind l ms) (placed_behind l ns)
+  placed_same : (l : Bool) (ms ns : List UnplacedSyllable) → AreMadeAlike m n l ms ns → AreSamePlaced (placed_after l ms) (placed_after l ns)
   placed_same l ms ns (inl e) = rw e (outputs_same _)
   placed_same l ms ns (inr s) = rw (s.one, s.other) (inr (refl, (refl, ap (λ (x : Bool). position_by x (next_starts s.rest)) s.twins)), outputs_same _)
 
-  behind_found : (fs gs : List Finding) (os ps : List PlacedSyllable) → gs ≡ fs → AreSamePlaced os ps → AreSameOutputs m n (outputs_of fs os) (outputs_of gs ps)
-  behind_found fs gs os ps e h =
+  after_found : (fs gs : List Finding) (os ps : List PlacedSyllable) → gs ≡ fs → AreSamePlaced os ps → AreSameOutputs m n (outputs_of fs os) (outputs_of gs ps)
+  after_found fs gs os ps e h =
       subst (λ (x : List Finding). AreSameOutputs m n (outputs_of fs os) (outputs_of x ps)) (sym e)
       (same_append (map (λ f. Found f) fs) (map (λ f. Found f) fs) (map (λ s. Syllable s) os) (map (λ s. Syllable s) ps) (outputs_same (map (λ f. Found f) fs)) h)
 
@@ -189,11 +189,11 @@ module _ (m n : UnplacedSyllable) where
 
       by : (ms ns : List UnplacedSyllable) → AreMadeAlike m n l ms ns → AreMadeAlike m n (l || nat_lt 1 (length ms)) (drop (length ms - 1) ms) (drop (length ns - 1) ns)
       by ms ns (inl e) = inl (ap (λ (ks : List UnplacedSyllable). drop (length ks - 1) ks) e)
-      by ms ns (inr s) = rw (s.one, s.other) (behind s.rest)
+      by ms ns (inr s) = rw (s.one, s.other) (after s.rest)
         where
-          behind : (rest : List UnplacedSyllable) → AreMadeAlike m n (l || nat_lt 1 (length (m ∷ rest))) (drop (length (m ∷ rest) - 1) (m ∷ rest)) (drop (length (n ∷ rest) - 1) (n ∷ rest))
-          behind [] = inr (record { rest = []; one = refl; other = refl; twins = rw or-false s.twins })
-          behind (y ∷ ys) = inl (dropped n y ys ∙ sym (dropped m y ys))
+          after : (rest : List UnplacedSyllable) → AreMadeAlike m n (l || nat_lt 1 (length (m ∷ rest))) (drop (length (m ∷ rest) - 1) (m ∷ rest)) (drop (length (n ∷ rest) - 1) (n ∷ rest))
+          after [] = inr (record { rest = []; one = refl; other = refl; twins = rw or-false s.twins })
+          after (y ∷ ys) = inl (dropped n y ys ∙ sym (dropped m y ys))
 
   stop_same : (s : HeldScore) (b : Gathered) (fault : Fault) → IsEquivalentAside m n s.has_lent s.gathered b → AreSameOutputs m n (stop_outputs s fault) (stop_outputs (record s { gathered = b }) fault)
   stop_same s b fault h = same_append (held_outputs s) (held_outputs (record s { gathered = b })) (Stop fault ∷ []) (Stop fault ∷ []) (placed_same s.has_lent s.gathered.made b.made h.made) (refl, tt)
@@ -221,11 +221,11 @@ module _ (m n : UnplacedSyllable) where
 
         by : (o : Option Fault) → AreSameOutputs m n (end_outputs_by s now o) (end_outputs_by (record s { gathered = b }) now o)
         by (Some fault) = stop_same s b fault h
-        by None = same_append _ _ (End ∷ []) (End ∷ []) (behind_found _ _ _ _ found_same (placed_same s.has_lent _ _ v.made)) (tt, tt)
+        by None = same_append _ _ (End ∷ []) (End ∷ []) (after_found _ _ _ _ found_same (placed_same s.has_lent _ _ v.made)) (tt, tt)
 
     point_same : (x : Char) → AreSameOutputs m n (point_outputs s x now) (point_outputs (record s { gathered = b }) x now)
     point_same x =
-        behind_found _ _ _ _ (ap (λ fs. findings_now now ++ fs) (first_same s.has_lent s.gathered b now x.place h))
+        after_found _ _ _ _ (ap (λ fs. findings_now now ++ fs) (first_same s.has_lent s.gathered b now x.place h))
         (rw (length_same s.has_lent g.made (with_all b now).made aside_now.made).0 (taken_same (length g.made - 1) _ _ (placed_same s.has_lent g.made (with_all b now).made aside_now.made)))
 
   -- What a body will still give is the same, but for the syllable that is held.

@@ -64,8 +64,8 @@ same_but g h limit read follows total over cut = rw (limit, read.builder, read.e
 
 -- ---- syllables that say the same, after the same
 
-says_behind : (p : Preceding) (m n : UnplacedSyllable) → IsEquivalentSyllable (p.syllables == 0) m n → with_each p (m ∷ []) ≡ with_each p (n ∷ [])
-says_behind p m n s = rw (s.canonical, s.eu, s.nlba, s.sounds) refl
+says_after : (p : Preceding) (m n : UnplacedSyllable) → IsEquivalentSyllable (p.syllables == 0) m n → with_each p (m ∷ []) ≡ with_each p (n ∷ [])
+says_after p m n s = rw (s.canonical, s.eu, s.nlba, s.sounds) refl
 
 -- held syllables, at most one each, that are equivalent
 abbrev pub HeldAlike : Bool → List UnplacedSyllable → List UnplacedSyllable → Type 0
@@ -73,7 +73,7 @@ HeldAlike first ms ns = (length ms ≤ 1) × ((length ns ≤ 1) × HoldTheSame f
 
 each_same : (p : Preceding) (ms ns : List UnplacedSyllable) → HeldAlike (p.syllables == 0) ms ns → with_each p ms ≡ with_each p ns
 each_same p [] [] h = refl
-each_same p (m ∷ []) (n ∷ []) h = says_behind p m n h.1.1
+each_same p (m ∷ []) (n ∷ []) h = says_after p m n h.1.1
 each_same p (m ∷ k ∷ ms) ns h = absurd (omega (arith, h.0))
 each_same p (m ∷ []) (n ∷ k ∷ ns) h = absurd (omega (arith, h.1.0))
 each_same p _ _ h = absurd h.1.1
@@ -115,22 +115,22 @@ module _ (again : Again) (a b : ScoreMachine) (ra : IsInBody a) (rb : IsInBody b
   bodies_keep = record { parts = ra.reading.parts; one = ra.reading.keeps; other = rw same_parts other_keeps }
 
   module _ (next : a.next ≡ b.next) (alike : HeldAlike (a.bounds.before.syllables == 0) a.pair.gathered.made b.pair.gathered.made) where
-    behind_same : with_each a.bounds.before a.pair.gathered.made ≡ with_each b.bounds.before b.pair.gathered.made
-    behind_same = each_same a.bounds.before a.pair.gathered.made b.pair.gathered.made alike ∙ ap (λ (p : Preceding). with_each p b.pair.gathered.made) same_before
+    after_same : with_each a.bounds.before a.pair.gathered.made ≡ with_each b.bounds.before b.pair.gathered.made
+    after_same = each_same a.bounds.before a.pair.gathered.made b.pair.gathered.made alike ∙ ap (λ (p : Preceding). with_each p b.pair.gathered.made) same_before
 
-    same_spans : a.bounds.behind.spans ≡ b.bounds.behind.spans
-    same_spans = ap (λ (p : Preceding). p.spans) (ra.behind ∙ behind_same ∙ sym rb.behind)
+    same_spans : a.bounds.after.spans ≡ b.bounds.after.spans
+    same_spans = ap (λ (p : Preceding). p.spans) (ra.after ∙ after_same ∙ sym rb.after)
 
     read_alike : ReadAlike a.pair.gathered b.pair.gathered
     read_alike = record { builder = ra.reading.said.builder ∙ ap (λ (k : Gathered). k.builder) said ∙ sym rb.reading.said.builder; eu = ra.reading.said.eu ∙ ap (λ (k : Gathered). k.eu) said ∙ sym rb.reading.said.eu; nlba = ra.reading.said.nlba ∙ ap (λ (k : Gathered). k.nlba) said ∙ sym rb.reading.said.nlba }
       where
-        said : with_all (begun a.bounds.behind.spans) (said_by a.body.nabc_lines ra.reading.parts) ≡ with_all (begun b.bounds.behind.spans) (said_by b.body.nabc_lines rb.reading.parts)
+        said : with_all (begun a.bounds.after.spans) (said_by a.body.nabc_lines ra.reading.parts) ≡ with_all (begun b.bounds.after.spans) (said_by b.body.nabc_lines rb.reading.parts)
         said = rw (same_spans, same_lines, same_parts) refl
 
     sounds_same : is_some a.pair.gathered.first_kind ≡ is_some b.pair.gathered.first_kind
     sounds_same =
         ra.preceded.sounded
-        ∙ ap (λ (p : Preceding). p.sounded || sounds_in a.pair.gathered.builder.kept a.pair.gathered.builder.snippets) behind_same
+        ∙ ap (λ (p : Preceding). p.sounded || sounds_in a.pair.gathered.builder.kept a.pair.gathered.builder.snippets) after_same
         ∙ ap (λ (o : OpenSyllable). (with_each b.bounds.before b.pair.gathered.made).sounded || sounds_in o.kept o.snippets) read_alike.builder
         ∙ sym rb.preceded.sounded
 
@@ -143,8 +143,8 @@ module _ (again : Again) (a b : ScoreMachine) (ra : IsInBody a) (rb : IsInBody b
       made = made;
       same =
           same_but a.pair.gathered b.pair.gathered (ra.rests.limit ∙ ap (λ (l : Limits). l.syllable) same_limits ∙ sym rb.rests.limit) read_alike
-          (ra.preceded.follows ∙ ap (λ (p : Preceding). nat_lt 0 p.syllables) behind_same ∙ sym rb.preceded.follows)
-          (ra.preceded.total ∙ ap (λ (p : Preceding). p.canonical) behind_same ∙ sym rb.preceded.total) (ra.rests.over ∙ sym rb.rests.over) (ra.reading.uncut ∙ sym rb.reading.uncut);
+          (ra.preceded.follows ∙ ap (λ (p : Preceding). nat_lt 0 p.syllables) after_same ∙ sym rb.preceded.follows)
+          (ra.preceded.total ∙ ap (λ (p : Preceding). p.canonical) after_same ∙ sym rb.preceded.total) (ra.rests.over ∙ sym rb.rests.over) (ra.reading.uncut ∙ sym rb.reading.uncut);
     }
 
     abbrev left_of_one : List HeadEvent → List (List ScoreOutput)

@@ -23,7 +23,7 @@ use Rattle.gabc_score.specs.declared.body_stage.BodyPart.TheVariants as part
 use Rattle.gabc_score.specs.declared.body_tells.Openers.{Openers}
 use Rattle.gabc_score.specs.Events.{PartAhead, InText, InNotes, events_from}
 use Rattle.gabc_score.specs.ScoreReports.{IsAt, is_in_comment, is_in_front, openers_of}
-use Rattle.gabc_score.specs.machine.PartKeeps.{KeptParts, in_text, in_notes, AreBehind, PartKeeps}
+use Rattle.gabc_score.specs.machine.PartKeeps.{KeptParts, in_text, in_notes, AreAfter, PartKeeps}
 use Rattle.gabc_score.specs.witness.BodyStage.{BodyStageState, part_with, running_events_left, texts_by_stage}
 
 -- two parts keep the last of the same parts
@@ -60,7 +60,7 @@ some_is : (p q : Place) → Some p ≡ Some q → p ≡ q
 some_is p q e = cc e
 
 -- GABC and NABC are not read in one line
-two_lines : {A : Type 0} (lines macros line : ℕ) (t : List ℕ) (earlier : List (List ℕ)) → AreBehind lines macros 0 t earlier → AreBehind lines macros line t earlier → (line ≡ 0 → ⊥) → A
+two_lines : {A : Type 0} (lines macros line : ℕ) (t : List ℕ) (earlier : List (List ℕ)) → AreAfter lines macros 0 t earlier → AreAfter lines macros line t earlier → (line ≡ 0 → ⊥) → A
 two_lines lines macros line t earlier h g other = absurd (other (sym g.line_is ∙ h.line_is))
 
 -- Stages over a part that keep one text and report the same emit the same.

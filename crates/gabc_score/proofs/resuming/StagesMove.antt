@@ -71,13 +71,13 @@ module _ (m : ScoreMachine) (at : Place) (b : BodyStageState) (is : b ≡ record
     counts = subst (λ (k : BodyStageState). CountsHold k.part m.pair.gathered.builder) (sym is) (counts_moved at m.body.part m.pair.gathered.builder h.counts);
     kept = h.kept;
     preceded = h.preceded;
-    behind = h.behind;
+    after = h.after;
     lent = h.lent;
     code = h.code;
     reading = record {
       parts = h.reading.parts;
       keeps = keeps b.nabc_lines b.macros h.reading.parts (subst (λ (k : BodyStageState). PartKeeps k.nabc_lines k.macros m.body.part h.reading.parts) (sym is) h.reading.keeps);
-      said = subst (λ (k : BodyStageState). ReadAlike m.pair.gathered (with_all (begun m.bounds.behind.spans) (said_by k.nabc_lines h.reading.parts))) (sym is) h.reading.said;
+      said = subst (λ (k : BodyStageState). ReadAlike m.pair.gathered (with_all (begun m.bounds.after.spans) (said_by k.nabc_lines h.reading.parts))) (sym is) h.reading.said;
       kept = h.reading.kept;
       from = h.reading.from;
       uncut = h.reading.uncut;

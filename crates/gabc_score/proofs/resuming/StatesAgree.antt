@@ -77,7 +77,7 @@ module _ (again : Again) where
       fronts_give xs line =
           given_alike xs
           (fronts_emit law a.body b.body (ap (λ (k : Before). k.nabc_lines) before) (ap (λ (k : Before). k.macros) before) front
-          (nothing_kept b.body.nabc_lines b.body.macros b.body.part b.bounds.behind.spans b.pair.gathered rb.body.reading (sym reading ∙ nothing))
+          (nothing_kept b.body.nabc_lines b.body.macros b.body.part b.bounds.after.spans b.pair.gathered rb.body.reading (sym reading ∙ nothing))
           comment b.next xs alike.other_stands (subst (λ (p : Place). AreInLine p xs) alike.next line))
         where
           nothing : a.pair.gathered.builder.kept ≡ []

@@ -62,7 +62,7 @@ module _ (m : ScoreMachine) (rests : IsInBody m) (p : Preceding) (some : 1 ≤ p
   -- It rests, whatever slots it has, in which this is gathered.
   pub rests_next : (pair : SlotPairState) (body : BodyStageState) (next at : Place) → pair.gathered ≡ before_next → is_made pair.used ≡ false → body ≡ record m.body { part = Text (fresh_stage at) }
       → CountsHold body.part nothing_open → ((lines macros : ℕ) → PartKeeps lines macros body.part (in_text []))
-      → IsInBody (record m { pair = pair; has_lent = true; bounds = record { before = p; behind = p }; body = body; next = next })
+      → IsInBody (record m { pair = pair; has_lent = true; bounds = record { before = p; after = p }; body = body; next = next })
   rests_next pair body next at is used text counts keeps = record {
     rests = record {
       none = rests.rests.none;
@@ -75,7 +75,7 @@ module _ (m : ScoreMachine) (rests : IsInBody m) (p : Preceding) (some : 1 ≤ p
     counts = subst (CountsHold body.part) (sym (ap (λ (g : Gathered). g.builder) is ∙ nothing)) counts;
     kept = (let k = ap (λ (g : Gathered). length g.builder.kept) is ∙ ap (λ (o : OpenSyllable). length o.kept) nothing in omega (arith, k));
     preceded = subst (IsPreceded p) (sym is) preceded_next;
-    behind = ap (λ (g : Gathered). with_each p g.made) (sym is);
+    after = ap (λ (g : Gathered). with_each p g.made) (sym is);
     lent = sym (grind (arith, nat_tests, some));
     code = ap (code_in m.limits) is ∙ none_passed m.limits before_next (record { kept = (let k = ap (λ (o : OpenSyllable). length o.kept) nothing in omega (arith, k)); over = rests.rests.over; file = λ some. absurd (cc some) });
     reading = subst (IsReading body.nabc_lines body.macros body.part p.spans) (sym is)

@@ -98,10 +98,10 @@ module _ (m : ScoreMachine) (at : Place) (t : List ℕ) (given : List PlacedSyll
         counts = subst (CountsHold body.part) (sym nothing) counts;
         kept = rested.kept;
         preceded = rested.preceded;
-        behind = rested.behind;
+        after = rested.after;
         lent = rested.lent;
         code = rested.code;
-        reading = begins_again _ _ read.body.part body.part read.bounds.behind.spans read.pair.gathered (rw (lines_are, macros_are) rested.reading) nothing (keeps _ _);
+        reading = begins_again _ _ read.body.part body.part read.bounds.after.spans read.pair.gathered (rw (lines_are, macros_are) rested.reading) nothing (keeps _ _);
         units = rw lines_are rested.units;
         within = rested.within;
         front = λ e. absurd (true≢false (sym e ∙ ap (λ (b : BodyStageState). is_in_front b.part) begins));

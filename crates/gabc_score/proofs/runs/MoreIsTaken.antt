@@ -42,9 +42,9 @@ module _ (m : ScoreMachine) (at : Place) (text : List ℕ) (reached then : Reach
     (steady : IsSteady m.body.nabc_lines m.pair.gathered.first_kind found.is.syllable) where
   before_is : before_in m then ≡ past_found (before_in m reached) reached.last
   before_is =
-      ap (λ n. record { syllables = n; canonical = then.canonical; spans = then.spans; sounded = m.bounds.behind.sounded }) (omega (arith, count))
-      ∙ ap (λ n. record { syllables = min (min (m.bounds.behind.syllables + reached.count) most + 1) most; canonical = n; spans = then.spans; sounded = m.bounds.behind.sounded }) canonical
-      ∙ ap (λ (q : Spans). record { syllables = min (min (m.bounds.behind.syllables + reached.count) most + 1) most; canonical = reached.canonical + canonical_length reached.last; spans = q; sounded = m.bounds.behind.sounded }) spans
+      ap (λ n. record { syllables = n; canonical = then.canonical; spans = then.spans; sounded = m.bounds.after.sounded }) (omega (arith, count))
+      ∙ ap (λ n. record { syllables = min (min (m.bounds.after.syllables + reached.count) most + 1) most; canonical = n; spans = then.spans; sounded = m.bounds.after.sounded }) canonical
+      ∙ ap (λ (q : Spans). record { syllables = min (min (m.bounds.after.syllables + reached.count) most + 1) most; canonical = reached.canonical + canonical_length reached.last; spans = q; sounded = m.bounds.after.sounded }) spans
 
   module _ (given : List PlacedSyllable) (to : RunsTo m at text given reached) where
     pub one_more : MakeSyllables → GoesOnWith m at (chars to.bytes) given (before_in m reached) reached.last to.found.is.syllable (nat_lt 0 then.last.gap)

@@ -25,33 +25,33 @@ held_of (m ∷ []) e = (m, refl)
 held_of (m ∷ n ∷ made) e = absurd (omega (arith, e))
 
 module _ (m : ScoreMachine) (at : Place) (held : UnplacedSyllable) (stands : StandsBetween m at) (one : m.pair.gathered.made ≡ held ∷ []) where
-  behind_is : m.bounds.behind ≡ with_one m.bounds.before held
-  behind_is = stands.rests.behind ∙ ap (with_each m.bounds.before) one
+  after_is : m.bounds.after ≡ with_one m.bounds.before held
+  after_is = stands.rests.after ∙ ap (with_each m.bounds.before) one
 
-  total_is : m.pair.gathered.total ≡ m.bounds.behind.canonical
-  total_is = stands.rests.preceded.total ∙ ap (λ (p : Preceding). p.canonical) (sym stands.rests.behind)
+  total_is : m.pair.gathered.total ≡ m.bounds.after.canonical
+  total_is = stands.rests.preceded.total ∙ ap (λ (p : Preceding). p.canonical) (sym stands.rests.after)
 
-  sounded_is : is_some m.pair.gathered.first_kind ≡ m.bounds.behind.sounded
+  sounded_is : is_some m.pair.gathered.first_kind ≡ m.bounds.after.sounded
   sounded_is =
       stands.rests.preceded.sounded
-      ∙ ap (λ (p : Preceding). p.sounded || sounds_in m.pair.gathered.builder.kept m.pair.gathered.builder.snippets) (sym stands.rests.behind)
-      ∙ ap (λ (o : OpenSyllable). m.bounds.behind.sounded || sounds_in o.kept o.snippets) stands.between.nothing
-      ∙ last_false m.bounds.behind.sounded
+      ∙ ap (λ (p : Preceding). p.sounded || sounds_in m.pair.gathered.builder.kept m.pair.gathered.builder.snippets) (sym stands.rests.after)
+      ∙ ap (λ (o : OpenSyllable). m.bounds.after.sounded || sounds_in o.kept o.snippets) stands.between.nothing
+      ∙ last_false m.bounds.after.sounded
     where
       last_false : (b : Bool) → (b || false) ≡ b
       last_false true = refl
       last_false false = refl
 
-  alike : ReadAlike m.pair.gathered (begun m.bounds.behind.spans)
-  alike = nothing_alike m.body.nabc_lines m.body.macros m.body.part m.bounds.behind.spans m.pair.gathered stands.rests.reading (ap (λ (o : OpenSyllable). o.kept) stands.between.nothing)
+  alike : ReadAlike m.pair.gathered (begun m.bounds.after.spans)
+  alike = nothing_alike m.body.nabc_lines m.body.macros m.body.part m.bounds.after.spans m.pair.gathered stands.rests.reading (ap (λ (o : OpenSyllable). o.kept) stands.between.nothing)
 
-  gathered_is : m.pair.gathered ≡ record m.pair.gathered { made = held ∷ []; total = m.bounds.behind.canonical; eu = m.bounds.behind.spans.eu; nlba = m.bounds.behind.spans.nlba }
+  gathered_is : m.pair.gathered ≡ record m.pair.gathered { made = held ∷ []; total = m.bounds.after.canonical; eu = m.bounds.after.spans.eu; nlba = m.bounds.after.spans.nlba }
   gathered_is =
       ap (λ (ms : List UnplacedSyllable). record m.pair.gathered { made = ms }) one ∙ ap (λ n. record m.pair.gathered { made = held ∷ []; total = n }) total_is
-      ∙ ap₂ (λ a b. record m.pair.gathered { made = held ∷ []; total = m.bounds.behind.canonical; eu = a; nlba = b }) alike.eu alike.nlba
+      ∙ ap₂ (λ a b. record m.pair.gathered { made = held ∷ []; total = m.bounds.after.canonical; eu = a; nlba = b }) alike.eu alike.nlba
 
   -- nothing is read yet, and it is given
-  pub run_begins : (starts : Bool) → RunsBefore m at [] (record { made = held; position = position_by (not m.has_lent || held.text.word_start) starts } ∷ []) starts m.bounds.behind at
+  pub run_begins : (starts : Bool) → RunsBefore m at [] (record { made = held; position = position_by (not m.has_lent || held.text.word_start) starts } ∷ []) starts m.bounds.after at
   run_begins starts = record {
     held = held;
     s = held_score m;
@@ -59,13 +59,13 @@ module _ (m : ScoreMachine) (at : Place) (held : UnplacedSyllable) (stands : Sta
     through = through_none m.limits m.body.nabc_lines m.body.macros at (held_score m);
     gathered = gathered_is;
     given_are = refl;
-    before = behind_is;
+    before = after_is;
     place = refl;
     within = All-cons (IsWithin m.limits) _ [] (short_within m.limits (position_by (not m.has_lent || held.text.word_start) starts) held
         (All-head (IsShort m.limits.syllable) held [] (subst (All (IsShort m.limits.syllable)) one stands.rests.rests.short))) (All-nil (IsWithin m.limits));
     plain = All-nil IsPlain;
     few = omega arith;
-    some = (let e = ap (λ (p : Preceding). p.syllables) behind_is in omega (arith, e));
+    some = (let e = ap (λ (p : Preceding). p.syllables) after_is in omega (arith, e));
     sounded = sounded_is;
     input = (let t = total_is in let room = stands.between.total in omega (arith, t, room));
   }

@@ -25,7 +25,7 @@ use Rattle.gabc_score.specs.machine.Gatherer.{Gathered}
 use Rattle.gabc_score.specs.machine.Preceded.{spans_of}
 use Rattle.gabc_score.specs.machine.Run.{IsFound, IsSteady, SpellsFound, StandsBetween, RunsBefore, canonical_length, past_found}
 use Rattle.gabc_score.specs.machine.ScoreMachine.{held_score}
-use Rattle.gabc_score.specs.machine.ScoreStage.{HeldScore, placed_behind}
+use Rattle.gabc_score.specs.machine.ScoreStage.{HeldScore, placed_after}
 use Rattle.gabc_score.proofs.score_events.FewAndShortAreLent.{short_within}
 use Rattle.gabc_score.proofs.score_events.WhatPrecedes.{each_then}
 use Rattle.gabc_score.proofs.texts_of_body.StageAndDefinitionAgree.{bytes_encodes}
@@ -127,7 +127,7 @@ module _ (m : ScoreMachine) (at : Place) (t : List ℕ) (given : List PlacedSyll
 
     given_is : runs.earlier ++ given_before runs.s one ≡ given
     given_is =
-        ap (λ (made : List UnplacedSyllable). runs.earlier ++ take (length made) (placed_behind runs.s.has_lent (made ++ one ∷ []))) (ap (λ (g : Gathered). g.made) runs.gathered)
+        ap (λ (made : List UnplacedSyllable). runs.earlier ++ take (length made) (placed_after runs.s.has_lent (made ++ one ∷ []))) (ap (λ (g : Gathered). g.made) runs.gathered)
         ∙ ap (λ b. runs.earlier ++ record { made = runs.held; position = position_by (not runs.s.has_lent || runs.held.text.word_start) b } ∷ []) word
         ∙ sym runs.given_are
 

@@ -75,10 +75,10 @@ abbrev pub placed_first : ScoreMachine → UnplacedSyllable → Bool → PlacedS
 placed_first m x starts = record { made = x; position = position_by (not m.has_lent || x.text.word_start) starts }
 
 module _ (m : ScoreMachine) (at : Place) (text : List ℕ) (first : Found) (stands : StandsBetween m at)
-    (found : IsFound m.body.nabc_lines m.limits m.bounds.behind.canonical first) (steady : IsSteady m.body.nabc_lines m.pair.gathered.first_kind found.is.syllable) (is : text ≡ first.spelled.now ++ first.rest.now)
+    (found : IsFound m.body.nabc_lines m.limits m.bounds.after.canonical first) (steady : IsSteady m.body.nabc_lines m.pair.gathered.first_kind found.is.syllable) (is : text ≡ first.spelled.now ++ first.rest.now)
     (line : at.line + length text < 2 ^ 63) (column : at.column + length text < 2 ^ 63) where
   abbrev pub reached_first : Reached
-  reached_first = record { last = first; count = 0; canonical = m.bounds.behind.canonical; spans = m.bounds.behind.spans }
+  reached_first = record { last = first; count = 0; canonical = m.bounds.after.canonical; spans = m.bounds.after.spans }
 
   -- the syllable that is held
   abbrev held_first : (x : UnplacedSyllable) × (m.pair.gathered.made ≡ x ∷ [])
@@ -91,15 +91,15 @@ module _ (m : ScoreMachine) (at : Place) (text : List ℕ) (first : Found) (stan
   run_from pair gathered used =
       let there = moved_stands m pair gathered used at stands in
       let begins = run_begins (record m { pair = pair }) at held_first.0 there (ap (λ (g : Gathered). g.made) gathered ∙ held_first.1) (nat_lt 0 first.gap) in
-      let first_before : before_in m reached_first ≡ m.bounds.behind =
-      ap (λ n. record { syllables = n; canonical = m.bounds.behind.canonical; spans = m.bounds.behind.spans; sounded = m.bounds.behind.sounded })
+      let first_before : before_in m reached_first ≡ m.bounds.after =
+      ap (λ n. record { syllables = n; canonical = m.bounds.after.canonical; spans = m.bounds.after.spans; sounded = m.bounds.after.sounded })
       (let e = ap (λ (p : Preceding). p.syllables) begins.before in omega (arith, e)) in
       record {
         stands = there;
         bytes = [];
         utf8 = IsUtf8-nil;
         runs = subst (λ (p : Preceding). RunsBefore (record m { pair = pair }) at (chars []) given_first (nat_lt 0 first.gap) p (place_past at (chars []))) (sym first_before)
-            (subst (λ (t : List ℕ). RunsBefore (record m { pair = pair }) at t given_first (nat_lt 0 first.gap) m.bounds.behind (place_past at t)) (sym chars-nil) begins);
+            (subst (λ (t : List ℕ). RunsBefore (record m { pair = pair }) at t given_first (nat_lt 0 first.gap) m.bounds.after (place_past at t)) (sym chars-nil) begins);
         found = found;
         steady = subst (λ (g : Gathered). IsSteady m.body.nabc_lines g.first_kind found.is.syllable) (sym gathered) steady;
         text_is = is;

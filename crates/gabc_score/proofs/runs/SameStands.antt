@@ -18,7 +18,7 @@ module _ (m : ScoreMachine) (pair : SlotPairState) (gathered : pair.gathered ≡
         counts = w.counts;
         kept = w.kept;
         preceded = w.preceded;
-        behind = w.behind;
+        after = w.after;
         lent = w.lent;
         code = w.code;
         reading = w.reading;

@@ -20,7 +20,7 @@ stands_between m at x part rests made kept begins = record {
   rests = rests;
   begins = begins;
   between = record {
-    nothing = (nothing_alike m.body.nabc_lines m.body.macros m.body.part m.bounds.behind.spans m.pair.gathered rests.reading kept).builder;
+    nothing = (nothing_alike m.body.nabc_lines m.body.macros m.body.part m.bounds.after.spans m.pair.gathered rests.reading kept).builder;
     limit = rests.rests.limit;
     few = (let n = ap (λ (ms : List UnplacedSyllable). length ms) made in omega (arith, n));
     follows = rests.preceded.follows ∙ ap (λ (ms : List UnplacedSyllable). nat_lt 0 (with_each m.bounds.before ms).syllables) made ∙ some;

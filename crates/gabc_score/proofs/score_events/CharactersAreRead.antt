@@ -37,7 +37,7 @@ use Rattle.gabc_score.specs.machine.PartOnly.{HoldsTexts, kept_codes}
 use Rattle.gabc_score.specs.machine.Preceded.{IsPreceded, past_point}
 use Rattle.gabc_score.specs.machine.ReadsChar.{Gathers, Passes, ReadsChar, StopsWith, found_past, past_char, stops, goes}
 use Rattle.gabc_score.specs.machine.ScoreMachine.{IsInBody, IsScore, IsScoreAt, IsShort, held_score, shown}
-use Rattle.gabc_score.specs.machine.ScoreStage.{body_left, left_by, outputs_left, placed_behind, with_held}
+use Rattle.gabc_score.specs.machine.ScoreStage.{body_left, left_by, outputs_left, placed_after, with_held}
 use Rattle.gabc_score.specs.machine.SlotPair.{SlotPairState, is_made}
 use Rattle.gabc_score.proofs.building.CountsOfParts.{counts_go_on}
 use Rattle.gabc_score.proofs.building.EventsOfSnippets.{few_events, stage_emits}
@@ -114,7 +114,7 @@ module _ {m : ScoreMachine} {x : Char} {b : BodyStageState} {p : SlotPairState} 
     gives_stop : GivesAt (shown m) (head_event.Body x) (shown n) old new
     gives_stop =
         let fault = fault_at x.place code in
-        let given = outputs_of [] (placed_behind m.has_lent p.held) in
+        let given = outputs_of [] (placed_after m.has_lent p.held) in
         gives_outside (given ++ Stop fault ∷ []) (λ is. absurd (cc (is, s.part))) (λ heads. absurd (cc (heads, body))) (record {
           lends = held_lends m.limits 1 m.has_lent p.held was.made (Stop fault ∷ []) refl a.held h.rests.short s.few (omega arith);
           limits = s.limits;
@@ -123,7 +123,7 @@ module _ {m : ScoreMachine} {x : Char} {b : BodyStageState} {p : SlotPairState} 
           passes = λ other. tt;
           law = λ xs. left_is xs
               ∙ ap (λ code. left_by code (held_score m) x now xs (later xs (with_all was now))) (sym (ap (code_in m.limits) a.gathered) ∙ some)
-              ∙ ap (λ (ms : List UnplacedSyllable). (outputs_of [] (placed_behind m.has_lent ms) ++ Stop fault ∷ []) ∷ silence xs) (sym a.held)
+              ∙ ap (λ (ms : List UnplacedSyllable). (outputs_of [] (placed_after m.has_lent ms) ++ Stop fault ∷ []) ∷ silence xs) (sym a.held)
               ∙ ap (λ (k : ScorePart). (given ++ Stop fault ∷ []) ∷ outputs_left n.limits k (held_score n) n.body xs) (sym s.part);
           emitted = s.emitted;
         })
@@ -138,13 +138,13 @@ module _ {m : ScoreMachine} {x : Char} {b : BodyStageState} {p : SlotPairState} 
     g = p.gathered
 
     abbrev lent : List PlacedSyllable
-    lent = take (length g.made - 1) (placed_behind m.has_lent g.made)
+    lent = take (length g.made - 1) (placed_after m.has_lent g.made)
 
     abbrev bounds : Bounds
     bounds = past_point whole gave m.bounds q.gathered
 
     turns : Turns m.bounds g m.has_lent whole gave
-    turns = turned m.bounds was was g now p.held was.made m.has_lent whole gave refl a.one a.gathered a.held refl h.preceded h.behind (closes_last a.steps.0 a.steps.1) u.whole_is u.gave_is
+    turns = turned m.bounds was was g now p.held was.made m.has_lent whole gave refl a.one a.gathered a.held refl h.preceded h.after (closes_last a.steps.0 a.steps.1) u.whole_is u.gave_is
 
     passed : bounds ≡ past_point whole gave m.bounds g
     passed = ap (past_point whole gave m.bounds) u.gathered
@@ -187,13 +187,13 @@ module _ {m : ScoreMachine} {x : Char} {b : BodyStageState} {p : SlotPairState} 
       counts = subst (λ (k : Gathered). CountsHold b.part k.builder) (sym (u.gathered ∙ ap with_held a.gathered)) ((counts_go_on a.steps.0 a.steps.1).counts was h.counts);
       kept = rw (ap (λ (k : Gathered). k.builder.kept) u.gathered) (let kept = within m.limits g none_now in let limit = limit_gathered h a in omega (arith, kept, limit));
       preceded = preceded;
-      behind = ap (λ (k : Bounds). k.behind) passed ∙ turns.behind ∙ ap (λ (k : Bounds). with_each k.before (with_held g).made) (sym passed) ∙ ap (λ (k : Gathered). with_each bounds.before k.made) (sym u.gathered);
+      after = ap (λ (k : Bounds). k.after) passed ∙ turns.after ∙ ap (λ (k : Bounds). with_each k.before (with_held g).made) (sym passed) ∙ ap (λ (k : Gathered). with_each bounds.before k.made) (sym u.gathered);
       lent = lent_past m.bounds.before bounds.before m.has_lent gave g.made h.lent before_is u.gave_is;
       code = ap (code_in m.limits) u.gathered ∙ code_turned m.limits g none_now;
       reading = reading_past m.body.nabc_lines m.body.macros b.nabc_lines b.macros m.body.part b.part m.bounds bounds was g q.gathered now whole gave counted a.gathered u.gathered
           (u.whole_is ∙ ap (λ (ms : List UnplacedSyllable). nat_lt (length ms) (length g.made)) a.held) passed lines macros (keeps_on a.steps.0) h.reading;
-      units = units_past m.body.nabc_lines m.body.macros b.nabc_lines m.body.part m.bounds.before bounds.before m.bounds.behind.spans m.has_lent was g q.gathered now counted a.gathered u.gathered lines
-          (ap (λ (k : Preceding). k.spans) h.behind) before_is (makes a.steps.0) h.reading h.units;
+      units = units_past m.body.nabc_lines m.body.macros b.nabc_lines m.body.part m.bounds.before bounds.before m.bounds.after.spans m.has_lent was g q.gathered now counted a.gathered u.gathered lines
+          (ap (λ (k : Preceding). k.spans) h.after) before_is (makes a.steps.0) h.reading h.units;
       within = held_within;
       front = front_past m.body.part b.part m.bounds.before bounds.before m.has_lent was g q.gathered now (leaves_front a.steps.0) h.front a.gathered before_is u.gathered;
     }
@@ -209,8 +209,8 @@ module _ {m : ScoreMachine} {x : Char} {b : BodyStageState} {p : SlotPairState} 
       law xs =
           left_is xs
           ∙ ap (λ code. left_by code (held_score m) x now xs (later xs (with_all was now))) none
-          ∙ ap (λ (es : List Finding). outputs_of es (take (length (with_all was now).made - 1) (placed_behind m.has_lent (with_all was now).made)) ∷ later xs (with_all was now)) (found_is h a)
-          ∙ ap (λ (k : Gathered). outputs_of fs (take (length k.made - 1) (placed_behind m.has_lent k.made)) ∷ later xs k) (sym a.gathered)
+          ∙ ap (λ (es : List Finding). outputs_of es (take (length (with_all was now).made - 1) (placed_after m.has_lent (with_all was now).made)) ∷ later xs (with_all was now)) (found_is h a)
+          ∙ ap (λ (k : Gathered). outputs_of fs (take (length k.made - 1) (placed_after m.has_lent k.made)) ∷ later xs k) (sym a.gathered)
           ∙ ap (λ (k : Gathered). outputs_of fs lent ∷ body_left m.limits (record { next = n.next; gathered = k; has_lent = m.has_lent || nat_lt 1 (length g.made) }) (running_events_left b (characters_in xs)) xs) (sym u.gathered)
           ∙ ap (λ (gave : Bool). outputs_of fs lent ∷ body_left m.limits (record { next = n.next; gathered = q.gathered; has_lent = m.has_lent || gave }) (running_events_left b (characters_in xs)) xs) (sym u.gave_is)
           ∙ ap (λ (k : ScorePart). outputs_of fs lent ∷ outputs_left m.limits k (held_score n) b xs) (sym body)
@@ -226,7 +226,7 @@ module _ {m : ScoreMachine} {x : Char} {b : BodyStageState} {p : SlotPairState} 
       gives_past = record {
         outputs = outputs_of fs lent;
         lends = subst (Lends m.limits 1) (append-nil (outputs_of fs lent)) (lends_these m.limits 1 fs lent [] refl s.given.few (one_at_most lent s.given.few)
-            (All-take (IsWithin m.limits) (length g.made - 1) (placed_behind m.has_lent g.made) (placed_within m.limits (not m.has_lent) g.made short)));
+            (All-take (IsWithin m.limits) (length g.made - 1) (placed_after m.has_lent g.made) (placed_within m.limits (not m.has_lent) g.made short)));
         limits = refl;
         part = stays_inside m.part m.part (head_event.Body x) fs lent body body;
         last = λ other final. absurd (cc final);

@@ -28,8 +28,8 @@ use Rattle.gabc_score.specs.machine.Gatherer.{Gathered}
 use Rattle.gabc_score.specs.machine.BodyBuilder.{with_all}
 use Rattle.gabc_score.specs.machine.HeldWithin.{HoldsWithin}
 use Rattle.gabc_score.specs.machine.PartPushes.{ClosesLast}
-use Rattle.gabc_score.specs.machine.Preceded.{IsPreceded, behind_headers}
-use Rattle.gabc_score.specs.machine.ScoreStage.{placed_behind, with_held}
+use Rattle.gabc_score.specs.machine.Preceded.{IsPreceded, after_headers}
+use Rattle.gabc_score.specs.machine.ScoreStage.{placed_after, with_held}
 use Rattle.gabc_score.proofs.score_events.WhatPrecedes.{Closed, same_or_closed}
 
 pub more : (least : ℕ) (p : Preceding) (ms : List UnplacedSyllable) → least < 2 ^ 64 → least ≤ p.canonical → least ≤ (with_each p ms).canonical
@@ -53,9 +53,9 @@ held_some g e = by g.made e
     by (m ∷ ms) e = absurd (true≢false (sym e ∙ short (length (m ∷ ms) - 1) m ms (omega arith)))
 
 -- what stands before what is held is below the limit of the input, as what stands after it is
-pub counts_past : (limits : Limits) (lines macros : ℕ) (before behind : Preceding) (has_lent : Bool) (h turned : Gathered) → behind ≡ with_placed before (take (length h.made - 1) (placed_behind has_lent h.made)) → turned ≡ with_held h
-    → IsPreceded behind turned → HoldsWithin limits behind turned → AreCountsWithin limits lines macros before.canonical → AreCountsWithin limits lines macros behind.canonical
-counts_past limits lines macros before behind has_lent h turned there turns preceded within c = record {
+pub counts_past : (limits : Limits) (lines macros : ℕ) (before after : Preceding) (has_lent : Bool) (h turned : Gathered) → after ≡ with_placed before (take (length h.made - 1) (placed_after has_lent h.made)) → turned ≡ with_held h
+    → IsPreceded after turned → HoldsWithin limits after turned → AreCountsWithin limits lines macros before.canonical → AreCountsWithin limits lines macros after.canonical
+counts_past limits lines macros before after has_lent h turned there turns preceded within c = record {
   few_lines = c.few_lines;
   ten_macros = c.ten_macros;
   headers = subst (λ (p : Preceding). 2 ≤ p.canonical) (sym there) (more 2 before given (omega arith) c.headers);
@@ -63,30 +63,30 @@ counts_past limits lines macros before behind has_lent h turned there turns prec
 }
   where
     given : List UnplacedSyllable
-    given = map (λ (s : PlacedSyllable). s.made) (take (length h.made - 1) (placed_behind has_lent h.made))
+    given = map (λ (s : PlacedSyllable). s.made) (take (length h.made - 1) (placed_after has_lent h.made))
 
     most : limits.input ≤ 4294967295
     most = limits.in_range.input_most
 
-    small : behind.canonical < 2 ^ 64
+    small : after.canonical < 2 ^ 64
     small = let under = c.below in subst (λ (p : Preceding). p.canonical < 2 ^ 64) (sym there) (fits before given (omega (arith, under, most)))
 
-    by : (b : Bool) → is_none turned.made ≡ b → behind.canonical < limits.input
+    by : (b : Bool) → is_none turned.made ≡ b → after.canonical < limits.input
     by false e =
         let file = within.file e in
         let total = preceded.total in
-        let up = more behind.canonical behind turned.made small (omega arith) in
+        let up = more after.canonical after turned.made small (omega arith) in
         omega (arith, file, total, up)
     by true e =
         let none : h.made ≡ [] = held_some h (sym (ap (λ (k : Gathered). is_none k.made) turns) ∙ e) in
-        subst (λ (p : Preceding). p.canonical < limits.input) (sym (there ∙ ap (λ (ms : List UnplacedSyllable). with_placed before (take (length ms - 1) (placed_behind has_lent ms))) none)) c.below
+        subst (λ (p : Preceding). p.canonical < limits.input) (sym (there ∙ ap (λ (ms : List UnplacedSyllable). with_placed before (take (length ms - 1) (placed_after has_lent ms))) none)) c.below
 
 -- where none is held then none was before
-pub none_past : (before behind : Preceding) (has_lent : Bool) (g h turned : Gathered) (now : List BodyEvent) → ClosesLast now → behind ≡ with_placed before (take (length h.made - 1) (placed_behind has_lent h.made)) → turned ≡ with_held h
-    → h ≡ with_all g now → (held_in_body score_part.Body g.made ≡ None → before.syllables ≡ 0) → held_in_body score_part.Body turned.made ≡ None → behind.syllables ≡ 0
-none_past before behind has_lent g h turned now last there turns is was none =
+pub none_past : (before after : Preceding) (has_lent : Bool) (g h turned : Gathered) (now : List BodyEvent) → ClosesLast now → after ≡ with_placed before (take (length h.made - 1) (placed_after has_lent h.made)) → turned ≡ with_held h
+    → h ≡ with_all g now → (held_in_body score_part.Body g.made ≡ None → before.syllables ≡ 0) → held_in_body score_part.Body turned.made ≡ None → after.syllables ≡ 0
+none_past before after has_lent g h turned now last there turns is was none =
     let here : h.made ≡ [] = held_some h (sym (ap (λ (k : Gathered). is_none k.made) turns) ∙ ap is_none (none_in turned.made none)) in
-    ap (λ (p : Preceding). p.syllables) (there ∙ ap (λ (ms : List UnplacedSyllable). with_placed before (take (length ms - 1) (placed_behind has_lent ms))) here)
+    ap (λ (p : Preceding). p.syllables) (there ∙ ap (λ (ms : List UnplacedSyllable). with_placed before (take (length ms - 1) (placed_after has_lent ms))) here)
     ∙ was (ap (held_in_body score_part.Body) (old (same_or_closed g now last) (ap (λ (k : Gathered). k.made) (sym is) ∙ here)))
   where
     none_in : (ms : List UnplacedSyllable) → held_in_body score_part.Body ms ≡ None → ms ≡ []
@@ -103,7 +103,7 @@ none_past before behind has_lent g h turned now last there turns is was none =
 
 -- after the headers the counts are those that they give
 pub begins_of_text : (limits : Limits) (next : Place) (input : HeadEvent) (lines macros canonical : ℕ) (body : BodyStageState) (bounds : Bounds) → input ≡ head_event.Heads lines macros canonical
-    → body ≡ record { nabc_lines = lines; macros = macros; part = part.Comment; ended = false; events = [] } → bounds ≡ behind_headers canonical → MayCome limits next input
+    → body ≡ record { nabc_lines = lines; macros = macros; part = part.Comment; ended = false; events = [] } → bounds ≡ after_headers canonical → MayCome limits next input
     → (s : ScoreStageState) → s.limits ≡ limits → s.body ≡ body → s.before ≡ bounds.before → s.held.next ≡ first_place → s.held.gathered.builder.kept ≡ [] → s.held.gathered.made ≡ [] → IsReportOfText s
 begins_of_text limits next input lines macros canonical body bounds is at begun may s l b p n none empty =
     let counts : AreCountsWithin limits lines macros canonical = subst (MayCome limits next) is may in

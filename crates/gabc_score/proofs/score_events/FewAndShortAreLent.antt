@@ -26,7 +26,7 @@ use Rattle.gabc_score.specs.Body.{fault_at}
 use Rattle.gabc_places.specs.declared.place.Place.{Place}
 use Rattle.std.specs.Option.{option_map}
 use Rattle.gabc_score.specs.machine.Gatherer.{Gathered, with_event, with_last, with_made, with_no_notes, with_snippet, with_syllable}
-use Rattle.gabc_score.specs.machine.ScoreStage.{placed_behind}
+use Rattle.gabc_score.specs.machine.ScoreStage.{placed_after}
 use Rattle.gabc_score.specs.machine.SyllableBuilder.{made_from}
 use Rattle.gabc_score.specs.machine.ScoreMachine.{IsShort}
 use Rattle.gabc_score.proofs.score_events.EventsStayWithinBounds.{limit_stays, limit_with}
@@ -153,9 +153,9 @@ few_lent n first second ss e = let h = length-take n (first ∷ second ∷ []) i
 
 -- a syllable that was held is short
 pub held_lends : (limits : Limits) (most : ℕ) (has_lent : Bool) (held made : List UnplacedSyllable) (tail : List ScoreOutput) → syllables_in tail ≡ [] → held ≡ made → All (IsShort limits.syllable) made
-    → length (placed_behind has_lent held) ≤ 1 → 1 ≤ most → Lends limits most (outputs_of [] (placed_behind has_lent held) ++ tail)
+    → length (placed_after has_lent held) ≤ 1 → 1 ≤ most → Lends limits most (outputs_of [] (placed_after has_lent held) ++ tail)
 held_lends limits most has_lent held made tail none e short few one =
-    lends_these limits most [] (placed_behind has_lent held) tail none (omega (arith, few, one)) (one_at_most (placed_behind has_lent held) few) (placed_within limits (not has_lent) held (subst (All (IsShort limits.syllable)) (sym e) short))
+    lends_these limits most [] (placed_after has_lent held) tail none (omega (arith, few, one)) (one_at_most (placed_after has_lent held) few) (placed_within limits (not has_lent) held (subst (All (IsShort limits.syllable)) (sym e) short))
 
 -- at an end without a fault no limit is passed
 pub no_code : (limits : Limits) (at : Place) (g : Gathered) → end_fault limits at g ≡ None → code_in limits g ≡ None

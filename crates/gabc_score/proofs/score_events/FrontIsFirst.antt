@@ -16,7 +16,7 @@ use Rattle.gabc_score.specs.machine.BodyBuilder.{with_all}
 use Rattle.gabc_score.specs.machine.Gatherer.{Gathered}
 use Rattle.gabc_score.specs.machine.PartFronts.{PartLeavesFront}
 use Rattle.gabc_score.specs.machine.ScoreMachine.{shown, IsInBody, NoneIsWhole}
-use Rattle.gabc_score.specs.machine.ScoreStage.{placed_behind, with_held}
+use Rattle.gabc_score.specs.machine.ScoreStage.{placed_after, with_held}
 use Rattle.gabc_score.specs.machine.SyllableBuilder.{OpenSyllable}
 use Rattle.gabc_score.proofs.resuming.BeginsAnywhere.{front_reads}
 use Rattle.gabc_places.specs.declared.place.Char.{Char}
@@ -39,10 +39,10 @@ front_moved at (part.Notes opened s) = refl
 front_moved at (part.Nabc line opened s) = refl
 
 -- After a character the comment is still open only where nothing has come.
-pub front_past : (before after : BodyPart) (p behind : Preceding) (has_lent : _) (g h turned : Gathered) (now : List BodyEvent) → PartLeavesFront before after now → (is_in_front before ≡ true → NoneIsWhole p g)
-    → h ≡ with_all g now → behind ≡ with_placed p (take (length h.made - 1) (placed_behind has_lent h.made)) → turned ≡ with_held h → is_in_front after ≡ true → NoneIsWhole behind turned
-front_past before after p behind has_lent g h turned now leaves was is there turns front = record {
-  none_before = ap (λ (q : Preceding). q.syllables) (there ∙ ap (λ (ms : List UnplacedSyllable). with_placed p (take (length ms - 1) (placed_behind has_lent ms))) none) ∙ (was (leaves front).0).none_before;
+pub front_past : (before after : BodyPart) (p later : Preceding) (has_lent : _) (g h turned : Gathered) (now : List BodyEvent) → PartLeavesFront before after now → (is_in_front before ≡ true → NoneIsWhole p g)
+    → h ≡ with_all g now → later ≡ with_placed p (take (length h.made - 1) (placed_after has_lent h.made)) → turned ≡ with_held h → is_in_front after ≡ true → NoneIsWhole later turned
+front_past before after p later has_lent g h turned now leaves was is there turns front = record {
+  none_before = ap (λ (q : Preceding). q.syllables) (there ∙ ap (λ (ms : List UnplacedSyllable). with_placed p (take (length ms - 1) (placed_after has_lent ms))) none) ∙ (was (leaves front).0).none_before;
   none_made = ap (λ (k : Gathered). k.made) turns ∙ ap (λ (ms : List UnplacedSyllable). drop (length ms - 1) ms) none;
 }
   where

@@ -21,7 +21,7 @@ use Rattle.gabc_score.specs.ScoreEvents.{ScoreOutput, Found, Stop, End, findings
 use Rattle.gabc_score.specs.Syllable.{UnplacedSyllable, all_syllables}
 use Rattle.gabc_score.specs.machine.BodyBuilder.{with_all, code_in, end_fault_by, end_fault, end_findings}
 use Rattle.gabc_score.specs.machine.Gatherer.{Gathered, with_last}
-use Rattle.gabc_score.specs.machine.ScoreStage.{HeldScore, placed_behind, held_outputs, stop_outputs, point_outputs, with_held, score_past, end_outputs_by, end_outputs, left_by, body_left, begun_score, score_left}
+use Rattle.gabc_score.specs.machine.ScoreStage.{HeldScore, placed_after, held_outputs, stop_outputs, point_outputs, with_held, score_past, end_outputs_by, end_outputs, left_by, body_left, begun_score, score_left}
 use Rattle.gabc_score.proofs.building.BuilderHoldsDefinition.{gathered}
 use Rattle.gabc_score.proofs.building.EventsOfOnePoint.{gathered_all, code_is, made_after}
 use Rattle.gabc_score.proofs.building.EndOfBody.{made_by_last, open_by_last, fault_is}
@@ -72,7 +72,7 @@ module _ (limits : Limits) (head : ℕ) (small : limits.syllable < 2 ^ 64 - 1) (
     point_is : (at : Place) (x : Char) → point_outputs (holding at before) x now ≡ outputs_at before (with_first before x now)
     point_is at x =
         let fs = findings_now now ++ found_first (first_of before) (first_of all) x.place in
-        ap (λ (g : Gathered). outputs_of (findings_now now ++ found_first (first_of before) g.first_kind x.place) (take (length g.made - 1) (placed_behind (nat_lt 1 (count_made before)) g.made))) now_is
+        ap (λ (g : Gathered). outputs_of (findings_now now ++ found_first (first_of before) g.first_kind x.place) (take (length g.made - 1) (placed_after (nat_lt 1 (count_made before)) g.made))) now_is
         ∙ ap (outputs_of fs) (placed_now (count_made before) (count_made all) (all_syllables all) refl (made_grows before now))
         ∙ ap (λ gs. outputs_of gs (given_now (count_made before) (all_syllables all))) (sym (findings_with_first before now x))
         ∙ ap (λ (g : Gathered). outputs_of (findings_now (with_first before x now)) (given_now (count_made before) g.made)) (sym (says_with_first before now x))
@@ -113,15 +113,15 @@ module _ (limits : Limits) (head : ℕ) (small : limits.syllable < 2 ^ 64 - 1) (
     stop_is at fault = ap (λ outputs. outputs ++ Stop fault ∷ []) (held_is at)
 
     abbrev end_from : Place → ViewContent → Gathered → List ScoreOutput
-    end_from at view g = outputs_of (findings_now now ++ end_findings at (has_text view) (g.eu || g.nlba)) (placed_behind (nat_lt 1 (count_made before)) g.made) ++ End ∷ []
+    end_from at view g = outputs_of (findings_now now ++ end_findings at (has_text view) (g.eu || g.nlba)) (placed_after (nat_lt 1 (count_made before)) g.made) ++ End ∷ []
 
     end_by : (at : Place) (fault : Option Fault) → end_outputs_by (holding at before) now fault ≡ outputs_at_end at before now fault
     end_by at (Some fault) = stop_is at fault
     end_by at None =
         ap (λ (g : Gathered). end_from at g.builder.view (with_last g)) now_is
         ∙ ap (end_from at (gathered limits.syllable head all).builder.view) (last_without k (gathered limits.syllable head all) goes)
-        ∙ ap (λ b. outputs_of (findings_now now ++ end_findings at (has_last all) b) (placed_behind (nat_lt 1 (count_made before)) (drop k (with_last (gathered limits.syllable head all)).made)) ++ End ∷ []) (open_by_last limits head small low all (has_last all))
-        ∙ ap (λ (ms : List UnplacedSyllable). outputs_of (findings_now now ++ found_at_end at all) (placed_behind (nat_lt 1 (count_made before)) (drop k ms)) ++ End ∷ []) (made_by_last limits head small low all (has_last all))
+        ∙ ap (λ b. outputs_of (findings_now now ++ end_findings at (has_last all) b) (placed_after (nat_lt 1 (count_made before)) (drop k (with_last (gathered limits.syllable head all)).made)) ++ End ∷ []) (open_by_last limits head small low all (has_last all))
+        ∙ ap (λ (ms : List UnplacedSyllable). outputs_of (findings_now now ++ found_at_end at all) (placed_after (nat_lt 1 (count_made before)) (drop k ms)) ++ End ∷ []) (made_by_last limits head small low all (has_last all))
         ∙ ap (λ ss. outputs_of (findings_now now ++ found_at_end at all) ss ++ End ∷ []) (placed_rest (count_made before) (all_units all))
 
     end_is : (at : Place) → end_outputs limits (holding at before) now ≡ outputs_at_end at before now (fault_of_end limits head at all (cut_of all))

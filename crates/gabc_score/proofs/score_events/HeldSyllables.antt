@@ -13,7 +13,7 @@ use Rattle.gabc_score.specs.declared.events.BodyEvent.TheVariants as event
 use Rattle.gabc_score.specs.Body.{is_longer, is_none, has_text}
 use Rattle.gabc_score.specs.Canonical.{placed_syllables_by, with_positions}
 use Rattle.gabc_score.specs.ScoreEvents.{not_given, given_now}
-use Rattle.gabc_score.specs.machine.ScoreStage.{placed_behind}
+use Rattle.gabc_score.specs.machine.ScoreStage.{placed_after}
 use Rattle.gabc_score.specs.Syllable.{UnplacedSyllable}
 use Rattle.gabc_score.specs.machine.Gatherer.{Gathered, with_made, with_syllable, with_snippet, with_no_notes, with_event, with_last}
 use Rattle.gabc_score.specs.machine.BodyBuilder.{with_all, code_in}
@@ -118,12 +118,12 @@ first_is (suc (suc n)) =
     rw (one_more, two) refl
 
 -- the syllables not given yet have the positions that they have among all
-pub placed_rest : (n : ℕ) (ms : List UnplacedSyllable) → placed_behind (nat_lt 1 n) (drop (n - 1) ms) ≡ not_given n ms
+pub placed_rest : (n : ℕ) (ms : List UnplacedSyllable) → placed_after (nat_lt 1 n) (drop (n - 1) ms) ≡ not_given n ms
 placed_rest n ms = ap (λ b. placed_syllables_by b (drop (n - 1) ms)) (sym (first_is n)) ∙ sym (placed_drop (n - 1) true ms)
 
 -- all of them but the last are given
 pub placed_now : (n m : ℕ) (ms : List UnplacedSyllable) → length ms ≡ m → n ≤ m
-    → take (length (drop (n - 1) ms) - 1) (placed_behind (nat_lt 1 n) (drop (n - 1) ms)) ≡ given_now n ms
+    → take (length (drop (n - 1) ms) - 1) (placed_after (nat_lt 1 n) (drop (n - 1) ms)) ≡ given_now n ms
 placed_now n m ms l h =
     let count : (n - 1) + (length (drop (n - 1) ms) - 1) ≡ length ms - 1 = rw (length-drop (n - 1) ms) (omega (arith, l, h)) in
     ap (take (length (drop (n - 1) ms) - 1)) (placed_rest n ms)

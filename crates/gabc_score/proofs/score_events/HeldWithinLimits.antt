@@ -21,7 +21,7 @@ use Rattle.gabc_score.specs.ReportedWithin.{IsAtOutset}
 use Rattle.gabc_score.specs.machine.BodyBuilder.{with_all, code_in}
 use Rattle.gabc_score.specs.machine.Gatherer.{Gathered, with_event, with_made, with_snippet}
 use Rattle.gabc_score.specs.machine.HeldWithin.{AreWritten, HoldsWithin}
-use Rattle.gabc_score.specs.machine.ScoreStage.{placed_behind, with_held}
+use Rattle.gabc_score.specs.machine.ScoreStage.{placed_after, with_held}
 use Rattle.gabc_score.specs.machine.SyllableBuilder.{made_from}
 use Rattle.gabc_score.proofs.score_events.EventsStayWithinBounds.{limit_stays}
 use Rattle.gabc_score.proofs.score_events.FewAndShortAreLent.{counted, either, not_over}
@@ -102,15 +102,15 @@ none_dropped (suc n) (m ∷ ms) e = refl
 
 module _ (has_lent : Bool) where
   abbrev passed : Preceding → List UnplacedSyllable → Preceding
-  passed p made = with_placed p (take (length made - 1) (placed_behind has_lent made))
+  passed p made = with_placed p (take (length made - 1) (placed_after has_lent made))
 
   count : (s m : UnplacedSyllable) (ms : List UnplacedSyllable) → length (s ∷ m ∷ ms) - 1 ≡ suc (length ms)
   count s m ms = omega arith
 
   passed_some : (p : Preceding) (s m : UnplacedSyllable) (ms : List UnplacedSyllable) → 1 ≤ (passed p (s ∷ m ∷ ms)).syllables
   passed_some p s m ms =
-      subst (λ (k : ℕ). 1 ≤ (with_placed p (take k (placed_behind has_lent (s ∷ m ∷ ms)))).syllables) (sym (count s m ms))
-      (each_some (with_one p s) (map (λ (s : PlacedSyllable). s.made) (take (length ms) (placed_behind true (m ∷ ms)))) (omega arith))
+      subst (λ (k : ℕ). 1 ≤ (with_placed p (take k (placed_after has_lent (s ∷ m ∷ ms)))).syllables) (sym (count s m ms))
+      (each_some (with_one p s) (map (λ (s : PlacedSyllable). s.made) (take (length ms) (placed_after true (m ∷ ms)))) (omega arith))
 
   written_passed : (limit : ℕ) (p : Preceding) (made : List UnplacedSyllable) → AreWritten limit (p.syllables == 0) made → AreWritten limit ((passed p made).syllables == 0) (drop (length made - 1) made)
   written_passed limit p [] h = tt
@@ -128,12 +128,12 @@ module _ (has_lent : Bool) where
 
 -- ---- what holds from point to point
 
-pub within_past : (limits : Limits) (before behind : Preceding) (has_lent : Bool) (g h turned : Gathered) (now : List BodyEvent) → g.limit ≡ limits.syllable → g.over ≡ false → g.follows ≡ nat_lt 0 (with_each before g.made).syllables
-    → HoldsWithin limits before g → h ≡ with_all g now → code_in limits (with_all g now) ≡ None → behind ≡ passed has_lent before h.made → turned ≡ with_held h → HoldsWithin limits behind turned
-within_past limits before behind has_lent g h turned now e over f within is none there turns =
+pub within_past : (limits : Limits) (before after : Preceding) (has_lent : Bool) (g h turned : Gathered) (now : List BodyEvent) → g.limit ≡ limits.syllable → g.over ≡ false → g.follows ≡ nat_lt 0 (with_each before g.made).syllables
+    → HoldsWithin limits before g → h ≡ with_all g now → code_in limits (with_all g now) ≡ None → after ≡ passed has_lent before h.made → turned ≡ with_held h → HoldsWithin limits after turned
+within_past limits before after has_lent g h turned now e over f within is none there turns =
     let written : AreWritten limits.syllable (before.syllables == 0) h.made = subst (λ (k : Gathered). AreWritten limits.syllable (before.syllables == 0) k.made) (sym is) (written_now limits before g now e over f within.written none) in
     let code : code_in limits h ≡ None = ap (code_in limits) is ∙ none in
-    subst (λ (k : Gathered). HoldsWithin limits behind k) (sym turns)
+    subst (λ (k : Gathered). HoldsWithin limits after k) (sym turns)
     (subst (λ (p : Preceding). HoldsWithin limits p (with_held h)) (sym there) (record {
       written = written_passed has_lent limits.syllable before h.made written;
       file = λ some. file_now limits h code (none_dropped (length h.made - 1) h.made some);

@@ -19,7 +19,7 @@ use Rattle.gabc_score.specs.NoNotes.{OnlyFirstHasNotes, has_no_notes}
 use Rattle.gabc_score.specs.Syllable.{UnplacedSyllable, PlacedSyllable, closes}
 use Rattle.gabc_score.specs.machine.BodyBuilder.{with_all}
 use Rattle.gabc_score.specs.machine.Gatherer.{Gathered, with_last, with_no_notes, with_syllable}
-use Rattle.gabc_score.specs.machine.ScoreStage.{placed_behind}
+use Rattle.gabc_score.specs.machine.ScoreStage.{placed_after}
 use Rattle.gabc_score.specs.witness.BodyStage.{BodyStageState, part_with, running_events_left}
 use Rattle.gabc_score.proofs.building.PartsMakeSyllables.{made_stays, texts_close_none}
 
@@ -52,10 +52,10 @@ empty_is : (n : ℕ) → ((0 == 0) && (n == n)) ≡ true
 empty_is n = eq-eqb n n refl
 
 -- where one syllable is held at most, what is made last has no notes
-pub last_has_no_notes : (has_lent : Bool) (g : Gathered) → length g.made ≤ 1 → OnlyFirstHasNotes (placed_behind has_lent (with_last g).made)
+pub last_has_no_notes : (has_lent : Bool) (g : Gathered) → length g.made ≤ 1 → OnlyFirstHasNotes (placed_after has_lent (with_last g).made)
 last_has_no_notes has_lent g one = by (has_text g.builder.view) g.made one
   where
-    by : (b : Bool) (ms : List UnplacedSyllable) → length ms ≤ 1 → OnlyFirstHasNotes (placed_behind has_lent (cond b (with_syllable (with_no_notes (record g { made = ms }))) (record g { made = ms })).made)
+    by : (b : Bool) (ms : List UnplacedSyllable) → length ms ≤ 1 → OnlyFirstHasNotes (placed_after has_lent (cond b (with_syllable (with_no_notes (record g { made = ms }))) (record g { made = ms })).made)
     by true [] few = All-nil (λ (t : PlacedSyllable). has_no_notes t.made ≡ true)
     by true (m ∷ []) few = All-cons (λ (t : PlacedSyllable). has_no_notes t.made ≡ true) _ [] (empty_is (length g.builder.kept)) (All-nil (λ (t : PlacedSyllable). has_no_notes t.made ≡ true))
     by true (m ∷ n ∷ ms) few = absurd (omega (arith, few))

@@ -18,7 +18,7 @@ use Rattle.gabc_score.specs.ScoreEvents.{HasNoEnd, ScoreOutput, Stop, characters
 use Rattle.gabc_score.specs.witness.ScoreStage.{ScoreStageState, left_of}
 use Rattle.gabc_score.specs.Syllable.{PlacedSyllable}
 use Rattle.gabc_score.specs.machine.BodyBuilder.{code_in, with_all}
-use Rattle.gabc_score.specs.machine.ScoreStage.{HeldScore, body_left, fresh_score, left_by, outputs_left, placed_behind, point_outputs, score_left, score_past, stop_outputs}
+use Rattle.gabc_score.specs.machine.ScoreStage.{HeldScore, body_left, fresh_score, left_by, outputs_left, placed_after, point_outputs, score_left, score_past, stop_outputs}
 use Rattle.gabc_score.proofs.score_events.FewAndShortAreLent.{placed_count}
 use Rattle.gabc_score.proofs.score_events.WhatOutputsSay.{Said, said_by, said_of}
 
@@ -46,7 +46,7 @@ no_stop s = by_part s.limits s.part s.held s.body
 pub few_are_held : (limits : Limits) (s : HeldScore) (body : BodyStageState) → length s.gathered.made ≤ 1
     → length (syllables_in (concat_of (outputs_left limits score_part.Body s body []))) ≤ 1
 few_are_held limits s body few =
-    let ss = placed_behind s.has_lent s.gathered.made in
+    let ss = placed_after s.has_lent s.gathered.made in
     let said = ap (λ (t : Said). length t.syllables) (said_of [] ss []) in
     let same = ap (λ (l : List PlacedSyllable). length l) (append-nil ss) in
     let count = placed_count (not s.has_lent) s.gathered.made in
@@ -59,7 +59,7 @@ silent xs = ap has_end (joined_silence {O = ScoreOutput} xs)
 
 stopped : (s : HeldScore) (fault : Fault) (xs : List HeadEvent) → has_end (concat_of (stop_outputs s fault ∷ silence xs)) ≡ false
 stopped s fault xs =
-    let ss = placed_behind s.has_lent s.gathered.made in
+    let ss = placed_after s.has_lent s.gathered.made in
     let later = concat_of (silence {O = ScoreOutput} xs) in
     ap has_end (append_assoc (outputs_of [] ss) (Stop fault ∷ []) later)
     ∙ (ap (λ (t : Said). t.ended) (said_of [] ss (Stop fault ∷ later)) ∙ silent xs)
@@ -74,7 +74,7 @@ read (Some code) s x now xs later none = stopped s _ xs
 read None s x now xs later none = pointed s x now later none
 
 in_body : (limits : Limits) (s : HeldScore) (lists : List (List BodyEvent)) (xs : List HeadEvent) → HasNoEnd xs → has_end (concat_of (body_left limits s lists xs)) ≡ false
-in_body limits s lists [] h = (held (placed_behind s.has_lent s.gathered.made)).end
+in_body limits s lists [] h = (held (placed_after s.has_lent s.gathered.made)).end
 in_body limits s (now ∷ lists) (head_event.Body x ∷ xs) h =
     read (code_in limits (with_all s.gathered now)) s x now xs (body_left limits (score_past s x now) lists xs) (in_body limits (score_past s x now) lists xs h)
 in_body limits s [] (head_event.Body x ∷ xs) h = silent xs

@@ -18,7 +18,7 @@ use Rattle.gabc_score.specs.Syllable.{UnplacedSyllable, closes}
 use Rattle.gabc_score.specs.machine.BodyBuilder.{code_in}
 use Rattle.gabc_score.specs.machine.ReadsChar.{Gathers, Passes, ReadsChar, found_past, goes}
 use Rattle.gabc_score.specs.machine.ScoreMachine.{IsInBody}
-use Rattle.gabc_score.specs.machine.ScoreStage.{placed_behind}
+use Rattle.gabc_score.specs.machine.ScoreStage.{placed_after}
 use Rattle.gabc_score.specs.machine.SlotPair.{SlotPairState, is_made, used_by}
 use Rattle.gabc_score.specs.witness.BodyStage.{BodyStageState}
 use Rattle.gabc_score.proofs.building.PartsMakeSyllables.{whole_in, whole_stays}
@@ -47,8 +47,8 @@ module _ {m : ScoreMachine} {x : Char} {b : BodyStageState} {p : SlotPairState} 
   few = let n = ap (λ w. length w.0) whole in let one = a.one in omega (arith, n, one)
 
   module _ (out : BoundedList ScoreEvent) (nothing : (found_past m x p f).items ≡ []) where
-    none_given : take (length p.gathered.made - 1) (placed_behind m.has_lent p.gathered.made) ≡ []
-    none_given = let n : length p.gathered.made - 1 ≡ 0 = omega (arith, few) in ap (λ n. take n (placed_behind m.has_lent p.gathered.made)) n
+    none_given : take (length p.gathered.made - 1) (placed_after m.has_lent p.gathered.made) ≡ []
+    none_given = let n : length p.gathered.made - 1 ≡ 0 = omega (arith, few) in ap (λ n. take n (placed_after m.has_lent p.gathered.made)) n
 
     passes : Passes m x p f false false p (found_past m x p f) out out
     passes = record {

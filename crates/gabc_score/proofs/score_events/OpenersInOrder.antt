@@ -54,13 +54,13 @@ module _ (at next : Place) (on : IsEarlier at next) where
         order (inl same) (inr (inr e)) = subst (λ (o : Option Place). AreInOrder o after.inner) (sym same) (subst (AreInOrder before.notes) (sym e) (order_here before.notes h.notes))
 
 -- the place after a character
-abbrev behind_by : Place → Bool → Place
-behind_by at b = if b then record { line = min (at.line + 1) (2 ^ 64 - 1); column = 1 } else record { line = at.line; column = min (at.column + 1) (2 ^ 64 - 1) }
+abbrev after_by : Place → Bool → Place
+after_by at b = if b then record { line = min (at.line + 1) (2 ^ 64 - 1); column = 1 } else record { line = at.line; column = min (at.column + 1) (2 ^ 64 - 1) }
 
 pub place_after_input : (at : Place) (c : ℕ) → IsPlace at → at.line + 1 < 2 ^ 64 → at.column + 1 < 2 ^ 64 → IsPlace (saturating_next_place at c) × IsEarlier at (saturating_next_place at c)
 place_after_input at c is l k = by (is_line_feed c)
   where
-    by : (b : Bool) → IsPlace (behind_by at b) × IsEarlier at (behind_by at b)
+    by : (b : Bool) → IsPlace (after_by at b) × IsEarlier at (after_by at b)
     by true = (record { line = grind (arith, nat_tests); column = omega arith; in_64_bits = omega arith }, inl (grind (arith, nat_tests, l)))
     by false = (record { line = is.line; column = grind (arith, nat_tests); in_64_bits = grind (arith, nat_tests) }, inr (refl, grind (arith, nat_tests, k)))
 

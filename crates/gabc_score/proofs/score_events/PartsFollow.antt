@@ -16,9 +16,9 @@ outside p (inl e) f = cc (sym e ∙ f)
 outside p (inr e) f = cc (sym e ∙ f)
 
 -- with a stop or the end after them
-pub last_behind : (outputs : List ScoreOutput) (o : ScoreOutput) → is_last o ≡ true → list_any is_last (outputs ++ o ∷ []) ≡ true
-last_behind [] o e = ap (λ (b : Bool). b || false) e
-last_behind (x ∷ outputs) o e = ap (λ (b : Bool). is_last x || b) (last_behind outputs o e) ∙ or-true (is_last x)
+pub last_after : (outputs : List ScoreOutput) (o : ScoreOutput) → is_last o ≡ true → list_any is_last (outputs ++ o ∷ []) ≡ true
+last_after [] o e = ap (λ (b : Bool). b || false) e
+last_after (x ∷ outputs) o e = ap (λ (b : Bool). is_last x || b) (last_after outputs o e) ∙ or-true (is_last x)
 
 -- findings and syllables are neither
 none_is_last : (fs : List Finding) (ss : List PlacedSyllable) → list_any is_last (outputs_of fs ss) ≡ false
@@ -34,7 +34,7 @@ body_by x outputs e = rw e refl
 
 -- in the body a stop or the end leads out of it
 pub leads_out : (part new : ScorePart) (x : HeadEvent) (outputs : List ScoreOutput) (o : ScoreOutput) → part ≡ score_part.Body → new ≡ score_part.Over → is_last o ≡ true → new ≡ part_past part x (outputs ++ o ∷ [])
-leads_out part new x outputs o body over e = over ∙ (over_by x (outputs ++ o ∷ []) (last_behind outputs o e) ∙ ap (λ (p : ScorePart). part_past p x (outputs ++ o ∷ [])) (sym body))
+leads_out part new x outputs o body over e = over ∙ (over_by x (outputs ++ o ∷ []) (last_after outputs o e) ∙ ap (λ (p : ScorePart). part_past p x (outputs ++ o ∷ [])) (sym body))
 
 -- findings and syllables leave it there
 pub stays_inside : (part new : ScorePart) (x : HeadEvent) (fs : List Finding) (ss : List PlacedSyllable) → part ≡ score_part.Body → new ≡ score_part.Body → new ≡ part_past part x (outputs_of fs ss)

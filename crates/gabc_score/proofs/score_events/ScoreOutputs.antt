@@ -1,7 +1,7 @@
 -- What a score emits says what the score says.
 use Rattle.std.proofs.Common.{◌≡◌, ℕ, ◌+◌, ◌||◌, Bool, true, false, cond, List, [], ◌∷◌, ◌++◌, map, Option, Some, None, Result, Ok, Err, option_map, refl, sym, ap, ◌∙◌, ◌⊎◌, inl, inr, append-nil, take-append-drop}
 use Rattle.gabc_places.specs.StageLaw.{concat_of}
-use Rattle.gabc_places.proofs.PlacesOfAText.{placed_behind, behind_after}
+use Rattle.gabc_places.proofs.PlacesOfAText.{placed_after, after_joined}
 use Rattle.gabc_places.specs.Place.{next_place, place_after, place_past, placed_characters_from, placed_characters_after}
 use Rattle.gabc_places.specs.declared.code.Code.TheVariants.{F5}
 use Rattle.gabc_places.specs.declared.code.Finding.{Finding}
@@ -56,7 +56,7 @@ ends_past p (c ∷ cs) = ends_past (next_place p c) cs
 ends_after : (prefix cs : List ℕ) (xs : List Char) → xs ≡ placed_characters_after prefix cs → (at : Place) → (xs ≡ []) ⊎ (end_place at xs ≡ place_after (prefix ++ cs))
 ends_after prefix [] xs e at = inl e
 ends_after prefix (c ∷ cs) xs e at =
-    inr (ap (end_place at) (e ∙ sym (placed_behind prefix (c ∷ cs))) ∙ ends_past (next_place (place_after prefix) c) cs ∙ behind_after prefix (c ∷ cs))
+    inr (ap (end_place at) (e ∙ sym (placed_after prefix (c ∷ cs))) ∙ ends_past (next_place (place_after prefix) c) cs ∙ after_joined prefix (c ∷ cs))
 
 module _ (limits : Limits) (head lines macros : ℕ) (found : List Finding) where
   -- what the body says whose end is at this place
@@ -108,8 +108,8 @@ module _ (limits : Limits) (ending : InputEnding) (t : List ℕ) (h : Heads) whe
   abbrev body_from : List Char → List ScoreOutput
   body_from ys = concat_of (body_outputs limits size first_place [] (with_first_each [] ys (events_from texts_by_definition (nabc_lines_of h.book) (macros_of h.book) InComment ys)) to_come)
 
-  behind_says : said_by (concat_of (score_outputs texts_by_definition limits (head_events_by ending t (Ok h)))) ≡ said_of_score ending (score_by limits ending t (Ok h))
-  behind_says =
+  after_says : said_by (concat_of (score_outputs texts_by_definition limits (head_events_by ending t (Ok h)))) ≡ said_of_score ending (score_by limits ending t (Ok h))
+  after_says =
       ap said_by (found_heads texts_by_definition limits h.findings (event_of_book h.book ∷ to_come))
       ∙ found_first h.findings (body_from (characters_in to_come))
       ∙ ap (λ ys. said_before h.findings [] (said_by (body_from ys))) (characters_are ending xs)
@@ -148,7 +148,7 @@ module _ (limits : Limits) (ending : InputEnding) (t : List ℕ) where
   score_says = by (heads_of limits t)
     where
       by : (r : Result Heads HeadFault) → said_by (concat_of (score_outputs texts_by_definition limits (head_events_by ending t r))) ≡ said_of_score ending (score_by limits ending t r)
-      by (Ok h) = behind_says limits ending t h
+      by (Ok h) = after_says limits ending t h
       by (Err stop) = stopped_says limits ending stop.findings (head_fault_by ending stop.at_end stop.fault) (not_whole ending stop.at_end stop.fault)
 
   pub findings_are : findings_in (outputs_of_text limits ending t) ≡ (score_of limits ending t).findings

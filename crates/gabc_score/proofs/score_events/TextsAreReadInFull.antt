@@ -1,7 +1,7 @@
 -- Of what a stage of headers gives of a text no count reaches its last value, and its texts are read as their definition says.
 use Rattle.std.proofs.Common.{◌≡◌, ℕ, ◌+◌, ◌<◌, ◌≤◌, ◌^◌, List, [], ◌∷◌, ◌++◌, length, map, Option, Some, None, Result, Ok, Err, refl, sym, ap, subst, ◌∙◌, arith}
 use lib.Utf8.{encodes}
-use Rattle.gabc_places.proofs.PlacesOfAText.{placed_behind}
+use Rattle.gabc_places.proofs.PlacesOfAText.{placed_after}
 use Rattle.gabc_places.specs.Place.{place_after, placed_characters_from}
 use Rattle.gabc_places.specs.declared.code.Fault.{Fault}
 use Rattle.gabc_places.specs.declared.code.Finding.{Finding}
@@ -63,7 +63,7 @@ module _ (limits : Limits) (ending : InputEnding) (t : List ℕ) (few : length (
   fits = body_fits t few
 
   placed : placed_characters_from (place_after (heads_text t)) (after_heads t) ≡ body_characters t
-  placed = placed_behind (heads_text t) (after_heads t)
+  placed = placed_after (heads_text t) (after_heads t)
 
   body_below : AreCountsBelow (to_come ending (body_characters t))
   body_below = subst (λ xs. AreCountsBelow (to_come ending xs)) placed (counts_below ending (place_after (heads_text t)) (after_heads t) fits.line fits.column)

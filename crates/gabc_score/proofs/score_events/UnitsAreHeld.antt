@@ -42,7 +42,7 @@ use Rattle.gabc_score.specs.machine.Gatherer.{Gathered}
 use Rattle.gabc_score.specs.machine.PartKeeps.{IsReading}
 use Rattle.gabc_score.specs.machine.PartMakes.{PartLaws, FollowEach, HoldUnits, PartMakes, characters_of}
 use Rattle.gabc_score.specs.machine.ScoreMachine.{IsShort, IsScoreAt}
-use Rattle.gabc_score.specs.machine.ScoreStage.{placed_behind, with_held}
+use Rattle.gabc_score.specs.machine.ScoreStage.{placed_after, with_held}
 use Rattle.gabc_score.proofs.holding.SnippetsAreHeld.{bytes_are_size}
 use Rattle.gabc_score.proofs.score_events.FewAndShortAreLent.{short_within}
 
@@ -58,18 +58,18 @@ follow_dropped (suc k) first p [] h = tt
 follow_dropped (suc k) first p (m ∷ ms) h = follow_dropped k false (with_one p m) ms h.1
 
 pub units_past : (lines macros l : ℕ) (before : BodyPart) (p passed : Preceding) (spans : Spans) (has_lent : Bool) (was g turned : Gathered) (now : List BodyEvent) → length was.builder.kept < 2 ^ 64
-    → g ≡ with_all was now → turned ≡ with_held g → l ≡ lines → spans ≡ (with_each p was.made).spans → passed ≡ with_placed p (take (length g.made - 1) (placed_behind has_lent g.made))
+    → g ≡ with_all was now → turned ≡ with_held g → l ≡ lines → spans ≡ (with_each p was.made).spans → passed ≡ with_placed p (take (length g.made - 1) (placed_after has_lent g.made))
     → PartMakes lines macros before now → IsReading lines macros before spans was → HoldUnits lines p was.made → HoldUnits l passed turned.made
 unfolding PartMakes HoldUnits
-units_past lines macros l before p passed spans has_lent was g turned now fits is turn same behind given makes r h =
+units_past lines macros l before p passed spans has_lent was g turned now fits is turn same after given makes r h =
     subst (λ (k : Gathered). HoldUnits l passed k.made) (sym turn)
     (subst (λ (k : ℕ). HoldUnits k passed (with_held g).made) (sym same)
     (subst (λ (k : Preceding). HoldUnits lines k (with_held g).made) (sym given) held))
   where
     all : HoldUnits lines p g.made
-    all = subst (λ (k : Gathered). HoldUnits lines p k.made) (sym is) (makes p was fits (subst (λ (k : Spans). IsReading lines macros before k was) behind r) h)
+    all = subst (λ (k : Gathered). HoldUnits lines p k.made) (sym is) (makes p was fits (subst (λ (k : Spans). IsReading lines macros before k was) after r) h)
 
-    held : HoldUnits lines (with_placed p (take (length g.made - 1) (placed_behind has_lent g.made))) (with_held g).made
+    held : HoldUnits lines (with_placed p (take (length g.made - 1) (placed_after has_lent g.made))) (with_held g).made
     held laws = record {
       units = All-drop (HoldsSomeUnit lines) (length g.made - 1) g.made (all laws).units;
       follow = follow_dropped (length g.made - 1) (not has_lent) p g.made (all laws).follow;

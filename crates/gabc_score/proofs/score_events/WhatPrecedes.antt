@@ -33,8 +33,8 @@ use Rattle.gabc_score.specs.Syllable.{UnplacedSyllable, PlacedSyllable, is_seam,
 use Rattle.gabc_score.specs.machine.BodyBuilder.{with_all}
 use Rattle.gabc_score.specs.machine.Gatherer.{Gathered, with_event, with_made, with_snippet}
 use Rattle.gabc_score.specs.machine.PartPushes.{ClosesLast}
-use Rattle.gabc_score.specs.machine.Preceded.{EndsBefore, IsPreceded, behind_gathered, before_past, past_point}
-use Rattle.gabc_score.specs.machine.ScoreStage.{placed_behind, with_held}
+use Rattle.gabc_score.specs.machine.Preceded.{EndsBefore, IsPreceded, after_gathered, before_past, past_point}
+use Rattle.gabc_score.specs.machine.ScoreStage.{placed_after, with_held}
 use Rattle.gabc_score.proofs.score_events.FewAndShortAreLent.{given_syllables}
 use Rattle.gabc_score.proofs.score_events.OutputsOfLentSyllables.{found_syllables}
 use Rattle.gabc_score.specs.machine.SyllableBuilder.{OpenSyllable, made_from, past_text, snippet_from, nothing_open}
@@ -286,9 +286,9 @@ same_or_closed g (event.Notes line (note.Ended note_end.Close n) ∷ now) c = in
 same_or_closed g (event.Notes line (note.Ended (note_end.Cut p) n) ∷ now) c = let k = with_event g (event.Notes line (note.Ended (note_end.Cut p) n)) in after g k now refl (same_or_closed k now c.1)
 
 -- what is after it then
-behind_is : (before : Preceding) (h : Gathered) (ms : List UnplacedSyllable) (m : UnplacedSyllable) → IsPreceded before h → h.made ≡ ms ++ m ∷ [] → m.eu ≡ h.eu → m.nlba ≡ h.nlba → h.builder ≡ nothing_open
-    → behind_gathered (with_each before ms).syllables h ≡ with_each before h.made
-behind_is before h ms m p made eu nlba builder =
+after_is : (before : Preceding) (h : Gathered) (ms : List UnplacedSyllable) (m : UnplacedSyllable) → IsPreceded before h → h.made ≡ ms ++ m ∷ [] → m.eu ≡ h.eu → m.nlba ≡ h.nlba → h.builder ≡ nothing_open
+    → after_gathered (with_each before ms).syllables h ≡ with_each before h.made
+after_is before h ms m p made eu nlba builder =
     let q = with_each before ms in
     let e : with_each before h.made ≡ with_one q m = ap (with_each before) made ∙ each_then before ms m in
     let canonical_is : h.total ≡ (with_one q m).canonical = p.total ∙ ap (λ (k : Preceding). k.canonical) e in
@@ -306,11 +306,11 @@ behind_is before h ms m p made eu nlba builder =
 -- What stands before and after what is held then reports of what was gathered, where the one held before is given or not.
 pub record Turns (b : Bounds) (h : Gathered) (has_lent whole gave : Bool) : Type 0 where
   pub preceded : IsPreceded (before_past whole gave b) (with_held h)
-  pub behind : (past_point whole gave b h).behind ≡ with_each (before_past whole gave b) (with_held h).made
-  pub given : before_past whole gave b ≡ with_placed b.before (take (length h.made - 1) (placed_behind has_lent h.made))
+  pub after : (past_point whole gave b h).after ≡ with_each (before_past whole gave b) (with_held h).made
+  pub given : before_past whole gave b ≡ with_placed b.before (take (length h.made - 1) (placed_after has_lent h.made))
 
 abbrev bounds : Preceding → Preceding → Bounds
-bounds before behind = record { before = before; behind = behind }
+bounds before after = record { before = before; after = after }
 
 -- a syllable less is before those that are not given
 given_one : (before : Preceding) (h : Gathered) (s m : UnplacedSyllable) → IsPreceded before (record h { made = s ∷ m ∷ [] }) → IsPreceded (with_one before s) (record h { made = m ∷ [] })
@@ -322,24 +322,24 @@ module _ (before : Preceding) (h : Gathered) (has_lent : Bool) (p : IsPreceded b
   turns_by ms e d = subst (λ (k : List UnplacedSyllable). IsPreceded before (record h { made = k })) e p
 
   -- none has become whole
-  none_whole : (behind : Preceding) (ms : List UnplacedSyllable) → h.made ≡ ms → behind ≡ with_each before ms → length ms ≤ 1 → (gave : Bool) → Turns (bounds before behind) h has_lent false gave
-  none_whole behind [] e d few gave = record {
+  none_whole : (after : Preceding) (ms : List UnplacedSyllable) → h.made ≡ ms → after ≡ with_each before ms → length ms ≤ 1 → (gave : Bool) → Turns (bounds before after) h has_lent false gave
+  none_whole after [] e d few gave = record {
     preceded = rw e (turns_by [] e refl);
-    behind = rw e d;
+    after = rw e d;
     given = rw e refl;
   }
-  none_whole behind (s ∷ []) e d few gave = record {
+  none_whole after (s ∷ []) e d few gave = record {
     preceded = rw e (turns_by (s ∷ []) e refl);
-    behind = rw e d;
+    after = rw e d;
     given = rw e refl;
   }
-  none_whole behind (s ∷ t ∷ rest) e d few gave = absurd (omega (arith, few))
+  none_whole after (s ∷ t ∷ rest) e d few gave = absurd (omega (arith, few))
 
   -- the first one has
   first_whole : (m : UnplacedSyllable) → h.made ≡ m ∷ [] → m.eu ≡ h.eu → m.nlba ≡ h.nlba → h.builder ≡ nothing_open → Turns (bounds before before) h has_lent true false
   first_whole m e eu nlba builder = record {
     preceded = rw e (turns_by (m ∷ []) e refl);
-    behind = behind_is before h [] m p e eu nlba builder ∙ rw e refl;
+    after = after_is before h [] m p e eu nlba builder ∙ rw e refl;
     given = rw e refl;
   }
 
@@ -347,53 +347,53 @@ module _ (before : Preceding) (h : Gathered) (has_lent : Bool) (p : IsPreceded b
   next_whole : (s m : UnplacedSyllable) → h.made ≡ s ∷ m ∷ [] → m.eu ≡ h.eu → m.nlba ≡ h.nlba → h.builder ≡ nothing_open → Turns (bounds before (with_one before s)) h has_lent true true
   next_whole s m e eu nlba builder = record {
     preceded = rw e (given_one before h s m (turns_by (s ∷ m ∷ []) e refl));
-    behind = behind_is before h (s ∷ []) m p e eu nlba builder ∙ rw e refl;
+    after = after_is before h (s ∷ []) m p e eu nlba builder ∙ rw e refl;
     given = rw e refl;
   }
 
-module _ (b : Bounds) (old : Gathered) (now : List BodyEvent) (preceded : IsPreceded b.before old) (is : b.behind ≡ with_each b.before old.made) (last : ClosesLast now) (few : length old.made ≤ 1) (has_lent : Bool) where
+module _ (b : Bounds) (old : Gathered) (now : List BodyEvent) (preceded : IsPreceded b.before old) (is : b.after ≡ with_each b.before old.made) (last : ClosesLast now) (few : length old.made ≤ 1) (has_lent : Bool) where
   abbrev h : Gathered
   h = with_all old now
 
   abbrev before : Preceding
   before = b.before
 
-  abbrev behind : Preceding
-  behind = b.behind
+  abbrev later : Preceding
+  later = b.after
 
   p : IsPreceded before h
   p = preceded_all before old now preceded
 
-  closed : (ms : List UnplacedSyllable) → old.made ≡ ms → (c : Closed old h) → (gave : Bool) → gave ≡ nat_lt 1 (length h.made) → Turns (bounds before behind) h has_lent true gave
+  closed : (ms : List UnplacedSyllable) → old.made ≡ ms → (c : Closed old h) → (gave : Bool) → gave ≡ nat_lt 1 (length h.made) → Turns (bounds before later) h has_lent true gave
   closed [] e c gave g =
       let made : h.made ≡ c.m ∷ [] = c.made ∙ ap (λ ms. ms ++ c.m ∷ []) e in
-      let is_before : behind ≡ before = is ∙ ap (with_each before) e in
-      subst (λ (k : Bool). Turns (bounds before behind) h has_lent true k) (sym (g ∙ ap (λ ms. nat_lt 1 (length ms)) made))
+      let is_before : later ≡ before = is ∙ ap (with_each before) e in
+      subst (λ (k : Bool). Turns (bounds before later) h has_lent true k) (sym (g ∙ ap (λ ms. nat_lt 1 (length ms)) made))
       (subst (λ (k : Preceding). Turns (bounds before k) h has_lent true false) (sym is_before) (first_whole before h has_lent p c.m made c.eu c.nlba c.builder))
   closed (s ∷ []) e c gave g =
       let made : h.made ≡ s ∷ c.m ∷ [] = c.made ∙ ap (λ ms. ms ++ c.m ∷ []) e in
-      let is_before : behind ≡ with_one before s = is ∙ ap (with_each before) e in
-      subst (λ (k : Bool). Turns (bounds before behind) h has_lent true k) (sym (g ∙ ap (λ ms. nat_lt 1 (length ms)) made))
+      let is_before : later ≡ with_one before s = is ∙ ap (with_each before) e in
+      subst (λ (k : Bool). Turns (bounds before later) h has_lent true k) (sym (g ∙ ap (λ ms. nat_lt 1 (length ms)) made))
       (subst (λ (k : Preceding). Turns (bounds before k) h has_lent true true) (sym is_before) (next_whole before h has_lent p s c.m made c.eu c.nlba c.builder))
   closed (s ∷ t ∷ rest) e c gave g = absurd (let l = ap length e in omega (arith, l, few))
 
-  pub turns : (whole gave : Bool) → whole ≡ nat_lt (length old.made) (length h.made) → gave ≡ nat_lt 1 (length h.made) → Turns (bounds before behind) h has_lent whole gave
+  pub turns : (whole gave : Bool) → whole ≡ nat_lt (length old.made) (length h.made) → gave ≡ nat_lt 1 (length h.made) → Turns (bounds before later) h has_lent whole gave
   turns whole gave w g = by (same_or_closed old now last) whole w
     where
-      by : (h.made ≡ old.made) ⊎ Closed old h → (whole : Bool) → whole ≡ nat_lt (length old.made) (length h.made) → Turns (bounds before behind) h has_lent whole gave
+      by : (h.made ≡ old.made) ⊎ Closed old h → (whole : Bool) → whole ≡ nat_lt (length old.made) (length h.made) → Turns (bounds before later) h has_lent whole gave
       by (inl same) true w = absurd (let l = ap length same in grind (arith, nat_tests, w, l))
-      by (inl same) false w = none_whole before h has_lent p behind old.made same is few gave
+      by (inl same) false w = none_whole before h has_lent p later old.made same is few gave
       by (inr c) true w = closed old.made refl c gave g
       by (inr c) false w = absurd (let l = ap length c.made in let k = length-append old.made (c.m ∷ []) in grind (arith, nat_tests, w, l, k))
 
 -- the same for what was gathered by a pair of slots
 pub turned : (b : Bounds) (old freed h : Gathered) (now : List BodyEvent) (held before_now : List UnplacedSyllable) (has_lent whole gave : Bool) → freed ≡ old → length freed.made ≤ 1 → h ≡ with_all freed now
-    → held ≡ before_now → before_now ≡ old.made → IsPreceded b.before old → b.behind ≡ with_each b.before old.made → ClosesLast now → whole ≡ nat_lt (length held) (length h.made)
+    → held ≡ before_now → before_now ≡ old.made → IsPreceded b.before old → b.after ≡ with_each b.before old.made → ClosesLast now → whole ≡ nat_lt (length held) (length h.made)
     → gave ≡ nat_lt 1 (length h.made) → Turns b h has_lent whole gave
-turned b old freed h now held before_now has_lent whole gave same few is held_is held_was preceded behind last w g =
+turned b old freed h now held before_now has_lent whole gave same few is held_is held_was preceded after last w g =
     let here : h ≡ with_all old now = is ∙ ap (λ (k : Gathered). with_all k now) same in
     subst (λ (k : Gathered). Turns b k has_lent whole gave) (sym here)
-    (turns b old now preceded behind last (subst (λ (k : Gathered). length k.made ≤ 1) same few) has_lent whole gave
+    (turns b old now preceded after last (subst (λ (k : Gathered). length k.made ≤ 1) same few) has_lent whole gave
     (w ∙ ap (λ (ms : List UnplacedSyllable). nat_lt (length ms) (length h.made)) (held_is ∙ held_was) ∙ ap (λ (k : Gathered). nat_lt (length old.made) (length k.made)) here)
     (g ∙ ap (λ (k : Gathered). nat_lt 1 (length k.made)) here))
 
@@ -412,12 +412,12 @@ each_some p [] h = h
 each_some p (m ∷ ms) h = each_some (with_one p m) ms (omega (arith, h))
 
 -- one was exactly if one stands before the syllable that is held
-pub lent_past : (before passed : Preceding) (has_lent gave : Bool) (made : List UnplacedSyllable) → has_lent ≡ nat_lt 0 before.syllables → passed ≡ with_placed before (take (length made - 1) (placed_behind has_lent made))
+pub lent_past : (before passed : Preceding) (has_lent gave : Bool) (made : List UnplacedSyllable) → has_lent ≡ nat_lt 0 before.syllables → passed ≡ with_placed before (take (length made - 1) (placed_after has_lent made))
     → gave ≡ nat_lt 1 (length made) → (has_lent || gave) ≡ nat_lt 0 passed.syllables
 lent_past before passed has_lent gave [] l p g = rw (g, p) (or-false has_lent ∙ l)
 lent_past before passed has_lent gave (m ∷ []) l p g = rw (g, p) (or-false has_lent ∙ l)
 lent_past before passed has_lent gave (m ∷ n ∷ made) l p g =
-    ap (λ b. has_lent || b) (g ∙ more) ∙ or_some has_lent ∙ sym (ap (λ (k : Preceding). nat_lt 0 k.syllables) p ∙ ap (λ k. nat_lt 0 (with_placed before (take k (placed_behind has_lent (m ∷ n ∷ made)))).syllables) count ∙ some)
+    ap (λ b. has_lent || b) (g ∙ more) ∙ or_some has_lent ∙ sym (ap (λ (k : Preceding). nat_lt 0 k.syllables) p ∙ ap (λ k. nat_lt 0 (with_placed before (take k (placed_after has_lent (m ∷ n ∷ made)))).syllables) count ∙ some)
   where
     or_some : (b : Bool) → (b || true) ≡ true
     or_some true = refl
@@ -429,5 +429,5 @@ lent_past before passed has_lent gave (m ∷ n ∷ made) l p g =
     count : length (m ∷ n ∷ made) - 1 ≡ suc (length made)
     count = omega arith
 
-    some : nat_lt 0 (with_placed before (take (suc (length made)) (placed_behind has_lent (m ∷ n ∷ made)))).syllables ≡ true
-    some = let h = each_some (with_one before m) (map (λ (s : PlacedSyllable). s.made) (take (length made) (placed_behind true (n ∷ made)))) (omega arith) in grind (arith, nat_tests, h)
+    some : nat_lt 0 (with_placed before (take (suc (length made)) (placed_after has_lent (m ∷ n ∷ made)))).syllables ≡ true
+    some = let h = each_some (with_one before m) (map (λ (s : PlacedSyllable). s.made) (take (length made) (placed_after true (n ∷ made)))) (omega arith) in grind (arith, nat_tests, h)

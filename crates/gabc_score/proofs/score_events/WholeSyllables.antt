@@ -10,8 +10,8 @@ use Rattle.gabc_score.specs.Syllable.{UnplacedSyllable, PlacedSyllable}
 use Rattle.gabc_score.specs.machine.BodyBuilder.{with_all}
 use Rattle.gabc_score.specs.machine.Gatherer.{Gathered}
 use Rattle.gabc_score.specs.machine.PartPushes.{ClosesLast}
-use Rattle.gabc_score.specs.machine.Preceded.{behind_headers}
-use Rattle.gabc_score.specs.machine.ScoreStage.{placed_behind, with_held}
+use Rattle.gabc_score.specs.machine.Preceded.{after_headers}
+use Rattle.gabc_score.specs.machine.ScoreStage.{placed_after, with_held}
 use Rattle.gabc_score.proofs.score_events.WhatPrecedes.{Closed, same_or_closed}
 
 few_each : (p : Preceding) (ms : List UnplacedSyllable) → (with_each p ms).syllables ≤ p.syllables + length ms
@@ -25,19 +25,19 @@ one_more g now last = by (same_or_closed g now last)
     by (inl same) = let e = ap (λ (ms : List UnplacedSyllable). length ms) same in omega (arith, e)
     by (inr c) = let e = ap (λ (ms : List UnplacedSyllable). length ms) c.made in let l = length-append g.made (c.m ∷ []) in omega (arith, e, l)
 
-passed : (p : Preceding) (has_lent : Bool) (made : List UnplacedSyllable) → (with_placed p (take (length made - 1) (placed_behind has_lent made))).syllables + length (drop (length made - 1) made) ≤ p.syllables + length made
+passed : (p : Preceding) (has_lent : Bool) (made : List UnplacedSyllable) → (with_placed p (take (length made - 1) (placed_after has_lent made))).syllables + length (drop (length made - 1) made) ≤ p.syllables + length made
 passed p has_lent made =
     let n = length made - 1 in
-    let given = take n (placed_behind has_lent made) in
+    let given = take n (placed_after has_lent made) in
     let few = few_each p (map (λ (s : PlacedSyllable). s.made) given) in
     let same = length-map given (λ (s : PlacedSyllable). s.made) in
-    let taken = length-take n (placed_behind has_lent made) in
+    let taken = length-take n (placed_after has_lent made) in
     let dropped = length-drop n made in
     grind (arith, nat_tests, few, same, taken, dropped)
 
-pub whole_past : (before behind : Preceding) (has_lent : Bool) (g h turned : Gathered) (now : List BodyEvent) → ClosesLast now → h ≡ with_all g now
-    → behind ≡ with_placed before (take (length h.made - 1) (placed_behind has_lent h.made)) → turned ≡ with_held h → behind.syllables + length turned.made ≤ before.syllables + length g.made + 1
-whole_past before behind has_lent g h turned now last is there turns =
+pub whole_past : (before after : Preceding) (has_lent : Bool) (g h turned : Gathered) (now : List BodyEvent) → ClosesLast now → h ≡ with_all g now
+    → after ≡ with_placed before (take (length h.made - 1) (placed_after has_lent h.made)) → turned ≡ with_held h → after.syllables + length turned.made ≤ before.syllables + length g.made + 1
+whole_past before after has_lent g h turned now last is there turns =
     let few = one_more g now last in
     let all = ap (λ (k : Gathered). length k.made) is in
     let sum = passed before has_lent h.made in
@@ -45,5 +45,5 @@ whole_past before behind has_lent g h turned now last is there turns =
     let held = ap (λ (k : Gathered). length k.made) turns in
     omega (arith, few, all, sum, count, held)
 
-pub none_whole : (b : Bounds) (head : ℕ) (g : Gathered) → b ≡ behind_headers head → g.made ≡ [] → b.before.syllables + length g.made ≤ 0
+pub none_whole : (b : Bounds) (head : ℕ) (g : Gathered) → b ≡ after_headers head → g.made ≡ [] → b.before.syllables + length g.made ≤ 0
 none_whole b head g is none = let n = ap (λ (k : Bounds). k.before.syllables) is in let e = ap (λ (ms : List UnplacedSyllable). length ms) none in omega (arith, n, e)

@@ -240,14 +240,14 @@ module _ (ends : (at : Place) (t : List ℕ) → EndsOnce at t) (lines macros : 
   standing_ends (InText lists) x xs h = h
   standing_ends (InNotes line opened lists) x xs h = h
 
-  behind_ends : (part : PartAhead) (x : Char) (xs : List Char) → EndsQuietly part (x ∷ xs) → EndsQuietly (part_after_character texts_by_definition lines macros part x xs) xs
-  behind_ends InComment x xs h = tt
-  behind_ends (InText lists) x xs h = by (list_any is_text_end (first_list lists))
+  after_ends : (part : PartAhead) (x : Char) (xs : List Char) → EndsQuietly part (x ∷ xs) → EndsQuietly (part_after_character texts_by_definition lines macros part x xs) xs
+  after_ends InComment x xs h = tt
+  after_ends (InText lists) x xs h = by (list_any is_text_end (first_list lists))
     where
       by : (b : Bool) → EndsQuietly (if b then snippet_from lines macros 0 x.place xs else InText (other_lists lists)) xs
       by true = snippet_here 0 x.place xs
       by false = h
-  behind_ends (InNotes line opened lists) x xs h = by (list_any is_next (first_list lists)) (list_any is_close (first_list lists))
+  after_ends (InNotes line opened lists) x xs h = by (list_any is_next (first_list lists)) (list_any is_close (first_list lists))
     where
       by : (b d : Bool) → EndsQuietly (if b then snippet_from lines macros (next_line lines line) opened xs else if d then text_from texts_by_definition (after_mark x.place) xs else InNotes line opened (other_lists lists)) xs
       by true d = snippet_here (next_line lines line) opened xs
@@ -259,7 +259,7 @@ module _ (ends : (at : Place) (t : List ℕ) → EndsOnce at t) (lines macros : 
   events_ends part [] h = quiet_both (events_at_end part) [] (end_emitted_quiet part h) tt
   events_ends part (x ∷ xs) h =
       let now = part_at texts_by_definition part x xs in
-      events_ends (part_after_character texts_by_definition lines macros now x xs) xs (behind_ends now x xs (standing_ends part x xs h))
+      events_ends (part_after_character texts_by_definition lines macros now x xs) xs (after_ends now x xs (standing_ends part x xs h))
 
   module _ (limits : Limits) (head : ℕ) where
     pub none_at_first : code_at limits head [] ≡ None

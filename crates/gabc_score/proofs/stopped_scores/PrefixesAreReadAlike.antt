@@ -106,9 +106,9 @@ abbrev pub AllSmall : List Char → Type 0
 AllSmall [] = Unit {0}
 AllSmall (x ∷ xs) = (x.place.line + length (x ∷ xs) < 2 ^ 64) × ((x.place.column + length (x ∷ xs) < 2 ^ 64) × AllSmall xs)
 
-pub small_behind : (xs ys : List Char) → AllSmall (xs ++ ys) → AllSmall ys
-small_behind [] ys h = h
-small_behind (x ∷ xs) ys h = small_behind xs ys h.1.1
+pub small_after : (xs ys : List Char) → AllSmall (xs ++ ys) → AllSmall ys
+small_after [] ys h = h
+small_after (x ∷ xs) ys h = small_after xs ys h.1.1
 
 small_place : (p : Place) (c n : ℕ) → p.line + suc n < 2 ^ 64 → p.column + suc n < 2 ^ 64 → ((next_place p c).line + n < 2 ^ 64) × ((next_place p c).column + n < 2 ^ 64)
 small_place p c n h k = by (c == 10)
@@ -227,7 +227,7 @@ module _ (fresh_is : (at : Place) (t : List ℕ) → CountsFit at t → events_l
       → FrontOf (snippet_from lines macros line opened (whole pieces last)) (snippet_from lines macros line opened (whole fronts [])) pieces fronts last)
   notes_prefix line opened [] final more others last small h on fits =
       let rest = whole more last in
-      let here = small_behind final.characters (final.end ∷ rest) small in
+      let here = small_after final.characters (final.end ∷ rest) small in
       let n : length (final.end ∷ rest) ≡ suc (length rest) = refl in
       let l = here.0 in
       let c = here.1.0 in
@@ -239,7 +239,7 @@ module _ (fresh_is : (at : Place) (t : List ℕ) → CountsFit at t → events_l
       let fronts = snippets_with lines next opened nexts (cut_part final Closes ∷ others) in
       let rest = whole pieces last in
       piece_prefix _ _ (cut_part e (Next next opened)) pieces fronts last (snippet_agrees line opened e.characters e.end rest (whole fronts [])) h.0
-      (notes_prefix next opened nexts final more others last (small_behind (e.end ∷ []) rest (small_behind e.characters (e.end ∷ rest) small)) h.1 on
+      (notes_prefix next opened nexts final more others last (small_after (e.end ∷ []) rest (small_after e.characters (e.end ∷ rest) small)) h.1 on
       (fits_back (e.end ∷ []) rest (fits_back e.characters (e.end ∷ rest) fits)))
 
   -- the characters of the first units, and what stands after them
@@ -273,6 +273,6 @@ module _ (fresh_is : (at : Place) (t : List ℕ) → CountsFit at t → events_l
       let prefix : SmallAt at (u.text.characters ++ u.text.end ∷ whole fronts []) =
       small_prefix at (u.text.characters ++ u.text.end ∷ whole fronts []) tail (subst (SmallAt at) (first_whole (suc k) (u ∷ units) last) here) in
       piece_prefix _ _ (cut_part u.text Opens) pieces fronts end (text_agrees at u.text.characters u.text.end rest (whole fronts []) here prefix) h.0
-      (notes_prefix 0 u.text.end.place u.nexts u.final more others end (small_behind (u.text.end ∷ []) rest (small_behind u.text.characters (u.text.end ∷ rest) small)) h.1
+      (notes_prefix 0 u.text.end.place u.nexts u.final more others end (small_after (u.text.end ∷ []) rest (small_after u.text.characters (u.text.end ∷ rest) small)) h.1
       (λ s a c. units_prefix k units last (after_mark u.final.end.place) s a c)
       (fits_back (u.text.end ∷ []) rest (fits_back u.text.characters (u.text.end ∷ rest) here.bytes)))

@@ -41,10 +41,10 @@ use Rattle.gabc_score.specs.Units.{Units, BodyCutting}
 use Rattle.gabc_score.specs.SyllablesOfUnits.{closed_units, count_in, whole_count, through_unit, whole_prefix, units_within, body_characters, IsBodyCut, AreBeforeStop, AreBeforeBodyStop}
 use Rattle.gabc_score.proofs.score_events.PlainScores.{plain_by, plain_of}
 use Rattle.gabc_score.proofs.texts_of_body.SeamsOfCharacters.{size, size_append, size_of_one}
-use Rattle.gabc_places.proofs.PlacesOfAText.{placed_behind, behind_after, placed_append}
-use Rattle.gabc_score.proofs.holding.ScoreHoldsParts.{behind_short}
+use Rattle.gabc_places.proofs.PlacesOfAText.{placed_after, after_joined, placed_append}
+use Rattle.gabc_score.proofs.holding.ScoreHoldsParts.{after_short}
 use Rattle.gabc_score.proofs.stopped_scores.StoppedScores.{as_many, closed_count, within_few, point_emits, stopped_read, stop_reached}
-use Rattle.gabc_score.proofs.stopped_scores.PrefixesAreReadAlike.{AllSmall, small_placed, small_behind}
+use Rattle.gabc_score.proofs.stopped_scores.PrefixesAreReadAlike.{AllSmall, small_placed, small_after}
 use Rattle.gabc_score.proofs.stopped_scores.StoppedScoreIsThatOfItsPrefix.{prefix_is, prefix_read, prefix_count}
 
 -- ---- characters with their places
@@ -79,8 +79,8 @@ body_small t short =
     let all : AllSmall (placed_characters_from first t) = small_placed first t (omega arith) (omega arith) in
     let cut : t ≡ heads_text t ++ after_heads t = sym (take-append-drop (head_len t + 2) t) in
     subst AllSmall
-    (ap (λ p. placed_characters_from p (after_heads t)) (behind_after [] (heads_text t)) ∙ placed_behind (heads_text t) (after_heads t))
-    (small_behind (placed_characters_from first (heads_text t)) (placed_characters_from (place_past first (heads_text t)) (after_heads t))
+    (ap (λ p. placed_characters_from p (after_heads t)) (after_joined [] (heads_text t)) ∙ placed_after (heads_text t) (after_heads t))
+    (small_after (placed_characters_from first (heads_text t)) (placed_characters_from (place_past first (heads_text t)) (after_heads t))
     (subst AllSmall (ap (placed_characters_from first) cut ∙ placed_append first (heads_text t) (after_heads t)) all))
 
 -- ---- the score
@@ -124,19 +124,19 @@ module _ (ends : (at : Place) (t : List ℕ) → EndsOnce at t) (emits : (at : P
       let head = bytes_len (canonical_heads heads.book) in
       let xs = body_characters t in
       let lists = body_events lines macros xs in
-      let fits = behind_short ends emits spans limits ending t short in
+      let fits = after_short ends emits spans limits ending t short in
       let w = prefix_is ends emits spans in_order fresh_is so_far notes_so_far nabc_so_far lines macros xs cut n h (body_small t short) fits in
       let p = stop_reached limits head xs lists n s in
       let len = same_len limits t (codes_of through) heads ok in
       let o = same_book limits t (codes_of through) heads ok in
-      let behind : head_len t + 2 ≤ length t = after_mark limits t heads ok in
-      let front_len : length (heads_text t) ≡ head_len t + 2 = length-take-le (head_len t + 2) t behind in
+      let after : head_len t + 2 ≤ length t = after_mark limits t heads ok in
+      let front_len : length (heads_text t) ≡ head_len t + 2 = length-take-le (head_len t + 2) t after in
       let prefix : heads_text again ≡ heads_text t =
       ap (λ m. take (m + 2) again) len ∙ ap (λ m. take m again) (sym front_len) ∙ take-append_seam (heads_text t) (codes_of through) in
       let rest : after_heads again ≡ codes_of through =
       ap (λ m. drop (m + 2) again) len ∙ ap (λ m. drop m again) (sym front_len) ∙ drop-append_seam (heads_text t) (codes_of through) in
       let characters : body_characters again ≡ through =
-      ap (λ f. placed_characters_after f (after_heads again)) prefix ∙ ap (placed_characters_after (heads_text t)) rest ∙ placed_prefix (heads_text t) (after_heads t) through w.behind w.all in
+      ap (λ f. placed_characters_after f (after_heads again)) prefix ∙ ap (placed_characters_after (heads_text t)) rest ∙ placed_prefix (heads_text t) (after_heads t) through w.after w.all in
       let body : List (List ℕ × List ℕ) → List Char → BodyResult = λ b ys.
       body_of limits (bytes_len (canonical_heads b)) o.0.findings (place_after again) Whole ys (body_events (nabc_lines_of b) (macros_of b) ys) in
       let read : body o.0.book (body_characters again) ≡ body heads.book through = ap (λ b. body b (body_characters again)) o.2 ∙ ap (body heads.book) characters in

@@ -46,7 +46,7 @@ use Rattle.gabc_score.proofs.holding.SyllablesHoldParts.{nothing_of, fits_back, 
 use Rattle.gabc_score.proofs.syllables_of_units.UnitsGiveSyllables.{units_whole, units_give}
 use Rattle.gabc_score.proofs.syllables_of_units.SyllablesAreThoseOfUnits.{body_all}
 use Rattle.gabc_score.proofs.stopped_scores.StoppedScores.{as_many, closed_count, within_few}
-use Rattle.gabc_score.proofs.stopped_scores.PrefixesAreReadAlike.{AllSmall, SmallAt, units_prefix, first_whole, small_behind}
+use Rattle.gabc_score.proofs.stopped_scores.PrefixesAreReadAlike.{AllSmall, SmallAt, units_prefix, first_whole, small_after}
 
 abbrev finished : BodyEvent
 finished = Text (text_out.Ended text_end.Finished)
@@ -104,17 +104,17 @@ some_characters j (u ∷ units) h =
     omega arith
 
 -- a body and its prefix begin with the same text, at a small place
-record BeginAlike (prefix behind : List Char) : Type 0 where
+record BeginAlike (prefix after : List Char) : Type 0 where
   at : Place
-  all : first_text texts_by_definition (prefix ++ behind) ≡ text_from texts_by_definition at (prefix ++ behind)
+  all : first_text texts_by_definition (prefix ++ after) ≡ text_from texts_by_definition at (prefix ++ after)
   some : first_text texts_by_definition prefix ≡ text_from texts_by_definition at prefix
   begins : BeginsWithLf prefix
-  line : at.line + length (prefix ++ behind) < 2 ^ 64
-  column : at.column + length (prefix ++ behind) < 2 ^ 64
+  line : at.line + length (prefix ++ after) < 2 ^ 64
+  column : at.column + length (prefix ++ after) < 2 ^ 64
 
-begin_alike : (prefix behind : List Char) → BeginsWithLf (prefix ++ behind) → 0 < length prefix → AllSmall (prefix ++ behind) → BeginAlike prefix behind
-begin_alike [] behind h k s = absurd (omega (arith, k))
-begin_alike (x ∷ prefix) behind h k s = record { at = x.place; all = refl; some = refl; begins = h; line = s.0; column = s.1.0 }
+begin_alike : (prefix after : List Char) → BeginsWithLf (prefix ++ after) → 0 < length prefix → AllSmall (prefix ++ after) → BeginAlike prefix after
+begin_alike [] after h k s = absurd (omega (arith, k))
+begin_alike (x ∷ prefix) after h k s = record { at = x.place; all = refl; some = refl; begins = h; line = s.0; column = s.1.0 }
 
 -- ---- lists of the prefix
 
@@ -138,15 +138,15 @@ module _ (ends : (at : Place) (t : List ℕ) → EndsOnce at t) (emits : (at : P
 
   -- a prefix of a body emits what the body emits of it, and the end, at a seam
   pub record IsWholeFront (xs prefix : List Char) (n k : ℕ) : Type 0 where
-    pub behind : List Char
-    pub all : xs ≡ prefix ++ behind
+    pub after : List Char
+    pub all : xs ≡ prefix ++ after
     pub few : length prefix ≤ n
     pub events : events_here prefix ≡ take (length prefix) (events_here xs) ++ (finished ∷ []) ∷ []
     pub seam : IsSeam (events_in_points [] (events_here xs) (length prefix))
     pub count : length (all_syllables (events_in_points [] (events_here xs) (length prefix))) ≡ k
 
   nothing_prefix : (xs : List Char) (n : ℕ) → IsWholeFront xs [] n 0
-  nothing_prefix xs n = record { behind = xs; all = refl; few = omega arith; events = refl; seam = record { since = refl; uncut = refl }; count = refl }
+  nothing_prefix xs n = record { after = xs; all = refl; few = omega arith; events = refl; seam = record { since = refl; uncut = refl }; count = refl }
 
   -- ---- a reading of the prefix
 
@@ -245,7 +245,7 @@ module _ (ends : (at : Place) (t : List ℕ) → EndsOnce at t) (emits : (at : P
       let some : 0 < length (characters_from us (JustText [])) = some_characters j u.closed some_units in
       let some_zs : 0 < length zs = omega arith in
       let front_count : length prefix ≡ length comment + length zs = length-append comment zs in
-      let small_ys : AllSmall ys = small_behind comment ys (subst AllSmall h.0 small) in
+      let small_ys : AllSmall ys = small_after comment ys (subst AllSmall h.0 small) in
       let fits_ys : size (codes_of ys) < 2 ^ 63 = fits_back comment ys (subst (λ cs. size (codes_of cs) < 2 ^ 63) h.0 fits) in
       let a = begin_alike zs tail (subst BeginsWithLf split h.1.1.0) some_zs (subst AllSmall split small_ys) in
       let first_is : first_text texts_by_definition ys ≡ text_from texts_by_definition a.at ys = ap (first_text texts_by_definition) split ∙ a.all ∙ ap (text_from texts_by_definition a.at) (sym split) in
@@ -288,7 +288,7 @@ module _ (ends : (at : Place) (t : List ℕ) → EndsOnce at t) (emits : (at : P
       let as_closed : length (closed_units us (JustText [])) ≡ length us = closed_count us (JustText []) in
       let as_taken : length us ≡ suc j = length-take-le (suc j) u.closed some_units in
       record {
-        behind = tail;
+        after = tail;
         all = h.0 ∙ ap (λ cs. comment ++ cs) split ∙ sym (append_assoc comment zs tail);
         few = omega arith;
         events = events;

@@ -38,9 +38,9 @@ use Rattle.gabc_score.proofs.building.EventsOfOnePoint.{made_before, made_after}
 use Rattle.gabc_score.proofs.building.StopIsFirst.{stop_is_first}
 use Rattle.gabc_score.proofs.building.OneListEachCharacter.{events_each}
 use Rattle.gabc_score.proofs.units.BodyHasOneCutting.{body_emits_all}
-use Rattle.gabc_score.proofs.holding.ScoreHoldsParts.{behind_short}
+use Rattle.gabc_score.proofs.holding.ScoreHoldsParts.{after_short}
 use Rattle.gabc_score.proofs.holding.SyllablesHoldParts.{nothing_of, fits_back}
-use Rattle.gabc_score.proofs.syllables_of_units.UnitsGiveSyllables.{eu_behind, nlba_behind, AreMade, units_give, all_events}
+use Rattle.gabc_score.proofs.syllables_of_units.UnitsGiveSyllables.{eu_after, nlba_after, AreMade, units_give, all_events}
 use Rattle.gabc_score.proofs.stopped_scores.ClosedWithin.{close_count, made_count, pieces_count, units_within_are}
 use Rattle.gabc_score.proofs.syllables_of_units.SyllablesAreThoseOfUnits.{placed_are}
 use Rattle.gabc_score.proofs.units.UnitsEndAtMarks.{first_is}
@@ -67,13 +67,13 @@ module _ (lines : ℕ) where
   first_made (suc k) eu nlba [] [] h = tt
   first_made (suc k) eu nlba [] (m ∷ ms) h = absurd h
   first_made (suc k) eu nlba (u ∷ us) [] h = absurd h
-  first_made (suc k) eu nlba (u ∷ us) (m ∷ ms) h = (h.0, first_made k (eu_behind eu (span_tags u.text)) (nlba_behind nlba (span_tags u.text)) us ms h.1)
+  first_made (suc k) eu nlba (u ∷ us) (m ∷ ms) h = (h.0, first_made k (eu_after eu (span_tags u.text)) (nlba_after nlba (span_tags u.text)) us ms h.1)
 
   pub as_many : (eu nlba : Bool) (us : List ScoreUnit) (ms : List UnplacedSyllable) → AreMade lines eu nlba us ms → length ms ≡ length us
   as_many eu nlba [] [] h = refl
   as_many eu nlba [] (m ∷ ms) h = absurd h
   as_many eu nlba (u ∷ us) [] h = absurd h
-  as_many eu nlba (u ∷ us) (m ∷ ms) h = ap (λ n. suc n) (as_many (eu_behind eu (span_tags u.text)) (nlba_behind nlba (span_tags u.text)) us ms h.1)
+  as_many eu nlba (u ∷ us) (m ∷ ms) h = ap (λ n. suc n) (as_many (eu_after eu (span_tags u.text)) (nlba_after nlba (span_tags u.text)) us ms h.1)
 
 pub closed_count : (units : List BodyUnit) (last : LastUnit) → length (closed_units units last) ≡ length units
 closed_count [] last = refl
@@ -191,7 +191,7 @@ module _ (ends : (at : Place) (t : List ℕ) → EndsOnce at t) (emits : (at : P
       let r = events_to_stop limits head [] xs lists in
       let p = stop_reached limits head xs lists n (subst (λ c. AreBeforeBodyStop limits c t n) (sym same) s) in
       let us = units_within (n - length cut.comment) cut.units in
-      let g = point_emits ends emits spans in_order lines macros xs cut n (subst (λ c. IsBodyCut c t cut) (sym same) h) (behind_short ends emits spans limits ending t short) p.0 in
+      let g = point_emits ends emits spans in_order lines macros xs cut n (subst (λ c. IsBodyCut c t cut) (sym same) h) (after_short ends emits spans limits ending t short) p.0 in
       subst (λ c. AreSyllablesOf (nabc_lines_of c) us (plain_by limits ending t (Ok heads)).syllables) same
       (subst (AreSyllablesOf lines us) (sym (stopped_read limits head heads.findings (place_after t) ending r.before r.last r.fault k ∙ ap (λ a. with_positions (all_syllables a)) p.1 ∙ ap with_positions g.1.0))
       (placed_are lines us g.0 g.1.1))

@@ -11,7 +11,7 @@ use Rattle.gabc_score.specs.Units.{BodyCutting, BodyUnit, LastUnit, Units}
 use Rattle.gabc_score.proofs.holding.ScoreHoldsParts.{codes_placed}
 use Rattle.gabc_score.proofs.texts_of_body.TextEmitsThroughEnd.{codes_append}
 
-units_first : (n : ℕ) (units : List BodyUnit) (last : LastUnit) → (behind : List Char) × (characters_from units last ≡ flat_map characters_in (take n units) ++ behind)
+units_first : (n : ℕ) (units : List BodyUnit) (last : LastUnit) → (after : List Char) × (characters_from units last ≡ flat_map characters_in (take n units) ++ after)
 units_first zero units last = (characters_from units last, refl)
 units_first (suc n) [] last = (characters_from [] last, refl)
 units_first (suc n) (u ∷ units) last =
@@ -20,7 +20,7 @@ units_first (suc n) (u ∷ units) last =
     (rest.0, ap (λ (l : List Char). characters_in u ++ l) rest.1 ∙ sym (append_assoc (characters_in u) first rest.0))
 
 through_first : (k : ℕ) (comment : List Char) (units : Option Units)
-    → (behind : List Char) × (comment ++ unit_characters units ≡ through_unit k (record { comment = comment; units = units }) ++ behind)
+    → (after : List Char) × (comment ++ unit_characters units ≡ through_unit k (record { comment = comment; units = units }) ++ after)
 through_first zero comment units = (comment ++ unit_characters units, refl)
 through_first (suc k) comment None = ([], sym (append-nil (comment ++ [])))
 through_first (suc k) comment (Some u) =
@@ -32,9 +32,9 @@ pub prefix_is_front : (t : List ℕ) (cut : BodyCutting) (n : ℕ) → body_char
 prefix_is_front t cut n characters =
     let through = through_unit (whole_count n cut) cut in
     let rest = through_first (whole_count n cut) cut.comment cut.units in
-    let behind : after_heads t ≡ codes_of through ++ codes_of rest.0 =
+    let after : after_heads t ≡ codes_of through ++ codes_of rest.0 =
     sym (codes_placed (heads_text t) (after_heads t)) ∙ (ap codes_of (characters ∙ rest.1) ∙ codes_append through rest.0) in
     let all : t ≡ whole_prefix t cut n ++ codes_of rest.0 =
-    sym (take-append-drop _ t) ∙ (ap (λ (l : List ℕ). heads_text t ++ l) behind ∙ sym (append_assoc (heads_text t) (codes_of through) (codes_of rest.0))) in
+    sym (take-append-drop _ t) ∙ (ap (λ (l : List ℕ). heads_text t ++ l) after ∙ sym (append_assoc (heads_text t) (codes_of through) (codes_of rest.0))) in
     let front = whole_prefix t cut n in
     (length front, sym (ap (λ (l : List ℕ). take (length front) l) all ∙ take-append_seam front (codes_of rest.0)))

@@ -29,7 +29,7 @@ use Rattle.gabc_score.specs.Units.{BodyCutting}
 use Rattle.gabc_score.specs.SyllablesOfUnits.{score_units, AreSyllablesOf, body_characters, IsBodyCut}
 use Rattle.gabc_score.proofs.score_events.PlainScores.{plain_by, plain_of}
 use Rattle.gabc_score.proofs.texts_of_body.SeamsOfCharacters.{size}
-use Rattle.gabc_score.proofs.holding.ScoreHoldsParts.{behind_short}
+use Rattle.gabc_score.proofs.holding.ScoreHoldsParts.{after_short}
 use Rattle.gabc_score.proofs.order.FindingsOfScore.{reached_prefix}
 use Rattle.gabc_score.proofs.syllables_of_units.SyllablesAreThoseOfUnits.{body_emits, placed_are}
 
@@ -77,7 +77,7 @@ module _ (ends : (at : Place) (t : List ℕ) → EndsOnce at t) (emits : (at : P
       let r = events_to_stop limits head [] xs lists in
       let w = whole_read limits head heads.findings (place_after t) r.before r.last r.fault k in
       let all = (reached_prefix limits head [] xs lists).last w.goes_on in
-      let g = body_emits ends emits spans in_order lines macros xs cut (subst (λ c. IsBodyCut c t cut) (sym same) h) (behind_short ends emits spans limits Whole t short) (ap cut_of (sym all) ∙ w.none_cut) in
+      let g = body_emits ends emits spans in_order lines macros xs cut (subst (λ c. IsBodyCut c t cut) (sym same) h) (after_short ends emits spans limits Whole t short) (ap cut_of (sym all) ∙ w.none_cut) in
       subst (λ c. AreSyllablesOf (nabc_lines_of c) (score_units cut.units) (plain_by limits Whole t (Ok heads)).syllables) same
       (subst (AreSyllablesOf lines (score_units cut.units)) (sym (w.syllables_are ∙ ap (λ a. with_positions (all_units a)) all ∙ ap with_positions g.1.0)) (placed_are lines (score_units cut.units) g.0 g.1.1))
 

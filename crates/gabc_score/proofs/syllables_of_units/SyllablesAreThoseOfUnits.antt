@@ -29,7 +29,7 @@ use Rattle.gabc_score.proofs.units.UnitsEndAtMarks.{first_is}
 use Rattle.gabc_score.proofs.holding.SyllableHoldsPartByPart.{IsBack, last_text, last_text_sum, text_sum, cut_is}
 use Rattle.gabc_score.proofs.holding.SyllablesHoldParts.{nothing_of, comment_emits, fits_back}
 use Rattle.gabc_score.proofs.syllables_of_units.LastTagOpensTheSpan.{after_append, text_opens_span, last_tag_opens}
-use Rattle.gabc_score.proofs.syllables_of_units.UnitsGiveSyllables.{eu_behind, nlba_behind, through_more, all_events, AreMade, units_give}
+use Rattle.gabc_score.proofs.syllables_of_units.UnitsGiveSyllables.{eu_after, nlba_after, through_more, all_events, AreMade, units_give}
 
 -- ---- the last text
 
@@ -39,7 +39,7 @@ module _ (lines : ℕ) where
   LastGives us before all = (made : List UnplacedSyllable) × ((all_units all ≡ all_syllables before ++ made) × AreMade lines (is_eu before) (is_nlba before) us made)
 
   text_emits : (t : List ℕ) (before all : List BodyEvent) → all_syllables all ≡ all_syllables before → sum_of (since_close all) ≡ text_sum t → StandsForView (kept t) (view_in t) t
-      → is_eu all ≡ eu_behind (is_eu before) (span_tags t) → is_nlba all ≡ nlba_behind (is_nlba before) (span_tags t)
+      → is_eu all ≡ eu_after (is_eu before) (span_tags t) → is_nlba all ≡ nlba_after (is_nlba before) (span_tags t)
       → LastGives (if has_text (view_in t) then record { text = t; notes = []; snippets = [] } ∷ [] else []) before all
   text_emits t before all made sum stands eu nlba = subst (λ b. Gives b (has_text (view_in t))) (sym (ap has_text view)) (by (has_text (view_in t)))
     where
@@ -68,16 +68,16 @@ module _ (lines : ℕ) where
 
 -- ---- positions
 
-all_append : (lines : ℕ) (eu nlba : Bool) (us vs : List ScoreUnit) (ms ns : List UnplacedSyllable) → AreMade lines eu nlba us ms → AreMade lines (eu_behind eu (tags_in us)) (nlba_behind nlba (tags_in us)) vs ns
+all_append : (lines : ℕ) (eu nlba : Bool) (us vs : List ScoreUnit) (ms ns : List UnplacedSyllable) → AreMade lines eu nlba us ms → AreMade lines (eu_after eu (tags_in us)) (nlba_after nlba (tags_in us)) vs ns
     → AreMade lines eu nlba (us ++ vs) (ms ++ ns)
 all_append lines eu nlba [] vs [] ns h k = k
 all_append lines eu nlba [] vs (m ∷ ms) ns h k = absurd h
 all_append lines eu nlba (u ∷ us) vs [] ns h k = absurd h
 all_append lines eu nlba (u ∷ us) vs (m ∷ ms) ns h k = (
   h.0,
-  all_append lines (eu_behind eu (span_tags u.text)) (nlba_behind nlba (span_tags u.text)) us vs ms ns h.1
-      (subst (λ b. AreMade lines (eu_behind (eu_behind eu (span_tags u.text)) (tags_in us)) b vs ns) (after_append (codes "<nlba>") (codes "</nlba>") nlba (span_tags u.text) (tags_in us))
-      (subst (λ b. AreMade lines b (nlba_behind nlba (tags_in (u ∷ us))) vs ns) (after_append (codes "<eu>") (codes "</eu>") eu (span_tags u.text) (tags_in us)) k)),
+  all_append lines (eu_after eu (span_tags u.text)) (nlba_after nlba (span_tags u.text)) us vs ms ns h.1
+      (subst (λ b. AreMade lines (eu_after (eu_after eu (span_tags u.text)) (tags_in us)) b vs ns) (after_append (codes "<nlba>") (codes "</nlba>") nlba (span_tags u.text) (tags_in us))
+      (subst (λ b. AreMade lines b (nlba_after nlba (tags_in (u ∷ us))) vs ns) (after_append (codes "<eu>") (codes "</eu>") eu (span_tags u.text) (tags_in us)) k)),
 )
 
 module _ (lines : ℕ) where
@@ -138,15 +138,15 @@ module _ (lines : ℕ) where
   some_before [] u = refl
   some_before (b ∷ before) u = refl
 
-  placed_from : (before us : List ScoreUnit) (ms : List UnplacedSyllable) → AreMade lines (eu_behind false (tags_in before)) (nlba_behind false (tags_in before)) us ms → AreFrom before us (placed_syllables_by (is_none before) ms)
+  placed_from : (before us : List ScoreUnit) (ms : List UnplacedSyllable) → AreMade lines (eu_after false (tags_in before)) (nlba_after false (tags_in before)) us ms → AreFrom before us (placed_syllables_by (is_none before) ms)
   placed_from before [] [] h = tt
   placed_from before [] (m ∷ ms) h = absurd h
   placed_from before (u ∷ us) [] h = absurd h
   placed_from before (u ∷ us) (m ∷ ms) h =
-      let eu : eu_behind false (tags_in (before ++ u ∷ [])) ≡ eu_behind (eu_behind false (tags_in before)) (span_tags u.text) =
-      ap (eu_behind false) (tags_push before u) ∙ after_append (codes "<eu>") (codes "</eu>") false (tags_in before) (span_tags u.text) in
-      let nlba : nlba_behind false (tags_in (before ++ u ∷ [])) ≡ nlba_behind (nlba_behind false (tags_in before)) (span_tags u.text) =
-      ap (nlba_behind false) (tags_push before u) ∙ after_append (codes "<nlba>") (codes "</nlba>") false (tags_in before) (span_tags u.text) in (
+      let eu : eu_after false (tags_in (before ++ u ∷ [])) ≡ eu_after (eu_after false (tags_in before)) (span_tags u.text) =
+      ap (eu_after false) (tags_push before u) ∙ after_append (codes "<eu>") (codes "</eu>") false (tags_in before) (span_tags u.text) in
+      let nlba : nlba_after false (tags_in (before ++ u ∷ [])) ≡ nlba_after (nlba_after false (tags_in before)) (span_tags u.text) =
+      ap (nlba_after false) (tags_push before u) ∙ after_append (codes "<nlba>") (codes "</nlba>") false (tags_in before) (span_tags u.text) in (
         record {
           holds = h.0.0;
           eu_is = last_tag_opens (codes "<eu>") (codes "</eu>") eu_opened eu_closed (tags_in (before ++ u ∷ [])) m.eu (h.0.1.0 ∙ sym eu);
@@ -154,8 +154,8 @@ module _ (lines : ℕ) where
           position_is = ap (λ b. position_by b (next_starts ms)) (begins_is before u m h.0.0.view_is) ∙ ap (position_by (begins_word before u)) (next_is _ _ us ms h.1);
         },
         subst (λ b. AreFrom (before ++ u ∷ []) us (placed_syllables_by b ms)) (some_before before u)
-            (placed_from (before ++ u ∷ []) us ms (subst (λ b. AreMade lines (eu_behind false (tags_in (before ++ u ∷ []))) b us ms) (sym nlba)
-            (subst (λ b. AreMade lines b (nlba_behind (nlba_behind false (tags_in before)) (span_tags u.text)) us ms) (sym eu) h.1))),
+            (placed_from (before ++ u ∷ []) us ms (subst (λ b. AreMade lines (eu_after false (tags_in (before ++ u ∷ []))) b us ms) (sym nlba)
+            (subst (λ b. AreMade lines b (nlba_after (nlba_after false (tags_in before)) (span_tags u.text)) us ms) (sym eu) h.1))),
       )
 
   pub placed_are : (us : List ScoreUnit) (ms : List UnplacedSyllable) → AreMade lines false false us ms → AreSyllablesOf lines us (placed_syllables_by true ms)
@@ -218,7 +218,7 @@ module _ (ends : (at : Place) (t : List ℕ) → EndsOnce at t) (emits : (at : P
         (
           ap all_units g.events_are ∙ l.1.0 ∙ ap (λ (ms : List UnplacedSyllable). ms ++ l.0) g.step.made_is,
           all_append lines false false us (last_units u.last) g.step.made l.0 g.step.are
-              (subst (λ b. AreMade lines (eu_behind false (tags_in us)) b (last_units u.last) l.0) g.step.nlba (subst (λ b. AreMade lines b (is_nlba g.mid) (last_units u.last) l.0) g.step.eu l.1.1)),
+              (subst (λ b. AreMade lines (eu_after false (tags_in us)) b (last_units u.last) l.0) g.step.nlba (subst (λ b. AreMade lines b (is_nlba g.mid) (last_units u.last) l.0) g.step.eu l.1.1)),
         ),
       )
 

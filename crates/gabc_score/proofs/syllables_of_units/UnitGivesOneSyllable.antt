@@ -297,11 +297,11 @@ module _ (ends : (at : Place) (t : List ℕ) → EndsOnce at t) (emits : (at : P
     (all_found : (at : Place) (t : List ℕ) → found_in (concat_of (events_by_point at t)) ≡ findings at t) (lines macros : ℕ) where
   module _ (at : Place) (u : BodyUnit) (units : List BodyUnit) (last : LastUnit) (fits : size (codes_of (characters_from (u ∷ units) last)) < 2 ^ 63)
       (cuts : Cuts texts_by_definition lines macros (text_from texts_by_definition at (characters_from (u ∷ units) last)) (units_pieces lines (u ∷ units) last) (last_characters last)) where
-    abbrev behind : List Char
-    behind = characters_from units last
+    abbrev further : List Char
+    further = characters_from units last
 
     abbrev all : List Char
-    all = characters_in u ++ behind
+    all = characters_in u ++ further
 
     abbrev more : List CutPart
     more = units_pieces lines units last
@@ -315,8 +315,8 @@ module _ (ends : (at : Place) (t : List ℕ) → EndsOnce at t) (emits : (at : P
     whole_is : whole pieces end ≡ all
     whole_is = units_whole lines (u ∷ units) last
 
-    behind_is : whole more end ≡ behind
-    behind_is = units_whole lines units last
+    after_is : whole more end ≡ further
+    after_is = units_whole lines units last
 
     cut : Cuts texts_by_definition lines macros (text_from texts_by_definition at (whole pieces end)) pieces end
     cut = subst (λ (ys : List Char). Cuts texts_by_definition lines macros (text_from texts_by_definition at ys) pieces end) (sym whole_is) cuts
@@ -337,12 +337,12 @@ module _ (ends : (at : Place) (t : List ℕ) → EndsOnce at t) (emits : (at : P
     emitted_is : first_events lines macros at all (length (characters_in u)) ≡ concat_of parts.front
     emitted_is = first_is all_found lines macros all (length (characters_in u)) at parts.front _ (lists_are ∙ parts.all_is) parts.count
 
-    pub unit_warns : TextWarns (score_unit u behind).text → SnippetsWarn lines macros 0 (snippets_in u) behind → Warn (findings_of (events_onto (first_events lines macros at all (length (characters_in u))) []))
+    pub unit_warns : TextWarns (score_unit u further).text → SnippetsWarn lines macros 0 (snippets_in u) further → Warn (findings_of (events_onto (first_events lines macros at all (length (characters_in u))) []))
     unit_warns h k =
         subst Warn (sym (ap (λ (ts : List BodyEvent). findings_of (events_onto ts [])) emitted_is ∙ found_onto (concat_of parts.front) []))
-        (parts.warns (subst (λ (ys : List Char). TextWarns (score_unit u ys).text × SnippetsWarn lines macros 0 (snippets_in u) ys) (sym behind_is) (h, k)))
+        (parts.warns (subst (λ (ys : List Char). TextWarns (score_unit u ys).text × SnippetsWarn lines macros 0 (snippets_in u) ys) (sym after_is) (h, k)))
 
-    pub one_syllable : (before : List BodyEvent) → since_close before ≡ [] → GivesOneSyllable lines macros at u behind before
+    pub one_syllable : (before : List BodyEvent) → since_close before ≡ [] → GivesOneSyllable lines macros at u further before
     one_syllable before since =
         let g = unit_emits ends emits spans in_order lines macros at u more end before since short cut in
         let later = concat_of (lists_of all_found lines macros (text_from texts_by_definition (after_mark u.final.end.place) (whole more end)) more end) in
@@ -351,17 +351,17 @@ module _ (ends : (at : Place) (t : List ℕ) → EndsOnce at t) (emits : (at : P
         ∙ onto_cancel later (events_onto (concat_of parts.front) before) g.mid
         (sym (through_more parts.front (lists_of all_found lines macros (text_from texts_by_definition (after_mark u.final.end.place) (whole more end)) more end) before)
         ∙ ap (λ (ls : List (List BodyEvent)). events_onto (concat_of ls) before) (sym parts.all_is) ∙ g.events_are) in
-        let holds : HoldsUnit lines (score_unit u behind) g.step.made = subst (λ (ys : List Char). HoldsUnit lines (score_unit u ys) g.step.made) behind_is g.step.holds in
-        let tags : span_tags (score_unit u (whole more end)).text ≡ span_tags (score_unit u behind).text = ap (λ (ys : List Char). span_tags (score_unit u ys).text) behind_is in
+        let holds : HoldsUnit lines (score_unit u further) g.step.made = subst (λ (ys : List Char). HoldsUnit lines (score_unit u ys) g.step.made) after_is g.step.holds in
+        let tags : span_tags (score_unit u (whole more end)).text ≡ span_tags (score_unit u further).text = ap (λ (ys : List Char). span_tags (score_unit u ys).text) after_is in
         let eu_is : g.step.made.eu ≡ eu_past g.step.made (is_eu before) =
-        g.step.made_eu ∙ ap (after_tags (codes "<eu>") (codes "</eu>") (is_eu before)) tags ∙ sym (unit_past (codes "<eu>") (codes "</eu>") lines (score_unit u behind) g.step.made (is_eu before) holds) in
+        g.step.made_eu ∙ ap (after_tags (codes "<eu>") (codes "</eu>") (is_eu before)) tags ∙ sym (unit_past (codes "<eu>") (codes "</eu>") lines (score_unit u further) g.step.made (is_eu before) holds) in
         let nlba_is : g.step.made.nlba ≡ nlba_past g.step.made (is_nlba before) =
-        g.step.made_nlba ∙ ap (after_tags (codes "<nlba>") (codes "</nlba>") (is_nlba before)) tags ∙ sym (unit_past (codes "<nlba>") (codes "</nlba>") lines (score_unit u behind) g.step.made (is_nlba before) holds) in
+        g.step.made_nlba ∙ ap (after_tags (codes "<nlba>") (codes "</nlba>") (is_nlba before)) tags ∙ sym (unit_past (codes "<nlba>") (codes "</nlba>") lines (score_unit u further) g.step.made (is_nlba before) holds) in
         record {
           made = g.step.made;
           none_earlier = λ n few. none_made (first_events lines macros at all n) before (none_within n few);
           given = ap all_syllables mid_is ∙ g.step.made_is;
-          nothing_behind = ap since_close mid_is ∙ g.step.since;
+          nothing_after = ap since_close mid_is ∙ g.step.since;
           holds = holds;
           few_on_the_way = λ limit n few small. few_kept limit n few small;
           few = λ limit k. few_made limit k g.step.made (ap all_syllables mid_is ∙ g.step.made_is);
@@ -375,15 +375,15 @@ module _ (ends : (at : Place) (t : List ℕ) → EndsOnce at t) (emits : (at : P
         within : (n w : ℕ) (k : ℕ) → n < w → (if nat_lt n w then 0 else k) ≡ 0
         within n w k h = ap (λ (b : Bool). if b then 0 else k) (lt-ltb n w h)
 
-        total : (limit : ℕ) → KeepsWithin limit (score_unit u behind) → all_kept (first_events lines macros at all (length (characters_in u))) ≤ limit
+        total : (limit : ℕ) → KeepsWithin limit (score_unit u further) → all_kept (first_events lines macros at all (length (characters_in u))) ≤ limit
         total limit few =
-            let all_few = unit_few all_found lines macros ends emits limit at u more end short cut (subst (λ (ys : List Char). KeepsWithin limit (score_unit u ys)) (sym behind_is) few) in
+            let all_few = unit_few all_found lines macros ends emits limit at u more end short cut (subst (λ (ys : List Char). KeepsWithin limit (score_unit u ys)) (sym after_is) few) in
             subst (λ (ts : List BodyEvent). all_kept ts ≤ limit) (sym emitted_is) all_few
 
         none_kept : all_kept (since_close before) ≡ 0
         none_kept = ap all_kept since
 
-        few_kept : (limit n : ℕ) → KeepsWithin limit (score_unit u behind) → n ≤ length (characters_in u) → length (kept_of (since_close (events_onto (first_events lines macros at all n) before))) ≤ limit
+        few_kept : (limit n : ℕ) → KeepsWithin limit (score_unit u further) → n ≤ length (characters_in u) → length (kept_of (since_close (events_onto (first_events lines macros at all n) before))) ≤ limit
         few_kept limit n few small =
             let lists = events_from texts_by_definition lines macros (text_from texts_by_definition at all) all in
             let ts = first_events lines macros at all n in
@@ -395,7 +395,7 @@ module _ (ends : (at : Place) (t : List ℕ) → EndsOnce at t) (emits : (at : P
             let bound : all_kept (first_events lines macros at all (length (characters_in u))) ≤ limit = total limit few in
             omega (arith, after, on, some, same, bound, none_kept)
 
-        few_made : (limit : ℕ) → KeepsWithin limit (score_unit u behind) → (made : UnplacedSyllable)
+        few_made : (limit : ℕ) → KeepsWithin limit (score_unit u further) → (made : UnplacedSyllable)
             → all_syllables (events_onto (first_events lines macros at all (length (characters_in u))) before) ≡ all_syllables before ++ made ∷ [] → length made.kept ≤ limit
         few_made limit few made given =
             let bound : all_kept (first_events lines macros at all (length (characters_in u))) ≤ limit = total limit few in
@@ -405,7 +405,7 @@ module _ (ends : (at : Place) (t : List ℕ) → EndsOnce at t) (emits : (at : P
 
         none_within : (n : ℕ) → n < length (characters_in u) → close_count (first_events lines macros at all n) ≡ 0
         none_within n few =
-            let size_is : length (whole pieces end) ≡ length (characters_in u) + length behind = ap (length {A = Char}) whole_is ∙ length-append (characters_in u) behind in
+            let size_is : length (whole pieces end) ≡ length (characters_in u) + length further = ap (length {A = Char}) whole_is ∙ length-append (characters_in u) further in
             let some : n ≤ length (whole pieces end) = omega arith in
             ap (λ (ls : List (List BodyEvent)). close_count (concat_of (take n ls))) lists_are
             ∙ pieces_count lines macros (text_from texts_by_definition at (whole pieces end)) pieces end tt short cut n some

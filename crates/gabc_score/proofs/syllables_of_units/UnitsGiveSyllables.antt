@@ -38,11 +38,11 @@ use Rattle.gabc_score.proofs.holding.SyllableHoldsPartByPart.{IsBack, codes_in, 
 use Rattle.gabc_score.proofs.holding.SyllablesHoldParts.{fits_prefix, fits_back}
 use Rattle.gabc_score.proofs.syllables_of_units.LastTagOpensTheSpan.{after_tags, after_append, text_opens_span}
 
-abbrev pub eu_behind : Bool → List (List ℕ) → Bool
-eu_behind was tags = after_tags (codes "<eu>") (codes "</eu>") was tags
+abbrev pub eu_after : Bool → List (List ℕ) → Bool
+eu_after was tags = after_tags (codes "<eu>") (codes "</eu>") was tags
 
-abbrev pub nlba_behind : Bool → List (List ℕ) → Bool
-nlba_behind was tags = after_tags (codes "<nlba>") (codes "</nlba>") was tags
+abbrev pub nlba_after : Bool → List (List ℕ) → Bool
+nlba_after was tags = after_tags (codes "<nlba>") (codes "</nlba>") was tags
 
 -- ---- characters
 
@@ -145,10 +145,10 @@ pub record UnitGives (lines : ℕ) (u : ScoreUnit) (tags : List (List ℕ)) (bef
   pub made : UnplacedSyllable
   pub made_is : all_syllables after ≡ all_syllables before ++ made ∷ []
   pub holds : HoldsUnit lines u made
-  pub made_eu : made.eu ≡ eu_behind (is_eu before) tags
-  pub made_nlba : made.nlba ≡ nlba_behind (is_nlba before) tags
-  pub eu : is_eu after ≡ eu_behind (is_eu before) tags
-  pub nlba : is_nlba after ≡ nlba_behind (is_nlba before) tags
+  pub made_eu : made.eu ≡ eu_after (is_eu before) tags
+  pub made_nlba : made.nlba ≡ nlba_after (is_nlba before) tags
+  pub eu : is_eu after ≡ eu_after (is_eu before) tags
+  pub nlba : is_nlba after ≡ nlba_after (is_nlba before) tags
   pub uncut : cut_of after ≡ cut_of before
   pub since : since_close after ≡ []
 
@@ -165,16 +165,16 @@ module _ (lines : ℕ) where
   abbrev pub AreMade : Bool → Bool → List ScoreUnit → List UnplacedSyllable → Type 0
   AreMade eu nlba [] [] = Unit {0}
   AreMade eu nlba (u ∷ us) (m ∷ ms) =
-      (HoldsUnit lines u m × ((m.eu ≡ eu_behind eu (span_tags u.text)) × (m.nlba ≡ nlba_behind nlba (span_tags u.text))))
-      × AreMade (eu_behind eu (span_tags u.text)) (nlba_behind nlba (span_tags u.text)) us ms
+      (HoldsUnit lines u m × ((m.eu ≡ eu_after eu (span_tags u.text)) × (m.nlba ≡ nlba_after nlba (span_tags u.text))))
+      × AreMade (eu_after eu (span_tags u.text)) (nlba_after nlba (span_tags u.text)) us ms
   AreMade eu nlba _ _ = ⊥
 
   pub record UnitsGive (us : List ScoreUnit) (before after : List BodyEvent) : Type 0 where
     pub made : List UnplacedSyllable
     pub made_is : all_syllables after ≡ all_syllables before ++ made
     pub are : AreMade (is_eu before) (is_nlba before) us made
-    pub eu : is_eu after ≡ eu_behind (is_eu before) (tags_in us)
-    pub nlba : is_nlba after ≡ nlba_behind (is_nlba before) (tags_in us)
+    pub eu : is_eu after ≡ eu_after (is_eu before) (tags_in us)
+    pub nlba : is_nlba after ≡ nlba_after (is_nlba before) (tags_in us)
     pub uncut : cut_of after ≡ cut_of before
     pub since : since_close after ≡ []
 
@@ -329,10 +329,10 @@ module _ (ends : (at : Place) (t : List ℕ) → EndsOnce at t) (emits : (at : P
       let r = notes_give v end (codes_of xs) [] u.nexts u.final more last 0 end.place after o.0 (text_is ∙ sym is.0)
       (ap (map (λ (s : ReadSnippet). s.characters)) is.2) (ap (bracket_with codes_in) is.2 ∙ ap (λ c. c ∷ []) (sym bracket)) refl refl some.0 some.1 some.2
       (fits_back (end ∷ []) rest (fits_back prefix (end ∷ rest) fits)) h.1 in
-      let eu_is : is_eu after ≡ eu_behind (is_eu before) (span_tags v.text) =
-      text_spans (codes "<eu>") (codes "</eu>") at prefix end rest Opens before since h.0 ∙ ap (λ t. eu_behind (is_eu before) (span_tags t)) (sym text_is) in
-      let nlba_is : is_nlba after ≡ nlba_behind (is_nlba before) (span_tags v.text) =
-      text_spans (codes "<nlba>") (codes "</nlba>") at prefix end rest Opens before since h.0 ∙ ap (λ t. nlba_behind (is_nlba before) (span_tags t)) (sym text_is) in
+      let eu_is : is_eu after ≡ eu_after (is_eu before) (span_tags v.text) =
+      text_spans (codes "<eu>") (codes "</eu>") at prefix end rest Opens before since h.0 ∙ ap (λ t. eu_after (is_eu before) (span_tags t)) (sym text_is) in
+      let nlba_is : is_nlba after ≡ nlba_after (is_nlba before) (span_tags v.text) =
+      text_spans (codes "<nlba>") (codes "</nlba>") at prefix end rest Opens before since h.0 ∙ ap (λ t. nlba_after (is_nlba before) (span_tags t)) (sym text_is) in
       record {
         mid = r.mid;
         step = record {
@@ -370,11 +370,11 @@ module _ (ends : (at : Place) (t : List ℕ) → EndsOnce at t) (emits : (at : P
       let same : score_unit u (whole more ends_with) ≡ v = ap (score_unit u) (units_whole lines units last) in
       let holds : HoldsUnit lines v g.made = subst (λ w. HoldsUnit lines w g.made) same g.holds in
       let tags : span_tags (score_unit u (whole more ends_with)).text ≡ span_tags v.text = ap (λ (w : ScoreUnit). span_tags w.text) same in
-      let eu_is : is_eu one.mid ≡ eu_behind (is_eu before) (span_tags v.text) = g.eu ∙ ap (eu_behind (is_eu before)) tags in
-      let nlba_is : is_nlba one.mid ≡ nlba_behind (is_nlba before) (span_tags v.text) = g.nlba ∙ ap (nlba_behind (is_nlba before)) tags in
-      let behind_fits : size (codes_of (whole more ends_with)) < 2 ^ 63 =
+      let eu_is : is_eu one.mid ≡ eu_after (is_eu before) (span_tags v.text) = g.eu ∙ ap (eu_after (is_eu before)) tags in
+      let nlba_is : is_nlba one.mid ≡ nlba_after (is_nlba before) (span_tags v.text) = g.nlba ∙ ap (nlba_after (is_nlba before)) tags in
+      let after_fits : size (codes_of (whole more ends_with)) < 2 ^ 63 =
       fits_back (characters_in u) (whole more ends_with) (subst (λ cs. size (codes_of cs) < 2 ^ 63) (unit_whole lines u more ends_with) fits) in
-      let r = units_give units last (after_mark u.final.end.place) one.mid g.since behind_fits one.cuts in
+      let r = units_give units last (after_mark u.final.end.place) one.mid g.since after_fits one.cuts in
       record {
         at = r.at;
         mid = r.mid;
@@ -382,13 +382,13 @@ module _ (ends : (at : Place) (t : List ℕ) → EndsOnce at t) (emits : (at : P
           made = g.made ∷ r.step.made;
           made_is = r.step.made_is ∙ ap (λ (ms : List UnplacedSyllable). ms ++ r.step.made) g.made_is ∙ append_assoc (all_syllables before) (g.made ∷ []) r.step.made;
           are = (
-            (holds, (g.made_eu ∙ ap (eu_behind (is_eu before)) tags, g.made_nlba ∙ ap (nlba_behind (is_nlba before)) tags)),
-            subst (λ b. AreMade lines (eu_behind (is_eu before) (span_tags v.text)) b (closed_units units last) r.step.made) nlba_is
+            (holds, (g.made_eu ∙ ap (eu_after (is_eu before)) tags, g.made_nlba ∙ ap (nlba_after (is_nlba before)) tags)),
+            subst (λ b. AreMade lines (eu_after (is_eu before) (span_tags v.text)) b (closed_units units last) r.step.made) nlba_is
                 (subst (λ b. AreMade lines b (is_nlba one.mid) (closed_units units last) r.step.made) eu_is r.step.are),
           );
-          eu = r.step.eu ∙ ap (λ b. eu_behind b (tags_in (closed_units units last))) eu_is
+          eu = r.step.eu ∙ ap (λ b. eu_after b (tags_in (closed_units units last))) eu_is
               ∙ sym (after_append (codes "<eu>") (codes "</eu>") (is_eu before) (span_tags v.text) (tags_in (closed_units units last)));
-          nlba = r.step.nlba ∙ ap (λ b. nlba_behind b (tags_in (closed_units units last))) nlba_is
+          nlba = r.step.nlba ∙ ap (λ b. nlba_after b (tags_in (closed_units units last))) nlba_is
               ∙ sym (after_append (codes "<nlba>") (codes "</nlba>") (is_nlba before) (span_tags v.text) (tags_in (closed_units units last)));
           uncut = r.step.uncut ∙ g.uncut;
           since = r.step.since;

@@ -8,7 +8,7 @@ use Rattle.gabc_text.proofs.KeptCharacters.{codes_placed}
 use Rattle.gabc_places.specs.declared.place.Place.{Place}
 use Rattle.gabc_places.specs.declared.place.Char.{Char}
 use Rattle.gabc_places.specs.Place.{next_place, is_line_feed, place_after, place_past, placed_characters_from}
-use Rattle.gabc_places.proofs.PlacesOfAText.{behind_after}
+use Rattle.gabc_places.proofs.PlacesOfAText.{after_joined}
 use Rattle.gabc_headers.specs.Heads.{head_len}
 use Rattle.gabc_text.specs.declared.text_event.TextEvent.{TextEvent}
 use Rattle.gabc_text.specs.Events.{CountsFit, events_by_point}
@@ -29,17 +29,17 @@ fits_by at c t false f = record { line = omega (arith, f.line); column = omega (
 fits_next : (at : Place) (c : ℕ) (t : List ℕ) → CountsFit at (c ∷ t) → CountsFit (next_place at c) t
 fits_next at c t f = fits_by at c t (is_line_feed c) f
 
-fits_behind : (at : Place) (c : ℕ) (t : List ℕ) → CountsFit at (c ∷ t) → CountsFit (after_mark at) t
-fits_behind at c t f = record { line = omega (arith, f.line); column = omega (arith, f.column); bytes = omega (arith, f.bytes) }
+fits_after : (at : Place) (c : ℕ) (t : List ℕ) → CountsFit at (c ∷ t) → CountsFit (after_mark at) t
+fits_after at c t f = record { line = omega (arith, f.line); column = omega (arith, f.column); bytes = omega (arith, f.bytes) }
 
 pub bytes_encodes : (t : List ℕ) → bytes_of t ≡ length (encodes t)
 bytes_encodes [] = refl
 bytes_encodes (c ∷ t) = rw (bytes_encodes t, length-append (encode c) (encodes t), length-encode c) refl
 
 -- a body fits after a prefix if the bytes of both are few, and the place after the prefix counts no more than the prefix has
-pub fits_behind_prefix : (at : Place) (prefix bytes : List ℕ) → IsUtf8 bytes → at.line ≤ 1 + length prefix → at.column ≤ 1 + length prefix
+pub fits_after_prefix : (at : Place) (prefix bytes : List ℕ) → IsUtf8 bytes → at.line ≤ 1 + length prefix → at.column ≤ 1 + length prefix
     → length prefix + length bytes < 2 ^ 63 → CountsFit at (chars bytes)
-fits_behind_prefix at prefix bytes utf8 line column few =
+fits_after_prefix at prefix bytes utf8 line column few =
     let same : length (encodes (chars bytes)) ≡ length bytes = ap (length {A = ℕ}) (encodes-chars bytes utf8) in
     let less = length-le-encodes (chars bytes) in
     record {
@@ -57,7 +57,7 @@ pub body_fits : (t : List ℕ) → length (encodes t) < 2 ^ 63 → CountsFit (pl
 body_fits t few =
     let less = length-le-encodes t in
     let whole : CountsFit (place_after []) t = record { line = omega (arith, few, less); column = omega (arith, few, less); bytes = omega (arith, few, bytes_encodes t) } in
-    subst (λ p. CountsFit p (after_heads t)) (behind_after [] (heads_text t))
+    subst (λ p. CountsFit p (after_heads t)) (after_joined [] (heads_text t))
     (fits_past (place_after []) (heads_text t) (after_heads t) (subst (CountsFit (place_after [])) (sym (take-append-drop (head_len t + 2) t)) whole))
 
 module _ (step : (at : Place) (t : List ℕ) → CountsFit at t → events_left (fresh_stage at) t ≡ events_by_point at t) (lines macros : ℕ) where
@@ -71,17 +71,17 @@ module _ (step : (at : Place) (t : List ℕ) → CountsFit at t → events_left 
   same_standing at c t (InText lists) f = refl
   same_standing at c t (InNotes line opened lists) f = refl
 
-  same_behind : (at : Place) (c : ℕ) (t : List ℕ) (part : PartAhead) → CountsFit at (c ∷ t)
+  same_after : (at : Place) (c : ℕ) (t : List ℕ) (part : PartAhead) → CountsFit at (c ∷ t)
       → part_after_character texts_by_stage lines macros part (record { c = c; place = at }) (placed_characters_from (next_place at c) t)
       ≡ part_after_character texts_by_definition lines macros part (record { c = c; place = at }) (placed_characters_from (next_place at c) t)
-  same_behind at c t InComment f = refl
-  same_behind at c t (InText lists) f = refl
-  same_behind at c t (InNotes line opened lists) f =
+  same_after at c t InComment f = refl
+  same_after at c t (InText lists) f = refl
+  same_after at c t (InNotes line opened lists) f =
       ap (λ (text : List (List TextEvent)).
       if list_any is_next (first_list lists) then snippet_from lines macros (next_line lines line) opened (placed_characters_from (next_place at c) t) else
       if list_any is_close (first_list lists) then InText text else
       InNotes line opened (other_lists lists))
-      (same_texts (after_mark at) (next_place at c) t (fits_behind at c t f))
+      (same_texts (after_mark at) (next_place at c) t (fits_after at c t f))
 
   pub same_emitted : (at : Place) (t : List ℕ) (part : PartAhead) → CountsFit at t
       → events_from texts_by_stage lines macros part (placed_characters_from at t) ≡ events_from texts_by_definition lines macros part (placed_characters_from at t)
@@ -91,5 +91,5 @@ module _ (step : (at : Place) (t : List ℕ) → CountsFit at t → events_left 
       let xs = placed_characters_from (next_place at c) t in
       let here = part_at texts_by_definition part x xs in
       ap (λ (p : PartAhead). events_in p ∷ events_from texts_by_stage lines macros (part_after_character texts_by_stage lines macros p x xs) xs) (same_standing at c t part f)
-      ∙ ap (λ (p : PartAhead). events_in here ∷ events_from texts_by_stage lines macros p xs) (same_behind at c t here f)
+      ∙ ap (λ (p : PartAhead). events_in here ∷ events_from texts_by_stage lines macros p xs) (same_after at c t here f)
       ∙ ap (λ (lists : List (List BodyEvent)). events_in here ∷ lists) (same_emitted (next_place at c) t (part_after_character texts_by_definition lines macros here x xs) (fits_next at c t f))

@@ -199,7 +199,7 @@ module _ (ends : (at : Place) (t : List ℕ) → EndsOnce at t) (emits : (at : P
       let left : e.rest ≡ 40 ∷ drop 1 e.rest = subst (λ how. Leaves how e.rest) notes e.leaves in
       let size : length (codes_of prefix) ≡ length e.prefix = length_of_codes prefix ∙ ends_at lines e.before e.last e.how e.rest prefix mark e.none_before k ∙ e.one_each in
       let all : codes_of prefix ++ end.c ∷ codes_of rest ≡ e.prefix ++ e.rest = sym (codes_append prefix (end ∷ rest)) ∙ e.text_is in
-      let behind : end.c ∷ codes_of rest ≡ 40 ∷ drop 1 e.rest =
+      let after : end.c ∷ codes_of rest ≡ 40 ∷ drop 1 e.rest =
       sym (drop_at (codes_of prefix) (end.c ∷ codes_of rest) (length e.prefix) size) ∙ ap (drop (length e.prefix)) all ∙ drop_at e.prefix e.rest (length e.prefix) refl ∙ left in
       cc
 

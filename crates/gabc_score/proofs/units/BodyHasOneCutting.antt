@@ -172,12 +172,12 @@ module _ (texts : Texts) (lines macros : ℕ) where
   follows_read (Next line opened) x xs = tt
   follows_read Closes x xs = tt
 
-  abbrev behind_by : Option Mark → PartAhead → Char → List Char → PartAhead
-  behind_by None part x xs = part_onward part
-  behind_by (Some mark) part x xs = part_following texts lines macros mark x xs
+  abbrev after_by : Option Mark → PartAhead → Char → List Char → PartAhead
+  after_by None part x xs = part_onward part
+  after_by (Some mark) part x xs = part_following texts lines macros mark x xs
 
   abbrev by_events : PartAhead → Char → List Char → Option Mark → List (List BodyEvent)
-  by_events part x xs o = events_in part ∷ events_from texts lines macros (behind_by o part x xs) xs
+  by_events part x xs o = events_in part ∷ events_from texts lines macros (after_by o part x xs) xs
 
   point_emitted : (part : PartAhead) → IsPastComment part → (x : Char) (xs : List Char) → events_from texts lines macros part (x ∷ xs) ≡ by_events part x xs (mark_in lines part)
   point_emitted InComment h x xs = elim h [ ]

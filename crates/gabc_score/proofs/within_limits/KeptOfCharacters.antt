@@ -320,14 +320,14 @@ other_notes_few : (line : ℕ) (opened : Place) (lists : List (List NoteEvent)) 
 other_notes_few line opened [] h = h
 other_notes_few line opened (os ∷ lists) h = h.1
 
-behind_few : (lines macros : ℕ) (part : PartAhead) (x : Char) (xs : List Char) → PartFew part → PartFew (part_after_character texts_by_definition lines macros part x xs)
-behind_few lines macros InComment x xs h = tt
-behind_few lines macros (InText lists) x xs h = by (list_any is_text_end (first_list lists))
+after_few : (lines macros : ℕ) (part : PartAhead) (x : Char) (xs : List Char) → PartFew part → PartFew (part_after_character texts_by_definition lines macros part x xs)
+after_few lines macros InComment x xs h = tt
+after_few lines macros (InText lists) x xs h = by (list_any is_text_end (first_list lists))
   where
     by : (b : Bool) → PartFew (if b then snippet_from lines macros 0 x.place xs else InText (other_lists lists))
     by true = snippet_few lines macros 0 x.place xs
     by false = others_few lists h
-behind_few lines macros (InNotes line opened lists) x xs h = by (list_any is_next (first_list lists)) (list_any is_close (first_list lists))
+after_few lines macros (InNotes line opened lists) x xs h = by (list_any is_next (first_list lists)) (list_any is_close (first_list lists))
   where
     by : (a b : Bool) → PartFew (if a then snippet_from lines macros (next_line lines line) opened xs else if b then text_from texts_by_definition (after_mark x.place) xs else InNotes line opened (other_lists lists))
     by true b = snippet_few lines macros (next_line lines line) opened xs
@@ -341,7 +341,7 @@ first_keep lines macros (suc n) part [] h few = absurd (omega (arith, few))
 first_keep lines macros (suc n) part (x ∷ xs) h few =
     let here = at_few part x xs h in
     let next = part_after_character texts_by_definition lines macros (part_at texts_by_definition part x xs) x xs in
-    let rest = first_keep lines macros n next xs (behind_few lines macros (part_at texts_by_definition part x xs) x xs here) (omega (arith, few)) in
+    let rest = first_keep lines macros n next xs (after_few lines macros (part_at texts_by_definition part x xs) x xs here) (omega (arith, few)) in
     let one = here_few (part_at texts_by_definition part x xs) here in
     let lists : List (List BodyEvent) = take n (events_from texts_by_definition lines macros next xs) in
     let all : all_kept (concat_of (events_in (part_at texts_by_definition part x xs) ∷ lists)) ≡ all_kept (events_in (part_at texts_by_definition part x xs)) + all_kept (concat_of lists) =

@@ -43,7 +43,7 @@ use Rattle.gabc_score.proofs.building.OneListEachCharacter.{events_each}
 use Rattle.gabc_score.proofs.order.FindingsOfScore.{reached_prefix}
 use Rattle.gabc_score.proofs.units.UnitsEndAtMarks.{first_is}
 use Rattle.gabc_score.proofs.holding.SyllablesHoldParts.{fits_back}
-use Rattle.gabc_score.proofs.holding.ScoreHoldsParts.{behind_short}
+use Rattle.gabc_score.proofs.holding.ScoreHoldsParts.{after_short}
 use Rattle.gabc_score.proofs.syllables_of_units.UnitsGiveSyllables.{all_events, units_give}
 use Rattle.gabc_score.proofs.syllables_of_units.SyllablesAreThoseOfUnits.{body_all, body_emits, placed_are}
 use Rattle.gabc_score.proofs.within_limits.KeptSoFar.{all_kept, StaysWithin, stays_on, stays_before, kept_within, made_within}
@@ -189,7 +189,7 @@ module _ (ends : (at : Place) (t : List ℕ) → EndsOnce at t) (emits : (at : P
       let macros = macros_of heads.book in
       let xs = body_characters t in
       let k : IsCut texts_by_definition lines macros xs cut = subst (λ c. IsBodyCut c t cut) same h in
-      let fits = behind_short ends emits spans limits Whole t short in
+      let fits = after_short ends emits spans limits Whole t short in
       let w = subst (λ c. (syllables : List PlacedSyllable) → AreSyllablesOf (nabc_lines_of c) (score_units cut.units) syllables → CanonicalWithin limits (bytes_len (canonical_heads c)) syllables) same within in
       no_fault ends emits spans in_order lines macros limits (bytes_len (canonical_heads heads.book)) xs cut k fits w
       (body_read ends emits spans in_order lines macros limits.syllable (omega (arith, limits.in_range.syllable_least)) units last lf few xs cut k e fits) heads.findings (place_after t)

@@ -212,7 +212,7 @@ module _ (ends : (at : Place) (t : List ℕ) → EndsOnce at t) (emits : (at : P
       let v = score_unit u (characters_from units last) in
       let same : score_unit u (whole more ends_with) ≡ v = ap (score_unit u) (units_whole lines units last) in
       let one = unit_stays at u more ends_with before since fits h stays (subst (KeepsWithin limit) (sym same) (All-head (KeepsWithin limit) v (closed_units units last) few)) in
-      let behind_fits : size (codes_of (whole more ends_with)) < 2 ^ 63 =
+      let after_fits : size (codes_of (whole more ends_with)) < 2 ^ 63 =
       fits_back (characters_in u) (whole more ends_with) (subst (λ cs. size (codes_of cs) < 2 ^ 63) (unit_whole lines u more ends_with) fits) in
-      let r = units_stay units last (after_mark u.final.end.place) one.mid one.since behind_fits one.cuts one.stays (All-tail (KeepsWithin limit) v (closed_units units last) few) in
+      let r = units_stay units last (after_mark u.final.end.place) one.mid one.since after_fits one.cuts one.stays (All-tail (KeepsWithin limit) v (closed_units units last) few) in
       record { at = r.at; mid = r.mid; stays = r.stays; since = r.since; events_are = one.events_are ∙ r.events_are; cuts = r.cuts }

@@ -22,7 +22,7 @@ use Rattle.gabc_score.specs.machine.BodyBuilder.{with_all}
 use Rattle.gabc_score.specs.machine.Gatherer.{Gathered, with_made}
 use Rattle.gabc_score.specs.machine.Preceded.{spans_of}
 use Rattle.gabc_score.specs.machine.ReadAlone.{is_alone}
-use Rattle.gabc_score.specs.machine.ScoreStage.{HeldScore, body_left, placed_behind}
+use Rattle.gabc_score.specs.machine.ScoreStage.{HeldScore, body_left, placed_after}
 use Rattle.gabc_score.specs.machine.SyllableBuilder.{nothing_open}
 
 -- ---- one syllable more
@@ -37,7 +37,7 @@ past_one s next m = record { next = next; gathered = with_one s.gathered m; has_
 
 -- what is given then: the syllable that was held, if one was
 abbrev pub given_before : HeldScore → UnplacedSyllable → List PlacedSyllable
-given_before s m = take (length s.gathered.made) (placed_behind s.has_lent (s.gathered.made ++ m ∷ []))
+given_before s m = take (length s.gathered.made) (placed_after s.has_lent (s.gathered.made ++ m ∷ []))
 
 -- ---- between two syllables
 

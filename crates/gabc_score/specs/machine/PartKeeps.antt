@@ -52,9 +52,9 @@ abbrev pub joined : KeptParts → List ℕ
 joined p = text_before p ++ last_part p
 
 -- the line after these snippets, the first of which is of that line
-abbrev pub line_behind : ℕ → ℕ → List (List ℕ) → ℕ
-line_behind lines line [] = line
-line_behind lines line (s ∷ earlier) = line_behind lines (next_line lines line) earlier
+abbrev pub line_after : ℕ → ℕ → List (List ℕ) → ℕ
+line_after lines line [] = line
+line_after lines line (s ∷ earlier) = line_after lines (next_line lines line) earlier
 
 -- ---- what the parts say
 
@@ -81,7 +81,7 @@ events_before lines t earlier = text_events (text.said_of t ++ text.said_at_end 
 
 abbrev pub said_by : ℕ → KeptParts → List BodyEvent
 said_by lines (in_text k) = text_events (text.said_of k)
-said_by lines (in_notes t earlier k) = events_before lines t earlier ++ snippet_events (line_behind lines 0 earlier) k
+said_by lines (in_notes t earlier k) = events_before lines t earlier ++ snippet_events (line_after lines 0 earlier) k
 
 -- ---- what keeps them
 
@@ -108,22 +108,22 @@ AreEnded lines macros line [] = Unit {0}
 AreEnded lines macros line (s ∷ earlier) = IsEndedOn lines macros line s × AreEnded lines macros (next_line lines line) earlier
 
 -- after a text that has ended these snippets have ended, and one of that line is read
-pub record AreBehind (lines macros line : ℕ) (t : List ℕ) (earlier : List (List ℕ)) : Type 0 where
+pub record AreAfter (lines macros line : ℕ) (t : List ℕ) (earlier : List (List ℕ)) : Type 0 where
   pub text_ended : IsEndedText t
   pub snippets_ended : AreEnded lines macros 0 earlier
-  pub line_is : line_behind lines 0 earlier ≡ line
+  pub line_is : line_after lines 0 earlier ≡ line
 
 -- in the comment after the `%%` nothing is kept
 abbrev pub PartKeeps : ℕ → ℕ → BodyPart → KeptParts → Type 0
 PartKeeps lines macros part.Comment p = p ≡ in_text []
 PartKeeps lines macros (part.Text stage) (in_text k) = text.Keeps stage k
-PartKeeps lines macros (part.Notes opened stage) (in_notes t earlier k) = AreBehind lines macros 0 t earlier × notes.Keeps (nat_lt 0 lines) macros stage k
-PartKeeps lines macros (part.Nabc line opened stage) (in_notes t earlier k) = AreBehind lines macros line t earlier × ((line ≢ 0) × nabc.Keeps stage k)
+PartKeeps lines macros (part.Notes opened stage) (in_notes t earlier k) = AreAfter lines macros 0 t earlier × notes.Keeps (nat_lt 0 lines) macros stage k
+PartKeeps lines macros (part.Nabc line opened stage) (in_notes t earlier k) = AreAfter lines macros line t earlier × ((line ≢ 0) × nabc.Keeps stage k)
 PartKeeps lines macros part p = ⊥
 
 -- a part reads a snippet of that line, of which nothing was read
 abbrev pub BeginsSnippet : ℕ → ℕ → ℕ → BodyPart → Type 0
-BeginsSnippet lines macros line part = (t : List ℕ) (earlier : List (List ℕ)) → AreBehind lines macros line t earlier → PartKeeps lines macros part (in_notes t earlier [])
+BeginsSnippet lines macros line part = (t : List ℕ) (earlier : List (List ℕ)) → AreAfter lines macros line t earlier → PartKeeps lines macros part (in_notes t earlier [])
 
 -- ---- what is gathered of them
 

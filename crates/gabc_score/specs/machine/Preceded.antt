@@ -14,24 +14,24 @@ spans_of g = record { eu = g.eu; nlba = g.nlba }
 
 -- what stands after all that was gathered, where n syllables stand before the one that was
 -- made last
-abbrev pub behind_gathered : ℕ → Gathered → Preceding
-behind_gathered syllables g = record { syllables = min (syllables + 1) most; canonical = g.total; spans = spans_of g; sounded = is_some g.first_kind }
+abbrev pub after_gathered : ℕ → Gathered → Preceding
+after_gathered syllables g = record { syllables = min (syllables + 1) most; canonical = g.total; spans = spans_of g; sounded = is_some g.first_kind }
 
 -- what stands before what is held, where a syllable has become whole or not, and the one held
 -- before was given or not
 abbrev pub before_past : Bool → Bool → Bounds → Preceding
-before_past whole gave b = if whole then (if gave then b.behind else b.before) else b.before
+before_past whole gave b = if whole then (if gave then b.after else b.before) else b.before
 
 -- what stands before and after it then
 abbrev pub past_point : Bool → Bool → Bounds → Gathered → Bounds
 past_point whole gave b g = record {
   before = before_past whole gave b;
-  behind = if whole then behind_gathered (before_past whole gave b).syllables g else b.behind;
+  after = if whole then after_gathered (before_past whole gave b).syllables g else b.after;
 }
 
 -- before the first syllable, where the canonical headers have n bytes
-abbrev pub behind_headers : ℕ → Bounds
-behind_headers head = record { before = no_syllable head; behind = no_syllable head }
+abbrev pub after_headers : ℕ → Bounds
+after_headers head = record { before = no_syllable head; after = no_syllable head }
 
 -- a snippet ends before n bytes
 abbrev pub EndsBefore : ℕ → Snippet → Type 0

@@ -21,7 +21,7 @@ use Rattle.gabc_score.specs.ScoreEvents.{first_place}
 use Rattle.gabc_score.specs.ScoreReports.{IsAt, before_of, is_in_comment, is_in_front, moved_part, moved_to, openers_of}
 use Rattle.gabc_score.specs.machine.BodyBuilder.{with_all, code_in}
 use Rattle.gabc_score.specs.machine.Gatherer.{Gathered}
-use Rattle.gabc_score.specs.machine.PartKeeps.{KeptParts, in_text, in_notes, text_before, joined, line_behind, PartKeeps}
+use Rattle.gabc_score.specs.machine.PartKeeps.{KeptParts, in_text, in_notes, text_before, joined, line_after, PartKeeps}
 use Rattle.gabc_score.specs.machine.ScoreMachine.{IsInBody, IsScore, shown}
 
 -- ---- the next character
@@ -36,7 +36,7 @@ IsNextIn lines (suc line) k c = nabc.IsKeptAgain k c ⊎ ((c ≡ 124) × IsSnipp
 -- snippet that is read.
 abbrev pub IsNext : ℕ → KeptParts → ℕ → Type 0
 IsNext lines (in_text k) c = ((text.kept_with k c ≡ c ∷ []) × ((c == 37 && text.begins_comment k) ≡ false)) ⊎ ((c ≡ 40) × (text.ends_after_it k ≡ true))
-IsNext lines (in_notes t earlier k) c = IsNextIn lines (line_behind lines 0 earlier) k c
+IsNext lines (in_notes t earlier k) c = IsNextIn lines (line_after lines 0 earlier) k c
 
 -- a `%` after them begins a comment
 abbrev pub BeginsIn : ℕ → List ℕ → Type 0
@@ -45,7 +45,7 @@ BeginsIn (suc line) k = Unit {0}
 
 abbrev pub BeginsComment : ℕ → KeptParts → Type 0
 BeginsComment lines (in_text k) = (text.begins_comment k ≡ true) × (text.kept_with k 37 ≡ [])
-BeginsComment lines (in_notes t earlier k) = BeginsIn (line_behind lines 0 earlier) k
+BeginsComment lines (in_notes t earlier k) = BeginsIn (line_after lines 0 earlier) k
 
 -- ---- where what is open began
 

@@ -20,7 +20,7 @@ use Rattle.gabc_score.specs.machine.BodyBuilder.{code_in, with_all, with_found}
 use Rattle.gabc_score.specs.machine.PartSteps.{TakesChar}
 use Rattle.gabc_score.specs.machine.Preceded.{past_point}
 use Rattle.gabc_score.specs.machine.ScoreMachine.{IsInBody, IsScore, KeepsMemory, shown}
-use Rattle.gabc_score.specs.machine.ScoreStage.{placed_behind, with_held}
+use Rattle.gabc_score.specs.machine.ScoreStage.{placed_after, with_held}
 use Rattle.gabc_score.specs.machine.SlotPair.{SlotPairState, is_made, used_by}
 use Rattle.gabc_score.specs.witness.BodyStage.{BodyStageState}
 
@@ -51,8 +51,8 @@ pub record GivesPoint (has_lent : Bool) (before : SlotPairState) (room : Bounded
   pub gathered : after.gathered ≡ with_held before.gathered
   pub used : is_made after.used ≡ false
   pub gave : result ≡ nat_lt 1 (length before.gathered.made)
-  pub emitted : (let made = before.gathered.made in GivesOutputs (outputs_of room.items (take (length made - 1) (placed_behind has_lent made))) old new after.first after.second)
-  pub few : length (take (length before.gathered.made - 1) (placed_behind has_lent before.gathered.made)) ≤ 1
+  pub emitted : (let made = before.gathered.made in GivesOutputs (outputs_of room.items (take (length made - 1) (placed_after has_lent made))) old new after.first after.second)
+  pub few : length (take (length before.gathered.made - 1) (placed_after has_lent before.gathered.made)) ≤ 1
   pub found : room_after ≡ record room { items = [] }
 
 -- These outputs were given as the last ones, with these syllables, n at most.
@@ -66,8 +66,8 @@ pub record StopsWith (before : ScoreMachine) (fault : Fault) (after : ScoreMachi
   pub part : after.part ≡ score_part.Over
   pub limits : after.limits ≡ before.limits
   pub keeps : KeepsMemory before → KeepsMemory after
-  pub emitted : GivesOutputs (outputs_of [] (placed_behind before.has_lent before.pair.held) ++ Stop fault ∷ []) old new after.pair.first after.pair.second
-  pub few : length (placed_behind before.has_lent before.pair.held) ≤ 1
+  pub emitted : GivesOutputs (outputs_of [] (placed_after before.has_lent before.pair.held) ++ Stop fault ∷ []) old new after.pair.first after.pair.second
+  pub few : length (placed_after before.has_lent before.pair.held) ≤ 1
 
 -- ---- a character
 

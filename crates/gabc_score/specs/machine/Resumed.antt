@@ -12,5 +12,5 @@ first_sounded true = kind_of (Some Either)
 first_sounded false = None
 
 -- nothing is gathered, and this stands before it
-abbrev pub gathered_behind : Before → Gathered → Gathered
-gathered_behind b g = record g { eu = b.spans.eu; nlba = b.spans.nlba; follows = nat_lt 0 b.syllables; total = b.canonical; first_kind = first_sounded b.sounded }
+abbrev pub gathered_after : Before → Gathered → Gathered
+gathered_after b g = record g { eu = b.spans.eu; nlba = b.spans.nlba; follows = nat_lt 0 b.syllables; total = b.canonical; first_kind = first_sounded b.sounded }

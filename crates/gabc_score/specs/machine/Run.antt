@@ -129,7 +129,7 @@ abbrev pub before_by : Preceding → Reached → Preceding
 before_by p r = record { syllables = min (p.syllables + r.count) most; canonical = r.canonical; spans = r.spans; sounded = p.sounded }
 
 abbrev pub before_in : ScoreMachine → Reached → Preceding
-before_in m r = before_by m.bounds.behind r
+before_in m r = before_by m.bounds.after r
 
 -- In this text, the first of whose characters stands at `at`, a run has given these syllables, and
 -- has reached one that is not given yet.
@@ -194,7 +194,7 @@ pub record GoesBefore (m : ScoreMachine) (p : Preceding) (at : Place) (on : Scor
   pub body : on.body ≡ record m.body { part = Text (fresh_stage at) }
   pub counts : CountsHold on.body.part nothing_open
   pub keeps : (lines macros : ℕ) → PartKeeps lines macros on.body.part (in_text [])
-  pub is : on ≡ record m { pair = on.pair; has_lent = true; bounds = record { before = p; behind = p }; body = on.body; next = at }
+  pub is : on ≡ record m { pair = on.pair; has_lent = true; bounds = record { before = p; after = p }; body = on.body; next = at }
 
 -- ---- the end of a run
 

@@ -61,10 +61,10 @@ pub record IsInBody (m : ScoreMachine) : Type 0 where
   pub counts : CountsHold m.body.part m.pair.gathered.builder
   pub kept : length m.pair.gathered.builder.kept ≤ m.limits.syllable
   pub preceded : IsPreceded m.bounds.before m.pair.gathered
-  pub behind : m.bounds.behind ≡ with_each m.bounds.before m.pair.gathered.made
+  pub after : m.bounds.after ≡ with_each m.bounds.before m.pair.gathered.made
   pub lent : m.has_lent ≡ nat_lt 0 m.bounds.before.syllables
   pub code : code_in m.limits m.pair.gathered ≡ None
-  pub reading : IsReading m.body.nabc_lines m.body.macros m.body.part m.bounds.behind.spans m.pair.gathered
+  pub reading : IsReading m.body.nabc_lines m.body.macros m.body.part m.bounds.after.spans m.pair.gathered
   pub units : HoldUnits m.body.nabc_lines m.bounds.before m.pair.gathered.made
   pub within : HoldsWithin m.limits m.bounds.before m.pair.gathered
   pub front : is_in_front m.body.part ≡ true → NoneIsWhole m.bounds.before m.pair.gathered

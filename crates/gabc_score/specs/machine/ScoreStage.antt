@@ -31,11 +31,11 @@ pub record HeldScore : Type 0 where
   pub has_lent : Bool
 
 -- these syllables, the first of which is the first not given yet
-abbrev pub placed_behind : Bool → List UnplacedSyllable → List PlacedSyllable
-placed_behind has_lent made = placed_syllables_by (not has_lent) made
+abbrev pub placed_after : Bool → List UnplacedSyllable → List PlacedSyllable
+placed_after has_lent made = placed_syllables_by (not has_lent) made
 
 abbrev pub held_outputs : HeldScore → List ScoreOutput
-held_outputs s = outputs_of [] (placed_behind s.has_lent s.gathered.made)
+held_outputs s = outputs_of [] (placed_after s.has_lent s.gathered.made)
 
 abbrev pub stop_outputs : HeldScore → Fault → List ScoreOutput
 stop_outputs s fault = held_outputs s ++ Stop fault ∷ []
@@ -44,7 +44,7 @@ stop_outputs s fault = held_outputs s ++ Stop fault ∷ []
 abbrev pub point_outputs : HeldScore → Char → List BodyEvent → List ScoreOutput
 point_outputs s x now =
     let g = with_all s.gathered now in
-    outputs_of (findings_now now ++ found_first s.gathered.first_kind g.first_kind x.place) (take (length g.made - 1) (placed_behind s.has_lent g.made))
+    outputs_of (findings_now now ++ found_first s.gathered.first_kind g.first_kind x.place) (take (length g.made - 1) (placed_after s.has_lent g.made))
 
 -- all but the last are given
 abbrev pub with_held : Gathered → Gathered
@@ -59,7 +59,7 @@ abbrev pub end_outputs_by : HeldScore → List BodyEvent → Option Fault → Li
 end_outputs_by s now (Some fault) = stop_outputs s fault
 end_outputs_by s now None =
     let g = with_all s.gathered now in
-    outputs_of (findings_now now ++ end_findings s.next (has_text g.builder.view) ((with_last g).eu || (with_last g).nlba)) (placed_behind s.has_lent (with_last g).made)
+    outputs_of (findings_now now ++ end_findings s.next (has_text g.builder.view) ((with_last g).eu || (with_last g).nlba)) (placed_after s.has_lent (with_last g).made)
     ++ End ∷ []
 
 abbrev pub end_outputs : Limits → HeldScore → List BodyEvent → List ScoreOutput

@@ -5,5 +5,5 @@ use Rattle.gabc_score.specs.declared.snippets.Snippet.{Snippet}
 use Rattle.gabc_score.specs.Syllable.{slice}
 
 -- snippets, each with a `|` before it
-abbrev pub snippets_behind_bars : List ℕ → List Snippet → List ℕ
-snippets_behind_bars kept snippets = flat_map (λ (s : Snippet). codes "|" ++ slice s.span kept) snippets
+abbrev pub snippets_after_bars : List ℕ → List Snippet → List ℕ
+snippets_after_bars kept snippets = flat_map (λ (s : Snippet). codes "|" ++ slice s.span kept) snippets

@@ -30,7 +30,7 @@ use Rattle.gabc_text.proofs.tokens.TokensByCharacter.{drop_past}
 use Rattle.gabc_text.proofs.machine.TokenStateByCharacter.{Holds, Settles, WentBy, goes, settles, ends, EndsAs}
 use Rattle.gabc_text.proofs.machine.KeptOfOpenToken.{kept_held, sort_settled, settled_uncut, ends_uncut}
 use Rattle.gabc_text.proofs.machine.TokensOneAfterAnother.{size, drop_more, rest_done, with_none, with_more, end_other}
-use Rattle.gabc_text.proofs.machine.FactsPastTokens.{past_append, bytes_past_append, facts_on, progress_on, past_token, behind}
+use Rattle.gabc_text.proofs.machine.FactsPastTokens.{past_append, bytes_past_append, facts_on, progress_on, past_token, after}
 use Rattle.gabc_text.proofs.machine.TokenEventsAgree.{whole_same, end_same}
 use Rattle.gabc_text.proofs.machine.EventsOfOpenToken.{KeptGo, ListsGo, kept_goes, lists_goes, bytes_go, none_held, none_first, lists_held, each_held, early_is, in_translation, events_read, but_last_is, not_lone}
 use Rattle.gabc_text.proofs.machine.TokensPastTheFirst.{lists_from, first_token}
@@ -127,7 +127,7 @@ module _ (read : List ℕ) (s : TextStage) where
     stage_is = rw (e, so, h.0) refl;
   }
     where
-      whole_is : (last : ℕ) → events_of_token s.facts (progress_in state more) k.kind Other last ≡ events_of_token s.facts (behind s.facts s.progress k.kind (drop (length read) (spelling k))) k.kind (effect k) last
+      whole_is : (last : ℕ) → events_of_token s.facts (progress_in state more) k.kind Other last ≡ events_of_token s.facts (after s.facts s.progress k.kind (drop (length read) (spelling k))) k.kind (effect k) last
       whole_is last = rw (e, so, h.0) refl
 
       nothing_now : (b : Bool) → is_lone k ≡ b → Quiet k k.kind → cond (is_lone k) [] (token_events_by s.facts s.progress k (drop (length read) (spelling k))) ≡ []
@@ -136,8 +136,8 @@ module _ (read : List ℕ) (s : TextStage) where
       nothing_now false f (inr q) =
           ap (λ (b : Bool). cond b [] (token_events_by s.facts s.progress k (drop (length read) (spelling k)))) f
           ∙ sym (whole_same s.facts s.progress k (drop (length read) (spelling k)))
-          ∙ ap (λ (x : TagEffect). events_of_token s.facts (behind s.facts s.progress k.kind (drop (length read) (spelling k))) k.kind x (last_by s.progress k (drop (length read) (spelling k)))) so
-          ∙ q (behind s.facts s.progress k.kind (drop (length read) (spelling k))) (last_by s.progress k (drop (length read) (spelling k)))
+          ∙ ap (λ (x : TagEffect). events_of_token s.facts (after s.facts s.progress k.kind (drop (length read) (spelling k))) k.kind x (last_by s.progress k (drop (length read) (spelling k)))) so
+          ∙ q (after s.facts s.progress k.kind (drop (length read) (spelling k))) (last_by s.progress k (drop (length read) (spelling k)))
 
       owed_is : (b : Bool) → is_lone k ≡ b → cond b (token_events_by s.facts s.progress k (drop (length read) (spelling k))) [] ≡ owed_events_at read s (k ∷ [])
       owed_is b f = ap (λ (b : Bool). cond b (token_events_by s.facts s.progress k (drop (length read) (spelling k))) []) (sym f)
@@ -145,7 +145,7 @@ module _ (read : List ℕ) (s : TextStage) where
       owes_it : (b : Bool) → is_lone k ≡ b → Quiet k k.kind → events_of_token s.facts (progress_in state more) k.kind Other s.progress.start ≡ owed_events_at read s (k ∷ [])
       owes_it true f q =
           whole_is s.progress.start
-          ∙ ap (λ (b : Bool). events_of_token s.facts (behind s.facts s.progress k.kind (drop (length read) (spelling k))) k.kind (effect k) (cond b s.progress.start (bytes_past s.progress.kept (but_end (drop (length read) (spelling k)))))) (sym f)
+          ∙ ap (λ (b : Bool). events_of_token s.facts (after s.facts s.progress k.kind (drop (length read) (spelling k))) k.kind (effect k) (cond b s.progress.start (bytes_past s.progress.kept (but_end (drop (length read) (spelling k)))))) (sym f)
           ∙ whole_same s.facts s.progress k (drop (length read) (spelling k))
           ∙ owed_is true f
       owes_it false f (inl q) = absurd (cc)
@@ -251,7 +251,7 @@ module _ (c : ℕ) (t : List ℕ) (read : List ℕ) (s : TextStage) (state : Tok
     lone : is_lone k ≡ false
     lone = not_lone state held c k so holds e f
 
-    spot_is : progress_past (progress_in read s state more) c (keep s.facts state c) ≡ behind s.facts s.progress k.kind (more ++ c ∷ [])
+    spot_is : progress_past (progress_in read s state more) c (keep s.facts state c) ≡ after s.facts s.progress k.kind (more ++ c ∷ [])
     spot_is =
         let kept : kept_held state more ++ option_list_of (keep s.facts state c) ≡ kept_by s.facts k.kind (more ++ c ∷ []) =
         subst (KeptGo s.facts (kept_held state more ++ option_list_of (keep s.facts state c)) more c) e kept_next in
@@ -263,15 +263,15 @@ module _ (c : ℕ) (t : List ℕ) (read : List ℕ) (s : TextStage) (state : Tok
     emitted_are : events_of_step (stage_past_char stage c) (Ends k.kind so) (bytes_past s.progress.kept (kept_held state more)) ≡ token_events_by s.facts s.progress k (more ++ c ∷ [])
     emitted_are =
         ap (λ (x : Progress). events_of_token s.facts x k.kind so (bytes_past s.progress.kept (kept_held state more))) spot_is
-        ∙ ap (events_of_token s.facts (behind s.facts s.progress k.kind (more ++ c ∷ [])) k.kind so) last_is
-        ∙ ap (λ (x : TagEffect). events_of_token s.facts (behind s.facts s.progress k.kind (more ++ c ∷ [])) k.kind x (last_by s.progress k (more ++ c ∷ []))) (sym sk)
+        ∙ ap (events_of_token s.facts (after s.facts s.progress k.kind (more ++ c ∷ [])) k.kind so) last_is
+        ∙ ap (λ (x : TagEffect). events_of_token s.facts (after s.facts s.progress k.kind (more ++ c ∷ [])) k.kind x (last_by s.progress k (more ++ c ∷ []))) (sym sk)
         ∙ whole_same s.facts s.progress k (more ++ c ∷ [])
 
     state_is : stage_after_step (stage_past_char stage c) (Ends k.kind so) ≡ past_token read s k
     state_is =
         ap (λ (x : Progress). record { state = Plain; facts = facts_after s.facts k.kind so; progress = progress_after s.facts x k.kind so x.next; ended = false }) spot_is
-        ∙ ap (λ (x : TagEffect). record { state = Plain; facts = facts_after s.facts k.kind x; progress = progress_after s.facts (behind s.facts s.progress k.kind (more ++ c ∷ [])) k.kind x (past s.progress.next (more ++ c ∷ [])); ended = false }) (sym sk)
-        ∙ ap (λ (x : List ℕ). record { state = Plain; facts = facts_after s.facts k.kind (effect k); progress = progress_after s.facts (behind s.facts s.progress k.kind x) k.kind (effect k) (past s.progress.next x); ended = false }) (sym come)
+        ∙ ap (λ (x : TagEffect). record { state = Plain; facts = facts_after s.facts k.kind x; progress = progress_after s.facts (after s.facts s.progress k.kind (more ++ c ∷ [])) k.kind x (past s.progress.next (more ++ c ∷ [])); ended = false }) (sym sk)
+        ∙ ap (λ (x : List ℕ). record { state = Plain; facts = facts_after s.facts k.kind (effect k); progress = progress_after s.facts (after s.facts s.progress k.kind x) k.kind (effect k) (past s.progress.next x); ended = false }) (sym come)
 
     lists_are : emitted_in read s state more ++ (events_early ++ (events_kept ++ token_events_by s.facts s.progress k (more ++ c ∷ []))) ∷ [] ≡ lists_past read s [] k
     lists_are =

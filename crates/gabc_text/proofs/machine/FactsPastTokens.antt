@@ -18,7 +18,7 @@ use Rattle.gabc_text.specs.TextStage.{count_plus}
 use Rattle.gabc_places.specs.Place.{saturating_next_place}
 use Rattle.gabc_text.specs.machine.TextStage.{progress_after}
 use Rattle.gabc_text.specs.witness.FactsPast.{is_open_past, blank_past, begun_past, ended_past, space_past, starts_past, facts_past, past, bytes_past, leaves_out}
-use Rattle.gabc_text.specs.witness.EventsLeft.{kept_by, kept_behind, facts_at, read_at, ahead_at, text_since, kept_since, progress_at}
+use Rattle.gabc_text.specs.witness.EventsLeft.{kept_by, kept_after, facts_at, read_at, ahead_at, text_since, kept_since, progress_at}
 
 -- ---- what was seen
 
@@ -99,12 +99,12 @@ bytes_past_append n [] t = refl
 bytes_past_append n (c ∷ s) t = bytes_past_append (count_plus n (len_utf8 c)) s t
 
 -- after a token, which is not counted yet
-abbrev pub behind : TextFacts → Progress → TokenKind → List ℕ → Progress
-behind facts progress k cs = record progress { next = past progress.next cs; kept = kept_behind facts progress k cs }
+abbrev pub after : TextFacts → Progress → TokenKind → List ℕ → Progress
+after facts progress k cs = record progress { next = past progress.next cs; kept = kept_after facts progress k cs }
 
 -- where the machine stands after a token, of which these characters were to come
 abbrev pub spot_after : TextFacts → Progress → Token → List ℕ → Progress
-spot_after facts progress k cs = progress_after facts (behind facts progress k.kind cs) k.kind (effect k) (past progress.next cs)
+spot_after facts progress k cs = progress_after facts (after facts progress k.kind cs) k.kind (effect k) (past progress.next cs)
 
 module _ (read : List ℕ) (s : TextStage) where
   -- one token more

@@ -31,13 +31,13 @@ use Rattle.gabc_text.specs.TextFacts.{no_facts}
 use Rattle.gabc_text.specs.TextStage.{fresh_stage, count_plus}
 use Rattle.gabc_text.specs.machine.TextStage.{progress_after}
 use Rattle.gabc_text.specs.witness.FactsPast.{facts_past, past, bytes_past}
-use Rattle.gabc_text.specs.witness.EventsLeft.{parts_by, codes_by, kept_behind, findings_there, codes_last, kept_by, each_kept, lists_kept, last_by, token_events_by, early_events_by, end_events_by, facts_at, progress_at, read_at, ahead_at, owed_events_at, token_events_at, end_at_text, lists_past, lists_last, events_left, characters_left}
+use Rattle.gabc_text.specs.witness.EventsLeft.{parts_by, codes_by, kept_after, findings_there, codes_last, kept_by, each_kept, lists_kept, last_by, token_events_by, early_events_by, end_events_by, facts_at, progress_at, read_at, ahead_at, owed_events_at, token_events_at, end_at_text, lists_past, lists_last, events_left, characters_left}
 use Rattle.gabc_text.proofs.machine.FactsOfTokens.{facts_of, facts_more, has_of}
 use Rattle.gabc_places.proofs.PlacesOfAText.{place_append}
 use Rattle.gabc_text.proofs.tokens.CountsOfTexts.{bytes_append, up_is, later_is, place_small, kept_small, kept_at_small, pieces_small, some_bytes}
 use Rattle.gabc_text.proofs.machine.ProgressAfterToken.{progress_of, spot_emitted}
 use Rattle.gabc_text.proofs.machine.TokensOneAfterAnother.{onto}
-use Rattle.gabc_text.proofs.machine.FactsPastTokens.{facts_step, progress_step, spot_after, behind, read_none}
+use Rattle.gabc_text.proofs.machine.FactsPastTokens.{facts_step, progress_step, spot_after, after, read_none}
 use Rattle.gabc_text.proofs.machine.TokensPastTheFirst.{lists_by, lists_from}
 use Rattle.gabc_text.specs.Printed.{text_of_tokens}
 use Rattle.gabc_text.proofs.tokens.TokensSpellPrefix.{text_onto, whole_text}
@@ -84,32 +84,32 @@ kept_same before k = refl
 
 module _ (at : Place) (full : List ℕ) (fits : CountsFit at full) where
   -- the tokens before, and this text, are the whole
-  abbrev Behind : List Token → List ℕ → Type 0
-  Behind before y = text_of before ++ y ≡ full
+  abbrev After : List Token → List ℕ → Type 0
+  After before y = text_of before ++ y ≡ full
 
   -- where the stage stands past the tokens before
   abbrev here : List Token → Progress
   here before = progress_of at before (place_of at before) (bytes_of (kept_of before))
 
-  rest_long : (before : List Token) (k : Token) (y : List ℕ) → Behind before (spelling k ++ y) → length full ≡ length (text_of before) + (length (spelling k) + length y)
+  rest_long : (before : List Token) (k : Token) (y : List ℕ) → After before (spelling k ++ y) → length full ≡ length (text_of before) + (length (spelling k) + length y)
   rest_long before k y e = omega (arith, ap (length {A = ℕ}) e, length-append (text_of before) (spelling k ++ y), length-append (spelling k) y)
 
-  line_small : (before : List Token) (k : Token) (y : List ℕ) → Behind before (spelling k ++ y) → (place_of at before).line + length (spelling k) < 2 ^ 64
+  line_small : (before : List Token) (k : Token) (y : List ℕ) → After before (spelling k ++ y) → (place_of at before).line + length (spelling k) < 2 ^ 64
   line_small before k y e = let n = place_small at (text_of before) in omega (arith, rest_long before k y e, n.0, fits.line)
 
-  column_small : (before : List Token) (k : Token) (y : List ℕ) → Behind before (spelling k ++ y) → (place_of at before).column + length (spelling k) < 2 ^ 64
+  column_small : (before : List Token) (k : Token) (y : List ℕ) → After before (spelling k ++ y) → (place_of at before).column + length (spelling k) < 2 ^ 64
   column_small before k y e = let n = place_small at (text_of before) in omega (arith, rest_long before k y e, n.1, fits.column)
 
-  token_small : (before : List Token) (k : Token) (y : List ℕ) → Behind before (spelling k ++ y) → bytes_of (kept_of before) + bytes_of (spelling k) < 2 ^ 64
+  token_small : (before : List Token) (k : Token) (y : List ℕ) → After before (spelling k ++ y) → bytes_of (kept_of before) + bytes_of (spelling k) < 2 ^ 64
   token_small before k y e =
       omega (arith, kept_small before, ap bytes_of e, bytes_append (text_of before) (spelling k ++ y), bytes_append (spelling k) y, fits.bytes)
 
-  count_small : (before : List Token) (k : Token) (y : List ℕ) → Behind before (spelling k ++ y) → count_pieces before + 1 < 2 ^ 64
+  count_small : (before : List Token) (k : Token) (y : List ℕ) → After before (spelling k ++ y) → count_pieces before + 1 < 2 ^ 64
   count_small before k y e = omega (arith, pieces_small before, rest_long before k y e, fits.line)
 
-  behind_fresh : (before : List Token) (k : Token) (y : List ℕ) → Behind before (spelling k ++ y)
-      → behind (facts_of before) (here before) k.kind (spelling k) ≡ progress_of at before (place_of at (k ∷ before)) (bytes_of (kept_of (k ∷ before)))
-  behind_fresh before k y e =
+  after_fresh : (before : List Token) (k : Token) (y : List ℕ) → After before (spelling k ++ y)
+      → after (facts_of before) (here before) k.kind (spelling k) ≡ progress_of at before (place_of at (k ∷ before)) (bytes_of (kept_of (k ∷ before)))
+  after_fresh before k y e =
       let next : past (place_of at before) (spelling k) ≡ place_of at (k ∷ before) =
       past_small (place_of at before) (spelling k) (line_small before k y e) (column_small before k y e) ∙ sym (place_append at (text_of before) (spelling k)) in
       let kept : bytes_past (bytes_of (kept_of before)) (kept_by (facts_of before) k.kind (spelling k)) ≡ bytes_of (kept_of (k ∷ before)) =
@@ -118,10 +118,10 @@ module _ (at : Place) (full : List ℕ) (fits : CountsFit at full) where
       ∙ sym (bytes_append (kept_of before) (kept_at before k)) in
       rw (next, kept) refl
 
-  shift : (before : List Token) (k : Token) (y : List ℕ) → Behind (k ∷ before) y → Behind before (spelling k ++ y)
+  shift : (before : List Token) (k : Token) (y : List ℕ) → After (k ∷ before) y → After before (spelling k ++ y)
   shift before k y e = sym (append_assoc (text_of before) (spelling k) y) ∙ e
 
-  spot_fresh : (before : List Token) (y : List ℕ) → Behind before y → progress_at [] (fresh_stage at) before ≡ here before
+  spot_fresh : (before : List Token) (y : List ℕ) → After before y → progress_at [] (fresh_stage at) before ≡ here before
   spot_fresh [] y e = refl
   spot_fresh (k ∷ before) y e =
       let f = shift before k y e in
@@ -129,12 +129,12 @@ module _ (at : Place) (full : List ℕ) (fits : CountsFit at full) where
       ∙ ap (λ (x : TextFacts). spot_after x (progress_at [] (fresh_stage at) before) k (ahead_at [] (fresh_stage at) before k)) (facts_fresh before)
       ∙ ap (λ (x : Progress). spot_after (facts_of before) x k (ahead_at [] (fresh_stage at) before k)) (spot_fresh before (spelling k ++ y) f)
       ∙ ap (λ (x : List ℕ). spot_after (facts_of before) (here before) k (drop (length x) (spelling k))) (read_none (fresh_stage at) before)
-      ∙ ap (λ (x : Progress). progress_after (facts_of before) x k.kind (effect k) x.next) (behind_fresh before k y f)
+      ∙ ap (λ (x : Progress). progress_after (facts_of before) x k.kind (effect k) x.next) (after_fresh before k y f)
       ∙ spot_emitted at before k (place_of at (k ∷ before)) (count_small before k y f) (effect k) (place_of at (k ∷ before)) refl refl
 
   -- ---- what a token gives
 
-  last_fresh : (before : List Token) (k : Token) (y : List ℕ) → Behind before (spelling k ++ y) → last_by (here before) k (spelling k) ≡ last_at before k
+  last_fresh : (before : List Token) (k : Token) (y : List ℕ) → After before (spelling k ++ y) → last_by (here before) k (spelling k) ≡ last_at before k
   last_fresh before k y e = by (is_lone k) refl
     where
       by : (b : Bool) → is_lone k ≡ b → cond b (bytes_of (kept_of before)) (bytes_past (bytes_of (kept_of before)) (but_last k.first k.more)) ≡ bytes_of (kept_of before ++ but_last k.first k.more)
@@ -145,7 +145,7 @@ module _ (at : Place) (full : List ℕ) (fits : CountsFit at full) where
           bytes_small (bytes_of (kept_of before)) (but_last k.first k.more) (omega (arith, token_small before k y e, but_last_small k.first k.more))
           ∙ sym (bytes_append (kept_of before) (but_last k.first k.more))
 
-  parts_fresh : (before : List Token) (k : Token) (y : List ℕ) → Behind before (spelling k ++ y)
+  parts_fresh : (before : List Token) (k : Token) (y : List ℕ) → After before (spelling k ++ y)
       → parts_by (facts_of before) (here before) k.kind (last_at before k) (bytes_of (kept_of (k ∷ before))) (kind_of k) ≡ parts_at before k
   parts_fresh before k y e = by (kind_of k)
     where
@@ -167,24 +167,24 @@ module _ (at : Place) (full : List ℕ) (fits : CountsFit at full) where
   codes_fresh before kind.Tag _ = refl
   codes_fresh before _ so = refl
 
-  kept_behind_fresh : (before : List Token) (k : Token) (y : List ℕ) → Behind before (spelling k ++ y) → kept_behind (facts_of before) (here before) k.kind (spelling k) ≡ bytes_of (kept_of (k ∷ before))
-  kept_behind_fresh before k y e = ap (λ (x : Progress). x.kept) (behind_fresh before k y e)
+  kept_after_fresh : (before : List Token) (k : Token) (y : List ℕ) → After before (spelling k ++ y) → kept_after (facts_of before) (here before) k.kind (spelling k) ≡ bytes_of (kept_of (k ∷ before))
+  kept_after_fresh before k y e = ap (λ (x : Progress). x.kept) (after_fresh before k y e)
 
-  whole_fresh : (before : List Token) (k : Token) (y : List ℕ) → Behind before (spelling k ++ y) → token_events_by (facts_of before) (here before) k (spelling k) ≡ token_events at before k
+  whole_fresh : (before : List Token) (k : Token) (y : List ℕ) → After before (spelling k ++ y) → token_events_by (facts_of before) (here before) k (spelling k) ≡ token_events at before k
   whole_fresh before k y e =
-      ap (λ (n : ℕ). map (λ (p : TextPart). out.Part p) (parts_by (facts_of before) (here before) k.kind n (kept_behind (facts_of before) (here before) k.kind (spelling k)) (kind_of k)) ++ findings_there (place_of at before) (codes_by (facts_of before) k.kind (effect k))) (last_fresh before k y e)
-      ∙ ap (λ (n : ℕ). map (λ (p : TextPart). out.Part p) (parts_by (facts_of before) (here before) k.kind (last_at before k) n (kind_of k)) ++ findings_there (place_of at before) (codes_by (facts_of before) k.kind (effect k))) (kept_behind_fresh before k y e)
+      ap (λ (n : ℕ). map (λ (p : TextPart). out.Part p) (parts_by (facts_of before) (here before) k.kind n (kept_after (facts_of before) (here before) k.kind (spelling k)) (kind_of k)) ++ findings_there (place_of at before) (codes_by (facts_of before) k.kind (effect k))) (last_fresh before k y e)
+      ∙ ap (λ (n : ℕ). map (λ (p : TextPart). out.Part p) (parts_by (facts_of before) (here before) k.kind (last_at before k) n (kind_of k)) ++ findings_there (place_of at before) (codes_by (facts_of before) k.kind (effect k))) (kept_after_fresh before k y e)
       ∙ ap (λ (ps : List TextPart). map (λ (p : TextPart). out.Part p) ps ++ findings_there (place_of at before) (codes_by (facts_of before) k.kind (effect k))) (parts_fresh before k y e)
       ∙ ap (λ (cs : List Code). map (λ (p : TextPart). out.Part p) (parts_at before k) ++ findings_there (place_of at before) cs) (codes_fresh before k.kind (effect k))
 
-  whole_at_fresh : (before : List Token) (k : Token) (y : List ℕ) → Behind before (spelling k ++ y) → token_events_at [] (fresh_stage at) before k ≡ token_events at before k
+  whole_at_fresh : (before : List Token) (k : Token) (y : List ℕ) → After before (spelling k ++ y) → token_events_at [] (fresh_stage at) before k ≡ token_events at before k
   whole_at_fresh before k y e =
       ap (λ (x : TextFacts). token_events_by x (progress_at [] (fresh_stage at) before) k (ahead_at [] (fresh_stage at) before k)) (facts_fresh before)
       ∙ ap (λ (x : Progress). token_events_by (facts_of before) x k (ahead_at [] (fresh_stage at) before k)) (spot_fresh before (spelling k ++ y) e)
       ∙ ap (λ (x : List ℕ). token_events_by (facts_of before) (here before) k (drop (length x) (spelling k))) (read_none (fresh_stage at) before)
       ∙ whole_fresh before k y e
 
-  owed_fresh : (before : List Token) (y : List ℕ) → Behind before y → owed_events_at [] (fresh_stage at) before ≡ owed_events at before
+  owed_fresh : (before : List Token) (y : List ℕ) → After before y → owed_events_at [] (fresh_stage at) before ≡ owed_events at before
   owed_fresh [] y e = refl
   owed_fresh (k ∷ before) y e = ap (λ (x : List TextEvent). cond (is_lone k) x []) (whole_at_fresh before k y (shift before k y e))
 
@@ -201,12 +201,12 @@ module _ (at : Place) (full : List ℕ) (fits : CountsFit at full) where
       by false = refl
   early_fresh before _ = refl
 
-  kept_fresh : (before : List Token) (k : Token) (y : List ℕ) → Behind before (spelling k ++ y) → lists_kept (facts_of before) (place_of at before) k.kind (spelling k) ≡ kept_lists_by at before k.kind (spelling k)
+  kept_fresh : (before : List Token) (k : Token) (y : List ℕ) → After before (spelling k ++ y) → lists_kept (facts_of before) (place_of at before) k.kind (spelling k) ≡ kept_lists_by at before k.kind (spelling k)
   kept_fresh before k y e =
       ap (kept_lists_as (is_left_out before k.kind) (follows_space before) k.kind (place_of at before) (spelling k))
       (each_small (place_of at before) (spelling k) (line_small before k y e) (column_small before k y e))
 
-  lists_fresh : (before : List Token) (k : Token) (y : List ℕ) → Behind before (spelling k ++ y) → lists_past [] (fresh_stage at) before k ≡ lists_at at before k
+  lists_fresh : (before : List Token) (k : Token) (y : List ℕ) → After before (spelling k ++ y) → lists_past [] (fresh_stage at) before k ≡ lists_at at before k
   lists_fresh before k y e =
       ap (λ (x : TextFacts). lists_by x (progress_at [] (fresh_stage at) before) (read_at [] (fresh_stage at) before) (owed_events_at [] (fresh_stage at) before) k) (facts_fresh before)
       ∙ ap (λ (x : Progress). lists_by (facts_of before) x (read_at [] (fresh_stage at) before) (owed_events_at [] (fresh_stage at) before) k) (spot_fresh before (spelling k ++ y) e)
@@ -218,7 +218,7 @@ module _ (at : Place) (full : List ℕ) (fits : CountsFit at full) where
 
   -- ---- the end
 
-  how_fresh : (before : List Token) (rest : List ℕ) → Behind before rest → end_at_text [] (fresh_stage at) before rest ≡ end_after at before rest
+  how_fresh : (before : List Token) (rest : List ℕ) → After before rest → end_at_text [] (fresh_stage at) before rest ≡ end_after at before rest
   how_fresh [] rest e = refl
   how_fresh (k ∷ before) rest e = ap (λ (x : Progress). cond (is_open_kind k.kind) (ending.Cut x.place) (end_by_rest rest)) (spot_fresh before (spelling k ++ rest) (shift before k rest e))
 
@@ -232,7 +232,7 @@ module _ (at : Place) (full : List ℕ) (fits : CountsFit at full) where
       by false false true = refl
       by false false false = refl
 
-  end_fresh : (before : List Token) (rest : List ℕ) → Behind before rest → lists_last [] (fresh_stage at) before rest ≡ lists_end at before rest
+  end_fresh : (before : List Token) (rest : List ℕ) → After before rest → lists_last [] (fresh_stage at) before rest ≡ lists_end at before rest
   end_fresh before rest e =
       ap (λ (x : List TextEvent). (x ++ end_events_by (facts_at [] (fresh_stage at) before) (progress_at [] (fresh_stage at) before) (is_cut before) (end_at_text [] (fresh_stage at) before rest)) ∷ no_events_each rest) (owed_fresh before rest e)
       ∙ ap (λ (x : TextFacts). (owed_events at before ++ end_events_by x (progress_at [] (fresh_stage at) before) (is_cut before) (end_at_text [] (fresh_stage at) before rest)) ∷ no_events_each rest) (facts_fresh before)
@@ -242,10 +242,10 @@ module _ (at : Place) (full : List ℕ) (fits : CountsFit at full) where
 
   -- ---- the whole
 
-  all_fresh : (ks before : List Token) (rest : List ℕ) → Behind (onto ks before) rest → lists_from [] (fresh_stage at) before ks rest ≡ along (lists_at at) before ks ++ lists_end at (onto ks before) rest
+  all_fresh : (ks before : List Token) (rest : List ℕ) → After (onto ks before) rest → lists_from [] (fresh_stage at) before ks rest ≡ along (lists_at at) before ks ++ lists_end at (onto ks before) rest
   all_fresh [] before rest e = end_fresh before rest e
   all_fresh (k ∷ ks) before rest e =
-      let more : Behind before (spelling k ++ (text_of_tokens ks ++ rest)) =
+      let more : After before (spelling k ++ (text_of_tokens ks ++ rest)) =
       sym (append_assoc (text_of before) (spelling k) (text_of_tokens ks ++ rest)) ∙ sym (append_assoc (text_of before ++ spelling k) (text_of_tokens ks) rest)
       ∙ ap (λ (x : List ℕ). x ++ rest) (sym (text_onto ks (k ∷ before))) ∙ e in
       append_assoc (lists_past [] (fresh_stage at) before k) (along (lists_past [] (fresh_stage at)) (k ∷ before) ks) (lists_last [] (fresh_stage at) (onto ks (k ∷ before)) rest)

@@ -12,7 +12,7 @@ use Rattle.gabc_text.specs.declared.progress.Progress.{Progress}
 use Rattle.gabc_text.specs.Token.{Token}
 use Rattle.gabc_text.specs.View.{effect, piece_kind, is_space, has_word, follows_blank, place_of, bytes_of, begin_of, end_of, count_pieces, piece_of, PieceFacts, open_styles}
 use Rattle.gabc_text.specs.Events.{kept_of, piece_at, waiting_blank, is_blank_at}
-use Rattle.gabc_text.specs.witness.EventsLeft.{piece_by, piece_there, count_after, waiting_behind}
+use Rattle.gabc_text.specs.witness.EventsLeft.{piece_by, piece_there, count_after, waiting_after}
 use Rattle.gabc_text.specs.machine.TextStage.{progress_after}
 use Rattle.gabc_text.proofs.machine.FactsOfTokens.{facts_of}
 use Rattle.gabc_text.proofs.tokens.CountsOfTexts.{up_is}
@@ -59,7 +59,7 @@ module _ (at : Place) (before : List Token) (k : Token) (p : Place) (small : cou
   waiting_here d (Some q) was = None
   waiting_here d None was = cond (is_blank_at before d) (Some (piece_at before k piece.Blank)) was
 
-  blank_emitted : (d : TokenKind) (s : TagEffect) → waiting_behind (piece_there (facts_of before) spot_there piece.Blank spot_there.start spot_there.kept) (waiting_blank before) (piece_by (facts_of before) d s) ≡ waiting_here d (piece_kind d s) (waiting_blank before)
+  blank_emitted : (d : TokenKind) (s : TagEffect) → waiting_after (piece_there (facts_of before) spot_there piece.Blank spot_there.start spot_there.kept) (waiting_blank before) (piece_by (facts_of before) d s) ≡ waiting_here d (piece_kind d s) (waiting_blank before)
   blank_emitted kind.Letter s = refl
   blank_emitted kind.Raw s = refl
   blank_emitted kind.Tag Mark = refl
@@ -69,7 +69,7 @@ module _ (at : Place) (before : List Token) (k : Token) (p : Place) (small : cou
   blank_emitted kind.Tag (Begins r) = refl
   blank_emitted kind.Blank s = by (has_word before && not (follows_blank before))
     where
-      by : (b : Bool) → waiting_behind (piece_there (facts_of before) spot_there piece.Blank spot_there.start spot_there.kept) (waiting_blank before) (cond b (Some piece.Blank) None) ≡ cond b (Some (piece_at before k piece.Blank)) (waiting_blank before)
+      by : (b : Bool) → waiting_after (piece_there (facts_of before) spot_there piece.Blank spot_there.start spot_there.kept) (waiting_blank before) (cond b (Some piece.Blank) None) ≡ cond b (Some (piece_at before k piece.Blank)) (waiting_blank before)
       by true = refl
       by false = refl
   blank_emitted _ s = refl

@@ -105,12 +105,12 @@ module _ (read : List ℕ) (s : TextStage) (k : Token) where
       ∙ sym (append_assoc (lists_past [] next_state (j ∷ before) x) (along (lists_past [] next_state) (x ∷ j ∷ before) ks) _)
 
   -- after the first token, which is ended: what it owes, and what is emitted from the state past it
-  behind_first : (ks : List Token) (rest : List ℕ) → is_open_kind k.kind ≡ false → lists_from read s (k ∷ []) ks rest ≡ with_first (owed_events_at read s (k ∷ [])) (lists_from [] next_state [] ks rest)
-  behind_first [] rest e =
+  after_first : (ks : List Token) (rest : List ℕ) → is_open_kind k.kind ≡ false → lists_from read s (k ∷ []) ks rest ≡ with_first (owed_events_at read s (k ∷ [])) (lists_from [] next_state [] ks rest)
+  after_first [] rest e =
       rw (e) (
       ap (λ (x : TextFacts). (owed_events_at read s (k ∷ []) ++ end_events_by x (progress_at read s (k ∷ [])) false (end_by_rest rest)) ∷ no_events_each rest) (facts_on s.facts k [])
       ∙ ap (λ (x : Progress). (owed_events_at read s (k ∷ []) ++ end_events_by (facts_at [] next_state []) x false (end_by_rest rest)) ∷ no_events_each rest) (progress_on read s k []))
-  behind_first (x ∷ ks) rest e =
+  after_first (x ∷ ks) rest e =
       append_assoc (lists_past read s (k ∷ []) x) (along (lists_past read s) (x ∷ k ∷ []) ks) _
       ∙ ap (λ (l : List (List TextEvent)). lists_past read s (k ∷ []) x ++ l) (on_more ks x [] rest)
       ∙ ap (λ (l : List (List TextEvent)). l ++ lists_from [] next_state (x ∷ []) ks rest) (lists_on [] x (owed_events_at read s (k ∷ [])))
@@ -122,4 +122,4 @@ module _ (read : List ℕ) (s : TextStage) (k : Token) where
       → lists_from read s [] (k ∷ ks) rest ≡ lists_past read s [] k ++ with_first (owed_events_at read s (k ∷ [])) (lists_from [] next_state [] ks rest)
   first_token ks rest e =
       append_assoc (lists_past read s [] k) (along (lists_past read s) (k ∷ []) ks) _
-      ∙ ap (λ (l : List (List TextEvent)). lists_past read s [] k ++ l) (behind_first ks rest e)
+      ∙ ap (λ (l : List (List TextEvent)). lists_past read s [] k ++ l) (after_first ks rest e)

@@ -64,9 +64,9 @@ stands : (f g : Finding) → Earlier f.place g.place → ComesBefore f g
 stands f g (inl h) = inl h
 stands f g (inr h) = inr (h.0, inl h.1)
 
-behind : (f : Finding) (q : Place) (fs : List Finding) → Earlier f.place q → AllFrom q fs → AreInOrder fs → ComeAfter f fs
-behind f q [] h g o = tt
-behind f q (x ∷ fs) h g o = (stands f x (earlier_or f.place q x.place h g.0), o)
+after : (f : Finding) (q : Place) (fs : List Finding) → Earlier f.place q → AllFrom q fs → AreInOrder fs → ComeAfter f fs
+after f q [] h g o = tt
+after f q (x ∷ fs) h g o = (stands f x (earlier_or f.place q x.place h g.0), o)
 
 -- ---- what a token gives
 
@@ -121,7 +121,7 @@ module _ (at : Place) where
       by : (cs : List Code) → AtMostOne cs → Fine (place_of at before) (map (found_at (place_of at before)) cs ++ fs)
       by cs (inl e) = rw e (record { order = h.order; from = from_earlier (place_of at before) (place_of at (k ∷ before)) fs (token_later at before k) h.from })
       by cs (inr (c, e)) = rw e (record {
-        order = behind (found_at (place_of at before) c) (place_of at (k ∷ before)) fs (token_later at before k) h.from h.order;
+        order = after (found_at (place_of at before) c) (place_of at (k ∷ before)) fs (token_later at before k) h.from h.order;
         from = (inl refl, from_earlier (place_of at before) (place_of at (k ∷ before)) fs (token_later at before k) h.from);
       })
 

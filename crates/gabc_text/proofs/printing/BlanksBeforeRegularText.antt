@@ -31,7 +31,7 @@ use Rattle.gabc_text.proofs.printing.PrintedTextIsReadAgain.{Sound, view_sound, 
 use Rattle.gabc_text.proofs.printing.PrintedTextIsKept.{view_kept, written_append}
 use Rattle.gabc_text.proofs.printing.PrintedViewIsReadAgain.{printed_is}
 use Rattle.gabc_text.proofs.printing.CanonicalTextIsPrinted.{canonical_is}
-use Rattle.gabc_places.proofs.NothingBehindAnEnd.{both_empty}
+use Rattle.gabc_places.proofs.NothingAfterAnEnd.{both_empty}
 use Rattle.gabc_text.proofs.printing.RegularTextIsPrinted.{own_form, own_tokens, same_tokens, text_alone}
 
 -- ---- the tokens of a gap
@@ -131,8 +131,8 @@ front_says (inl b ∷ ps) ks = gap_begins_word b (front ps ++ ks) ∙ ap (λ (v 
     by true = refl
     by false = refl
 
-pub says_behind : (b : ℕ) (g t rest : List ℕ) → is_gap (b ∷ g) ≡ true → IsRegularText t → view_facts (b ∷ g ++ (t ++ 40 ∷ rest)) ≡ record (view_facts t) { word_start = true }
-says_behind b g t rest h r =
+pub says_after : (b : ℕ) (g t rest : List ℕ) → is_gap (b ∷ g) ≡ true → IsRegularText t → view_facts (b ∷ g ++ (t ++ 40 ∷ rest)) ≡ record (view_facts t) { word_start = true }
+says_after b g t rest h r =
     let f = gap_of (b ∷ g) h in
     ap view_facts_by (all_tokens (b ∷ g) t rest f r) ∙ front_says f.parts (tokens t) ∙ rw (f.blank (some b g)) refl
 
@@ -204,8 +204,8 @@ none_in_front at (inr u ∷ ps) before = none_in_front at ps (remark u ∷ befor
 reversed : (ks : List Token) → reverse ks ≡ onto ks []
 reversed ks = sym (append-nil (reverse ks)) ∙ reverse_push ks []
 
-pub nothing_behind : (at : Place) (g t rest : List ℕ) → is_gap g ≡ true → IsRegularText t → findings at (g ++ (t ++ 40 ∷ rest)) ≡ []
-nothing_behind at g t rest h r =
+pub nothing_after : (at : Place) (g t rest : List ℕ) → is_gap g ≡ true → IsRegularText t → findings at (g ++ (t ++ 40 ∷ rest)) ≡ []
+nothing_after at g t rest h r =
     let p = gap_of g h in
     let gs = front p.parts in
     let f = both_empty (along (findings_at at) [] (tokens t)) (findings_at_end at (reverse (tokens t))) (r.nothing at) in
@@ -250,8 +250,8 @@ tail : {xs ys : List ℕ} → 32 ∷ xs ≡ 32 ∷ ys → xs ≡ ys
 tail e = cc
 
 -- what is kept after an LF
-behind_line_feed : (t : List ℕ) → IsRegularText t → along kept_at (gap 10 ∷ []) (tokens t) ≡ t
-behind_line_feed t r = by (view t) (view_sound t) (ap (λ (v : ViewFacts). v.word_start) (sym (facts_is t)) ∙ r.no_start) (own_tokens t r) (own_form t r)
+after_line_feed : (t : List ℕ) → IsRegularText t → along kept_at (gap 10 ∷ []) (tokens t) ≡ t
+after_line_feed t r = by (view t) (view_sound t) (ap (λ (v : ViewFacts). v.word_start) (sym (facts_is t)) ∙ r.no_start) (own_tokens t r) (own_form t r)
   where
     by : (v : ViewFacts) → Sound v → v.word_start ≡ false → tokens t ≡ print_tokens v → print v ≡ t → along kept_at (gap 10 ∷ []) (tokens t) ≡ t
     by v s e f g =
@@ -263,15 +263,15 @@ behind_line_feed t r = by (view t) (view_sound t) (ap (λ (v : ViewFacts). v.wor
         view_kept (record v { word_start = true }) (record { good = s.good; no_last = s.no_last; centre_in = s.centre_in; translation_in = s.translation_in }) in
         ap (along kept_at (gap 10 ∷ [])) all ∙ tail kept ∙ text
 
-pub kept_behind : (b : ℕ) (g t rest : List ℕ) → is_gap (b ∷ g) ≡ true → IsRegularText t → kept (b ∷ g ++ (t ++ 40 ∷ rest)) ≡ 32 ∷ t
-kept_behind b g t rest h r =
+pub kept_after : (b : ℕ) (g t rest : List ℕ) → is_gap (b ∷ g) ≡ true → IsRegularText t → kept (b ∷ g ++ (t ++ 40 ∷ rest)) ≡ 32 ∷ t
+kept_after b g t rest h r =
     let p = gap_of (b ∷ g) h in
     let blank = p.blank (some b g) in
     let alike = front_alike p.parts [] none_alike in
     ap (along kept_at []) (all_tokens (b ∷ g) t rest p r)
     ∙ along_append kept_at [] (front p.parts) (tokens t)
     ∙ ap₂ (λ (x y : List ℕ). x ++ y) (one_blank p.parts [] refl blank)
-    (kept_alike (onto (front p.parts) []) (gap 10 ∷ []) (tokens t) alike.begun alike.ended (last_space p.parts [] blank) ∙ behind_line_feed t r)
+    (kept_alike (onto (front p.parts) []) (gap 10 ∷ []) (tokens t) alike.begun alike.ended (last_space p.parts [] blank) ∙ after_line_feed t r)
 
 -- ---- what is printed
 
@@ -281,15 +281,15 @@ printed_so v e = by v.word_start e
     by : (b : Bool) → b ≡ false → 10 ∷ text_of_tokens (text_tokens v ++ translation_tokens v.translation) ≡ 10 ∷ text_of_tokens (word_break b ++ text_tokens v ++ translation_tokens v.translation)
     by b e = rw e refl
 
-pub printed_behind : (whole : List ℕ) (b : ℕ) (g t rest : List ℕ) → is_gap (b ∷ g) ≡ true → IsRegularText t → StandsForView whole (view_in (b ∷ g ++ (t ++ 40 ∷ rest))) (b ∷ g ++ (t ++ 40 ∷ rest))
+pub printed_after : (whole : List ℕ) (b : ℕ) (g t rest : List ℕ) → is_gap (b ∷ g) ≡ true → IsRegularText t → StandsForView whole (view_in (b ∷ g ++ (t ++ 40 ∷ rest))) (b ∷ g ++ (t ++ 40 ∷ rest))
     → printed_view (view_in (b ∷ g ++ (t ++ 40 ∷ rest))) (encode_utf8_all whole) ≡ encode_utf8_all (10 ∷ t)
-printed_behind whole b g t rest h r s =
-    printed_is whole (b ∷ g ++ (t ++ 40 ∷ rest)) s ∙ ap (λ (v : ViewFacts). encode_utf8_all (print v)) (says_behind b g t rest h r)
+printed_after whole b g t rest h r s =
+    printed_is whole (b ∷ g ++ (t ++ 40 ∷ rest)) s ∙ ap (λ (v : ViewFacts). encode_utf8_all (print v)) (says_after b g t rest h r)
     ∙ ap encode_utf8_all (printed_so (view_facts t) r.no_start ∙ ap (λ (u : List ℕ). 10 ∷ u) r.printed)
 
-pub canonical_behind : (whole : List ℕ) (b : ℕ) (g t rest : List ℕ) → is_gap (b ∷ g) ≡ true → IsRegularText t → (view_facts t).translation ≡ None
+pub canonical_after : (whole : List ℕ) (b : ℕ) (g t rest : List ℕ) → is_gap (b ∷ g) ≡ true → IsRegularText t → (view_facts t).translation ≡ None
     → StandsForView whole (view_in (b ∷ g ++ (t ++ 40 ∷ rest))) (b ∷ g ++ (t ++ 40 ∷ rest))
     → canonical_text (view_in (b ∷ g ++ (t ++ 40 ∷ rest))) (encode_utf8_all whole) ≡ encode_utf8_all t
-canonical_behind whole b g t rest h r n s =
-    canonical_is whole (b ∷ g ++ (t ++ 40 ∷ rest)) s ∙ ap (λ (v : ViewFacts). encode_utf8_all (text_of_tokens (text_tokens v))) (says_behind b g t rest h r)
+canonical_after whole b g t rest h r n s =
+    canonical_is whole (b ∷ g ++ (t ++ 40 ∷ rest)) s ∙ ap (λ (v : ViewFacts). encode_utf8_all (text_of_tokens (text_tokens v))) (says_after b g t rest h r)
     ∙ ap encode_utf8_all (text_alone (view_facts t).word_start (text_tokens (view_facts t)) (view_facts t).translation r.no_start n ∙ r.printed)

@@ -29,7 +29,7 @@ use Rattle.gabc_text.proofs.printing.PrintedTagsOpenStyles.{push_append, along_a
 use Rattle.gabc_text.proofs.printing.PrintedPiecesAreReadAgain.{AllSilent, between_silent, are_braces}
 use Rattle.gabc_text.proofs.machine.TokensOneAfterAnother.{onto}
 use Rattle.gabc_text.specs.machine.PrintedPieces.{AllGood, Good, Says}
-use Rattle.gabc_places.proofs.NothingBehindAnEnd.{both_empty}
+use Rattle.gabc_places.proofs.NothingAfterAnEnd.{both_empty}
 
 -- ---- styles, none of which stands twice
 
@@ -386,11 +386,11 @@ shut_centre v s before a e = by v.centre s.centre_in
         (ended_by (print_from (Some c) 0 [] v.pieces) before c.to [] both.1)
 
 -- a translation after the text
-record Behind (before : List Token) (tr : Option (List ℕ)) : Type 0 where
+record After (before : List Token) (tr : Option (List ℕ)) : Type 0 where
   none : NoneAside before (translation_tokens tr)
   codes : codes_at_end (onto (translation_tokens tr) before) ≡ codes_at_end before
 
-translated_once : (before : List Token) (tr : Option (List ℕ)) → has_translation before ≡ false → Behind before tr
+translated_once : (before : List Token) (tr : Option (List ℕ)) → has_translation before ≡ false → After before tr
 translated_once before None h = record { none = refl; codes = refl }
 translated_once before (Some t) h = record { none = rw h refl; codes = refl }
 

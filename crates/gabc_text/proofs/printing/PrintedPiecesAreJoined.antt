@@ -29,11 +29,11 @@ good_join w b [] qs h g = g
 good_join w b (p ∷ ps) qs h g = (h.0, good_join (is_word_kind (Some p.kind) || w) (is_blank_piece p.kind) ps qs h.1 g)
 
 -- pieces that are good where no word stands before them are good after one
-pub good_behind : (x w b : Bool) (ps : List PieceFacts) → AllGood x b ps → (x ≡ true → w ≡ true) → AllGood w b ps
-good_behind x w b [] h f = tt
-good_behind x w b (p ∷ ps) h f = (
+pub good_after : (x w b : Bool) (ps : List PieceFacts) → AllGood x b ps → (x ≡ true → w ≡ true) → AllGood w b ps
+good_after x w b [] h f = tt
+good_after x w b (p ∷ ps) h f = (
   record { test = (h.0).test; styles_are = (h.0).styles_are; stable = (h.0).stable; reads_so = by p.kind (h.0).reads_so },
-  good_behind (is_word_kind (Some p.kind) || x) (is_word_kind (Some p.kind) || w) (is_blank_piece p.kind) ps h.1 (more (is_word_kind (Some p.kind))),
+  good_after (is_word_kind (Some p.kind) || x) (is_word_kind (Some p.kind) || w) (is_blank_piece p.kind) ps h.1 (more (is_word_kind (Some p.kind))),
 )
   where
     more : (a : Bool) → (a || x) ≡ true → (a || w) ≡ true
@@ -94,9 +94,9 @@ closings ss = map closing_tag (reverse ss)
 at_end : (old : List Style) (middle : List Token) → tokens_between old [] middle ≡ closings old ++ middle
 at_end old middle = rw (old_alone old) (append-nil (closings old ++ middle))
 
-run_behind : (i : ℕ) (ss : List Style) (ps : List PieceFacts) → print_from None i ss (map (in_styles ss) ps) ≡ map printed_as ps ++ closings ss
-run_behind i ss [] = at_end ss [] ∙ append-nil (closings ss)
-run_behind i ss (p ∷ ps) = rw (none_after ss) (ap (λ (ks : List Token). printed_as p ∷ ks) (run_behind (i + 1) ss ps))
+run_after : (i : ℕ) (ss : List Style) (ps : List PieceFacts) → print_from None i ss (map (in_styles ss) ps) ≡ map printed_as ps ++ closings ss
+run_after i ss [] = at_end ss [] ∙ append-nil (closings ss)
+run_after i ss (p ∷ ps) = rw (none_after ss) (ap (λ (ks : List Token). printed_as p ∷ ks) (run_after (i + 1) ss ps))
 
 pub good_in : (ss : List Style) (test : Style → Bool) (w b : Bool) (ps : List PieceFacts) → ss ≡ filter test all_styles → AllGood w b ps → AllGood w b (map (in_styles ss) ps)
 good_in ss test w b [] e h = tt
@@ -130,7 +130,7 @@ word_in ss w (p ∷ ps) = word_in ss (is_word_kind (Some p.kind) || w) ps
 
 -- pieces in no style
 pub plain_printed : (ps : List PieceFacts) → text_of_tokens (print_from None 0 [] (map (in_styles []) ps)) ≡ printed_text ps
-plain_printed ps = ap text_of_tokens (run_behind 0 [] ps ∙ append-nil (map printed_as ps))
+plain_printed ps = ap text_of_tokens (run_after 0 [] ps ∙ append-nil (map printed_as ps))
 
 -- ---- pieces after others
 
@@ -152,18 +152,18 @@ past_braces centre i k old [] h = ap (λ (ks : List Token). tokens_between old [
 past_braces centre i k old (p ∷ ps) h =
     ap₂ (λ (ks ls : List Token). tokens_between old p.styles ks ++ printed_as p ∷ ls) (no_braces centre i h) (past_braces centre (i + 1) (k + 1) p.styles ps (past_more centre i h))
 
-pub behind : (centre : Option Span) (i j : ℕ) (old : List Style) (ps : List PieceFacts) (q : PieceFacts) (qs : List PieceFacts) → i + length ps ≡ j → AreApart (last_styles old ps) q.styles
+pub after : (centre : Option Span) (i j : ℕ) (old : List Style) (ps : List PieceFacts) (q : PieceFacts) (qs : List PieceFacts) → i + length ps ≡ j → AreApart (last_styles old ps) q.styles
     → print_from centre i old (ps ++ q ∷ qs) ≡ print_from centre i old ps ++ (map opening_tag q.styles ++ printed_as q ∷ print_from centre (j + 1) q.styles qs)
-behind centre i j old [] q qs e h =
+after centre i j old [] q qs e h =
     let same : i ≡ j = omega (arith, e) in
     let middle = brace_tokens centre i in
     let more = printed_as q ∷ print_from centre (i + 1) q.styles qs in
     ap (λ (left : List Style × List Style). (closings left.0 ++ middle ++ map opening_tag left.1) ++ more) h
     ∙ append_assoc (closings old ++ middle) (map opening_tag q.styles) more
     ∙ ap₂ (λ (ks : List Token) (n : ℕ). ks ++ (map opening_tag q.styles ++ printed_as q ∷ print_from centre (n + 1) q.styles qs)) (sym (at_end old middle)) same
-behind centre i j old (p ∷ ps) q qs e h =
+after centre i j old (p ∷ ps) q qs e h =
     let gap = tokens_between old p.styles (brace_tokens centre i) in
-    ap (λ (ks : List Token). gap ++ printed_as p ∷ ks) (behind centre (i + 1) j p.styles ps q qs (omega (arith, e)) h)
+    ap (λ (ks : List Token). gap ++ printed_as p ∷ ks) (after centre (i + 1) j p.styles ps q qs (omega (arith, e)) h)
     ∙ sym (append_assoc gap (printed_as p ∷ print_from centre (i + 1) p.styles ps) (map opening_tag q.styles ++ printed_as q ∷ print_from centre (j + 1) q.styles qs))
 
 past_all : (centre : Option Span) (n : ℕ) → LiesAmong n centre → IsPast centre (n + 1)
@@ -176,7 +176,7 @@ pub text_join : (centre : Option Span) (ps qs : List PieceFacts) → LiesAmong (
 text_join centre ps [] l e h = absurd (cc)
 text_join centre ps (q ∷ qs) l e h =
     let first = map opening_tag q.styles in
-    ap text_of_tokens (behind centre 0 (length ps) [] ps q qs (omega arith) h)
+    ap text_of_tokens (after centre 0 (length ps) [] ps q qs (omega arith) h)
     ∙ written_append (print_from centre 0 [] ps) (first ++ printed_as q ∷ print_from centre (length ps + 1) q.styles qs)
     ∙ ap (λ (ks : List Token). text_of_tokens (print_from centre 0 [] ps) ++ text_of_tokens (first ++ printed_as q ∷ ks)) (past_braces centre (length ps + 1) (0 + 1) q.styles qs (past_all centre (length ps) l))
 
@@ -206,7 +206,7 @@ pub styled_printed : (s : Style) (ps : List PieceFacts) → blank_after true ps 
     → text_of_tokens (print_from None 0 [] (map (in_styles (s ∷ [])) ps)) ≡ spelling (opening_tag s) ++ (printed_text ps ++ spelling (closing_tag s))
 styled_printed s [] e = absurd (cc)
 styled_printed s (p ∷ ps) e =
-    ap (λ (ks : List Token). spelling (opening_tag s) ++ (spelling (printed_as p) ++ text_of_tokens ks)) (run_behind (0 + 1) (s ∷ []) ps)
+    ap (λ (ks : List Token). spelling (opening_tag s) ++ (spelling (printed_as p) ++ text_of_tokens ks)) (run_after (0 + 1) (s ∷ []) ps)
     ∙ ap (λ (t : List ℕ). spelling (opening_tag s) ++ (spelling (printed_as p) ++ t)) (written_append (map printed_as ps) (closing_tag s ∷ []))
     ∙ ap (λ (t : List ℕ). spelling (opening_tag s) ++ (spelling (printed_as p) ++ (printed_text ps ++ t))) (append-nil (spelling (closing_tag s)))
     ∙ ap (λ (t : List ℕ). spelling (opening_tag s) ++ t) (sym (append_assoc (spelling (printed_as p)) (printed_text ps) (spelling (closing_tag s))))
@@ -258,7 +258,7 @@ pub centre_text : (c : Span) (ps rs : List PieceFacts) → blank_after true rs �
 centre_text c ps [] e f g = absurd (cc)
 centre_text c ps (r ∷ rs) e f g =
     let before = print_from None 0 [] ps in
-    ap text_of_tokens (behind (Some c) 0 (length ps) [] ps (in_styles [] r) (map (in_styles []) rs) (omega arith) (apart_none (last_styles [] ps))
+    ap text_of_tokens (after (Some c) 0 (length ps) [] ps (in_styles [] r) (map (in_styles []) rs) (omega arith) (apart_none (last_styles [] ps))
     ∙ ap₂ (λ (ks ls : List Token). ks ++ printed_as r ∷ ls) (begun_centre c 0 [] ps (omega (arith, f)) (omega (arith, f, g))) (ended_centre c (length ps + 1) rs (omega (arith, f)) (omega (arith, g))))
     ∙ written_append (before ++ begin_brace ∷ []) (printed_as r ∷ map printed_as rs ++ end_brace ∷ [])
     ∙ ap₂ (λ (t u : List ℕ). t ++ u) (written_append before (begin_brace ∷ [])) (written_append (printed_as r ∷ map printed_as rs) (end_brace ∷ []))

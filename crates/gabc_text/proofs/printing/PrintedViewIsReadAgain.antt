@@ -42,13 +42,13 @@ pub printed_is : (K t : List ℕ) → StandsForView K (view_in t) t → printed_
 printed_is K t h =
     let v : ViewFacts = view_facts t in
     let start : List Token = word_break v.word_start in
-    let behind : List Token = translation_tokens v.translation in
+    let after : List Token = translation_tokens v.translation in
     ap (λ (x : List ℕ). x ++ (canonical_text (view_in t) (encodes K) ++ printed_translation (encodes K) (view_in t).translation)) (break_bytes v.word_start)
     ∙ ap (λ (x : List ℕ). encodes (text_of_tokens start) ++ (x ++ printed_translation (encodes K) (view_in t).translation)) (canonical_is K t h)
     ∙ ap (λ (x : List ℕ). encodes (text_of_tokens start) ++ (encodes (text_of_tokens (text_tokens v)) ++ x)) (translation_bytes K (view_in t).translation (translation_text (reverse (tokens t))) h.translation)
-    ∙ sym (append_assoc (encodes (text_of_tokens start)) (encodes (text_of_tokens (text_tokens v))) (encodes (text_of_tokens behind)))
-    ∙ ap (λ (x : List ℕ). x ++ encodes (text_of_tokens behind)) (sym (bytes_append start (text_tokens v)))
-    ∙ sym (bytes_append (start ++ text_tokens v) behind)
+    ∙ sym (append_assoc (encodes (text_of_tokens start)) (encodes (text_of_tokens (text_tokens v))) (encodes (text_of_tokens after)))
+    ∙ ap (λ (x : List ℕ). x ++ encodes (text_of_tokens after)) (sym (bytes_append start (text_tokens v)))
+    ∙ sym (bytes_append (start ++ text_tokens v) after)
 
 pub printed_again : (K L t rest : List ℕ) → StandsForView K (view_in t) t
     → StandsForView L (view_in (print (view_facts t) ++ 40 ∷ rest)) (print (view_facts t) ++ 40 ∷ rest)

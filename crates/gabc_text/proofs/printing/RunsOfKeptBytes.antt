@@ -9,7 +9,7 @@ use Rattle.gabc_text.specs.declared.view.Piece.{Piece}
 use Rattle.gabc_text.specs.declared.view.TextView.{TextView}
 use Rattle.gabc_text.specs.declared.canonical.Run.{Run}
 use Rattle.gabc_text.specs.TextView.{content_of}
-use Rattle.gabc_text.specs.machine.Runs.{text_behind}
+use Rattle.gabc_text.specs.machine.Runs.{text_after}
 use Rattle.gabc_text.specs.Canonical.{span_bytes, boundary, braces, piece_text, text_from, listed_styles, canonical_text}
 use Rattle.gabc_text.proofs.printing.ChangedStylesCloseFromTheFirst.{boundary_of_same}
 
@@ -78,13 +78,13 @@ next_goes_on centre kept i ps d run longer old new h o m b w l s n none t =
 
 -- what takes a boundary and the head of a piece, and then the bytes that the head leaves
 pub taken_in_turn : {D : Type 0} (taken : D → List ℕ → D) (both : (s : D) (a b : List ℕ) → taken (taken s a) b ≡ taken s (a ++ b))
-    (out behind_boundary behind_head : D) (middle text left rest : List ℕ)
-    → behind_boundary ≡ taken out middle → taken behind_head left ≡ taken behind_boundary text
-    → taken behind_head (left ++ rest) ≡ taken out (middle ++ (text ++ rest))
+    (out after_boundary after_head : D) (middle text left rest : List ℕ)
+    → after_boundary ≡ taken out middle → taken after_head left ≡ taken after_boundary text
+    → taken after_head (left ++ rest) ≡ taken out (middle ++ (text ++ rest))
 taken_in_turn taken both out o1 o2 middle text left rest e1 e2 =
     sym (both o2 left rest) ∙ rw (e2, e1) (both (taken out middle) text rest ∙ both out middle (text ++ rest))
 
 -- before the first piece
 pub first_after : (v : TextView) (kept : List ℕ) (old : Styles) (r : Run) → r.span.from ≡ r.span.to → r.next ≡ 0 → listed_styles old ≡ []
-    → text_behind v kept old r ≡ canonical_text (content_of v) kept
+    → text_after v kept old r ≡ canonical_text (content_of v) kept
 first_after v kept old r e n none = rw (no_bytes kept r.span e, n, none) refl

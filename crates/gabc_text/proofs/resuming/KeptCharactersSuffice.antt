@@ -18,7 +18,7 @@ use Rattle.gabc_text.specs.declared.text_event.TextEvent.{TextEvent}
 use Rattle.gabc_text.specs.declared.stage.TextStage.{TextStage}
 use Rattle.gabc_text.specs.Token.{is_one_of, is_blank, is_special, single, effect_of}
 use Rattle.gabc_text.specs.View.{piece_kind}
-use Rattle.gabc_text.specs.witness.EventsLeft.{piece_by, parts_by, begin_behind, end_behind}
+use Rattle.gabc_text.specs.witness.EventsLeft.{piece_by, parts_by, begin_after, end_after}
 use Rattle.gabc_text.specs.declared.view.PieceKind.TheVariants as piece
 use Rattle.gabc_text.specs.machine.TextFacts.{facts_after}
 use Rattle.gabc_text.specs.machine.StageReports.{is_comment}
@@ -147,8 +147,8 @@ module _ (at next : Place) (facts : TextFacts) (p : Progress) where
     pub kept : keep facts Plain c ≡ None
     pub facts_are : facts_after facts k tag.Other ≡ facts
     pub no_piece : piece_by facts k tag.Other ≡ None
-    pub begin : begin_behind facts k p.pieces p.begin ≡ p.begin
-    pub end : end_behind facts k p.pieces p.end ≡ p.end
+    pub begin : begin_after facts k p.pieces p.begin ≡ p.begin
+    pub end : end_after facts k p.pieces p.end ≡ p.end
     pub start : p.start ≡ p.kept
     pub no_parts : (last to : ℕ) → parts_by facts (progress_past p c None) k last to (piece_kind k tag.Other) ≡ []
 
@@ -282,7 +282,7 @@ module _ (at next : Place) (facts : TextFacts) (p : Progress) where
 -- ---- after a `$`
 
 -- a character that is a blank, by itself and no escape
-record IsBlankBehind (w : ℕ) : Type 0 where
+record IsBlankAfter (w : ℕ) : Type 0 where
   pub whole : first_step w ≡ Ends kind.Blank tag.Other
   pub plain : is_special w ≡ false
   pub no_notes : (w == 40) ≡ false
@@ -330,7 +330,7 @@ module _ (facts : TextFacts) (p : Progress) where
   in_dollar at next = record { state = Dollar; facts = facts; progress = record p { place = at; next = next }; ended = false }
 
   -- the `$` is a letter, and the blank is kept
-  dollar_said : (at next : Place) (w : ℕ) → IsBlankBehind w
+  dollar_said : (at next : Place) (w : ℕ) → IsBlankAfter w
       → said (events_of_push (in_dollar at next) w) ≡ said_of_token facts p kind.Letter tag.Other p.start ++ said_of_char (Some 32)
   dollar_said at next w b =
       rw b.plain (
@@ -342,7 +342,7 @@ module _ (facts : TextFacts) (p : Progress) where
       blank_said : said (events_of_settled_push (token_stage (in_dollar at next) kind.Letter tag.Other next) w) ≡ said_of_char (Some 32)
       blank_said = rw b.no_notes (reading_said (token_stage (in_dollar at next) kind.Letter tag.Other next) w ∙ rw (b.whole, b.no_comment, b.blank) refl)
 
-  dollar_blank : (at next other more : Place) (w : ℕ) → IsBlankBehind w → StepAlike (in_dollar other more) w (in_dollar at next) (kept_at (in_dollar other more) w)
+  dollar_blank : (at next other more : Place) (w : ℕ) → IsBlankAfter w → StepAlike (in_dollar other more) w (in_dollar at next) (kept_at (in_dollar other more) w)
   dollar_blank at next other more w b = rw kept alike
     where
       kept : kept_at (in_dollar other more) w ≡ Some 32
@@ -405,12 +405,12 @@ module _ (at next : Place) (facts : TextFacts) (p : Progress) where
   abbrev in_comment : TextStage
   in_comment = record { state = Comment; facts = facts; progress = p; ended = false }
 
-  abbrev behind_comment : TextStage
-  behind_comment = placed p.next p.next (record { state = Plain; facts = facts; progress = p; ended = false })
+  abbrev after_comment : TextStage
+  after_comment = placed p.next p.next (record { state = Plain; facts = facts; progress = p; ended = false })
 
-  feed_step : IsReached in_comment → (push_stage in_comment 10).ended ≡ false → StepAlike in_comment 10 (placed at next behind_comment) (kept_at in_comment 10)
+  feed_step : IsReached in_comment → (push_stage in_comment 10).ended ≡ false → StepAlike in_comment 10 (placed at next after_comment) (kept_at in_comment 10)
   feed_step reached goes =
-      step_as in_comment behind_comment (placed at next behind_comment) 10 (keep facts Plain 10) (comment_ends facts p (reached.start refl)) (comment_says facts p (reached.start refl))
+      step_as in_comment after_comment (placed at next after_comment) 10 (keep facts Plain 10) (comment_ends facts p (reached.start refl)) (comment_says facts p (reached.start refl))
       (plain_step at next facts (record p { place = p.next; next = p.next }) 10
       (record { between = λ _. refl; start = reached.start; blank = reached.blank; starts = reached.starts })
       (ap (λ (x : TextStage). x.ended) (sym (comment_ends facts p (reached.start refl))) ∙ goes))

@@ -84,12 +84,12 @@ no_chars (out.Ended h ∷ es) e = no_chars es e
 none_stand : (p : Place) (es : List TextEvent) → kept_in es ≡ [] → StandAt p es
 none_stand p es e = subst (λ (xs : List Char). All (λ (x : Char). x.place ≡ p) xs) (sym (no_chars es e)) (All-nil (λ (x : Char). x.place ≡ p))
 
-stand_behind : (p : Place) (a b : List TextEvent) → kept_in a ≡ [] → StandAt p b → StandAt p (a ++ b)
-stand_behind p [] b e stand = stand
-stand_behind p (out.Kept c ∷ a) b e stand = cc
-stand_behind p (out.Part q ∷ a) b e stand = stand_behind p a b e stand
-stand_behind p (out.Found f ∷ a) b e stand = stand_behind p a b e stand
-stand_behind p (out.Ended h ∷ a) b e stand = stand_behind p a b e stand
+stand_after : (p : Place) (a b : List TextEvent) → kept_in a ≡ [] → StandAt p b → StandAt p (a ++ b)
+stand_after p [] b e stand = stand
+stand_after p (out.Kept c ∷ a) b e stand = cc
+stand_after p (out.Part q ∷ a) b e stand = stand_after p a b e stand
+stand_after p (out.Found f ∷ a) b e stand = stand_after p a b e stand
+stand_after p (out.Ended h ∷ a) b e stand = stand_after p a b e stand
 
 char_stands : (p : Place) (o : Option ℕ) (es : List TextEvent) → kept_in es ≡ [] → StandAt p (option_list_of (char_event p o) ++ es)
 char_stands p None es e = none_stand p es e
@@ -97,7 +97,7 @@ char_stands p (Some c) es e = All-cons (λ (x : Char). x.place ≡ p) (record { 
 
 read_stands : (s : TextStage) (c : ℕ) → StandAt (next_of s) (events_of_reading s c)
 read_stands s c =
-    stand_behind (next_of s) (findings_there s.progress.place (option_list_of (early_at s.facts s.state c))) _
+    stand_after (next_of s) (findings_there s.progress.place (option_list_of (early_at s.facts s.state c))) _
     (no_found_kept s.progress.place (option_list_of (early_at s.facts s.state c)))
     (char_stands (next_of s) (keep s.facts s.state c)
     (events_of_step (stage_past_char s c) (next_step s.state c) s.progress.kept) (step_kept (stage_past_char s c) (next_step s.state c) s.progress.kept))
@@ -112,9 +112,9 @@ push_stands s c = by s.ended (settled_kind s.state c) (c == 40 && is_plain (sett
     by : (d : Bool) (o : Option TokenKind) (b : Bool) → StandAt (next_of s) (cond d [] (events_of_settling_by s o
         ++ cond b (events_of_end (settle_stage_by s o).facts (settle_stage_by s o).progress text_ending.Notes) (events_of_reading (settle_stage_by s o) c)))
     by true o b = All-nil (λ (x : Char). x.place ≡ next_of s)
-    by false o true = stand_behind (next_of s) (events_of_settling_by s o) (events_of_end (settle_stage_by s o).facts (settle_stage_by s o).progress text_ending.Notes) (settling_kept s o)
+    by false o true = stand_after (next_of s) (events_of_settling_by s o) (events_of_end (settle_stage_by s o).facts (settle_stage_by s o).progress text_ending.Notes) (settling_kept s o)
         (none_stand (next_of s) (events_of_end (settle_stage_by s o).facts (settle_stage_by s o).progress text_ending.Notes) (end_kept (settle_stage_by s o).facts (settle_stage_by s o).progress false text_ending.Notes))
-    by false o false = stand_behind (next_of s) (events_of_settling_by s o) (events_of_reading (settle_stage_by s o) c) (settling_kept s o) (settled_stands s o c)
+    by false o false = stand_after (next_of s) (events_of_settling_by s o) (events_of_reading (settle_stage_by s o) c) (settling_kept s o) (settled_stands s o c)
 
 -- ---- what is kept of a text
 

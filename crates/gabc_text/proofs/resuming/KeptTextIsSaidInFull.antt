@@ -14,7 +14,7 @@ use Rattle.gabc_text.specs.Ends.{ends_in}
 use Rattle.gabc_text.specs.Events.{CountsFit, events_by_point}
 use Rattle.gabc_text.specs.TextStage.{fresh_stage}
 use Rattle.gabc_text.specs.TextView.{ViewContent}
-use Rattle.gabc_text.specs.witness.Keeps.{said, end_text, EndsInNotes, stage_behind, Keeps, said_of, ends_after_it, said_at_end}
+use Rattle.gabc_text.specs.witness.Keeps.{said, end_text, EndsInNotes, stage_after, Keeps, said_of, ends_after_it, said_at_end}
 use Rattle.gabc_text.specs.witness.SaidInFull.{IsSaidInFull}
 use Rattle.gabc_text.specs.machine.RawPart.{stage_past, events_of_pushes}
 use Rattle.gabc_text.specs.machine.Resuming.{nowhere, kept_at, kept_past}
@@ -88,13 +88,13 @@ said_in_full s k rest keeps ends fits = record {
       ∙ ap kept_in (said_is k) ∙ kept_said (events_of_pushes (fresh_stage nowhere) k) ∙ all_kept;
   view_is = ap (λ (b : BuiltText). b.view) (sym (events_append empty_text mids (out.Ended ending.Notes ∷ [])))
       ∙ ap (λ (es : List TextEvent). (with_events empty_text es).view) (sym all_said)
-      ∙ view_said empty_text empty_text (events_of_pushes (fresh_stage nowhere) k ++ events_of_push (stage_behind k) 40) refl
+      ∙ view_said empty_text empty_text (events_of_pushes (fresh_stage nowhere) k ++ events_of_push (stage_after k) 40) refl
       ∙ ap (λ (es : List TextEvent). (with_events empty_text es).view) (sym all_emitted ∙ points_joined nowhere text)
       ∙ ap (λ (b : BuiltText). b.view) (events_whole nowhere text);
   kept_is = sym (ap kept_in (points_joined nowhere text) ∙ kept_whole nowhere text)
       ∙ ap kept_in all_emitted
-      ∙ kept_more (events_of_pushes (fresh_stage nowhere) k) (events_of_push (stage_behind k) 40)
-      ∙ ap (λ (t : List ℕ). kept_in (events_of_pushes (fresh_stage nowhere) k) ++ t) (none_kept_at_end (stage_behind k) 40 going over)
+      ∙ kept_more (events_of_pushes (fresh_stage nowhere) k) (events_of_push (stage_after k) 40)
+      ∙ ap (λ (t : List ℕ). kept_in (events_of_pushes (fresh_stage nowhere) k) ++ t) (none_kept_at_end (stage_after k) 40 going over)
       ∙ append-nil (kept_in (events_of_pushes (fresh_stage nowhere) k))
       ∙ all_kept;
 }
@@ -102,14 +102,14 @@ said_in_full s k rest keeps ends fits = record {
     text : List ℕ
     text = k ++ 40 ∷ rest
 
-    going : (stage_behind k).ended ≡ false
+    going : (stage_after k).ended ≡ false
     going = ap (λ (x : TextStage). x.ended) keeps.alike.same ∙ keeps.goes_on
 
-    over : (push_stage (stage_behind k) 40).ended ≡ true
+    over : (push_stage (stage_after k) 40).ended ≡ true
     over = sym (ends_are k) ∙ ends
 
     notes : EndsInNotes (said_at_end k)
-    notes = subst EndsInNotes (sym (last_is k)) (notes_at_end (stage_behind k) 40 going over)
+    notes = subst EndsInNotes (sym (last_is k)) (notes_at_end (stage_after k) 40 going over)
 
     mids : List TextEvent
     mids = said_of k ++ parts_out notes.parts
@@ -120,14 +120,14 @@ said_in_full s k rest keeps ends fits = record {
     all_kept : kept_in (events_of_pushes (fresh_stage nowhere) k) ≡ k
     all_kept = pushes_keep (fresh_stage nowhere) k going ∙ keeps.whole
 
-    all_emitted : concat_of (events_by_point nowhere text) ≡ events_of_pushes (fresh_stage nowhere) k ++ events_of_push (stage_behind k) 40
+    all_emitted : concat_of (events_by_point nowhere text) ≡ events_of_pushes (fresh_stage nowhere) k ++ events_of_push (stage_after k) 40
     all_emitted = ap concat_of (sym (fresh_stepwise nowhere text fits).0) ∙ emitted (fresh_stage nowhere) k rest over
 
     -- what was said is what is said of the events
-    all_said : said (events_of_pushes (fresh_stage nowhere) k ++ events_of_push (stage_behind k) 40) ≡ mids ++ out.Ended ending.Notes ∷ []
+    all_said : said (events_of_pushes (fresh_stage nowhere) k ++ events_of_push (stage_after k) 40) ≡ mids ++ out.Ended ending.Notes ∷ []
     all_said =
-        said_append (events_of_pushes (fresh_stage nowhere) k) (events_of_push (stage_behind k) 40)
-        ∙ ap (λ (es : List TextEvent). es ++ said (events_of_push (stage_behind k) 40)) (sym (said_is k))
+        said_append (events_of_pushes (fresh_stage nowhere) k) (events_of_push (stage_after k) 40)
+        ∙ ap (λ (es : List TextEvent). es ++ said (events_of_push (stage_after k) 40)) (sym (said_is k))
         ∙ ap (λ (es : List TextEvent). said_of k ++ es) (sym (last_is k))
         ∙ ap (λ (es : List TextEvent). said_of k ++ es) notes.is
         ∙ sym (append_assoc (said_of k) (parts_out notes.parts) (out.Ended ending.Notes ∷ []))

@@ -10,7 +10,7 @@ use Rattle.gabc_text.specs.declared.text_event.TextEnd.TheVariants as text_endin
 use Rattle.gabc_text.specs.declared.stage.TextStage.{TextStage}
 use Rattle.gabc_text.specs.BuiltText.{kept_in}
 use Rattle.gabc_text.specs.witness.EventsLeft.{events_left}
-use Rattle.gabc_text.specs.witness.Keeps.{IsKeptOf, said, end_text, EndsInNotes, stage_behind, Keeps, said_of, is_open_after_text, begins_comment, kept_with, ends_after_it, said_at_end, comment_with, GoesOn, EndsAfter, KeepsOn}
+use Rattle.gabc_text.specs.witness.Keeps.{IsKeptOf, said, end_text, EndsInNotes, stage_after, Keeps, said_of, is_open_after_text, begins_comment, kept_with, ends_after_it, said_at_end, comment_with, GoesOn, EndsAfter, KeepsOn}
 use Rattle.gabc_text.specs.StageReports.{opener_of, is_in_comment}
 use Rattle.gabc_text.specs.witness.StageReports.{next_of, moved_to, place_told, told}
 use Rattle.gabc_text.specs.machine.StageReports.{is_open, is_comment, opener_in, comment_in}
@@ -35,7 +35,7 @@ use Rattle.std.proofs.Common.{not, ◌≤◌, length, suc, is_some, arith}
 use Rattle.gabc_text.proofs.resuming.PlacesAside.{said_append, push_placed, push_same}
 use Rattle.gabc_text.proofs.resuming.KeptCharactersSuffice.{StepAlike, step_alike, stays_outside}
 use Rattle.gabc_text.proofs.resuming.ReachedStages.{push_reached, fresh_reached, moved_reached, goes_on}
-use Rattle.gabc_text.proofs.NothingBehindTheEnd.{opener_told, comment_told}
+use Rattle.gabc_text.proofs.NothingAfterTheEnd.{opener_told, comment_told}
 use Rattle.gabc_text.proofs.resuming.ToldByEvents.{opener_moved, comment_moved}
 use Rattle.gabc_text.proofs.resuming.ToldSuffices.{told_suffices}
 use Rattle.gabc_text.proofs.resuming.EndsAndKept.{kept_said, done_is, kept_is, read_kept, none_kept_at_end, notes_at_end, EndsAt, ended_at}
@@ -71,23 +71,23 @@ pub said_is : (k : List ℕ) → said_of k ≡ said (events_of_pushes (fresh_sta
 unfolding said_of
 said_is k = refl
 
-open_is : (k : List ℕ) → is_open_after_text k ≡ is_open (stage_behind k).state
+open_is : (k : List ℕ) → is_open_after_text k ≡ is_open (stage_after k).state
 unfolding is_open_after_text
 open_is k = refl
 
-pub begins_is : (k : List ℕ) → begins_comment k ≡ is_plain (stage_behind k).state
+pub begins_is : (k : List ℕ) → begins_comment k ≡ is_plain (stage_after k).state
 unfolding begins_comment
 begins_is k = refl
 
-pub kept_with_is : (k : List ℕ) (c : ℕ) → kept_with k c ≡ kept_in (events_of_push (stage_behind k) c)
+pub kept_with_is : (k : List ℕ) (c : ℕ) → kept_with k c ≡ kept_in (events_of_push (stage_after k) c)
 unfolding kept_with
 kept_with_is k c = refl
 
-pub ends_are : (k : List ℕ) → ends_after_it k ≡ (push_stage (stage_behind k) 40).ended
+pub ends_are : (k : List ℕ) → ends_after_it k ≡ (push_stage (stage_after k) 40).ended
 unfolding ends_after_it
 ends_are k = refl
 
-pub last_is : (k : List ℕ) → said_at_end k ≡ said (events_of_push (stage_behind k) 40)
+pub last_is : (k : List ℕ) → said_at_end k ≡ said (events_of_push (stage_after k) 40)
 unfolding said_at_end
 last_is k = refl
 
@@ -96,7 +96,7 @@ fresh_keeps at = record { goes_on = refl; reached = fresh_reached at; alike = re
 
 module _ (s : TextStage) (c : ℕ) (k : List ℕ) (keeps : Keeps s k) where
   -- with absurd (true≢false comment) open, it stands where the fresh one does, but for places
-  placed_alike : comment_in s ≡ false → stage_behind k ≡ placed keeps.alike.place keeps.alike.next s
+  placed_alike : comment_in s ≡ false → stage_after k ≡ placed keeps.alike.place keeps.alike.next s
   placed_alike e = keeps.alike.same ∙ ap (λ (m : TokenState). placed keeps.alike.place keeps.alike.next (record s { state = m })) (stays_outside s.state e)
 
   kept_here : comment_in s ≡ false → kept_in (events_of_push s c) ≡ kept_with k c
@@ -143,13 +143,13 @@ module _ (s : TextStage) (c : ℕ) (k : List ℕ) (keeps : Keeps s k) where
   comment_now : (push_stage s c).ended ≡ false → is_in_comment (push_stage s c) ≡ comment_with k (is_in_comment s) c
   comment_now goes = comment_told (push_stage s c) goes ∙ comment_here goes ∙ ap (λ (b : Bool). comment_with k b c) (sym (comment_told s keeps.goes_on))
 
-  goes_behind : end_text (events_of_push s c) ≡ false → GoesOn s k c (events_of_push s c) (push_stage s c)
-  goes_behind e = by (kept_at s c) (kept_is s c keeps.goes_on goes) (step_alike s (stage_behind k) c keeps.reached keeps.goes_on goes keeps.alike)
+  goes_after : end_text (events_of_push s c) ≡ false → GoesOn s k c (events_of_push s c) (push_stage s c)
+  goes_after e = by (kept_at s c) (kept_is s c keeps.goes_on goes) (step_alike s (stage_after k) c keeps.reached keeps.goes_on goes keeps.alike)
     where
       goes : (push_stage s c).ended ≡ false
       goes = done_is s c keeps.goes_on ∙ e
 
-      by : (o : Option ℕ) → kept_in (events_of_push s c) ≡ option_to_list o → StepAlike s c (stage_behind k) o → GoesOn s k c (events_of_push s c) (push_stage s c)
+      by : (o : Option ℕ) → kept_in (events_of_push s c) ≡ option_to_list o → StepAlike s c (stage_after k) o → GoesOn s k c (events_of_push s c) (push_stage s c)
       by None f h = record {
         keeps = subst (Keeps (push_stage s c)) (sym (ap (λ (t : List ℕ). k ++ t) f ∙ append-nil k)) (record { goes_on = goes; reached = push_reached s c keeps.reached; alike = h.0; whole = keeps.whole });
         said = ap (λ (t : List ℕ). said_of (k ++ t)) f ∙ ap said_of (append-nil k) ∙ sym (ap (λ (os : List TextEvent). said_of k ++ os) h.1 ∙ append-nil (said_of k));
@@ -162,12 +162,12 @@ module _ (s : TextStage) (c : ℕ) (k : List ℕ) (keeps : Keeps s k) where
           goes_on = goes;
           reached = push_reached s c keeps.reached;
           alike = subst (IsAlike (push_stage s c)) (sym (past_more (fresh_stage nowhere) k d)) h.0;
-          whole = kept_more (fresh_stage nowhere) k d ∙ ap (λ (t : List ℕ). t ++ option_to_list (kept_at (stage_behind k) d)) keeps.whole ∙ ap (λ (t : List ℕ). k ++ t) kept_same;
+          whole = kept_more (fresh_stage nowhere) k d ∙ ap (λ (t : List ℕ). t ++ option_to_list (kept_at (stage_after k) d)) keeps.whole ∙ ap (λ (t : List ℕ). k ++ t) kept_same;
         });
         said = ap (λ (t : List ℕ). said_of (k ++ t)) f
             ∙ said_is (k ++ d ∷ [])
             ∙ ap said (events_more (fresh_stage nowhere) k d)
-            ∙ said_append (events_of_pushes (fresh_stage nowhere) k) (events_of_push (stage_behind k) d)
+            ∙ said_append (events_of_pushes (fresh_stage nowhere) k) (events_of_push (stage_after k) d)
             ∙ ap (λ (os : List TextEvent). said (events_of_pushes (fresh_stage nowhere) k) ++ os) (sym h.1)
             ∙ ap (λ (os : List TextEvent). os ++ said (events_of_push s c)) (sym (said_is k));
         opener = opener_here goes;
@@ -175,22 +175,22 @@ module _ (s : TextStage) (c : ℕ) (k : List ℕ) (keeps : Keeps s k) where
         next = next_goes s c keeps.goes_on goes;
       }
         where
-          behind_goes : (stage_behind k).ended ≡ false
-          behind_goes = alike_done s (stage_behind k) keeps.alike ∙ keeps.goes_on
+          later_goes : (stage_after k).ended ≡ false
+          later_goes = alike_done s (stage_after k) keeps.alike ∙ keeps.goes_on
 
-          after_goes : (push_stage (stage_behind k) d).ended ≡ false
-          after_goes = alike_done (push_stage s c) (push_stage (stage_behind k) d) h.0 ∙ goes
+          after_goes : (push_stage (stage_after k) d).ended ≡ false
+          after_goes = alike_done (push_stage s c) (push_stage (stage_after k) d) h.0 ∙ goes
 
-          kept_same : option_to_list (kept_at (stage_behind k) d) ≡ d ∷ []
+          kept_same : option_to_list (kept_at (stage_after k) d) ≡ d ∷ []
           kept_same =
-              sym (kept_is (stage_behind k) d behind_goes after_goes)
-              ∙ sym (kept_said (events_of_push (stage_behind k) d))
+              sym (kept_is (stage_after k) d later_goes after_goes)
+              ∙ sym (kept_said (events_of_push (stage_after k) d))
               ∙ ap kept_in (sym h.1)
               ∙ kept_said (events_of_push s c)
               ∙ f
 
-  ended_behind : end_text (events_of_push s c) ≡ true → EndsAfter k (events_of_push s c) (push_stage s c)
-  ended_behind e = record {
+  ended_after : end_text (events_of_push s c) ≡ true → EndsAfter k (events_of_push s c) (push_stage s c)
+  ended_after e = record {
     kept = none_kept_at_end s c keeps.goes_on over;
     said = said_last;
     notes = subst EndsInNotes said_last (notes_at_end s c keeps.goes_on over);
@@ -240,8 +240,8 @@ pub push_keeps : (s next : TextStage) (c : ℕ) (events : List TextEvent) → ne
 push_keeps s next c events e f = rw (e, f) (record {
   end = λ k h. sym (done_is s c h.goes_on) ∙ end_here s c k h (push_stage s c).ended refl ∙ ap (λ (b : Bool). not b && (c == 40 && ends_after_it k)) (sym (comment_told s h.goes_on));
   kept = λ k h e. kept_here s c k h (sym (comment_told s h.goes_on) ∙ e);
-  goes = λ k h. goes_behind s c k h;
-  ends = λ k h. ended_behind s c k h;
+  goes = λ k h. goes_after s c k h;
+  ends = λ k h. ended_after s c k h;
   only = λ k h. only_kept s c h.goes_on;
 })
 
@@ -250,7 +250,7 @@ moved_keeps at s k h = record { goes_on = h.goes_on; reached = moved_reached at 
 
 -- ---- what is open
 
-state_alike : (s : TextStage) (k : List ℕ) → Keeps s k → (stage_behind k).state ≡ outside s.state
+state_alike : (s : TextStage) (k : List ℕ) → Keeps s k → (stage_after k).state ≡ outside s.state
 state_alike s k h = ap (λ (x : TextStage). x.state) h.alike.same
 
 pub opener_open : (s : TextStage) (k : List ℕ) → Keeps s k → is_some (opener_of s) ≡ is_open_after_text k
@@ -280,7 +280,7 @@ pub comment_open : (s : TextStage) (k : List ℕ) → Keeps s k → is_in_commen
 comment_open s k h e = begins_is k ∙ ap is_plain (state_alike s k h ∙ ap outside (comment_is s.state (sym (comment_told s h.goes_on) ∙ e)))
 
 pub comment_alone : (k : List ℕ) → begins_comment k ≡ true → is_open_after_text k ≡ false
-comment_alone k e = open_is k ∙ by (stage_behind k).state (sym (begins_is k) ∙ e)
+comment_alone k e = open_is k ∙ by (stage_after k).state (sym (begins_is k) ∙ e)
   where
     by : (m : TokenState) → is_plain m ≡ true → is_open m ≡ false
     by Plain h = refl
@@ -318,18 +318,18 @@ kept_each s (x ∷ a) b c e = kept_each (push_stage s x) a b c (first_kept s x (
 pub kept_again : (s : TextStage) (a b : List ℕ) (c : ℕ) → Keeps s (a ++ c ∷ b) → kept_with a c ≡ c ∷ []
 kept_again s a b c h =
     kept_with_is a c
-    ∙ kept_is (stage_behind a) c (goes_on (stage_behind a) (c ∷ b) going) (goes_on (push_stage (stage_behind a) c) b going)
+    ∙ kept_is (stage_after a) c (goes_on (stage_after a) (c ∷ b) going) (goes_on (push_stage (stage_after a) c) b going)
     ∙ ap option_to_list (kept_each (fresh_stage nowhere) a b c h.whole)
   where
-    going : (stage_past (stage_behind a) (c ∷ b)).ended ≡ false
-    going = ap (λ (x : TextStage). x.ended) (sym (past_joined (fresh_stage nowhere) a (c ∷ b))) ∙ alike_done s (stage_behind (a ++ c ∷ b)) h.alike ∙ h.goes_on
+    going : (stage_past (stage_after a) (c ∷ b)).ended ≡ false
+    going = ap (λ (x : TextStage). x.ended) (sym (past_joined (fresh_stage nowhere) a (c ∷ b))) ∙ alike_done s (stage_after (a ++ c ∷ b)) h.alike ∙ h.goes_on
 
 pub comment_not_kept : (k : List ℕ) → begins_comment k ≡ true → kept_with k 37 ≡ []
-comment_not_kept k e = kept_with_is k 37 ∙ by (stage_behind k).state (stage_behind k).ended (sym (begins_is k) ∙ e)
+comment_not_kept k e = kept_with_is k 37 ∙ by (stage_after k).state (stage_after k).ended (sym (begins_is k) ∙ e)
   where
-    by : (m : TokenState) (d : Bool) → is_plain m ≡ true → kept_in (events_of_push (record { state = m; facts = (stage_behind k).facts; progress = (stage_behind k).progress; ended = d }) 37) ≡ []
+    by : (m : TokenState) (d : Bool) → is_plain m ≡ true → kept_in (events_of_push (record { state = m; facts = (stage_after k).facts; progress = (stage_after k).progress; ended = d }) 37) ≡ []
     by Plain true h = refl
-    by Plain false h = read_kept (record { state = Plain; facts = (stage_behind k).facts; progress = (stage_behind k).progress; ended = false }) 37
+    by Plain false h = read_kept (record { state = Plain; facts = (stage_after k).facts; progress = (stage_after k).progress; ended = false }) 37
     by Dollar d h = absurd (false≢true h)
     by Comment d h = absurd (false≢true h)
     by (Tag name) d h = absurd (false≢true h)
@@ -337,11 +337,11 @@ comment_not_kept k e = kept_with_is k 37 ∙ by (stage_behind k).state (stage_be
     by Translation d h = absurd (false≢true h)
 
 pub end_not_kept : (k : List ℕ) → ends_after_it k ≡ true → kept_with k 40 ≡ []
-end_not_kept k e = kept_with_is k 40 ∙ by (stage_behind k).ended refl
+end_not_kept k e = kept_with_is k 40 ∙ by (stage_after k).ended refl
   where
-    by : (d : Bool) → (stage_behind k).ended ≡ d → kept_in (events_of_push (stage_behind k) 40) ≡ []
-    by true f = ap (λ (x : Bool). kept_in (cond x [] (events_of_settling (stage_behind k) 40 ++ events_of_settled_push (settle_stage (stage_behind k) 40) 40))) f
-    by false f = none_kept_at_end (stage_behind k) 40 f (sym (ends_are k) ∙ e)
+    by : (d : Bool) → (stage_after k).ended ≡ d → kept_in (events_of_push (stage_after k) 40) ≡ []
+    by true f = ap (λ (x : Bool). kept_in (cond x [] (events_of_settling (stage_after k) 40 ++ events_of_settled_push (settle_stage (stage_after k) 40) 40))) f
+    by false f = none_kept_at_end (stage_after k) 40 f (sym (ends_are k) ∙ e)
 
 -- ---- stages that keep and report the same
 
@@ -371,13 +371,13 @@ told_is s x a = ap (λ (y : TextStage). with_places s.state y s.progress.place s
 
 keeps_agree : (s r : TextStage) (k : List ℕ) → Keeps s k → Keeps r k → opener_of s ≡ opener_of r → is_in_comment s ≡ is_in_comment r → next_of s ≡ next_of r → told s ≡ told r
 keeps_agree s r k hs hr opener comment next =
-    told_is s (stage_behind k) hs.alike
-    ∙ ap (λ (m : TokenState). with_places m (stage_behind k) s.progress.place s.progress.next) same
-    ∙ ap (λ (p : Place). record (stage_behind k) { state = r.state; progress = record (stage_behind k).progress { place = p; next = s.progress.next } })
+    told_is s (stage_after k) hs.alike
+    ∙ ap (λ (m : TokenState). with_places m (stage_after k) s.progress.place s.progress.next) same
+    ∙ ap (λ (p : Place). record (stage_after k) { state = r.state; progress = record (stage_after k).progress { place = p; next = s.progress.next } })
     (place_same r.state s.progress.place r.progress.place s.progress.next (λ e. hs.reached.between (ap is_plain same ∙ e)) (λ e. hr.reached.between e ∙ sym next)
     (ap (λ (m : TokenState). if is_open m then Some s.progress.place else None) (sym same) ∙ sym (opener_told s hs.goes_on) ∙ opener ∙ opener_told r hr.goes_on))
-    ∙ ap (λ (n : Place). with_places r.state (stage_behind k) r.progress.place n) next
-    ∙ sym (told_is r (stage_behind k) hr.alike)
+    ∙ ap (λ (n : Place). with_places r.state (stage_after k) r.progress.place n) next
+    ∙ sym (told_is r (stage_after k) hr.alike)
   where
     same : s.state ≡ r.state
     same = state_same s.state r.state (ap (λ (x : TextStage). x.state) (sym hs.alike.same ∙ hr.alike.same)) (sym (comment_told s hs.goes_on) ∙ comment ∙ comment_told r hr.goes_on)
@@ -426,10 +426,10 @@ module _ (s : TextStage) (keeps : Keeps s []) (comment : is_in_comment s ≡ tru
       ∙ rest_is (comment_before (next_of s)) (c ∷ t)
       ∙ step
       ∙ ap (λ (lists : List (List TextEvent)). [] ∷ lists)
-      (sym (rest_is behind_it t) ∙ told_suffices behind_it (comment_before (saturating_next_place (next_of s) c)) t refl ∙ sym (as_before (saturating_next_place (next_of s) c) t))
+      (sym (rest_is after_it t) ∙ told_suffices after_it (comment_before (saturating_next_place (next_of s) c)) t refl ∙ sym (as_before (saturating_next_place (next_of s) c) t))
     where
-      behind_it : TextStage
-      behind_it = record (comment_before (next_of s)) { progress = record (comment_before (next_of s)).progress { next = saturating_next_place (next_of s) c } }
+      after_it : TextStage
+      after_it = record (comment_before (next_of s)) { progress = record (comment_before (next_of s)).progress { next = saturating_next_place (next_of s) c } }
 
-      step : stepwise (comment_before (next_of s)) (c ∷ t) ≡ [] ∷ stepwise behind_it t
+      step : stepwise (comment_before (next_of s)) (c ∷ t) ≡ [] ∷ stepwise after_it t
       step = rw (e, and-false (c == 40)) refl

@@ -11,14 +11,14 @@ use Rattle.gabc_text.specs.declared.stage.TextStage.{TextStage}
 use Rattle.gabc_text.specs.BuiltText.{kept_in}
 use Rattle.gabc_text.specs.StageReports.{opener_of, is_in_comment}
 use Rattle.gabc_text.specs.machine.StageReports.{is_open}
-use Rattle.gabc_text.specs.witness.Keeps.{Keeps, OpensThere, Takes, begins_comment, comment_with, kept_with, stage_behind, GoesOn}
+use Rattle.gabc_text.specs.witness.Keeps.{Keeps, OpensThere, Takes, begins_comment, comment_with, kept_with, stage_after, GoesOn}
 use Rattle.gabc_text.specs.machine.Resuming.{kept_at, outside}
 use Rattle.gabc_text.specs.machine.TokenState.{is_plain}
 use Rattle.gabc_text.specs.machine.TextStage.{push_stage, events_of_push}
 use Rattle.gabc_text.proofs.machine.EventsLeftAreThoseAhead.{rest_is}
 use Rattle.gabc_text.proofs.resuming.EndsAndKept.{done_is, ended_at, kept_is, none_kept_at_end}
 use Rattle.gabc_text.proofs.resuming.KeptCharactersSuffice.{comment_kept}
-use Rattle.gabc_text.proofs.NothingBehindTheEnd.{opener_told, comment_told}
+use Rattle.gabc_text.proofs.NothingAfterTheEnd.{opener_told, comment_told}
 use Rattle.gabc_text.proofs.resuming.StagesKeep.{begins_is, comment_is, comment_not_kept, kept_with_is, push_keeps}
 
 -- ---- what is kept of a character
@@ -72,7 +72,7 @@ module _ (s : TextStage) (k : List ℕ) (keeps : Keeps s k) where
   percent_begins : (c : ℕ) → c ≡ 37 → kept_with k c ≡ [] → begins_comment k ≡ true
   percent_begins c is none =
       begins_is k
-      ∙ percent_between (stage_behind k) c is (ap (λ (x : TextStage). x.ended) keeps.alike.same ∙ keeps.goes_on)
+      ∙ percent_between (stage_after k) c is (ap (λ (x : TextStage). x.ended) keeps.alike.same ∙ keeps.goes_on)
       (λ e. never_comment s.state (sym (ap (λ (x : TextStage). x.state) keeps.alike.same) ∙ e)) (sym (kept_with_is k c) ∙ none)
 
   module _ (c : ℕ) where

@@ -11,7 +11,7 @@ use Rattle.gabc_text.specs.witness.StageReports.{moved_to}
 use Rattle.gabc_text.specs.TextStage.{fresh_stage}
 use Rattle.gabc_text.specs.machine.StageReports.{is_open, opener_in, comment_in}
 use Rattle.gabc_text.specs.witness.EventsLeft.{lists_ahead}
-use Rattle.gabc_text.proofs.NothingBehindTheEnd.{opener_told, comment_told}
+use Rattle.gabc_text.proofs.NothingAfterTheEnd.{opener_told, comment_told}
 use Rattle.gabc_text.proofs.machine.EventsLeftAreThoseAhead.{rest_by}
 
 -- ---- a stage that has ended

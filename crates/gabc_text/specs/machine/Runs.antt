@@ -12,9 +12,9 @@ abbrev pub text_at : TextView → List ℕ → Styles → ℕ → List ℕ
 text_at v kept old i = text_from v.centre kept i (listed_styles old) (drop i v.pieces.items)
 
 -- the text of a run of these pieces and of those after it, whose styles are these
-abbrev pub text_behind_run : Option Span → List Piece → List ℕ → Styles → Run → List ℕ
-text_behind_run centre pieces kept old r = span_bytes kept r.span ++ text_from centre kept r.next (listed_styles old) (drop r.next pieces)
+abbrev pub text_after_run : Option Span → List Piece → List ℕ → Styles → Run → List ℕ
+text_after_run centre pieces kept old r = span_bytes kept r.span ++ text_from centre kept r.next (listed_styles old) (drop r.next pieces)
 
 -- the same of the pieces of a view
-abbrev pub text_behind : TextView → List ℕ → Styles → Run → List ℕ
-text_behind v = text_behind_run v.centre v.pieces.items
+abbrev pub text_after : TextView → List ℕ → Styles → Run → List ℕ
+text_after v = text_after_run v.centre v.pieces.items

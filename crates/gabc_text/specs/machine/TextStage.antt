@@ -18,7 +18,7 @@ use Rattle.gabc_text.specs.declared.text_event.TextEvent.{TextEvent}
 use Rattle.gabc_text.specs.declared.text_event.TextEvent.TheVariants as out
 use Rattle.gabc_text.specs.View.{is_open_kind}
 use Rattle.gabc_text.specs.Events.{option_list_of}
-use Rattle.gabc_text.specs.witness.EventsLeft.{piece_by, piece_there, findings_there, whole_events_by, end_events_by, count_after, waiting_behind, begin_behind, end_behind}
+use Rattle.gabc_text.specs.witness.EventsLeft.{piece_by, piece_there, findings_there, whole_events_by, end_events_by, count_after, waiting_after, begin_after, end_after}
 use Rattle.gabc_text.specs.machine.TextFacts.{facts_after, early_at}
 use Rattle.gabc_text.specs.machine.TokenState.{settled_kind, next_step, keep, kind_at_end, is_plain}
 use Rattle.gabc_text.specs.TextStage.{count_plus}
@@ -31,9 +31,9 @@ progress_after facts progress k s place = record {
   next = progress.next;
   kept = progress.kept;
   pieces = count_after progress.pieces (piece_by facts k s);
-  blank = waiting_behind (piece_there facts progress piece.Blank progress.start progress.kept) progress.blank (piece_by facts k s);
-  begin = begin_behind facts k progress.pieces progress.begin;
-  end = end_behind facts k progress.pieces progress.end;
+  blank = waiting_after (piece_there facts progress piece.Blank progress.start progress.kept) progress.blank (piece_by facts k s);
+  begin = begin_after facts k progress.pieces progress.begin;
+  end = end_after facts k progress.pieces progress.end;
 }
 
 abbrev pub char_event : Place → Option ℕ → Option TextEvent

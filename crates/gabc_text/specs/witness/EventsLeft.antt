@@ -56,8 +56,8 @@ abbrev pub last_by : Progress → Token → List ℕ → ℕ
 last_by progress k cs = cond (is_lone k) progress.start (bytes_past progress.kept (but_end cs))
 
 -- how many are kept after it
-abbrev pub kept_behind : TextFacts → Progress → TokenKind → List ℕ → ℕ
-kept_behind facts progress k cs = bytes_past progress.kept (kept_by facts k cs)
+abbrev pub kept_after : TextFacts → Progress → TokenKind → List ℕ → ℕ
+kept_after facts progress k cs = bytes_past progress.kept (kept_by facts k cs)
 
 -- a piece has the span of its token in the kept text, a character that of the token's last
 -- character
@@ -94,7 +94,7 @@ whole_events_by facts progress k so last to =
     ++ findings_there progress.place (codes_by facts k so)
 
 abbrev pub token_events_by : TextFacts → Progress → Token → List ℕ → List TextEvent
-token_events_by facts progress k cs = whole_events_by facts progress k.kind (effect k) (last_by progress k cs) (kept_behind facts progress k.kind cs)
+token_events_by facts progress k cs = whole_events_by facts progress k.kind (effect k) (last_by progress k cs) (kept_after facts progress k.kind cs)
 
 -- a second translation, if nothing of it was read before
 abbrev pub early_events_by : TextFacts → Place → List ℕ → TokenKind → List TextEvent
@@ -108,18 +108,18 @@ abbrev pub count_after : ℕ → Option PieceKind → ℕ
 count_after n o = if is_some o then count_plus n 1 else n
 
 -- the blank that waits: a blank does, and any other piece takes it along
-abbrev pub waiting_behind : Piece → Option Piece → Option PieceKind → Option Piece
-waiting_behind blank was (Some piece.Blank) = Some blank
-waiting_behind blank was (Some _) = None
-waiting_behind blank was None = was
+abbrev pub waiting_after : Piece → Option Piece → Option PieceKind → Option Piece
+waiting_after blank was (Some piece.Blank) = Some blank
+waiting_after blank was (Some _) = None
+waiting_after blank was None = was
 
 -- the pieces before the first `{`
-abbrev pub begin_behind : TextFacts → TokenKind → ℕ → Option ℕ → Option ℕ
-begin_behind facts k n was = if is_begin k && not facts.begun then Some n else was
+abbrev pub begin_after : TextFacts → TokenKind → ℕ → Option ℕ → Option ℕ
+begin_after facts k n was = if is_begin k && not facts.begun then Some n else was
 
 -- the pieces before the first `}` after it
-abbrev pub end_behind : TextFacts → TokenKind → ℕ → Option ℕ → Option ℕ
-end_behind facts k n was = if is_end k && (facts.begun && not facts.ended) then Some n else was
+abbrev pub end_after : TextFacts → TokenKind → ℕ → Option ℕ → Option ℕ
+end_after facts k n was = if is_end k && (facts.begun && not facts.ended) then Some n else was
 
 -- ---- what the end emits, by what was seen and where it stands
 
@@ -194,17 +194,17 @@ module _ (read : List ℕ) (s : TextStage) where
   -- the blank that is the last piece so far, if it is one
   abbrev pub waiting_at : List Token → Option Piece
   waiting_at [] = s.progress.blank
-  waiting_at (k ∷ before) = waiting_behind (blank_piece before k) (waiting_at before) (piece_at before k)
+  waiting_at (k ∷ before) = waiting_after (blank_piece before k) (waiting_at before) (piece_at before k)
 
   -- how many pieces stand before the first `{`
   abbrev pub begin_at : List Token → Option ℕ
   begin_at [] = s.progress.begin
-  begin_at (k ∷ before) = begin_behind (facts_at before) k.kind (count_at before) (begin_at before)
+  begin_at (k ∷ before) = begin_after (facts_at before) k.kind (count_at before) (begin_at before)
 
   -- how many stand before the first `}` after it
   abbrev pub end_at : List Token → Option ℕ
   end_at [] = s.progress.end
-  end_at (k ∷ before) = end_behind (facts_at before) k.kind (count_at before) (end_at before)
+  end_at (k ∷ before) = end_after (facts_at before) k.kind (count_at before) (end_at before)
 
   -- where the token begins, and what is counted before it
   abbrev pub progress_at : List Token → Progress

@@ -34,15 +34,15 @@ abbrev pub end_text : List TextEvent → Bool
 end_text events = list_any is_end events
 
 -- where a fresh stage stands that has read a text
-abbrev pub stage_behind : List ℕ → TextStage
-stage_behind k = stage_past (fresh_stage nowhere) k
+abbrev pub stage_after : List ℕ → TextStage
+stage_after k = stage_past (fresh_stage nowhere) k
 
 -- It goes on, and stands where a fresh stage does that has read k, but for places and a comment; of
 -- k all is kept.
 pub record Keeps (s : TextStage) (k : List ℕ) : Type 0 where
   pub goes_on : s.ended ≡ false
   pub reached : IsReached s
-  pub alike : IsAlike s (stage_behind k)
+  pub alike : IsAlike s (stage_after k)
   pub whole : kept_past (fresh_stage nowhere) k ≡ k
 
 -- ---- what follows from the text that is kept
@@ -53,22 +53,22 @@ said_of k = said (events_of_pushes (fresh_stage nowhere) k)
 
 -- a tag, a raw part or a translation is open after it
 unfoldable pub is_open_after_text : List ℕ → Bool
-is_open_after_text k = is_open (stage_behind k).state
+is_open_after_text k = is_open (stage_after k).state
 
 -- a `%` after it begins a comment
 unfoldable pub begins_comment : List ℕ → Bool
-begins_comment k = is_plain (stage_behind k).state
+begins_comment k = is_plain (stage_after k).state
 
 -- what is kept of the next character, where no comment is open
 unfoldable pub kept_with : List ℕ → ℕ → List ℕ
-kept_with k c = kept_in (events_of_push (stage_behind k) c)
+kept_with k c = kept_in (events_of_push (stage_after k) c)
 
 -- a `(` after it ends the text, where no comment is open, and what is said with it
 unfoldable pub ends_after_it : List ℕ → Bool
-ends_after_it k = (push_stage (stage_behind k) 40).ended
+ends_after_it k = (push_stage (stage_after k) 40).ended
 
 unfoldable pub said_at_end : List ℕ → List TextEvent
-said_at_end k = said (events_of_push (stage_behind k) 40)
+said_at_end k = said (events_of_push (stage_after k) 40)
 
 -- a comment is open after a character: as one was, up to an LF, or as a `%` begins one
 abbrev pub comment_with : List ℕ → Bool → ℕ → Bool

@@ -52,9 +52,9 @@ abbrev ones_at : Glyph → ℕ → ℕ → ℕ
 ones_at g e zero = 0
 ones_at g e (suc n) = one_at g e + ones_at g (e + 1) n
 
-none_behind : (g : Glyph) (e n : ℕ) → g.first < e → ones_at g e n ≡ 0
-none_behind g e zero l = refl
-none_behind g e (suc n) l = omega (arith, by (g.first == e) refl, none_behind g (e + 1) n (omega arith))
+none_after : (g : Glyph) (e n : ℕ) → g.first < e → ones_at g e n ≡ 0
+none_after g e zero l = refl
+none_after g e (suc n) l = omega (arith, by (g.first == e) refl, none_after g (e + 1) n (omega arith))
   where
     by : (b : Bool) → (g.first == e) ≡ b → length (if b then line_of_glyph g else []) ≡ 0
     by true f = absurd (omega (arith, eqb-true g.first e f))
@@ -65,7 +65,7 @@ once g e zero = omega arith
 once g e (suc n) = by (g.first == e) refl (once g (e + 1) n)
   where
     by : (b : Bool) → (g.first == e) ≡ b → ones_at g (e + 1) n ≤ length (line_of_glyph g) → length (if b then line_of_glyph g else []) + ones_at g (e + 1) n ≤ length (line_of_glyph g)
-    by true f later = omega (arith, none_behind g (e + 1) n (omega (arith, eqb-true g.first e f)))
+    by true f later = omega (arith, none_after g (e + 1) n (omega (arith, eqb-true g.first e f)))
     by false f later = omega (arith, later)
 
 one_more : (g : Glyph) (gs : List Glyph) (e n : ℕ) → lines_at (g ∷ gs) e n ≡ ones_at g e n + lines_at gs e n

@@ -59,11 +59,11 @@ module _ (outset : InForce) (kept : List ℕ) where
   in_some : (i : Item) (is : List Item) (n : Note) → note_in kept i ≡ Some n → notes_in kept (i ∷ is) ≡ n ∷ notes_in kept is
   in_some i is n e = rw (e) refl
 
-  behind_none : (i : Item) (is : List Item) → is_in_segment i ≡ false → notes_after kept (i ∷ is) ≡ []
-  behind_none i is e = ap (λ (x : List Item). notes_in kept x) (take_while-cons is_in_segment i is ∙ ap (λ b. cond b (i ∷ take_while is_in_segment is) []) e)
+  after_none : (i : Item) (is : List Item) → is_in_segment i ≡ false → notes_after kept (i ∷ is) ≡ []
+  after_none i is e = ap (λ (x : List Item). notes_in kept x) (take_while-cons is_in_segment i is ∙ ap (λ b. cond b (i ∷ take_while is_in_segment is) []) e)
 
-  behind_some : (i : Item) (is : List Item) → is_in_segment i ≡ true → notes_after kept (i ∷ is) ≡ notes_in kept (i ∷ take_while is_in_segment is)
-  behind_some i is e = ap (λ (x : List Item). notes_in kept x) (take_while-cons is_in_segment i is ∙ ap (λ b. cond b (i ∷ take_while is_in_segment is) []) e)
+  after_some : (i : Item) (is : List Item) → is_in_segment i ≡ true → notes_after kept (i ∷ is) ≡ notes_in kept (i ∷ take_while is_in_segment is)
+  after_some i is e = ap (λ (x : List Item). notes_in kept x) (take_while-cons is_in_segment i is ∙ ap (λ b. cond b (i ∷ take_while is_in_segment is) []) e)
 
   before_none : (i : Item) (before : List Item) → is_in_segment i ≡ false → notes_before kept (i ∷ before) ≡ []
   before_none i before e =
@@ -147,8 +147,8 @@ module _ (outset : InForce) (kept : List ℕ) where
   taken (suc m) (i ∷ is) (a, h) = let t = taken m is h in let l = t.1 in ((a, t.0), omega arith)
 
   -- the notes of the segment after a place are sized
-  behind_sized : (is : List Item) → HaveBytes is → AreSized (notes_after kept is) × (sizes_of (notes_after kept is) ≤ items_size is)
-  behind_sized is h =
+  after_sized : (is : List Item) → HaveBytes is → AreSized (notes_after kept is) × (sizes_of (notes_after kept is) ≤ items_size is)
+  after_sized is h =
       let t = taken (prefix_len is_in_segment is) is h in
       let s = notes_sized (take_while is_in_segment is) t.0 in
       let a = t.1 in
@@ -158,10 +158,10 @@ module _ (outset : InForce) (kept : List ℕ) where
   outside_step : (before : List Item) (i : Item) (is : List Item) → HaveBytes (i ∷ is) → items_size (i ∷ is) < 2 ^ 64
       → is_in_segment i ≡ false → is_note i.kind ≡ false → note_in kept i ≡ None → IsBounded (i ∷ before) is → IsBounded before (i ∷ is)
   outside_step before i is (a, h) l j m e later =
-      let s = behind_sized is h in
+      let s = after_sized is h in
       let few = s.1 in
       let left = all_left (i ∷ before) is (before_none i before j) s.0 (omega arith) in
-      let now : sizes_of (notes_after kept (i ∷ is)) ≡ 0 = ap sizes_of (behind_none i is j) in
+      let now : sizes_of (notes_after kept (i ∷ is)) ≡ 0 = ap sizes_of (after_none i is j) in
       let same : sizes_of (notes_in kept (i ∷ is)) ≡ sizes_of (notes_in kept is) = ap sizes_of (in_none i is e) in
       omega (arith, line_of before i is, element_short before i, no_glyph before i is m, item_line_short (in_force_at outset kept before) i a, left, now, same, later)
 
@@ -172,13 +172,13 @@ module _ (outset : InForce) (kept : List ℕ) where
   inside_step : (before : List Item) (i : Item) (is : List Item) → HaveBytes (i ∷ is)
       → is_in_segment i ≡ true → is_note i.kind ≡ false → note_in kept i ≡ None → IsBounded (i ∷ before) is → IsBounded before (i ∷ is)
   inside_step before i is (a, h) j m e later =
-      let behind : notes_after kept (i ∷ is) ≡ notes_after kept is = behind_some i is j ∙ in_none i (take_while is_in_segment is) e in
+      let after : notes_after kept (i ∷ is) ≡ notes_after kept is = after_some i is j ∙ in_none i (take_while is_in_segment is) e in
       let front : notes_before kept (i ∷ before) ≡ notes_before kept before =
       before_some i before j ∙ (ap (λ (x : List Note). notes_before kept before ++ x) (in_none i [] e) ∙ append-nil (notes_before kept before)) in
-      let now : sizes_of (notes_after kept (i ∷ is)) ≡ sizes_of (notes_after kept is) = ap sizes_of behind in
+      let now : sizes_of (notes_after kept (i ∷ is)) ≡ sizes_of (notes_after kept is) = ap sizes_of after in
       let same : sizes_of (notes_in kept (i ∷ is)) ≡ sizes_of (notes_in kept is) = ap sizes_of (in_none i is e) in
       let left : lines_left before (i ∷ is) ≡ lines_left (i ∷ before) is =
-      ap (λ (y : List Note). left_by (notes_before kept before) y) behind ∙ ap (λ (x : List Note). left_by x (notes_after kept is)) (sym front) in
+      ap (λ (y : List Note). left_by (notes_before kept before) y) after ∙ ap (λ (x : List Note). left_by x (notes_after kept is)) (sym front) in
       omega (arith, line_of before i is, element_short before i, no_glyph before i is m, item_line_short (in_force_at outset kept before) i a, left, now, same, later)
 
   -- the first of the notes after a place has its glyph's line there
@@ -196,14 +196,14 @@ module _ (outset : InForce) (kept : List ℕ) where
       let x = notes_before kept before in
       let y = notes_after kept is in
       let size : size_of n ≡ item_size i = ap (λ (z : Span). z.to - z.from) s in
-      let behind : notes_after kept (i ∷ is) ≡ n ∷ y = behind_some i is j ∙ in_some i (take_while is_in_segment is) n e in
+      let after : notes_after kept (i ∷ is) ≡ n ∷ y = after_some i is j ∙ in_some i (take_while is_in_segment is) n e in
       let front : notes_before kept (i ∷ before) ≡ x ++ n ∷ [] = before_some i before j ∙ ap (λ (z : List Note). x ++ z) (in_some i [] n e) in
-      let now : sizes_of (notes_after kept (i ∷ is)) ≡ size_of n + sizes_of y = ap sizes_of behind in
+      let now : sizes_of (notes_after kept (i ∷ is)) ≡ size_of n + sizes_of y = ap sizes_of after in
       let same : sizes_of (notes_in kept (i ∷ is)) ≡ size_of n + sizes_of (notes_in kept is) = ap sizes_of (in_some i is n e) in
-      let here : lines_left before (i ∷ is) ≡ left_by x (n ∷ y) = ap (λ (z : List Note). left_by x z) behind in
+      let here : lines_left before (i ∷ is) ≡ left_by x (n ∷ y) = ap (λ (z : List Note). left_by x z) after in
       let next : lines_left (i ∷ before) is ≡ left_by (x ++ n ∷ []) y = ap (λ (z : List Note). left_by z y) front in
       let glyph : length (glyph_line kept before i is) ≡ length (line_of_glyph_at (glyphs_of (x ++ n ∷ y)) (length x)) =
-      ap (length {A = ℕ}) (a_glyph before i is m ∙ ap (λ (z : List Note). line_of_glyph_at (glyphs_of (x ++ z)) (length x)) behind) in
+      ap (length {A = ℕ}) (a_glyph before i is m ∙ ap (λ (z : List Note). line_of_glyph_at (glyphs_of (x ++ z)) (length x)) after) in
       omega (arith, line_of before i is, element_short before i, glyph, item_line_short (in_force_at outset kept before) i a, here, next, first_left x n y, now, same, size, later)
 
   bounded : (before items : List Item) → HaveBytes items → items_size items < 2 ^ 64 → IsBounded before items
@@ -217,7 +217,7 @@ module _ (outset : InForce) (kept : List ℕ) where
 
   pub items_short : (items : List Item) → HaveBytes items → items_size items < 2 ^ 64 → length (lines_after outset kept [] items) ≤ 61 * items_size items
   items_short items h l =
-      let s = behind_sized items h in
+      let s = after_sized items h in
       let few = s.1 in
       let notes = (notes_sized items h).1 in
       omega (arith, bounded [] items h l, all_left [] items refl s.0 (omega arith), notes)

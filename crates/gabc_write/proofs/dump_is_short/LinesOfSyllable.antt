@@ -99,12 +99,12 @@ module _ (short : NamesAreShort) (kept : List ℕ) (u : IsUtf8 kept) (l : length
   snippets_short outset [] h = omega arith
   snippets_short outset (s ∷ []) h = omega (arith, length-append (lines_of_snippet outset kept s) [], snippet_short outset s (All-head (λ (x : Snippet). x.line < 256) s [] h))
   snippets_short outset (s ∷ t ∷ ss) h =
-      let behind : InForce = passed outset (steps_of_snippet kept s) in
+      let after : InForce = passed outset (steps_of_snippet kept s) in
       let first = snippet_short outset s (All-head (λ (x : Snippet). x.line < 256) s (t ∷ ss) h) in
-      let later = snippets_short behind (t ∷ ss) (All-tail (λ (x : Snippet). x.line < 256) s (t ∷ ss) h) in
+      let later = snippets_short after (t ∷ ss) (All-tail (λ (x : Snippet). x.line < 256) s (t ∷ ss) h) in
       omega (
         arith,
-        length-append (lines_of_snippet outset kept s) (lines_of_snippets behind kept (t ∷ ss)),
+        length-append (lines_of_snippet outset kept s) (lines_of_snippets after kept (t ∷ ss)),
         length-append (slice s.span kept) (codes "|" ++ with_bars kept (t ∷ ss)),
         first,
         later,

@@ -119,8 +119,8 @@ either_parts : (b : Bool) (s t : List HeaderPart) → plain_parts s ≡ true →
 either_parts true s t h k = h
 either_parts false s t h k = k
 
-behind_feed : (v l : List ℕ) → plain v ≡ true → plain l ≡ true → plain (v ++ 10 ∷ l) ≡ true
-behind_feed v l h k = append is_plain v (10 ∷ l) h k
+after_feed : (v l : List ℕ) → plain v ≡ true → plain l ≡ true → plain (v ++ 10 ∷ l) ≡ true
+after_feed v l h k = append is_plain v (10 ∷ l) h k
 
 line_plain : (w : LineContext) (k n : ℕ) (l : List ℕ) → plain_context w ≡ true → plain l ≡ true → plain_parts (parts_of_line w k n l) ≡ true
 line_plain outside k n l h g =
@@ -135,7 +135,7 @@ line_plain outside k n l h g =
 line_plain (within j name v) k n l h g =
     let c = and_parts (plain_option name) (plain v) h in
     let ended = ended_parts j name (v ++ 10 ∷ before_mark 2 l) (n + mark_end 2 l) in
-    either_parts (has_mark 2 l) ended [] (ended_plain j name (v ++ 10 ∷ before_mark 2 l) (n + mark_end 2 l) c.0 (behind_feed v (before_mark 2 l) c.1 (before_mark_plain 2 l g))) refl
+    either_parts (has_mark 2 l) ended [] (ended_plain j name (v ++ 10 ∷ before_mark 2 l) (n + mark_end 2 l) c.0 (after_feed v (before_mark 2 l) c.1 (before_mark_plain 2 l g))) refl
 
 either_context : (b : Bool) (s t : LineContext) → plain_context s ≡ true → plain_context t ≡ true → plain_context (cond b s t) ≡ true
 either_context true s t h k = h
@@ -147,7 +147,7 @@ below_plain outside k l h g =
     (and_from (plain_option (name_of l)) (plain (after_colon l)) (name_plain l g) (after_colon_plain l g))
 below_plain (within j name v) k l h g =
     let c = and_parts (plain_option name) (plain v) h in
-    either_context (has_mark 2 l) outside (within j name (v ++ 10 ∷ l)) refl (and_from (plain_option name) (plain (v ++ 10 ∷ l)) c.0 (behind_feed v l c.1 g))
+    either_context (has_mark 2 l) outside (within j name (v ++ 10 ∷ l)) refl (and_from (plain_option name) (plain (v ++ 10 ∷ l)) c.0 (after_feed v l c.1 g))
 
 open_plain : (w : LineContext) → plain_parts (parts_left_open w) ≡ true
 open_plain outside = refl

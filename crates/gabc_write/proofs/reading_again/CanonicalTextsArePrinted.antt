@@ -61,7 +61,7 @@ joined s t h k = is_text (s ++ t) (append is_plain s t (text_plain s h) (text_pl
 module _ (lines : ℕ) (one : (u : ScoreUnit) (m : UnplacedSyllable) → HoldsUnit lines u m → (lines ≡ 0 → length u.snippets ≤ 1) → IsPrinted lines u m)
     (all : List ScoreUnit) (made : List PlacedSyllable) (syllables : AreSyllablesOf lines all made) (first : FirstTextBeginsWord all) where
   -- those after n
-  record Behind (units : List ScoreUnit) (ss : List PlacedSyllable) : Type 0 where
+  record After (units : List ScoreUnit) (ss : List PlacedSyllable) : Type 0 where
     facts : List SyllableFacts
     are_syllables : AreSyllables lines facts
     facts_are : AreFactsOf units ss facts
@@ -75,15 +75,15 @@ module _ (lines : ℕ) (one : (u : ScoreUnit) (m : UnplacedSyllable) → HoldsUn
   begins_as [] after u e = sym (subst FirstTextBeginsWord e first)
   begins_as (b ∷ before) after u e = refl
 
-  behind : (before units : List ScoreUnit) (earlier ss : List PlacedSyllable) → all ≡ before ++ units → made ≡ earlier ++ ss → length earlier ≡ length before → length ss ≡ length units
-      → (lines ≡ 0 → All IsSingle units) → Behind units ss
-  behind before [] earlier [] e f n m single = record { facts = []; are_syllables = tt; facts_are = tt; own = tt; texts = tt; bytes = feed; plain = λ h. is_text (10 ∷ []) refl }
-  behind before [] earlier (s ∷ ss) e f n m single = absurd (omega (arith, m))
-  behind before (u ∷ units) earlier [] e f n m single = absurd (omega (arith, m))
-  behind before (u ∷ units) earlier (s ∷ ss) e f n m single =
+  after : (before units : List ScoreUnit) (earlier ss : List PlacedSyllable) → all ≡ before ++ units → made ≡ earlier ++ ss → length earlier ≡ length before → length ss ≡ length units
+      → (lines ≡ 0 → All IsSingle units) → After units ss
+  after before [] earlier [] e f n m single = record { facts = []; are_syllables = tt; facts_are = tt; own = tt; texts = tt; bytes = feed; plain = λ h. is_text (10 ∷ []) refl }
+  after before [] earlier (s ∷ ss) e f n m single = absurd (omega (arith, m))
+  after before (u ∷ units) earlier [] e f n m single = absurd (omega (arith, m))
+  after before (u ∷ units) earlier (s ∷ ss) e f n m single =
       let h = syllables.each before units u earlier ss s e f n in
       let p = one u s.made h.holds (λ z. All-head IsSingle u units (single z)) in
-      let r = behind (before ++ u ∷ []) units (earlier ++ s ∷ []) ss (e ∙ sym (append_assoc before (u ∷ []) units)) (f ∙ sym (append_assoc earlier (s ∷ []) ss))
+      let r = after (before ++ u ∷ []) units (earlier ++ s ∷ []) ss (e ∙ sym (append_assoc before (u ∷ []) units)) (f ∙ sym (append_assoc earlier (s ∷ []) ss))
       (omega (arith, length-append before (u ∷ []), length-append earlier (s ∷ []), n)) (omega (arith, m)) (λ z. All-tail IsSingle u units (single z)) in
       let starts : starts_word s.position ≡ s.made.text.word_start =
       ap starts_word h.position_is ∙ begins_there (begins_word before u) (next_begins_word units) ∙ begins_as before units u e ∙ sym (ap (λ (v : ViewContent). v.word_start) h.holds.view_is) in
@@ -109,5 +109,5 @@ module _ (lines : ℕ) (one : (u : ScoreUnit) (m : UnplacedSyllable) → HoldsUn
 
   pub are_printed : (lines ≡ 0 → All IsSingle all) → ArePrinted lines all made
   are_printed single =
-      let r = behind [] all [] made refl refl refl syllables.count single in
+      let r = after [] all [] made refl refl refl syllables.count single in
       record { facts = r.facts; are_syllables = r.are_syllables; first = first_is all made r.facts first r.facts_are; facts_are = r.facts_are; own = r.own; texts = r.texts; bytes = r.bytes; plain = r.plain }

@@ -58,11 +58,11 @@ module _ (limits : Limits) (before : Before) (m : UnplacedSyllable) (own : IsRea
   starts_are n says = starts_again first m n (ap (λ (s : SyllableMeaning). s.word_start) (says One))
 
   -- one that says the same, with the same text, has the same canonical text there
-  behind_is : (n : UnplacedSyllable) → SaysTheSame n (as_it_stands first m) → canonical n.text.word_start n ≡ written_after (preceding_of before) m → written_after (preceding_of before) n ≡ written_after (preceding_of before) m
-  behind_is n says e = ap (λ (b : Bool). canonical b n) (starts_are n says) ∙ e
+  after_is : (n : UnplacedSyllable) → SaysTheSame n (as_it_stands first m) → canonical n.text.word_start n ≡ written_after (preceding_of before) m → written_after (preceding_of before) n ≡ written_after (preceding_of before) m
+  after_is n says e = ap (λ (b : Bool). canonical b n) (starts_are n says) ∙ e
 
-  pub bytes_behind : written_after (preceding_of before) m ≡ encode_utf8_all own.text
-  bytes_behind = own.bytes
+  pub bytes_after : written_after (preceding_of before) m ≡ encode_utf8_all own.text
+  bytes_after = own.bytes
 
   module _ (opened : CanBeOpen before.spans) (short : length (written_after (preceding_of before) m) ≤ limits.syllable)
       (file : before.canonical + length (written_after (preceding_of before) m) < limits.input) where
@@ -70,10 +70,10 @@ module _ (limits : Limits) (before : Before) (m : UnplacedSyllable) (own : IsRea
     read = own.read first_place opened.before opened.leaves.nothing
 
     few : length (encode_utf8_all own.text) ≤ limits.syllable
-    few = subst (λ (t : List ℕ). length t ≤ limits.syllable) bytes_behind short
+    few = subst (λ (t : List ℕ). length t ≤ limits.syllable) bytes_after short
 
-    again_behind : written_after (preceding_of before) read.again ≡ written_after (preceding_of before) m
-    again_behind = behind_is read.again read.says read.same_text
+    again_after : written_after (preceding_of before) read.again ≡ written_after (preceding_of before) m
+    again_after = after_is read.again read.says read.same_text
 
     again_may_be_held : MayBeHeld limits before own.text read.again
     again_may_be_held =
@@ -87,15 +87,15 @@ module _ (limits : Limits) (before : Before) (m : UnplacedSyllable) (own : IsRea
             warnings = read.warnings;
           };
           kept = let kept = read.few in omega (arith, kept, few);
-          short = subst (λ (t : List ℕ). length t ≤ limits.syllable) (sym again_behind) short;
-          file = subst (λ (t : List ℕ). before.canonical + length t + 1 ≤ limits.input) (sym again_behind) (omega (arith, file));
+          short = subst (λ (t : List ℕ). length t ≤ limits.syllable) (sym again_after) short;
+          file = subst (λ (t : List ℕ). before.canonical + length t + 1 ≤ limits.input) (sym again_after) (omega (arith, file));
         }
 
     pub may_be_held : (n : UnplacedSyllable) × MayBeHeld limits before own.text n
     may_be_held = (read.again, again_may_be_held)
 
     pub by_its_text : MayBeHeldByItsText limits before m
-    by_its_text = record { text = own.text; bytes = bytes_behind; again = read.again; may = again_may_be_held; same_text = again_behind }
+    by_its_text = record { text = own.text; bytes = bytes_after; again = read.again; may = again_may_be_held; same_text = again_after }
 
   module _ (spans : FollowsSpans before.spans m) (holds : HoldsSomeUnit before.nabc_lines m)
       (whole : (lines : ℕ) (n : UnplacedSyllable) → HoldsSomeUnit lines n → HasWholeSnippets n) (n : UnplacedSyllable) (h : MayBeHeld limits before own.text n) where
@@ -106,7 +106,7 @@ module _ (limits : Limits) (before : Before) (m : UnplacedSyllable) (own : IsRea
     one_stands =
         record {
           starts = sym (starts_are one.again one.says ∙ ap (λ (s : SyllableMeaning). s.word_start) (one.says One));
-          canonical = sym (behind_is one.again one.says one.same_text);
+          canonical = sym (after_is one.again one.says one.same_text);
           eu = spans.eu ∙ sym (one.eu_is ∙ ap (eu_past m) h.read.leaves.eu);
           nlba = spans.nlba ∙ sym (one.nlba_is ∙ ap (nlba_past m) h.read.leaves.nlba);
           sounds = same_sound one.again (as_it_stands first m) (whole before.nabc_lines one.again one.holds) (whole before.nabc_lines m holds) one.says;

@@ -12,13 +12,13 @@ use Rattle.gabc_write.specs.SetDown.{SayTheSame, AreWrittenAlike}
 
 -- what stands after the LF before a word is the same
 canonical_alike : (first : Bool) (m n : UnplacedSyllable) → IsEquivalentSyllable first m n → (starts : Bool) → canonical starts m ≡ canonical starts n
-canonical_alike first m n h starts = ap (λ (t : List ℕ). cond starts (10 ∷ []) [] ++ t) behind
+canonical_alike first m n h starts = ap (λ (t : List ℕ). cond starts (10 ∷ []) [] ++ t) after
   where
     begins : Bool
     begins = first || m.text.word_start
 
-    behind : canonical false m ≡ canonical false n
-    behind =
+    after : canonical false m ≡ canonical false n
+    after =
         append_cancel_left (cond begins (10 ∷ []) []) (canonical false m) (canonical false n)
         (h.canonical ∙ ap (λ (b : Bool). canonical b n) (sym h.starts))
 

@@ -24,7 +24,7 @@ use Rattle.gabc_score.specs.witness.ScoreStage.{ScoreStageState, left_of}
 use Rattle.gabc_write.specs.SavedAlike.{AreSavedAlike}
 use Rattle.gabc_write.specs.SetDown.{GoesOnEquivalentlyInLine, SayTheSame}
 use Rattle.gabc_write.specs.SyllableRead.{as_it_stands, IsReadFromItsText, IsReadWhereItStands}
-use Rattle.gabc_write.proofs.reading_again.HeldAgain.{bytes_behind, may_be_held, says_again, stands_for}
+use Rattle.gabc_write.proofs.reading_again.HeldAgain.{bytes_after, may_be_held, says_again, stands_for}
 use Rattle.gabc_write.proofs.reading_again.StageHoldsAgain.{told_before, told_in_body}
 
 -- both is equivalent to a third
@@ -60,8 +60,8 @@ module _ (opened : (spans : Spans) → CanBeOpen spans) (whole : (lines : ℕ) (
 
     text_is : own.text ≡ other.text
     text_is =
-        chars_from_encodes own.text (written_after (preceding_of before) m) utf8 (sym (bytes_behind limits before m own))
-        ∙ sym (chars_from_encodes other.text (written_after (preceding_of before) m) utf8 (sym (same ∙ bytes_behind limits before n other)))
+        chars_from_encodes own.text (written_after (preceding_of before) m) utf8 (sym (bytes_after limits before m own))
+        ∙ sym (chars_from_encodes other.text (written_after (preceding_of before) m) utf8 (sym (same ∙ bytes_after limits before n other)))
 
     -- the one syllable that is read from the text of both
     k : (x : UnplacedSyllable) × MayBeHeld limits before own.text x

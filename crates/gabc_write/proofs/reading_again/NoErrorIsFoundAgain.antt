@@ -37,17 +37,17 @@ lf_warns : TextWarns (10 ∷ [])
 lf_warns at = All-nil IsWarning
 
 module _ (text_warns : (at : Place) (t : List ℕ) → has_error (findings at t) ≡ false → All IsWarning (findings at t)) (lines macros : ℕ) where
-  pub snippets_warn : (line : ℕ) (es : List EndedPart) (behind : List Char) (ss : List (List ℕ)) → AreSnippetsAgain lines macros line es behind ss → SnippetsWarn lines macros line es behind
-  snippets_warn line [] behind ss h = tt
-  snippets_warn line (e ∷ es) behind [] h = absurd h
-  snippets_warn line (e ∷ es) behind (s ∷ ss) h = (h.0.warnings, snippets_warn (next_line lines line) es behind ss h.1)
+  pub snippets_warn : (line : ℕ) (es : List EndedPart) (after : List Char) (ss : List (List ℕ)) → AreSnippetsAgain lines macros line es after ss → SnippetsWarn lines macros line es after
+  snippets_warn line [] after ss h = tt
+  snippets_warn line (e ∷ es) after [] h = absurd h
+  snippets_warn line (e ∷ es) after (s ∷ ss) h = (h.0.warnings, snippets_warn (next_line lines line) es after ss h.1)
 
   units_warn : (units : List BodyUnit) (last : LastUnit) (facts : List SyllableFacts) → SayAgain lines macros units last facts → UnitsWarn lines macros units last
   units_warn [] last facts h = tt
   units_warn (u ∷ units) last [] h = absurd h
   units_warn (u ∷ units) last (f ∷ facts) h =
-      let behind = characters_from units last in
-      (((λ at. text_warns at (score_unit u behind).text (h.0.errors at)), snippets_warn 0 (snippets_in u) behind f.snippets h.0.snippets), units_warn units last facts h.1)
+      let after = characters_from units last in
+      (((λ at. text_warns at (score_unit u after).text (h.0.errors at)), snippets_warn 0 (snippets_in u) after f.snippets h.0.snippets), units_warn units last facts h.1)
 
 pub file_warns : (text_warns : (at : Place) (t : List ℕ) → has_error (findings at t) ≡ false → All IsWarning (findings at t))
     → (score_warns : (limits : Limits) (ending : InputEnding) (t : List ℕ) (heads : Heads) (cut : BodyCutting) (units : List BodyUnit) (last : List Char)

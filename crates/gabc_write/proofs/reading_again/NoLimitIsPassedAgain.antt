@@ -75,10 +75,10 @@ kept_size v = by v.word_start refl
     by false e = rw e refl
 
 module _ (lines macros limit : ℕ) where
-  pub one_keeps : (u : BodyUnit) (behind : List Char) (v : ViewFacts) (ss : List (List ℕ)) → SaysAgain lines macros u behind v ss → size (printed_syllable v ss) ≤ limit → KeepsWithin limit (score_unit u behind)
-  one_keeps u behind v ss h few =
-      let text : size (kept (score_unit u behind).text) ≡ size (print v) = ap size h.kept ∙ kept_size v in
-      let notes : size (score_unit u behind).notes ≡ size (40 ∷ (barred ss ++ 41 ∷ [])) = ap size h.notes in
+  pub one_keeps : (u : BodyUnit) (after : List Char) (v : ViewFacts) (ss : List (List ℕ)) → SaysAgain lines macros u after v ss → size (printed_syllable v ss) ≤ limit → KeepsWithin limit (score_unit u after)
+  one_keeps u after v ss h few =
+      let text : size (kept (score_unit u after).text) ≡ size (print v) = ap size h.kept ∙ kept_size v in
+      let notes : size (score_unit u after).notes ≡ size (40 ∷ (barred ss ++ 41 ∷ [])) = ap size h.notes in
       let all : size (printed_syllable v ss) ≡ size (print v) + size (40 ∷ (barred ss ++ 41 ∷ [])) =
       ap length (encodes-append (print v) (40 ∷ (barred ss ++ 41 ∷ []))) ∙ length-append (encodes (print v)) (encodes (40 ∷ (barred ss ++ 41 ∷ []))) in
       omega arith

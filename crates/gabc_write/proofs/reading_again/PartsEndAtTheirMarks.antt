@@ -1,7 +1,7 @@
 -- Where the end of a part is emitted, there the part ends in the cutting of a body.
 use Rattle.std.proofs.Common.{◌≡◌, ℕ, suc, List, [], ◌∷◌, ◌++◌, length, length-append, take, Bool, true, false, ◌||◌, if◌then◌else◌, Option, Some, None, refl, sym, ap, subst, ◌∙◌, append-nil, arith}
 use Rattle.std.specs.List.{list_any}
-use Rattle.gabc_places.proofs.NothingBehindAnEnd.{both_empty}
+use Rattle.gabc_places.proofs.NothingAfterAnEnd.{both_empty}
 use Rattle.gabc_notes.proofs.grammar.LawsOfEventsByPoint.{ends_append}
 use Rattle.gabc_score.proofs.texts_of_body.TextEmitsThroughEnd.{ends_apart, none_ends}
 use Rattle.gabc_places.specs.StageLaw.{concat_of}
@@ -31,26 +31,26 @@ text_ended (x ∷ events) = by (is_text_end x) (text_ended events)
     by true e = refl
     by false e = e
 
-text_behind : (lines : ℕ) (before : List (List TextEvent)) (l : List TextEvent) (after : List (List TextEvent)) (xs : List Char) → ends_in (concat_of before) ≡ []
+text_after : (lines : ℕ) (before : List (List TextEvent)) (l : List TextEvent) (after : List (List TextEvent)) (xs : List Char) → ends_in (concat_of before) ≡ []
     → length before ≡ length xs → list_any is_text_end l ≡ true → EndsAfter lines (InText (before ++ l ∷ after)) xs Opens
-text_behind lines [] l after [] e n h = ap (λ (b : Bool). if b then Some Opens else None) h
-text_behind lines [] l after (x ∷ xs) e n h = absurd (omega (arith, n))
-text_behind lines (b ∷ before) l after [] e n h = absurd (omega (arith, n))
-text_behind lines (b ∷ before) l after (x ∷ xs) e n h =
+text_after lines [] l after [] e n h = ap (λ (b : Bool). if b then Some Opens else None) h
+text_after lines [] l after (x ∷ xs) e n h = absurd (omega (arith, n))
+text_after lines (b ∷ before) l after [] e n h = absurd (omega (arith, n))
+text_after lines (b ∷ before) l after (x ∷ xs) e n h =
     let o = ends_apart b (concat_of before) e in
-    (ap (λ (z : Bool). if z then Some Opens else None) (none_ends b o.0), text_behind lines before l after xs o.1 (omega (arith, n)) h)
+    (ap (λ (z : Bool). if z then Some Opens else None) (none_ends b o.0), text_after lines before l after xs o.1 (omega (arith, n)) h)
 
 -- a text that leaves a `(` and what follows ends there
 pub text_ends : (lines : ℕ) (at : Place) (t rest : List ℕ) (xs : List Char) → EndsOnce at (t ++ 40 ∷ rest) → after_tokens (t ++ 40 ∷ rest) ≡ 40 ∷ rest → length xs ≡ length t
     → EndsAfter lines (InText (events_by_point at (t ++ 40 ∷ rest))) xs Opens
 text_ends lines at t rest xs ends left n =
-    let behind : ends.rest ≡ 40 ∷ rest = ends.rest_is ∙ left in
+    let after : ends.rest ≡ 40 ∷ rest = ends.rest_is ∙ left in
     let whole : length (t ++ 40 ∷ rest) ≡ length (ends.prefix ++ ends.rest) = ap (length {A = ℕ}) ends.text_is in
-    let same : length (ends.rest) ≡ length (40 ∷ rest) = ap (length {A = ℕ}) behind in
+    let same : length (ends.rest) ≡ length (40 ∷ rest) = ap (length {A = ℕ}) after in
     let long : length ends.before ≡ length xs = omega (arith, whole, same, length-append t (40 ∷ rest), length-append ends.prefix ends.rest, ends.one_each, n) in
-    let notes : ends.how ≡ text_end.Notes = by ends.how ends.leaves behind in
+    let notes : ends.how ≡ text_end.Notes = by ends.how ends.leaves after in
     subst (λ (lists : List (List TextEvent)). EndsAfter lines (InText lists) xs Opens) (sym ends.events_are)
-    (text_behind lines ends.before (ends.last ++ text_out.Ended ends.how ∷ []) (no_events_each ends.rest) xs ends.none_before long
+    (text_after lines ends.before (ends.last ++ text_out.Ended ends.how ∷ []) (no_events_each ends.rest) xs ends.none_before long
     (ap (λ (how : TextEnd). list_any is_text_end (ends.last ++ text_out.Ended how ∷ [])) notes ∙ text_ended ends.last))
   where
     by : (how : TextEnd) → Leaves how ends.rest → ends.rest ≡ 40 ∷ rest → how ≡ text_end.Notes

@@ -65,13 +65,13 @@ module _ (ends_once : (at : Place) (t : List ℕ) → EndsOnce at t) (lines macr
   units_from at (s ∷ ss) h =
       let o : IsOneUnit lines macros at s.view s.snippets (printed_body ss) = subst (λ (v : ViewFacts). IsOneUnit lines macros at v s.snippets (printed_body ss)) (sym h.0.0.1) (one_unit at h.0.0.0 s.snippets (printed_body ss) h.0.1) in
       let r = units_from (place_past at (printed_syllable s.view s.snippets)) ss h.1 in
-      let behind : AreUnitsFrom lines macros (after_mark o.unit.final.end.place) o.behind r.units (JustText r.last) =
-      subst (λ (xs : List Char). AreUnitsFrom lines macros (after_mark o.unit.final.end.place) xs r.units (JustText r.last)) (sym o.behind_is) (r.cut (after_mark o.unit.final.end.place)) in
+      let after : AreUnitsFrom lines macros (after_mark o.unit.final.end.place) o.after r.units (JustText r.last) =
+      subst (λ (xs : List Char). AreUnitsFrom lines macros (after_mark o.unit.final.end.place) xs r.units (JustText r.last)) (sym o.after_is) (r.cut (after_mark o.unit.final.end.place)) in
       record {
         units = o.unit ∷ r.units;
         last = r.last;
-        cut = λ begins. o.one_more begins r.units (JustText r.last) behind;
-        again = (subst (λ (xs : List Char). SaysAgain lines macros o.unit xs s.view s.snippets) behind.characters o.again, r.again);
+        cut = λ begins. o.one_more begins r.units (JustText r.last) after;
+        again = (subst (λ (xs : List Char). SaysAgain lines macros o.unit xs s.view s.snippets) after.characters o.again, r.again);
         last_is = r.last_is;
         no_more = r.no_more;
       }

@@ -4,7 +4,7 @@ use Rattle.std.proofs.Math.Seq.{take-append_seam, drop-append_seam}
 use Rattle.gabc_places.specs.declared.limits.Limits.{Limits}
 use Rattle.gabc_places.specs.declared.place.Char.{Char}
 use Rattle.gabc_places.specs.Place.{place_after, placed_characters_after, placed_characters_from}
-use Rattle.gabc_places.proofs.PlacesOfAText.{placed_behind}
+use Rattle.gabc_places.proofs.PlacesOfAText.{placed_after}
 use Rattle.gabc_headers.specs.Book.{nabc_lines_of, macros_of}
 use Rattle.gabc_headers.specs.Canonical.{header_lines, canonical_heads}
 use Rattle.gabc_headers.specs.Heads.{head_len, heads_of}
@@ -22,7 +22,7 @@ body_is book more e =
     let size : head_len (canonical_heads book ++ more) + 2 ≡ length (canonical_heads book) = omega (arith, e, length-append (header_lines book) (37 ∷ 37 ∷ [])) in
     ap (λ (n : ℕ). placed_characters_after (take n (canonical_heads book ++ more)) (drop n (canonical_heads book ++ more))) size
     ∙ ap₂ placed_characters_after (take-append_seam (canonical_heads book) more) (drop-append_seam (canonical_heads book) more)
-    ∙ sym (placed_behind (canonical_heads book) more)
+    ∙ sym (placed_after (canonical_heads book) more)
 
 pub file_is : (limits : Limits) (book : List (List ℕ × List ℕ)) (facts : List SyllableFacts) → heads_of limits (printed_file book facts) ≡ Ok (heads_again book)
     → head_len (printed_file book facts) ≡ length (header_lines book)

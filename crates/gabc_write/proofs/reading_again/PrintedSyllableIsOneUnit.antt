@@ -68,8 +68,8 @@ module _ (ends_once : (at : Place) (t : List ℕ) → EndsOnce at t)
       final = final_of notes (s ∷ ss);
     }
 
-    abbrev behind : List Char
-    behind = placed_characters_from (place_past at all) rest
+    abbrev after : List Char
+    after = placed_characters_from (place_past at all) rest
 
     text_is : all ++ rest ≡ text ++ 40 ∷ later
     text_is = append_assoc text (40 ∷ (barred (s ∷ ss) ++ 41 ∷ [])) rest ∙ ap (λ (x : List ℕ). text ++ 40 ∷ x) (append_assoc (barred (s ∷ ss)) (41 ∷ []) rest)
@@ -77,19 +77,19 @@ module _ (ends_once : (at : Place) (t : List ℕ) → EndsOnce at t)
     past_is : place_past at all ≡ place_past notes (barred (s ∷ ss) ++ 41 ∷ [])
     past_is = place_append at text (40 ∷ (barred (s ∷ ss) ++ 41 ∷ []))
 
-    behind_is : behind ≡ placed_characters_from (place_past notes (barred (s ∷ ss) ++ 41 ∷ [])) rest
-    behind_is = ap (λ (q : Place). placed_characters_from q rest) past_is
+    after_is : after ≡ placed_characters_from (place_past notes (barred (s ∷ ss) ++ 41 ∷ [])) rest
+    after_is = ap (λ (q : Place). placed_characters_from q rest) past_is
 
-    notes_are : placed_characters_from notes later ≡ spelled unit.nexts unit.final behind
-    notes_are = snippets_spelled notes s ss rest ∙ ap (λ (xs : List Char). spelled unit.nexts unit.final xs) (sym behind_is)
+    notes_are : placed_characters_from notes later ≡ spelled unit.nexts unit.final after
+    notes_are = snippets_spelled notes s ss rest ∙ ap (λ (xs : List Char). spelled unit.nexts unit.final xs) (sym after_is)
 
-    characters_are : placed_characters_from at (all ++ rest) ≡ characters_in unit ++ behind
+    characters_are : placed_characters_from at (all ++ rest) ≡ characters_in unit ++ after
     characters_are =
         ap (placed_characters_from at) text_is ∙ placed_append at text (40 ∷ later)
-        ∙ ap (λ (xs : List Char). unit.text.characters ++ unit.text.end ∷ xs) (notes_are ∙ sym (ends_with unit.nexts unit.final behind))
-        ∙ sym (append_assoc unit.text.characters (unit.text.end ∷ with_ends (snippets_in unit)) behind)
+        ∙ ap (λ (xs : List Char). unit.text.characters ++ unit.text.end ∷ xs) (notes_are ∙ sym (ends_with unit.nexts unit.final after))
+        ∙ sym (append_assoc unit.text.characters (unit.text.end ∷ with_ends (snippets_in unit)) after)
 
-    codes_are : codes_of (characters_in unit ++ behind) ≡ text ++ 40 ∷ later
+    codes_are : codes_of (characters_in unit ++ after) ≡ text ++ 40 ∷ later
     codes_are = ap codes_of (sym characters_are) ∙ codes_placed at (all ++ rest) ∙ text_is
 
     -- the notes from their `(` on
@@ -105,14 +105,14 @@ module _ (ends_once : (at : Place) (t : List ℕ) → EndsOnce at t)
         subst (λ (x : List ℕ). EndsAfter lines (InText (events_by_point begins x)) unit.text.characters Opens) (sym e)
         (text_ends lines begins text later unit.text.characters (ends_once begins (text ++ 40 ∷ later)) (ends t later) (length_placed at text))
 
-    one_more : (begins : Place) (units : List BodyUnit) (last : LastUnit) → AreUnitsFrom lines macros (after_mark unit.final.end.place) behind units last
+    one_more : (begins : Place) (units : List BodyUnit) (last : LastUnit) → AreUnitsFrom lines macros (after_mark unit.final.end.place) after units last
         → AreUnitsFrom lines macros begins (placed_characters_from at (all ++ rest)) (unit ∷ units) last
     one_more begins units last h =
         let pieces : List CutPart = units_pieces lines units last in
         let parts : List CutPart = snippets_with lines 0 opening unit.nexts (cut_part unit.final Closes ∷ pieces) in
-        let rest_is : whole pieces (last_characters last) ≡ behind = units_whole lines units last ∙ sym h.characters in
+        let rest_is : whole pieces (last_characters last) ≡ after = units_whole lines units last ∙ sym h.characters in
         let onward = subst (λ (xs : List Char). Cuts texts_by_definition lines macros (text_from texts_by_definition (after_mark unit.final.end.place) xs) pieces (last_characters last)) (sym rest_is) h.cut in
-        let notes_cut = snippets_cut gabc_again nabc_again lines macros 0 opening notes s ss rest pieces (last_characters last) (several (s ∷ ss) single) each (rest_is ∙ behind_is) onward in
+        let notes_cut = snippets_cut gabc_again nabc_again lines macros 0 opening notes s ss rest pieces (last_characters last) (several (s ∷ ss) single) each (rest_is ∙ after_is) onward in
         let parts_are : placed_characters_from notes later ≡ whole parts (last_characters last) =
         notes_are ∙ ap (λ (xs : List Char). spelled unit.nexts unit.final xs) (sym rest_is) ∙ sym (whole_nexts lines 0 opening unit.nexts (cut_part unit.final Closes ∷ pieces) (last_characters last)) in
         record {
@@ -123,15 +123,15 @@ module _ (ends_once : (at : Place) (t : List ℕ) → EndsOnce at t)
     one_unit : IsOneUnit lines macros at (view_facts t) (s ∷ ss) rest
     one_unit = record {
       unit = unit;
-      behind = behind;
-      behind_is = refl;
+      after = after;
+      after_is = refl;
       characters = characters_are;
       one_more = one_more;
       again = record {
         view_stays = ap view_facts codes_are ∙ facts t later;
         errors = λ place. ap (λ (x : List ℕ). has_error (findings place x)) codes_are ∙ none_wrong place t later;
         kept = ap kept codes_are ∙ all_kept t later;
-        snippets = snippets_again gabc_again nabc_again lines macros 0 notes s ss rest behind (several (s ∷ ss) single) each behind_is;
+        snippets = snippets_again gabc_again nabc_again lines macros 0 notes s ss rest after (several (s ∷ ss) single) each after_is;
         notes = own_notes;
       };
     }

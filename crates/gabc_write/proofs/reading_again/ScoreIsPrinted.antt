@@ -142,8 +142,8 @@ module _ (one : (texts : Texts) (lines macros : ℕ) (xs : List Char) → (cut :
   module _ (limits : Limits) (t : List ℕ) (book : List (List ℕ × List ℕ)) (cut : BodyCutting) (is_cut : IsBodyCut book t cut) (short : length (encodes t) < 2 ^ 63) where
     units_plain : IsText t → plain_characters (unit_characters cut.units)
     units_plain h =
-        let behind : IsText (after_heads t) = record { scalars = All-drop IsScalar _ t h.scalars; plain = All-drop IsPlain _ t h.plain } in
-        let body : plain_characters (body_characters t) = ap plain (codes_placed (heads_text t) (after_heads t)) ∙ text_plain (after_heads t) behind in
+        let after : IsText (after_heads t) = record { scalars = All-drop IsScalar _ t h.scalars; plain = All-drop IsPlain _ t h.plain } in
+        let body : plain_characters (body_characters t) = ap plain (codes_placed (heads_text t) (after_heads t)) ∙ text_plain (after_heads t) after in
         (halves cut.comment (unit_characters cut.units) (subst plain_characters (characters texts_by_definition (nabc_lines_of book) (macros_of book) (body_characters t) cut is_cut) body)).1
 
     begins : FirstTextBeginsWord (score_units cut.units)

@@ -22,13 +22,13 @@ use Rattle.gabc_write.specs.ScoreAgain.{IsSameScore}
 -- ---- what the units keep
 
 module _ (lines macros : ℕ) where
-  pub kept_again : (line : ℕ) (es : List EndedPart) (behind : List Char) (ss : List (List ℕ)) → AreSnippetsAgain lines macros line es behind ss
+  pub kept_again : (line : ℕ) (es : List EndedPart) (after : List Char) (ss : List (List ℕ)) → AreSnippetsAgain lines macros line es after ss
       → kept_snippets lines line (map (λ (e : EndedPart). e.characters) es) ≡ ss
-  kept_again line [] behind [] h = refl
-  kept_again line [] behind (s ∷ ss) h = absurd h
-  kept_again line (e ∷ es) behind [] h = absurd h
-  kept_again line (e ∷ es) behind (s ∷ ss) h =
-      ap₂ (λ (x : List ℕ) (xs : List (List ℕ)). x ∷ xs) h.0.kept (kept_again (next_line lines line) es behind ss h.1)
+  kept_again line [] after [] h = refl
+  kept_again line [] after (s ∷ ss) h = absurd h
+  kept_again line (e ∷ es) after [] h = absurd h
+  kept_again line (e ∷ es) after (s ∷ ss) h =
+      ap₂ (λ (x : List ℕ) (xs : List (List ℕ)). x ∷ xs) h.0.kept (kept_again (next_line lines line) es after ss h.1)
 
   pub some_parts : (nexts : List EndedPart) (final : EndedPart) → map (λ (e : EndedPart). e.characters) (nexts ++ final ∷ []) ≢ []
   some_parts [] final e = absurd (cc)

@@ -46,7 +46,7 @@ final_of p (s ∷ t ∷ ss) = final_of (next_place (place_past p s) 124) (t ∷ 
 
 -- the characters of all of them, and what follows
 abbrev pub spelled : List EndedPart → EndedPart → List Char → List Char
-spelled nexts final behind = with_ends nexts ++ (final.characters ++ final.end ∷ behind)
+spelled nexts final further = with_ends nexts ++ (final.characters ++ final.end ∷ further)
 
 pub snippets_spelled : (p : Place) (s : List ℕ) (ss : List (List ℕ)) (rest : List ℕ)
     → placed_characters_from p (barred (s ∷ ss) ++ 41 ∷ rest) ≡ spelled (nexts_of p (s ∷ ss)) (final_of p (s ∷ ss)) (placed_characters_from (place_past p (barred (s ∷ ss) ++ 41 ∷ [])) rest)
@@ -72,12 +72,12 @@ whole_nexts lines line opened (e ∷ nexts) more last =
     ap (λ (xs : List Char). e.characters ++ e.end ∷ xs) (whole_nexts lines (next_line lines line) opened nexts more last)
     ∙ sym (append_assoc e.characters (e.end ∷ with_ends nexts) (whole more last))
 
-pub ends_with : (nexts : List EndedPart) (final : EndedPart) (behind : List Char) → with_ends (nexts ++ final ∷ []) ++ behind ≡ spelled nexts final behind
-ends_with [] final behind = append_assoc final.characters (final.end ∷ []) behind
-ends_with (e ∷ nexts) final behind =
-    append_assoc e.characters (e.end ∷ with_ends (nexts ++ final ∷ [])) behind
-    ∙ ap (λ (xs : List Char). e.characters ++ e.end ∷ xs) (ends_with nexts final behind)
-    ∙ sym (append_assoc e.characters (e.end ∷ with_ends nexts) (final.characters ++ final.end ∷ behind))
+pub ends_with : (nexts : List EndedPart) (final : EndedPart) (further : List Char) → with_ends (nexts ++ final ∷ []) ++ further ≡ spelled nexts final further
+ends_with [] final further = append_assoc final.characters (final.end ∷ []) further
+ends_with (e ∷ nexts) final further =
+    append_assoc e.characters (e.end ∷ with_ends (nexts ++ final ∷ [])) further
+    ∙ ap (λ (xs : List Char). e.characters ++ e.end ∷ xs) (ends_with nexts final further)
+    ∙ sym (append_assoc e.characters (e.end ∷ with_ends nexts) (final.characters ++ final.end ∷ further))
 
 -- ---- one snippet
 
@@ -139,10 +139,10 @@ module _ (gabc_again : (split : Bool) (macros : ℕ) (at : Place) (how : NoteEnd
       (ap (λ (n : ℕ). ends_of (concat_of (take n lists))) (length_placed p s) ∙ r.unended)
       (ap (λ (n : ℕ). ends_of (concat_of (take (suc n) lists))) (length_placed p s) ∙ r.ended)
 
-  part_again : (line : ℕ) (p : Place) (s : List ℕ) (mark : ℕ) (how : NoteEnd) (rest : List ℕ) (behind : List Char) → ReadAgain lines macros line p s mark how rest
-      → behind ≡ placed_characters_from (next_place (place_past p s) mark) rest
-      → IsSnippetAgain lines macros line (record { characters = placed_characters_from p s; end = record { c = mark; place = place_past p s } }) behind s
-  part_again line p s mark how rest behind r e = record {
+  part_again : (line : ℕ) (p : Place) (s : List ℕ) (mark : ℕ) (how : NoteEnd) (rest : List ℕ) (further : List Char) → ReadAgain lines macros line p s mark how rest
+      → further ≡ placed_characters_from (next_place (place_past p s) mark) rest
+      → IsSnippetAgain lines macros line (record { characters = placed_characters_from p s; end = record { c = mark; place = place_past p s } }) further s
+  part_again line p s mark how rest further r e = record {
     characters = codes_placed p s;
     kept = r.kept;
     warnings = subst (λ (xs : List Char). All IsWarning (findings_of (concat_of (snippet_events lines macros line xs))))
@@ -180,10 +180,10 @@ module _ (gabc_again : (split : Bool) (macros : ℕ) (at : Place) (how : NoteEnd
       let parts : List CutPart = snippets_with lines (next_line lines line) opened (nexts_of q (t ∷ ss)) (cut_part (final_of q (t ∷ ss)) unit.Closes ∷ pieces) in
       let past : place_past p (barred (s ∷ t ∷ ss) ++ 41 ∷ []) ≡ place_past q (barred (t ∷ ss) ++ 41 ∷ []) =
       ap (place_past p) (append_assoc s (124 ∷ barred (t ∷ ss)) (41 ∷ [])) ∙ place_append p s (124 ∷ (barred (t ∷ ss) ++ 41 ∷ [])) in
-      let behind : whole pieces last ≡ placed_characters_from (place_past q (barred (t ∷ ss) ++ 41 ∷ [])) rest = w ∙ ap (λ (z : Place). placed_characters_from z rest) past in
-      let more = snippets_cut (next_line lines line) opened q t ss rest pieces last (several_later s t ss several) h.1 behind cut in
+      let further : whole pieces last ≡ placed_characters_from (place_past q (barred (t ∷ ss) ++ 41 ∷ [])) rest = w ∙ ap (λ (z : Place). placed_characters_from z rest) past in
+      let more = snippets_cut (next_line lines line) opened q t ss rest pieces last (several_later s t ss several) h.1 further cut in
       let all : placed_characters_from q later ≡ whole parts last = snippets_spelled q t ss rest
-      ∙ ap (λ (xs : List Char). spelled (nexts_of q (t ∷ ss)) (final_of q (t ∷ ss)) xs) (sym behind)
+      ∙ ap (λ (xs : List Char). spelled (nexts_of q (t ∷ ss)) (final_of q (t ∷ ss)) xs) (sym further)
       ∙ sym (whole_nexts lines (next_line lines line) opened (nexts_of q (t ∷ ss)) (cut_part (final_of q (t ∷ ss)) unit.Closes ∷ pieces) last) in (
         subst (λ (u : List ℕ). EndsAfter lines (snippet_from lines macros line opened (placed_characters_from p u)) (placed_characters_from p s) (unit.Next (next_line lines line) opened))
             (sym (append_assoc s (124 ∷ barred (t ∷ ss)) (41 ∷ rest)))
@@ -191,18 +191,18 @@ module _ (gabc_again : (split : Bool) (macros : ℕ) (at : Place) (how : NoteEnd
         subst (λ (xs : List Char). Cuts texts_by_definition lines macros (snippet_from lines macros (next_line lines line) opened xs) parts last) all more,
       )
 
-  pub snippets_again : (line : ℕ) (p : Place) (s : List ℕ) (ss : List (List ℕ)) (rest : List ℕ) (behind : List Char) → Several (s ∷ ss) → AreSnippetsFrom lines line (s ∷ ss)
-      → behind ≡ placed_characters_from (place_past p (barred (s ∷ ss) ++ 41 ∷ [])) rest → AreSnippetsAgain lines macros line (nexts_of p (s ∷ ss) ++ final_of p (s ∷ ss) ∷ []) behind (s ∷ ss)
-  snippets_again line p s [] rest behind several h e =
-      (part_again line p s 41 Close rest behind (read_again line p s 41 Close rest h.0 closing) (e ∙ ap (λ (z : Place). placed_characters_from z rest) (place_append p s (41 ∷ []))), tt)
-  snippets_again line p s (t ∷ ss) rest behind several h e =
+  pub snippets_again : (line : ℕ) (p : Place) (s : List ℕ) (ss : List (List ℕ)) (rest : List ℕ) (further : List Char) → Several (s ∷ ss) → AreSnippetsFrom lines line (s ∷ ss)
+      → further ≡ placed_characters_from (place_past p (barred (s ∷ ss) ++ 41 ∷ [])) rest → AreSnippetsAgain lines macros line (nexts_of p (s ∷ ss) ++ final_of p (s ∷ ss) ∷ []) further (s ∷ ss)
+  snippets_again line p s [] rest further several h e =
+      (part_again line p s 41 Close rest further (read_again line p s 41 Close rest h.0 closing) (e ∙ ap (λ (z : Place). placed_characters_from z rest) (place_append p s (41 ∷ []))), tt)
+  snippets_again line p s (t ∷ ss) rest further several h e =
       let q : Place = next_from p s in
       let later : List ℕ = barred (t ∷ ss) ++ 41 ∷ rest in
       let past : place_past p (barred (s ∷ t ∷ ss) ++ 41 ∷ []) ≡ place_past q (barred (t ∷ ss) ++ 41 ∷ []) =
       ap (place_past p) (append_assoc s (124 ∷ barred (t ∷ ss)) (41 ∷ [])) ∙ place_append p s (124 ∷ (barred (t ∷ ss) ++ 41 ∷ [])) in
-      let after : behind ≡ placed_characters_from (place_past q (barred (t ∷ ss) ++ 41 ∷ [])) rest = e ∙ ap (λ (z : Place). placed_characters_from z rest) past in
-      let all : with_ends (nexts_of q (t ∷ ss) ++ final_of q (t ∷ ss) ∷ []) ++ behind ≡ placed_characters_from q later =
-      ends_with (nexts_of q (t ∷ ss)) (final_of q (t ∷ ss)) behind ∙ ap (λ (xs : List Char). spelled (nexts_of q (t ∷ ss)) (final_of q (t ∷ ss)) xs) after ∙ sym (snippets_spelled q t ss rest) in (
-        part_again line p s 124 Next later (with_ends (nexts_of q (t ∷ ss) ++ final_of q (t ∷ ss) ∷ []) ++ behind) (read_again line p s 124 Next later h.0 (dividing (several s t ss refl))) all,
-        snippets_again (next_line lines line) q t ss rest behind (several_later s t ss several) h.1 after,
+      let after : further ≡ placed_characters_from (place_past q (barred (t ∷ ss) ++ 41 ∷ [])) rest = e ∙ ap (λ (z : Place). placed_characters_from z rest) past in
+      let all : with_ends (nexts_of q (t ∷ ss) ++ final_of q (t ∷ ss) ∷ []) ++ further ≡ placed_characters_from q later =
+      ends_with (nexts_of q (t ∷ ss)) (final_of q (t ∷ ss)) further ∙ ap (λ (xs : List Char). spelled (nexts_of q (t ∷ ss)) (final_of q (t ∷ ss)) xs) after ∙ sym (snippets_spelled q t ss rest) in (
+        part_again line p s 124 Next later (with_ends (nexts_of q (t ∷ ss) ++ final_of q (t ∷ ss) ∷ []) ++ further) (read_again line p s 124 Next later h.0 (dividing (several s t ss refl))) all,
+        snippets_again (next_line lines line) q t ss rest further (several_later s t ss several) h.1 after,
       )

@@ -20,7 +20,7 @@ use Rattle.gabc_score.specs.witness.ScoreStage.{ScoreStageState}
 use Rattle.gabc_write.specs.SetDown.{MayBeHeldByItsText, SayTheSame}
 use Rattle.gabc_write.specs.SyllableRead.{as_it_stands, IsReadFromItsText}
 use Rattle.gabc_write.specs.machine.SetDown.{BeginsAlike}
-use Rattle.gabc_write.proofs.reading_again.HeldAgain.{bytes_behind, says_again, stands_for}
+use Rattle.gabc_write.proofs.reading_again.HeldAgain.{bytes_after, says_again, stands_for}
 
 abbrev pub told_before : ScoreStageState → Before
 told_before s = before_with s.body s.before
@@ -57,7 +57,7 @@ module _ (told old : ScoreStageState) (runs : is_some (before_of told) ≡ true)
 
     module _ (utf8 : IsUtf8 held) (own : IsReadFromItsText told.body.nabc_lines told.body.macros (as_it_stands (told.before.syllables == 0) m)) where
       text_is : own.text ≡ chars held
-      text_is = chars_from_encodes own.text held utf8 (sym (bytes_behind told.limits (told_before told) m own) ∙ sym text)
+      text_is = chars_from_encodes own.text held utf8 (sym (bytes_after told.limits (told_before told) m own) ∙ sym text)
 
       pub begins_with_one : (whole : (lines : ℕ) (n : UnplacedSyllable) → HoldsSomeUnit lines n → HasWholeSnippets n) (new : ScoreStageState)
           → FollowsSpans told.before.spans m → HoldsSomeUnit told.body.nabc_lines m → HoldsAgain (chars held) old new → BeginsAlike told new

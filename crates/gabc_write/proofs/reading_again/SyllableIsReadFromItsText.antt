@@ -58,11 +58,11 @@ same_past opening closing n m was h =
 
 -- ---- snippets
 
-as_many : (lines macros line : ℕ) (es : List EndedPart) (behind : List Char) (ss : List (List ℕ)) → AreSnippetsAgain lines macros line es behind ss → length es ≡ length ss
-as_many lines macros line [] behind [] h = refl
-as_many lines macros line [] behind (s ∷ ss) h = absurd h
-as_many lines macros line (e ∷ es) behind [] h = absurd h
-as_many lines macros line (e ∷ es) behind (s ∷ ss) h = ap suc (as_many lines macros (next_line lines line) es behind ss h.1)
+as_many : (lines macros line : ℕ) (es : List EndedPart) (after : List Char) (ss : List (List ℕ)) → AreSnippetsAgain lines macros line es after ss → length es ≡ length ss
+as_many lines macros line [] after [] h = refl
+as_many lines macros line [] after (s ∷ ss) h = absurd h
+as_many lines macros line (e ∷ es) after [] h = absurd h
+as_many lines macros line (e ∷ es) after (s ∷ ss) h = ap suc (as_many lines macros (next_line lines line) es after ss h.1)
 
 -- ---- the LF before a first syllable
 
@@ -110,9 +110,9 @@ module _ (starts : (t : List ℕ) → (view_in t).word_start ≡ (view_facts t).
     (gives : (lines macros : ℕ) (at : Place) (u : BodyUnit) (units : List BodyUnit) (last : LastUnit) (before : List BodyEvent) → (let xs = characters_from (u ∷ units) last in
     length (encodes (codes_of xs)) < 2 ^ 63 → Cuts texts_by_definition lines macros (text_from texts_by_definition at xs) (units_pieces lines (u ∷ units) last) (last_characters last)
     → since_close before ≡ [] → GivesOneSyllable lines macros at u (characters_from units last) before))
-    (warns : (lines macros : ℕ) (at : Place) (u : BodyUnit) (units : List BodyUnit) (last : LastUnit) → (let xs = characters_from (u ∷ units) last in let behind = characters_from units last in
+    (warns : (lines macros : ℕ) (at : Place) (u : BodyUnit) (units : List BodyUnit) (last : LastUnit) → (let xs = characters_from (u ∷ units) last in let after = characters_from units last in
     length (encodes (codes_of xs)) < 2 ^ 63 → Cuts texts_by_definition lines macros (text_from texts_by_definition at xs) (units_pieces lines (u ∷ units) last) (last_characters last)
-    → TextWarns (score_unit u behind).text → SnippetsWarn lines macros 0 (snippets_in u) behind → All IsWarning (findings_of (events_onto (first_events lines macros at xs (length (characters_in u))) [])))) where
+    → TextWarns (score_unit u after).text → SnippetsWarn lines macros 0 (snippets_in u) after → All IsWarning (findings_of (events_onto (first_events lines macros at xs (length (characters_in u))) [])))) where
   module _ (begins : (t : List ℕ) → view_facts (10 ∷ t) ≡ record (view_facts t) { word_start = true }) (lines macros : ℕ) (first : Bool) (m : UnplacedSyllable) (h : HoldsSomeUnit lines m)
       (short : length (canonical (first || m.text.word_start) m) < 2 ^ 63) where
     own : IsPrinted lines h.unit m
@@ -150,10 +150,10 @@ module _ (starts : (t : List ℕ) → (view_in t).word_start ≡ (view_facts t).
       xs = characters_in unit ++ []
 
       says_again : SaysAgain lines macros unit [] said own.snippets
-      says_again = subst (λ (ys : List Char). SaysAgain lines macros unit ys said own.snippets) o.behind_is o.again
+      says_again = subst (λ (ys : List Char). SaysAgain lines macros unit ys said own.snippets) o.after_is o.again
 
       alone : AreUnitsFrom lines macros at (placed_characters_from at (text ++ [])) (unit ∷ []) (JustText [])
-      alone = o.one_more at [] (JustText []) (record { characters = o.behind_is; cut = tt })
+      alone = o.one_more at [] (JustText []) (record { characters = o.after_is; cut = tt })
 
       xs_are : xs ≡ placed_characters_from at text
       xs_are = sym alone.characters ∙ ap (placed_characters_from at) (append-nil text)
@@ -203,7 +203,7 @@ module _ (starts : (t : List ℕ) → (view_in t).word_start ≡ (view_facts t).
             again = g.made;
             none_earlier = λ n few. ap (λ (ys : List Char). all_syllables (events_onto (first_events lines macros at ys n) before)) (sym xs_are) ∙ g.none_earlier n (subst (λ (k : ℕ). n < k) (sym size_is) few);
             one = ap₂ (λ (ys : List Char) (n : ℕ). all_syllables (events_onto (first_events lines macros at ys n) before)) (sym xs_are) (sym size_is) ∙ g.given;
-            nothing_behind = ap₂ (λ (ys : List Char) (n : ℕ). since_close (events_onto (first_events lines macros at ys n) before)) (sym xs_are) (sym size_is) ∙ g.nothing_behind;
+            nothing_after = ap₂ (λ (ys : List Char) (n : ℕ). since_close (events_onto (first_events lines macros at ys n) before)) (sym xs_are) (sym size_is) ∙ g.nothing_after;
             warnings = subst (All IsWarning) (ap₂ (λ (ys : List Char) (n : ℕ). findings_of (events_onto (first_events lines macros at ys n) [])) xs_are size_is)
                 (warns lines macros at unit [] (JustText []) fits cuts (λ place. text_warns place read_unit.text (says_again.errors place)) (snippets_warn text_warns lines macros 0 (snippets_in unit) [] own.snippets says_again.snippets));
             few_on_the_way = λ n small. subst (λ (ys : List Char). length (kept_of (since_close (events_onto (first_events lines macros at ys n) before))) ≤ length (encodes text)) xs_are

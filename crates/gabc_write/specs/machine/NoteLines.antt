@@ -17,7 +17,7 @@ glyph_of notes = longest_glyph (length notes) notes
 
 -- the notes of a segment from this one on, which these items stand after
 abbrev pub notes_from : List ℕ → Note → List Item → List Note
-notes_from kept first behind = first ∷ notes_after kept behind
+notes_from kept first after = first ∷ notes_after kept after
 
 -- the first glyph of the notes of the segment at the head of the items
 abbrev pub glyph_at : List ℕ → List Item → Option (GlyphKind × ℕ)
@@ -38,15 +38,15 @@ left_after zero (Some g) = g.1 - 1
 
 -- the lines of an item at a place, with these items after it; before it this is in force
 abbrev pub lines_at : InForce → List ℕ → ItemPlace → Item → List Item → List ℕ
-lines_at force kept place i behind =
+lines_at force kept place i after =
     (if is_in_element kept i && not place.in_element then codes "element\n" else [])
-    ++ ((if is_note i.kind then line_of_next place.left (glyph_at kept (i ∷ behind)) else []) ++ line_of_item force kept i)
+    ++ ((if is_note i.kind then line_of_next place.left (glyph_at kept (i ∷ after)) else []) ++ line_of_item force kept i)
 
 -- the place after it
 abbrev pub place_after_input : List ℕ → ItemPlace → Item → List Item → ItemPlace
-place_after_input kept place i behind = record {
+place_after_input kept place i after = record {
   in_element = is_in_element kept i;
-  left = if is_note i.kind then left_after place.left (glyph_at kept (i ∷ behind)) else place.left;
+  left = if is_note i.kind then left_after place.left (glyph_at kept (i ∷ after)) else place.left;
 }
 
 -- the lines of all items of a text

@@ -5,14 +5,14 @@ use Rattle.gabc_places.specs.declared.code.Fault.{Fault}
 use Rattle.gabc_places.specs.declared.place.Char.{Char}
 use Rattle.gabc_places.specs.declared.place.Place.{Place}
 use Rattle.gabc_headers.specs.declared.head_event.HeadEvent.{HeadEvent}
-use Rattle.gabc_headers.specs.witness.HeadEvents.{HeaderStageState, IsBehind}
+use Rattle.gabc_headers.specs.witness.HeadEvents.{HeaderStageState, IsAfterHeaders}
 use Rattle.gabc_score.specs.declared.body_stage.BodyPart.{BodyPart}
 use Rattle.gabc_score.specs.declared.body_stage.BodyPart.TheVariants as part
 use Rattle.gabc_score.specs.ScoreEvents.{ScoreOutput}
 use Rattle.gabc_score.specs.ScoreReports.{IsAt, IsInFront, is_in_front, moved_part}
 use Rattle.gabc_score.specs.witness.ScoreStage.{ScoreStageState, left_of}
 use Rattle.gregorio.specs.Streams.{Streams, after_bytes}
-use Rattle.gregorio.specs.witness.Engine.{Written, book_behind, head_events_left, streams_from}
+use Rattle.gregorio.specs.witness.Engine.{Written, book_after, head_events_left, streams_from}
 use Rattle.gregorio.specs.machine.Engine.{GoTogether, IsSettled, WritesItems}
 use Rattle.gregorio.specs.machine.InStep.{HasForce, RunsInStep, StayInStep}
 use Rattle.gregorio.specs.machine.RunWriter.{RunWriterState}
@@ -91,7 +91,7 @@ module _ (item : Result Char Fault) (old new : ScoreWriterState) (b : BeginsBody
     short = together.short;
   }
     where
-      by : IsBehind h.progress ⊎ IsSettled old → IsBehind h.progress ⊎ IsSettled new
+      by : IsAfterHeaders h.progress ⊎ IsSettled old → IsAfterHeaders h.progress ⊎ IsSettled new
       by (inl is) = inl is
       by (inr settled) = inr (settled_begun settled)
 
@@ -103,7 +103,7 @@ module _ (item : Result Char Fault) (old new : ScoreWriterState) (b : BeginsBody
     messages = ap (λ (v : RunWriterState). v.messages) same_writer ∙ a.messages;
     law = λ ending more.
         a.law ending more
-        ∙ ap (λ (s : Streams). after_bytes a.output a.lines s) (sym (same_streams (book_behind now more) (head_events_left now ending more)));
+        ∙ ap (λ (s : Streams). after_bytes a.output a.lines s) (sym (same_streams (book_after now more) (head_events_left now ending more)));
   }
 
   pub stay_begun : (h now : HeaderStageState) (first : ScoreWriterState) (items : List (Result Char Fault)) → (old.writer.written.headed ≡ true → IsInFront old.score) → StayInStep h first items now old

@@ -14,8 +14,8 @@ same_streams s t output messages status fault =
     λ i. record { output = output i; messages = messages i; status = status i; fault = fault i }
 
 -- what stands after the same bytes is the same
-pub behind_same : (output lines : List ℕ) (s t : Streams) → after_bytes output lines s ≡ after_bytes output lines t → s ≡ t
-behind_same output lines s t e = same_streams s t
+pub after_same : (output lines : List ℕ) (s t : Streams) → after_bytes output lines s ≡ after_bytes output lines t → s ≡ t
+after_same output lines s t e = same_streams s t
     (append_cancel_left output s.output t.output (ap (λ (x : Streams). x.output) e))
     (append_cancel_left lines s.messages t.messages (ap (λ (x : Streams). x.messages) e))
     (ap (λ (x : Streams). x.status) e)

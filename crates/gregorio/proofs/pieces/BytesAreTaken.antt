@@ -15,7 +15,7 @@ use Rattle.gabc_score.specs.witness.ScoreStage.{ScoreStageState, left_of}
 use Rattle.gregorio.specs.declared.source_ending.SourceEnding.{SourceEnding}
 use Rattle.gregorio.specs.declared.source_ending.SourceEnding.TheVariants.{Whole as Ended, Broken}
 use Rattle.gregorio.specs.Engine.{Brings, NothingWaits, is_running, with_waiting}
-use Rattle.gregorio.specs.witness.Engine.{EngineState, Written, book_behind, ended_by, head_events_left, items_left, streams_left}
+use Rattle.gregorio.specs.witness.Engine.{EngineState, Written, book_after, ended_by, head_events_left, items_left, streams_left}
 use Rattle.gregorio.specs.Streams.{Streams, after_bytes}
 use Rattle.gregorio.specs.Outcome.{is_error_finding, is_whole, status_by}
 use Rattle.gregorio.specs.machine.RunWriter.{line_room, most_waiting, out_room}
@@ -96,7 +96,7 @@ found_over None w score is over = absurd (cc is)
 
 -- where the run is over, nothing is written
 pub over_left : (s : EngineState) (how : RunEnding) → IsOver s.written s.score how → (ending : SourceEnding) (bytes : List ℕ) → streams_left s ending bytes ≡ ended_by how
-over_left s how over ending bytes = let items = items_left s ending bytes in over_is_last s.written s.score how over (book_behind s.heads items) (head_events_left s.heads ending items)
+over_left s how over ending bytes = let items = items_left s ending bytes in over_is_last s.written s.score how over (book_after s.heads items) (head_events_left s.heads ending items)
 
 -- a piece is taken, and nothing follows
 pub stopped_brings : (s : EngineState) (how : RunEnding) → IsOver s.written s.score how → (piece : List ℕ) → Brings s piece s

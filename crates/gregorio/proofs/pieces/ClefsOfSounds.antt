@@ -29,9 +29,9 @@ use Rattle.gregorio_jobs.specs.declared.job.Format.TheVariants.{Gabc, Dump}
 abbrev pub LeavesClef : Type 0
 LeavesClef = (outset : InForce) (s : PlacedSyllable) → sounds s.made ≡ false → (passed outset (steps_of_syllable s)).clef ≡ outset.clef
 
-clef_behind : LeavesClef → (format : Format) (force : InForce) (s : PlacedSyllable) → sounds s.made ≡ false → (force_after format force s).clef ≡ force.clef
-clef_behind law Gabc force s silent = refl
-clef_behind law Dump force s silent = law force s silent
+clef_after : LeavesClef → (format : Format) (force : InForce) (s : PlacedSyllable) → sounds s.made ≡ false → (force_after format force s).clef ≡ force.clef
+clef_after law Gabc force s silent = refl
+clef_after law Dump force s silent = law force s silent
 
 silent_on : LeavesClef → (outputs : List ScoreOutput) (w : Written) (p : Preceding) → (p.sounded ≡ false → w.force.clef ≡ None) → (with_placed p (syllables_in outputs)).sounded ≡ false
     → (after_outputs w outputs).force.clef ≡ None
@@ -42,7 +42,7 @@ silent_on law (End ∷ outputs) w p before silent = silent_on law outputs (after
 silent_on law (Syllable s ∷ outputs) w p before silent = silent_on law outputs (after_output w (Syllable s)) (with_placed p (s ∷ [])) (λ both. by (or_parts p.sounded (sounds s.made) both) w.headed) silent
   where
     by : (p.sounded ≡ false) × (sounds s.made ≡ false) → (headed : Bool) → (if headed then force_after w.format w.force s else w.force).clef ≡ None
-    by both true = clef_behind law w.format w.force s both.1 ∙ before both.0
+    by both true = clef_after law w.format w.force s both.1 ∙ before both.0
     by both false = before both.0
 
 -- ---- an event

@@ -7,7 +7,7 @@ use Rattle.gabc_places.specs.declared.code.Fault.{Fault}
 use Rattle.gabc_places.specs.declared.place.Char.{Char}
 use Rattle.gabc_places.specs.witness.DecoderEvents as decoder
 use Rattle.gabc_headers.specs.declared.head_event.HeadEvent.{HeadEvent}
-use Rattle.gabc_headers.specs.witness.HeadEvents.{HeaderStageState, IsBehind, events_left, reading, text_held}
+use Rattle.gabc_headers.specs.witness.HeadEvents.{HeaderStageState, IsAfterHeaders, events_left, reading, text_held}
 use Rattle.gabc_score.specs.ScoreReports.{before_of, held_of}
 use Rattle.gabc_score.specs.ReportedWithin.{ReportsWithin}
 use Rattle.gabc_score.specs.witness.IsReachable.{IsReachable}
@@ -32,7 +32,7 @@ pub record PartsAgree : Type 0 where
       → (bytes : List ℕ) → decoder.events_left one bytes ≡ decoder.events_left other bytes
   pub heads : (one other : HeaderStageState) → one.limits ≡ other.limits → one.progress ≡ reading (text_held one.progress) → other.progress ≡ reading (text_held other.progress)
       → text_held one.progress ≡ text_held other.progress → (items : List (Result Char Fault)) → events_left one.limits one.progress items ≡ events_left other.limits other.progress items
-  pub behind : (one other : HeaderStageState) → IsBehind one.progress → IsBehind other.progress
+  pub after : (one other : HeaderStageState) → IsAfterHeaders one.progress → IsAfterHeaders other.progress
       → (items : List (Result Char Fault)) → events_left one.limits one.progress items ≡ events_left other.limits other.progress items
   pub within : (s : ScoreStageState) → IsReachable s → is_some (before_of s) ≡ true → ReportsWithin s
   pub scores : (one other : ScoreStageState) → IsReachable one → IsReachable other → AreSavedAlike one other → GoesOnEquivalentlyInLine one other
@@ -61,7 +61,7 @@ module _ (parts : PartsAgree) (one other : EngineState) (may : CanRun one) (may_
       let d = decoders_alike one other may.step may_too.step same in
       bodies_agree one other (written_in_body one other may may_too headed same within other_within name) headed
       (parts.decoders one.decoder other.decoder d.runs d.other_runs d.limit may.decoder.partial d.told)
-      (parts.behind one.heads other.heads inside.behind_them other_inside.behind_them)
+      (parts.after one.heads other.heads inside.after_them other_inside.after_them)
       (λ ending bytes w book.
       let from_heads = head_events_left one.heads ending (items_left one ending bytes) in
       given_is_written_alike (held_of one.score) (held_of other.score) alike w book from_heads (left_of one.score from_heads) (left_of other.score from_heads)

@@ -14,7 +14,7 @@ use Rattle.gabc_headers.specs.declared.head_event.HeadEvent.TheVariants as head_
 use Rattle.gabc_headers.specs.declared.heads.Heads.{Heads}
 use Rattle.gabc_headers.specs.declared.heads.HeadFault.{HeadFault}
 use Rattle.gabc_headers.specs.Heads.{heads_of}
-use Rattle.gabc_headers.specs.witness.HeadEvents.{HeaderStageState, HeadProgress, reading, behind, over, events_by, events_of_input, new_findings, progress_after, progress_by, stage_after}
+use Rattle.gabc_headers.specs.witness.HeadEvents.{HeaderStageState, HeadProgress, reading, after_headers, over, events_by, events_of_input, new_findings, progress_after, progress_by, stage_after}
 use Rattle.gabc_headers.specs.HeadEvents.{event_of_book}
 use Rattle.gabc_headers.specs.Book.{nabc_lines_of, macros_of}
 use Rattle.gabc_headers.specs.Canonical.{canonical_heads}
@@ -36,7 +36,7 @@ use Rattle.gregorio.proofs.pieces.ItemsAreRead.{just_found}
 use Rattle.gregorio.specs.machine.InStep.{AreInOnePart, PassesAll, PassesOn, RunsInStep, StayInStep, written_at}
 use Rattle.gregorio.specs.machine.ScoreWriter.{ScoreWriterState}
 use Rattle.gregorio.proofs.StreamsOfOutputs.{headed_stays}
-use Rattle.gregorio.proofs.pieces.PartsStayInStep.{IsNear, near_behind, one_part}
+use Rattle.gregorio.proofs.pieces.PartsStayInStep.{IsNear, near_after, one_part}
 use Rattle.gregorio.proofs.pieces.WrittenGoesOn.{counted, few_more, force_past_all, none_counted, running_before, went_on_past}
 
 -- ---- in the headers
@@ -97,7 +97,7 @@ none_whole lines macros canonical part n heads = rw heads refl
 
 heads_passed : (limits : Limits) (lines macros canonical : ℕ) (book : List (List ℕ × List ℕ)) (old mid : ScoreWriterState)
     → PassesOn old.score (written_at old.writer.written (head_event.Heads lines macros canonical)) (head_event.Heads lines macros canonical) mid → HeadsYet limits old
-    → is_none mid.writer.written.ended ≡ true → StepsTo (behind book) mid
+    → is_none mid.writer.written.ended ≡ true → StepsTo (after_headers book) mid
 heads_passed limits lines macros canonical book old mid p b running =
     let x = head_event.Heads lines macros canonical in
     let w = written_at old.writer.written x in
@@ -110,7 +110,7 @@ heads_passed limits lines macros canonical book old mid p b running =
     let more = few_more (syllables_in p.outputs) start in
     let count : mid.writer.written.count ≡ (with_placed start (syllables_in p.outputs)).syllables = ap (λ (v : Written). v.count) p.written ∙ counted p.outputs w start headed i.none in
     record {
-      parts = one_part (behind book) mid.score.part mid.writer.written.headed (ap (λ (v : Written). v.headed) p.written ∙ (headed_stays w p.outputs ∙ headed)) tt body;
+      parts = one_part (after_headers book) mid.score.part mid.writer.written.headed (ap (λ (v : Written). v.headed) p.written ∙ (headed_stays w p.outputs ∙ headed)) tt body;
       none = omega (arith, few, more, count);
       whole = λ is. let most = p.whole body in let none = none_whole lines macros canonical old.score.part (whole_syllables old.score) i.part in omega (arith, most, none);
       counts = λ place. p.counts place tt (λ was. absurd (cc (was, i.part)));
@@ -140,7 +140,7 @@ module _ (limits : Limits) (found : List Finding) (t : List ℕ) (old new : Scor
   by_heads : (r : Result Heads HeadFault) → PassesAll old (events_by found r) new → StepsTo (progress_by t r) new
   by_heads (Ok heads) all =
       let last = found_all limits found (event_of_book heads.book ∷ []) old new yet all in
-      subst (λ (s : ScoreWriterState). StepsTo (behind heads.book) s) last.1.1.1.1
+      subst (λ (s : ScoreWriterState). StepsTo (after_headers heads.book) s) last.1.1.1.1
       (heads_passed limits (nabc_lines_of heads.book) (macros_of heads.book) (bytes_len (canonical_heads heads.book)) heads.book last.0 last.1.1.0 last.1.1.1.0 last.1.0
       (subst (λ (s : ScoreWriterState). is_none s.writer.written.ended ≡ true) (sym last.1.1.1.1) running))
   by_heads (Err stopped) all = by_end stopped.at_end stopped.fault all
@@ -148,7 +148,7 @@ module _ (limits : Limits) (found : List Finding) (t : List ℕ) (old new : Scor
 pub in_heads : (progress : HeadProgress) (s : ScoreWriterState) → s.writer.written.headed ≡ false → AreInOnePart progress s.score.part s.writer.written.headed → s.writer.written.count ≡ 0
     → (t : List ℕ) × ((progress ≡ reading t) × HeadsYet s.score.limits s)
 in_heads (reading t) s un parts none = (t, (refl, record { unheaded = un; same = refl; yet = λ running. record { part = parts.in_part; none = none } }))
-in_heads (behind book) s un parts none = absurd (false≢true (sym un ∙ parts.written_so))
+in_heads (after_headers book) s un parts none = absurd (false≢true (sym un ∙ parts.written_so))
 in_heads over s un parts none = absurd parts
 
 module _ (limits : Limits) (old new : ScoreWriterState) (running : is_none new.writer.written.ended ≡ true) (yet : HeadsYet old.score.limits old) where
@@ -161,7 +161,7 @@ module _ (limits : Limits) (old new : ScoreWriterState) (running : is_none new.w
 -- a fault leads out of the headers
 runs_on : (limits : Limits) (t : List ℕ) (item : Result Char Fault) (old new : ScoreWriterState) (d e : DecoderState) → HeadsYet old.score.limits old → PassesAll old (events_of_input limits (reading t) item) new
     → is_none new.writer.written.ended ≡ true → MovesOn d (item ∷ []) e → IsNear d.place d.taken → (e.ended ≡ d.ended) × ((e.taken ≡ d.taken + 1) × IsNear e.place e.taken)
-runs_on limits t (Ok x) old new d e yet all running moves near = (moves.ended, (moves.taken, near_behind d e x moves near))
+runs_on limits t (Ok x) old new d e yet all running moves near = (moves.ended, (moves.taken, near_after d e x moves near))
 runs_on limits t (Err fault) old new d e yet all running moves near = absurd (stops old.score.limits fault old new all yet running)
 
 module _ (d e : DecoderState) (h : HeaderStageState) (old new : ScoreWriterState) (unheaded : old.writer.written.headed ≡ false) (limits : new.score.limits ≡ old.score.limits) (item : Result Char Fault) (moves : MovesOn d (item ∷ []) e) where
@@ -248,8 +248,8 @@ module _ (limits : Limits) (old new : ScoreWriterState) (b : HeadsYet limits old
       let next = t ++ x.c ∷ [] in
       record { text = t; last = x; was = refl; is = refl; end = ends_by t x (new_findings limits t next) (heads_of limits next) refl all some }
   ends_with (reading t) (Err fault) all some = absurd (some refl)
-  ends_with (behind book) (Ok x) all some = absurd (some refl)
-  ends_with (behind book) (Err fault) all some = absurd (some refl)
+  ends_with (after_headers book) (Ok x) all some = absurd (some refl)
+  ends_with (after_headers book) (Err fault) all some = absurd (some refl)
   ends_with over item all some = absurd (some refl)
 
 -- if they are whole with an item

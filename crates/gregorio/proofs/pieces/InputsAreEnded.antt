@@ -13,7 +13,7 @@ use Rattle.gabc_headers.specs.declared.heads.Heads.{Heads}
 use Rattle.gabc_headers.specs.declared.heads.HeadFault.{HeadFault}
 use Rattle.gabc_headers.specs.Heads.{heads_of}
 use Rattle.gabc_headers.specs.declared.head_event.HeadEvent.{HeadEvent}
-use Rattle.gabc_headers.specs.witness.HeadEvents.{HeaderStageState, HeadProgress, reading, behind, over, events_at_end, events_of_end, stage_at}
+use Rattle.gabc_headers.specs.witness.HeadEvents.{HeaderStageState, HeadProgress, reading, after_headers, over, events_at_end, events_of_end, stage_at}
 use Rattle.gabc_score.proofs.score_events.OutputsOfLentSyllables.{then_more}
 use Rattle.gregorio.specs.declared.source_ending.SourceEnding.{SourceEnding}
 use Rattle.gregorio.specs.declared.source_ending.SourceEnding.TheVariants.{Whole as Ended}
@@ -108,7 +108,7 @@ books_by (Err stopped) book read = (tt, tt)
 
 no_books_at_end : (limits : Limits) (progress : HeadProgress) (book read : List (List ℕ × List ℕ)) → AreBooksAt (events_of_end limits progress) book read
 no_books_at_end limits (reading t) book read = books_by (heads_of limits t) book read
-no_books_at_end limits (behind b) book read = (tt, tt)
+no_books_at_end limits (after_headers b) book read = (tt, tt)
 no_books_at_end limits over book read = tt
 
 pub ends_given : (h : HeaderStageState) (w mid new : ScoreWriterState) (how : RunEnding) (from_heads : List HeadEvent) (read : List (List ℕ × List ℕ)) → from_heads ≡ events_of_end h.limits h.progress

@@ -14,17 +14,17 @@ use Rattle.gabc_headers.specs.declared.head_event.HeadEvent.{HeadEvent}
 use Rattle.gabc_headers.specs.declared.head_event.HeadEvent.TheVariants as head_event
 use Rattle.gabc_headers.specs.Heads.{heads_of}
 use Rattle.gabc_headers.specs.HeadEvents.{event_of_book}
-use Rattle.gabc_headers.specs.witness.HeadEvents.{HeaderStageState, HeadProgress, reading, behind, over, IsBehind, book_at, events_by, events_of_input, new_findings, progress_after, progress_by, stage_after, stage_past}
+use Rattle.gabc_headers.specs.witness.HeadEvents.{HeaderStageState, HeadProgress, reading, after_headers, over, IsAfterHeaders, book_at, events_by, events_of_input, new_findings, progress_after, progress_by, stage_after, stage_past}
 use Rattle.gabc_score.specs.witness.ScoreStage.{ScoreStageState, left_of}
 use Rattle.gabc_headers.proofs.stages.CharactersOfAStage.{nothing_added}
 use Rattle.gregorio.specs.declared.source_ending.SourceEnding.{SourceEnding}
 use Rattle.gregorio.specs.declared.source_ending.SourceEnding.TheVariants.{Whole as Ended, Broken}
 use Rattle.gregorio.specs.Streams.{Streams, after_bytes}
-use Rattle.gregorio.specs.witness.Engine.{book_behind, head_events_left, is_heads, streams_in}
+use Rattle.gregorio.specs.witness.Engine.{book_after, head_events_left, is_heads, streams_in}
 use Rattle.gregorio.specs.machine.ScoreWriter.{ScoreWriterState, IsBookAt, IsShortBook, IsSteady, WritesAt, streams_of}
 use Rattle.gregorio.specs.machine.Engine.{AreBooksAt, GoTogether, IsBookRead, IsSettled, WritesAll, WritesItems, event_of_item, headed_past}
 use Rattle.gregorio.proofs.StreamsOfOutputs.{in_body}
-use Rattle.gregorio.proofs.pieces.BytesAreJoined.{behind_same}
+use Rattle.gregorio.proofs.pieces.BytesAreJoined.{after_same}
 
 -- ---- the stage of headers
 
@@ -37,14 +37,14 @@ past_over : (limits : Limits) (hasher : DefaultHasher) (book : List (List ℕ ×
 past_over limits hasher book [] = refl
 past_over limits hasher book (item ∷ items) = past_over limits hasher book items
 
-pub past_behind : (limits : Limits) (hasher : DefaultHasher) (book : List (List ℕ × List ℕ)) (items : List (Result Char Fault)) → (stage_past (record { limits = limits; progress = behind book; book = book; hasher = hasher }) items).book ≡ book
-past_behind limits hasher book [] = refl
-past_behind limits hasher book (Ok c ∷ items) = past_behind limits hasher book items
-past_behind limits hasher book (Err fault ∷ items) = past_over limits hasher book items
+pub past_after : (limits : Limits) (hasher : DefaultHasher) (book : List (List ℕ × List ℕ)) (items : List (Result Char Fault)) → (stage_past (record { limits = limits; progress = after_headers book; book = book; hasher = hasher }) items).book ≡ book
+past_after limits hasher book [] = refl
+past_after limits hasher book (Ok c ∷ items) = past_after limits hasher book items
+past_after limits hasher book (Err fault ∷ items) = past_over limits hasher book items
 
 -- each character is an input of the body
 pub inputs_after : (limits : Limits) (hasher : DefaultHasher) (book : List (List ℕ × List ℕ)) (cs : List Char) (ending : SourceEnding) (more : List (Result Char Fault))
-    → (let h : HeaderStageState = record { limits = limits; progress = behind book; book = book; hasher = hasher } in
+    → (let h : HeaderStageState = record { limits = limits; progress = after_headers book; book = book; hasher = hasher } in
     head_events_left h ending (map (λ (c : Char). Ok c) cs ++ more) ≡ map (λ (c : Char). head_event.Body c) cs ++ head_events_left h ending more)
 inputs_after limits hasher book [] ending more = refl
 inputs_after limits hasher book (c ∷ cs) Ended more = ap (λ (events : List HeadEvent). head_event.Body c ∷ events) (inputs_after limits hasher book cs Ended more)
@@ -60,7 +60,7 @@ just_found_books (f ∷ fs) book read = (tt, just_found_books fs book read)
 
 books_by : (limits : Limits) (hasher : DefaultHasher) (t : List ℕ) (old : List (List ℕ × List ℕ)) (found : List Finding) (r : Result Heads HeadFault) (items : List (Result Char Fault))
     → AreBooksAt (events_by found r) (stage_past (record { limits = limits; progress = progress_by t r; book = book_at (progress_by t r) old; hasher = hasher }) items).book (book_at (progress_by t r) old)
-books_by limits hasher t old found (Ok heads) items = found_books found (event_of_book heads.book ∷ []) _ heads.book (past_behind limits hasher heads.book items, tt)
+books_by limits hasher t old found (Ok heads) items = found_books found (event_of_book heads.book ∷ []) _ heads.book (past_after limits hasher heads.book items, tt)
 books_by limits hasher t old found (Err stopped) items = by stopped.at_end
   where
     by : (at_end : Bool) → AreBooksAt (cond at_end (map (λ f. head_event.Found f) found) (head_event.Stop stopped.fault ∷ []))
@@ -74,8 +74,8 @@ books_are_kept : (limits : Limits) (hasher : DefaultHasher) (progress : HeadProg
     AreBooksAt (events_of_input limits progress item) (stage_past (stage_after h item) items).book (stage_after h item).book)
 books_are_kept limits hasher (reading t) old (Ok c) items = books_by limits hasher (t ++ c.c ∷ []) old (new_findings limits t (t ++ c.c ∷ [])) (heads_of limits (t ++ c.c ∷ [])) items
 books_are_kept limits hasher (reading t) old (Err fault) items = (tt, tt)
-books_are_kept limits hasher (behind book) old (Ok c) items = (tt, tt)
-books_are_kept limits hasher (behind book) old (Err fault) items = (tt, tt)
+books_are_kept limits hasher (after_headers book) old (Ok c) items = (tt, tt)
+books_are_kept limits hasher (after_headers book) old (Err fault) items = (tt, tt)
 books_are_kept limits hasher over old item items = tt
 
 pub items_by_heads : (h : HeaderStageState) (w new : ScoreWriterState) (item : Result Char Fault) → WritesAll w (events_of_input h.limits h.progress item) (stage_after h item).book new
@@ -86,8 +86,8 @@ items_by_heads h w new item a = record {
   out = a.out;
   messages = a.messages;
   law = λ ending more.
-      ap (λ (from_heads : List HeadEvent). streams_of w (book_behind (stage_after h item) more) from_heads) (given_next h ending item more)
-      ∙ a.law (book_behind (stage_after h item) more) (head_events_left (stage_after h item) ending more) (books_are_kept h.limits h.hasher h.progress h.book item more);
+      ap (λ (from_heads : List HeadEvent). streams_of w (book_after (stage_after h item) more) from_heads) (given_next h ending item more)
+      ∙ a.law (book_after (stage_after h item) more) (head_events_left (stage_after h item) ending more) (books_are_kept h.limits h.hasher h.progress h.book item more);
 }
 
 -- ---- what holds of it then
@@ -97,24 +97,24 @@ just_found [] = refl
 just_found (f ∷ fs) = just_found fs
 
 -- the stage of headers is after the line `%%`, or no headers are whole among what it gives
-behind_by : (t : List ℕ) (found : List Finding) (r : Result Heads HeadFault) → IsBehind (progress_by t r) ⊎ (list_any is_heads (events_by found r) ≡ false)
-behind_by t found (Ok heads) = inl tt
-behind_by t found (Err stopped) = inr (by stopped.at_end)
+after_by : (t : List ℕ) (found : List Finding) (r : Result Heads HeadFault) → IsAfterHeaders (progress_by t r) ⊎ (list_any is_heads (events_by found r) ≡ false)
+after_by t found (Ok heads) = inl tt
+after_by t found (Err stopped) = inr (by stopped.at_end)
   where
     by : (at_end : Bool) → list_any is_heads (cond at_end (map (λ f. head_event.Found f) found) (head_event.Stop stopped.fault ∷ [])) ≡ false
     by true = just_found found
     by false = refl
 
-pub behind_or_none : (limits : Limits) (progress : HeadProgress) (item : Result Char Fault) → IsBehind (progress_after limits progress item) ⊎ (list_any is_heads (events_of_input limits progress item) ≡ false)
-behind_or_none limits (reading t) (Ok c) = behind_by (t ++ c.c ∷ []) (new_findings limits t (t ++ c.c ∷ [])) (heads_of limits (t ++ c.c ∷ []))
-behind_or_none limits (reading t) (Err fault) = inr refl
-behind_or_none limits (behind book) (Ok c) = inl tt
-behind_or_none limits (behind book) (Err fault) = inr refl
-behind_or_none limits over item = inr refl
+pub after_or_none : (limits : Limits) (progress : HeadProgress) (item : Result Char Fault) → IsAfterHeaders (progress_after limits progress item) ⊎ (list_any is_heads (events_of_input limits progress item) ≡ false)
+after_or_none limits (reading t) (Ok c) = after_by (t ++ c.c ∷ []) (new_findings limits t (t ++ c.c ∷ [])) (heads_of limits (t ++ c.c ∷ []))
+after_or_none limits (reading t) (Err fault) = inr refl
+after_or_none limits (after_headers book) (Ok c) = inl tt
+after_or_none limits (after_headers book) (Err fault) = inr refl
+after_or_none limits over item = inr refl
 
 book_is_read : (progress : HeadProgress) (old : List (List ℕ × List ℕ)) → IsBookRead progress (book_at progress old)
 book_is_read (reading t) old = tt
-book_is_read (behind book) old = refl
+book_is_read (after_headers book) old = refl
 book_is_read over old = tt
 
 short_by : (limits : Limits) (t : List ℕ) (old : List (List ℕ × List ℕ)) (r : Result Heads HeadFault) → ((heads : Heads) → r ≡ Ok heads → IsShortBook limits heads.book) → IsShortBook limits old
@@ -134,20 +134,20 @@ short_after : AreHeadsShort → (limits : Limits) (progress : HeadProgress) (old
     → IsShortBook limits (book_at (progress_after limits progress item) old)
 short_after heads_short limits (reading t) old (Ok c) read h = short_by limits (t ++ c.c ∷ []) old (heads_of limits (t ++ c.c ∷ [])) (heads_short limits (t ++ c.c ∷ [])) h
 short_after heads_short limits (reading t) old (Err fault) read h = h
-short_after heads_short limits (behind book) old (Ok c) read h = subst (λ (b : List (List ℕ × List ℕ)). IsShortBook limits b) (sym read) h
-short_after heads_short limits (behind book) old (Err fault) read h = h
+short_after heads_short limits (after_headers book) old (Ok c) read h = subst (λ (b : List (List ℕ × List ℕ)). IsShortBook limits b) (sym read) h
+short_after heads_short limits (after_headers book) old (Err fault) read h = h
 short_after heads_short limits over old item read h = h
 
 pub together_by_heads : (h : HeaderStageState) (w new : ScoreWriterState) (item : Result Char Fault) → AreHeadsShort → GoTogether h w → w.writer.written.headed ≡ false
     → (headed_past w.writer.written.headed (events_of_input h.limits h.progress item) ≡ false → new.writer.written.headed ≡ false) → IsSteady w new → GoTogether (stage_after h item) new
 together_by_heads h w new item heads_short together unheaded past steady = record {
   limits = together.limits ∙ sym steady.limits;
-  headed = λ e. inl (by e (behind_or_none h.limits h.progress item));
+  headed = λ e. inl (by e (after_or_none h.limits h.progress item));
   book = book_is_read (progress_after h.limits h.progress item) h.book;
   short = short_after heads_short h.limits h.progress h.book item together.book together.short;
 }
   where
-    by : new.writer.written.headed ≡ true → IsBehind (progress_after h.limits h.progress item) ⊎ (list_any is_heads (events_of_input h.limits h.progress item) ≡ false) → IsBehind (progress_after h.limits h.progress item)
+    by : new.writer.written.headed ≡ true → IsAfterHeaders (progress_after h.limits h.progress item) ⊎ (list_any is_heads (events_of_input h.limits h.progress item) ≡ false) → IsAfterHeaders (progress_after h.limits h.progress item)
     by headed (inl is) = is
     by headed (inr none) = absurd (true≢false (sym headed ∙ past (ap (λ (b : Bool). b || list_any is_heads (events_of_input h.limits h.progress item)) unheaded ∙ none)))
 
@@ -174,10 +174,10 @@ no_book (Ok c) book read = tt
 no_book (Err fault) book read = tt
 
 -- where it is no matter what comes after an event, it is none later
-settled_behind : (w new : ScoreWriterState) (item : Result Char Fault) → WritesAt w (event_of_item item) [] new
+settled_after : (w new : ScoreWriterState) (item : Result Char Fault) → WritesAt w (event_of_item item) [] new
     → ((book other : List (List ℕ × List ℕ)) (from_heads more : List HeadEvent) → streams_of w book (event_of_item item ∷ from_heads) ≡ streams_of w other (event_of_item item ∷ more)) → IsSettled new
-settled_behind w new item a same = λ book other from_heads more.
-    behind_same a.output a.lines (streams_of new book from_heads) (streams_of new other more)
+settled_after w new item a same = λ book other from_heads more.
+    after_same a.output a.lines (streams_of new book from_heads) (streams_of new other more)
     (sym (a.law book from_heads (no_book item book [])) ∙ (same book other from_heads more ∙ a.law other more (no_book item other [])))
 
 pub record ReadsItem (h : HeaderStageState) (w : ScoreWriterState) (item : Result Char Fault) (new : ScoreWriterState) : Type 0 where
@@ -187,7 +187,7 @@ pub record ReadsItem (h : HeaderStageState) (w : ScoreWriterState) (item : Resul
 module _ (w new : ScoreWriterState) (item : Result Char Fault) (a : WritesAt w (event_of_item item) [] new) (steady : IsSteady w new) where
   settled_item : (h : HeaderStageState) → GoTogether h w → IsSettled w → ReadsItem h w item new
   settled_item h together settled =
-      let after : IsSettled new = settled_behind w new item a (λ book other from_heads more. settled book other (event_of_item item ∷ from_heads) (event_of_item item ∷ more)) in
+      let after : IsSettled new = settled_after w new item a (λ book other from_heads more. settled book other (event_of_item item ∷ from_heads) (event_of_item item ∷ more)) in
       record {
         writes = record {
           output = a.output;
@@ -195,28 +195,28 @@ module _ (w new : ScoreWriterState) (item : Result Char Fault) (a : WritesAt w (
           out = a.out;
           messages = a.messages;
           law = λ ending more.
-              settled (book_behind h (item ∷ more)) [] (head_events_left h ending (item ∷ more)) (event_of_item item ∷ [])
+              settled (book_after h (item ∷ more)) [] (head_events_left h ending (item ∷ more)) (event_of_item item ∷ [])
               ∙ (a.law [] [] (no_book item [] [])
-              ∙ ap (λ (s : Streams). after_bytes a.output a.lines s) (after [] (book_behind h more) [] (head_events_left h ending more)));
+              ∙ ap (λ (s : Streams). after_bytes a.output a.lines s) (after [] (book_after h more) [] (head_events_left h ending more)));
         };
         together = record { limits = together.limits ∙ sym steady.limits; headed = λ e. inr after; book = together.book; short = together.short };
       }
 
 character_read : (limits : Limits) (hasher : DefaultHasher) (book : List (List ℕ × List ℕ)) (w new : ScoreWriterState) (c : Char) → WritesAt w (head_event.Body c) [] new
-    → (let h : HeaderStageState = record { limits = limits; progress = behind book; book = book; hasher = hasher } in WritesItems h w (Ok c ∷ []) h new)
+    → (let h : HeaderStageState = record { limits = limits; progress = after_headers book; book = book; hasher = hasher } in WritesItems h w (Ok c ∷ []) h new)
 character_read limits hasher book w new c a =
-    let h : HeaderStageState = record { limits = limits; progress = behind book; book = book; hasher = hasher } in
+    let h : HeaderStageState = record { limits = limits; progress = after_headers book; book = book; hasher = hasher } in
     record {
       output = a.output;
       lines = a.lines;
       out = a.out;
       messages = a.messages;
       law = λ ending more.
-          ap (λ (from_heads : List HeadEvent). streams_of w (book_behind h more) from_heads) (given_next h ending (Ok c) more)
-          ∙ a.law (book_behind h more) (head_events_left h ending more) tt;
+          ap (λ (from_heads : List HeadEvent). streams_of w (book_after h more) from_heads) (given_next h ending (Ok c) more)
+          ∙ a.law (book_after h more) (head_events_left h ending more) tt;
     }
 
-stop_read : IsStopLast → (h : HeaderStageState) (book : List (List ℕ × List ℕ)) (w new : ScoreWriterState) (fault : Fault) → h.progress ≡ behind book → WritesAt w (head_event.Stop fault) [] new
+stop_read : IsStopLast → (h : HeaderStageState) (book : List (List ℕ × List ℕ)) (w new : ScoreWriterState) (fault : Fault) → h.progress ≡ after_headers book → WritesAt w (head_event.Stop fault) [] new
     → IsSettled new → WritesItems h w (Err fault ∷ []) h new
 stop_read last h book w new fault progress a settled = record {
   output = a.output;
@@ -225,26 +225,26 @@ stop_read last h book w new fault progress a settled = record {
   messages = a.messages;
   law = λ ending more.
       let rest = head_events_left (stage_after h (Err fault)) ending more in
-      ap (λ (from_heads : List HeadEvent). streams_of w (book_behind h (Err fault ∷ more)) from_heads)
+      ap (λ (from_heads : List HeadEvent). streams_of w (book_after h (Err fault ∷ more)) from_heads)
       (given_next h ending (Err fault) more ∙ ap (λ (p : HeadProgress). events_of_input h.limits p (Err fault) ++ rest) progress)
-      ∙ (a.law (book_behind h (Err fault ∷ more)) rest tt
-      ∙ ap (λ (s : Streams). after_bytes a.output a.lines s) (settled (book_behind h (Err fault ∷ more)) (book_behind h more) rest (head_events_left h ending more)));
+      ∙ (a.law (book_after h (Err fault ∷ more)) rest tt
+      ∙ ap (λ (s : Streams). after_bytes a.output a.lines s) (settled (book_after h (Err fault ∷ more)) (book_after h more) rest (head_events_left h ending more)));
 }
 
 module _ (last : IsStopLast) (limits : Limits) (hasher : DefaultHasher) (w new : ScoreWriterState) (headed : w.writer.written.headed ≡ true) (steady : IsSteady w new) where
-  behind_item : (progress : HeadProgress) (book : List (List ℕ × List ℕ)) (item : Result Char Fault) → WritesAt w (event_of_item item) [] new → IsBehind progress
+  after_item : (progress : HeadProgress) (book : List (List ℕ × List ℕ)) (item : Result Char Fault) → WritesAt w (event_of_item item) [] new → IsAfterHeaders progress
       → (let h : HeaderStageState = record { limits = limits; progress = progress; book = book; hasher = hasher } in GoTogether h w → ReadsItem h w item new)
-  behind_item (reading t) book item a is together = absurd is
-  behind_item over book item a is together = absurd is
-  behind_item (behind other) book (Ok c) a is together = record {
-    writes = subst (λ (b : List (List ℕ × List ℕ)). let h : HeaderStageState = record { limits = limits; progress = behind b; book = book; hasher = hasher } in WritesItems h w (Ok c ∷ []) h new)
+  after_item (reading t) book item a is together = absurd is
+  after_item over book item a is together = absurd is
+  after_item (after_headers other) book (Ok c) a is together = record {
+    writes = subst (λ (b : List (List ℕ × List ℕ)). let h : HeaderStageState = record { limits = limits; progress = after_headers b; book = book; hasher = hasher } in WritesItems h w (Ok c ∷ []) h new)
         (sym together.book) (character_read limits hasher book w new c a);
     together = record { limits = together.limits ∙ sym steady.limits; headed = λ e. inl tt; book = together.book; short = together.short };
   }
-  behind_item (behind other) book (Err fault) a is together =
-      let settled : IsSettled new = settled_behind w new (Err fault) a (stop_in_body last w headed fault) in
+  after_item (after_headers other) book (Err fault) a is together =
+      let settled : IsSettled new = settled_after w new (Err fault) a (stop_in_body last w headed fault) in
       record {
-        writes = stop_read last (record { limits = limits; progress = behind other; book = book; hasher = hasher }) other w new fault refl a settled;
+        writes = stop_read last (record { limits = limits; progress = after_headers other; book = book; hasher = hasher }) other w new fault refl a settled;
         together = record { limits = together.limits ∙ sym steady.limits; headed = λ e. inr settled; book = together.book; short = together.short };
       }
 
@@ -252,8 +252,8 @@ pub reads_item : IsStopLast → (h : HeaderStageState) (w new : ScoreWriterState
     → ReadsItem h w item new
 reads_item last h w new item headed together a steady = by (together.headed headed)
   where
-    by : IsBehind h.progress ⊎ IsSettled w → ReadsItem h w item new
-    by (inl is) = behind_item last h.limits h.hasher w new headed steady h.progress h.book item a is together
+    by : IsAfterHeaders h.progress ⊎ IsSettled w → ReadsItem h w item new
+    by (inl is) = after_item last h.limits h.hasher w new headed steady h.progress h.book item a is together
     by (inr settled) = settled_item w new item a steady h together settled
 
 -- ---- no item

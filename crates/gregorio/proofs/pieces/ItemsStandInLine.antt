@@ -13,7 +13,7 @@ use Rattle.gabc_places.specs.declared.place.Char.{Char}
 use Rattle.gabc_places.specs.declared.place.Place.{Place}
 use Rattle.gabc_places.specs.witness.DecoderEvents.{DecoderStep, events_left as decoded_left, stop_with, take_byte, take_end, take_pending}
 use Rattle.gabc_headers.specs.HeadEvents.{emitted_by}
-use Rattle.gabc_headers.specs.witness.HeadEvents.{HeadProgress, reading, behind, over, IsBehind, events_left}
+use Rattle.gabc_headers.specs.witness.HeadEvents.{HeadProgress, reading, after_headers, over, IsAfterHeaders, events_left}
 use Rattle.gabc_score.specs.ScoreStage.{AreInLine}
 use Rattle.gregorio.specs.declared.source_ending.SourceEnding.{SourceEnding}
 use Rattle.gregorio.specs.declared.source_ending.SourceEnding.TheVariants.{Whole as Ended, Broken}
@@ -132,26 +132,26 @@ first_over_in_line : (limits : Limits) (items : List (Result Char Fault)) (place
 first_over_in_line limits [] place = tt
 first_over_in_line limits (x ∷ items) place = first_over_in_line limits items place
 
-body_in_line : (limits : Limits) (book : List (List ℕ × List ℕ)) (items : List (Result Char Fault)) (place : Place) → ItemsInLine place items → AreInLine place (concat_of (events_left limits (behind book) items))
+body_in_line : (limits : Limits) (book : List (List ℕ × List ℕ)) (items : List (Result Char Fault)) (place : Place) → ItemsInLine place items → AreInLine place (concat_of (events_left limits (after_headers book) items))
 body_in_line limits book [] place h = (tt, tt)
 body_in_line limits book (Ok x ∷ items) place h = (h.0, body_in_line limits book items (saturating_next_place x.place x.c) h.1)
 body_in_line limits book (Err fault ∷ items) place h = (tt, over_in_line limits items place)
 
 first_body_in_line : (limits : Limits) (book : List (List ℕ × List ℕ)) (items : List (Result Char Fault)) (place : Place) → ItemsInLine place items
-    → AreInLine place (concat_of (take (length items) (events_left limits (behind book) items)))
+    → AreInLine place (concat_of (take (length items) (events_left limits (after_headers book) items)))
 first_body_in_line limits book [] place h = tt
 first_body_in_line limits book (Ok x ∷ items) place h = (h.0, first_body_in_line limits book items (saturating_next_place x.place x.c) h.1)
 first_body_in_line limits book (Err fault ∷ items) place h = (tt, first_over_in_line limits items place)
 
-given_in_line : (limits : Limits) (progress : HeadProgress) (ending : SourceEnding) (items : List (Result Char Fault)) (place : Place) → IsBehind progress → ItemsInLine place items
+given_in_line : (limits : Limits) (progress : HeadProgress) (ending : SourceEnding) (items : List (Result Char Fault)) (place : Place) → IsAfterHeaders progress → ItemsInLine place items
     → AreInLine place (emitted_by (is_whole ending) items (events_left limits progress items))
-given_in_line limits (behind book) Ended items place is h = body_in_line limits book items place h
-given_in_line limits (behind book) Broken items place is h = first_body_in_line limits book items place h
+given_in_line limits (after_headers book) Ended items place is h = body_in_line limits book items place h
+given_in_line limits (after_headers book) Broken items place is h = first_body_in_line limits book items place h
 given_in_line limits (reading t) ending items place is h = absurd is
 given_in_line limits over ending items place is h = absurd is
 
 -- After the headers the first of the characters stands where the decoder does.
-pub left_in_line : (e : EngineState) → IsNear e.decoder.place e.decoder.taken → e.decoder.taken ≤ e.decoder.limit → e.decoder.limit ≤ 4294967295 → IsBehind e.heads.progress → (ending : SourceEnding) (bytes : List ℕ)
+pub left_in_line : (e : EngineState) → IsNear e.decoder.place e.decoder.taken → e.decoder.taken ≤ e.decoder.limit → e.decoder.limit ≤ 4294967295 → IsAfterHeaders e.heads.progress → (ending : SourceEnding) (bytes : List ℕ)
     → AreInLine e.decoder.place (head_events_left e.heads ending (items_left e ending bytes))
 left_in_line e near within most is ending bytes =
     given_in_line e.heads.limits e.heads.progress ending (items_left e ending bytes) e.decoder.place is

@@ -14,7 +14,7 @@ use Rattle.gabc_headers.specs.declared.head_event.HeadEvent.{HeadEvent}
 use Rattle.gabc_headers.specs.declared.head_event.HeadEvent.TheVariants as head_event
 use Rattle.gabc_headers.specs.Heads.{heads_of}
 use Rattle.gabc_headers.specs.HeadEvents.{event_of_book}
-use Rattle.gabc_headers.specs.witness.HeadEvents.{HeadProgress, reading, behind, over, events_by, events_left, events_of_input, new_findings, progress_after}
+use Rattle.gabc_headers.specs.witness.HeadEvents.{HeadProgress, reading, after_headers, over, events_by, events_left, events_of_input, new_findings, progress_after}
 use Rattle.gabc_score.specs.ScoreEvents.{HasNoEnd, ScoreOutput, Found, Stop, Syllable, End, fault_in, has_end, syllables_in}
 use Rattle.gabc_score.specs.witness.ScoreStage.{ScoreStageState, left_of}
 use Rattle.gabc_places.specs.Message.{message_text}
@@ -24,7 +24,7 @@ use Rattle.gregorio_jobs.specs.declared.job.Status.TheVariants.{ReadFault}
 use Rattle.gregorio.specs.declared.source_ending.SourceEnding.TheVariants.{Broken}
 use Rattle.gregorio.specs.Outcome.{fault_line, shown_line}
 use Rattle.gregorio.specs.Engine.{Brings, IsHeldText, IsPrompt, NothingWaits, is_running}
-use Rattle.gregorio.specs.witness.Engine.{EngineState, Written, after_heads, after_output, after_outputs, book_behind, ceased_ending, first_list, head_events_left, items_left, lines_of_outputs, status_of_ending, streams_from, streams_left, writes_heads}
+use Rattle.gregorio.specs.witness.Engine.{EngineState, Written, after_heads, after_output, after_outputs, book_after, ceased_ending, first_list, head_events_left, items_left, lines_of_outputs, status_of_ending, streams_from, streams_left, writes_heads}
 use Rattle.gregorio.specs.Streams.{Streams, count_after, last_text, texts_after}
 use Rattle.gregorio.specs.machine.ScoreWriter.{IsOver, IsSilent}
 use Rattle.gregorio.proofs.StreamsOfOutputs.{concat_first, first_false, said, second_empty, second_false}
@@ -145,8 +145,8 @@ no_end_by found (Err stopped) = by stopped.at_end
 no_end_of_input : (limits : Limits) (progress : HeadProgress) (x : Result Char Fault) → HasNoEnd (events_of_input limits progress x)
 no_end_of_input limits (reading t) (Ok c) = no_end_by (new_findings limits t (t ++ c.c ∷ [])) (heads_of limits (t ++ c.c ∷ []))
 no_end_of_input limits (reading t) (Err fault) = tt
-no_end_of_input limits (behind book) (Ok c) = tt
-no_end_of_input limits (behind book) (Err fault) = tt
+no_end_of_input limits (after_headers book) (Ok c) = tt
+no_end_of_input limits (after_headers book) (Err fault) = tt
 no_end_of_input limits over x = tt
 
 no_end_left : (limits : Limits) (progress : HeadProgress) (items : List (Result Char Fault)) → HasNoEnd (concat_of (take (length items) (events_left limits progress items)))
@@ -186,4 +186,4 @@ pub no_fault_is_kept_back : EndsAtTheEnd → (s : EngineState) → is_running s 
 no_fault_is_kept_back end s runs bytes none =
     let items = items_left s Broken bytes in
     let from_heads = head_events_left s.heads Broken items in
-    told s.written (book_behind s.heads items) from_heads (left_of s.score from_heads) (end s.score from_heads (no_end_left s.heads.limits s.heads.progress items)) (goes_on s.written.ended runs) none
+    told s.written (book_after s.heads items) from_heads (left_of s.score from_heads) (end s.score from_heads (no_end_left s.heads.limits s.heads.progress items)) (goes_on s.written.ended runs) none

@@ -11,7 +11,7 @@ use Rattle.gabc_places.specs.declared.place.Char.{Char}
 use Rattle.gabc_places.specs.declared.place.Place.{Place}
 use Rattle.gabc_headers.specs.declared.head_event.HeadEvent.{HeadEvent}
 use Rattle.gabc_headers.specs.declared.head_event.HeadEvent.TheVariants as head_event
-use Rattle.gabc_headers.specs.witness.HeadEvents.{HeaderStageState, HeadProgress, reading, behind, over, IsBehind, fresh_stage}
+use Rattle.gabc_headers.specs.witness.HeadEvents.{HeaderStageState, HeadProgress, reading, after_headers, over, IsAfterHeaders, fresh_stage}
 use Rattle.gabc_score.specs.declared.before.Preceding.{Preceding}
 use Rattle.gabc_score.specs.declared.score_machine.ScorePart.{ScorePart}
 use Rattle.gabc_score.specs.declared.score_machine.ScorePart.TheVariants as score_part
@@ -30,17 +30,17 @@ use Rattle.gregorio.proofs.pieces.WrittenGoesOn.{counted, force_past, went_on_pa
 -- ---- in the body
 
 pub record IsInBody (progress : HeadProgress) (part : ScorePart) : Type 0 where
-  pub behind_them : IsBehind progress
+  pub after_them : IsAfterHeaders progress
   pub body : part ≡ score_part.Body
 
 pub in_body : (progress : HeadProgress) (part : ScorePart) (headed : Bool) → headed ≡ true → AreInOnePart progress part headed → IsInBody progress part
 in_body (reading t) part headed is parts = absurd (false≢true (sym parts.written_so ∙ is))
-in_body (behind book) part headed is parts = record { behind_them = tt; body = parts.in_part }
+in_body (after_headers book) part headed is parts = record { after_them = tt; body = parts.in_part }
 in_body over part headed is parts = absurd parts
 
-pub one_part : (progress : HeadProgress) (part : ScorePart) (headed : Bool) → headed ≡ true → IsBehind progress → part ≡ score_part.Body → AreInOnePart progress part headed
+pub one_part : (progress : HeadProgress) (part : ScorePart) (headed : Bool) → headed ≡ true → IsAfterHeaders progress → part ≡ score_part.Body → AreInOnePart progress part headed
 one_part (reading t) part headed is past body = absurd past
-one_part (behind book) part headed is past body = record { in_part = body; written_so = is }
+one_part (after_headers book) part headed is past body = record { in_part = body; written_so = is }
 one_part over part headed is past body = absurd past
 
 abbrev place_at : ℕ → ℕ → Place
@@ -78,8 +78,8 @@ body_preceding x outputs part p body = rw body refl
 one_more_whole : (x : Char) (part : ScorePart) (n : ℕ) → part ≡ score_part.Body → most_whole part (head_event.Body x) n ≡ n + 1
 one_more_whole x part n body = rw body refl
 
-pub near_behind : (d e : DecoderState) (x : Char) → MovesOn d (Ok x ∷ []) e → IsNear d.place d.taken → IsNear e.place e.taken
-near_behind d e x moves near =
+pub near_after : (d e : DecoderState) (x : Char) → MovesOn d (Ok x ∷ []) e → IsNear d.place d.taken → IsNear e.place e.taken
+near_after d e x moves near =
     subst (λ (p : Place). IsNear p e.taken) (sym moves.place)
     (subst (λ (n : ℕ). IsNear (next_place x.place x.c) n) (sym moves.taken) (near_next x.place x.c d.taken (subst (λ (p : Place). IsNear p d.taken) (sym moves.here) near)))
 
@@ -98,11 +98,11 @@ module _ (d e : DecoderState) (h : HeaderStageState) (old : ScoreStageState) (w 
       let taken = was.taken headed in
       let counted_on = moves.taken in
       let same = ap (λ (q : Preceding). q.syllables) before in
-      let next : IsNear e.place e.taken = near_behind d e x moves (record { column = was.column; near = was.near }) in
+      let next : IsNear e.place e.taken = near_after d e x moves (record { column = was.column; near = was.near }) in
       record {
         runs = moves.ended ∙ was.runs;
         limit = moves.limit ∙ (was.limit ∙ ap (λ (l : Limits). l.input) (sym limits));
-        parts = one_part h.progress new.score.part new.writer.written.headed still inside.behind_them body;
+        parts = one_part h.progress new.score.part new.writer.written.headed still inside.after_them body;
         none = λ un. absurd (false≢true (sym un ∙ still));
         count = λ is. ap (λ (v : Written). v.count) p.written ∙ (counted p.outputs w old.before headed (was.count headed) ∙ sym same);
         taken = λ is. omega (arith, whole, taken, counted_on);

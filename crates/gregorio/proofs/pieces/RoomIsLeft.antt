@@ -12,7 +12,7 @@ use Rattle.gabc_headers.specs.declared.head_event.HeadEvent.TheVariants as head_
 use Rattle.gabc_headers.specs.Heads.{heads_of}
 use Rattle.gabc_score.specs.ScoreStage.{is_final}
 use Rattle.gabc_headers.specs.HeadEvents.{event_of_book}
-use Rattle.gabc_headers.specs.witness.HeadEvents.{HeadProgress, reading, behind, over, events_by, events_at_end, events_of_end, events_of_input, new_findings}
+use Rattle.gabc_headers.specs.witness.HeadEvents.{HeadProgress, reading, after_headers, over, events_by, events_at_end, events_of_end, events_of_input, new_findings}
 use Rattle.gregorio.specs.machine.RunWriter.{heads_room, line_room, most_waiting, room_without_notes, syllable_room}
 use Rattle.gregorio.specs.machine.ScoreWriter.{ScoreWriterState, FitsEnd, FitsEvents, HasRoom, IsReserved, event_room, events_room}
 use Rattle.gregorio.specs.machine.Engine.{IsNoCharacter, LeavesRoom, event_of_item}
@@ -142,8 +142,8 @@ pub input_is_few : (format : Format) (limit : ℕ) (limits : Limits) (progress :
     → AreFew format limit false (events_of_input limits progress item)
 input_is_few format limit limits (reading t) (Ok c) few = by_heads format limit (new_findings limits t (t ++ c.c ∷ [])) (heads_of limits (t ++ c.c ∷ [])) few
 input_is_few format limit limits (reading t) (Err fault) few = stop_is_few format limit false fault [] (omega arith)
-input_is_few format limit limits (behind book) (Ok c) few = one_is_few format limit c
-input_is_few format limit limits (behind book) (Err fault) few = stop_is_few format limit false fault [] (omega arith)
+input_is_few format limit limits (after_headers book) (Ok c) few = one_is_few format limit c
+input_is_few format limit limits (after_headers book) (Err fault) few = stop_is_few format limit false fault [] (omega arith)
 input_is_few format limit limits over item few = none_are_few format limit false
 
 pub item_is_few : (format : Format) (limit : ℕ) (item : Result Char Fault) → AreFew format limit false (event_of_item item ∷ [])
@@ -158,7 +158,7 @@ at_end_few (Err stopped) = omega arith
 
 pub one_at_end : (limits : Limits) (progress : HeadProgress) → length (events_of_end limits progress) ≤ 1
 one_at_end limits (reading t) = at_end_few (heads_of limits t)
-one_at_end limits (behind book) = omega arith
+one_at_end limits (after_headers book) = omega arith
 one_at_end limits over = omega arith
 
 end_is_few : (format : Format) (limit : ℕ) (limits : Limits) (progress : HeadProgress) → AreFew format limit true (events_of_end limits progress)
@@ -167,14 +167,14 @@ end_is_few format limit limits (reading t) = by (heads_of limits t)
     by : (r : Result Heads HeadFault) → AreFew format limit true (events_at_end r)
     by (Ok heads) = none_are_few format limit true
     by (Err stopped) = stop_is_few format limit true stopped.fault [] (omega arith)
-end_is_few format limit limits (behind book) = record { count = omega arith; room = omega arith }
+end_is_few format limit limits (after_headers book) = record { count = omega arith; room = omega arith }
 end_is_few format limit limits over = none_are_few format limit true
 
 -- and what a fault brings before it
 fault_is_few : (format : Format) (limit : ℕ) (limits : Limits) (progress : HeadProgress) (fault : Fault) (later : Limits) (last : HeadProgress)
     → AreFew format limit true (events_of_input limits progress (Err fault) ++ events_of_end later last)
 fault_is_few format limit limits (reading t) fault later last = let one = one_at_end later last in stop_is_few format limit true fault (events_of_end later last) (omega (arith, one))
-fault_is_few format limit limits (behind book) fault later last = let one = one_at_end later last in stop_is_few format limit true fault (events_of_end later last) (omega (arith, one))
+fault_is_few format limit limits (after_headers book) fault later last = let one = one_at_end later last in stop_is_few format limit true fault (events_of_end later last) (omega (arith, one))
 fault_is_few format limit limits over fault later last = end_is_few format limit later last
 
 pub room_for_end : (w : ScoreWriterState) → HasRoom w → FitsEnd w

@@ -16,7 +16,7 @@ use Rattle.gabc_places.specs.declared.place.Place.{Place}
 use Rattle.gabc_places.specs.witness.DecoderEvents as decoder
 use Rattle.gabc_headers.specs.HeadEvents.{emitted_by}
 use Rattle.gabc_headers.specs.declared.head_event.HeadEvent.{HeadEvent}
-use Rattle.gabc_headers.specs.witness.HeadEvents.{HeaderStageState, HeadProgress, IsBehind, behind, over, reading}
+use Rattle.gabc_headers.specs.witness.HeadEvents.{HeaderStageState, HeadProgress, IsAfterHeaders, after_headers, over, reading}
 use Rattle.gabc_score.specs.GivesSyllables.{next_after}
 use Rattle.gabc_score.specs.ScoreStage.{Counts}
 use Rattle.gabc_score.specs.ScoreReports.{IsAt}
@@ -35,9 +35,9 @@ use Rattle.gregorio.specs.machine.RunWriter.{RunWriterState, TakesRuns, outputs_
 use Rattle.gregorio.specs.machine.ScoreWriter.{ScoreWriterState, WritesRun, streams_of}
 use Rattle.gregorio.specs.machine.TellsInStep.{IsTelling}
 use Rattle.gabc_neumes.specs.InForce.{nothing_in_force}
-use Rattle.gregorio.specs.witness.Engine.{after_output, after_outputs, Written, book_behind, head_events_left, lines_of_outputs, texts_of_outputs}
+use Rattle.gregorio.specs.witness.Engine.{after_output, after_outputs, Written, book_after, head_events_left, lines_of_outputs, texts_of_outputs}
 use Rattle.gregorio.proofs.pieces.BytesAreTaken.{items_taken}
-use Rattle.gregorio.proofs.pieces.ItemsAreRead.{inputs_after, past_behind}
+use Rattle.gregorio.proofs.pieces.ItemsAreRead.{inputs_after, past_after}
 use Rattle.gregorio.proofs.pieces.PartsStayInStep.{IsInBody, in_body, one_part}
 use Rattle.gregorio.proofs.pieces.RunIsWritten.{run_counted, run_law, same_force, syllables_of}
 use Rattle.gregorio.proofs.pieces.TextOfHeaders.{headed_read}
@@ -82,33 +82,33 @@ module _ (bytes more : List ℕ) (lists rest : List (List (Result Char Fault))) 
 -- ---- what a writer writes
 
 module _ (w new : ScoreWriterState) (at : Place) (t : List ℕ) (r : WritesRun w at t new) (headed : w.writer.written.headed ≡ true) where
-  run_behind : (limits : Limits) (hasher : DefaultHasher) (book : List (List ℕ × List ℕ)) (ending : SourceEnding) (more : List (Result Char Fault))
-      → (let h : HeaderStageState = record { limits = limits; progress = behind book; book = book; hasher = hasher } in
+  run_after : (limits : Limits) (hasher : DefaultHasher) (book : List (List ℕ × List ℕ)) (ending : SourceEnding) (more : List (Result Char Fault))
+      → (let h : HeaderStageState = record { limits = limits; progress = after_headers book; book = book; hasher = hasher } in
       let outputs = outputs_of_syllables r.syllables in
       streams_of_items h w ending (items_of at t ++ more)
       ≡ after_bytes (texts_of_outputs w.writer.written outputs) (lines_of_outputs w.writer.written outputs) (streams_of_items h new ending more))
-  run_behind limits hasher book ending more =
-      let h : HeaderStageState = record { limits = limits; progress = behind book; book = book; hasher = hasher } in
+  run_after limits hasher book ending more =
+      let h : HeaderStageState = record { limits = limits; progress = after_headers book; book = book; hasher = hasher } in
       let all = items_of at t ++ more in
-      ap (λ (b : List (List ℕ × List ℕ)). streams_of w b (head_events_left h ending all)) (past_behind limits hasher book all ∙ sym (past_behind limits hasher book more))
-      ∙ (ap (λ (from_heads : List HeadEvent). streams_of w (book_behind h more) from_heads) (inputs_after limits hasher book (placed_characters_from at t) ending more)
-      ∙ run_law w at t new r headed (book_behind h more) (head_events_left h ending more))
+      ap (λ (b : List (List ℕ × List ℕ)). streams_of w b (head_events_left h ending all)) (past_after limits hasher book all ∙ sym (past_after limits hasher book more))
+      ∙ (ap (λ (from_heads : List HeadEvent). streams_of w (book_after h more) from_heads) (inputs_after limits hasher book (placed_characters_from at t) ending more)
+      ∙ run_law w at t new r headed (book_after h more) (head_events_left h ending more))
 
-  run_in_body : (limits : Limits) (hasher : DefaultHasher) (progress : HeadProgress) (book : List (List ℕ × List ℕ)) (ending : SourceEnding) (more : List (Result Char Fault)) → IsBehind progress
+  run_in_body : (limits : Limits) (hasher : DefaultHasher) (progress : HeadProgress) (book : List (List ℕ × List ℕ)) (ending : SourceEnding) (more : List (Result Char Fault)) → IsAfterHeaders progress
       → (let h : HeaderStageState = record { limits = limits; progress = progress; book = book; hasher = hasher } in
       let outputs = outputs_of_syllables r.syllables in
       GoTogether h w → streams_of_items h w ending (items_of at t ++ more)
       ≡ after_bytes (texts_of_outputs w.writer.written outputs) (lines_of_outputs w.writer.written outputs) (streams_of_items h new ending more))
   run_in_body limits hasher (reading t) book ending more is together = absurd is
   run_in_body limits hasher over book ending more is together = absurd is
-  run_in_body limits hasher (behind other) book ending more is together =
-      subst (λ (b : List (List ℕ × List ℕ)). let h : HeaderStageState = record { limits = limits; progress = behind b; book = book; hasher = hasher } in
+  run_in_body limits hasher (after_headers other) book ending more is together =
+      subst (λ (b : List (List ℕ × List ℕ)). let h : HeaderStageState = record { limits = limits; progress = after_headers b; book = book; hasher = hasher } in
       let outputs = outputs_of_syllables r.syllables in
       streams_of_items h w ending (items_of at t ++ more)
       ≡ after_bytes (texts_of_outputs w.writer.written outputs) (lines_of_outputs w.writer.written outputs) (streams_of_items h new ending more))
-      (sym together.book) (run_behind limits hasher book ending more)
+      (sym together.book) (run_after limits hasher book ending more)
 
-  run_of_items : (h : HeaderStageState) → IsBehind h.progress → GoTogether h w → WritesItems h w (items_of at t) h new
+  run_of_items : (h : HeaderStageState) → IsAfterHeaders h.progress → GoTogether h w → WritesItems h w (items_of at t) h new
   run_of_items h is together = record {
     output = texts_of_outputs w.writer.written (outputs_of_syllables r.syllables);
     lines = lines_of_outputs w.writer.written (outputs_of_syllables r.syllables);
@@ -150,12 +150,12 @@ module _ (d e : DecoderState) (h : HeaderStageState) (w new : ScoreWriterState) 
       ap (λ (xs : List (Result Char Fault)). after_bytes w.writer.out.items w.writer.messages.items (streams_of_items h w ending xs))
       (ap (λ (lists : List (List (Result Char Fault))). emitted_by (is_whole ending) (text ++ more) lists) (skips.joined more)
       ∙ emitted_first text more skips.lists rest items skips.one_each skips.all ending)
-      ∙ items_taken h h w new items (emitted_by (is_whole ending) more rest) ending (run_of_items w new d.place (chars text) r takes.headed h inside.behind_them together)
+      ∙ items_taken h h w new items (emitted_by (is_whole ending) more rest) ending (run_of_items w new d.place (chars text) r takes.headed h inside.after_them together)
 
   pub run_together : GoTogether h w → GoTogether h new
   run_together together = record {
     limits = together.limits ∙ sym r.gives.limits;
-    headed = λ headed. inl inside.behind_them;
+    headed = λ headed. inl inside.after_them;
     book = together.book;
     short = together.short;
   }
@@ -191,7 +191,7 @@ module _ (d e : DecoderState) (h : HeaderStageState) (w new : ScoreWriterState) 
       record {
         runs = skips.ended ∙ was.runs;
         limit = skips.limit ∙ (was.limit ∙ ap (λ (l : Limits). l.input) (sym gives.limits));
-        parts = one_part h.progress new.score.part new.writer.written.headed still_headed inside.behind_them (gives.part ∙ inside.body);
+        parts = one_part h.progress new.score.part new.writer.written.headed still_headed inside.after_them (gives.part ∙ inside.body);
         none = λ un. absurd (false≢true (sym un ∙ still_headed));
         count = λ headed. written ∙ sym (ap (λ (p : Preceding). p.syllables) gives.before_held);
         taken = λ headed. omega (arith, before, whole, few, taken);

@@ -7,7 +7,7 @@ use Rattle.gabc_places.specs.declared.place.Char.{Char}
 use Rattle.gabc_places.specs.witness.DecoderEvents as decoder
 use Rattle.gabc_places.specs.declared.limits.Limits.{Limits}
 use Rattle.gabc_places.specs.declared.place.Place.{Place}
-use Rattle.gabc_headers.specs.witness.HeadEvents.{HeadProgress, reading, behind, over, IsBehind, events_left}
+use Rattle.gabc_headers.specs.witness.HeadEvents.{HeadProgress, reading, after_headers, over, IsAfterHeaders, events_left}
 use Rattle.gabc_neumes.specs.InForce.{InForce}
 use Rattle.gabc_score.specs.ScoreStage.{AreInLine}
 use Rattle.gabc_score.specs.ScoreReports.{IsAt, before_of, before_with, held_of, in_body as in_body_of, openers_of}
@@ -21,7 +21,7 @@ use Rattle.gregorio_state.specs.Fields.{PhaseFields, ScoreFields, StateFields, I
 use Rattle.gregorio.specs.declared.source_ending.SourceEnding.{SourceEnding}
 use Rattle.gregorio.specs.Saved.{held_count, held_text, phase_fields, score_fields, state_of}
 use Rattle.gregorio.specs.witness.CanRun.{CanRun}
-use Rattle.gregorio.specs.witness.Engine.{EngineState, book_behind, head_events_left, items_left, streams_left}
+use Rattle.gregorio.specs.witness.Engine.{EngineState, book_after, head_events_left, items_left, streams_left}
 use Rattle.gregorio.specs.machine.InStep.{AreInOnePart}
 use Rattle.gabc_write.specs.SavedAlike.{AreSavedAlike}
 use Rattle.gregorio.specs.machine.SavedAlike.{WriteTheSame}
@@ -30,7 +30,7 @@ use Rattle.gregorio.proofs.pieces.ItemsStandInLine.{left_in_line}
 use Rattle.gregorio.proofs.pieces.PartsStayInStep.{IsInBody, in_body}
 use Rattle.gregorio.proofs.pieces.SavedInHeaders.{limits_saved, written_saved}
 use Rattle.gregorio.proofs.pieces.StatesAreWhole.{score_in_body}
-use Rattle.gregorio.proofs.pieces.StreamsAgree.{no_matter_which_book_behind, streams_agree}
+use Rattle.gregorio.proofs.pieces.StreamsAgree.{no_matter_which_book_after, streams_agree}
 
 -- ---- the syllable that is held
 
@@ -67,20 +67,20 @@ abbrev fields_in : ScoreFields → PhaseFields → ScoreFields
 fields_in d (InHeaders text) = d
 fields_in d (InScore f) = f
 
-phase_in_body : (progress : HeadProgress) (force : InForce) (s : ScoreStageState) → IsBehind progress → phase_fields progress force s ≡ InScore (score_fields force s)
+phase_in_body : (progress : HeadProgress) (force : InForce) (s : ScoreStageState) → IsAfterHeaders progress → phase_fields progress force s ≡ InScore (score_fields force s)
 phase_in_body (reading t) force s h = absurd h
-phase_in_body (behind book) force s h = refl
+phase_in_body (after_headers book) force s h = refl
 phase_in_body over force s h = absurd h
 
 -- a stage of headers is after them, and the headers are written
-record IsBehindHeads (progress : HeadProgress) (part : ScorePart) (headed : Bool) : Type 0 where
+record IsAfterHeads (progress : HeadProgress) (part : ScorePart) (headed : Bool) : Type 0 where
   pub inside : IsInBody progress part
   pub written : headed ≡ true
 
 body_by_phase : (progress : HeadProgress) (part : ScorePart) (headed : Bool) (force : InForce) (s : ScoreStageState) (f : ScoreFields) → phase_fields progress force s ≡ InScore f → AreInOnePart progress part headed
-    → IsBehindHeads progress part headed
+    → IsAfterHeads progress part headed
 body_by_phase (reading t) part headed force s f is parts = absurd (false≢true (ap is_in_score is))
-body_by_phase (behind book) part headed force s f is parts = record { inside = record { behind_them = tt; body = parts.in_part }; written = parts.written_so }
+body_by_phase (after_headers book) part headed force s f is parts = record { inside = record { after_them = tt; body = parts.in_part }; written = parts.written_so }
 body_by_phase over part headed force s f is parts = absurd parts
 
 -- In the body it reports of a text.
@@ -90,7 +90,7 @@ pub record TellsThere (e : EngineState) : Type 0 where
   pub tells : TellsInBody e.decoder e.score
   pub stands : IsAt e.score.held.next e.score.body.part
 
-tells_there : (e : EngineState) → CanRun e → IsBehindHeads e.heads.progress e.score.part e.written.headed → TellsThere e
+tells_there : (e : EngineState) → CanRun e → IsAfterHeads e.heads.progress e.score.part e.written.headed → TellsThere e
 tells_there e run is =
     let tells = run.tells.body is.written run.decoder.within in
     record {
@@ -108,7 +108,7 @@ module _ (one other : EngineState) (run : CanRun one) (other_run : CanRun other)
   here = tells_there one run (record { inside = in_body one.heads.progress one.score.part one.written.headed headed run.step.parts; written = headed })
 
   phase : phase_fields other.heads.progress other.written.force other.score ≡ InScore fields
-  phase = sym (ap (λ (s : StateFields). s.phase) same) ∙ phase_in_body one.heads.progress one.written.force one.score here.inside.behind_them
+  phase = sym (ap (λ (s : StateFields). s.phase) same) ∙ phase_in_body one.heads.progress one.written.force one.score here.inside.after_them
 
   pub there : TellsThere other
   there = tells_there other other_run (body_by_phase other.heads.progress other.score.part other.written.headed other.written.force other.score fields phase other_run.step.parts)
@@ -119,10 +119,10 @@ module _ (one other : EngineState) (run : CanRun one) (other_run : CanRun other)
       let limit = run.step.limit in
       let most = one.score.limits.in_range.input_most in
       subst (λ (at : Place). AreInLine at (head_events_left one.heads ending (items_left one ending bytes))) (sym here.tells.next)
-      (left_in_line one (record { column = run.step.column; near = run.step.near }) run.decoder.within (omega (arith, limit, most)) here.inside.behind_them ending bytes)
+      (left_in_line one (record { column = run.step.column; near = run.step.near }) run.decoder.within (omega (arith, limit, most)) here.inside.after_them ending bytes)
 
   same_fields : fields ≡ score_fields other.written.force other.score
-  same_fields = sym (ap (fields_in fields) phase) ∙ ap (fields_in fields) (phase_in_body other.heads.progress other.written.force other.score there.inside.behind_them)
+  same_fields = sym (ap (fields_in fields) phase) ∙ ap (fields_in fields) (phase_in_body other.heads.progress other.written.force other.score there.inside.after_them)
 
   module _ (within : ReportsWithin one.score) (other_within : ReportsWithin other.score) where
     abbrev held : Option UnplacedSyllable
@@ -204,5 +204,5 @@ bodies_agree one other written headed decoded given gives ending bytes =
     let items = items_left one ending bytes in
     let from_heads = head_events_left one.heads ending items in
     streams_agree one other ending bytes written (decoded bytes) given
-    (no_matter_which_book_behind one.written (book_behind one.heads items) (book_behind other.heads items) from_heads (left_of one.score from_heads) headed)
+    (no_matter_which_book_after one.written (book_after one.heads items) (book_after other.heads items) from_heads (left_of one.score from_heads) headed)
     (gives ending bytes)

@@ -15,7 +15,7 @@ use Rattle.gabc_places.specs.declared.limits.Limits.{Limits}
 use Rattle.gabc_places.specs.declared.place.Char.{Char}
 use Rattle.gabc_places.specs.declared.place.Place.{Place}
 use Rattle.gabc_headers.specs.declared.head_event.HeadEvent.{HeadEvent}
-use Rattle.gabc_headers.specs.witness.HeadEvents.{HeaderStageState, HeadProgress, reading, behind, over, events_left, text_held}
+use Rattle.gabc_headers.specs.witness.HeadEvents.{HeaderStageState, HeadProgress, reading, after_headers, over, events_left, text_held}
 use Rattle.gabc_neumes.specs.InForce.{InForce}
 use Rattle.gabc_score.specs.declared.score_machine.ScorePart.{ScorePart}
 use Rattle.gabc_score.specs.declared.score_machine.ScorePart.TheVariants as score_part
@@ -26,7 +26,7 @@ use Rattle.gregorio.specs.declared.source_ending.SourceEnding.{SourceEnding}
 use Rattle.gregorio.specs.Saved.{phase_fields, state_of}
 use Rattle.gregorio.specs.Engine.{StillRuns}
 use Rattle.gregorio.specs.witness.CanRun.{CanRun}
-use Rattle.gregorio.specs.witness.Engine.{EngineState, book_behind, head_events_left, items_left, streams_from, streams_left}
+use Rattle.gregorio.specs.witness.Engine.{EngineState, book_after, head_events_left, items_left, streams_from, streams_left}
 use Rattle.gregorio.specs.machine.InStep.{AreInOnePart, RunsInStep}
 use Rattle.gregorio.specs.machine.ReadsHeaders.{IsReadSoFar}
 use Rattle.gregorio.specs.machine.SavedAlike.{WriteTheSame}
@@ -76,7 +76,7 @@ record IsInHeads (progress : HeadProgress) (part : ScorePart) (headed : Bool) (t
 
 heads_by_written : (progress : HeadProgress) (part : ScorePart) (headed : Bool) → headed ≡ false → AreInOnePart progress part headed → IsInHeads progress part headed (encode_utf8_all (text_held progress))
 heads_by_written (reading t) part headed is parts = record { reads = refl; in_heads = parts.in_part; unheaded = is; bytes = refl }
-heads_by_written (behind book) part headed is parts = absurd (false≢true (sym is ∙ parts.written_so))
+heads_by_written (after_headers book) part headed is parts = absurd (false≢true (sym is ∙ parts.written_so))
 heads_by_written over part headed is parts = absurd parts
 
 abbrev is_in_headers : PhaseFields → Bool
@@ -93,7 +93,7 @@ phase_by_progress progress force s reads = ap (λ (p : HeadProgress). phase_fiel
 heads_by_phase : (progress : HeadProgress) (part : ScorePart) (headed : Bool) (force : InForce) (s : ScoreStageState) (text : List ℕ) → phase_fields progress force s ≡ InHeaders text → AreInOnePart progress part headed
     → IsInHeads progress part headed text
 heads_by_phase (reading t) part headed force s text is parts = record { reads = refl; in_heads = parts.in_part; unheaded = parts.written_so; bytes = ap text_in is }
-heads_by_phase (behind book) part headed force s text is parts = absurd (false≢true (ap is_in_headers is))
+heads_by_phase (after_headers book) part headed force s text is parts = absurd (false≢true (ap is_in_headers is))
 heads_by_phase over part headed force s text is parts = absurd parts
 
 -- the bytes of a text of an input report its characters
@@ -175,7 +175,7 @@ heads_agree one other alike decoded given ending bytes =
     let progress = alike.reads ∙ (ap (λ (t : List ℕ). reading t) alike.text ∙ sym alike.other_reads) in
     streams_agree one other ending bytes alike.written (decoded bytes) given
     (no_matter_which_book one.written one.heads.limits one.heads.hasher other.heads.hasher one.heads.progress one.heads.book other.heads.book ending items (left_of one.score from_heads)
-    ∙ ap (λ (h : HeaderStageState). streams_from one.written (book_behind h items) from_heads (left_of one.score from_heads)) (heads_but_book one.heads other.heads alike.limits progress))
+    ∙ ap (λ (h : HeaderStageState). streams_from one.written (book_after h items) from_heads (left_of one.score from_heads)) (heads_but_book one.heads other.heads alike.limits progress))
     (alike.gives from_heads)
 
 -- ---- an engine shows its parts

@@ -5,7 +5,7 @@ use Rattle.std.specs.Str.{chars}
 use Rattle.std.proofs.lemmas.Bool.{false≢true}
 use Rattle.std.proofs.lemmas.Str.{chars_from_encodes}
 use Rattle.gabc_places.specs.declared.limits.Limits.{Limits}
-use Rattle.gabc_headers.specs.witness.HeadEvents.{HeadProgress, reading, behind, over}
+use Rattle.gabc_headers.specs.witness.HeadEvents.{HeadProgress, reading, after_headers, over}
 use Rattle.gabc_neumes.specs.InForce.{InForce}
 use Rattle.gabc_score.specs.Before.{preceding_of}
 use Rattle.gabc_score.specs.HeldAgain.{MayBeHeld}
@@ -76,7 +76,7 @@ module _ (e : EngineState) where
       → IsPhaseRead e.score.limits (state_of e) (phase_fields p e.written.force e.score)
   phase_is_read (reading t) parts fields read score =
       subst (λ (u : List ℕ). GivesHeaders e.score.limits u e.decoder.place e.written.errors) (chars_from_encodes t (encode_utf8_all t) fields.is_text.utf8 refl) read.gives
-  phase_is_read (behind book) parts fields read score = score parts.written_so
+  phase_is_read (after_headers book) parts fields read score = score parts.written_so
   phase_is_read over parts fields read score = absurd parts
 
   pub state_is_read : CanRun e → AreStateFields (state_of e) → (e.written.headed ≡ true → IsScoreRead e.score.limits (score_fields e.written.force e.score)) → IsPhaseRead e.score.limits (state_of e) (state_of e).phase
@@ -87,7 +87,7 @@ module _ (e : EngineState) where
   texts_in : (p : HeadProgress) → e.written.headed ≡ true → AreInOnePart p e.score.part e.written.headed → ArePhaseFields (state_of e) (phase_fields p e.written.force e.score)
       → IsUtf8 (held_text e.score.before (held_of e.score)) × IsUtf8 (reading_of e.score)
   texts_in (reading t) headed parts fields = absurd (false≢true (sym parts.written_so ∙ headed))
-  texts_in (behind book) headed parts fields = (fields.held.is_text.utf8, fields.kept.utf8)
+  texts_in (after_headers book) headed parts fields = (fields.held.is_text.utf8, fields.kept.utf8)
   texts_in over headed parts fields = absurd parts
 
   pub texts_are_utf8 : CanRun e → e.written.headed ≡ true → AreStateFields (state_of e) → IsUtf8 (held_text e.score.before (held_of e.score)) × IsUtf8 (reading_of e.score)

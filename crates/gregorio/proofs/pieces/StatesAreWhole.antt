@@ -11,7 +11,7 @@ use Rattle.gabc_places.specs.declared.limits.Limits.{Limits}
 use Rattle.gabc_places.specs.declared.place.Place.{Place}
 use Rattle.gabc_places.proofs.texts.CharactersOfStrings.{chars-encode}
 use Rattle.gabc_headers.specs.HeldText.{IsHeld, IsWithinHeaders}
-use Rattle.gabc_headers.specs.witness.HeadEvents.{HeadProgress, reading, behind, over, IsInHeaders}
+use Rattle.gabc_headers.specs.witness.HeadEvents.{HeadProgress, reading, after_headers, over, IsInHeaders}
 use Rattle.gabc_score.proofs.resuming.ScoresAgree.{reads_in_body}
 use Rattle.gabc_score.specs.Canonical.{canonical}
 use Rattle.gabc_score.specs.ScoreReports.{before_of, before_with, held_in_body, held_of, in_body as in_body_of, openers_of}
@@ -202,7 +202,7 @@ module _ (parts : PartsTell) (e : EngineState) (may : CanRun e) (line : IfSome e
     is_text = text_bytes t read.text;
     within = parts.headers e.score.limits t (let least = e.score.limits.in_range.header_least in omega (arith, least)) read.gives.held;
   }
-  phase_is_whole (behind book) at read = score_is_whole at.in_part at.written_so
+  phase_is_whole (after_headers book) at read = score_is_whole at.in_part at.written_so
   phase_is_whole over at read = absurd at
 
   pub state_is_whole : AreStateFields (state_of e)
@@ -216,5 +216,5 @@ module _ (parts : PartsTell) (e : EngineState) (may : CanRun e) (line : IfSome e
 
 pub is_in_the_body : (progress : HeadProgress) (part : ScorePart) (headed : Bool) → (IsInHeaders progress → ⊥) → AreInOnePart progress part headed → part ≡ score_part.Body
 is_in_the_body (reading t) part headed past parts = absurd (past tt)
-is_in_the_body (behind book) part headed past parts = parts.in_part
+is_in_the_body (after_headers book) part headed past parts = parts.in_part
 is_in_the_body over part headed past parts = absurd parts

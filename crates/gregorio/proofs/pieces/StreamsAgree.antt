@@ -13,16 +13,16 @@ use Rattle.gabc_headers.specs.declared.heads.HeadFault.{HeadFault}
 use Rattle.gabc_headers.specs.declared.head_event.HeadEvent.{HeadEvent}
 use Rattle.gabc_headers.specs.Heads.{heads_of}
 use Rattle.gabc_headers.specs.HeadEvents as heads
-use Rattle.gabc_headers.specs.witness.HeadEvents.{HeaderStageState, HeadProgress, reading, behind, over, IsBehind, book_at, events_at_end, events_left, events_of_end, events_of_input, progress_after, stage_past}
+use Rattle.gabc_headers.specs.witness.HeadEvents.{HeaderStageState, HeadProgress, reading, after_headers, over, IsAfterHeaders, book_at, events_at_end, events_left, events_of_end, events_of_input, progress_after, stage_past}
 use Rattle.gabc_score.specs.ScoreEvents.{ScoreOutput}
 use Rattle.gabc_score.specs.witness.ScoreStage.{left_of}
 use Rattle.gregorio.specs.declared.source_ending.SourceEnding.{SourceEnding}
 use Rattle.gregorio.specs.declared.source_ending.SourceEnding.TheVariants.{Whole as Ended, Broken}
 use Rattle.gregorio.specs.Outcome.{is_whole}
-use Rattle.gregorio.specs.witness.Engine.{EngineState, Written, book_behind, head_events_left, is_heads, items_left, streams_from, streams_left}
+use Rattle.gregorio.specs.witness.Engine.{EngineState, Written, book_after, head_events_left, is_heads, items_left, streams_from, streams_left}
 use Rattle.gregorio.specs.machine.SavedAlike.{WriteTheSame}
 use Rattle.gregorio.proofs.StreamsOfOutputs.{first_false, in_body, second_false, without_heads}
-use Rattle.gregorio.proofs.pieces.ItemsAreRead.{behind_or_none}
+use Rattle.gregorio.proofs.pieces.ItemsAreRead.{after_or_none}
 
 -- ---- no headers are whole among these
 
@@ -49,7 +49,7 @@ none_at_end limits (reading t) = by (heads_of limits t)
     by : (r : Result Heads HeadFault) → NoHeads (events_at_end r)
     by (Ok whole) = refl
     by (Err stopped) = refl
-none_at_end limits (behind book) = refl
+none_at_end limits (after_headers book) = refl
 none_at_end limits over = refl
 
 -- ---- the book
@@ -62,9 +62,9 @@ any_hasher limits progress book hasher another (x ∷ items) =
     let after = progress_after limits progress x in any_hasher limits after (book_at after book) hasher another items
 
 -- after the line `%%` the book is the one that was read, whatever was before
-one_book : (limits : Limits) (hasher another : DefaultHasher) (progress : HeadProgress) (old other : List (List ℕ × List ℕ)) (items : List (Result Char Fault)) → IsBehind progress
+one_book : (limits : Limits) (hasher another : DefaultHasher) (progress : HeadProgress) (old other : List (List ℕ × List ℕ)) (items : List (Result Char Fault)) → IsAfterHeaders progress
     → (stage_past (record { limits = limits; progress = progress; book = book_at progress old; hasher = hasher }) items).book ≡ (stage_past (record { limits = limits; progress = progress; book = book_at progress other; hasher = another }) items).book
-one_book limits hasher another (behind book) old other items h = any_hasher limits (behind book) book hasher another items
+one_book limits hasher another (after_headers book) old other items h = any_hasher limits (after_headers book) book hasher another items
 one_book limits hasher another (reading t) old other items h = absurd h
 one_book limits hasher another over old other items h = absurd h
 
@@ -75,7 +75,7 @@ OneBookOrNone limits hasher another progress old other items =
     ⊎ NoHeads (concat_of (events_left limits progress items))
 
 books_next : (limits : Limits) (hasher another : DefaultHasher) (progress : HeadProgress) (old other : List (List ℕ × List ℕ)) (x : Result Char Fault) (items : List (Result Char Fault))
-    → IsBehind (progress_after limits progress x) ⊎ NoHeads (events_of_input limits progress x)
+    → IsAfterHeaders (progress_after limits progress x) ⊎ NoHeads (events_of_input limits progress x)
     → (let after = progress_after limits progress x in OneBookOrNone limits hasher another after (book_at after old) (book_at after other) items) → OneBookOrNone limits hasher another progress old other (x ∷ items)
 books_next limits hasher another progress old other x items (inl is) later = inl (one_book limits hasher another (progress_after limits progress x) old other items is)
 books_next limits hasher another progress old other x items (inr none) (inl same) = inl same
@@ -86,7 +86,7 @@ books_or_none : (limits : Limits) (hasher another : DefaultHasher) (progress : H
 books_or_none limits hasher another progress old other [] = inr (none_in_both (events_of_end limits progress) [] (none_at_end limits progress) refl)
 books_or_none limits hasher another progress old other (x ∷ items) =
     let after = progress_after limits progress x in
-    books_next limits hasher another progress old other x items (behind_or_none limits progress x) (books_or_none limits hasher another after (book_at after old) (book_at after other) items)
+    books_next limits hasher another progress old other x items (after_or_none limits progress x) (books_or_none limits hasher another after (book_at after old) (book_at after other) items)
 
 module _ (w : Written) (limits : Limits) (hasher another : DefaultHasher) (progress : HeadProgress) (old other : List (List ℕ × List ℕ)) (ending : SourceEnding) (items : List (Result Char Fault)) (lists : List (List ScoreOutput)) where
   abbrev one : HeaderStageState
@@ -98,20 +98,20 @@ module _ (w : Written) (limits : Limits) (hasher another : DefaultHasher) (progr
   abbrev given : List HeadEvent
   given = head_events_left one ending items
 
-  either_book : OneBookOrNone limits hasher another progress old other items → streams_from w (book_behind one items) given lists ≡ streams_from w (book_behind two items) given lists
+  either_book : OneBookOrNone limits hasher another progress old other items → streams_from w (book_after one items) given lists ≡ streams_from w (book_after two items) given lists
   either_book (inl same) = ap (λ (book : List (List ℕ × List ℕ)). streams_from w book given lists) same
   either_book (inr none) =
       let never = inr (none_emitted ending items (events_left limits progress items) none) in
-      without_heads w (book_behind one items) given lists never ∙ sym (without_heads w (book_behind two items) given lists never)
+      without_heads w (book_after one items) given lists never ∙ sym (without_heads w (book_after two items) given lists never)
 
   -- The book that a stage had before makes no difference.
-  pub no_matter_which_book : streams_from w (book_behind one items) given lists ≡ streams_from w (book_behind two items) given lists
+  pub no_matter_which_book : streams_from w (book_after one items) given lists ≡ streams_from w (book_after two items) given lists
   no_matter_which_book = either_book (books_or_none limits hasher another progress old other items)
 
 -- Where the headers are written, the book makes none.
-pub no_matter_which_book_behind : (w : Written) (book other : List (List ℕ × List ℕ)) (from_heads : List HeadEvent) (lists : List (List ScoreOutput)) → w.headed ≡ true
+pub no_matter_which_book_after : (w : Written) (book other : List (List ℕ × List ℕ)) (from_heads : List HeadEvent) (lists : List (List ScoreOutput)) → w.headed ≡ true
     → streams_from w book from_heads lists ≡ streams_from w other from_heads lists
-no_matter_which_book_behind w book other from_heads lists headed = in_body w book from_heads lists headed ∙ sym (in_body w other from_heads lists headed)
+no_matter_which_book_after w book other from_heads lists headed = in_body w book from_heads lists headed ∙ sym (in_body w other from_heads lists headed)
 
 -- ---- two engines
 
@@ -120,7 +120,7 @@ abbrev pub NoMatterWhichBook : EngineState → EngineState → SourceEnding → 
 NoMatterWhichBook one other ending bytes =
     let items = items_left one ending bytes in
     let from_heads = head_events_left one.heads ending items in
-    streams_from one.written (book_behind one.heads items) from_heads (left_of one.score from_heads) ≡ streams_from one.written (book_behind other.heads items) from_heads (left_of one.score from_heads)
+    streams_from one.written (book_after one.heads items) from_heads (left_of one.score from_heads) ≡ streams_from one.written (book_after other.heads items) from_heads (left_of one.score from_heads)
 
 -- Two engines have the same streams left: their decoders emit the same, and their stages of headers; their books make no difference; of what the scores give
 -- once these come, the same is written; and the same is written before.
@@ -130,10 +130,10 @@ pub streams_agree : (one other : EngineState) (ending : SourceEnding) (bytes : L
 streams_agree one other ending bytes written decoded given books same =
     let items = items_left one ending bytes in
     let from_heads = head_events_left one.heads ending items in
-    let book = book_behind other.heads items in
+    let book = book_after other.heads items in
     books
     ∙ (same one.written book
     ∙ (ap (λ (w : Written). streams_from w book from_heads (left_of other.score from_heads)) written
     ∙ (ap (λ (events : List HeadEvent). streams_from other.written book events (left_of other.score events)) (ap (λ (lists : List (List HeadEvent)). heads.emitted_by (is_whole ending) items lists) (given items))
-    ∙ ap (λ (xs : List (Result Char Fault)). let events = head_events_left other.heads ending xs in streams_from other.written (book_behind other.heads xs) events (left_of other.score events))
+    ∙ ap (λ (xs : List (Result Char Fault)). let events = head_events_left other.heads ending xs in streams_from other.written (book_after other.heads xs) events (left_of other.score events))
     (ap (λ (lists : List (List (Result Char Fault))). heads.emitted_by (is_whole ending) bytes lists) decoded))))

@@ -17,7 +17,7 @@ use Rattle.gabc_headers.specs.declared.heads.Heads.{Heads}
 use Rattle.gabc_headers.specs.declared.heads.HeadFault.{HeadFault}
 use Rattle.gabc_headers.specs.Heads.{heads_of}
 use Rattle.gabc_headers.specs.HeadEvents.{event_of_book}
-use Rattle.gabc_headers.specs.witness.HeadEvents.{HeaderStageState, HeadProgress, reading, behind, over, events_by, events_of_input, new_findings}
+use Rattle.gabc_headers.specs.witness.HeadEvents.{HeaderStageState, HeadProgress, reading, after_headers, over, events_by, events_of_input, new_findings}
 use Rattle.gabc_score.specs.declared.body_stage.BodyPart.{BodyPart}
 use Rattle.gabc_score.specs.declared.body_stage.BodyPart.TheVariants as part
 use Rattle.gabc_score.specs.declared.score_machine.ScorePart.{ScorePart}
@@ -47,10 +47,10 @@ line_next p c least = by (is_line_feed c)
     by true = omega arith
     by false = least
 
-line_behind : (d e : DecoderState) (item : Result Char Fault) → MovesOn d (item ∷ []) e → 1 ≤ d.place.line → 1 ≤ e.place.line
-line_behind d e (Ok x) moves least =
+line_after : (d e : DecoderState) (item : Result Char Fault) → MovesOn d (item ∷ []) e → 1 ≤ d.place.line → 1 ≤ e.place.line
+line_after d e (Ok x) moves least =
     subst (λ (p : Place). 1 ≤ p.line) (sym moves.place) (line_next x.place x.c (subst (λ (p : Place). 1 ≤ p.line) (sym moves.here) least))
-line_behind d e (Err fault) moves least = subst (λ (p : Place). 1 ≤ p.line) (sym moves.place) least
+line_after d e (Err fault) moves least = subst (λ (p : Place). 1 ≤ p.line) (sym moves.place) least
 
 -- ---- a character of the body
 
@@ -93,7 +93,7 @@ body_stays_telling h old new (Ok x) headed stay p = λ d e moves ran told runnin
     let on = went_on_past old.score old.writer.written (head_event.Body x) new p running in
     let t = told on.before in
     record {
-      line = line_behind d e (Ok x) moves t.line;
+      line = line_after d e (Ok x) moves t.line;
       body = λ still within.
           body_told d e h old new x moves (ran on.before) within p headed still (stay.runs d e moves ran running) (t.body headed (were_within d e h old new x moves (ran on.before) within));
     }
@@ -181,7 +181,7 @@ module _ (h now : HeaderStageState) (old mid new : ScoreWriterState) (item : Res
       let goes = subst (λ (w : Written). is_none w.ended ≡ true) same_written running in
       let runs = running_before (events_of_input h.limits h.progress item) old mid all goes in
       let is = stay.runs d e moves ran goes in
-      let least = line_behind d e item moves (told runs).line in
+      let least = line_after d e item moves (told runs).line in
       record {
         line = least;
         body = λ headed within.
@@ -203,7 +203,7 @@ fresh_tells limits d s is unheaded = λ running.
 
 heads_part : (progress : HeadProgress) (part : ScorePart) (headed : Bool) → headed ≡ false → AreInOnePart progress part headed → part ≡ score_part.Heads
 heads_part (reading t) part headed un parts = parts.in_part
-heads_part (behind book) part headed un parts = absurd (false≢true (sym un ∙ parts.written_so))
+heads_part (after_headers book) part headed un parts = absurd (false≢true (sym un ∙ parts.written_so))
 heads_part over part headed un parts = absurd parts
 
 pub in_heads_yet : (d : DecoderState) (h : HeaderStageState) (w : ScoreWriterState) → (is_none w.writer.written.ended ≡ true → RunsInStep d h w.score w.writer.written) → IsInHeads w

@@ -21,7 +21,7 @@ use Rattle.gabc_headers.specs.declared.heads.Heads.{Heads}
 use Rattle.gabc_headers.specs.declared.heads.HeadFault.{HeadFault}
 use Rattle.gabc_headers.specs.Heads.{heads_of}
 use Rattle.gabc_headers.specs.HeldText.{IsHeld, findings_held}
-use Rattle.gabc_headers.specs.witness.HeadEvents.{HeaderStageState, HeadProgress, reading, behind, over, events_by, events_of_input, fresh_stage, new_findings, progress_after, progress_by, stage_after}
+use Rattle.gabc_headers.specs.witness.HeadEvents.{HeaderStageState, HeadProgress, reading, after_headers, over, events_by, events_of_input, fresh_stage, new_findings, progress_after, progress_by, stage_after}
 use Rattle.gabc_score.specs.ScoreEvents.{ScoreOutput}
 use Rattle.gabc_score.specs.declared.score_machine.ScorePart.{ScorePart}
 use Rattle.gregorio.specs.Outcome.{is_error_finding}
@@ -53,11 +53,11 @@ found_errors limits (f ∷ fs) old new yet all running =
 
 -- ---- a character
 
-abbrev pub IsFoundBehind : Type 0
-IsFoundBehind = (limits : Limits) (t : List ℕ) (c : ℕ) → All IsScalar t → IsScalar c → IsHeld limits t → IsHeld limits (t ++ c ∷ [])
+abbrev pub IsFoundAfter : Type 0
+IsFoundAfter = (limits : Limits) (t : List ℕ) (c : ℕ) → All IsScalar t → IsScalar c → IsHeld limits t → IsHeld limits (t ++ c ∷ [])
     → findings_held limits (t ++ c ∷ []) ≡ findings_held limits t ++ new_findings limits t (t ++ c ∷ [])
 
-module _ (law : IsFoundBehind) (limits : Limits) (t : List ℕ) (x : Char) (plain : IsTextCharacter x.c) (place : Place) (here : x.place ≡ place) (old new : ScoreWriterState) (yet : HeadsYet old.score.limits old)
+module _ (law : IsFoundAfter) (limits : Limits) (t : List ℕ) (x : Char) (plain : IsTextCharacter x.c) (place : Place) (here : x.place ≡ place) (old new : ScoreWriterState) (yet : HeadsYet old.score.limits old)
     (running : is_none new.writer.written.ended ≡ true) (read : IsReadAs limits t place old.writer.written.errors) where
   abbrev longer : List ℕ
   longer = t ++ x.c ∷ []
@@ -91,7 +91,7 @@ module _ (law : IsFoundBehind) (limits : Limits) (t : List ℕ) (x : Char) (plai
 
 -- ---- an item
 
-module _ (law : IsFoundBehind) (limits : Limits) (t : List ℕ) (d e : DecoderState) (old new : ScoreWriterState) (yet : HeadsYet old.score.limits old) (running : is_none new.writer.written.ended ≡ true)
+module _ (law : IsFoundAfter) (limits : Limits) (t : List ℕ) (d e : DecoderState) (old new : ScoreWriterState) (yet : HeadsYet old.score.limits old) (running : is_none new.writer.written.ended ≡ true)
     (read : IsReadAs limits t d.place old.writer.written.errors) where
   read_item : (item : Result Char Fault) → MovesOn d (item ∷ []) e → PassesAll old (events_of_input limits (reading t) item) new
       → IsReadSoFar limits (progress_after limits (reading t) item) e.place new.writer.written.errors
@@ -100,7 +100,7 @@ module _ (law : IsFoundBehind) (limits : Limits) (t : List ℕ) (d e : DecoderSt
       (read_by_heads law limits t x moves.plain d.place moves.here old new yet running read (heads_of limits (t ++ x.c ∷ [])) refl all)
   read_item (Err fault) moves all = tt
 
-pub heads_read_on : IsFoundBehind → (h : HeaderStageState) (old new : ScoreWriterState) (item : Result Char Fault) → old.writer.written.headed ≡ false → PassesAll old (events_of_input h.limits h.progress item) new → ReadsOn h old (item ∷ []) (stage_after h item) new
+pub heads_read_on : IsFoundAfter → (h : HeaderStageState) (old new : ScoreWriterState) (item : Result Char Fault) → old.writer.written.headed ≡ false → PassesAll old (events_of_input h.limits h.progress item) new → ReadsOn h old (item ∷ []) (stage_after h item) new
 heads_read_on law h old new item unheaded all d e moves ran reads running =
     let before = running_before (events_of_input h.limits h.progress item) old new all running in
     let was = ran before in
@@ -121,7 +121,7 @@ reads_begun h old mid new item same reads d e moves ran were =
 -- where they are written nothing of them is read any more
 pub headed_read : (limits : Limits) (progress : HeadProgress) (part : ScorePart) (headed : Bool) (place : Place) (error : Bool) → headed ≡ true → AreInOnePart progress part headed → IsReadSoFar limits progress place error
 headed_read limits (reading t) part headed place error is parts = absurd (false≢true (sym parts.written_so ∙ is))
-headed_read limits (behind book) part headed place error is parts = tt
+headed_read limits (after_headers book) part headed place error is parts = tt
 headed_read limits over part headed place error is parts = tt
 
 pub body_reads_on : (h : HeaderStageState) (old new : ScoreWriterState) (item : Result Char Fault) → old.writer.written.headed ≡ true

@@ -22,44 +22,44 @@ record AreOneText (s t : PlacedSyllable) : Type 0 where
 record AreOneOutput (o p : ScoreOutput) : Type 0 where
   text : (w : Written) → text_of_output w o ≡ text_of_output w p
   lines : (w : Written) → lines_of_output w o ≡ lines_of_output w p
-  behind : (w : Written) → after_output w o ≡ after_output w p
+  after : (w : Written) → after_output w o ≡ after_output w p
 
 -- so are two lists of outputs
 record AreOneList (os ps : List ScoreOutput) : Type 0 where
   texts : (w : Written) → texts_of_outputs w os ≡ texts_of_outputs w ps
   lines : (w : Written) → lines_of_outputs w os ≡ lines_of_outputs w ps
-  behind : (w : Written) → after_outputs w os ≡ after_outputs w ps
+  after : (w : Written) → after_outputs w os ≡ after_outputs w ps
 
-syllable_behind : (w : Written) (s t : PlacedSyllable) → AreOneText s t → after_output w (Syllable s) ≡ after_output w (Syllable t)
-syllable_behind w s t one = ap (λ (force : InForce). record (after_output w (Syllable s)) { force = if w.headed then force else w.force }) (one.force w.format w.force)
+syllable_after : (w : Written) (s t : PlacedSyllable) → AreOneText s t → after_output w (Syllable s) ≡ after_output w (Syllable t)
+syllable_after w s t one = ap (λ (force : InForce). record (after_output w (Syllable s)) { force = if w.headed then force else w.force }) (one.force w.format w.force)
 
 one_syllable : (s t : PlacedSyllable) → AreOneText s t → AreOneOutput (Syllable s) (Syllable t)
 one_syllable s t one = record {
   text = λ w. ap (if_headed w) (one.text w.format (next_number w.count) w.force);
   lines = λ w. refl;
-  behind = λ w. syllable_behind w s t one;
+  after = λ w. syllable_after w s t one;
 }
 
 one_output : (o p : ScoreOutput) → o ≡ p → AreOneOutput o p
 one_output o p e = record {
   text = λ w. ap (text_of_output w) e;
   lines = λ w. ap (lines_of_output w) e;
-  behind = λ w. ap (after_output w) e;
+  after = λ w. ap (after_output w) e;
 }
 
 one_more : (o p : ScoreOutput) (os ps : List ScoreOutput) → AreOneOutput o p → AreOneList os ps → AreOneList (o ∷ os) (p ∷ ps)
 one_more o p os ps one rest = record {
   texts = λ w.
       ap (λ (text : List ℕ). text ++ texts_of_outputs (after_output w o) os) (one.text w)
-      ∙ (ap (λ (v : Written). text_of_output w p ++ texts_of_outputs v os) (one.behind w) ∙ ap (λ (text : List ℕ). text_of_output w p ++ text) (rest.texts (after_output w p)));
+      ∙ (ap (λ (v : Written). text_of_output w p ++ texts_of_outputs v os) (one.after w) ∙ ap (λ (text : List ℕ). text_of_output w p ++ text) (rest.texts (after_output w p)));
   lines = λ w.
       ap (λ (lines : List ℕ). lines ++ lines_of_outputs (after_output w o) os) (one.lines w)
-      ∙ (ap (λ (v : Written). lines_of_output w p ++ lines_of_outputs v os) (one.behind w) ∙ ap (λ (lines : List ℕ). lines_of_output w p ++ lines) (rest.lines (after_output w p)));
-  behind = λ w. ap (λ (v : Written). after_outputs v os) (one.behind w) ∙ rest.behind (after_output w p);
+      ∙ (ap (λ (v : Written). lines_of_output w p ++ lines_of_outputs v os) (one.after w) ∙ ap (λ (lines : List ℕ). lines_of_output w p ++ lines) (rest.lines (after_output w p)));
+  after = λ w. ap (λ (v : Written). after_outputs v os) (one.after w) ∙ rest.after (after_output w p);
 }
 
 none_more : AreOneList [] []
-none_more = record { texts = λ w. refl; lines = λ w. refl; behind = λ w. refl }
+none_more = record { texts = λ w. refl; lines = λ w. refl; after = λ w. refl }
 
 module _ (m n : UnplacedSyllable) (alike : (position : Position) → IsWrittenAlike m n position) where
   placed_text : (position : Position) (format : Format) (number : ℕ) (force : InForce) → syllable_text format number force (record { made = m; position = position }) ≡ syllable_text format number force (record { made = n; position = position })
@@ -135,7 +135,7 @@ module _ (m n : UnplacedSyllable) (alike : (position : Position) → IsWrittenAl
       let one = same_outputs (concat_of lists) (concat_of others) (same_joined lists others h) in
       ap (λ (text : List ℕ). after_bytes text (lines_of_outputs w (concat_of lists)) (ceased (after_outputs w (concat_of lists)))) (one.texts w)
       ∙ (ap (λ (lines : List ℕ). after_bytes (texts_of_outputs w (concat_of others)) lines (ceased (after_outputs w (concat_of lists)))) (one.lines w)
-      ∙ ap (λ (v : Written). after_bytes (texts_of_outputs w (concat_of others)) (lines_of_outputs w (concat_of others)) (ceased v)) (one.behind w))
+      ∙ ap (λ (v : Written). after_bytes (texts_of_outputs w (concat_of others)) (lines_of_outputs w (concat_of others)) (ceased v)) (one.after w))
   lists_are_written_alike w book (x ∷ from_heads) lists others h =
       let one = same_outputs (first_list lists) (first_list others) (same_first lists others h) in
       let v = after_heads w (writes_heads w x) in
@@ -143,7 +143,7 @@ module _ (m n : UnplacedSyllable) (alike : (position : Position) → IsWrittenAl
       let later = lists_are_written_alike (after_outputs v (first_list others)) book from_heads (drop 1 lists) (drop 1 others) (same_rest lists others h) in
       ap (λ (text : List ℕ). after_bytes (heads ++ text) (lines_of_outputs v (first_list lists)) (streams_from (after_outputs v (first_list lists)) book from_heads (drop 1 lists))) (one.texts v)
       ∙ (ap (λ (lines : List ℕ). after_bytes (heads ++ texts_of_outputs v (first_list others)) lines (streams_from (after_outputs v (first_list lists)) book from_heads (drop 1 lists))) (one.lines v)
-      ∙ (ap (λ (u : Written). after_bytes (heads ++ texts_of_outputs v (first_list others)) (lines_of_outputs v (first_list others)) (streams_from u book from_heads (drop 1 lists))) (one.behind v)
+      ∙ (ap (λ (u : Written). after_bytes (heads ++ texts_of_outputs v (first_list others)) (lines_of_outputs v (first_list others)) (streams_from u book from_heads (drop 1 lists))) (one.after v)
       ∙ ap (λ (s : Streams). after_bytes (heads ++ texts_of_outputs v (first_list others)) (lines_of_outputs v (first_list others)) s) later))
 
 -- What is given is written alike, where the syllables that are held are.

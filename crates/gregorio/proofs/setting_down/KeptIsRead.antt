@@ -24,7 +24,7 @@ use Rattle.gregorio.proofs.setting_down.KeptAsReported.{ReadInText, is_reported_
 module _ (f : ScoreFields) (old : ScoreStageState) (holds : HoldsHeld f old) where
   stands_before : is_in_comment old.body.part ≡ false → ComesBefore old
   stands_before outside = record {
-    runs = ap (λ (b : Option Before). is_some b) holds.behind.before_is;
+    runs = ap (λ (b : Option Before). is_some b) holds.after.before_is;
     nothing_read = holds.begins.nothing_read;
     outside = outside;
   }
@@ -55,7 +55,7 @@ module _ (f : ScoreFields) (old : ScoreStageState) (holds : HoldsHeld f old) whe
         }
 
         same_before : before_of told ≡ before_of old
-        same_before = ap (λ (p : ScorePart). in_body p (before_with told.body told.before)) kept.keeps.body ∙ ap (λ (b : Before). Some b) before_there ∙ sym holds.behind.before_is
+        same_before = ap (λ (p : ScorePart). in_body p (before_with told.body told.before)) kept.keeps.body ∙ ap (λ (b : Before). Some b) before_there ∙ sym holds.after.before_is
 
         tells : ReportsReading told f.kept (openers_told f) f.in_comment
         tells = record { front = kept.tells.front; reading = kept.tells.reading; openers_are = kept.tells.openers_are; comment_is = kept.tells.comment_is }
@@ -66,7 +66,7 @@ module _ (f : ScoreFields) (old : ScoreStageState) (holds : HoldsHeld f old) whe
 
   module _ (place : Place) (new : ScoreStageState) (limits : new.limits ≡ old.limits) (same : ReportsTheSameBut old new place) where
     new_before_of : before_of new ≡ Some (before_held f)
-    new_before_of = same.before_same ∙ holds.behind.before_is
+    new_before_of = same.before_same ∙ holds.after.before_is
 
     new_before : before_with new.body new.before ≡ before_held f
     new_before = before_told new (before_held f) new_before_of
@@ -90,7 +90,7 @@ module _ (f : ScoreFields) (old : ScoreStageState) (holds : HoldsHeld f old) whe
     -- it goes on there
     module _ (read : HasRead f new) (open_there : AreOpeners place f) where
       new_preceding : new.before ≡ old.before
-      new_preceding = ap preceding_of (new_before ∙ sym (before_told old (before_held f) holds.behind.before_is))
+      new_preceding = ap preceding_of (new_before ∙ sym (before_told old (before_held f) holds.after.before_is))
 
       openers_there : AreOpenersBefore place (openers_of new.body.part)
       openers_there = subst (AreOpenersBefore place) (sym read.openers_are) (record { notes = open_there.notes; inner = open_there.inner; in_order = open_there.in_order })
@@ -98,10 +98,10 @@ module _ (f : ScoreFields) (old : ScoreStageState) (holds : HoldsHeld f old) whe
       pub reads_on : is_in_front new.body.part ≡ false → IsPlace place → IsText f.kept
           → (IsPlace place → AreOpenersBefore place (openers_of new.body.part) → IsText (reading_in_body new.part new.held.gathered.builder.kept) → ReportsText old → ReportsText new) → ReadsOn place f new
       reads_on front is_place is_text told = record {
-        behind = record {
+        after = record {
           before_is = new_before_of;
-          text = (λ i. held_text (new_preceding i) (same.held_same i)) ∙ holds.behind.text;
-          count = subst (λ (o : Option UnplacedSyllable). (f.syllables - 1) + held_count o ≡ f.syllables) (sym same.held_same) holds.behind.count;
+          text = (λ i. held_text (new_preceding i) (same.held_same i)) ∙ holds.after.text;
+          count = subst (λ (o : Option UnplacedSyllable). (f.syllables - 1) + held_count o ≡ f.syllables) (sym same.held_same) holds.after.count;
         };
         read = read;
         front = front;

@@ -8,10 +8,10 @@ use Rattle.gabc_places.specs.declared.place.Char.{Char}
 use Rattle.gabc_places.specs.DecoderMachine.{DecoderState}
 use Rattle.gabc_headers.specs.declared.head_event.HeadEvent.{HeadEvent}
 use Rattle.gabc_headers.specs.declared.head_event.HeadEvent.TheVariants as head_event
-use Rattle.gabc_headers.specs.witness.HeadEvents.{HeaderStageState, HeadProgress, reading, behind, over, IsBehind}
+use Rattle.gabc_headers.specs.witness.HeadEvents.{HeaderStageState, HeadProgress, reading, after_headers, over, IsAfterHeaders}
 use Rattle.gregorio.specs.declared.source_ending.SourceEnding.{SourceEnding}
 use Rattle.gregorio.specs.Streams.{Streams, after_bytes}
-use Rattle.gregorio.specs.witness.Engine.{EngineState, book_behind, head_events_left, is_heads}
+use Rattle.gregorio.specs.witness.Engine.{EngineState, book_after, head_events_left, is_heads}
 use Rattle.gregorio.specs.machine.InStep.{IsInStep, StayInStep}
 use Rattle.gregorio.specs.machine.ReadsHeaders.{ReadsHeaders, ReadsOn}
 use Rattle.gregorio.specs.machine.RunWriter.{most_waiting}
@@ -42,7 +42,7 @@ headed_past headed events = headed || list_any is_heads events
 
 -- what will still be written of these items
 abbrev pub streams_of_items : HeaderStageState → ScoreWriterState → SourceEnding → List (Result Char Fault) → Streams
-streams_of_items h w ending items = streams_of w (book_behind h items) (head_events_left h ending items)
+streams_of_items h w ending items = streams_of w (book_after h items) (head_events_left h ending items)
 
 -- what the body gets for an item
 abbrev pub event_of_item : Result Char Fault → HeadEvent
@@ -76,7 +76,7 @@ IsSettled w = (book other : List (List ℕ × List ℕ)) (from_heads more : List
 
 -- the book that the stage of headers stands after is the one that it has read
 abbrev pub IsBookRead : HeadProgress → List (List ℕ × List ℕ) → Type 0
-IsBookRead (behind book) read = book ≡ read
+IsBookRead (after_headers book) read = book ≡ read
 IsBookRead (reading t) read = Unit {0}
 IsBookRead over read = Unit {0}
 
@@ -84,7 +84,7 @@ IsBookRead over read = Unit {0}
 -- stage of headers is after the line `%%`, or it is no matter what comes.
 pub record GoTogether (h : HeaderStageState) (w : ScoreWriterState) : Type 0 where
   pub limits : h.limits ≡ w.score.limits
-  pub headed : w.writer.written.headed ≡ true → IsBehind h.progress ⊎ IsSettled w
+  pub headed : w.writer.written.headed ≡ true → IsAfterHeaders h.progress ⊎ IsSettled w
   pub book : IsBookRead h.progress h.book
   pub short : IsShortBook h.limits h.book
 

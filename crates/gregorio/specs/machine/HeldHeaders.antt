@@ -8,7 +8,7 @@ use Rattle.gabc_places.specs.declared.place.Char.{Char}
 use Rattle.gabc_headers.specs.HeldText.{IsHeld, findings_held, inputs_of, text_in}
 use Rattle.gabc_headers.specs.declared.head_event.HeadEvent.{HeadEvent}
 use Rattle.gabc_headers.specs.declared.head_event.HeadEvent.TheVariants.{Found}
-use Rattle.gabc_headers.specs.witness.HeadEvents.{HeadProgress, HeaderStageState, reading, behind, over, fresh_stage, stage_past}
+use Rattle.gabc_headers.specs.witness.HeadEvents.{HeadProgress, HeaderStageState, reading, after_headers, over, fresh_stage, stage_past}
 use Rattle.gregorio.specs.Outcome.{is_error_finding}
 
 abbrev pub is_error_event : HeadEvent → Bool
@@ -23,7 +23,7 @@ pub record IsHeldSo (limits : Limits) (t : List ℕ) (error : Bool) (u : List �
 
 abbrev pub HoldsSo : Limits → List ℕ → Bool → HeadProgress → Type 0
 HoldsSo limits t error (reading u) = IsHeldSo limits t error u
-HoldsSo limits t error (behind book) = Unit {0}
+HoldsSo limits t error (after_headers book) = Unit {0}
 HoldsSo limits t error over = Unit {0}
 
 -- The characters of this text, wherever they stand, were pushed into a fresh stage.
@@ -36,4 +36,4 @@ pub record IsPushed (limits : Limits) (hasher : DefaultHasher) (t : List ℕ) (h
 
 -- after the line `%%` alone
 abbrev pub after_mark : Limits → DefaultHasher → HeaderStageState
-after_mark limits hasher = record { limits = limits; progress = behind []; book = []; hasher = hasher }
+after_mark limits hasher = record { limits = limits; progress = after_headers []; book = []; hasher = hasher }

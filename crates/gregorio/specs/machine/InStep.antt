@@ -8,7 +8,7 @@ use Rattle.gabc_places.specs.declared.place.Char.{Char}
 use Rattle.gabc_places.specs.declared.place.Place.{Place}
 use Rattle.gabc_headers.specs.declared.head_event.HeadEvent.{HeadEvent}
 use Rattle.gabc_headers.specs.declared.head_event.HeadEvent.TheVariants as head_event
-use Rattle.gabc_headers.specs.witness.HeadEvents.{HeaderStageState, HeadProgress, reading, behind, over}
+use Rattle.gabc_headers.specs.witness.HeadEvents.{HeaderStageState, HeadProgress, reading, after_headers, over}
 use Rattle.gabc_neumes.specs.InForce.{nothing_in_force}
 use Rattle.gabc_score.specs.declared.score_machine.ScorePart.{ScorePart}
 use Rattle.gabc_score.specs.declared.score_machine.ScorePart.TheVariants as score_part
@@ -78,7 +78,7 @@ pub record StandsIn (at : ScorePart) (written : Bool) (part : ScorePart) (headed
 -- both are in the headers, which are not written, or both in the body, and they are
 abbrev pub AreInOnePart : HeadProgress → ScorePart → Bool → Type 0
 AreInOnePart (reading t) part headed = StandsIn score_part.Heads false part headed
-AreInOnePart (behind book) part headed = StandsIn score_part.Body true part headed
+AreInOnePart (after_headers book) part headed = StandsIn score_part.Body true part headed
 AreInOnePart over part headed = ⊥
 
 -- An engine that runs: its decoder does, its stages are in one part, as many syllables are written

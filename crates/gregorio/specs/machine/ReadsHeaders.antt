@@ -8,7 +8,7 @@ use Rattle.gabc_places.specs.declared.code.Fault.{Fault}
 use Rattle.gabc_places.specs.declared.limits.Limits.{Limits}
 use Rattle.gabc_places.specs.declared.place.Char.{Char}
 use Rattle.gabc_places.specs.declared.place.Place.{Place}
-use Rattle.gabc_headers.specs.witness.HeadEvents.{HeaderStageState, HeadProgress, reading, behind, over}
+use Rattle.gabc_headers.specs.witness.HeadEvents.{HeaderStageState, HeadProgress, reading, after_headers, over}
 use Rattle.gregorio.specs.Saved.{GivesHeaders}
 use Rattle.gregorio.specs.machine.InStep.{RunsInStep}
 use Rattle.gregorio.specs.machine.ScoreWriter.{ScoreWriterState}
@@ -21,7 +21,7 @@ pub record IsReadAs (limits : Limits) (t : List ℕ) (place : Place) (error : Bo
 
 abbrev pub IsReadSoFar : Limits → HeadProgress → Place → Bool → Type 0
 IsReadSoFar limits (reading t) place error = IsReadAs limits t place error
-IsReadSoFar limits (behind book) place error = Unit {0}
+IsReadSoFar limits (after_headers book) place error = Unit {0}
 IsReadSoFar limits over place error = Unit {0}
 
 abbrev pub ReadsHeaders : DecoderState → HeaderStageState → Written → Type 0

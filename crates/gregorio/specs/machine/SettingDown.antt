@@ -24,14 +24,14 @@ pub record IsResumed (limits : Limits) (f : ScoreFields) (stage : ScoreStageStat
 
 -- It stands after what stands before the syllable of the held text, and holds this syllable, if
 -- there is one.
-pub record StandsBehindHeld (f : ScoreFields) (stage : ScoreStageState) : Type 0 where
+pub record StandsAfterHeld (f : ScoreFields) (stage : ScoreStageState) : Type 0 where
   pub before_is : before_of stage ≡ Some (before_held f)
   pub text : held_text stage.before (held_of stage) ≡ f.held
   pub count : (f.syllables - 1) + held_count (held_of stage) ≡ f.syllables
 
 -- It begins to read the next text.
 pub record HoldsHeld (f : ScoreFields) (stage : ScoreStageState) : Type 0 where
-  pub behind : StandsBehindHeld f stage
+  pub after : StandsAfterHeld f stage
   pub begins : BeginsText stage
   pub told : ReportsText stage
 
@@ -53,7 +53,7 @@ pub record IsReportedSo (limits : Limits) (f : ScoreFields) : Type 0 where
 
 -- It has read the kept text, after the comment in front, and the next character stands there.
 pub record ReadsOn (place : Place) (f : ScoreFields) (stage : ScoreStageState) : Type 0 where
-  pub behind : StandsBehindHeld f stage
+  pub after : StandsAfterHeld f stage
   pub read : HasRead f stage
   pub front : is_in_front stage.body.part ≡ false
   pub next : stage.held.next ≡ place

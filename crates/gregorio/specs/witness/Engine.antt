@@ -55,8 +55,8 @@ abbrev pub head_events_left : HeaderStageState → SourceEnding → List (Result
 head_events_left h ending items = heads.emitted_by (is_whole ending) items (heads_left.events_left h.limits h.progress items)
 
 -- the headers that this stage has read once these have come
-abbrev pub book_behind : HeaderStageState → List (Result Char Fault) → List (List ℕ × List ℕ)
-book_behind h items = (stage_past h items).book
+abbrev pub book_after : HeaderStageState → List (Result Char Fault) → List (List ℕ × List ℕ)
+book_after h items = (stage_past h items).book
 
 -- ---- how a run ended
 
@@ -177,4 +177,4 @@ abbrev pub streams_left : EngineState → SourceEnding → List ℕ → Streams
 streams_left s ending bytes =
     let items = items_left s ending bytes in
     let from_heads = head_events_left s.heads ending items in
-    streams_from s.written (book_behind s.heads items) from_heads (left_of s.score from_heads)
+    streams_from s.written (book_after s.heads items) from_heads (left_of s.score from_heads)

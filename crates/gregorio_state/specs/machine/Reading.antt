@@ -135,8 +135,8 @@ alters_at bytes = do
   Some (alters, f.1)
 
 -- what follows `GSAV` and the version
-unfoldable pub behind_tag : List ℕ → Option (List ℕ)
-behind_tag bytes = if bytes_eq (take 5 bytes) (codes "GSAV" ++ 3 ∷ []) then Some (drop 5 bytes) else None
+unfoldable pub after_tag : List ℕ → Option (List ℕ)
+after_tag bytes = if bytes_eq (take 5 bytes) (codes "GSAV" ++ 3 ∷ []) then Some (drop 5 bytes) else None
 
 -- ---- all fields, of all bytes
 
@@ -206,7 +206,7 @@ limits_at bytes = do
 
 unfoldable pub state_of_bytes : List ℕ → Option StateFields
 state_of_bytes bytes = do
-  rest ← behind_tag bytes
+  rest ← after_tag bytes
   format ← format_at rest
   all_warnings ← flag_at format.1
   limits ← limits_at all_warnings.1

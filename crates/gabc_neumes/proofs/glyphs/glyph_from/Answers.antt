@@ -19,14 +19,14 @@ rest_within kept items rest i e h = All-tail (λ (j : Item). (j.span.from ≤ j.
 
 pub loop-item-init : goal.loop-item-init
 loop-item-init c =
-    let same : c.into_iter-item-iterator.result ≡ c.args.behind.now = c.into_iter-item-iterator.ensures.into_iter_gives ∙ c.ahead-item-items.ensures in
+    let same : c.into_iter-item-iterator.result ≡ c.args.later.now = c.into_iter-item-iterator.ensures.into_iter_gives ∙ c.ahead-item-items.ensures in
     let w = sym c.with.ensures ∙ c.in_ok-search.was in
     let few = c.requires.few in
     let size = ap (length {A = Item}) same in
     let read = search_grows fresh c.in_ok-search.search c.args.first w in
     record {
-      searched = subst (λ (items : List Item). Searched (c.args.first ∷ ahead c.args.kept.now c.args.behind.now) (ahead c.args.kept.now items) c.in_ok-search.search) (sym same)
-          (searched_start (ahead c.args.kept.now c.args.behind.now) c.args.first c.in_ok-search.search w);
+      searched = subst (λ (items : List Item). Searched (c.args.first ∷ ahead c.args.kept.now c.args.later.now) (ahead c.args.kept.now items) c.in_ok-search.search) (sym same)
+          (searched_start (ahead c.args.kept.now c.args.later.now) c.args.first c.in_ok-search.search w);
       few = omega (arith, few, size, read);
       within = subst (AreWithin c.args.kept.now) (sym same) c.requires.within;
     }
@@ -34,25 +34,25 @@ loop-item-init c =
 pub returns-then-not-is_in_segment-clause-glyph : goal.returns-then-not-is_in_segment-clause-glyph
 returns-then-not-is_in_segment-clause-glyph c =
     let kept = c.args.kept.now in
-    let ns : List Note = c.args.first ∷ ahead kept c.args.behind.now in
+    let ns : List Note = c.args.first ∷ ahead kept c.args.later.now in
     let out : is_in_segment c.in-Some.item ≡ false = cc (c.is_in_segment.ensures, c.if-not-is_in_segment.true) in
     let none : ahead kept c.loop-item.item-iterator ≡ [] = ap (ahead kept) c.in-Some.ensures.steps ∙ ahead_end kept c.in-Some.item c.next.new.self out in
-    (found_of c.args.first (ahead kept c.args.behind.now) c.loop-item.search.best
+    (found_of c.args.first (ahead kept c.args.later.now) c.loop-item.search.best
     (searched_end ns c.loop-item.search (subst (λ (l : List Note). Searched ns l c.loop-item.search) none c.loop-item.invariant.searched))).glyph
 
 pub returns-then-not-is_in_segment-clause-some : goal.returns-then-not-is_in_segment-clause-some
 returns-then-not-is_in_segment-clause-some c =
     let kept = c.args.kept.now in
-    let ns : List Note = c.args.first ∷ ahead kept c.args.behind.now in
+    let ns : List Note = c.args.first ∷ ahead kept c.args.later.now in
     let out : is_in_segment c.in-Some.item ≡ false = cc (c.is_in_segment.ensures, c.if-not-is_in_segment.true) in
     let none : ahead kept c.loop-item.item-iterator ≡ [] = ap (ahead kept) c.in-Some.ensures.steps ∙ ahead_end kept c.in-Some.item c.next.new.self out in
-    (found_of c.args.first (ahead kept c.args.behind.now) c.loop-item.search.best
+    (found_of c.args.first (ahead kept c.args.later.now) c.loop-item.search.best
     (searched_end ns c.loop-item.search (subst (λ (l : List Note). Searched ns l c.loop-item.search) none c.loop-item.invariant.searched))).some
 
 pub loop-item-preserved-in-Some-with : goal.loop-item-preserved-in-Some-with
 loop-item-preserved-in-Some-with c =
     let kept = c.args.kept.now in
-    let ns : List Note = c.args.first ∷ ahead kept c.args.behind.now in
+    let ns : List Note = c.args.first ∷ ahead kept c.args.later.now in
     let joins : is_in_segment c.in-Some.item ≡ true = cc (c.is_in_segment.ensures, c.if-not-is_in_segment.false) in
     let next : ahead kept c.loop-item.item-iterator ≡ c.in-Some-note_of.note ∷ ahead kept c.next.new.self =
     ap (ahead kept) c.in-Some.ensures.steps ∙ ahead_note kept c.in-Some.item c.next.new.self c.in-Some-note_of.note joins (sym c.note_of.ensures ∙ c.in-Some-note_of.is) in
@@ -70,29 +70,29 @@ loop-item-preserved-in-Some-with c =
 pub returns-in-None-with-clause-glyph : goal.returns-in-None-with-clause-glyph
 returns-in-None-with-clause-glyph c =
     let kept = c.args.kept.now in
-    let ns : List Note = c.args.first ∷ ahead kept c.args.behind.now in
+    let ns : List Note = c.args.first ∷ ahead kept c.args.later.now in
     let joins : is_in_segment c.in-Some.item ≡ true = cc (c.is_in_segment.ensures, c.if-not-is_in_segment.false) in
     let next : ahead kept c.loop-item.item-iterator ≡ c.in-Some-note_of.note ∷ ahead kept c.next.new.self =
     ap (ahead kept) c.in-Some.ensures.steps ∙ ahead_note kept c.in-Some.item c.next.new.self c.in-Some-note_of.note joins (sym c.note_of.ensures ∙ c.in-Some-note_of.is) in
-    (found_of c.args.first (ahead kept c.args.behind.now) c.loop-item.search.best
+    (found_of c.args.first (ahead kept c.args.later.now) c.loop-item.search.best
     (searched_stops ns (ahead kept c.next.new.self) c.in-Some-note_of.note c.loop-item.search
     (subst (λ (l : List Note). Searched ns l c.loop-item.search) next c.loop-item.invariant.searched) (sym c.with-in-Some-note_of.ensures ∙ c.in-None-with.is))).glyph
 
 pub returns-in-None-with-clause-some : goal.returns-in-None-with-clause-some
 returns-in-None-with-clause-some c =
     let kept = c.args.kept.now in
-    let ns : List Note = c.args.first ∷ ahead kept c.args.behind.now in
+    let ns : List Note = c.args.first ∷ ahead kept c.args.later.now in
     let joins : is_in_segment c.in-Some.item ≡ true = cc (c.is_in_segment.ensures, c.if-not-is_in_segment.false) in
     let next : ahead kept c.loop-item.item-iterator ≡ c.in-Some-note_of.note ∷ ahead kept c.next.new.self =
     ap (ahead kept) c.in-Some.ensures.steps ∙ ahead_note kept c.in-Some.item c.next.new.self c.in-Some-note_of.note joins (sym c.note_of.ensures ∙ c.in-Some-note_of.is) in
-    (found_of c.args.first (ahead kept c.args.behind.now) c.loop-item.search.best
+    (found_of c.args.first (ahead kept c.args.later.now) c.loop-item.search.best
     (searched_stops ns (ahead kept c.next.new.self) c.in-Some-note_of.note c.loop-item.search
     (subst (λ (l : List Note). Searched ns l c.loop-item.search) next c.loop-item.invariant.searched) (sym c.with-in-Some-note_of.ensures ∙ c.in-None-with.is))).some
 
 pub loop-item-preserved : goal.loop-item-preserved
 loop-item-preserved c =
     let kept = c.args.kept.now in
-    let ns : List Note = c.args.first ∷ ahead kept c.args.behind.now in
+    let ns : List Note = c.args.first ∷ ahead kept c.args.later.now in
     let joins : is_in_segment c.in-Some.item ≡ true = cc (c.is_in_segment.ensures, c.if-not-is_in_segment.false) in
     let next : ahead kept c.loop-item.item-iterator ≡ ahead kept c.next.new.self =
     ap (ahead kept) c.in-Some.ensures.steps ∙ ahead_none kept c.in-Some.item c.next.new.self joins (sym c.note_of.ensures ∙ c.in_default.is) in
@@ -107,15 +107,15 @@ loop-item-preserved c =
 pub returns-clause-glyph : goal.returns-clause-glyph
 returns-clause-glyph c =
     let kept = c.args.kept.now in
-    let ns : List Note = c.args.first ∷ ahead kept c.args.behind.now in
+    let ns : List Note = c.args.first ∷ ahead kept c.args.later.now in
     let none : ahead kept c.loop-item.item-iterator ≡ [] = ap (ahead kept) c.in-None.ensures.steps.0 in
-    (found_of c.args.first (ahead kept c.args.behind.now) c.loop-item.search.best
+    (found_of c.args.first (ahead kept c.args.later.now) c.loop-item.search.best
     (searched_end ns c.loop-item.search (subst (λ (l : List Note). Searched ns l c.loop-item.search) none c.loop-item.invariant.searched))).glyph
 
 pub returns-clause-some : goal.returns-clause-some
 returns-clause-some c =
     let kept = c.args.kept.now in
-    let ns : List Note = c.args.first ∷ ahead kept c.args.behind.now in
+    let ns : List Note = c.args.first ∷ ahead kept c.args.later.now in
     let none : ahead kept c.loop-item.item-iterator ≡ [] = ap (ahead kept) c.in-None.ensures.steps.0 in
-    (found_of c.args.first (ahead kept c.args.behind.now) c.loop-item.search.best
+    (found_of c.args.first (ahead kept c.args.later.now) c.loop-item.search.best
     (searched_end ns c.loop-item.search (subst (λ (l : List Note). Searched ns l c.loop-item.search) none c.loop-item.invariant.searched))).some

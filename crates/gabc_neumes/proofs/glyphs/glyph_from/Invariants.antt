@@ -7,7 +7,7 @@ use Rattle.gabc_neumes.proofs.glyphs.glyph_from.Given as goal
 
 abbrev pub invariant-loop-item : goal.invariant-loop-item
 invariant-loop-item l = record {
-  searched : Searched (l.fn.first ∷ notes_in l.kept (take_while is_in_segment l.behind)) (notes_in l.kept (take_while is_in_segment l.item-iterator)) l.search;
+  searched : Searched (l.fn.first ∷ notes_in l.kept (take_while is_in_segment l.later)) (notes_in l.kept (take_while is_in_segment l.item-iterator)) l.search;
   few : l.search.read + length l.item-iterator ≤ length l.kept;
   within : AreWithin l.kept l.item-iterator;
 }

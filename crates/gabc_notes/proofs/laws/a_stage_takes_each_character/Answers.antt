@@ -1,5 +1,5 @@
 use Rattle.std.proofs.Common.{refl}
-use Rattle.gabc_notes.specs.machine.StageBehind.{fresh_stage}
+use Rattle.gabc_notes.specs.machine.StageAfter.{fresh_stage}
 use Rattle.gabc_notes.proofs.machine.FreshStageEmitsEventsByPoint.{fresh_says}
 use Rattle.gabc_notes.proofs.resuming.StagesKeep.{fresh_keeps}
 use Rattle.gabc_notes.proofs.resuming.StagesTake.{cut_at_opener, takes}

@@ -1,7 +1,7 @@
 use Rattle.std.proofs.Common.{rules}
 use Rattle.std.proofs.lemmas.List.{take_more}
 use Rattle.gabc_places.proofs.PushesAreOne.{emits_all-step}
-use Rattle.gabc_places.proofs.NothingBehindAnEnd.{stops-pushed}
+use Rattle.gabc_places.proofs.NothingAfterAnEnd.{stops-pushed}
 use Rattle.gabc_places.proofs.chain.push_all.Goals as goal
 
 pub loop-input-preserved : goal.loop-input-preserved

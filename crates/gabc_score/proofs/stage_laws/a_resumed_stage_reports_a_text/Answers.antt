@@ -1,5 +1,5 @@
-use Rattle.gabc_score.proofs.resuming.ResumedIsOfText.{told_behind}
+use Rattle.gabc_score.proofs.resuming.ResumedIsOfText.{told_after}
 use Rattle.gabc_score.proofs.stage_laws.a_resumed_stage_reports_a_text.Goals as goal
 
 pub returns : goal.returns
-returns c = told_behind
+returns c = told_after

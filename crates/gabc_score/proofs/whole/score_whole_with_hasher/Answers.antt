@@ -11,8 +11,8 @@ body_is : (t : List ℕ) (ps : List HeaderPart) (o : Option Stop) (heads : Heads
 body_is t ps None heads e = cc e
 body_is t ps (Some s) heads e = absurd (cc e)
 
-pub score_behind-requires : goal.score_behind-requires
-score_behind-requires c =
+pub score_after-requires : goal.score_after-requires
+score_after-requires c =
     let are = c.in_ok-heads.ensures.exact in
     let ps = parts_of_groups 1 0 are.groups in
     body_is c.args.text.now ps (earliest (stops_of_parts c.args.limits c.args.text.now ps)) c.in-Ok.heads (sym c.in-Ok.is ∙ are.read_is)

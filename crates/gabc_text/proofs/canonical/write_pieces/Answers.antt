@@ -1,7 +1,7 @@
 use Rattle.std.proofs.Common.{sym, ap, ◌∙◌, ◌≤◌, length, arith}
 use Rattle.gabc_text.specs.Canonical.{listed_styles}
 use Rattle.gabc_text.proofs.printing.TagsOfStyleSets.{none_listed}
-use Rattle.gabc_text.proofs.printing.BehindTheLastPiece.{last_text}
+use Rattle.gabc_text.proofs.printing.AfterTheLastPiece.{last_text}
 use Rattle.gabc_text.proofs.printing.RunsOfKeptBytes.{text_from_next, taken_in_turn, first_after}
 use Rattle.gabc_text.proofs.canonical.write_pieces.Goals as goal
 
@@ -24,6 +24,6 @@ loop-next-preserved g c =
 
 pub returns : goal.returns
 returns g c =
-    let behind : length c.args.view.now.pieces.items ≤ c.loop-next.next = rw (← c.as_slice-pieces.ensures) (omega arith) in
-    let e = last_text c.args.view.now.centre c.args.kept.now c.loop-next.next (listed_styles c.loop-next.old) c.args.view.now.pieces.items behind in
+    let after : length c.args.view.now.pieces.items ≤ c.loop-next.next = rw (← c.as_slice-pieces.ensures) (omega arith) in
+    let e = last_text c.args.view.now.centre c.args.kept.now c.loop-next.next (listed_styles c.loop-next.old) c.args.view.now.pieces.items after in
     rw (c.put_boundary-2.ensures, none_listed, c.braces-2.ensures, ← e) c.loop-next.invariant.text

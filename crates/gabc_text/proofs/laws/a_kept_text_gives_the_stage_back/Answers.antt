@@ -51,8 +51,8 @@ loop-c-preserved c =
 pub push-requires-then-in_comment : goal.push-requires-then-in_comment
 push-requires-then-in_comment c = rw c.loop-c.invariant.empty (omega arith)
 
-back_behind : (c : goal.After-go_to-2) → IsBack c.unwrap_or-place.result c.args.kept.now (is_in_comment c.args.stage.now) c.if-in_comment.again
-back_behind c = elim c.if-in_comment.branch [
+back_after : (c : goal.After-go_to-2) → IsBack c.unwrap_or-place.result c.args.kept.now (is_in_comment c.args.stage.now) c.if-in_comment.again
+back_after c = elim c.if-in_comment.branch [
   | then-in_comment w ↦
       let comment = sym c.in_comment.ensures ∙ w.if-in_comment.true in
       rw (comment, w.again-is) (comment_back c.unwrap_or-place.result c.args.kept.now c.loop-c.again whole c.args.stage.now w.push-then-in_comment.new.out.items w.push-then-in_comment.new.self c.requires.keeps comment
@@ -63,29 +63,29 @@ back_behind c = elim c.if-in_comment.branch [
     whole : IsBack c.unwrap_or-place.result c.args.kept.now false c.loop-c.again
     whole = subst (λ (t : List ℕ). IsBack c.unwrap_or-place.result t false c.loop-c.again) (take_all c.loop-c.c-index c.args.kept.now c.loop-c-test.false) c.loop-c.invariant.back
 
-keeps_behind : (c : goal.After-go_to-2) → Keeps c.go_to-2.new.self c.args.kept.now
-keeps_behind c = c.go_to-2.ensures.keeps c.args.kept.now (back_behind c).keeps
+keeps_after : (c : goal.After-go_to-2) → Keeps c.go_to-2.new.self c.args.kept.now
+keeps_after c = c.go_to-2.ensures.keeps c.args.kept.now (back_after c).keeps
 
-opener_behind : (c : goal.After-go_to-2) → opener_of c.go_to-2.new.self ≡ opener_of c.args.stage.now
-opener_behind c =
+opener_after : (c : goal.After-go_to-2) → opener_of c.go_to-2.new.self ≡ opener_of c.args.stage.now
+opener_after c =
     c.go_to-2.ensures.opener
     ∙ opener_back c.unwrap_or-place.result c.args.kept.now (is_in_comment c.args.stage.now) c.args.stage.now c.if-in_comment.again _ c.requires.keeps
-    (c.unwrap_or-place.ensures ∙ ap (λ (o : Option Place). unwrap_or o (record { line = 1; column = 1 })) c.opener.ensures) (back_behind c)
+    (c.unwrap_or-place.ensures ∙ ap (λ (o : Option Place). unwrap_or o (record { line = 1; column = 1 })) c.opener.ensures) (back_after c)
 
-comment_behind : (c : goal.After-go_to-2) → is_in_comment c.go_to-2.new.self ≡ is_in_comment c.args.stage.now
-comment_behind c = ap is_in_comment c.go_to-2.ensures.moved ∙ comment_moved _ _ ∙ (back_behind c).comment_is
+comment_after : (c : goal.After-go_to-2) → is_in_comment c.go_to-2.new.self ≡ is_in_comment c.args.stage.now
+comment_after c = ap is_in_comment c.go_to-2.ensures.moved ∙ comment_moved _ _ ∙ (back_after c).comment_is
 
-next_behind : (c : goal.After-go_to-2) → next_of c.go_to-2.new.self ≡ next_of c.args.stage.now
-next_behind c = ap next_of c.go_to-2.ensures.moved ∙ c.next.ensures.reports
+next_after : (c : goal.After-go_to-2) → next_of c.go_to-2.new.self ≡ next_of c.args.stage.now
+next_after c = ap next_of c.go_to-2.ensures.moved ∙ c.next.ensures.reports
 
 pub returns-clause-keeps : goal.returns-clause-keeps
-returns-clause-keeps c = keeps_behind c
+returns-clause-keeps c = keeps_after c
 
 pub returns-clause-opener : goal.returns-clause-opener
-returns-clause-opener c = opener_behind c
+returns-clause-opener c = opener_after c
 
 pub returns-clause-comment : goal.returns-clause-comment
-returns-clause-comment c = comment_behind c
+returns-clause-comment c = comment_after c
 
 pub returns-clause-events : goal.returns-clause-events
-returns-clause-events c = kept_suffices c.go_to-2.new.self c.args.stage.now c.args.kept.now (keeps_behind c) c.requires.keeps (opener_behind c) (comment_behind c) (next_behind c)
+returns-clause-events c = kept_suffices c.go_to-2.new.self c.args.stage.now c.args.kept.now (keeps_after c) c.requires.keeps (opener_after c) (comment_after c) (next_after c)

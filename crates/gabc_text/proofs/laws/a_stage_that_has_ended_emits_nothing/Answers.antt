@@ -1,4 +1,4 @@
-use Rattle.gabc_text.proofs.NothingBehindTheEnd.{ended_is_silent}
+use Rattle.gabc_text.proofs.NothingAfterTheEnd.{ended_is_silent}
 use Rattle.gabc_text.proofs.laws.a_stage_that_has_ended_emits_nothing.Goals as goal
 
 pub returns-clause-silent : goal.returns-clause-silent

@@ -3,7 +3,7 @@ use Rattle.gabc_text.specs.TextStage.{fresh_stage}
 use Rattle.gabc_text.specs.declared.text_event.TextEvent.{TextEvent}
 use Rattle.gabc_text.proofs.machine.FreshStageEmitsEventsByPoint.{fresh_stepwise}
 use Rattle.gabc_text.proofs.events.EventsByPointAreEvents.{points_joined}
-use Rattle.gabc_text.proofs.machine.EventsNeedNothingBehind.{each_emits}
+use Rattle.gabc_text.proofs.machine.EventsNeedNothingAfter.{each_emits}
 use Rattle.gabc_text.proofs.laws.events_by_point_are_the_events.Goals as goal
 
 pub returns-clause-each : goal.returns-clause-each

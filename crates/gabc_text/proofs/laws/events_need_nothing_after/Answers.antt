@@ -1,6 +1,6 @@
 use Rattle.std.proofs.Common.{◌∙◌, ◌++◌, ap, sym, length, take, List}
 use Rattle.gabc_text.specs.declared.text_event.TextEvent.{TextEvent}
-use Rattle.gabc_text.proofs.machine.EventsNeedNothingBehind.{prefix_emits, each_emits}
+use Rattle.gabc_text.proofs.machine.EventsNeedNothingAfter.{prefix_emits, each_emits}
 use Rattle.gabc_text.proofs.machine.EventsLeftAreThoseAhead.{rest_is}
 use Rattle.gabc_text.proofs.laws.events_need_nothing_after.Goals as goal
 

@@ -1,7 +1,7 @@
 use Rattle.std.proofs.Common.{◌∙◌, ◌+◌, ◌++◌, ◌∷◌, [], ap, sym, length, take, List}
 use Rattle.gabc_text.specs.declared.text_event.TextEvent.{TextEvent}
 use Rattle.gabc_text.specs.Events.{no_events_each}
-use Rattle.gabc_text.proofs.machine.EventsNeedNothingBehind.{left_through, emitted_through}
+use Rattle.gabc_text.proofs.machine.EventsNeedNothingAfter.{left_through, emitted_through}
 use Rattle.gabc_text.proofs.machine.EventsLeftAreThoseAhead.{rest_is, left_is}
 use Rattle.gabc_text.proofs.laws.nothing_after_the_notes_begin.Goals as goal
 

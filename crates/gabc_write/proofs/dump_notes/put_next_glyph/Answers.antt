@@ -5,4 +5,4 @@ use Rattle.gabc_write.proofs.dump_notes.put_next_glyph.Goals as goal
 
 pub put_glyph_from-requires-clause-within : goal.put_glyph_from-requires-clause-within
 put_glyph_from-requires-clause-within g c =
-    All-tail (λ (i : Item). (i.span.from ≤ i.span.to) × (i.span.to ≤ length c.args.kept.now)) c.args.item c.args.behind.now c.requires.within
+    All-tail (λ (i : Item). (i.span.from ≤ i.span.to) × (i.span.to ≤ length c.args.kept.now)) c.args.item c.args.after.now c.requires.within

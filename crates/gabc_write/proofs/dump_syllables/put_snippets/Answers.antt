@@ -38,13 +38,13 @@ loop-snippet-preserved g c =
     let out = c.loop-snippet.out in
     let inside = c.loop-snippet-test.true in
     let later : InForce → List ℕ = λ f. lines_of_snippets f kept (drop (i + 1) snippets) in
-    let behind : InForce = passed now (steps_of_snippet kept one) in
+    let after : InForce = passed now (steps_of_snippet kept one) in
     let lines = rw (c.text_at.ensures) at c.put_snippet.ensures.put in
     let steps = rw (c.text_at.ensures) at c.put_snippet.ensures.alterations in
     record {
       put = ap (λ o. g.S.Put.taken o (later c.put_snippet.new.alterations)) lines
           ∙ (ap (λ (f : InForce). g.S.Put.taken (g.S.Put.taken out (lines_of_snippet now kept one)) (later f)) steps
-          ∙ (g.met.S.Put.taken_both out (lines_of_snippet now kept one) (later behind)
+          ∙ (g.met.S.Put.taken_both out (lines_of_snippet now kept one) (later after)
           ∙ (ap (g.S.Put.taken out) (sym (lines_from now kept snippets i inside)) ∙ h.put)));
       alterations = steps
           ∙ (ap (λ (f : InForce). passed f (steps_of_snippet kept one)) h.alterations

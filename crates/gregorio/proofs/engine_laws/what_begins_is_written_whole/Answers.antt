@@ -25,7 +25,7 @@ returns c job limits s begun bytes ending =
       findings = c.a_score_says_what_it_emits.ensures.findings;
       syllables = c.a_score_says_what_it_emits.ensures.syllables;
       fault = c.a_score_says_what_it_emits.ensures.fault;
-      nothing_behind = λ limits xs. c.nothing_follows_the_end.ensures texts_by_definition limits xs;
+      nothing_after = λ limits xs. c.nothing_follows_the_end.ensures texts_by_definition limits xs;
       end = c.a_score_says_what_it_emits.ensures.end;
       few = c.syllables_are_fewer_than_bytes.ensures;
     } in

@@ -7,7 +7,7 @@ returns c one other may may_too name same =
     (record {
       decoders = c.decoders_that_report_the_same_agree.ensures;
       heads = c.stages_of_one_text_agree.ensures;
-      behind = c.stages_after_headers_agree.ensures;
+      after = c.stages_after_headers_agree.ensures;
       within = c.what_is_reported_is_within_the_limits.ensures;
       scores = c.what_is_saved_alike_goes_on_alike.ensures;
       written = c.what_goes_on_alike_is_written_alike.ensures;

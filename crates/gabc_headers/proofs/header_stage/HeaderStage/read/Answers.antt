@@ -10,7 +10,7 @@ use Rattle.gabc_headers.specs.declared.header_machine.HeaderStep.TheVariants.{Re
 use Rattle.gabc_headers.specs.HeadEvents.{event_of_book}
 use Rattle.gabc_headers.specs.machine.Collected.{found_list, name_found}
 use Rattle.gabc_headers.specs.Entries.{spelled_entries}
-use Rattle.gabc_headers.proofs.stages.CharactersOfAStage.{keeps, stands, out_is, few_is, state_on, state_over, state_behind, few_found, few_heads, nothing_added}
+use Rattle.gabc_headers.proofs.stages.CharactersOfAStage.{keeps, stands, out_is, few_is, state_on, state_over, state_after, few_found, few_heads, nothing_added}
 use Rattle.gabc_headers.proofs.stages.EventsOfAStage.{reads_on, emits_limit, emits_stop, emits_whole, emits_no_end, values_lie_within}
 use Rattle.gabc_headers.proofs.header_stage.HeaderStage.read.Goals as goal
 
@@ -104,7 +104,7 @@ pub returns-in-Ok-score_len-clause-state : goal.returns-in-Ok-score_len-clause-s
 returns-in-Ok-score_len-clause-state c =
     let st = stands c.self.inside.limits c.self.inside.part (string_bytes c.self.inside.text) (string_capacity c.self.inside.text) c.self.inside.machine c.self.inside.headers c.args.self.now c.self.view_is c.requires.reading c.self.invariant in
     let emits = emits_whole c.self.inside.limits (string_bytes c.self.inside.text) (string_capacity c.self.inside.text) c.self.inside.machine c.push.new.self c.self.inside.headers c.args.c (IsUtf8-string_bytes c.self.inside.text) c.ranges.c.0 st.reads c.in-Ended-Score.place c.in-Ended-Score.field-0-1 c.in-Ended-Score.open_line c.in-Ok-score_len.size (sym c.in-Ended-Score.ensures.pushes ∙ ap (λ (x : HeaderEnding). (c.push.new.self, Ended x)) c.in-Ended-Score.field-0-is) (rw (← c.as_str-text.ensures.value, ← c.in-Ended-Score.place-is, ← c.in-Ended-Score.open_line-is) (sym c.in-Ok-score_len.ensures)) in
-    state_behind c.self.inside.limits c.self.inside.part (string_bytes c.self.inside.text) c.self.inside.headers c.args.self.now c.args.c st.part_is c.self.view_is emits.progress_is
+    state_after c.self.inside.limits c.self.inside.part (string_bytes c.self.inside.text) c.self.inside.headers c.args.self.now c.args.c st.part_is c.self.view_is emits.progress_is
 
 pub returns-in-Ok-score_len-clause-out : goal.returns-in-Ok-score_len-clause-out
 returns-in-Ok-score_len-clause-out c =

@@ -2,17 +2,17 @@ use Rattle.std.proofs.Common.{ℕ, ◌+◌, List, ◌∷◌, length, ap, sym, �
 use Rattle.std.proofs.lemmas.Str.{IsCharBoundary-from_drop}
 use Rattle.gabc_nabc.specs.Parts.{parts_from}
 use Rattle.gabc_nabc.specs.declared.descriptor.Descriptor.{Descriptor}
-use Rattle.gabc_nabc.proofs.parts_of_text.PartsByBytes.{part_at, behind_first}
+use Rattle.gabc_nabc.proofs.parts_of_text.PartsByBytes.{part_at, after_first}
 use Rattle.gabc_nabc.proofs.descriptors.PartReaderIterator.next.Goals as goal
 
 pub range_from-self-inside-requires : goal.range_from-self-inside-requires
 range_from-self-inside-requires c =
-    let here = behind_first c.self.inside.rest.now c.self.inside.at (c.in_ok-space.space, c.in_ok-space.len) c.self.invariant.0 (sym c.first_part.ensures ∙ c.in_ok-space.was) in
+    let here = after_first c.self.inside.rest.now c.self.inside.at (c.in_ok-space.space, c.in_ok-space.len) c.self.invariant.0 (sym c.first_part.ensures ∙ c.in_ok-space.was) in
     λ l. IsCharBoundary-from_drop c.self.inside.rest.now c.in_ok-space.len here.within here.utf8
 
 pub overflow_add-span : goal.overflow_add-span
 overflow_add-span c =
-    let here = behind_first c.self.inside.rest.now c.self.inside.at (c.in_ok-space.space, c.in_ok-space.len) c.self.invariant.0 (sym c.first_part.ensures ∙ c.in_ok-space.was) in
+    let here = after_first c.self.inside.rest.now c.self.inside.at (c.in_ok-space.space, c.in_ok-space.len) c.self.invariant.0 (sym c.first_part.ensures ∙ c.in_ok-space.was) in
     let fits = c.self.invariant.1 in
     let within = here.within in
     omega (arith, fits, within)
@@ -20,7 +20,7 @@ overflow_add-span c =
 pub returns-clause-steps : goal.returns-clause-steps
 returns-clause-steps c =
     let part : Descriptor = part_at c.self.inside.at (c.in_ok-space.space, c.in_ok-space.len) in
-    let here = behind_first c.self.inside.rest.now c.self.inside.at (c.in_ok-space.space, c.in_ok-space.len) c.self.invariant.0 (sym c.first_part.ensures ∙ c.in_ok-space.was) in
+    let here = after_first c.self.inside.rest.now c.self.inside.at (c.in_ok-space.space, c.in_ok-space.len) c.self.invariant.0 (sym c.first_part.ensures ∙ c.in_ok-space.was) in
     sym c.self.view_is
     ∙ (here.parts
     ∙ ap (λ (rest : List ℕ). part ∷ parts_from (c.self.inside.at + c.in_ok-space.len) rest) (sym c.range_from-self-inside.ensures.value))

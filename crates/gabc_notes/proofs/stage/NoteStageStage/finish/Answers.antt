@@ -6,7 +6,7 @@ use Rattle.gabc_notes.specs.Ends.{is_ended}
 use Rattle.gabc_notes.specs.declared.stage.NoteEnd.TheVariants.{Cut}
 use Rattle.gabc_notes.specs.declared.stage.NoteEvent.{NoteEvent}
 use Rattle.gabc_notes.specs.declared.stage.NoteEvent.TheVariants.{Ended}
-use Rattle.gabc_places.proofs.NothingBehindAnEnd.{stops-last}
+use Rattle.gabc_places.proofs.NothingAfterAnEnd.{stops-last}
 use Rattle.gabc_notes.proofs.Stopping.{ended-emits_nothing}
 use Rattle.gabc_notes.proofs.stage.NoteStageStage.finish.Goals as goal
 

@@ -1,7 +1,7 @@
 use Rattle.std.proofs.Common.{rules, List, [], refl, subst, append-nil, arith}
 use Rattle.gabc_score.specs.ScoreEvents.{ScoreOutput, outputs_of}
 use Rattle.gabc_score.specs.ScoreStage.{Lends}
-use Rattle.gabc_score.specs.machine.ScoreStage.{placed_behind}
+use Rattle.gabc_score.specs.machine.ScoreStage.{placed_after}
 use Rattle.gabc_score.proofs.score_events.FewAndShortAreLent.{held_lends}
 use Rattle.gabc_score.proofs.score_machine.ScoreMachine.break_off.Goals as goal
 
@@ -10,7 +10,7 @@ returns c =
     let held = c.free.new.self.held in
     let rests = c.requires.stands.rests.rests in
     let limits = c.args.self.now.limits in
-    let outputs = outputs_of [] (placed_behind c.args.self.now.has_lent held) in
+    let outputs = outputs_of [] (placed_after c.args.self.now.has_lent held) in
     record {
       step = record {
         outputs = outputs;

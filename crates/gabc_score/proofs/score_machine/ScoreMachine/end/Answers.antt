@@ -12,13 +12,13 @@ use Rattle.gabc_score.specs.Syllable.{UnplacedSyllable}
 use Rattle.gabc_score.specs.machine.BodyBuilder.{code_in, end_fault, end_findings, with_all, with_found}
 use Rattle.gabc_score.specs.machine.Gatherer.{Gathered, with_last}
 use Rattle.gabc_score.specs.machine.ScoreMachine.{IsAtRest, IsScoreAt, IsShort}
-use Rattle.gabc_score.specs.machine.ScoreStage.{placed_behind}
+use Rattle.gabc_score.specs.machine.ScoreStage.{placed_after}
 use Rattle.gabc_score.proofs.building.EventsAreHeld.{never_lent}
 use Rattle.gabc_score.proofs.score_events.EventsStayWithinBounds.{few_found}
 use Rattle.gabc_score.proofs.score_events.FewAndShortAreLent.{short_at_end, held_lends, lends_these, no_code, placed_within}
 use Rattle.gabc_score.proofs.score_events.GivesOutside.{gives_outside}
 use Rattle.gabc_score.proofs.score_events.LastHasNoNotes.{last_has_no_notes, none_made_at_end}
-use Rattle.gabc_score.proofs.score_events.PartsFollow.{last_behind, leads_out}
+use Rattle.gabc_score.proofs.score_events.PartsFollow.{last_after, leads_out}
 use Rattle.gabc_score.proofs.score_events.MemoryIsKept.{limit_last, limit_past, room_past}
 use Rattle.gabc_score.proofs.score_machine.ScoreMachine.end.Goals as goal
 
@@ -47,14 +47,14 @@ returns-in-Some c =
     let m = c.args.self.now in
     let rests = c.requires.stands.rests.rests in
     let fault = c.in-Some.fault in
-    let given = outputs_of [] (placed_behind m.has_lent held) in
+    let given = outputs_of [] (placed_after m.has_lent held) in
     let kept = kept_memory m c.free.new.self.gathered c.hold.new.pair.gathered c.close_last-has_last.new.self.gathered c.hold.new.found c.close.new.self.events rests c.free.ensures.gathered c.hold.ensures.gathered c.close_last-has_last.ensures.gathered c.hold.ensures.found in
     record {
       step = gives_outside (given ++ Stop fault ∷ []) (λ is. absurd (cc (is, c.stop.ensures.part))) (λ heads. absurd (cc (heads, c.requires.stands.part))) (record {
         lends = held_lends m.limits 2 m.has_lent held m.pair.gathered.made (Stop fault ∷ []) refl (c.close_last-has_last.ensures.held ∙ (c.hold.ensures.held ∙ c.free.ensures.held)) rests.short c.stop.ensures.few (omega arith);
         limits = c.stop.ensures.limits;
         part = leads_out m.part c.stop.new.self.part head_event.End given (Stop fault) c.requires.stands.part c.stop.ensures.part refl;
-        last = λ other final. last_behind given (Stop fault) refl;
+        last = λ other final. last_after given (Stop fault) refl;
         passes = λ other. tt;
         law = search rules;
         emitted = c.stop.ensures.emitted;
@@ -68,7 +68,7 @@ returns-in-None c =
     let p = c.close_last-has_last.new.self in
     let fs = c.hold.new.found.items in
     let found = fs ++ end_findings c.args.self.now.next c.close_last-has_last.result (p.gathered.eu || p.gathered.nlba) in
-    let lent = placed_behind c.args.self.now.has_lent p.gathered.made in
+    let lent = placed_after c.args.self.now.has_lent p.gathered.made in
     let rests = c.requires.stands.rests.rests in
     let limits = c.args.self.now.limits in
     let now = c.close.new.self.events in
@@ -79,7 +79,7 @@ returns-in-None c =
     let made : all.made ≡ old.made = none_made_at_end c.args.self.now.body old now c.close.ensures.events.law in
     let held = ap (λ (k : Gathered). k.made) c.free.ensures.gathered in
     let one : length all.made ≤ 1 = omega (arith, ap (λ (ms : List UnplacedSyllable). length ms) (made ∙ sym held), c.free.ensures.one) in
-    let later : OnlyFirstHasNotes lent = subst (λ (k : Gathered). OnlyFirstHasNotes (placed_behind c.args.self.now.has_lent k.made)) (sym is) (last_has_no_notes c.args.self.now.has_lent all one) in
+    let later : OnlyFirstHasNotes lent = subst (λ (k : Gathered). OnlyFirstHasNotes (placed_after c.args.self.now.has_lent k.made)) (sym is) (last_has_no_notes c.args.self.now.has_lent all one) in
     let short : All (IsShort limits.syllable) p.gathered.made = subst (λ (k : Gathered). All (IsShort limits.syllable) k.made) (sym is) (short_at_end limits old now rests.limit rests.over rests.short none) in
     let kept = kept_memory c.args.self.now c.free.new.self.gathered g p.gathered c.hold.new.found now rests c.free.ensures.gathered c.hold.ensures.gathered c.close_last-has_last.ensures.gathered c.hold.ensures.found in
     record {
@@ -87,7 +87,7 @@ returns-in-None c =
         lends = lends_these limits 2 found lent (End ∷ []) refl c.give_end.ensures.few later (placed_within limits _ p.gathered.made short);
         limits = refl;
         part = leads_out c.args.self.now.part _ head_event.End (outputs_of found lent) End c.requires.stands.part refl refl;
-        last = λ other final. last_behind (outputs_of found lent) End refl;
+        last = λ other final. last_after (outputs_of found lent) End refl;
         passes = λ other. tt;
         law = search rules;
         emitted = rw (sym c.slice-found.ensures) c.give_end.ensures.emitted;

@@ -19,7 +19,7 @@ use Rattle.gabc_score.specs.witness.BodyStage.{BodyStageState}
 use Rattle.gabc_score.proofs.resuming.HeldIsHeld.{found_alone, is_found}
 use Rattle.gabc_score.proofs.resuming.NothingIsRead.{begins_again}
 use Rattle.gabc_score.proofs.resuming.ResumedIsOfText.{first_is_place}
-use Rattle.gabc_score.proofs.texts_of_body.StageAndDefinitionAgree.{fits_behind_prefix}
+use Rattle.gabc_score.proofs.texts_of_body.StageAndDefinitionAgree.{fits_after_prefix}
 use Rattle.gabc_score.proofs.score_machine.ScoreMachine.hold_again.Goals as goal
 
 pub returns-then-not-read_all-clause-holds : goal.returns-then-not-read_all-clause-holds
@@ -27,7 +27,7 @@ returns-then-not-read_all-clause-holds c =
     let was = c.args.self.now in
     let short = c.requires.short in
     let rests : IsInBody was = subst (λ (p : ScorePart). IsScoreAt p was) c.requires.alone.begins.body c.requires.alone.rests in
-    let fits = fits_behind_prefix first_place [] c.args.text.now c.utf8.text (omega arith) (omega arith) (omega (arith, short)) in
+    let fits = fits_after_prefix first_place [] c.args.text.now c.utf8.text (omega arith) (omega arith) (omega (arith, short)) in
     record {
       held = λ good. absurd (true≢false (sym good));
       told = λ good. absurd (true≢false (sym good));
@@ -58,7 +58,7 @@ returns-clause-holds c =
     let was = c.args.self.now in
     let short = c.requires.short in
     let rests : IsInBody was = subst (λ (p : ScorePart). IsScoreAt p was) c.requires.alone.begins.body c.requires.alone.rests in
-    let fits = fits_behind_prefix first_place [] c.args.text.now c.utf8.text (omega arith) (omega arith) (omega (arith, short)) in
+    let fits = fits_after_prefix first_place [] c.args.text.now c.utf8.text (omega arith) (omega arith) (omega (arith, short)) in
     let good = c.if-not-read_all.false in
     let on = c.read_all.ensures.reads.goes good in
     let few = subst (λ (g : Gathered). length g.made ≤ 1) on.gathered c.at_most_one_is_held.ensures in
@@ -100,7 +100,7 @@ returns-clause-rests c =
     let short = c.requires.short in
     let some = sym c.read_all.ensures.reads.alone ∙ c.if-not-read_all.false in
     let old : IsInBody c.args.self.now = subst (λ (p : ScorePart). IsScoreAt p c.args.self.now) c.requires.alone.begins.body c.requires.alone.rests in
-    let fits = fits_behind_prefix first_place [] c.args.text.now c.utf8.text (omega arith) (omega arith) (omega (arith, short)) in
+    let fits = fits_after_prefix first_place [] c.args.text.now c.utf8.text (omega arith) (omega arith) (omega (arith, short)) in
     let few = subst (λ (g : Gathered). length g.made ≤ 1) on.gathered c.at_most_one_is_held.ensures in
     let found = found_alone c.args.self.now old c.requires.alone.begins c.requires.alone.none (chars c.args.text.now) fits c.a_text_is_read_from_its_beginning.ensures some few in
     let nothing = ap (λ (g : Gathered). g.builder) on.gathered ∙ on.whole (ap is_none found.made) in
@@ -109,10 +109,10 @@ returns-clause-rests c =
       counts = subst (CountsHold c.begin_text.new.self.part) (sym nothing) c.begin_text.ensures.counts;
       kept = was.kept;
       preceded = was.preceded;
-      behind = was.behind;
+      after = was.after;
       lent = was.lent;
       code = was.code;
-      reading = begins_again _ _ c.read_all.new.self.body.part c.begin_text.new.self.part c.read_all.new.self.bounds.behind.spans c.read_all.new.self.pair.gathered
+      reading = begins_again _ _ c.read_all.new.self.body.part c.begin_text.new.self.part c.read_all.new.self.bounds.after.spans c.read_all.new.self.pair.gathered
           (rw (ap (λ (b : BodyStageState). b.nabc_lines) c.begin_text.ensures.text, ap (λ (b : BodyStageState). b.macros) c.begin_text.ensures.text) was.reading) nothing (c.begin_text.ensures.keeps _ _);
       units = rw (ap (λ (b : BodyStageState). b.nabc_lines) c.begin_text.ensures.text) was.units;
       within = was.within;

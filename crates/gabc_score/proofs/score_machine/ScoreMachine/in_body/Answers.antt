@@ -13,18 +13,18 @@ returns-clause-rests c = record {
   counts = search rules;
   kept = search rules;
   preceded = search rules;
-  behind = search rules;
+  after = search rules;
   lent = search rules;
   code = search rules;
-  reading = comment_reads c.args.body.nabc_lines c.args.body.macros c.args.head c.args.limits.syllable c.args.head c.args.body.part c.behind_headers-bounds.result c.start.new.self.gathered
-      c.requires c.behind_headers-bounds.ensures
+  reading = comment_reads c.args.body.nabc_lines c.args.body.macros c.args.head c.args.limits.syllable c.args.head c.args.body.part c.after_headers-bounds.result c.start.new.self.gathered
+      c.requires c.after_headers-bounds.ensures
       (ap (λ (s : SlotPairState). s.gathered) c.start.ensures ∙ ap (λ (g : Gathered). record g { total = c.args.head }) c.in_ok-pair.ensures.gathered);
-  units = none_held c.args.body.nabc_lines c.behind_headers-bounds.result.before c.start.new.self.gathered.made
+  units = none_held c.args.body.nabc_lines c.after_headers-bounds.result.before c.start.new.self.gathered.made
       (ap (λ (s : SlotPairState). s.gathered.made) c.start.ensures ∙ ap (λ (g : Gathered). g.made) c.in_ok-pair.ensures.gathered);
-  within = within_begun c.args.limits c.args.head c.behind_headers-bounds.result.before c.start.new.self.gathered (ap (λ (b : Bounds). b.before) c.behind_headers-bounds.ensures)
+  within = within_begun c.args.limits c.args.head c.after_headers-bounds.result.before c.start.new.self.gathered (ap (λ (b : Bounds). b.before) c.after_headers-bounds.ensures)
       (ap (λ (g : Gathered). g.made) (ap (λ (s : SlotPairState). s.gathered) c.start.ensures ∙ ap (λ (g : Gathered). record g { total = c.args.head }) c.in_ok-pair.ensures.gathered));
   front = λ e. record {
-    none_before = ap (λ (b : Bounds). b.before.syllables) c.behind_headers-bounds.ensures;
+    none_before = ap (λ (b : Bounds). b.before.syllables) c.after_headers-bounds.ensures;
     none_made = ap (λ (s : SlotPairState). s.gathered.made) c.start.ensures ∙ ap (λ (g : Gathered). g.made) c.in_ok-pair.ensures.gathered;
   };
 }

@@ -1,10 +1,10 @@
 use Rattle.std.proofs.Common.{rules, ◌++◌, [], ◌∷◌, refl, arith}
 use Rattle.gabc_score.specs.ScoreEvents.{Found, Stop, outputs_of}
-use Rattle.gabc_score.specs.machine.ScoreStage.{placed_behind}
+use Rattle.gabc_score.specs.machine.ScoreStage.{placed_after}
 use Rattle.gabc_score.proofs.score_events.CharactersAreRead.{character_gives, character_rests}
 use Rattle.gabc_score.proofs.score_events.FewAndShortAreLent.{held_lends, lends_none}
 use Rattle.gabc_score.proofs.score_events.GivesOutside.{gives_outside}
-use Rattle.gabc_score.proofs.score_events.PartsFollow.{last_behind, leads_out}
+use Rattle.gabc_score.proofs.score_events.PartsFollow.{last_after, leads_out}
 use Rattle.gabc_score.proofs.score_machine.ScoreMachine.push_in_body.Goals as goal
 
 pub returns-in-Found : goal.returns-in-Found
@@ -36,12 +36,12 @@ pub returns-in-Stop : goal.returns-in-Stop
 returns-in-Stop c = record {
   step =
       let held = c.free.new.self.held in
-      let given = outputs_of [] (placed_behind c.args.self.now.has_lent held) in
+      let given = outputs_of [] (placed_after c.args.self.now.has_lent held) in
       gives_outside (given ++ Stop c.in-Stop.fault ∷ []) (λ body. absurd (cc (body, c.stop.ensures.part))) (λ heads. absurd (cc (heads, c.requires.stands.part))) (record {
         lends = rw c.in-Stop.is (held_lends c.args.self.now.limits 1 c.args.self.now.has_lent held c.args.self.now.pair.gathered.made (Stop c.in-Stop.fault ∷ []) refl c.free.ensures.held c.requires.stands.rests.rests.short c.stop.ensures.few (omega arith));
         limits = c.stop.ensures.limits;
         part = leads_out c.args.self.now.part c.stop.new.self.part _ given (Stop c.in-Stop.fault) c.requires.stands.part c.stop.ensures.part refl;
-        last = λ other final. last_behind given (Stop c.in-Stop.fault) refl;
+        last = λ other final. last_after given (Stop c.in-Stop.fault) refl;
         passes = λ other. rw c.in-Stop.is tt;
         law = search rules;
         emitted = c.stop.ensures.emitted;

@@ -12,7 +12,7 @@ use Rattle.gabc_score.specs.machine.Gatherer.{Gathered, nothing_gathered}
 use Rattle.gabc_score.specs.machine.PartCounts.{CountsHold}
 use Rattle.gabc_score.specs.machine.PartKeeps.{IsReading}
 use Rattle.gabc_score.specs.machine.Preceded.{IsPreceded}
-use Rattle.gabc_score.specs.machine.Resumed.{gathered_behind}
+use Rattle.gabc_score.specs.machine.Resumed.{gathered_after}
 use Rattle.gabc_score.specs.machine.ScoreMachine.{IsShort}
 use Rattle.gabc_score.specs.machine.SlotPair.{SlotPairState, is_made}
 use Rattle.gabc_score.specs.witness.BodyStage.{BodyStageState}
@@ -20,12 +20,12 @@ use Rattle.gabc_score.specs.ReportedWithin.{IsAtOutset}
 use Rattle.gabc_score.specs.machine.BodyBuilder.{code_in}
 use Rattle.gabc_score.proofs.score_events.HeldWithinLimits.{within_none}
 use Rattle.gabc_score.proofs.score_events.UnitsAreHeld.{none_held}
-use Rattle.gabc_score.proofs.resuming.BehindSyllables.{nothing_passes, preceded_behind, reads_behind}
+use Rattle.gabc_score.proofs.resuming.AfterSyllables.{nothing_passes, preceded_after, reads_after}
 use Rattle.gabc_score.proofs.score_machine.ScoreMachine.resume.Goals as goal
 
 pub returns-clause-stands : goal.returns-clause-stands
 returns-clause-stands c =
-    let gathered = ap (λ (s : SlotPairState). s.gathered) c.follow.ensures ∙ ap (gathered_behind c.args.before) c.in_ok-pair.ensures.gathered in
+    let gathered = ap (λ (s : SlotPairState). s.gathered) c.follow.ensures ∙ ap (gathered_after c.args.before) c.in_ok-pair.ensures.gathered in
     record {
       limits_are = refl;
       before_is = search (rules, c.preceding-preceding.ensures, c.begin_text.ensures.text, c.restart.ensures);
@@ -37,7 +37,7 @@ pub returns-clause-rests : goal.returns-clause-rests
 returns-clause-rests c =
     let b = c.args.before in
     let limit = c.args.limits.syllable in
-    let gathered : c.follow.new.self.gathered ≡ gathered_behind b (nothing_gathered limit 0) = ap (λ (s : SlotPairState). s.gathered) c.follow.ensures ∙ ap (gathered_behind b) c.in_ok-pair.ensures.gathered in
+    let gathered : c.follow.new.self.gathered ≡ gathered_after b (nothing_gathered limit 0) = ap (λ (s : SlotPairState). s.gathered) c.follow.ensures ∙ ap (gathered_after b) c.in_ok-pair.ensures.gathered in
     let used = ap (λ (s : SlotPairState). s.used) c.follow.ensures ∙ c.in_ok-pair.ensures.used in
     let before : c.preceding-preceding.result ≡ preceding_of b = c.preceding-preceding.ensures in
     let kept = ap (λ (g : Gathered). length g.builder.kept) gathered in
@@ -52,12 +52,12 @@ returns-clause-rests c =
       };
       counts = subst (λ (g : Gathered). CountsHold c.begin_text.new.self.part g.builder) (sym gathered) c.begin_text.ensures.counts;
       kept = omega (arith, kept);
-      preceded = subst (λ (p : Preceding). IsPreceded p c.follow.new.self.gathered) (sym before) (subst (IsPreceded (preceding_of b)) (sym gathered) (preceded_behind b limit));
-      behind = ap (λ (g : Gathered). with_each c.preceding-preceding.result g.made) (sym gathered);
+      preceded = subst (λ (p : Preceding). IsPreceded p c.follow.new.self.gathered) (sym before) (subst (IsPreceded (preceding_of b)) (sym gathered) (preceded_after b limit));
+      after = ap (λ (g : Gathered). with_each c.preceding-preceding.result g.made) (sym gathered);
       lent = ap (λ (p : Preceding). nat_lt 0 p.syllables) (sym before);
       code = ap (code_in c.args.limits) gathered ∙ nothing_passes c.args.limits b limit;
       reading = subst (λ (p : Preceding). IsReading c.begin_text.new.self.nabc_lines c.begin_text.new.self.macros c.begin_text.new.self.part p.spans c.follow.new.self.gathered) (sym before)
-          (subst (IsReading c.begin_text.new.self.nabc_lines c.begin_text.new.self.macros c.begin_text.new.self.part b.spans) (sym gathered) (reads_behind _ _ limit c.begin_text.new.self.part b (c.begin_text.ensures.keeps _ _)));
+          (subst (IsReading c.begin_text.new.self.nabc_lines c.begin_text.new.self.macros c.begin_text.new.self.part b.spans) (sym gathered) (reads_after _ _ limit c.begin_text.new.self.part b (c.begin_text.ensures.keeps _ _)));
       units = none_held c.begin_text.new.self.nabc_lines c.preceding-preceding.result c.follow.new.self.gathered.made (ap (λ (g : Gathered). g.made) gathered);
       within = within_none c.args.limits c.preceding-preceding.result c.follow.new.self.gathered (subst IsAtOutset (sym before) c.requires) (ap (λ (g : Gathered). g.made) gathered);
       front = λ e. absurd (true≢false (sym e ∙ ap (λ (b : BodyStageState). is_in_front b.part) c.begin_text.ensures.text));

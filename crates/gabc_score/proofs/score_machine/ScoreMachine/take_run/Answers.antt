@@ -55,9 +55,9 @@ returns-then-not-give_held-clause-takes g c =
 
 -- ---- a run is taken
 
-module _ (lines : ℕ) (m : ScoreMachine) (f : Found) (e : lines ≡ m.body.nabc_lines) (found : IsFound lines m.limits m.bounds.behind.canonical f) where
-  first_found : IsFound m.body.nabc_lines m.limits m.bounds.behind.canonical f
-  first_found = subst (λ (n : ℕ). IsFound n m.limits m.bounds.behind.canonical f) e found
+module _ (lines : ℕ) (m : ScoreMachine) (f : Found) (e : lines ≡ m.body.nabc_lines) (found : IsFound lines m.limits m.bounds.after.canonical f) where
+  first_found : IsFound m.body.nabc_lines m.limits m.bounds.after.canonical f
+  first_found = subst (λ (n : ℕ). IsFound n m.limits m.bounds.after.canonical f) e found
 
   first_steady : ((is : BeginsRegularly lines (f.spelled.now ++ f.rest.now) (len_of f)) → IsSteady lines m.pair.gathered.first_kind is.syllable)
       → IsSteady m.body.nabc_lines m.pair.gathered.first_kind first_found.is.syllable

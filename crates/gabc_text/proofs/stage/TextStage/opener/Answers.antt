@@ -1,5 +1,5 @@
 use Rattle.std.proofs.Common.{Bool, Some, None, if◌then◌else◌, sym, ap, ◌∙◌}
-use Rattle.gabc_text.proofs.NothingBehindTheEnd.{opener_told}
+use Rattle.gabc_text.proofs.NothingAfterTheEnd.{opener_told}
 use Rattle.gabc_text.proofs.resuming.ToldByEvents.{opener_over}
 use Rattle.gabc_text.proofs.stage.TextStage.opener.Goals as goal
 

@@ -3,7 +3,7 @@ use Rattle.gabc_text.specs.declared.stage.TextStage.{TextStage}
 use Rattle.gabc_text.proofs.EndedStages.{finish_ended, finish_stays}
 use Rattle.gabc_text.proofs.PiecesFollowCharacters.{finish_is_paid}
 use Rattle.gabc_text.proofs.machine.EventsLeftAreThoseAhead.{finish_ends}
-use Rattle.gabc_text.proofs.NothingBehindTheEnd.{is_done, finish_stops, finish_is_over}
+use Rattle.gabc_text.proofs.NothingAfterTheEnd.{is_done, finish_stops, finish_is_over}
 use Rattle.gabc_text.proofs.stage.TextStageStage.finish.Goals as goal
 
 pub returns-clause-ends : goal.returns-clause-ends

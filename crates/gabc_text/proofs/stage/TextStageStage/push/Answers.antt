@@ -7,7 +7,7 @@ use Rattle.gabc_text.proofs.resuming.StagesKeep.{push_keeps}
 use Rattle.gabc_text.proofs.PiecesFollowCharacters.{in_room, push_is_paid}
 use Rattle.gabc_text.proofs.machine.EventsLeftAreThoseAhead.{push_emits}
 use Rattle.gabc_text.proofs.EndedStages.{push_ended, push_ends, push_next, push_stays}
-use Rattle.gabc_text.proofs.NothingBehindTheEnd.{push_stops}
+use Rattle.gabc_text.proofs.NothingAfterTheEnd.{push_stops}
 use Rattle.gabc_text.proofs.stage.TextStageStage.push.Goals as goal
 
 pub returns-clause-events : goal.returns-clause-events

@@ -5,7 +5,7 @@ use Rattle.gregorio.specs.Engine.{fault_of, is_running}
 use Rattle.gregorio.specs.Streams.{ended_with}
 use Rattle.gregorio.specs.witness.Engine.{EngineState, streams_left}
 use Rattle.gregorio.proofs.InputsArePut.{last_taken, runs_where_taken}
-use Rattle.gregorio.proofs.PiecesAreSent.{nothing_waits_behind}
+use Rattle.gregorio.proofs.PiecesAreSent.{nothing_waits_after}
 use Rattle.gregorio.proofs.engine.Engine.run_over.Goals as goal
 
 pub returns : goal.returns
@@ -18,7 +18,7 @@ returns g c =
       status = last.2.0;
       fault = ap (λ (e : EngineState). fault_of e) c.put_waiting.ensures.forgets ∙ last.2.1;
       job = λ job limits runs. runs_where_taken c.end-status.new.self c.put_waiting.new.engine job limits c.put_waiting.ensures.forgets (c.end-status.ensures.job job limits (c.feed_input.ensures.job job limits runs));
-      waits = nothing_waits_behind c.end-status.new.self c.put_waiting.new.engine c.put_waiting.ensures.forgets;
+      waits = nothing_waits_after c.end-status.new.self c.put_waiting.new.engine c.put_waiting.ensures.forgets;
       over = ap (λ (e : EngineState). is_running e) c.put_waiting.ensures.forgets ∙ c.end-status.ensures.over;
       last = λ bytes ending.
           ap (λ (e : EngineState). streams_left e ending bytes) c.put_waiting.ensures.forgets

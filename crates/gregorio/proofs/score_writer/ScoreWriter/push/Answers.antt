@@ -22,10 +22,10 @@ returns-clause-takes c =
     elim c.match-event.branch [
       | in-Heads w ↦
           let passed = subst (λ (s : ScoreWriterState). TakesEvent s.score s.writer x new) w.self-is c.pass.ensures.takes in
-          let behind = subst (λ (v : RunWriterState). TakesEvent i.score v x new) (w.heads.ensures.writes ∙ ap (with_heads i.writer) w.book.ensures) passed in
+          let after = subst (λ (v : RunWriterState). TakesEvent i.score v x new) (w.heads.ensures.writes ∙ ap (with_heads i.writer) w.book.ensures) passed in
           subst (λ (s : ScoreWriterState). TakesEvent s.score (heads_at s.writer x read) x new) c.self.view_is
           (subst (λ (y : HeadEvent). TakesEvent i.score (heads_at i.writer y read) y new) (sym w.in-Heads.is)
-          (subst (λ (y : HeadEvent). TakesEvent i.score (with_heads i.writer read) y new) w.in-Heads.is behind))
+          (subst (λ (y : HeadEvent). TakesEvent i.score (with_heads i.writer read) y new) w.in-Heads.is after))
       | in_default w ↦
           subst (λ (v : RunWriterState). TakesEvent old.score v x new) (sym (not_written old.writer x read (no_heads x w.in_default.not-Heads)))
           (subst (λ (s : ScoreWriterState). TakesEvent s.score s.writer x new) w.self-is c.pass.ensures.takes)

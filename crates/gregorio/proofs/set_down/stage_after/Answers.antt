@@ -4,7 +4,7 @@ use Rattle.gabc_score.specs.declared.before.Before.{Before}
 use Rattle.gregorio_state.specs.Fields.{fields_of, score_of}
 use Rattle.gregorio.specs.SavedState.{before_held}
 use Rattle.gregorio.proofs.setting_down.StateIsRead.{counts_within}
-use Rattle.gregorio.proofs.set_down.stage_behind.Goals as goal
+use Rattle.gregorio.proofs.set_down.stage_after.Goals as goal
 
 pub returns-in-Ok-clause-stands : goal.returns-in-Ok-clause-stands
 returns-in-Ok-clause-stands c =

@@ -5,5 +5,5 @@ use Rattle.gabc_nabc.specs.declared.code.GlyphCode.{GlyphCode}
 use Rattle.gabc_write.specs.DumpOfNabc.{name_of_code}
 
 -- the names, each with a `!` before it
-abbrev pub names_behind : List GlyphCode → List ℕ
-names_behind behind = flat_map (λ c. codes "!" ++ name_of_code c) behind
+abbrev pub names_after : List GlyphCode → List ℕ
+names_after after = flat_map (λ c. codes "!" ++ name_of_code c) after

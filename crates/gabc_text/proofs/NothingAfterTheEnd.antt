@@ -8,7 +8,7 @@ use Rattle.gabc_places.specs.declared.place.Place.{Place}
 use Rattle.gabc_places.specs.declared.place.Span.{Span}
 use Rattle.gabc_places.specs.BoundedList.{BoundedList, extended_by}
 use Rattle.gabc_places.specs.StageLaw.{concat_of, EmitsNothing, StopsAtEnd}
-use Rattle.gabc_places.proofs.NothingBehindAnEnd.{stops-endless, stops-last}
+use Rattle.gabc_places.proofs.NothingAfterAnEnd.{stops-endless, stops-last}
 use Rattle.gabc_text.specs.declared.token_state.Step.{Step}
 use Rattle.gabc_text.specs.declared.token_state.Step.TheVariants.{Stays, Ends}
 use Rattle.gabc_text.specs.declared.text_facts.TextFacts.{TextFacts}
@@ -97,8 +97,8 @@ pub record EndsLast (events : List TextEvent) : Type 0 where
   pub events_are : events ≡ before ++ last ∷ []
   pub endless : Endless before
 
-behind : (a b : List TextEvent) → Endless a → EndsLast b → EndsLast (a ++ b)
-behind a b e l = record {
+after : (a b : List TextEvent) → Endless a → EndsLast b → EndsLast (a ++ b)
+after a b e l = record {
   before = a ++ l.before;
   last = l.last;
   events_are = ap (λ v. a ++ v) l.events_are ∙ sym (append_assoc a l.before (l.last ∷ []));
@@ -107,8 +107,8 @@ behind a b e l = record {
 
 end_last : (facts : TextFacts) (progress : Progress) (h : TextEnd) → EndsLast (events_of_end facts progress h)
 end_last facts progress h =
-    behind _ _ (found_endless progress.next (cond (is_cut_end h) [] (codes_last facts)))
-    (behind _ _ (mapped_endless (λ (c : Span). out.Part (part.Centre c)) (λ c. refl) (option_list_of (centre_by (count_by progress.pieces progress.blank) progress.begin progress.end)))
+    after _ _ (found_endless progress.next (cond (is_cut_end h) [] (codes_last facts)))
+    (after _ _ (mapped_endless (λ (c : Span). out.Part (part.Centre c)) (λ c. refl) (option_list_of (centre_by (count_by progress.pieces progress.blank) progress.begin progress.end)))
     (record { before = []; last = out.Ended h; events_are = refl; endless = record { none = refl } }))
 
 last_stops : (next : TextStage) (events : List TextEvent) (old new : BoundedList TextEvent) → next.ended ≡ true → new ≡ extended_by old events → EndsLast events
@@ -131,7 +131,7 @@ push_stops t c next old new = by t.ended
         → StopsAtEnd is_end (λ (cs : List Char). events_left next (codes_of cs)) old new
     settled true e o =
         last_stops next _ old new (ap (λ (x : TextStage). x.ended) e) o
-        (behind _ _ (settle_endless t (settled_kind t.state c)) (end_last (settle_stage t c).facts (settle_stage t c).progress text_ending.Notes))
+        (after _ _ (settle_endless t (settled_kind t.state c)) (end_last (settle_stage t c).facts (settle_stage t c).progress text_ending.Notes))
     settled false e o =
         endless_stops next _ old new o (endless-append _ _ (settle_endless t (settled_kind t.state c)) (read_endless (settle_stage t c) c))
 
@@ -162,7 +162,7 @@ finish_stops t next old new n = by t.ended
     ended None o = last_stops next _ old new (ap (λ (x : TextStage). x.ended) n ∙ is_done t) o (end_last t.facts t.progress text_ending.Finished)
     ended (Some k) o =
         last_stops next _ old new (ap (λ (x : TextStage). x.ended) n ∙ is_done t) o
-        (behind _ _ (token_endless t.facts t.progress k Other t.progress.start) (end_last (facts_after t.facts k Other) (progress_after t.facts t.progress k Other t.progress.next) (end_by k t.progress.place)))
+        (after _ _ (token_endless t.facts t.progress k Other t.progress.start) (end_last (facts_after t.facts k Other) (progress_after t.facts t.progress k Other t.progress.next) (end_by k t.progress.place)))
 
     by : (d : Bool) → new ≡ extended_by old (cond d [] (events_of_finish_by t (kind_at_end t.state))) → StopsAtEnd is_end (λ (cs : List Char). events_left next (codes_of cs)) old new
     by true o = endless_stops next [] old new o (record { none = refl })
@@ -170,12 +170,12 @@ finish_stops t next old new n = by t.ended
 
 -- ---- where a text is cut
 
-cut_behind : (a b : List TextEvent) → Endless a → cut_place (a ++ b) ≡ cut_place b
-cut_behind [] b e = refl
-cut_behind (out.Kept x ∷ a) b e = cut_behind a b (record { none = e.none })
-cut_behind (out.Part p ∷ a) b e = cut_behind a b (record { none = e.none })
-cut_behind (out.Found f ∷ a) b e = cut_behind a b (record { none = e.none })
-cut_behind (out.Ended h ∷ a) b e = absurd (let f = e.none in cc)
+cut_after : (a b : List TextEvent) → Endless a → cut_place (a ++ b) ≡ cut_place b
+cut_after [] b e = refl
+cut_after (out.Kept x ∷ a) b e = cut_after a b (record { none = e.none })
+cut_after (out.Part p ∷ a) b e = cut_after a b (record { none = e.none })
+cut_after (out.Found f ∷ a) b e = cut_after a b (record { none = e.none })
+cut_after (out.Ended h ∷ a) b e = absurd (let f = e.none in cc)
 
 abbrev place_in : TextEnd → Option Place
 place_in (text_ending.Cut p) = Some p
@@ -183,8 +183,8 @@ place_in _ = None
 
 end_cuts : (facts : TextFacts) (progress : Progress) (h : TextEnd) → cut_place (events_of_end facts progress h) ≡ place_in h
 end_cuts facts progress h =
-    cut_behind _ _ (found_endless progress.next (cond (is_cut_end h) [] (codes_last facts)))
-    ∙ (cut_behind _ _ (mapped_endless (λ (c : Span). out.Part (part.Centre c)) (λ c. refl) (option_list_of (centre_by (count_by progress.pieces progress.blank) progress.begin progress.end)))
+    cut_after _ _ (found_endless progress.next (cond (is_cut_end h) [] (codes_last facts)))
+    ∙ (cut_after _ _ (mapped_endless (λ (c : Span). out.Part (part.Centre c)) (λ c. refl) (option_list_of (centre_by (count_by progress.pieces progress.blank) progress.begin progress.end)))
     ∙ go h)
   where
     go : (h : TextEnd) → cut_place (out.Ended h ∷ []) ≡ place_in h
@@ -203,7 +203,7 @@ opener_told t r =
         → cut_place (events_of_token facts progress k Other progress.start ++ events_of_end (facts_after facts k Other) (progress_after facts progress k Other progress.next) (end_by k progress.place))
         ≡ place_in (end_by k progress.place)
     ended k facts progress =
-        cut_behind _ _ (token_endless facts progress k Other progress.start)
+        cut_after _ _ (token_endless facts progress k Other progress.start)
         ∙ end_cuts (facts_after facts k Other) (progress_after facts progress k Other progress.next) (end_by k progress.place)
 
     at_state : (s : TokenState) (facts : TextFacts) (progress : Progress)
@@ -267,7 +267,7 @@ comment_told t r =
     at_state state.Comment facts progress =
         let u : TextStage = push_stage (running state.Comment facts progress) 40 in
         sounds_last (events_of_finish u)
-        (behind _ _ (token_endless u.facts u.progress kind.Comment Other u.progress.start)
+        (after _ _ (token_endless u.facts u.progress kind.Comment Other u.progress.start)
         (end_last (facts_after u.facts kind.Comment Other) (progress_after u.facts u.progress kind.Comment Other u.progress.next) (end_by kind.Comment u.progress.place)))
     at_state (state.Tag name) facts progress = other (state.Tag name) facts progress (λ e. cc)
     at_state (state.Raw raw m) facts progress = other (state.Raw raw m) facts progress (λ e. cc)

@@ -70,12 +70,12 @@ score_ends texts limits (head_event.Stop fault ∷ xs) = (λ l. joined_silence x
 score_ends texts limits (head_event.End ∷ xs) = (λ l. joined_silence xs, silent _ (joined_silence xs))
 score_ends texts limits (head_event.Body x ∷ xs) = score_ends texts limits xs
 
-nothing_behind : (outputs before behind : List ScoreOutput) (o : ScoreOutput) → Ends outputs → outputs ≡ before ++ o ∷ behind → is_last o ≡ true → behind ≡ []
-nothing_behind [] [] behind o h e l = absurd (cc)
-nothing_behind [] (p ∷ before) behind o h e l = absurd (cc)
-nothing_behind (q ∷ outputs) [] behind o h e l = let i : (q ≡ o) × (outputs ≡ behind) = (cc, cc) in sym i.1 ∙ h.0 (ap is_last i.0 ∙ l)
-nothing_behind (q ∷ outputs) (p ∷ before) behind o h e l = let t : outputs ≡ before ++ o ∷ behind = cc in nothing_behind outputs before behind o h.1 t l
+nothing_after : (outputs before after : List ScoreOutput) (o : ScoreOutput) → Ends outputs → outputs ≡ before ++ o ∷ after → is_last o ≡ true → after ≡ []
+nothing_after [] [] after o h e l = absurd (cc)
+nothing_after [] (p ∷ before) after o h e l = absurd (cc)
+nothing_after (q ∷ outputs) [] after o h e l = let i : (q ≡ o) × (outputs ≡ after) = (cc, cc) in sym i.1 ∙ h.0 (ap is_last i.0 ∙ l)
+nothing_after (q ∷ outputs) (p ∷ before) after o h e l = let t : outputs ≡ before ++ o ∷ after = cc in nothing_after outputs before after o h.1 t l
 
-pub nothing_follows : (texts : Texts) (limits : Limits) (xs : List HeadEvent) (before behind : List ScoreOutput) (o : ScoreOutput)
-    → concat_of (score_outputs texts limits xs) ≡ before ++ o ∷ behind → is_last o ≡ true → behind ≡ []
-nothing_follows texts limits xs before behind o = nothing_behind (concat_of (score_outputs texts limits xs)) before behind o (score_ends texts limits xs)
+pub nothing_follows : (texts : Texts) (limits : Limits) (xs : List HeadEvent) (before after : List ScoreOutput) (o : ScoreOutput)
+    → concat_of (score_outputs texts limits xs) ≡ before ++ o ∷ after → is_last o ≡ true → after ≡ []
+nothing_follows texts limits xs before after o = nothing_after (concat_of (score_outputs texts limits xs)) before after o (score_ends texts limits xs)

@@ -20,12 +20,12 @@ use Rattle.gabc_score.specs.Events.{body_events}
 use Rattle.gabc_score.specs.Body.{body_of}
 use Rattle.gabc_score.specs.NoteBeforeClef.{with_first_each, score_events}
 use Rattle.gabc_score.specs.Score.{heads_text, after_heads, body_in}
-use Rattle.gabc_places.proofs.PlacesOfAText.{placed_behind, behind_after}
+use Rattle.gabc_places.proofs.PlacesOfAText.{placed_after, after_joined}
 
-utf8_behind : (t : List ℕ) (n : ℕ) → IsUtf8 (encodes t) → IsUtf8 (encodes (drop n t))
-utf8_behind t zero u = u
-utf8_behind [] (suc n) u = u
-utf8_behind (c ∷ t) (suc n) u = utf8_behind t n (IsUtf8-past_char (encodes (c ∷ t)) (encodes t) c u refl)
+utf8_after : (t : List ℕ) (n : ℕ) → IsUtf8 (encodes t) → IsUtf8 (encodes (drop n t))
+utf8_after t zero u = u
+utf8_after [] (suc n) u = u
+utf8_after (c ∷ t) (suc n) u = utf8_after t n (IsUtf8-past_char (encodes (c ∷ t)) (encodes t) c u refl)
 
 -- a text by bytes is that of its prefix and that of what follows
 split_bytes : (t : List ℕ) (n : ℕ) → encodes t ≡ encodes (take n t) ++ encodes (drop n t)
@@ -42,7 +42,7 @@ module _ (t bytes : List ℕ) (whole : bytes ≡ encodes t) (utf8 : IsUtf8 bytes
   seam = whole ∙ split_bytes t n
 
   pub boundary_here : IsCharBoundary bytes at
-  boundary_here = subst (IsCharBoundary bytes) size (IsCharBoundary-at_seam bytes (encodes (take n t)) (encodes (drop n t)) seam (utf8_behind t n utf8_of))
+  boundary_here = subst (IsCharBoundary bytes) size (IsCharBoundary-at_seam bytes (encodes (take n t)) (encodes (drop n t)) seam (utf8_after t n utf8_of))
 
   prefix_bytes : take at bytes ≡ encodes (take n t)
   prefix_bytes = ap (take at) seam ∙ take_at (encodes (take n t)) (encodes (drop n t)) at size
@@ -56,22 +56,22 @@ module _ (t bytes : List ℕ) (whole : bytes ≡ encodes t) (utf8 : IsUtf8 bytes
   pub utf8_here : IsUtf8 (drop at bytes)
   utf8_here = IsUtf8-drop bytes at utf8 boundary_here
 
-  pub chars_behind : chars (drop at bytes) ≡ drop n t
-  chars_behind = encodes_same (chars (drop at bytes)) (drop n t) (encodes-chars (drop at bytes) utf8_here ∙ after_bytes)
+  pub chars_after : chars (drop at bytes) ≡ drop n t
+  chars_after = encodes_same (chars (drop at bytes)) (drop n t) (encodes-chars (drop at bytes) utf8_here ∙ after_bytes)
 
-module _ (limits : Limits) (ending : InputEnding) (t : List ℕ) (heads : Heads) (rest : List Char → List (List BodyEvent)) (lines macros head : ℕ) (at : Place) (prefix behind : List ℕ) where
-  pub body_is : rest (placed_characters_from at behind) ≡ body_events lines macros (placed_characters_from at behind) → lines ≡ nabc_lines_of heads.book → macros ≡ macros_of heads.book → head ≡ bytes_len (canonical_heads heads.book)
-      → at ≡ place_past (record { line = 1; column = 1 }) prefix → prefix ≡ heads_text t → behind ≡ after_heads t
-      → body_of limits head heads.findings (place_past at behind) ending (placed_characters_from at behind) (with_first_each [] (placed_characters_from at behind) (rest (placed_characters_from at behind))) ≡ body_in limits ending t heads
+module _ (limits : Limits) (ending : InputEnding) (t : List ℕ) (heads : Heads) (rest : List Char → List (List BodyEvent)) (lines macros head : ℕ) (at : Place) (prefix after : List ℕ) where
+  pub body_is : rest (placed_characters_from at after) ≡ body_events lines macros (placed_characters_from at after) → lines ≡ nabc_lines_of heads.book → macros ≡ macros_of heads.book → head ≡ bytes_len (canonical_heads heads.book)
+      → at ≡ place_past (record { line = 1; column = 1 }) prefix → prefix ≡ heads_text t → after ≡ after_heads t
+      → body_of limits head heads.findings (place_past at after) ending (placed_characters_from at after) (with_first_each [] (placed_characters_from at after) (rest (placed_characters_from at after))) ≡ body_in limits ending t heads
   body_is law l m h p f b =
-      let place : at ≡ place_after (heads_text t) = p ∙ ap (place_past (record { line = 1; column = 1 })) f ∙ behind_after [] (heads_text t) in
-      let xs : placed_characters_from at behind ≡ placed_characters_after (heads_text t) (after_heads t) =
-      ap (λ q. placed_characters_from q behind) place ∙ ap (placed_characters_from (place_after (heads_text t))) b ∙ placed_behind (heads_text t) (after_heads t) in
-      let end : place_past at behind ≡ place_after t =
-      ap (λ q. place_past q behind) place ∙ ap (place_past (place_after (heads_text t))) b ∙ behind_after (heads_text t) (after_heads t) ∙ ap place_after (take-append-drop (head_len t + 2) t) in
-      ap (λ lists. body_of limits head heads.findings (place_past at behind) ending (placed_characters_from at behind) (with_first_each [] (placed_characters_from at behind) lists)) law
-      ∙ ap (λ k. body_of limits k heads.findings (place_past at behind) ending (placed_characters_from at behind) (score_events lines macros (placed_characters_from at behind))) h
-      ∙ ap (λ q. body_of limits (bytes_len (canonical_heads heads.book)) heads.findings q ending (placed_characters_from at behind) (score_events lines macros (placed_characters_from at behind))) end
+      let place : at ≡ place_after (heads_text t) = p ∙ ap (place_past (record { line = 1; column = 1 })) f ∙ after_joined [] (heads_text t) in
+      let xs : placed_characters_from at after ≡ placed_characters_after (heads_text t) (after_heads t) =
+      ap (λ q. placed_characters_from q after) place ∙ ap (placed_characters_from (place_after (heads_text t))) b ∙ placed_after (heads_text t) (after_heads t) in
+      let end : place_past at after ≡ place_after t =
+      ap (λ q. place_past q after) place ∙ ap (place_past (place_after (heads_text t))) b ∙ after_joined (heads_text t) (after_heads t) ∙ ap place_after (take-append-drop (head_len t + 2) t) in
+      ap (λ lists. body_of limits head heads.findings (place_past at after) ending (placed_characters_from at after) (with_first_each [] (placed_characters_from at after) lists)) law
+      ∙ ap (λ k. body_of limits k heads.findings (place_past at after) ending (placed_characters_from at after) (score_events lines macros (placed_characters_from at after))) h
+      ∙ ap (λ q. body_of limits (bytes_len (canonical_heads heads.book)) heads.findings q ending (placed_characters_from at after) (score_events lines macros (placed_characters_from at after))) end
       ∙ ap (λ ys. body_of limits (bytes_len (canonical_heads heads.book)) heads.findings (place_after t) ending ys (score_events lines macros ys)) xs
       ∙ ap (λ k. body_of limits (bytes_len (canonical_heads heads.book)) heads.findings (place_after t) ending (placed_characters_after (heads_text t) (after_heads t)) (score_events k macros (placed_characters_after (heads_text t) (after_heads t)))) l
       ∙ ap (λ k. body_of limits (bytes_len (canonical_heads heads.book)) heads.findings (place_after t) ending (placed_characters_after (heads_text t) (after_heads t)) (score_events (nabc_lines_of heads.book) k (placed_characters_after (heads_text t) (after_heads t)))) m

@@ -8,22 +8,22 @@ use Rattle.gabc_places.specs.StageLaw.{concat_of, Pushes, Finishes, EmitsNothing
 use Rattle.gabc_places.specs.machine.StageLaw.{PushesAll}
 
 -- an element of a list that is joined of two lies in the first or in the second
-pub record InFirst {T : Type 0} (a c before behind : List T) (x : T) : Type 0 where
+pub record InFirst {T : Type 0} (a c before later : List T) (x : T) : Type 0 where
   pub left : List T
   pub first_is : a ≡ before ++ x ∷ left
-  pub behind_is : behind ≡ left ++ c
+  pub after_is : later ≡ left ++ c
 
-pub record InSecond {T : Type 0} (a c before behind : List T) (x : T) : Type 0 where
+pub record InSecond {T : Type 0} (a c before later : List T) (x : T) : Type 0 where
   pub left : List T
-  pub second_is : c ≡ left ++ x ∷ behind
+  pub second_is : c ≡ left ++ x ∷ later
 
-pub where_it_lies : {T : Type 0} (a c before behind : List T) (x : T) → a ++ c ≡ before ++ x ∷ behind → InFirst a c before behind x ⊎ InSecond a c before behind x
-where_it_lies [] c before behind x e = inr (record { left = before; second_is = e })
-where_it_lies (y ∷ a) c [] behind x e = inl (record { left = a; first_is = cc; behind_is = cc })
-where_it_lies (y ∷ a) c (z ∷ before) behind x e = by (where_it_lies a c before behind x (cc))
+pub where_it_lies : {T : Type 0} (a c before later : List T) (x : T) → a ++ c ≡ before ++ x ∷ later → InFirst a c before later x ⊎ InSecond a c before later x
+where_it_lies [] c before later x e = inr (record { left = before; second_is = e })
+where_it_lies (y ∷ a) c [] later x e = inl (record { left = a; first_is = cc; after_is = cc })
+where_it_lies (y ∷ a) c (z ∷ before) later x e = by (where_it_lies a c before later x (cc))
   where
-    by : InFirst a c before behind x ⊎ InSecond a c before behind x → InFirst (y ∷ a) c (z ∷ before) behind x ⊎ InSecond (y ∷ a) c (z ∷ before) behind x
-    by (inl i) = let e1 = i.first_is in inl (record { left = i.left; first_is = cc; behind_is = i.behind_is })
+    by : InFirst a c before later x ⊎ InSecond a c before later x → InFirst (y ∷ a) c (z ∷ before) later x ⊎ InSecond (y ∷ a) c (z ∷ before) later x
+    by (inl i) = let e1 = i.first_is in inl (record { left = i.left; first_is = cc; after_is = i.after_is })
     by (inr i) = inr (record { left = i.left; second_is = i.second_is })
 
 pub both_empty : {T : Type 0} (a b : List T) → a ++ b ≡ [] → (a ≡ []) × (b ≡ [])
@@ -37,17 +37,17 @@ items_of r t e = ap (λ h. h.items) e
 stops-both : {I O : Type 0} (ends : O → Bool) (mid after : List I → List (List O)) (r s t : BoundedList O) (a b : List O)
     → s ≡ extended_by r a → t ≡ extended_by s b → (EmitsNothing mid → (b ≡ []) × EmitsNothing after)
     → StopsAtEnd ends mid r s → StopsAtEnd ends after s t → StopsAtEnd ends after r t
-stops-both {I} {O} ends mid after r s t a b se te over first second before behind x e is_end = by (where_it_lies a b before behind x split)
+stops-both {I} {O} ends mid after r s t a b se te over first second before later x e is_end = by (where_it_lies a b before later x split)
   where
-    split : a ++ b ≡ before ++ x ∷ behind
-    split = append_cancel_left r.items (a ++ b) (before ++ x ∷ behind) (sym (append_assoc r.items a b) ∙ sym (items_of _ _ te ∙ ap (λ (h : BoundedList O). h.items ++ b) se) ∙ items_of _ _ e)
+    split : a ++ b ≡ before ++ x ∷ later
+    split = append_cancel_left r.items (a ++ b) (before ++ x ∷ later) (sym (append_assoc r.items a b) ∙ sym (items_of _ _ te ∙ ap (λ (h : BoundedList O). h.items ++ b) se) ∙ items_of _ _ e)
 
-    by : InFirst a b before behind x ⊎ InSecond a b before behind x → (behind ≡ []) × EmitsNothing after
+    by : InFirst a b before later x ⊎ InSecond a b before later x → (later ≡ []) × EmitsNothing after
     by (inl i) =
         let k = first before i.left x (se ∙ ap (extended_by r) i.first_is) is_end in
         let o = over k.1 in
-        (i.behind_is ∙ ap (λ v. v ++ b) k.0 ∙ o.0, o.1)
-    by (inr i) = second i.left behind x (te ∙ ap (extended_by s) i.second_is) is_end
+        (i.after_is ∙ ap (λ v. v ++ b) k.0 ∙ o.0, o.1)
+    by (inr i) = second i.left later x (te ∙ ap (extended_by s) i.second_is) is_end
 
 -- a stage that gives nothing adds nothing at a push, and gives nothing after it
 nothing-pushed : {I O : Type 0} (mid after : List I → List (List O)) (x : I) (most : ℕ) (s t : BoundedList O) (g : Pushes mid after x most s t)
@@ -78,14 +78,14 @@ stops-ended {mid = mid} {more = more} {r = r} {s = s} {t = t} ends after all g o
 
 -- ---- for the proof of a stage: what a call gives has no end, or has it last
 
-has_end : {O : Type 0} (ends : O → Bool) (before behind : List O) (x : O) → ends x ≡ true → list_any ends (before ++ x ∷ behind) ≡ true
-has_end ends [] behind x e = ap (λ b. b || list_any ends behind) e
-has_end ends (y ∷ before) behind x e = ap (λ b. ends y || b) (has_end ends before behind x e) ∙ or-true (ends y)
+has_end : {O : Type 0} (ends : O → Bool) (before later : List O) (x : O) → ends x ≡ true → list_any ends (before ++ x ∷ later) ≡ true
+has_end ends [] later x e = ap (λ b. b || list_any ends later) e
+has_end ends (y ∷ before) later x e = ap (λ b. ends y || b) (has_end ends before later x e) ∙ or-true (ends y)
 
-only_one : {O : Type 0} (before behind : List O) (x y : O) → x ∷ [] ≡ before ++ y ∷ behind → behind ≡ []
-only_one [] behind x y e = cc
-only_one (z ∷ []) behind x y e = absurd (cc)
-only_one (z ∷ w ∷ before) behind x y e = absurd (cc)
+only_one : {O : Type 0} (before later : List O) (x y : O) → x ∷ [] ≡ before ++ y ∷ later → later ≡ []
+only_one [] later x y e = cc
+only_one (z ∷ []) later x y e = absurd (cc)
+only_one (z ∷ w ∷ before) later x y e = absurd (cc)
 
 events_is : {O : Type 0} (old new : BoundedList O) (xs ys : List O) → new ≡ extended_by old xs → new ≡ extended_by old ys → xs ≡ ys
 events_is old new xs ys e h = append_cancel_left old.items xs ys (items_of _ _ (sym e ∙ h))
@@ -93,16 +93,16 @@ events_is old new xs ys e h = append_cancel_left old.items xs ys (items_of _ _ (
 -- a call that gives no end
 pub stops-endless : {I O : Type 0} (ends : O → Bool) (after : List I → List (List O)) (old new : BoundedList O) (events : List O)
     → new ≡ extended_by old events → list_any ends events ≡ false → StopsAtEnd ends after old new
-stops-endless ends after old new events e none before behind x h is_end =
-    let k : list_any ends events ≡ true = ap (list_any ends) (events_is old new events (before ++ x ∷ behind) e h) ∙ has_end ends before behind x is_end in
+stops-endless ends after old new events e none before later x h is_end =
+    let k : list_any ends events ≡ true = ap (list_any ends) (events_is old new events (before ++ x ∷ later) e h) ∙ has_end ends before later x is_end in
     absurd (cc)
 
 -- a call that gives an end last, and leaves a stage that gives nothing
 pub stops-last : {I O : Type 0} (ends : O → Bool) (after : List I → List (List O)) (old new : BoundedList O) (xs : List O) (last : O)
     → new ≡ extended_by old (xs ++ last ∷ []) → list_any ends xs ≡ false → EmitsNothing after → StopsAtEnd ends after old new
-stops-last ends after old new xs last e none over before behind x h is_end =
-    by (where_it_lies xs (last ∷ []) before behind x (events_is old new (xs ++ last ∷ []) (before ++ x ∷ behind) e h))
+stops-last ends after old new xs last e none over before later x h is_end =
+    by (where_it_lies xs (last ∷ []) before later x (events_is old new (xs ++ last ∷ []) (before ++ x ∷ later) e h))
   where
-    by : InFirst xs (last ∷ []) before behind x ⊎ InSecond xs (last ∷ []) before behind x → (behind ≡ []) × EmitsNothing after
+    by : InFirst xs (last ∷ []) before later x ⊎ InSecond xs (last ∷ []) before later x → (later ≡ []) × EmitsNothing after
     by (inl i) = let k : list_any ends xs ≡ true = ap (list_any ends) i.first_is ∙ has_end ends before i.left x is_end in absurd (cc)
-    by (inr i) = (only_one i.left behind last x i.second_is, over)
+    by (inr i) = (only_one i.left later last x i.second_is, over)

@@ -24,8 +24,8 @@ abbrev pub role_of : NoteStage → ℕ → CharRole
 role_of s c = role_in s.split s.before.comment (facts_of s c) c
 
 -- the stage after a character, and what it emits
-abbrev pub stage_behind : NoteStage → Char → NoteStage
-stage_behind s x = if s.ended then s else stage_after s (role_of s x.c) (facts_of s x.c) (next_of s x.c) x
+abbrev pub stage_after_one : NoteStage → Char → NoteStage
+stage_after_one s x = if s.ended then s else stage_after s (role_of s x.c) (facts_of s x.c) (next_of s x.c) x
 
 abbrev pub events_of_push : NoteStage → Char → List NoteEvent
 events_of_push s x = if s.ended then [] else event_list (events_in (role_of s x.c) s.macros s.before (facts_of s x.c) x)
@@ -45,9 +45,9 @@ fresh_stage split macros = record { split = split; macros = macros; state = Star
 -- the stage after a text
 abbrev pub stage_past : NoteStage → List ℕ → NoteStage
 stage_past s [] = s
-stage_past s (c ∷ t) = stage_past (stage_behind s (at_nowhere c)) t
+stage_past s (c ∷ t) = stage_past (stage_after_one s (at_nowhere c)) t
 
 -- all of the text is kept
 abbrev pub AreKept : NoteStage → List ℕ → Type 0
 AreKept s [] = Unit {0}
-AreKept s (c ∷ t) = (role_of s c ≡ Keep) × AreKept (stage_behind s (at_nowhere c)) t
+AreKept s (c ∷ t) = (role_of s c ≡ Keep) × AreKept (stage_after_one s (at_nowhere c)) t

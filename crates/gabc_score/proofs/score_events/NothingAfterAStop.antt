@@ -19,5 +19,5 @@ by_part limits score_part.Heads s body fault later = ap (λ (more : List ScoreOu
 by_part limits score_part.Body s body fault later = ap (λ (more : List ScoreOutput). stop_outputs s fault ++ more) (joined_silence {O = ScoreOutput} later)
 by_part limits score_part.Over s body fault later = joined_silence {O = ScoreOutput} later
 
-pub nothing_behind : (s : ScoreStageState) (fault : Fault) (later : List HeadEvent) → concat_of (left_of s (head_event.Stop fault ∷ later)) ≡ concat_of (left_of s (head_event.Stop fault ∷ []))
-nothing_behind s fault later = by_part s.limits s.part s.held s.body fault later
+pub nothing_after : (s : ScoreStageState) (fault : Fault) (later : List HeadEvent) → concat_of (left_of s (head_event.Stop fault ∷ later)) ≡ concat_of (left_of s (head_event.Stop fault ∷ []))
+nothing_after s fault later = by_part s.limits s.part s.held s.body fault later
