@@ -1,5 +1,5 @@
 -- The canonical text of a syllable, and where in its word it stands.
-use Rattle.std.specs.Prelude.{ℕ, ◌||◌, List, [], ◌∷◌, ◌++◌, Bool, true, false, cond, length, Option, Some, None, codes}
+use Rattle.std.specs.Prelude.{◌≡◌, ◌≤◌, ℕ, ◌||◌, List, [], ◌∷◌, ◌++◌, Bool, true, false, cond, length, drop, Option, Some, None, codes}
 use Rattle.std.specs.List.{sum_by}
 use Rattle.gabc_places.specs.declared.place.Span.{Span}
 use Rattle.gabc_text.specs.Canonical.{canonical_text}
@@ -27,6 +27,16 @@ canonical starts m =
     ++ (canonical_text m.text m.kept
     ++ (translation_text m.kept m.text.translation
     ++ (codes "(" ++ (with_bars m.kept m.snippets ++ codes ")"))))
+
+-- From this byte on what is kept of a syllable is its canonical text but for the LF before a word.
+pub record IsKeptFrom (n : ℕ) (m : UnplacedSyllable) : Type 0 where
+  pub within : n ≤ length m.kept
+  pub rest_is : canonical false m ≡ drop n m.kept
+
+-- the same of a byte, where one is known
+abbrev pub StandsFrom : Option ℕ → UnplacedSyllable → Type 0
+StandsFrom None m = Unit {0}
+StandsFrom (Some n) m = IsKeptFrom n m
 
 -- The canonical texts of syllables. The first syllable of a score begins a word; `first` says that
 -- these begin with it.

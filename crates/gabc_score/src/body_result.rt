@@ -34,10 +34,10 @@ impl BodyResult {
                 }
             }
             ScoreEvent::Syllable(BorrowedSyllable::First) => {
-                self.syllables.push(pair.first().copy(memory)?)?
+                self.syllables.push(pair.first().syllable.copy(memory)?)?
             }
             ScoreEvent::Syllable(BorrowedSyllable::Second) => {
-                self.syllables.push(pair.second().copy(memory)?)?
+                self.syllables.push(pair.second().syllable.copy(memory)?)?
             }
             ScoreEvent::End => {}
         }

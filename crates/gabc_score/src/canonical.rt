@@ -2,10 +2,10 @@
 
 ghost use Rattle.std.specs.Prelude.{◌≡◌, ◌-◌, ◌^◌, ◌++◌, [], ◌∷◌, codes, cond, false, min, length, string_bytes};
 ghost use Rattle.gabc_score.specs.Syllable.{unplaced_of};
-ghost use Rattle.gabc_score.specs.Canonical.{canonical, starts_word, translation_text, with_bars};
+ghost use Rattle.gabc_score.specs.Canonical.{canonical, starts_word, translation_text, with_bars, StandsFrom};
 ghost use Rattle.gabc_score.specs.machine.SyllableText.{snippets_after_bars};
 
-use crate::kept_text::kept_from;
+use crate::kept_text::LentSyllable;
 use crate::snippets::Snippet;
 use crate::syllable::Syllable;
 use gabc_places::{ByteCounter, Put};
@@ -68,8 +68,7 @@ fn put_notes<S: Put>(syllable: &Syllable, out: &mut S)
 }
 
 /// Puts the canonical text of `syllable` but for the LF before a word, part by part: the text, the
-/// translation, and the notes. It stays out of line: to count bytes it does well, but few syllables
-/// are written so.
+/// translation, and the notes. It stays out of line: few syllables are written so.
 #[inline(never)]
 fn put_parts<S: Put>(syllable: &Syllable, out: &mut S)
     ensures { out.new ≡ S.taken out.old (canonical false (unplaced_of syllable.now)) }
@@ -79,20 +78,43 @@ fn put_parts<S: Put>(syllable: &Syllable, out: &mut S)
     put_notes(syllable, out);
 }
 
-/// Returns the number of bytes of the canonical text of `syllable`, if it `starts` a word or not;
-/// it saturates at the last value of a `usize`.
-pub(crate) fn canonical_len(syllable: &Syllable, starts: bool) -> usize
-    ensures { result ≡ min (length (canonical starts (unplaced_of syllable.now))) (2 ^ 64 - 1) }
+/// Returns the number of bytes of the canonical text of `lent`, if it `starts` a word or not; it
+/// saturates at the last value of a `usize`.
+pub(crate) fn canonical_len(lent: LentSyllable<'_>, starts: bool) -> usize
+    requires { StandsFrom lent.kept_from (unplaced_of lent.syllable.now) }
+    ensures { result ≡ min (length (canonical starts (unplaced_of lent.entry.syllable.now))) (2 ^ 64 - 1) }
 {
     let mut counter = ByteCounter::new();
-    put_start(starts, &mut counter);
-    put_parts(syllable, &mut counter);
+    put_starting(lent, starts, &mut counter);
     counter.count()
+}
+
+/// Puts the canonical text of `lent`, where it `starts` a word or not.
+fn put_starting<S: Put>(lent: LentSyllable<'_>, starts: bool, out: &mut S)
+    requires { StandsFrom lent.kept_from (unplaced_of lent.syllable.now) }
+    ensures { out.new ≡ S.taken out.old (canonical starts (unplaced_of lent.entry.syllable.now)) }
+{
+    put_start(starts, out);
+    match lent.kept_from {
+        Some(from) => out.put(&lent.syllable.kept.as_bytes()[from..]),
+        None => put_parts(lent.syllable, out),
+    }
+}
+
+/// Puts the canonical text of `lent`, as `canon_syllable` does. Where it is known where that stands
+/// in the kept text, it is put as it is kept.
+pub fn canon_lent<S: Put>(lent: LentSyllable<'_>, out: &mut S)
+    requires { StandsFrom lent.kept_from (unplaced_of lent.syllable.now) }
+    ensures { out.new
+        ≡ S.taken out.old (canonical (starts_word lent.entry.syllable.now.position)
+        (unplaced_of lent.entry.syllable.now)) }
+{
+    put_starting(lent, lent.syllable.starts_word(), out);
 }
 
 /// Puts the canonical text of `syllable`, as many bytes as `canon_len` returns: an LF before a
 /// word, the text, the translation, and the notes. A room without that many bytes left gets as many
-/// of them as fit. Most syllables are put as they are kept.
+/// of them as fit.
 pub fn canon_syllable<S: Put>(syllable: &Syllable, out: &mut S)
     ensures { out.new
         ≡ S.taken out.old (canonical (starts_word syllable.now.position)
@@ -106,11 +128,7 @@ pub fn canon_syllable<S: Put>(syllable: &Syllable, out: &mut S)
 pub fn canon_starting<S: Put>(syllable: &Syllable, starts: bool, out: &mut S)
     ensures { out.new ≡ S.taken out.old (canonical starts (unplaced_of syllable.now)) }
 {
-    put_start(starts, out);
-    match kept_from(syllable) {
-        Some(from) => out.put(&syllable.kept.as_bytes()[from..]),
-        None => put_parts(syllable, out),
-    }
+    put_starting(LentSyllable::of(syllable), starts, out);
 }
 
 /// Returns the number of bytes of the canonical text of `syllable`; it saturates at the last value

@@ -1,13 +1,13 @@
 //! What takes the syllables of a run.
 
 ghost use Rattle.std.specs.Prelude.{◌≡◌, ◌+◌, ◌<◌, ◌≤◌, ℕ, List, [], ◌∷◌, ◌++◌, length, true, false};
-ghost use Rattle.gabc_score.specs.Canonical.{canonical_in_place};
+ghost use Rattle.gabc_score.specs.Canonical.{canonical_in_place, StandsFrom};
 ghost use Rattle.gabc_score.specs.GivesSyllables.{AreJoined};
 ghost use Rattle.gabc_score.specs.SpelledSyllable.{IsSpelling, Spells};
-ghost use Rattle.gabc_score.specs.Syllable.{PlacedSyllable, placed_of};
+ghost use Rattle.gabc_score.specs.Syllable.{PlacedSyllable, placed_of, unplaced_of};
 
+use crate::kept_text::LentSyllable;
 use crate::spelled::SpelledSyllable;
-use crate::syllable::Syllable;
 use gabc_places::Place;
 
 /// Takes whole syllables, in their order.
@@ -25,10 +25,12 @@ pub trait Give {
     fn takes(&self, len: usize) -> bool
         ensures { result ≡ true → (n : ℕ) → n ≤ len → Takes self.now n };
 
-    /// Takes `syllable`.
-    fn give(&mut self, syllable: &Syllable)
-        requires { Takes self.old (length (canonical_in_place (placed_of syllable.now))) }
-        ensures { self.new ≡ given self.old (placed_of syllable.now ∷ []) };
+    /// Takes the syllable `lent`.
+    fn give(&mut self, lent: LentSyllable<'_>)
+        requires takes { Takes self.old
+            (length (canonical_in_place (placed_of lent.syllable.now))) }
+        requires stands { StandsFrom lent.kept_from (unplaced_of lent.syllable.now) }
+        ensures { self.new ≡ given self.old (placed_of lent.entry.syllable.now ∷ []) };
 
     /// Takes the syllable that these slices spell, or leaves it. Returns whether it takes it.
     fn give_spelled(&mut self, syllable: SpelledSyllable<'_>) -> bool

@@ -1,8 +1,8 @@
 //! Where the canonical text of a syllable is a part of its kept text.
 
-ghost use Rattle.std.specs.Prelude.{◌≡◌, ◌≤◌, ◌++◌, ℕ, IsTrue, Some, false, codes, drop, length, string_bytes};
+ghost use Rattle.std.specs.Prelude.{◌≡◌, ◌≤◌, ◌++◌, ℕ, IsTrue, Some, codes, drop, length, string_bytes};
+ghost use Rattle.gabc_score.specs.Canonical.{with_bars, StandsFrom};
 ghost use Rattle.gabc_score.specs.Syllable.{unplaced_of};
-ghost use Rattle.gabc_score.specs.Canonical.{canonical, with_bars};
 ghost use Rattle.gabc_score.specs.machine.SyllableText.{snippets_after_bars};
 
 use crate::snippets::Snippet;
@@ -55,11 +55,8 @@ fn notes_from(syllable: &Syllable) -> Option<usize>
 /// Returns from which byte on the kept text of `syllable` is its canonical text but for the LF
 /// before a word, if it is.
 #[inline(always)]
-pub(crate) fn kept_from(syllable: &Syllable) -> Option<usize>
-    ensures kept { (from : ℕ) → result ≡ Some from →
-        canonical false (unplaced_of syllable.now) ≡ drop from (string_bytes syllable.now.kept) }
-    ensures within { (from : ℕ) → result ≡ Some from →
-        from ≤ length (string_bytes syllable.now.kept) }
+fn kept_from(syllable: &Syllable) -> Option<usize>
+    ensures { StandsFrom result (unplaced_of syllable.now) }
 {
     if syllable.text.translation.is_some() {
         return None;
@@ -72,5 +69,31 @@ pub(crate) fn kept_from(syllable: &Syllable) -> Option<usize>
         Some(text.from)
     } else {
         None
+    }
+}
+
+/// A whole syllable, and where its canonical text stands in its kept text.
+#[derive(Clone, Copy)]
+pub struct LentSyllable<'a> {
+    pub syllable: &'a Syllable,
+    /// From which byte on its kept text is its canonical text but for the LF before a word. Where
+    /// it is not, or where that is not known, `None`.
+    pub kept_from: Option<usize>,
+}
+
+impl<'a> LentSyllable<'a> {
+    ghost use Rattle.std.specs.Prelude.{◌≡◌};
+    ghost use Rattle.gabc_score.specs.Canonical.{StandsFrom};
+    ghost use Rattle.gabc_score.specs.Syllable.{placed_of, unplaced_of};
+
+    /// Returns `syllable`, and looks where its canonical text stands.
+    pub fn of(syllable: &'a Syllable) -> LentSyllable<'a>
+        ensures placed { placed_of result.syllable.now ≡ placed_of syllable.now }
+        ensures stands { StandsFrom result.kept_from (unplaced_of result.syllable.now) }
+    {
+        LentSyllable {
+            syllable,
+            kept_from: kept_from(syllable),
+        }
     }
 }

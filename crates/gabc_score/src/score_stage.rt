@@ -9,6 +9,7 @@ ghost use Rattle.std.specs.Str.{chars};
 ghost use Rattle.std.specs.String.Boundary.{IsSplitPoint};
 ghost use Rattle.gabc_places.specs.Place.{place_past};
 ghost use Rattle.gabc_places.specs.TextOfAnInput.{IsPlain};
+ghost use Rattle.gabc_score.specs.Canonical.{StandsFrom};
 ghost use Rattle.gabc_score.specs.GivesSyllables.{Runs};
 ghost use Rattle.gabc_score.specs.ScoreStage.{AreCountsBelow, borrowed_in};
 ghost use Rattle.gabc_score.specs.witness.ScoreStage.{left_of};
@@ -20,6 +21,7 @@ use crate::body_stage::BodyStage;
 use crate::body_tells::Openers;
 use crate::bounds::Bounds;
 use crate::give::{Give, Run};
+use crate::kept_text::LentSyllable;
 use crate::score_event::{BorrowedSyllable, ScoreEvent};
 use crate::score_machine::{ScoreMachine, ScorePart};
 use crate::slot_pair::SlotPair;
@@ -209,6 +211,15 @@ impl ScoreStage {
     /// is not said.
     pub fn syllable(&self, lent: BorrowedSyllable) -> &Syllable
         ensures { placed_of result.now ≡ borrowed_in lent self.now }
+    {
+        self.lent(lent).syllable
+    }
+
+    /// Returns the syllable that `syllable` returns, and where its canonical text stands in its
+    /// kept text: the stage has looked for that at the `)`.
+    pub fn lent(&self, lent: BorrowedSyllable) -> LentSyllable<'_>
+        ensures placed { placed_of result.syllable.now ≡ borrowed_in lent self.now }
+        ensures stands { StandsFrom result.kept_from (unplaced_of result.syllable.now) }
     {
         match lent {
             BorrowedSyllable::First => self.machine.pair.first(),

@@ -6,6 +6,7 @@ ghost use Rattle.gabc_score.specs.machine.SyllableBuilder.{nothing_open};
 
 use crate::canonical::canonical_len;
 use crate::first_sound::FirstSound;
+use crate::kept_text::LentSyllable;
 use crate::slot::Slot;
 use crate::syllables::position_by;
 use gabc_notes::{NoteEnd, NoteEvent};
@@ -33,8 +34,13 @@ pub(crate) struct SlotPair {
     limit: usize,
     pub(crate) reader: Box<Slot, Memory>,
     pub(crate) used: SlotUse,
+    /// From which byte on the kept text of the whole syllable in `reader` is its canonical text, if
+    /// that is known.
+    pub(crate) reader_from: Option<usize>,
     /// The last whole syllable, if it is held.
     pub(crate) holder: Box<Slot, Memory>,
+    /// The same of the syllable in `holder`.
+    pub(crate) holder_from: Option<usize>,
     pub(crate) held: bool,
     /// Whether a syllable stands before the one that is read.
     pub(crate) follows: bool,
@@ -68,7 +74,7 @@ impl Model for SlotPair {
     ghost use Rattle.std.specs.Prelude.{◌≡◌, ◌++◌};
     ghost use Rattle.gabc_score.specs.machine.FirstSound.{kind_of};
     ghost use Rattle.gabc_score.specs.machine.Slot.{placed_in};
-    ghost use Rattle.gabc_score.specs.machine.SlotPair.{SlotPairState, reading_in, held_in, made_last, first_in};
+    ghost use Rattle.gabc_score.specs.machine.SlotPair.{SlotPairState, reading_in, held_in, made_last, first_in, StandsIn, StandsInReader};
 
     ghost Value = { SlotPairState };
 
@@ -91,7 +97,8 @@ impl Model for SlotPair {
       second = placed_in s.reader.value;
     } };
 
-    ghost invariant = { λ s. (s.reader.value.limit ≡ s.limit) × (s.holder.value.limit ≡ s.limit) };
+    ghost invariant = { λ s. (s.reader.value.limit ≡ s.limit) × (s.holder.value.limit ≡ s.limit)
+        × StandsInReader s.used s.reader_from s.reader.value × StandsIn s.holder_from s.holder.value };
 }
 
 impl SlotPair {
@@ -114,7 +121,9 @@ impl SlotPair {
             limit,
             reader: boxed(memory, limit)?,
             used: SlotUse::Filling,
+            reader_from: None,
             holder: boxed(memory, limit)?,
+            holder_from: None,
             held: false,
             follows: false,
             eu: false,
@@ -289,9 +298,11 @@ impl SlotPair {
         ensures { HasGathered self.old (with_syllable self.old.gathered) SlotUse.Made self.new }
     {
         self.reader.close(self.eu, self.nlba);
-        let starts = !self.follows || self.reader.syllable().text.word_start;
-        let len = canonical_len(self.reader.syllable(), starts);
-        let kept = self.reader.syllable().kept.len();
+        let made = LentSyllable::of(self.reader.syllable());
+        let starts = !self.follows || made.syllable.text.word_start;
+        let len = canonical_len(made, starts);
+        let kept = made.syllable.kept.len();
+        self.reader_from = made.kept_from;
         self.over = self.over || kept > self.limit || len > self.limit;
         self.total = self.total.saturating_add(len);
         self.follows = true;
@@ -398,6 +409,7 @@ impl SlotPair {
         };
         let next_starts = self.starts();
         swap(&mut self.reader, &mut self.holder);
+        swap(&mut self.reader_from, &mut self.holder_from);
         if self.held {
             let starts = !has_lent || self.starts();
             self.reader.place(position_by(starts, next_starts));
@@ -439,6 +451,7 @@ impl SlotPair {
         } else {
             self.reader.place(position_by(!has_lent || starts, true));
             swap(&mut self.reader, &mut self.holder);
+            swap(&mut self.reader_from, &mut self.holder_from);
             1
         }
     }

@@ -2,11 +2,13 @@
 
 use crate::before::Spans;
 use crate::first_sound::FirstSound;
+use crate::kept_text::LentSyllable;
 use crate::slot_pair::{SlotPair, SlotUse};
 use crate::syllable::Syllable;
 
 impl SlotPair {
     ghost use Rattle.std.specs.Prelude.{◌≡◌, ◌||◌, not, nat_lt, [], ◌∷◌, length, is_some, false, MatchOption};
+    ghost use Rattle.gabc_score.specs.Canonical.{StandsFrom};
     ghost use Rattle.gabc_score.specs.Syllable.{placed_of, unplaced_of};
     ghost use Rattle.gabc_score.specs.Body.{is_none};
     ghost use Rattle.gabc_score.specs.machine.FirstSound.{kind_of};
@@ -100,19 +102,34 @@ impl SlotPair {
     }
 
     /// Returns the first syllable that may be borrowed.
-    pub(crate) fn first(&self) -> &Syllable
-        ensures { placed_of result.now ≡ self.now.first }
+    pub(crate) fn first(&self) -> LentSyllable<'_>
+        ensures placed { placed_of result.syllable.now ≡ self.now.first }
+        ensures stands { StandsFrom result.kept_from (unplaced_of result.syllable.now) }
     {
         match self.used {
-            SlotUse::Lent => self.reader.syllable(),
-            _ => self.holder.syllable(),
+            SlotUse::Lent => LentSyllable {
+                syllable: self.reader.syllable(),
+                kept_from: self.reader_from,
+            },
+            SlotUse::Filling | SlotUse::Made => LentSyllable {
+                syllable: self.holder.syllable(),
+                kept_from: self.holder_from,
+            },
         }
     }
 
     /// Returns the second syllable that may be borrowed.
-    pub(crate) fn second(&self) -> &Syllable
-        ensures { placed_of result.now ≡ self.now.second }
+    pub(crate) fn second(&self) -> LentSyllable<'_>
+        ensures placed { placed_of result.syllable.now ≡ self.now.second }
+        ensures stands { StandsFrom result.kept_from (unplaced_of result.syllable.now) }
     {
-        self.reader.syllable()
+        let kept_from = match self.used {
+            SlotUse::Filling => None,
+            SlotUse::Made | SlotUse::Lent => self.reader_from,
+        };
+        LentSyllable {
+            syllable: self.reader.syllable(),
+            kept_from,
+        }
     }
 }

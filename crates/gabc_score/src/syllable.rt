@@ -1,6 +1,7 @@
 //! A syllable: a text with its notes.
 
 use crate::canonical::canonical_len;
+use crate::kept_text::LentSyllable;
 use crate::slice::{slice_of, text_of};
 use crate::snippets::Snippets;
 use gabc_places::{Memory, Span};
@@ -104,6 +105,6 @@ impl Syllable {
         ensures { result ≡ min (length (canonical (starts_word self.now.position)
             (unplaced_of self.now))) (2 ^ 64 - 1) }
     {
-        canonical_len(self, self.starts_word())
+        canonical_len(LentSyllable::of(self), self.starts_word())
     }
 }

@@ -29,5 +29,5 @@ pub use dump::{dump_end, dump_header};
 pub use dump_slices::dump_spelled;
 pub use dump_syllables::{dump_len, dump_syllable};
 pub use gabc_headers::canon_header;
-pub use gabc_score::{canon_len, canon_syllable};
+pub use gabc_score::{canon_len, canon_lent, canon_syllable};
 pub use message::{message_len, message_line};

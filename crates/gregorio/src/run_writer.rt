@@ -2,7 +2,7 @@
 
 ghost use Rattle.std.specs.Prelude.{◌≡◌, ◌+◌, ◌*◌, ◌^◌, ◌<◌, ◌≤◌, ℕ, [], IfOk, Some, true, length, string_bytes, encode_utf8_all};
 ghost use Rattle.gabc_headers.specs.Canonical.{canonical_heads};
-ghost use Rattle.gabc_score.specs.Canonical.{canonical_in_place};
+ghost use Rattle.gabc_score.specs.Canonical.{canonical_in_place, StandsFrom};
 ghost use Rattle.gabc_write.specs.Message.{line_of};
 ghost use Rattle.gabc_places.specs.BoundedList.{Fits};
 ghost use Rattle.gabc_score.specs.GivesSyllables.{spelled_canonical};
@@ -23,9 +23,9 @@ use crate::run_ending::RunEnding;
 use gabc_headers::Headers;
 use gabc_neumes::Alterations;
 use gabc_places::{Fault, Finding, Limits, Memory, Room};
-use gabc_score::{Give, SpelledSyllable, Syllable};
+use gabc_score::{Give, LentSyllable, SpelledSyllable};
 use gabc_write::{
-    canon_header, canon_syllable, dump_end, dump_header, dump_laws, dump_spelled, dump_syllable,
+    canon_header, canon_lent, dump_end, dump_header, dump_laws, dump_spelled, dump_syllable,
     message_line,
 };
 use gregorio_jobs::{Format, Job};
@@ -248,17 +248,18 @@ impl RunWriter {
         self.ended = Some(RunEnding::Fatal(fault));
     }
 
-    /// Writes the next syllable, if the headers were written.
-    pub(crate) fn syllable(&mut self, syllable: &Syllable)
+    /// Writes the syllable `lent`, if the headers were written.
+    pub(crate) fn syllable(&mut self, lent: LentSyllable<'_>)
         requires fits { Fits self.old.out (syllable_len self.old.written.format
-            (has_no_notes (unplaced_of syllable.now))
-            (length (canonical_in_place (placed_of syllable.now)))) }
-        ensures writes { self.new ≡ past_output self.old (SyllableGiven (placed_of syllable.now)) }
+            (has_no_notes (unplaced_of lent.syllable.now))
+            (length (canonical_in_place (placed_of lent.syllable.now)))) }
+        requires stands { StandsFrom lent.kept_from (unplaced_of lent.syllable.now) }
+        ensures writes { self.new ≡ past_output self.old (SyllableGiven (placed_of lent.entry.syllable.now)) }
         ensures short { length
-            (text_of_output self.old.written (SyllableGiven (placed_of syllable.now)))
+            (text_of_output self.old.written (SyllableGiven (placed_of lent.entry.syllable.now)))
             ≤ syllable_len self.old.written.format
-            (has_no_notes (unplaced_of syllable.now))
-            (length (canonical_in_place (placed_of syllable.now))) }
+            (has_no_notes (unplaced_of lent.entry.syllable.now))
+            (length (canonical_in_place (placed_of lent.entry.syllable.now))) }
     {
         dump_laws::a_dump_without_notes_is_shorter();
         if !self.headed {
@@ -266,10 +267,10 @@ impl RunWriter {
         }
         self.count = self.count.saturating_add(1);
         match self.format {
-            Format::Gabc => canon_syllable(syllable, &mut self.out),
+            Format::Gabc => canon_lent(lent, &mut self.out),
             Format::Dump => dump_syllable(
                 self.count,
-                syllable,
+                lent.syllable,
                 &mut self.alterations,
                 &mut self.out,
             ),
@@ -429,8 +430,8 @@ impl Give for RunWriter {
         self.has_room(len)
     }
 
-    fn give(&mut self, syllable: &Syllable) {
-        self.syllable(syllable);
+    fn give(&mut self, lent: LentSyllable<'_>) {
+        self.syllable(lent);
     }
 
     fn give_spelled(&mut self, syllable: SpelledSyllable<'_>) -> bool {

@@ -58,7 +58,7 @@ fn write_event(writer: &mut RunWriter, score: &ScoreStage, event: &ScoreEvent)
     match event {
         ScoreEvent::Found(finding) => writer.found(*finding),
         ScoreEvent::Stop(fault) => writer.fault(*fault),
-        ScoreEvent::Syllable(lent) => writer.syllable(score.syllable(*lent)),
+        ScoreEvent::Syllable(lent) => writer.syllable(score.lent(*lent)),
         ScoreEvent::End => writer.end(),
     }
 }

@@ -2,7 +2,7 @@
 
 use gabc_headers::HeadEvent;
 use gabc_places::{Char, Limits, Place, Room, Stage};
-use gabc_score::{Openers, ScoreEvent, ScoreStage};
+use gabc_score::{Openers, ScoreEvent, ScoreStage, canon_lent};
 use std::alloc::{AllocError, Global};
 
 /// Prints what was given with one input.
@@ -153,6 +153,63 @@ fn is_written(
     let well = emits(alloc, &mut stage, body, end, wanted);
     drop(stage);
     well
+}
+
+/// Appends the canonical texts of the syllables that are lent, each with the byte from which on it
+/// is what is kept.
+fn show_lent(
+    alloc: Global,
+    stage: &ScoreStage,
+    events: &[ScoreEvent],
+    lines: &mut String,
+) -> Result<(), AllocError> {
+    for event in events {
+        if let ScoreEvent::Syllable(lent) = *event {
+            let given = stage.lent(lent);
+            let mut room = Room::with_limit(alloc, 64)?;
+            canon_lent(given, &mut room);
+            let text = str::from_utf8(room.slice()).unwrap_or("?");
+            lines.push_str(format!(in alloc; "{:?} {text:?}\n", given.kept_from)?.as_str())?;
+        }
+    }
+    Ok(())
+}
+
+/// Whether a stage lends these syllables of a whole body.
+fn lends(
+    alloc: Global,
+    stage: &mut ScoreStage,
+    body: &str,
+    wanted: &str,
+) -> Result<bool, AllocError> {
+    let mut lines = String::new(alloc);
+    let mut out = Room::with_limit(alloc, 16)?;
+    let heads = HeadEvent::Heads {
+        nabc_lines: 0,
+        macros: 0,
+        canonical: 3,
+    };
+    stage.push(heads, &mut out);
+    let place = Place { line: 2, column: 1 };
+    for c in body.chars() {
+        out.clear();
+        stage.push(HeadEvent::Body(Char { c, place }), &mut out);
+        show_lent(alloc, stage, out.slice(), &mut lines)?;
+    }
+    out.clear();
+    stage.push(HeadEvent::End, &mut out);
+    show_lent(alloc, stage, out.slice(), &mut lines)?;
+    Ok(lines.as_str() == wanted)
+}
+
+#[test]
+fn lends_a_syllable_with_its_canonical_text(rt: HostRuntime) -> Result<(), AllocError> {
+    let wanted = "Some(1) \"\\na(f)\"\nNone \"$$b(g)\"\nSome(1) \"\\nc(h)\"\nNone \"d()\"\n";
+    let mut stage = ScoreStage::with_limits(rt.alloc(), Limits::DEFAULT)?;
+    let well = lends(rt.alloc(), &mut stage, "\na(f)$b(g) c(h)d", wanted);
+    drop(stage);
+    assert!(rt; well?);
+    Ok(())
 }
 
 #[test]

@@ -59,8 +59,7 @@ text_and_rest kept text h k =
     rw within (part_and_rest kept text.from text.to h)
 
 -- a text without a translation that ends where the notes begin, and the notes
-pub text_as_kept : (kept part notes : List ℕ) (text : Span) (translation : Option Span) (from : ℕ) → part ≡ span_bytes kept text → false ≡ is_some translation
-    → notes ≡ drop text.to kept → text.from ≤ text.to → text.to ≤ length kept → text.from ≡ from
-    → part ++ (translation_text kept translation ++ notes) ≡ drop from kept
-text_as_kept kept part notes text None from p t n h k f = rw (p, n, ← f) (text_and_rest kept text h k)
-text_as_kept kept part notes text (Some s) from p t n h k f = absurd (false≢true t)
+pub text_as_kept : (kept part notes : List ℕ) (text : Span) (translation : Option Span) → part ≡ span_bytes kept text → false ≡ is_some translation
+    → notes ≡ drop text.to kept → text.from ≤ text.to → text.to ≤ length kept → part ++ (translation_text kept translation ++ notes) ≡ drop text.from kept
+text_as_kept kept part notes text None p t n h k = rw (p, n) (text_and_rest kept text h k)
+text_as_kept kept part notes text (Some s) p t n h k = absurd (false≢true t)

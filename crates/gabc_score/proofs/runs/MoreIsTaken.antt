@@ -2,6 +2,7 @@
 use Rattle.std.proofs.Common.{◌≡◌, ℕ, ◌+◌, ◌-◌, min, nat_lt, Bool, List, [], ◌∷◌, ◌++◌, map, length, drop, refl, sym, ap, subst, ◌∙◌, arith, append_assoc, append-nil, length-append}
 use Rattle.std.specs.Str.{chars}
 use Rattle.std.proofs.lemmas.Str.{chars-append, IsUtf8-append}
+use Rattle.std.proofs.lemmas.List.{nil_from_length}
 use Rattle.gabc_places.specs.Place.{place_past}
 use Rattle.gabc_places.specs.StageLaw.{concat_of}
 use Rattle.gabc_places.specs.declared.place.Place.{Place}
@@ -30,10 +31,6 @@ joined_then (t ∷ ss) s = ap (λ (l : List ℕ). canonical_in_place t ++ l) (jo
 
 spelled_then : (b : Bool) (a t : List ℕ) → spelled_canonical b a ++ t ≡ spelled_canonical b (a ++ t)
 spelled_then b a t = append_assoc _ a t
-
-is_none : (ss : List PlacedSyllable) → length ss ≡ 0 → ss ≡ []
-is_none [] e = refl
-is_none (s ∷ ss) e = absurd (cc e)
 
 -- ---- one syllable more
 
@@ -118,7 +115,7 @@ module _ (m : ScoreMachine) (at : Place) (text : List ℕ) (reached then : Reach
           → ((is : BeginsRegularly m.body.nabc_lines (reached.last.spelled.now ++ reached.last.rest.now) (len_of reached.last)) (s : PlacedSyllable)
           → SpellsFound m.body.nabc_lines (past_mark (mark_of reached.last) reached.spans) (nat_lt 0 then.last.gap) reached.last is.syllable s → new ≡ given_by now (s ∷ []))
           → RunsOn given_by m at text given old after [] then new
-      one_is_taken none takes = those_are_taken (takes on.runs.found.is one.placed one.spells ∙ ap (λ (l : List PlacedSyllable). given_by now (l ++ one.placed ∷ [])) (sym (is_none on.waiting (let e = on.count in omega (arith, e, none)))))
+      one_is_taken none takes = those_are_taken (takes on.runs.found.is one.placed one.spells ∙ ap (λ (l : List PlacedSyllable). given_by now (l ++ one.placed ∷ [])) (sym (nil_from_length on.waiting (let e = on.count in omega (arith, e, none)))))
 
 -- ---- the end
 
@@ -138,4 +135,4 @@ module _ {Taker : Type 0} (given_by : Taker → List PlacedSyllable → Taker) (
   }
 
   pub none_waits : w.earlier ≡ reached.count → ((s : Taker) → given_by s [] ≡ s) → RunsMore given_by m at text given old reached now
-  none_waits none nothing = waiting_are_taken now (sym (nothing now) ∙ ap (λ (l : List PlacedSyllable). given_by now l) (sym (is_none on.waiting (let e = on.count in omega (arith, e, none)))))
+  none_waits none nothing = waiting_are_taken now (sym (nothing now) ∙ ap (λ (l : List PlacedSyllable). given_by now l) (sym (nil_from_length on.waiting (let e = on.count in omega (arith, e, none)))))

@@ -1,4 +1,5 @@
--- A character at which nothing is found, no syllable becomes whole and no limit is passed: nothing is given.
+-- A character at which nothing is found, no syllable becomes whole and no limit is passed: nothing
+-- is given.
 use Rattle.std.proofs.Common.{◌≡◌, ℕ, ◌+◌, ◌-◌, ◌≤◌, ◌||◌, ◌&&◌, not, nat_lt, Bool, true, false, cond, List, [], length, take, Option, Some, None, refl, sym, ap, subst, ◌∙◌, arith, append-nil}
 use Rattle.std.specs.List.{list_any}
 use Rattle.std.proofs.Math.Bool.{or-false}

@@ -1,6 +1,7 @@
 -- Which spans are open after a syllable follows from those that are open after the one before it.
 use Rattle.std.proofs.Common.{◌≡◌, ℕ, zero, suc, ◌+◌, ◌<◌, Bool, true, false, List, [], ◌∷◌, ◌++◌, length, length-append, append_assoc, refl, sym, ap, ◌∙◌, arith, codes}
 use Rattle.std.specs.Prelude.{IsTrue, ◌↔◌}
+use Rattle.std.proofs.lemmas.List.{nil_from_length}
 use lib.Utf8.{encodes}
 use Rattle.gabc_score.specs.SpansPast.{open_past, eu_past, nlba_past}
 use Rattle.gabc_score.specs.Syllable.{UnplacedSyllable, PlacedSyllable}
@@ -62,14 +63,10 @@ module _ (lines : ℕ) (units : List ScoreUnit) (syllables : List PlacedSyllable
       let count : length syllables ≡ length units = are.count in
       let p = split 0 units (omega (arith, size, count)) in
       let k = are.each p.before p.after p.one [] after s p.parts e (sym p.count) in
-      let none : p.before ≡ [] = empty p.before p.count in (
+      let none : p.before ≡ [] = nil_from_length p.before p.count in (
         one_past (codes "<eu>") (codes "</eu>") (eu_opened lines) (eu_closed lines) lines p.before p.one s.made false s.made.eu k.holds (ap (λ us. after_tags (codes "<eu>") (codes "</eu>") false (tags_in us)) (sym none)) k.eu_is,
         one_past (codes "<nlba>") (codes "</nlba>") (nlba_opened lines) (nlba_closed lines) lines p.before p.one s.made false s.made.nlba k.holds (ap (λ us. after_tags (codes "<nlba>") (codes "</nlba>") false (tags_in us)) (sym none)) k.nlba_is,
       )
-    where
-      empty : (us : List ScoreUnit) → length us ≡ 0 → us ≡ []
-      empty [] h = refl
-      empty (u ∷ us) h = absurd (omega (arith, h))
 
   pub next_follows : (before after : List PlacedSyllable) (s next : PlacedSyllable) → syllables ≡ before ++ s ∷ next ∷ after → Follows next.made s.made.eu s.made.nlba
   next_follows before after s next e =

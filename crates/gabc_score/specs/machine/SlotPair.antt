@@ -1,9 +1,10 @@
 -- Two slots: a syllable that is read, and the last whole one, which is held.
-use Rattle.std.specs.Prelude.{◌≡◌, ◌≤◌, ℕ, List, [], ◌∷◌, Bool, true, false, take}
+use Rattle.std.specs.Prelude.{◌≡◌, ◌≤◌, ℕ, List, [], ◌∷◌, Bool, true, false, take, Option}
 use Rattle.gabc_notes.specs.declared.stage.NoteEvent.{NoteEvent}
 use Rattle.gabc_score.specs.Events.{is_close}
 use Rattle.gabc_score.specs.declared.slot_pair.SlotUse.{SlotUse}
 use Rattle.gabc_score.specs.declared.slot_pair.SlotUse.TheVariants.{Filling, Made, Lent}
+use Rattle.gabc_score.specs.Canonical.{StandsFrom}
 use Rattle.gabc_score.specs.Syllable.{UnplacedSyllable, PlacedSyllable}
 use Rattle.gabc_score.specs.declared.score_event.BorrowedSyllable.TheVariants.{First, Second}
 use Rattle.gabc_score.specs.declared.score_event.ScoreEvent.{ScoreEvent}
@@ -48,6 +49,15 @@ abbrev pub first_in : SlotUse → ReadSyllable → ReadSyllable → PlacedSyllab
 first_in Lent now other = placed_in now
 first_in Filling now other = placed_in other
 first_in Made now other = placed_in other
+
+-- where the canonical text of the whole syllable in a slot stands in its kept text
+abbrev pub StandsIn : Option ℕ → ReadSyllable → Type 0
+StandsIn from s = StandsFrom from (made_in s)
+
+abbrev pub StandsInReader : SlotUse → Option ℕ → ReadSyllable → Type 0
+StandsInReader Filling from s = Unit {0}
+StandsInReader Made from s = StandsIn from s
+StandsInReader Lent from s = StandsIn from s
 
 abbrev pub is_made : SlotUse → Bool
 is_made Made = true

@@ -25,11 +25,11 @@ pub returns-in-Syllable-clause-room : goal.returns-in-Syllable-clause-room
 returns-in-Syllable-clause-room c = λ lines texts outputs h.
     let limits = c.args.score.now.limits in
     let w = c.args.writer.now in
-    let s = placed_of c.syllable.result.now in
+    let s = placed_of c.lent.result.syllable.now in
     let lent = subst (λ (e : ScoreEvent). IsInRoom limits lines texts w (output_of_event c.args.score.now e ∷ outputs)) c.in-Syllable.is h in
-    let given = subst (λ (x : PlacedSyllable). IsInRoom limits lines texts w (Syllable x ∷ outputs)) (sym c.syllable.ensures) lent in
-    subst (λ (v : RunWriterState). IsInRoom limits lines texts v outputs) (sym c.syllable-in-Syllable.ensures.writes)
-    (output_in_room limits lines texts w (Syllable s) outputs _ refl refl (syllable_is_short limits w s outputs lines texts given c.syllable-in-Syllable.ensures.short) given)
+    let given = subst (λ (x : PlacedSyllable). IsInRoom limits lines texts w (Syllable x ∷ outputs)) (sym c.lent.ensures.placed) lent in
+    subst (λ (v : RunWriterState). IsInRoom limits lines texts v outputs) (sym c.syllable.ensures.writes)
+    (output_in_room limits lines texts w (Syllable s) outputs _ refl refl (syllable_is_short limits w s outputs lines texts given c.syllable.ensures.short) given)
 
 pub returns-in-End-clause-room : goal.returns-in-End-clause-room
 returns-in-End-clause-room c = λ lines texts outputs h.

@@ -21,7 +21,10 @@ within_limits limits (m ∷ []) first position one short of is =
 pub give-requires : goal.give-requires
 give-requires g c =
     let m = c.args.self.now in
-    c.takes.ensures c.if-not-takes.false _
-    (subst (λ (s : PlacedSyllable). length (canonical_in_place s) ≤ m.limits.syllable + 1) (sym c.first.ensures)
-    (within_limits m.limits m.pair.gathered.made c.place_held.new.self.first
-    (λ (x : UnplacedSyllable). record { made = x; position = position_by (not m.has_lent || x.text.word_start) c.args.next_starts }) c.requires.one c.requires.short (λ x. refl) c.place_held.ensures.first))
+    record {
+      takes = c.takes.ensures c.if-not-takes.false _
+          (subst (λ (s : PlacedSyllable). length (canonical_in_place s) ≤ m.limits.syllable + 1) (sym c.first.ensures.placed)
+          (within_limits m.limits m.pair.gathered.made c.place_held.new.self.first
+          (λ (x : UnplacedSyllable). record { made = x; position = position_by (not m.has_lent || x.text.word_start) c.args.next_starts }) c.requires.one c.requires.short (λ x. refl) c.place_held.ensures.first));
+      stands = c.first.ensures.stands;
+    }

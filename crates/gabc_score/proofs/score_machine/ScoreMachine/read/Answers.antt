@@ -1,5 +1,6 @@
-use Rattle.std.proofs.Common.{rules, ◌≡◌, ◌+◌, ◌||◌, ◌==◌, Bool, true, List, [], ◌∷◌, length, Option, refl, sym, ap, subst, ◌∙◌, arith}
-use Rattle.std.proofs.lemmas.Bool.Decides.{nat_tests}
+use Rattle.std.proofs.Common.{rules, ◌≡◌, ◌||◌, Bool, length, Option, sym, ap, subst, ◌∙◌, arith}
+use Rattle.std.proofs.lemmas.Bool.{eqb-true}
+use Rattle.std.proofs.lemmas.List.{nil_from_length}
 use Rattle.gabc_places.specs.BoundedList.{BoundedList, extended_by}
 use Rattle.gabc_places.specs.Place.{saturating_next_place}
 use Rattle.gabc_places.specs.declared.code.Finding.{Finding}
@@ -27,11 +28,6 @@ stands_past g q r {next} {lent = lent} {lent_is} {bounds_is = bounds_is} n l b =
     ap (λ k. record g { pair = q; found = r; next = k; has_lent = lent_is; bounds = bounds_is }) (sym n)
     ∙ ap (λ k. record g { pair = q; found = r; next = next; has_lent = k; bounds = bounds_is }) (sym l)
     ∙ ap (λ k. record g { pair = q; found = r; next = next; has_lent = lent; bounds = k }) (sym b)
-
--- an empty list
-is_empty : {A : Type 0} (l : List A) → (length l == 0) ≡ true → l ≡ []
-is_empty [] e = refl
-is_empty (a ∷ l) e = absurd (let n : length l + 1 ≡ 0 = grind (arith, nat_tests, e) in omega (arith, n))
 
 pub find_first-requires : goal.find_first-requires
 find_first-requires c =
@@ -78,7 +74,7 @@ returns-then-is_empty c =
     let m = c.args.self.now in
     let same = c.gather.ensures.same in
     let found = found_is g.found c.find_first.new.found c.args.x.place c.sounded-was.ensures c.sounded.ensures c.find_first.ensures in
-    let nothing = ap (λ (l : BoundedList Finding). l.items) (sym found) ∙ sym c.slice.ensures ∙ is_empty c.slice.result.now (sym c.is_empty.ensures ∙ c.if-is_empty.true) in
+    let nothing = ap (λ (l : BoundedList Finding). l.items) (sym found) ∙ sym c.slice.ensures ∙ nil_from_length c.slice.result.now (eqb-true (length c.slice.result.now) 0 (sym c.is_empty.ensures ∙ c.if-is_empty.true)) in
     subst (ReadsChar m c.args.x c.args.out.now c.args.out.now)
     (ap (λ (k : ScoreMachine). record k { body = g.body; pair = g.pair; found = found_past m c.args.x g.pair g.found; next = saturating_next_place c.args.x.place c.args.x.c }) (sym same)
     ∙ ap (λ (f : BoundedList Finding). record g { found = f; next = saturating_next_place c.args.x.place c.args.x.c }) (sym found)

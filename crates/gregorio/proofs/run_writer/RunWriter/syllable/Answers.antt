@@ -12,7 +12,7 @@ use Rattle.gregorio.proofs.run_writer.RunWriter.syllable.Goals as goal
 pub returns-in-Dump-clause-writes : goal.returns-in-Dump-clause-writes
 returns-in-Dump-clause-writes c =
     let i = c.self.inside in
-    let s = placed_of c.args.syllable.now in
+    let s = placed_of c.args.lent.syllable.now in
     let number = c.saturating_add-self-inside.ensures in
     let w : Written = record { format = i.format; name = string_bytes i.name; all_warnings = i.all_warnings; headed = i.headed; count = i.count; force = i.alterations; errors = i.errors; ended = i.ended } in
     let v : RunWriterState = record { written = w; out = i.out; messages = i.messages } in
@@ -24,7 +24,7 @@ returns-in-Dump-clause-writes c =
 pub returns-in-Dump-clause-short : goal.returns-in-Dump-clause-short
 returns-in-Dump-clause-short c =
     let i = c.self.inside in
-    let s = placed_of c.args.syllable.now in
+    let s = placed_of c.args.lent.syllable.now in
     let number = c.saturating_add-self-inside.ensures in
     let w : Written = record { format = i.format; name = string_bytes i.name; all_warnings = i.all_warnings; headed = i.headed; count = i.count; force = i.alterations; errors = i.errors; ended = i.ended } in
     let v : RunWriterState = record { written = w; out = i.out; messages = i.messages } in
