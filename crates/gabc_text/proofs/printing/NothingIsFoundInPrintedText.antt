@@ -21,12 +21,12 @@ use Rattle.gabc_text.specs.ViewFacts.{ViewFacts, LiesAmong}
 use Rattle.gabc_text.specs.Canonical.{after_common}
 use Rattle.gabc_text.specs.Printed.{opening_tag, closing_tag, begin_brace, end_brace, brace_tokens, tokens_between, printed_piece, print_from, text_of_tokens, text_tokens, translation_tokens, word_break, print_tokens}
 use Rattle.gabc_text.proofs.printing.ViewFromFirstToken.{begin_at, end_at}
-use Rattle.gabc_text.proofs.printing.PrintedBracesGiveCentre.{centre_from, no_centre}
+use Rattle.gabc_text.proofs.printing.PrintedBracesGiveCentre.{at_start, centre_from, no_centre}
 use Rattle.gabc_text.proofs.printing.PrintedTextIsReadAgain.{Sound, reverse_push}
 use Rattle.gabc_text.proofs.printing.PrintedTextIsKept.{view_kept, word_kept}
 use Rattle.gabc_text.specs.machine.RegularBytes.{is_unknown, AllKnown}
-use Rattle.gabc_text.proofs.printing.PrintedTagsOpenStyles.{push_append, along_append, member, AllOnce, across, once, same_style, any_append, any_reverse, within, open_one, close_one, closed}
-use Rattle.gabc_text.proofs.printing.PrintedPiecesAreReadAgain.{AllSilent, between_silent, are_braces}
+use Rattle.gabc_text.proofs.printing.PrintedTagsOpenStyles.{push_append, along_append, member, AllOnce, across, once, same_style, any_append, any_reverse, within, tag_opens, tag_closes, open_one, close_one, closed}
+use Rattle.gabc_text.proofs.printing.PrintedPiecesAreReadAgain.{AllSilent, printed_by, between_silent, are_braces}
 use Rattle.gabc_text.proofs.machine.TokensOneAfterAnother.{onto}
 use Rattle.gabc_text.specs.machine.PrintedPieces.{AllGood, Good, Says}
 use Rattle.gabc_places.proofs.NothingAfterAnEnd.{both_empty}
@@ -146,32 +146,16 @@ both_aside before ks ls h g = along_append codes_aside before ks ls ∙ ap₂ (�
 closings_aside : (ys : List Style) (before : List Token) → AllOnce ys → ((s : Style) → member s ys ≡ true → is_open s before ≡ true) → NoneAside before (map closing_tag ys)
 closings_aside [] before o h = refl
 closings_aside (y ∷ ys) before o h =
-    ap₂ (λ (a b : List Code). a ++ b) (one y (h y (in_head y ys)))
+    let one : codes_aside before (closing_tag y) ≡ [] = rw (tag_closes y, h y (in_head y ys)) refl in
+    ap₂ (λ (a b : List Code). a ++ b) one
     (closings_aside ys (closing_tag y ∷ before) o.1 (λ s g. close_one y s before ∙ rw (other_than y s ys o.0 g) (h s (or_right (is_same y s) (member s ys) g))))
-  where
-    one : (y : Style) → is_open y before ≡ true → codes_aside before (closing_tag y) ≡ []
-    one B e = rw e refl
-    one C e = rw e refl
-    one E e = rw e refl
-    one I e = rw e refl
-    one Sc e = rw e refl
-    one Tt e = rw e refl
-    one Ul e = rw e refl
 
 openings_aside : (ys : List Style) (before : List Token) → AllOnce ys → ((s : Style) → member s ys ≡ true → is_open s before ≡ false) → NoneAside before (map opening_tag ys)
 openings_aside [] before o h = refl
 openings_aside (y ∷ ys) before o h =
-    ap₂ (λ (a b : List Code). a ++ b) (one y (h y (in_head y ys)))
+    let one : codes_aside before (opening_tag y) ≡ [] = rw (tag_opens y, h y (in_head y ys)) refl in
+    ap₂ (λ (a b : List Code). a ++ b) one
     (openings_aside ys (opening_tag y ∷ before) o.1 (λ s g. open_one y s before ∙ rw (other_than y s ys o.0 g) (h s (or_right (is_same y s) (member s ys) g))))
-  where
-    one : (y : Style) → is_open y before ≡ false → codes_aside before (opening_tag y) ≡ []
-    one B e = rw e refl
-    one C e = rw e refl
-    one E e = rw e refl
-    one I e = rw e refl
-    one Sc e = rw e refl
-    one Tt e = rw e refl
-    one Ul e = rw e refl
 
 braces_aside : (centre : Option Span) (i : ℕ) (before : List Token) → NoneAside before (brace_tokens centre i)
 braces_aside None i before = refl
@@ -226,7 +210,7 @@ record ByKind (d : TokenKind) (so : TagEffect) : Type 0 where
   no_translation : is_translation d ≡ false
 
 piece_passed : (p : PieceFacts) (w b : Bool) → Good p w b → is_unknown p.kind ≡ false → Passed (printed_piece p.kind p.text)
-piece_passed p w b g u = by p.kind u g.reads_so
+piece_passed p w b g u = printed_by Passed p w b (λ _ _. record { none = λ before. refl; opens = λ s before. refl; no_translation = refl }) (λ k e. from k p.kind u e) g
   where
     tags : (so : TagEffect) (q : PieceKind) → is_unknown q ≡ false → tag_piece so ≡ Some q → ByKind kind.Tag so
     tags Mark q n e = record { none = λ before. refl; opens = λ s was. refl; no_translation = refl }
@@ -241,13 +225,6 @@ piece_passed p w b g u = by p.kind u g.reads_so
 
     from : (k : Token) (q : PieceKind) → is_unknown q ≡ false → piece_kind k.kind (effect k) ≡ Some q → Passed k
     from k q n e = let r = kinds k.kind (spelling k) q n e in record { none = r.none; opens = λ s before. r.opens s (is_open s before); no_translation = r.no_translation }
-
-    by : (k : PieceKind) → is_unknown k ≡ false → Says k p.text w b → Passed (printed_piece k p.text)
-    by piece.Blank n h = record { none = λ before. refl; opens = λ s before. refl; no_translation = refl }
-    by piece.Char n h = from (printed_piece piece.Char p.text) piece.Char n h.0
-    by piece.Raw n h = from (printed_piece piece.Raw p.text) piece.Raw n h.0
-    by piece.Tag n h = from (printed_piece piece.Tag p.text) piece.Tag n h.0
-    by piece.Mark n h = from (printed_piece piece.Mark p.text) piece.Mark n h.0
 
 pieces_aside : (centre : Option Span) (i : ℕ) (old : List Style) (ps : List PieceFacts) (w b : Bool) (before : List Token) → AllOnce old → ((s : Style) → is_open s before ≡ member s old)
     → AllGood w b ps → AllKnown ps → Aside before (print_from centre i old ps) []
@@ -380,8 +357,7 @@ shut_centre v s before a e = by v.centre s.centre_in
         rw f refl
     by (Some c) h =
         let both = centre_from c 0 [] v.pieces false false before false false (ap has_word e ∙ a.word) (λ z. absurd (cc)) s.good (ap count_pieces e ∙ a.count)
-        (record { order = h.0; last = omega (arith, h.1); to_begin = λ _. omega arith; has_begun = λ z. absurd (cc); to_end = λ _. omega arith; has_ended = λ z. absurd (cc) })
-        (ap has_begin e ∙ a.begun) (ap has_end e ∙ a.ended) in
+        (at_start c (length v.pieces) h) (ap has_begin e ∙ a.begun) (ap has_end e ∙ a.ended) in
         never (has_begin (onto (print_from (Some c) 0 [] v.pieces) before)) (has_end (onto (print_from (Some c) 0 [] v.pieces) before))
         (ended_by (print_from (Some c) 0 [] v.pieces) before c.to [] both.1)
 

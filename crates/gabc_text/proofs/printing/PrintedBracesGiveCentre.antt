@@ -1,5 +1,5 @@
 -- Printed braces stand where the centre begins and ends.
-use Rattle.std.proofs.Common.{◌≡◌, ℕ, ◌+◌, ◌<◌, ◌≤◌, ◌==◌, List, [], ◌∷◌, ◌++◌, Bool, true, false, ◌||◌, cond, refl, sym, ap, ◌∙◌, map, reverse, append-nil, Option, Some, None, length, arith}
+use Rattle.std.proofs.Common.{◌≡◌, ℕ, suc, ◌+◌, ◌<◌, ◌≤◌, ◌==◌, List, [], ◌∷◌, ◌++◌, Bool, true, false, ◌||◌, cond, refl, sym, ap, ◌∙◌, map, reverse, append-nil, Option, Some, None, length, arith}
 use Rattle.std.proofs.lemmas.Bool.{eqb-true, eqb-false}
 use Rattle.gabc_places.specs.declared.place.Span.{Span}
 use Rattle.gabc_text.specs.declared.styles.Style.{Style}
@@ -11,10 +11,11 @@ use Rattle.gabc_text.specs.declared.token.TokenKind.TheVariants as kind
 use Rattle.gabc_text.specs.Token.{Token, spelling}
 use Rattle.gabc_text.specs.View.{along, piece_kind, effect_as, pieces_at, PieceFacts, is_word_kind, has_word, follows_blank, is_blank_piece, is_begin, is_end, has_begin, has_end, count_pieces}
 use Rattle.gabc_text.proofs.printing.ViewFromFirstToken.{begin_at, end_at}
+use Rattle.gabc_text.specs.ViewFacts.{LiesAmong}
 use Rattle.gabc_text.specs.Canonical.{after_common}
 use Rattle.gabc_text.specs.Printed.{print_from, printed_piece, tokens_between, brace_tokens, opening_tag, closing_tag, begin_brace, end_brace}
 use Rattle.gabc_text.proofs.printing.PrintedTagsOpenStyles.{push_append, along_append}
-use Rattle.gabc_text.proofs.printing.PrintedPiecesAreReadAgain.{AllSilent, Does, does, silent_word, silent_blank, between_silent, are_braces}
+use Rattle.gabc_text.proofs.printing.PrintedPiecesAreReadAgain.{AllSilent, Does, does, no_pieces, opening_silent, closing_silent, silent_word, silent_blank, between_silent, are_braces, printed_kind}
 use Rattle.gabc_text.proofs.machine.TokensOneAfterAnother.{onto}
 use Rattle.gabc_text.specs.machine.PrintedPieces.{AllGood, Good, Says}
 
@@ -36,39 +37,29 @@ marks_append before ks ls b1 e1 b2 e2 x1 y1 x2 y2 n1 n2 m k = record {
   count_is = ap count_pieces (push_append ks ls before) ∙ k.count_is;
 }
 
+-- a token that gives nothing
+pass : (at : List Token → Token → List ℕ) (now : List Token) (k : Token) (ks : List Token) → along at now (k ∷ []) ≡ [] → along at now (k ∷ ks) ≡ along at (k ∷ now) ks
+pass at now k ks e = along_append at now (k ∷ []) ks ∙ rw e refl
+
 -- a tag of a style
 one_more : (before : List Token) → count_pieces before + 0 ≡ count_pieces before
 one_more before = omega arith
 
-opening_marks : (ss : List Style) (before : List Token) → Marks before (map opening_tag ss) [] [] (has_begin before) (has_end before) (count_pieces before)
-opening_marks [] before = record { begins_are = refl; ends_are = refl; begun_is = refl; ended_is = refl; count_is = refl }
-opening_marks (s ∷ ss) before =
-    let m = opening_marks ss (opening_tag s ∷ before) in
-    record { begins_are = m.begins_are; ends_are = m.ends_are; begun_is = m.begun_is; ended_is = m.ended_is; count_is = m.count_is ∙ by s ∙ one_more before }
-  where
-    by : (s : Style) → count_pieces (opening_tag s ∷ before) ≡ count_pieces before + 0
-    by B = refl
-    by C = refl
-    by E = refl
-    by I = refl
-    by Sc = refl
-    by Tt = refl
-    by Ul = refl
+tags_marks : (tag : Style → Token) → ((s : Style) → (tag s).kind ≡ kind.Tag) → (ss : List Style) (before : List Token) → AllSilent (map tag ss)
+    → Marks before (map tag ss) [] [] (has_begin before) (has_end before) (count_pieces before)
+tags_marks tag e [] before h = record { begins_are = refl; ends_are = refl; begun_is = refl; ended_is = refl; count_is = refl }
+tags_marks tag e (s ∷ ss) before h =
+    let m = tags_marks tag e ss (tag s ∷ before) h.1 in
+    record {
+      begins_are = pass begin_at before (tag s) (map tag ss) (rw (e s) refl) ∙ m.begins_are;
+      ends_are = pass end_at before (tag s) (map tag ss) (rw (e s) refl) ∙ m.ends_are;
+      begun_is = m.begun_is ∙ rw (e s) refl;
+      ended_is = m.ended_is ∙ rw (e s) refl;
+      count_is = m.count_is ∙ rw (no_pieces before (tag s) h.0) (one_more before);
+    }
 
 pub closing_marks : (ss : List Style) (before : List Token) → Marks before (map closing_tag ss) [] [] (has_begin before) (has_end before) (count_pieces before)
-closing_marks [] before = record { begins_are = refl; ends_are = refl; begun_is = refl; ended_is = refl; count_is = refl }
-closing_marks (s ∷ ss) before =
-    let m = closing_marks ss (closing_tag s ∷ before) in
-    record { begins_are = m.begins_are; ends_are = m.ends_are; begun_is = m.begun_is; ended_is = m.ended_is; count_is = m.count_is ∙ by s ∙ one_more before }
-  where
-    by : (s : Style) → count_pieces (closing_tag s ∷ before) ≡ count_pieces before + 0
-    by B = refl
-    by C = refl
-    by E = refl
-    by I = refl
-    by Sc = refl
-    by Tt = refl
-    by Ul = refl
+closing_marks ss before = tags_marks closing_tag (λ s. refl) ss before (closing_silent ss)
 
 -- a boundary has the marks of its braces
 between_marks : (old new : List Style) (middle before : List Token) (bs es : List ℕ) (x y : Bool) (n : ℕ)
@@ -79,7 +70,7 @@ between_marks old new middle before bs es x y n f =
     let c = closing_marks (reverse left.0) before in
     let m = f (onto (map closing_tag (reverse left.0)) before) c.begun_is c.ended_is c.count_is in
     let cm = marks_append before (map closing_tag (reverse left.0)) middle [] [] bs es (has_begin before) (has_end before) x y (count_pieces before) n c m in
-    let o = opening_marks left.1 (onto (map closing_tag (reverse left.0) ++ middle) before) in
+    let o = tags_marks opening_tag (λ s. refl) left.1 (onto (map closing_tag (reverse left.0) ++ middle) before) (opening_silent left.1) in
     let all = marks_append before (map closing_tag (reverse left.0) ++ middle) (map opening_tag left.1) bs es [] []
     x y (has_begin (onto (map closing_tag (reverse left.0) ++ middle) before)) (has_end (onto (map closing_tag (reverse left.0) ++ middle) before)) n
     (count_pieces (onto (map closing_tag (reverse left.0) ++ middle) before)) cm o in
@@ -91,20 +82,32 @@ between_marks old new middle before bs es x y n f =
       count_is = all.count_is ∙ cm.count_is;
     }
 
--- the braces at a position, by what was printed before
-no_braces : (at : List Token) (x y : Bool) (n : ℕ) → has_begin at ≡ x → has_end at ≡ y → count_pieces at ≡ n → Marks at [] [] [] x y n
-no_braces at x y n e f g = record { begins_are = refl; ends_are = refl; begun_is = e; ended_is = f; count_is = g }
+-- the braces at a position, by what was printed before: where they may stand
+abbrev pub braces_by : Bool → Bool → List Token
+braces_by x y = cond x (cond y (begin_brace ∷ end_brace ∷ []) (begin_brace ∷ [])) (cond y (end_brace ∷ []) [])
 
-begin_marks : (at : List Token) (n : ℕ) → has_begin at ≡ false → has_end at ≡ false → count_pieces at ≡ n → Marks at (begin_brace ∷ []) (n ∷ []) [] true false n
-begin_marks at n e f g = record { begins_are = rw (e, g) refl; ends_are = refl; begun_is = refl; ended_is = f; count_is = one_more at ∙ g }
+abbrev pub Allowed : Bool → Bool → Bool → Bool → Type 0
+Allowed true y begun ended = (begun ≡ false) × (ended ≡ false)
+Allowed false true begun ended = (begun ≡ true) × (ended ≡ false)
+Allowed false false begun ended = Unit {0}
+
+abbrev here : Bool → ℕ → List ℕ
+here x i = cond x (i ∷ []) []
+
+begin_marks : (at : List Token) (n : ℕ) (ended : Bool) → has_begin at ≡ false → has_end at ≡ ended → count_pieces at ≡ n → Marks at (begin_brace ∷ []) (n ∷ []) [] true ended n
+begin_marks at n ended e f g = record { begins_are = rw (e, g) refl; ends_are = refl; begun_is = refl; ended_is = f; count_is = one_more at ∙ g }
 
 end_marks : (at : List Token) (n : ℕ) → has_begin at ≡ true → has_end at ≡ false → count_pieces at ≡ n → Marks at (end_brace ∷ []) [] (n ∷ []) true true n
 end_marks at n e f g = record { begins_are = refl; ends_are = rw (e, f, g) refl; begun_is = e; ended_is = rw e refl; count_is = one_more at ∙ g }
 
-both_marks : (at : List Token) (n : ℕ) → has_begin at ≡ false → has_end at ≡ false → count_pieces at ≡ n → Marks at (begin_brace ∷ end_brace ∷ []) (n ∷ []) (n ∷ []) true true n
-both_marks at n e f g =
-    marks_append at (begin_brace ∷ []) (end_brace ∷ []) (n ∷ []) [] [] (n ∷ []) true false true true n n (begin_marks at n e f g)
-    (end_marks (begin_brace ∷ at) n refl f (one_more at ∙ g))
+braces_marks : (x y begun ended : Bool) (at : List Token) (n : ℕ) → Allowed x y begun ended → has_begin at ≡ begun → has_end at ≡ ended → count_pieces at ≡ n
+    → Marks at (braces_by x y) (here x n) (here y n) (x || begun) (y || ended) n
+braces_marks true true begun ended at n (u, v) e f g =
+    marks_append at (begin_brace ∷ []) (end_brace ∷ []) (n ∷ []) [] [] (n ∷ []) true false true true n n (begin_marks at n false (e ∙ u) (f ∙ v) g)
+    (end_marks (begin_brace ∷ at) n refl (f ∙ v) (one_more at ∙ g))
+braces_marks true false begun ended at n (u, v) e f g = begin_marks at n ended (e ∙ u) f g
+braces_marks false true begun ended at n (u, v) e f g = rw u (end_marks at n (e ∙ u) (f ∙ v) g)
+braces_marks false false begun ended at n h e f g = record { begins_are = refl; ends_are = refl; begun_is = e; ended_is = f; count_is = g }
 
 -- ---- what is still to come of the centre
 
@@ -117,122 +120,62 @@ pub record Phase (begun ended : Bool) (a b i n : ℕ) : Type 0 where
   pub to_end : ended ≡ false → i ≤ b
   pub has_ended : ended ≡ true → b < i
 
+pub at_start : (c : Span) (n : ℕ) → LiesAmong n (Some c) → Phase false false c.from c.to 0 n
+at_start c n h = record { order = h.0; last = omega (arith, h.1); to_begin = λ _. omega arith; has_begun = λ e. absurd (cc); to_end = λ _. omega arith; has_ended = λ e. absurd (cc) }
+
+pub allowed : (x y begun ended : Bool) (a b i n : ℕ) → a == i ≡ x → b == i ≡ y → Phase begun ended a b i n → Allowed x y begun ended
+allowed true y false false a b i n e f p = (refl, refl)
+allowed true y true ended a b i n e f p = absurd (let u = p.has_begun refl in let v : a ≡ i = eqb-true a i e in omega arith)
+allowed true y false true a b i n e f p = absurd (let u = p.has_ended refl in let v : a ≡ i = eqb-true a i e in omega (arith, p.order))
+allowed false true true false a b i n e f p = (refl, refl)
+allowed false true begun true a b i n e f p = absurd (let u = p.has_ended refl in let v : b ≡ i = eqb-true b i f in omega arith)
+allowed false true false false a b i n e f p = absurd (let u = p.to_begin refl in let v : b ≡ i = eqb-true b i f in omega (arith, p.order, λ (z : a ≡ i). eqb-false a i e z))
+allowed false false begun ended a b i n e f p = tt
+
 abbrev pub to_come : Bool → ℕ → List ℕ
 to_come done a = cond done [] (a ∷ [])
 
+-- one end of the centre, at a: whether its brace stands here, and whether it stood before
+record Side (x done : Bool) (a i : ℕ) : Type 0 where
+  shown : here x i ++ to_come (x || done) a ≡ to_come done a
+  after : (x || done) ≡ false → i < a
+  past : (x || done) ≡ true → a ≤ i
+
+side : (x done : Bool) (a i : ℕ) → a == i ≡ x → (done ≡ false → i ≤ a) → (done ≡ true → a < i) → Side x done a i
+side true done a i e f g =
+    let same : a ≡ i = eqb-true a i e in
+    by done f g same
+  where
+    by : (done : Bool) → (done ≡ false → i ≤ a) → (done ≡ true → a < i) → a ≡ i → Side true done a i
+    by true f g same = absurd (let u = g refl in omega arith)
+    by false f g same = record { shown = ap (λ (n : ℕ). n ∷ []) (sym same); after = λ z. absurd (cc); past = λ _. omega arith }
+side false true a i e f g = record { shown = refl; after = λ z. absurd (cc); past = λ _. (let u = g refl in omega arith) }
+side false false a i e f g = record { shown = refl; after = λ _. (let u = f refl in omega (arith, λ (z : a ≡ i). eqb-false a i e z)); past = λ z. absurd (cc) }
+
 -- what a boundary leaves
-pub record Gap (before ks : List Token) (begun ended : Bool) (a b i n : ℕ) : Type 0 where
-  pub begins : List ℕ
-  pub ends : List ℕ
-  pub begun' : Bool
-  pub ended' : Bool
-  pub marks : Marks before ks begins ends begun' ended' i
-  pub begins_are : begins ++ to_come begun' a ≡ to_come begun a
-  pub ends_are : ends ++ to_come ended' b ≡ to_come ended b
-  pub to_begin : begun' ≡ false → i < a
-  pub has_begun : begun' ≡ true → a ≤ i
-  pub to_end : ended' ≡ false → i < b
-  pub has_ended : ended' ≡ true → b ≤ i
+pub record Gap (before ks : List Token) (x y begun ended : Bool) (a b i : ℕ) : Type 0 where
+  pub marks : Marks before ks (here x i) (here y i) (x || begun) (y || ended) i
+  begins : Side x begun a i
+  ends : Side y ended b i
 
-above : (a i : ℕ) → a == i ≡ false → i ≤ a → i < a
-above a i e h = omega (arith, λ (f : a ≡ i). eqb-false a i e f)
+pub gap_by : (old new : List Style) (before : List Token) (a b i n : ℕ) (x y begun ended : Bool) → a == i ≡ x → b == i ≡ y → Phase begun ended a b i n
+    → count_pieces before ≡ i → has_begin before ≡ begun → has_end before ≡ ended → Gap before (tokens_between old new (braces_by x y)) x y begun ended a b i
+gap_by old new before a b i n x y begun ended e f p count g h = record {
+  marks = between_marks old new (braces_by x y) before (here x i) (here y i) (x || begun) (y || ended) i
+      (λ at u v w. braces_marks x y begun ended at i (allowed x y begun ended a b i n e f p) (u ∙ g) (v ∙ h) (w ∙ count));
+  begins = side x begun a i e p.to_begin p.has_begun;
+  ends = side y ended b i f p.to_end p.has_ended;
+}
 
-abbrev pub braces_by : Bool → Bool → List Token
-braces_by x y = cond x (cond y (begin_brace ∷ end_brace ∷ []) (begin_brace ∷ [])) (cond y (end_brace ∷ []) [])
-
-module _ (old new : List Style) (before : List Token) (a b i n : ℕ) (count : count_pieces before ≡ i) where
-  pub gap_by : (x y begun ended : Bool) → a == i ≡ x → b == i ≡ y → Phase begun ended a b i n → has_begin before ≡ begun → has_end before ≡ ended
-      → Gap before (tokens_between old new (braces_by x y)) begun ended a b i n
-  gap_by true true false false e f p g h =
-      let ea : a ≡ i = eqb-true a i e in
-      let eb : b ≡ i = eqb-true b i f in
-      record {
-        begins = i ∷ [];
-        ends = i ∷ [];
-        begun' = true;
-        ended' = true;
-        marks = between_marks old new (braces_by true true) before (i ∷ []) (i ∷ []) true true i (λ at u v w. both_marks at i (u ∙ g) (v ∙ h) (w ∙ count));
-        begins_are = ap (λ (x : ℕ). x ∷ []) (sym ea);
-        ends_are = ap (λ (x : ℕ). x ∷ []) (sym eb);
-        to_begin = λ z. absurd (cc);
-        has_begun = λ _. omega arith;
-        to_end = λ z. absurd (cc);
-        has_ended = λ _. omega arith;
-      }
-  gap_by true false false false e f p g h =
-      let ea : a ≡ i = eqb-true a i e in
-      record {
-        begins = i ∷ [];
-        ends = [];
-        begun' = true;
-        ended' = false;
-        marks = between_marks old new (braces_by true false) before (i ∷ []) [] true false i (λ at u v w. begin_marks at i (u ∙ g) (v ∙ h) (w ∙ count));
-        begins_are = ap (λ (x : ℕ). x ∷ []) (sym ea);
-        ends_are = refl;
-        to_begin = λ z. absurd (cc);
-        has_begun = λ _. omega arith;
-        to_end = λ _. above b i f (p.to_end refl);
-        has_ended = λ z. absurd (cc);
-      }
-  gap_by false false false false e f p g h = record {
-    begins = [];
-    ends = [];
-    begun' = false;
-    ended' = false;
-    marks = between_marks old new [] before [] [] false false i (λ at u v w. no_braces at false false i (u ∙ g) (v ∙ h) (w ∙ count));
-    begins_are = refl;
-    ends_are = refl;
-    to_begin = λ _. above a i e (p.to_begin refl);
-    has_begun = λ z. absurd (cc);
-    to_end = λ _. above b i f (p.to_end refl);
-    has_ended = λ z. absurd (cc);
-  }
-  gap_by false true true false e f p g h =
-      let eb : b ≡ i = eqb-true b i f in
-      record {
-        begins = [];
-        ends = i ∷ [];
-        begun' = true;
-        ended' = true;
-        marks = between_marks old new (braces_by false true) before [] (i ∷ []) true true i (λ at u v w. end_marks at i (u ∙ g) (v ∙ h) (w ∙ count));
-        begins_are = refl;
-        ends_are = ap (λ (x : ℕ). x ∷ []) (sym eb);
-        to_begin = λ z. absurd (cc);
-        has_begun = λ _. (let z = p.has_begun refl in omega arith);
-        to_end = λ z. absurd (cc);
-        has_ended = λ _. omega arith;
-      }
-  gap_by false false true false e f p g h = record {
-    begins = [];
-    ends = [];
-    begun' = true;
-    ended' = false;
-    marks = between_marks old new [] before [] [] true false i (λ at u v w. no_braces at true false i (u ∙ g) (v ∙ h) (w ∙ count));
-    begins_are = refl;
-    ends_are = refl;
-    to_begin = λ z. absurd (cc);
-    has_begun = λ _. (let z = p.has_begun refl in omega arith);
-    to_end = λ _. above b i f (p.to_end refl);
-    has_ended = λ z. absurd (cc);
-  }
-  gap_by false false true true e f p g h = record {
-    begins = [];
-    ends = [];
-    begun' = true;
-    ended' = true;
-    marks = between_marks old new [] before [] [] true true i (λ at u v w. no_braces at true true i (u ∙ g) (v ∙ h) (w ∙ count));
-    begins_are = refl;
-    ends_are = refl;
-    to_begin = λ z. absurd (cc);
-    has_begun = λ _. (let z = p.has_begun refl in omega arith);
-    to_end = λ z. absurd (cc);
-    has_ended = λ _. (let z = p.has_ended refl in omega arith);
-  }
-  gap_by false true false false e f p g h =
-      absurd (let x = above a i e (p.to_begin refl) in let y : b ≡ i = eqb-true b i f in omega (arith, p.order))
-  gap_by x y false true e f p g h = absurd (let u = p.to_begin refl in let v = p.has_ended refl in omega (arith, p.order))
-  gap_by true y true z e f p g h = absurd (let u = p.has_begun refl in let v : a ≡ i = eqb-true a i e in omega arith)
-  gap_by false true true true e f p g h = absurd (let u = p.has_ended refl in let v : b ≡ i = eqb-true b i f in omega arith)
+pub next_phase : {before ks : List Token} {x y begun ended : Bool} {a b i n : ℕ} → Gap before ks x y begun ended a b i → Phase begun ended a b i (suc n) → Phase (x || begun) (y || ended) a b (i + 1) n
+next_phase q p = record {
+  order = p.order;
+  last = omega (arith, p.last);
+  to_begin = λ z. (let u = (q.begins).after z in omega arith);
+  has_begun = λ z. (let u = (q.begins).past z in omega arith);
+  to_end = λ z. (let u = (q.ends).after z in omega arith);
+  has_ended = λ z. (let u = (q.ends).past z in omega arith);
+}
 
 -- ---- the whole
 
@@ -240,24 +183,9 @@ module _ (old new : List Style) (before : List Token) (a b i n : ℕ) (count : c
 pub piece_marks : (p : PieceFacts) (w b : Bool) (now : List Token) → Good p w b → Does p w b now
     → Marks now (printed_piece p.kind p.text ∷ []) [] [] (has_begin now) (has_end now) (count_pieces now + 1)
 piece_marks p w b now g d =
-    let e = no_brace p w b g in
+    let e = printed_kind (λ (d : TokenKind). (is_begin d ≡ false) × (is_end d ≡ false)) (refl, refl) (refl, refl) (refl, refl) (refl, refl) p w b g in
     let one : length (pieces_at now (printed_piece p.kind p.text)) ≡ 1 = ap length d.pieces_are in
     record { begins_are = rw e.0 refl; ends_are = rw e.1 refl; begun_is = rw e.0 refl; ended_is = rw e.1 refl; count_is = ap (λ (n : ℕ). count_pieces now + n) one }
-  where
-    kinds : (d : TokenKind) (t : List ℕ) (p : PieceKind) → piece_kind d (effect_as d t) ≡ Some p → (is_begin d ≡ false) × (is_end d ≡ false)
-    kinds kind.Begin t p e = absurd (cc)
-    kinds kind.End t p e = absurd (cc)
-    kinds _ t p e = (refl, refl)
-
-    no_brace : (p : PieceFacts) (w b : Bool) → Good p w b → (is_begin (printed_piece p.kind p.text).kind ≡ false) × (is_end (printed_piece p.kind p.text).kind ≡ false)
-    no_brace p w b g = by p.kind g.reads_so
-      where
-        by : (k : PieceKind) → Says k p.text w b → (is_begin (printed_piece k p.text).kind ≡ false) × (is_end (printed_piece k p.text).kind ≡ false)
-        by piece.Blank h = (refl, refl)
-        by piece.Char h = kinds (printed_piece piece.Char p.text).kind (spelling (printed_piece piece.Char p.text)) piece.Char h.0
-        by piece.Raw h = kinds (printed_piece piece.Raw p.text).kind (spelling (printed_piece piece.Raw p.text)) piece.Raw h.0
-        by piece.Tag h = kinds (printed_piece piece.Tag p.text).kind (spelling (printed_piece piece.Tag p.text)) piece.Tag h.0
-        by piece.Mark h = kinds (printed_piece piece.Mark p.text).kind (spelling (printed_piece piece.Mark p.text)) piece.Mark h.0
 
 pub gap_silent : (centre : Option Span) (i : ℕ) (old new : List Style) → AllSilent (tokens_between old new (brace_tokens centre i))
 gap_silent centre i old new = between_silent old new (brace_tokens centre i) (are_braces centre i).silent
@@ -268,9 +196,9 @@ pub centre_from : (c : Span) (i : ℕ) (old : List Style) (ps : List PieceFacts)
     → Phase begun ended c.from c.to i (length ps) → has_begin before ≡ begun → has_end before ≡ ended
     → (along begin_at before (print_from (Some c) i old ps) ≡ to_come begun c.from) × (along end_at before (print_from (Some c) i old ps) ≡ to_come ended c.to)
 centre_from c i old [] w b0 before begun ended e f g count p hb he =
-    let q = gap_by old [] before c.from c.to i 0 count (c.from == i) (c.to == i) begun ended refl refl p hb he in (
-      (q.marks).begins_are ∙ finish q.begins q.begun' begun c.from q.begins_are (λ z. let u = q.to_begin z in omega (arith, p.order, p.last)),
-      (q.marks).ends_are ∙ finish q.ends q.ended' ended c.to q.ends_are (λ z. let u = q.to_end z in omega (arith, p.last)),
+    let q = gap_by old [] before c.from c.to i 0 (c.from == i) (c.to == i) begun ended refl refl p count hb he in (
+      (q.marks).begins_are ∙ finish (here (c.from == i) i) ((c.from == i) || begun) begun c.from (q.begins).shown (λ z. let u = (q.begins).after z in omega (arith, p.order, p.last)),
+      (q.marks).ends_are ∙ finish (here (c.to == i) i) ((c.to == i) || ended) ended c.to (q.ends).shown (λ z. let u = (q.ends).after z in omega (arith, p.last)),
     )
   where
     finish : (xs : List ℕ) (done was : Bool) (a : ℕ) → xs ++ to_come done a ≡ to_come was a → (done ≡ false → ⊥) → xs ≡ to_come was a
@@ -282,40 +210,32 @@ centre_from c i old (p ∷ ps) w b0 before begun ended e f g count ph hb he =
     let more = print_from (Some c) (i + 1) p.styles ps in
     let silent = gap_silent (Some c) i old p.styles in
     let d = does p w b0 (onto gap before) g.0 (silent_word before gap silent ∙ e) (λ x. silent_blank before gap silent ∙ f x) in
-    let q = gap_by old p.styles before c.from c.to i (length (p ∷ ps)) count (c.from == i) (c.to == i) begun ended refl refl ph hb he in
+    let q = gap_by old p.styles before c.from c.to i (length (p ∷ ps)) (c.from == i) (c.to == i) begun ended refl refl ph count hb he in
     let m = piece_marks p w b0 (onto gap before) g.0 d in
-    let r = centre_from c (i + 1) p.styles ps (is_word_kind (Some p.kind) || w) (is_blank_piece p.kind) (k ∷ onto gap before) q.begun' q.ended'
-    d.word (λ x. d.blank) g.1 (m.count_is ∙ ap (λ (n : ℕ). n + 1) (q.marks).count_is)
-    (record {
-      order = ph.order;
-      last = omega (arith, ph.last);
-      to_begin = λ z. (let u = q.to_begin z in omega arith);
-      has_begun = λ z. (let u = q.has_begun z in omega arith);
-      to_end = λ z. (let u = q.to_end z in omega arith);
-      has_ended = λ z. (let u = q.has_ended z in omega arith);
-    })
+    let r = centre_from c (i + 1) p.styles ps (is_word_kind (Some p.kind) || w) (is_blank_piece p.kind) (k ∷ onto gap before) ((c.from == i) || begun) ((c.to == i) || ended)
+    d.word (λ x. d.blank) g.1 (m.count_is ∙ ap (λ (n : ℕ). n + 1) (q.marks).count_is) (next_phase q ph)
     (m.begun_is ∙ (q.marks).begun_is) (m.ended_is ∙ (q.marks).ended_is) in (
-      along_append begin_at before gap (k ∷ more) ∙ rw ((q.marks).begins_are) (ap (λ (x : List ℕ). q.begins ++ x) (pass begin_at (onto gap before) k more m.begins_are ∙ r.0) ∙ q.begins_are),
-      along_append end_at before gap (k ∷ more) ∙ rw ((q.marks).ends_are) (ap (λ (x : List ℕ). q.ends ++ x) (pass end_at (onto gap before) k more m.ends_are ∙ r.1) ∙ q.ends_are),
+      along_append begin_at before gap (k ∷ more) ∙ rw ((q.marks).begins_are) (ap (λ (x : List ℕ). here (c.from == i) i ++ x) (pass begin_at (onto gap before) k more m.begins_are ∙ r.0) ∙ (q.begins).shown),
+      along_append end_at before gap (k ∷ more) ∙ rw ((q.marks).ends_are) (ap (λ (x : List ℕ). here (c.to == i) i ++ x) (pass end_at (onto gap before) k more m.ends_are ∙ r.1) ∙ (q.ends).shown),
     )
-  where
-    pass : (at : List Token → Token → List ℕ) (now : List Token) (k : Token) (ks : List Token) → along at now (k ∷ []) ≡ [] → along at now (k ∷ ks) ≡ along at (k ∷ now) ks
-    pass at now k ks e = along_append at now (k ∷ []) ks ∙ rw e refl
 
 -- no centre, no braces
+no_gap : (old new : List Style) (before : List Token) → Marks before (tokens_between old new []) [] [] (has_begin before) (has_end before) (count_pieces before)
+no_gap old new before =
+    between_marks old new [] before [] [] (has_begin before) (has_end before) (count_pieces before) (λ at. braces_marks false false (has_begin before) (has_end before) at (count_pieces before) tt)
+
 pub no_centre : (i : ℕ) (old : List Style) (ps : List PieceFacts) (w b0 : Bool) (before : List Token)
     → has_word before ≡ w → (w ≡ true → follows_blank before ≡ b0) → AllGood w b0 ps
     → along begin_at before (print_from None i old ps) ≡ []
 no_centre i old [] w b0 before e f g =
-    (between_marks old [] [] before [] [] (has_begin before) (has_end before) (count_pieces before) (λ at u v w. no_braces at (has_begin before) (has_end before) (count_pieces before) u v w)).begins_are
+    (no_gap old [] before).begins_are
 no_centre i old (p ∷ ps) w b0 before e f g =
     let gap = tokens_between old p.styles [] in
     let k = printed_piece p.kind p.text in
     let more = print_from None (i + 1) p.styles ps in
     let silent = gap_silent None i old p.styles in
     let d = does p w b0 (onto gap before) g.0 (silent_word before gap silent ∙ e) (λ x. silent_blank before gap silent ∙ f x) in
-    let q = between_marks old p.styles [] before [] [] (has_begin before) (has_end before) (count_pieces before) (λ at u v w. no_braces at (has_begin before) (has_end before) (count_pieces before) u v w) in
     let m = piece_marks p w b0 (onto gap before) g.0 d in
-    along_append begin_at before gap (k ∷ more) ∙ rw q.begins_are
-    (along_append begin_at (onto gap before) (k ∷ []) more ∙ rw m.begins_are
-    (no_centre (i + 1) p.styles ps (is_word_kind (Some p.kind) || w) (is_blank_piece p.kind) (k ∷ onto gap before) d.word (λ x. d.blank) g.1))
+    along_append begin_at before gap (k ∷ more) ∙ rw (no_gap old p.styles before).begins_are
+    (pass begin_at (onto gap before) k more m.begins_are
+    ∙ no_centre (i + 1) p.styles ps (is_word_kind (Some p.kind) || w) (is_blank_piece p.kind) (k ∷ onto gap before) d.word (λ x. d.blank) g.1)

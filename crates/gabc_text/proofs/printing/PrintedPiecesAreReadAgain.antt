@@ -2,7 +2,6 @@
 use Rattle.std.proofs.Common.{◌≡◌, ℕ, ◌+◌, ◌==◌, List, [], ◌∷◌, ◌++◌, Bool, true, false, ◌||◌, cond, refl, ap, ◌∙◌, map, reverse, filter, Option, Some, None}
 use Rattle.gabc_places.specs.declared.place.Span.{Span}
 use Rattle.gabc_text.specs.declared.styles.Style.{Style}
-use Rattle.gabc_text.specs.declared.styles.Style.TheVariants.{B, C, E, I, Sc, Tt, Ul}
 use Rattle.gabc_text.specs.declared.view.PieceKind.{PieceKind}
 use Rattle.gabc_text.specs.declared.view.PieceKind.TheVariants as piece
 use Rattle.gabc_text.specs.declared.token.TokenKind.{TokenKind}
@@ -10,11 +9,11 @@ use Rattle.gabc_text.specs.declared.token.TokenKind.TheVariants as kind
 use Rattle.gabc_text.specs.declared.token.TagEffect.{TagEffect}
 use Rattle.gabc_text.specs.declared.token.TagEffect.TheVariants.{Opens, Closes}
 use Rattle.gabc_text.specs.Token.{Token, spelling, effect_of}
-use Rattle.gabc_text.specs.View.{along, effect_as, tag_piece, piece_kind, is_open_after, is_open, all_styles, open_styles, kind_of, is_word_kind, has_word, follows_blank, starts_word, pieces_at, piece_of, PieceFacts, text_of_piece, is_space, is_blank_piece, is_translation}
+use Rattle.gabc_text.specs.View.{along, effect, effect_as, tag_piece, piece_kind, is_open_after, is_open, all_styles, open_styles, kind_of, is_word_kind, has_word, follows_blank, starts_word, pieces_at, piece_of, PieceFacts, text_of_piece, is_space, is_blank_piece, is_translation}
 use Rattle.gabc_text.specs.Canonical.{after_common}
-use Rattle.gabc_text.specs.Printed.{opening_tag, closing_tag, tokens_between, brace_tokens, printed_piece, print_from}
+use Rattle.gabc_text.specs.Printed.{opening_tag, closing_tag, begin_brace, end_brace, tokens_between, brace_tokens, printed_piece, print_from}
 use Rattle.gabc_text.proofs.printing.TokensAreReadAgain.{opening_stable, closing_stable}
-use Rattle.gabc_text.proofs.printing.PrintedTagsOpenStyles.{along_append, member, AllOnce, Quiet, across, styles_again, once}
+use Rattle.gabc_text.proofs.printing.PrintedTagsOpenStyles.{along_append, tag_opens, tag_closes, member, AllOnce, Quiet, across, styles_again, once}
 use Rattle.gabc_text.proofs.machine.TokensOneAfterAnother.{onto}
 use Rattle.gabc_text.specs.machine.PrintedPieces.{AllGood, Good, Says, Stable}
 
@@ -36,29 +35,11 @@ silent_append (k ∷ ks) ls h g = (h.0, silent_append ks ls h.1 g)
 
 pub opening_silent : (ss : List Style) → AllSilent (map opening_tag ss)
 opening_silent [] = tt
-opening_silent (s ∷ ss) = (one s, opening_silent ss)
-  where
-    one : (s : Style) → Silent (opening_tag s)
-    one B = record { none = refl; no_space = refl; no_translation = refl; stable = opening_stable B }
-    one C = record { none = refl; no_space = refl; no_translation = refl; stable = opening_stable C }
-    one E = record { none = refl; no_space = refl; no_translation = refl; stable = opening_stable E }
-    one I = record { none = refl; no_space = refl; no_translation = refl; stable = opening_stable I }
-    one Sc = record { none = refl; no_space = refl; no_translation = refl; stable = opening_stable Sc }
-    one Tt = record { none = refl; no_space = refl; no_translation = refl; stable = opening_stable Tt }
-    one Ul = record { none = refl; no_space = refl; no_translation = refl; stable = opening_stable Ul }
+opening_silent (s ∷ ss) = (record { none = ap tag_piece (tag_opens s); no_space = refl; no_translation = refl; stable = opening_stable s }, opening_silent ss)
 
 pub closing_silent : (ss : List Style) → AllSilent (map closing_tag ss)
 closing_silent [] = tt
-closing_silent (s ∷ ss) = (one s, closing_silent ss)
-  where
-    one : (s : Style) → Silent (closing_tag s)
-    one B = record { none = refl; no_space = refl; no_translation = refl; stable = closing_stable B }
-    one C = record { none = refl; no_space = refl; no_translation = refl; stable = closing_stable C }
-    one E = record { none = refl; no_space = refl; no_translation = refl; stable = closing_stable E }
-    one I = record { none = refl; no_space = refl; no_translation = refl; stable = closing_stable I }
-    one Sc = record { none = refl; no_space = refl; no_translation = refl; stable = closing_stable Sc }
-    one Tt = record { none = refl; no_space = refl; no_translation = refl; stable = closing_stable Tt }
-    one Ul = record { none = refl; no_space = refl; no_translation = refl; stable = closing_stable Ul }
+closing_silent (s ∷ ss) = (record { none = ap tag_piece (tag_closes s); no_space = refl; no_translation = refl; stable = closing_stable s }, closing_silent ss)
 
 -- braces between pieces
 pub record Braces (ks : List Token) : Type 0 where
@@ -69,11 +50,16 @@ pub are_braces : (centre : Option Span) (i : ℕ) → Braces (brace_tokens centr
 are_braces None i = record { silent = tt; quiet = λ s before. refl }
 are_braces (Some c) i = by (c.from == i) (c.to == i)
   where
-    by : (a b : Bool) → Braces (cond a (cond b (record { kind = kind.Begin; first = 123; more = [] } ∷ record { kind = kind.End; first = 125; more = [] } ∷ []) (record { kind = kind.Begin; first = 123; more = [] } ∷ []))
-        (cond b (record { kind = kind.End; first = 125; more = [] } ∷ []) []))
-    by true true = record { silent = (record { none = refl; no_space = refl; no_translation = refl; stable = λ u. refl }, (record { none = refl; no_space = refl; no_translation = refl; stable = λ u. refl }, tt)); quiet = λ s before. refl }
-    by true false = record { silent = (record { none = refl; no_space = refl; no_translation = refl; stable = λ u. refl }, tt); quiet = λ s before. refl }
-    by false true = record { silent = (record { none = refl; no_space = refl; no_translation = refl; stable = λ u. refl }, tt); quiet = λ s before. refl }
+    begins : Silent begin_brace
+    begins = record { none = refl; no_space = refl; no_translation = refl; stable = λ u. refl }
+
+    ends : Silent end_brace
+    ends = record { none = refl; no_space = refl; no_translation = refl; stable = λ u. refl }
+
+    by : (a b : Bool) → Braces (cond a (cond b (begin_brace ∷ end_brace ∷ []) (begin_brace ∷ [])) (cond b (end_brace ∷ []) []))
+    by true true = record { silent = (begins, (ends, tt)); quiet = λ s before. refl }
+    by true false = record { silent = (begins, tt); quiet = λ s before. refl }
+    by false true = record { silent = (ends, tt); quiet = λ s before. refl }
     by false false = record { silent = tt; quiet = λ s before. refl }
 
 pub between_silent : (old new : List Style) (middle : List Token) → AllSilent middle → AllSilent (tokens_between old new middle)
@@ -82,7 +68,7 @@ between_silent old new middle h =
     (silent_append (map closing_tag (reverse (after_common old new).0)) middle (closing_silent (reverse (after_common old new).0)) h) (opening_silent (after_common old new).1)
 
 -- they give no pieces, and change nothing of what the pieces look at
-no_pieces : (before : List Token) (k : Token) → Silent k → pieces_at before k ≡ []
+pub no_pieces : (before : List Token) (k : Token) → Silent k → pieces_at before k ≡ []
 no_pieces before k h = rw (h.none, h.no_space) refl
 
 pub silent_along : (before ks : List Token) → AllSilent ks → along pieces_at before ks ≡ []
@@ -150,6 +136,27 @@ does p w b before h e f = by p.kind h.reads_so
     by piece.Raw g = no_blank piece.Raw p.text p.styles w b before g.0 g.1 g.2 refl e
     by piece.Tag g = no_blank piece.Tag p.text p.styles w b before g.0 g.1 g.2 refl e
     by piece.Mark g = no_blank piece.Mark p.text p.styles w b before g.0 g.1 g.2 refl e
+
+-- a printed piece is a blank, or a token of its kind
+pub printed_by : (P : Token → Type 0) (p : PieceFacts) (w b : Bool) → (w ≡ true → b ≡ false → P (printed_piece piece.Blank [])) → ((k : Token) → kind_of k ≡ Some p.kind → P k) → Good p w b
+    → P (printed_piece p.kind p.text)
+printed_by P p w b blank other g = by p.kind other g.reads_so
+  where
+    by : (q : PieceKind) → ((k : Token) → kind_of k ≡ Some q → P k) → Says q p.text w b → P (printed_piece q p.text)
+    by piece.Blank f h = blank h.1 h.2
+    by piece.Char f h = f (printed_piece piece.Char p.text) h.0
+    by piece.Raw f h = f (printed_piece piece.Raw p.text) h.0
+    by piece.Tag f h = f (printed_piece piece.Tag p.text) h.0
+    by piece.Mark f h = f (printed_piece piece.Mark p.text) h.0
+
+pub printed_kind : (P : TokenKind → Type 0) → P kind.Blank → P kind.Letter → P kind.Raw → P kind.Tag → (p : PieceFacts) (w b : Bool) → Good p w b → P (printed_piece p.kind p.text).kind
+printed_kind P blank letter raw tag p w b g = printed_by (λ (k : Token). P k.kind) p w b (λ _ _. blank) (λ k e. by k.kind (effect k) e) g
+  where
+    by : (d : TokenKind) (so : TagEffect) → piece_kind d so ≡ Some p.kind → P d
+    by kind.Letter so e = letter
+    by kind.Raw so e = raw
+    by kind.Tag so e = tag
+    by _ so e = absurd (cc)
 
 -- the pieces are read again
 pub pieces_again : (centre : Option Span) (i : ℕ) (old : List Style) (ps : List PieceFacts) (w b : Bool) (before : List Token)

@@ -6,8 +6,10 @@ use Rattle.std.specs.List.{list_any}
 use Rattle.gabc_text.proofs.machine.TokensOneAfterAnother.{onto}
 use Rattle.gabc_text.specs.declared.styles.Style.{Style}
 use Rattle.gabc_text.specs.declared.styles.Style.TheVariants.{B, C, E, I, Sc, Tt, Ul}
+use Rattle.gabc_text.specs.declared.token.TagEffect.{TagEffect}
+use Rattle.gabc_text.specs.declared.token.TagEffect.TheVariants.{Opens, Closes}
 use Rattle.gabc_text.specs.Token.{Token}
-use Rattle.gabc_text.specs.View.{along, is_open, is_same, all_styles, open_styles}
+use Rattle.gabc_text.specs.View.{along, effect, is_open_after, is_open, is_same, all_styles, open_styles}
 use Rattle.gabc_text.specs.Canonical.{after_common}
 use Rattle.gabc_text.specs.Printed.{opening_tag, closing_tag, tokens_between}
 
@@ -25,23 +27,29 @@ member s xs = list_any (λ r. is_same r s) xs
 
 -- ---- one tag
 
+pub tag_opens : (s : Style) → effect (opening_tag s) ≡ Opens s
+tag_opens B = refl
+tag_opens C = refl
+tag_opens E = refl
+tag_opens I = refl
+tag_opens Sc = refl
+tag_opens Tt = refl
+tag_opens Ul = refl
+
+pub tag_closes : (s : Style) → effect (closing_tag s) ≡ Closes s
+tag_closes B = refl
+tag_closes C = refl
+tag_closes E = refl
+tag_closes I = refl
+tag_closes Sc = refl
+tag_closes Tt = refl
+tag_closes Ul = refl
+
 pub open_one : (r s : Style) (before : List Token) → is_open s (opening_tag r ∷ before) ≡ cond (is_same r s) true (is_open s before)
-open_one B s before = refl
-open_one C s before = refl
-open_one E s before = refl
-open_one I s before = refl
-open_one Sc s before = refl
-open_one Tt s before = refl
-open_one Ul s before = refl
+open_one r s before = ap (λ (so : TagEffect). is_open_after s so (is_open s before)) (tag_opens r)
 
 pub close_one : (r s : Style) (before : List Token) → is_open s (closing_tag r ∷ before) ≡ cond (is_same r s) false (is_open s before)
-close_one B s before = refl
-close_one C s before = refl
-close_one E s before = refl
-close_one I s before = refl
-close_one Sc s before = refl
-close_one Tt s before = refl
-close_one Ul s before = refl
+close_one r s before = ap (λ (so : TagEffect). is_open_after s so (is_open s before)) (tag_closes r)
 
 -- ---- several tags
 

@@ -21,6 +21,7 @@ use Rattle.gabc_text.specs.ViewFacts.{ViewFacts, view_facts, is_error, has_error
 use Rattle.gabc_text.specs.Printed.{opening_tag, closing_tag, begin_brace, end_brace, brace_tokens, tokens_between, printed_piece, print_from, text_tokens, translation_tokens, word_break, print_tokens, print}
 use Rattle.gabc_text.proofs.printing.ViewFromFirstToken.{view}
 use Rattle.gabc_text.proofs.printing.PiecesPrintWell.{pieces_good}
+use Rattle.gabc_text.proofs.printing.PrintedPiecesAreReadAgain.{printed_kind}
 use Rattle.gabc_text.proofs.printing.PrintedTextIsReadAgain.{tokens_printed}
 use Rattle.gabc_text.proofs.printing.ViewForwardIsViewBackward.{facts_is}
 use Rattle.gabc_text.specs.machine.PrintedPieces.{AllGood, Good, Says}
@@ -41,23 +42,11 @@ no_stray_append (k ∷ ks) ls h g = (h.0, no_stray_append ks ls h.1 g)
 
 openings : (ss : List Style) → NoStray (map opening_tag ss)
 openings [] = tt
-openings (B ∷ ss) = (refl, openings ss)
-openings (C ∷ ss) = (refl, openings ss)
-openings (E ∷ ss) = (refl, openings ss)
-openings (I ∷ ss) = (refl, openings ss)
-openings (Sc ∷ ss) = (refl, openings ss)
-openings (Tt ∷ ss) = (refl, openings ss)
-openings (Ul ∷ ss) = (refl, openings ss)
+openings (s ∷ ss) = (refl, openings ss)
 
 closings : (ss : List Style) → NoStray (map closing_tag ss)
 closings [] = tt
-closings (B ∷ ss) = (refl, closings ss)
-closings (C ∷ ss) = (refl, closings ss)
-closings (E ∷ ss) = (refl, closings ss)
-closings (I ∷ ss) = (refl, closings ss)
-closings (Sc ∷ ss) = (refl, closings ss)
-closings (Tt ∷ ss) = (refl, closings ss)
-closings (Ul ∷ ss) = (refl, closings ss)
+closings (s ∷ ss) = (refl, closings ss)
 
 in_braces : (centre : Option Span) (i : ℕ) → NoStray (brace_tokens centre i)
 in_braces None i = tt
@@ -75,25 +64,11 @@ in_gap centre i old new =
     (no_stray_append (map closing_tag (reverse (after_common old new).0)) (brace_tokens centre i) (closings (reverse (after_common old new).0)) (in_braces centre i))
     (openings (after_common old new).1)
 
-in_piece : (p : PieceFacts) (w b : Bool) → Good p w b → is_stray (printed_piece p.kind p.text).kind ≡ false
-in_piece p w b g = by p.kind g.reads_so
-  where
-    kinds : (d : TokenKind) (t : List ℕ) (q : PieceKind) → piece_kind d (effect_as d t) ≡ Some q → is_stray d ≡ false
-    kinds kind.Stray t q e = absurd (cc)
-    kinds _ t q e = refl
-
-    by : (k : PieceKind) → Says k p.text w b → is_stray (printed_piece k p.text).kind ≡ false
-    by piece.Blank h = refl
-    by piece.Char h = kinds (printed_piece piece.Char p.text).kind (spelling (printed_piece piece.Char p.text)) piece.Char h.0
-    by piece.Raw h = kinds (printed_piece piece.Raw p.text).kind (spelling (printed_piece piece.Raw p.text)) piece.Raw h.0
-    by piece.Tag h = kinds (printed_piece piece.Tag p.text).kind (spelling (printed_piece piece.Tag p.text)) piece.Tag h.0
-    by piece.Mark h = kinds (printed_piece piece.Mark p.text).kind (spelling (printed_piece piece.Mark p.text)) piece.Mark h.0
-
 in_pieces : (centre : Option Span) (i : ℕ) (old : List Style) (ps : List PieceFacts) (w b : Bool) → AllGood w b ps → NoStray (print_from centre i old ps)
 in_pieces centre i old [] w b g = in_gap centre i old []
 in_pieces centre i old (p ∷ ps) w b g =
     no_stray_append (tokens_between old p.styles (brace_tokens centre i)) (printed_piece p.kind p.text ∷ print_from centre (i + 1) p.styles ps) (in_gap centre i old p.styles)
-    (in_piece p w b g.0, in_pieces centre (i + 1) p.styles ps (is_word_kind (Some p.kind) || w) (is_blank_piece p.kind) g.1)
+    (printed_kind (λ (d : TokenKind). is_stray d ≡ false) refl refl refl refl p w b g.0, in_pieces centre (i + 1) p.styles ps (is_word_kind (Some p.kind) || w) (is_blank_piece p.kind) g.1)
 
 in_print : (t : List ℕ) → NoStray (print_tokens (view t))
 in_print t =

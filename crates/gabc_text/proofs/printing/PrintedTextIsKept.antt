@@ -6,13 +6,13 @@ use Rattle.gabc_text.specs.declared.styles.Style.{Style}
 use Rattle.gabc_text.specs.declared.view.PieceKind.{PieceKind}
 use Rattle.gabc_text.specs.declared.view.PieceKind.TheVariants as piece
 use Rattle.gabc_text.specs.Token.{Token, spelling}
-use Rattle.gabc_text.specs.View.{along, effect, PieceFacts, is_word_kind, has_word, follows_blank, follows_space, is_blank_piece, has_begin, has_end, count_pieces, is_left_out, is_space, kept, kept_at}
+use Rattle.gabc_text.specs.View.{along, effect, kind_of, PieceFacts, is_word_kind, has_word, follows_blank, follows_space, is_blank_piece, has_begin, has_end, count_pieces, is_left_out, is_space, kept, kept_at}
 use Rattle.gabc_text.specs.Canonical.{after_common}
 use Rattle.gabc_text.specs.ViewFacts.{ViewFacts, view_facts, LiesAmong}
 use Rattle.gabc_text.specs.Printed.{print_from, printed_piece, tokens_between, brace_tokens, opening_tag, closing_tag, text_of_tokens, text_tokens, translation_tokens, word_break, print_tokens, print}
 use Rattle.gabc_text.proofs.printing.PrintedTagsOpenStyles.{along_append}
-use Rattle.gabc_text.proofs.printing.PrintedPiecesAreReadAgain.{does, silent_word, silent_blank}
-use Rattle.gabc_text.proofs.printing.PrintedBracesGiveCentre.{Phase, gap_by, gap_silent, closing_marks, piece_marks, braces_by}
+use Rattle.gabc_text.proofs.printing.PrintedPiecesAreReadAgain.{does, printed_by, silent_word, silent_blank}
+use Rattle.gabc_text.proofs.printing.PrintedBracesGiveCentre.{Phase, Allowed, allowed, at_start, gap_by, next_phase, gap_silent, closing_marks, piece_marks, braces_by}
 use Rattle.gabc_text.proofs.spans.SpansStandForView.{no_space, kept_spelled}
 use Rattle.gabc_text.proofs.printing.ViewFromFirstToken.{view}
 use Rattle.gabc_text.proofs.printing.PrintedTextIsReadAgain.{Sound, view_sound, tokens_printed}
@@ -39,26 +39,11 @@ closings : (ss : List Style) (before : List Token) → Kept before (map closing_
 closings [] before = refl
 closings (s ∷ ss) before = ap (λ (x : List ℕ). spelling (closing_tag s) ++ x) (closings ss (closing_tag s ∷ before))
 
--- the braces stand where they may
-abbrev Allowed : Bool → Bool → Bool → Bool → Type 0
-Allowed true y begun ended = (begun ≡ false) × (ended ≡ false)
-Allowed false true begun ended = (begun ≡ true) × (ended ≡ false)
-Allowed false false begun ended = Unit {0}
-
 braces_kept : (x y begun ended : Bool) (at : List Token) → Allowed x y begun ended → has_begin at ≡ begun → has_end at ≡ ended → Kept at (braces_by x y)
 braces_kept true true begun ended at (h, g) e f = rw (e, h, f, g) refl
 braces_kept true false begun ended at (h, g) e f = rw (e, h) refl
 braces_kept false true begun ended at (h, g) e f = rw (e, h, f, g) refl
 braces_kept false false begun ended at h e f = refl
-
-allowed : (x y begun ended : Bool) (a b i n : ℕ) → a == i ≡ x → b == i ≡ y → Phase begun ended a b i n → Allowed x y begun ended
-allowed true y false false a b i n e f p = (refl, refl)
-allowed true y true ended a b i n e f p = absurd (let u = p.has_begun refl in let v : a ≡ i = eqb-true a i e in omega arith)
-allowed true y false true a b i n e f p = absurd (let u = p.has_ended refl in let v : a ≡ i = eqb-true a i e in omega (arith, p.order))
-allowed false true true false a b i n e f p = (refl, refl)
-allowed false true begun true a b i n e f p = absurd (let u = p.has_ended refl in let v : b ≡ i = eqb-true b i f in omega arith)
-allowed false true false false a b i n e f p = absurd (let u = p.to_begin refl in let v : b ≡ i = eqb-true b i f in omega (arith, p.order, λ (z : a ≡ i). eqb-false a i e z))
-allowed false false begun ended a b i n e f p = tt
 
 gap_kept : (old new : List Style) (before ms : List Token) → ((at : List Token) → has_begin at ≡ has_begin before → has_end at ≡ has_end before → Kept at ms) → Kept before (tokens_between old new ms)
 gap_kept old new before ms h =
@@ -70,17 +55,13 @@ gap_kept old new before ms h =
     (openings (after_common old new).1 (onto (map closing_tag (reverse (after_common old new).0) ++ ms) before))
 
 piece_kept : (p : PieceFacts) (w b : Bool) (now : List Token) → Good p w b → (w ≡ true → follows_blank now ≡ b) → kept_at now (printed_piece p.kind p.text) ≡ spelling (printed_piece p.kind p.text)
-piece_kept p w b now g f = by p.kind g.reads_so
+piece_kept p w b now g f = printed_by (λ (k : Token). kept_at now k ≡ spelling k) p w b blank other g
   where
-    spelled : (k : Token) (q : PieceKind) → (is_left_out now k.kind ≡ false) × (is_space k.kind ≡ false) → kept_at now k ≡ spelling k
-    spelled k q h = rw (h.0, h.1) refl
+    blank : w ≡ true → b ≡ false → kept_at now (printed_piece piece.Blank []) ≡ spelling (printed_piece piece.Blank [])
+    blank e first = let s : follows_space now ≡ false = no_space now (f e ∙ first) in rw s refl
 
-    by : (k : PieceKind) → Says k p.text w b → kept_at now (printed_piece k p.text) ≡ spelling (printed_piece k p.text)
-    by piece.Blank h = let s : follows_space now ≡ false = no_space now (f h.1 ∙ h.2) in rw s refl
-    by piece.Char h = spelled (printed_piece piece.Char p.text) piece.Char (kept_spelled now (printed_piece piece.Char p.text) (printed_piece piece.Char p.text).kind (effect (printed_piece piece.Char p.text)) piece.Char h.0)
-    by piece.Raw h = spelled (printed_piece piece.Raw p.text) piece.Raw (kept_spelled now (printed_piece piece.Raw p.text) (printed_piece piece.Raw p.text).kind (effect (printed_piece piece.Raw p.text)) piece.Raw h.0)
-    by piece.Tag h = spelled (printed_piece piece.Tag p.text) piece.Tag (kept_spelled now (printed_piece piece.Tag p.text) (printed_piece piece.Tag p.text).kind (effect (printed_piece piece.Tag p.text)) piece.Tag h.0)
-    by piece.Mark h = spelled (printed_piece piece.Mark p.text) piece.Mark (kept_spelled now (printed_piece piece.Mark p.text) (printed_piece piece.Mark p.text).kind (effect (printed_piece piece.Mark p.text)) piece.Mark h.0)
+    other : (k : Token) → kind_of k ≡ Some p.kind → kept_at now k ≡ spelling k
+    other k e = let h = kept_spelled now k k.kind (effect k) p.kind e in rw (h.0, h.1) refl
 
 one_kept : (now : List Token) (k : Token) (ks : List Token) → kept_at now k ≡ spelling k → Kept (k ∷ now) ks → Kept now (k ∷ ks)
 one_kept now k ks e h = ap (λ (x : List ℕ). x ++ along kept_at (k ∷ now) ks) e ∙ ap (λ (x : List ℕ). spelling k ++ x) h
@@ -97,21 +78,13 @@ kept_from c i old (p ∷ ps) w b0 before begun ended e f g count ph hb he =
     let more = print_from (Some c) (i + 1) p.styles ps in
     let silent = gap_silent (Some c) i old p.styles in
     let d = does p w b0 (onto gap before) g.0 (silent_word before gap silent ∙ e) (λ x. silent_blank before gap silent ∙ f x) in
-    let q = gap_by old p.styles before c.from c.to i (length (p ∷ ps)) count (c.from == i) (c.to == i) begun ended refl refl ph hb he in
+    let q = gap_by old p.styles before c.from c.to i (length (p ∷ ps)) (c.from == i) (c.to == i) begun ended refl refl ph count hb he in
     let m = piece_marks p w b0 (onto gap before) g.0 d in
     both_kept before (tokens_between old p.styles (brace_tokens (Some c) i)) (printed_piece p.kind p.text ∷ print_from (Some c) (i + 1) p.styles ps)
     (gap_kept old p.styles before (brace_tokens (Some c) i) (λ at u v. braces_kept (c.from == i) (c.to == i) begun ended at (allowed (c.from == i) (c.to == i) begun ended c.from c.to i (length (p ∷ ps)) refl refl ph) (u ∙ hb) (v ∙ he)))
     (one_kept (onto gap before) k more (piece_kept p w b0 (onto gap before) g.0 (λ x. silent_blank before gap silent ∙ f x))
-    (kept_from c (i + 1) p.styles ps (is_word_kind (Some p.kind) || w) (is_blank_piece p.kind) (k ∷ onto gap before) q.begun' q.ended'
-    d.word (λ x. d.blank) g.1 (m.count_is ∙ ap (λ (n : ℕ). n + 1) (q.marks).count_is)
-    (record {
-      order = ph.order;
-      last = omega (arith, ph.last);
-      to_begin = λ z. (let u = q.to_begin z in omega arith);
-      has_begun = λ z. (let u = q.has_begun z in omega arith);
-      to_end = λ z. (let u = q.to_end z in omega arith);
-      has_ended = λ z. (let u = q.has_ended z in omega arith);
-    })
+    (kept_from c (i + 1) p.styles ps (is_word_kind (Some p.kind) || w) (is_blank_piece p.kind) (k ∷ onto gap before) ((c.from == i) || begun) ((c.to == i) || ended)
+    d.word (λ x. d.blank) g.1 (m.count_is ∙ ap (λ (n : ℕ). n + 1) (q.marks).count_is) (next_phase q ph)
     (m.begun_is ∙ (q.marks).begun_is) (m.ended_is ∙ (q.marks).ended_is)))
 
 -- and without one
@@ -157,8 +130,7 @@ view_kept v s =
     text b None h = kept_none 0 [] v.pieces false false (onto (word_break b) []) (starts b).0 (λ e. absurd (cc)) s.good
     text b (Some c) h =
         kept_from c 0 [] v.pieces false false (onto (word_break b) []) false false (starts b).0 (λ e. absurd (cc)) s.good (starts b).1
-        (record { order = h.0; last = omega (arith, h.1); to_begin = λ _. omega arith; has_begun = λ e. absurd (cc); to_end = λ _. omega arith; has_ended = λ e. absurd (cc) })
-        (starts b).2 (starts b).3
+        (at_start c (length v.pieces) h) (starts b).2 (starts b).3
 
 pub printed_kept : (t rest : List ℕ) → kept (print (view_facts t) ++ 40 ∷ rest) ≡ word_kept (view_facts t).word_start ++ text_of_tokens (text_tokens (view_facts t) ++ translation_tokens (view_facts t).translation)
 printed_kept t rest =

@@ -15,10 +15,10 @@ use Rattle.gabc_text.specs.Printed.{print_tokens, print_from, text_tokens, trans
 use Rattle.gabc_text.specs.declared.token.TagEffect.{TagEffect}
 use Rattle.gabc_text.specs.declared.token.TagEffect.TheVariants.{Opens, Closes, Mark, Begins, Other}
 use Rattle.gabc_text.proofs.tokens.CasesOfCharacters.{by_case}
-use Rattle.gabc_text.proofs.printing.PrintedBracesGiveCentre.{centre_from, no_centre, gap_silent}
+use Rattle.gabc_text.proofs.printing.PrintedBracesGiveCentre.{at_start, centre_from, no_centre, gap_silent}
 use Rattle.gabc_text.proofs.printing.TokensAreReadAgain.{AllStable, written_stable, IsReadAgain, token_again}
 use Rattle.gabc_text.proofs.printing.PrintedTagsOpenStyles.{push_append, along_append}
-use Rattle.gabc_text.proofs.printing.PrintedPiecesAreReadAgain.{AllSilent, silent_word, silent_blank, silent_starts, does, pieces_again}
+use Rattle.gabc_text.proofs.printing.PrintedPiecesAreReadAgain.{AllSilent, silent_word, silent_blank, silent_starts, does, printed_kind, pieces_again}
 use Rattle.gabc_text.proofs.printing.PiecesPrintWell.{pieces_good, good_along, tokens_fine}
 use Rattle.gabc_text.proofs.machine.TokensOneAfterAnother.{onto}
 use Rattle.gabc_text.specs.machine.PrintedPieces.{AllGood, Good, Says, Stable}
@@ -89,21 +89,6 @@ silent_translation : (ks ls : List Token) → AllSilent ks → translation_from 
 silent_translation [] ls h = refl
 silent_translation (k ∷ ks) ls h = no_translation k (ks ++ ls) (h.0).no_translation ∙ silent_translation ks ls h.1
 
-facts_no_translation : (p : PieceFacts) (w b : Bool) → Good p w b → is_translation (printed_piece p.kind p.text).kind ≡ false
-facts_no_translation p w b g = by p.kind g.reads_so
-  where
-    kinds : (d : TokenKind) (t : List ℕ) (p : PieceKind) → piece_kind d (effect_as d t) ≡ Some p → is_translation d ≡ false
-    kinds kind.Translation t p e = absurd (cc)
-    kinds kind.OpenTranslation t p e = absurd (cc)
-    kinds _ t p e = refl
-
-    by : (k : PieceKind) → Says k p.text w b → is_translation (printed_piece k p.text).kind ≡ false
-    by piece.Blank h = refl
-    by piece.Char h = kinds (printed_piece piece.Char p.text).kind (spelling (printed_piece piece.Char p.text)) piece.Char h.0
-    by piece.Raw h = kinds (printed_piece piece.Raw p.text).kind (spelling (printed_piece piece.Raw p.text)) piece.Raw h.0
-    by piece.Tag h = kinds (printed_piece piece.Tag p.text).kind (spelling (printed_piece piece.Tag p.text)) piece.Tag h.0
-    by piece.Mark h = kinds (printed_piece piece.Mark p.text).kind (spelling (printed_piece piece.Mark p.text)) piece.Mark h.0
-
 translation_after : (centre : Option Span) (i : ℕ) (old : List Style) (ps : List PieceFacts) (w b : Bool) (ls : List Token) → AllGood w b ps
     → translation_from (print_from centre i old ps ++ ls) ≡ translation_from ls
 translation_after centre i old [] w b ls g = silent_translation (tokens_between old [] (brace_tokens centre i)) ls (gap_silent centre i old [])
@@ -112,7 +97,7 @@ translation_after centre i old (p ∷ ps) w b ls g =
     let more = print_from centre (i + 1) p.styles ps in
     ap translation_from (append_assoc gap (printed_piece p.kind p.text ∷ more) ls)
     ∙ silent_translation gap (printed_piece p.kind p.text ∷ more ++ ls) (gap_silent centre i old p.styles)
-    ∙ no_translation (printed_piece p.kind p.text) (more ++ ls) (facts_no_translation p w b g.0)
+    ∙ no_translation (printed_piece p.kind p.text) (more ++ ls) (printed_kind (λ (d : TokenKind). is_translation d ≡ false) refl refl refl refl p w b g.0)
     ∙ translation_after centre (i + 1) p.styles ps (is_word_kind (Some p.kind) || w) (is_blank_piece p.kind) ls g.1
 
 -- ---- the translation of a text
@@ -384,8 +369,7 @@ printed_view v s =
         rw e refl
     by (Some c) o z h =
         let both = centre_from c 0 [] v.pieces false false (onto (word_break v.word_start) []) false false o.word (λ e. absurd (cc)) s.good o.count
-        (record { order = h.0; last = omega (arith, h.1); to_begin = λ _. omega arith; has_begun = λ e. absurd (cc); to_end = λ _. omega arith; has_ended = λ e. absurd (cc) })
-        o.begun o.ended in
+        (at_start c (length v.pieces) h) o.begun o.ended in
         centre_read (length v.pieces) c _ _
         (middle begin_at (word_break v.word_start) (print_from (Some c) 0 [] v.pieces) (translation_tokens v.translation) o.begins (z.begins (onto (word_break v.word_start ++ print_from (Some c) 0 [] v.pieces) [])) ∙ both.0)
         (middle end_at (word_break v.word_start) (print_from (Some c) 0 [] v.pieces) (translation_tokens v.translation) o.ends (z.ends (onto (word_break v.word_start ++ print_from (Some c) 0 [] v.pieces) [])) ∙ both.1)
