@@ -1,10 +1,10 @@
 -- Parts of a regular text, one after another.
 use Rattle.std.proofs.Common.{◌≡◌, ℕ, ◌<◌, ◌≤◌, ◌+◌, ◌-◌, ◌==◌, List, [], ◌∷◌, ◌++◌, Bool, true, false, not, length, refl, sym, ap, ap₂, subst, ◌∙◌, arith, take, drop, get_or, map, append_assoc, length-append, Option, Some, None, zero, suc, filter, append-nil}
 use Rattle.std.specs.Cmp.Lexicographic.{pointwise}
-use Rattle.std.proofs.lemmas.Bool.{true≢false}
+use Rattle.std.proofs.lemmas.Bool.{true≢false, not-false}
 use Rattle.std.proofs.lemmas.Bool.Decides.{Decides-eqb}
 use Rattle.std.proofs.lemmas.Slice.Eq.{starts_is}
-use Rattle.std.proofs.Math.Seq.{take-add}
+use Rattle.std.proofs.Math.Seq.{take-add, take-append_seam}
 use Rattle.std.proofs.lemmas.List.{length-take-le, length-map}
 use Rattle.gabc_places.specs.declared.place.Span.{Span}
 use Rattle.gabc_text.specs.declared.styles.Style.{Style}
@@ -108,11 +108,7 @@ pub starts_so : (l a : List ℕ) (r : Bool) → r ≡ pointwise (λ x y. x == y)
 starts_so l a r e f = (starts_is Decides-eqb l a r e).0 f
 
 pub taken_first : (l a : List ℕ) → l ≡ a ++ drop (length a) l → take (length a) l ≡ a
-taken_first l a e = ap (take (length a)) e ∙ first a (drop (length a) l)
-  where
-    first : (a u : List ℕ) → take (length a) (a ++ u) ≡ a
-    first [] u = refl
-    first (c ∷ a) u = ap (λ (x : List ℕ). c ∷ x) (first a u)
+taken_first l a e = ap (take (length a)) e ∙ take-append_seam a (drop (length a) l)
 
 pub between_is : (l a b : List ℕ) (n : ℕ) (x y : Bool) → x ≡ pointwise (λ u v. u == v) a (take (length a) l) → x ≡ true
     → y ≡ pointwise (λ u v. u == v) b (take (length b) (take (length l - (length a + n)) (drop (length a + n) l))) → y ≡ true
@@ -259,8 +255,4 @@ module _ (mark : Option SpanMark) (b : Before) (l : List ℕ) (n r : ℕ) where
   blank_more_step style some less e h x =
       let cut : take (r + 1) (drop n l) ≡ 32 ∷ take r (drop (n + 1) l) = at_blank l n r less e in
       subst (IsBegun mark (record { style = style; word = true; centre = b.centre })) (sym (take-add n (r + 1) l ∙ ap (λ (xs : List ℕ). take n l ++ xs) cut))
-      (blank_begun mark b style (take n l) (take r (drop (n + 1) l)) x (subst (λ (xs : List ℕ). IsPart style (take r xs)) (after_is l (n + 1)) h) (yes b.word some))
-    where
-      yes : (a : Bool) → not a ≡ false → a ≡ true
-      yes true e = refl
-      yes false e = absurd (cc)
+      (blank_begun mark b style (take n l) (take r (drop (n + 1) l)) x (subst (λ (xs : List ℕ). IsPart style (take r xs)) (after_is l (n + 1)) h) (not-false b.word some))

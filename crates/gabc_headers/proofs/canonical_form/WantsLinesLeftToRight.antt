@@ -1,6 +1,6 @@
 -- Whether a value wants lines of its own, from left to right.
 use Rattle.std.proofs.Common.{rules, ◌≢◌, ◌≡◌, ◌⊎◌, inl, inr, ℕ, List, [], ◌∷◌, ◌++◌, Bool, true, false, cond, ◌||◌, ◌&&◌, ◌==◌, refl, sym, ap, ◌∙◌, append_assoc, append-nil}
-use Rattle.std.proofs.Math.Bool.{or-true}
+use Rattle.std.proofs.Math.Bool.{or-true, and-false, or-false, and-true, or_assoc, or_self}
 use Rattle.gabc_headers.specs.Lines.{lines, on_first, is_bare, is_mark, has_mark}
 use Rattle.gabc_headers.specs.Canonical.{wants_lines}
 
@@ -78,11 +78,7 @@ step_lf w m v = or-true w
 
 twice : (v : List ℕ) → (is_mark 0 v || has_mark 1 v) ≡ has_mark 1 v
 twice [] = refl
-twice (c ∷ v) = by (is_mark 1 (c ∷ v)) (has_mark 1 v)
-  where
-    by : (x y : Bool) → (x || (x || y)) ≡ (x || y)
-    by true y = refl
-    by false y = refl
+twice (c ∷ v) = sym (or_assoc (is_mark 1 (c ∷ v)) (is_mark 1 (c ∷ v)) (has_mark 1 v)) ∙ ap (λ (b : Bool). b || has_mark 1 v) (or_self (is_mark 1 (c ∷ v)))
 
 pub step_semicolon : (m : Bool) (v : List ℕ) → wants_from m (59 ∷ v) ≡ wants_from true v
 step_semicolon m v = by m (has_lf v) (is_bare v) (is_mark 0 v) (has_mark 1 v) (twice v)
@@ -108,11 +104,7 @@ step_tab true v = refl
 step_tab false v = refl
 
 pub step_other : (m : Bool) (c : ℕ) (v : List ℕ) → (c == 10) ≡ false → (c == 59) ≡ false → (c == 37) ≡ false → (c == 32) ≡ false → (c == 9) ≡ false → wants_from m (c ∷ v) ≡ wants_from false v
-step_other m c v a b d e f = rw (a, b, d, e, f) (by m)
-  where
-    by : (m : Bool) → (has_lf v || ((m && false) || has_mark 1 v)) ≡ (has_lf v || has_mark 1 v)
-    by true = refl
-    by false = refl
+step_other m c v a b d e f = rw (a, b, d, e, f, and-false m) refl
 
 -- the same as steps of what is known
 pub after_semicolon : (ys rest : List ℕ) (c : ℕ) (w m : Bool) → c ≡ 59 → ((r : List ℕ) → wants_lines (lines (ys ++ r)) ≡ (w || wants_from m r))
@@ -152,8 +144,4 @@ after_other ys rest c w m i j k n o h =
 
 -- at the end
 pub at_end : (v ys : List ℕ) (w m : Bool) → v ≡ ys → ((r : List ℕ) → wants_lines (lines (ys ++ r)) ≡ (w || wants_from m r)) → wants_lines (lines v) ≡ (w || m)
-at_end v ys w m e h = ap (λ (x : List ℕ). wants_lines (lines x)) (e ∙ sym (append-nil ys)) ∙ (h [] ∙ ap (λ (x : Bool). w || x) (by m))
-  where
-    by : (m : Bool) → ((m && true) || false) ≡ m
-    by true = refl
-    by false = refl
+at_end v ys w m e h = ap (λ (x : List ℕ). wants_lines (lines x)) (e ∙ sym (append-nil ys)) ∙ (h [] ∙ ap (λ (x : Bool). w || x) (or-false (m && true) ∙ and-true m))

@@ -1,4 +1,6 @@
 -- The machine, one push after the other.
+use Rattle.std.proofs.Math.Bool.{and_comm}
+use Rattle.std.proofs.lemmas.Bool.{and_parts}
 use Rattle.std.proofs.Common.{◌≡◌, ℕ, ◌+◌, ◌<◌, ◌≤◌, List, [], ◌∷◌, ◌++◌, length, Bool, true, false, cond, ◌&&◌, ◌==◌, nat_lt, Option, None, refl, sym, ap, ◌∙◌, subst, arith}
 use Rattle.std.proofs.lemmas.Bool.Decides.{nat_tests}
 use Rattle.std.specs.Char.{len_utf8}
@@ -137,25 +139,14 @@ module _ (t : List ℕ) (limit : ℕ) (rest : List ℕ) where
       equal : (c == 37) ≡ true → c ≡ 37
       equal q = grind (arith, nat_tests)
 
-      both : (a b : Bool) → (a && b) ≡ true → (a ≡ true) × (b ≡ true)
-      both true true q = (refl, refl)
-      both true false q = absurd (cc)
-      both false b q = absurd (cc)
-
-      turned : (a b : Bool) → (a && b) ≡ false → (b && a) ≡ false
-      turned true true q = absurd (cc)
-      turned true false q = refl
-      turned false true q = refl
-      turned false false q = refl
-
       first : r.held ≡ false → MachineReads t limit h.done (c ∷ rest) r es → (b : Bool) → (r.at_line && (c == 37)) ≡ b
           → AfterPush t limit rest es (cond {A = HeaderMachine × HeaderStep} b (record r { held = true }, Read None) (take_one r c)).0 (cond {A = HeaderMachine × HeaderStep} b (record r { held = true }, Read None) (take_one r c)).1
       first k x true q = record {
         done = h.done;
-        reads = reheld t limit h.done (37 ∷ rest) r es true (subst (λ (y : ℕ). MachineReads t limit h.done (y ∷ rest) r es) (equal (both r.at_line (c == 37) q).1) x);
-        held = λ y. (both r.at_line (c == 37) q).0;
+        reads = reheld t limit h.done (37 ∷ rest) r es true (subst (λ (y : ℕ). MachineReads t limit h.done (y ∷ rest) r es) (equal (and_parts r.at_line (c == 37) q).1) x);
+        held = λ y. (and_parts r.at_line (c == 37) q).0;
       }
-      first k x false q = takes h.done r es c k (turned r.at_line (c == 37) q) x
+      first k x false q = takes h.done r es c k (and_comm (c == 37) r.at_line ∙ q) x
 
       by : (b : Bool) → r.held ≡ b → MachineReads t limit h.done (pending b (c ∷ rest)) r es
           → AfterPush t limit rest es (cond b (held_push r c) (cond (r.at_line && (c == 37)) (record r { held = true }, Read None) (take_one r c))).0

@@ -1,4 +1,5 @@
 -- Where the machine stands: the parts of the text are those emitted so far, and those of what is left.
+use Rattle.std.proofs.Math.Bool.{and-false}
 use Rattle.std.proofs.Common.{◌≡◌, ℕ, ◌+◌, suc, List, [], ◌∷◌, ◌++◌, length, drop, Bool, true, false, cond, ◌&&◌, ◌||◌, ◌==◌, not, Option, Some, None, refl, sym, ap, ◌∙◌, subst, arith, append_assoc, append-nil, length-append, slice_range}
 use Rattle.gabc_headers.specs.Lines.{mark_end, run_len, lines, on_first, is_blank, is_blank_or_lf, ends_no_value, is_bare, has_mark, before_mark, has_colon, before_colon, after_colon, trim_value, trim_name}
 use Rattle.gabc_headers.specs.Parts.{HeaderPart, left_out, header, unended, ended_parts, bad_name_parts, name_of, good_name, is_good_name}
@@ -202,11 +203,6 @@ module _ (all : List HeaderPart) (text : List ℕ) where
 
   -- ---- the `:` after a name
 
-  -- nothing holds together with what does not
-  and_false : (b : Bool) → (b && false) ≡ false
-  and_false true = refl
-  and_false false = refl
-
   -- a name that is left out is emitted at the `:`
   events_name : (good : Bool) (nm : List ℕ) (k i : ℕ) → good ≡ is_good_name nm → bad_name_parts k (good_name nm) i ≡ seen text (cond good None (Some (LeftOut k i)))
   events_name true nm k i e = rw (← e) refl
@@ -239,7 +235,7 @@ module _ (all : List HeaderPart) (text : List ℕ) where
       whole =
           let line : List ℕ = h.prefix ++ 58 ∷ first_line r in
           let name : List ℕ = slice_range text rd.trim.from rd.trim.to in
-          let b : is_bare line ≡ false = h.so.bare (58 ∷ first_line r) ∙ and_false rd.trim.leading in
+          let b : is_bare line ≡ false = h.so.bare (58 ∷ first_line r) ∙ and-false rd.trim.leading in
           let f : before_colon line ≡ h.prefix = h.so.before (58 ∷ first_line r) ∙ append-nil h.prefix in
           let a : after_colon line ≡ first_line r = h.so.after (58 ∷ first_line r) in
           let t : name ≡ trim_name h.prefix = trim_slice is_blank is_blank h.start h.prefix (58 ∷ r) text rd.trim h.trim h.at in

@@ -1,4 +1,5 @@
 -- The machine's trim, one character after the other.
+use Rattle.std.proofs.Math.Bool.{and-true, and_assoc}
 use Rattle.std.proofs.Common.{◌≡◌, ℕ, ◌+◌, ◌-◌, ◌≤◌, suc, List, [], ◌∷◌, ◌++◌, length, take, drop, Bool, true, false, cond, ◌&&◌, refl, sym, ap, ◌∙◌, arith, length-append, length-drop, slice_range, drop-drop}
 use Rattle.std.proofs.lemmas.List.{drop-append-le, take-append-le}
 use Rattle.gabc_headers.specs.Lines.{trim_start, trim_end, unless_last}
@@ -18,16 +19,8 @@ begin_trim lead last start = record { from = omega arith; to = omega arith; lead
 
 -- whether all is left out, with one more
 all_out-push : (out : ℕ → Bool) (u : List ℕ) (c : ℕ) → all_out out (u ++ c ∷ []) ≡ (all_out out u && out c)
-all_out-push out [] c = by (out c)
-  where
-    by : (b : Bool) → (b && true) ≡ b
-    by true = refl
-    by false = refl
-all_out-push out (d ∷ u) c = ap (λ (b : Bool). out d && b) (all_out-push out u c) ∙ by (out d) (all_out out u) (out c)
-  where
-    by : (a b c : Bool) → (a && (b && c)) ≡ ((a && b) && c)
-    by true b c = refl
-    by false b c = refl
+all_out-push out [] c = and-true (out c)
+all_out-push out (d ∷ u) c = ap (λ (b : Bool). out d && b) (all_out-push out u c) ∙ sym (and_assoc (out d) (all_out out u) (out c))
 
 -- one more after what is all left out
 lead_len-stop : (out : ℕ → Bool) (u : List ℕ) (c : ℕ) → all_out out u ≡ true → lead_len out (u ++ c ∷ []) ≡ length u + cond (out c) 1 0

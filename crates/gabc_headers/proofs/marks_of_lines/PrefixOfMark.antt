@@ -1,4 +1,5 @@
 -- What a line's start says of its first mark, whatever follows.
+use Rattle.std.proofs.Math.Bool.{and-false, or-true}
 use Rattle.std.proofs.Common.{◌≡◌, ℕ, ◌+◌, ◌-◌, ◌≤◌, suc, zero, List, [], ◌∷◌, ◌++◌, length, Bool, true, false, ◌||◌, ◌&&◌, ◌==◌, ◌≢◌, nat_le, refl, sym, ap, ◌∙◌, arith, append_assoc, append-nil, length-append}
 use Rattle.std.proofs.lemmas.Bool.Decides.{nat_tests}
 use Rattle.std.proofs.lemmas.Bool.{and_parts}
@@ -83,16 +84,8 @@ bare_blanks (c ∷ b) l h =
 -- after a run of `;` neither the line's end nor a `;`
 pub semis_dead : (m n c : ℕ) (l : List ℕ) → is_bare (c ∷ l) ≡ false → (c == 59) ≡ false → is_mark m (semis n ++ c ∷ l) ≡ false
 semis_dead m zero c l b s = rw (s) refl
-semis_dead m (suc zero) c l b s = rw (b, s) (by (nat_le m 1))
-  where
-    by : (x : Bool) → ((x && false) || false) ≡ false
-    by true = refl
-    by false = refl
-semis_dead m (suc (suc n)) c l b s = rw (semis_dead (m - 1) (suc n) c l b s) (by (nat_le m 1))
-  where
-    by : (x : Bool) → ((x && false) || false) ≡ false
-    by true = refl
-    by false = refl
+semis_dead m (suc zero) c l b s = rw (b, s, and-false (nat_le m 1)) refl
+semis_dead m (suc (suc n)) c l b s = rw (semis_dead (m - 1) (suc n) c l b s, and-false (nat_le m 1)) refl
 
 -- a run of `;` that something else follows is passed
 pub pass_semis : (m n c : ℕ) (l : List ℕ) → is_bare (c ∷ l) ≡ false → (c == 59) ≡ false → Passed m (semis n) (c ∷ l)
@@ -110,11 +103,7 @@ pass_blanks m (c ∷ b) l h =
 pub semis_mark : (m n : ℕ) (l : List ℕ) → m ≤ n → 1 ≤ n → is_bare l ≡ true → is_mark m (semis n ++ l) ≡ true
 semis_mark m zero l h i b = absurd (omega arith)
 semis_mark m (suc zero) l h i b = let e : nat_le m 1 ≡ true = grind (arith, nat_tests) in rw (e, b) refl
-semis_mark m (suc (suc n)) l h i b = let le : m - 1 ≤ suc n = omega arith in rw (semis_mark (m - 1) (suc n) l le (omega arith) b) (by (nat_le m 1))
-  where
-    by : (x : Bool) → ((x && false) || true) ≡ true
-    by true = refl
-    by false = refl
+semis_mark m (suc (suc n)) l h i b = let le : m - 1 ≤ suc n = omega arith in rw (semis_mark (m - 1) (suc n) l le (omega arith) b) (or-true (nat_le m 1 && false))
 
 -- a run of `;` and what follows
 pub run_semis : (n : ℕ) (l : List ℕ) → run_len (semis n ++ l) ≡ n + run_len l

@@ -1,4 +1,5 @@
 -- Texts of several lines in which no mark of two or more `;` begins, and none of whose later lines begins with `%%`.
+use Rattle.std.proofs.Math.Bool.{and-false}
 use Rattle.std.proofs.Common.{◌≡◌, ℕ, ◌-◌, ◌==◌, List, [], ◌∷◌, ◌++◌, Bool, true, false, cond, ◌||◌, ◌&&◌, ◌⊎◌, inl, inr, nat_le, refl, sym, ap, subst, ◌∙◌, append_assoc, append-nil}
 use Rattle.std.proofs.lemmas.Bool.{or_parts}
 use Rattle.gabc_headers.specs.Lines.{lines, on_first, is_blank, is_bare, is_mark, has_mark, before_mark, is_blank_or_lf, ends_no_value, is_score_line}
@@ -23,6 +24,10 @@ end_is c h =
 
 -- ---- a mark after what ends well
 
+ends_onward : (c : ℕ) (w : List ℕ) → EndsWell ends_no_value (c ∷ w) → EndsWell ends_no_value w
+ends_onward c [] h = tt
+ends_onward c (d ∷ w) h = h
+
 module _ (s : List ℕ) where
   bare_more : (c : ℕ) (w : List ℕ) → EndsWell ends_no_value (c ∷ w) → is_bare (c ∷ (w ++ s)) ≡ is_bare (c ∷ w)
   bare_more c [] h = ap (λ (b : Bool). (c == 37) || (b && is_bare s)) (end_is c h).blank ∙ sym (ap (λ (b : Bool). (c == 37) || (b && true)) (end_is c h).blank)
@@ -39,11 +44,7 @@ module _ (s : List ℕ) where
   marks_passed n [] h m = pass_none n s
   marks_passed n (c ∷ w) h m =
       let o = or_parts (is_mark n (c ∷ w)) (has_mark n w) m in
-      pass_more n (c ∷ []) w s (pass_one n c (w ++ s) (mark_more n c w h ∙ o.0)) (marks_passed n w (onward w h) o.1)
-    where
-      onward : (w : List ℕ) → EndsWell ends_no_value (c ∷ w) → EndsWell ends_no_value w
-      onward [] h = tt
-      onward (d ∷ w) h = h
+      pass_more n (c ∷ []) w s (pass_one n c (w ++ s) (mark_more n c w h ∙ o.0)) (marks_passed n w (ends_onward c w h) o.1)
 
 -- ---- the first line of two texts
 
@@ -88,12 +89,8 @@ free_append (c ∷ a) b y h g = (ap (λ (x : List ℕ). is_mark 2 (first_line (c
 -- what ends well is free by itself
 pub free_alone : (w y : List ℕ) → EndsWell ends_no_value w → Free w y → Free w []
 free_alone [] y h f = tt
-free_alone (c ∷ w) y h f = (alone (first_with (c ∷ w) y), free_alone w y (onward w h) f.1)
+free_alone (c ∷ w) y h f = (alone (first_with (c ∷ w) y), free_alone w y (ends_onward c w h) f.1)
   where
-    onward : (w : List ℕ) → EndsWell ends_no_value (c ∷ w) → EndsWell ends_no_value w
-    onward [] h = tt
-    onward (d ∷ w) h = h
-
     same : first_line (c ∷ (w ++ [])) ≡ first_line (c ∷ w)
     same = ap (λ (x : List ℕ). first_line (c ∷ x)) (append-nil w)
 
@@ -174,11 +171,7 @@ NoScore (c ∷ w) = ((c == 10) ≡ true → is_score_line w ≡ false) × NoScor
 
 pub score_front : (a b : List ℕ) → is_score_line (a ++ b) ≡ false → is_score_line a ≡ false
 score_front [] b h = refl
-score_front (c ∷ []) b h = by (c == 37)
-  where
-    by : (x : Bool) → (x && false) ≡ false
-    by true = refl
-    by false = refl
+score_front (c ∷ []) b h = and-false (c == 37)
 score_front (c ∷ d ∷ a) b h = h
 
 pub no_score_front : (a b : List ℕ) → NoScore (a ++ b) → NoScore a

@@ -1,4 +1,5 @@
 -- Trimmed texts, and what trimming leaves of a text.
+use Rattle.std.proofs.lemmas.Bool.{or_parts}
 use Rattle.std.proofs.Common.{◌≡◌, ℕ, ◌==◌, List, [], ◌∷◌, ◌++◌, Bool, true, false, cond, ◌||◌, ◌&&◌, refl, sym, ap, ◌∙◌}
 use Rattle.gabc_headers.specs.Lines.{trim_start, trim_end, unless_last, is_blank, is_bare}
 use Rattle.gabc_headers.proofs.printing.LinesOfTexts.{has}
@@ -76,19 +77,11 @@ end_prefix out (c ∷ l) = by (out c) (trim_end out l) (end_prefix out l)
 
 pub has_front : (x : ℕ) (a b : List ℕ) → has x (a ++ b) ≡ false → has x a ≡ false
 has_front x [] b h = refl
-has_front x (c ∷ a) b h = by (c == x) h (has_front x a b)
-  where
-    by : (p : Bool) → (p || has x (a ++ b)) ≡ false → (has x (a ++ b) ≡ false → has x a ≡ false) → (p || has x a) ≡ false
-    by true h r = absurd (cc)
-    by false h r = r h
+has_front x (c ∷ a) b h = let o = or_parts (c == x) (has x (a ++ b)) h in ap (λ (p : Bool). p || has x a) o.0 ∙ has_front x a b o.1
 
 pub has_back : (x : ℕ) (a b : List ℕ) → has x (a ++ b) ≡ false → has x b ≡ false
 has_back x [] b h = h
-has_back x (c ∷ a) b h = by (c == x) h (has_back x a b)
-  where
-    by : (p : Bool) → (p || has x (a ++ b)) ≡ false → (has x (a ++ b) ≡ false → has x b ≡ false) → has x b ≡ false
-    by true h r = absurd (cc)
-    by false h r = r h
+has_back x (c ∷ a) b h = has_back x a b (or_parts (c == x) (has x (a ++ b)) h).1
 
 pub has_no_start : (x : ℕ) (out : ℕ → Bool) (l : List ℕ) → has x l ≡ false → has x (trim_start out l) ≡ false
 has_no_start x out l h = let (front, e) = start_suffix out l in has_back x front (trim_start out l) (sym (ap (has x) e) ∙ h)
@@ -101,16 +94,10 @@ has_no_end x out l h = let (back, e) = end_prefix out l in has_front x (trim_end
 -- a line that is not skipped is not skipped either from its first character on that is no blank
 pub not_bare : (u y x : List ℕ) (c : ℕ) (n : List ℕ) → trim_start is_blank (trim_end is_blank u) ≡ c ∷ n → is_bare (u ++ y) ≡ false → is_bare ((c ∷ n) ++ x) ≡ false
 not_bare [] y x c n e h = absurd (cc)
-not_bare (d ∷ u) y x c n e h = by (is_blank d) (trim_end is_blank u) refl e (or_second (d == 37) (is_blank d && is_bare (u ++ y)) h) (or_first (d == 37) (is_blank d && is_bare (u ++ y)) h) (λ f g. not_bare u y x c n f g)
+not_bare (d ∷ u) y x c n e h =
+    let o = or_parts (d == 37) (is_blank d && is_bare (u ++ y)) h in
+    by (is_blank d) (trim_end is_blank u) refl e o.1 o.0 (λ f g. not_bare u y x c n f g)
   where
-    or_first : (a b : Bool) → (a || b) ≡ false → a ≡ false
-    or_first true b h = absurd (cc)
-    or_first false b h = refl
-
-    or_second : (a b : Bool) → (a || b) ≡ false → b ≡ false
-    or_second true b h = absurd (cc)
-    or_second false b h = h
-
     first : {a b : ℕ} → {l m : List ℕ} → a ∷ l ≡ b ∷ m → a ≡ b
     first e = cc
 

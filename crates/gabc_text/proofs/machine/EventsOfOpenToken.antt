@@ -1,4 +1,5 @@
 -- What the machine has given of the characters to come of a token that goes on.
+use Rattle.std.proofs.Math.Bool.{and-false}
 use Rattle.std.proofs.Common.{◌≡◌, ℕ, ◌==◌, ◌&&◌, nat_lt, List, [], ◌∷◌, ◌++◌, Bool, true, false, cond, refl, sym, ap, ◌∙◌, subst, Option, Some, None, codes}
 use Rattle.gabc_places.specs.declared.place.Place.{Place}
 use Rattle.gabc_places.specs.declared.code.Code.TheVariants.{W5}
@@ -293,16 +294,8 @@ not_lone Plain held c k so h e f = by (c == 36) refl e
 not_lone state held c k so h e f = other state refl h
   where
     longer : (x : ℕ) (s : List ℕ) → is_text (codes "$") (x ∷ (s ++ c ∷ [])) ≡ false
-    longer x [] = no (x == 36)
-      where
-        no : (b : Bool) → (b && false) ≡ false
-        no true = refl
-        no false = refl
-    longer x (y ∷ s) = no (x == 36)
-      where
-        no : (b : Bool) → (b && false) ≡ false
-        no true = refl
-        no false = refl
+    longer x [] = and-false (x == 36)
+    longer x (y ∷ s) = and-false (x == 36)
 
     other : (m : TokenState) → is_plain m ≡ false → Holds m held → is_lone k ≡ false
     other m g h = let (x, s, i) = held_some m held h g in ap (is_text (codes "$")) (f ∙ ap (λ (y : List ℕ). y ++ c ∷ []) i) ∙ longer x s

@@ -2,7 +2,7 @@
 use Rattle.std.proofs.Common.{◌≡◌, ℕ, ◌==◌, ◌&&◌, not, List, [], ◌∷◌, ◌++◌, Bool, true, false, cond, refl, sym, ap, ◌∙◌, subst, append_assoc, append-nil, Some, Result, Ok, Err, OnOk, is_ok, IsUtf8}
 use Rattle.std.specs.Str.{chars, NonePass}
 use Rattle.std.proofs.lemmas.Str.{encodes-chars}
-use Rattle.std.proofs.lemmas.Bool.{eqb-true}
+use Rattle.std.proofs.lemmas.Bool.{eqb-true, not-true, and_parts}
 use Rattle.std.proofs.Math.Bool.{and-false}
 use Rattle.gabc_text.specs.declared.token_state.TokenState.{TokenState}
 use Rattle.gabc_text.specs.declared.token_state.TokenState.TheVariants.{Raw}
@@ -51,11 +51,7 @@ raw_step : (s : TextStage) (c : ℕ) → is_in_raw s ≡ true → c == 60 ≡ fa
 raw_step s c h e = ap is_in_raw (passes s c h e).0 ∙ h
 
 running : (s : TextStage) → is_in_raw s ≡ true → s.ended ≡ false
-running s h = by s.ended h
-  where
-    by : (b : Bool) → (not b && is_unmatched s.state) ≡ true → b ≡ false
-    by true g = absurd (cc)
-    by false g = refl
+running s h = not-true s.ended (and_parts (not s.ended) (is_unmatched s.state) h).0
 
 pub runs_on : (s : TextStage) (cs : List ℕ) → is_in_raw s ≡ true → NonePass (λ x. x == 60) cs → (stage_past s cs).ended ≡ false
 runs_on s [] h none = running s h

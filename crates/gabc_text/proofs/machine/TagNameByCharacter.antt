@@ -1,4 +1,5 @@
 -- A tag's name as its characters come: its first ones show what the tag does.
+use Rattle.std.proofs.Math.Bool.{and-false}
 use Rattle.std.proofs.Common.{◌≡◌, ℕ, List, [], ◌∷◌, ◌++◌, length, map, nat_lt, Bool, true, false, not, cond, ◌&&◌, ◌||◌, ◌==◌, refl, sym, ap, ◌∙◌, arith, append_assoc, append-nil, length-append, ne_eqb, codes}
 use Rattle.std.specs.List.{list_all, zip}
 use Rattle.std.proofs.lemmas.Bool.{eqb-true, eqb-false, ltb-false, le-ltb, and_parts}
@@ -17,26 +18,10 @@ Rows = List (List ℕ × TagEffect)
 
 same_ends : (r s : List ℕ) → is_text (r ++ 62 ∷ []) (s ++ 62 ∷ []) ≡ is_text r s
 same_ends [] [] = refl
-same_ends [] (d ∷ []) = no (d == 62)
-  where
-    no : (b : Bool) → (b && false) ≡ false
-    no true = refl
-    no false = refl
-same_ends [] (d ∷ e ∷ s) = no (d == 62)
-  where
-    no : (b : Bool) → (b && false) ≡ false
-    no true = refl
-    no false = refl
-same_ends (c ∷ []) [] = no (62 == c)
-  where
-    no : (b : Bool) → (b && false) ≡ false
-    no true = refl
-    no false = refl
-same_ends (c ∷ d ∷ r) [] = no (62 == c)
-  where
-    no : (b : Bool) → (b && false) ≡ false
-    no true = refl
-    no false = refl
+same_ends [] (d ∷ []) = and-false (d == 62)
+same_ends [] (d ∷ e ∷ s) = and-false (d == 62)
+same_ends (c ∷ []) [] = and-false (62 == c)
+same_ends (c ∷ d ∷ r) [] = and-false (62 == c)
 same_ends (c ∷ r) (d ∷ s) = ap (λ (b : Bool). (d == c) && b) (same_ends r s)
 
 -- a tag does what the row of its name says

@@ -1,6 +1,6 @@
 -- The styles that do not stay open between two neighbours are those from the first one on in which they differ.
 use Rattle.std.proofs.Common.{◌≡◌, ℕ, ◌&&◌, not, [], ◌∷◌, Bool, true, false, cond, refl, ap, ◌∙◌, append-nil, List, ◌++◌, reverse}
-use Rattle.std.proofs.lemmas.Bool.{and_parts}
+use Rattle.std.proofs.lemmas.Bool.{and_parts, not-true}
 use Rattle.std.proofs.Math.Bool.{beq, and-true}
 use Rattle.std.specs.List.{filter, flat_map}
 use Rattle.gabc_text.proofs.printing.NothingIsFoundInPrintedText.{itself}
@@ -28,28 +28,16 @@ distinct (s ∷ ss) = lacking s ss && distinct ss
 
 all_gone : (f g h : Style → Bool) (ss : List Style) → gone f g h true ss ≡ filter h ss
 all_gone f g h [] = refl
-all_gone f g h (s ∷ ss) = rw (all_gone f g h ss) (by (h s))
-  where
-    by : (b : Bool) → cond (b && true) (s ∷ filter h ss) (filter h ss) ≡ cond b (s ∷ filter h ss) (filter h ss)
-    by true = refl
-    by false = refl
+all_gone f g h (s ∷ ss) = rw (all_gone f g h ss, and-true (h s)) refl
 
 -- a style that the other list lacks
 after_one : (s : Style) (old new : List Style) → lacking s new ≡ true → after_common (s ∷ old) new ≡ (s ∷ old, new)
 after_one s old [] h = refl
-after_one s old (r ∷ new) h = rw (no (is_same s r) (lacking s new) h) refl
-  where
-    no : (a b : Bool) → (not a && b) ≡ true → a ≡ false
-    no true b e = absurd (cc)
-    no false b e = refl
+after_one s old (r ∷ new) h = rw (not-true (is_same s r) (and_parts _ (lacking s new) h).0) refl
 
 after_other : (s : Style) (old new : List Style) → lacking s old ≡ true → after_common old (s ∷ new) ≡ (old, s ∷ new)
 after_other s [] new h = refl
-after_other s (r ∷ old) new h = rw (turned (rank r) (rank s) (no (is_same s r) (lacking s old) h)) refl
-  where
-    no : (a b : Bool) → (not a && b) ≡ true → a ≡ false
-    no true b e = absurd (cc)
-    no false b e = refl
+after_other s (r ∷ old) new h = rw (turned (rank r) (rank s) (not-true (is_same s r) (and_parts _ (lacking s old) h).0)) refl
 
 lacking_filter : (s : Style) (f : Style → Bool) (ss : List Style) → lacking s ss ≡ true → lacking s (filter f ss) ≡ true
 lacking_filter s f [] h = refl

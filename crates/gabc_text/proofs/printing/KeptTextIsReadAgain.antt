@@ -1,4 +1,5 @@
 -- The kept text of a text is read again as itself, and says the same.
+use Rattle.std.proofs.lemmas.Bool.{or_right}
 use Rattle.std.proofs.Common.{◌≡◌, ℕ, ◌+◌, ◌||◌, ◌&&◌, not, is_some, List, [], ◌∷◌, ◌++◌, Bool, true, false, cond, refl, sym, ap, ◌∙◌, length, Option, Some, None, arith}
 use Rattle.gabc_text.specs.declared.text_facts.TextFacts.{TextFacts}
 use Rattle.gabc_text.specs.declared.view.PieceKind.{PieceKind}
@@ -165,17 +166,13 @@ spaced (k ∷ b) e = by (is_space k.kind) (is_left_out b k.kind) refl refl e (λ
     grows true false t e = refl
     grows false false t e = e
 
-    or_true : (x y : Bool) → y ≡ true → (x || y) ≡ true
-    or_true true y e = refl
-    or_true false y e = e
-
     by : (s o : Bool) → is_space k.kind ≡ s → is_left_out b k.kind ≡ o → (s || (o && follows_space b)) ≡ true → (follows_space b ≡ true → (follows_blank b ≡ true) × ((has_word b || starts_word b) ≡ true))
         → ((is_space k.kind || (not (is_some (kind_of k)) && follows_blank b)) ≡ true) × (((is_word_kind (kind_of k) || has_word b) || ((is_space k.kind && not (has_word b)) || starts_word b)) ≡ true)
     by true o f g h ih = (rw f refl, rw (blank_no_word k.kind (effect k) f) (word (is_space k.kind) (has_word b) (starts_word b) f refl))
     by false true f g h ih =
         let i = ih h in
         let n = left_no_piece b k.kind (effect k) g in
-        (or_true (is_space k.kind) (not (is_some (kind_of k)) && follows_blank b) (rw (n, i.0) refl), rw (left_no_word (kind_of k) n) (grows (is_space k.kind) (has_word b) (starts_word b) i.1))
+        (or_right (is_space k.kind) (not (is_some (kind_of k)) && follows_blank b) (rw (n, i.0) refl), rw (left_no_word (kind_of k) n) (grows (is_space k.kind) (has_word b) (starts_word b) i.1))
     by false false f g h ih = absurd (cc)
 
 blank_still : (b : List Token) (k : Token) → k.kind ≡ kind.Blank → follows_space b ≡ true → Still b k

@@ -1,4 +1,5 @@
 -- A text that begins with a blank, as an LF, begins a word, and says nothing else by it.
+use Rattle.std.proofs.Math.Bool.{or-true}
 use Rattle.std.proofs.Common.{◌≡◌, ℕ, ◌+◌, List, [], ◌∷◌, ◌++◌, Bool, true, false, not, ◌||◌, ◌&&◌, is_some, length, Option, Some, None, refl, ap, ap₂, ◌∙◌, arith}
 use Rattle.gabc_text.specs.declared.styles.Style.{Style}
 use Rattle.gabc_text.specs.declared.styles.Style.TheVariants.{B, C, E, I, Sc, Tt, Ul}
@@ -11,11 +12,7 @@ use Rattle.gabc_text.proofs.machine.TokensOneAfterAnother.{onto}
 
 stays : (ks before : List Token) → starts_word before ≡ true → starts_word (onto ks before) ≡ true
 stays [] before h = h
-stays (k ∷ ks) before h = stays ks (k ∷ before) (rw h (either _))
-  where
-    either : (b : Bool) → (b || true) ≡ true
-    either true = refl
-    either false = refl
+stays (k ∷ ks) before h = stays ks (k ∷ before) (rw h (or-true _))
 
 -- a blank in front of a text
 abbrev pub gap : ℕ → Token

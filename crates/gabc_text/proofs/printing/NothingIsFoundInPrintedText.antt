@@ -1,4 +1,6 @@
 -- Nothing is found in a printed text whose tags are all known.
+use Rattle.std.proofs.Math.Bool.{not-and_self}
+use Rattle.std.proofs.lemmas.List.Folds.{list_any-append}
 use Rattle.std.proofs.Common.{◌≡◌, ℕ, ◌+◌, ◌≤◌, ◌<◌, ◌==◌, List, [], ◌∷◌, ◌++◌, Bool, true, false, ◌||◌, ◌&&◌, not, cond, refl, sym, ap, ap₂, ◌∙◌, map, reverse, append-nil, append_assoc, Option, Some, None, length, length-append, arith}
 use Rattle.std.proofs.lemmas.Bool.{true≢false, or_parts, or_right}
 use Rattle.std.proofs.lemmas.List.{reverse-append}
@@ -25,7 +27,7 @@ use Rattle.gabc_text.proofs.printing.PrintedBracesGiveCentre.{at_start, centre_f
 use Rattle.gabc_text.proofs.printing.PrintedTextIsReadAgain.{Sound, reverse_push}
 use Rattle.gabc_text.proofs.printing.PrintedTextIsKept.{view_kept, word_kept}
 use Rattle.gabc_text.specs.machine.RegularBytes.{is_unknown, AllKnown}
-use Rattle.gabc_text.proofs.printing.PrintedTagsOpenStyles.{push_append, along_append, member, AllOnce, across, once, same_style, any_append, any_reverse, within, tag_opens, tag_closes, open_one, close_one, closed}
+use Rattle.gabc_text.proofs.printing.PrintedTagsOpenStyles.{push_append, along_append, member, AllOnce, across, once, same_style, any_reverse, within, tag_opens, tag_closes, open_one, close_one, closed}
 use Rattle.gabc_text.proofs.printing.PrintedPiecesAreReadAgain.{AllSilent, printed_by, between_silent, are_braces}
 use Rattle.gabc_text.proofs.machine.TokensOneAfterAnother.{onto}
 use Rattle.gabc_text.specs.machine.PrintedPieces.{AllGood, Good, Says}
@@ -67,7 +69,7 @@ once_more : (xs : List Style) (y : Style) → AllOnce xs → member y xs ≡ fal
 once_more [] y h g = (refl, tt)
 once_more (x ∷ xs) y h g =
     let n = or_parts (is_same x y) (member y xs) g in
-    (any_append x xs (y ∷ []) ∙ rw (h.0, same_turned x y n.0) refl, once_more xs y h.1 n.1)
+    (list_any-append (λ (r : Style). is_same r x) xs (y ∷ []) ∙ rw (h.0, same_turned x y n.0) refl, once_more xs y h.1 n.1)
 
 once_turned : (xs : List Style) → AllOnce xs → AllOnce (reverse xs)
 once_turned [] h = tt
@@ -118,16 +120,12 @@ shut s [] new h g = refl
 shut s (x ∷ old) [] h g = absurd (cc)
 shut s (x ∷ old) (y ∷ new) h g = by (is_same x y) refl g (shut s old new h.1)
   where
-    never : (a : Bool) → (not a && a) ≡ false
-    never true = refl
-    never false = refl
-
     by : (b : Bool) → is_same x y ≡ b → member s (cond b (after_common old new) (x ∷ old, y ∷ new)).1 ≡ true
         → (member s (after_common old new).1 ≡ true → IsShut s (after_common old new).0 old) → IsShut s (cond b (after_common old new) (x ∷ old, y ∷ new)).0 (x ∷ old)
     by true e f more =
         let apart : is_same x s ≡ false = ap (λ (z : Style). is_same z s) (same_style x y e) ∙ other_than y s new h.0 (of_new s old new f) in
         rw apart (more f)
-    by false e f more = never (member s (x ∷ old))
+    by false e f more = not-and_self (member s (x ∷ old))
 
 -- ---- what is found but for braces
 

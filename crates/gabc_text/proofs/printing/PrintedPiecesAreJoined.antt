@@ -1,4 +1,5 @@
 -- Pieces one after another are printed one after another, if no style stays open between them.
+use Rattle.std.proofs.Math.Bool.{or-true}
 use Rattle.std.proofs.lemmas.Bool.{ne_eqb}
 use Rattle.std.proofs.lemmas.List.{map-append}
 use Rattle.std.proofs.lemmas.List.Elements.{filter-append}
@@ -62,11 +63,7 @@ word_join w (p ∷ ps) qs = word_join (is_word_kind (Some p.kind) || w) ps qs
 
 pub word_stays : (ps : List PieceFacts) → word_after true ps ≡ true
 word_stays [] = refl
-word_stays (p ∷ ps) = by (is_word_kind (Some p.kind)) (word_stays ps)
-  where
-    by : (b : Bool) → word_after true ps ≡ true → word_after (b || true) ps ≡ true
-    by true e = e
-    by false e = e
+word_stays (p ∷ ps) = rw (or-true (is_word_kind (Some p.kind))) (word_stays ps)
 
 pub blank_join : (b : Bool) (ps qs : List PieceFacts) → blank_after b (ps ++ qs) ≡ blank_after (blank_after b ps) qs
 blank_join b [] qs = refl

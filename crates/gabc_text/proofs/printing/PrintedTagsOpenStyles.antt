@@ -1,4 +1,6 @@
 -- Printed tags leave open the styles that they should.
+use Rattle.std.proofs.lemmas.List.Folds.{list_any-append}
+use Rattle.std.proofs.Math.Bool.{and-false, and-true, or-false, or-true, or_comm, not-and_self}
 use Rattle.std.proofs.Common.{◌≡◌, List, [], ◌∷◌, ◌++◌, Bool, true, false, ◌||◌, ◌&&◌, not, cond, refl, sym, ap, ◌∙◌, map, reverse, filter, append_assoc}
 use Rattle.std.proofs.lemmas.List.{reverse-append}
 use Rattle.std.proofs.lemmas.Bool.{or_parts}
@@ -71,24 +73,11 @@ closed s (y ∷ ys) before = closed s ys (closing_tag y ∷ before) ∙ ap (λ b
     turn true false b = refl
     turn false m b = refl
 
-pub any_append : (s : Style) (xs ys : List Style) → member s (xs ++ ys) ≡ (member s xs || member s ys)
-any_append s [] ys = refl
-any_append s (x ∷ xs) ys = ap (λ b. is_same x s || b) (any_append s xs ys) ∙ assoc (is_same x s) (member s xs) (member s ys)
-  where
-    assoc : (a b c : Bool) → (a || (b || c)) ≡ ((a || b) || c)
-    assoc true b c = refl
-    assoc false b c = refl
-
 pub any_reverse : (s : Style) (xs : List Style) → member s (reverse xs) ≡ member s xs
 any_reverse s [] = refl
 any_reverse s (x ∷ xs) =
-    ap (member s) (reverse-append (x ∷ []) xs) ∙ any_append s (reverse xs) (x ∷ []) ∙ ap (λ b. b || (is_same x s || false)) (any_reverse s xs) ∙ swap (member s xs) (is_same x s)
-  where
-    swap : (a b : Bool) → (a || (b || false)) ≡ (b || a)
-    swap true true = refl
-    swap true false = refl
-    swap false true = refl
-    swap false false = refl
+    ap (member s) (reverse-append (x ∷ []) xs) ∙ list_any-append (λ (r : Style). is_same r s) (reverse xs) (x ∷ []) ∙ ap (λ b. b || (is_same x s || false)) (any_reverse s xs)
+    ∙ ap (λ b. member s xs || b) (or-false (is_same x s)) ∙ or_comm (member s xs) (is_same x s)
 
 -- ---- the common prefix
 
@@ -122,10 +111,7 @@ abbrev Turned : Style → List Style → List Style → List Style × List Style
 Turned s old new left = (member s left.1 || (not (member s left.0) && member s old)) ≡ member s new
 
 none_closed : (m n : Bool) → (n || (not m && m)) ≡ n
-none_closed true true = refl
-none_closed true false = refl
-none_closed false true = refl
-none_closed false false = refl
+none_closed m n = ap (λ b. n || b) (not-and_self m) ∙ or-false n
 
 pub turned_over : (s : Style) (old new : List Style) → AllOnce old → Turned s old new (after_common old new)
 turned_over s [] new h = none_closed false (member s new)
@@ -135,11 +121,7 @@ turned_over s (x ∷ old) (y ∷ new) h = by (is_same x y) refl (turned_over s o
     common : (b : Bool) → is_same x s ≡ b → x ≡ y → Turned s old new (after_common old new) → Turned s (x ∷ old) (y ∷ new) (after_common old new)
     common true f e t =
         let mine : member s (after_common old new).0 ≡ false = within s old new (ap (λ r. member r old) (sym (same_style x s f)) ∙ h.0) in
-        rw (← e, f, mine) (ends (member s (after_common old new).1))
-      where
-        ends : (b : Bool) → (b || true) ≡ true
-        ends true = refl
-        ends false = refl
+        rw (← e, f, mine) (or-true (member s (after_common old new).1))
     common false f e t = rw (← e, f) t
 
     by : (b : Bool) → is_same x y ≡ b → Turned s old new (after_common old new) → Turned s (x ∷ old) (y ∷ new) (cond b (after_common old new) (x ∷ old, y ∷ new))
@@ -170,11 +152,7 @@ congruent f g [] h = refl
 congruent f g (x ∷ xs) h = rw (h x, congruent f g xs h) refl
 
 pub member_filter : (s : Style) (f : Style → Bool) (xs : List Style) → member s (filter f xs) ≡ (f s && member s xs)
-member_filter s f [] = sym (and_false (f s))
-  where
-    and_false : (b : Bool) → (b && false) ≡ false
-    and_false true = refl
-    and_false false = refl
+member_filter s f [] = sym (and-false (f s))
 member_filter s f (x ∷ xs) = by (f x) (is_same x s) refl refl (member_filter s f xs)
   where
     by : (b a : Bool) → f x ≡ b → is_same x s ≡ a → member s (filter f xs) ≡ (f s && member s xs) → member s (cond b (x ∷ filter f xs) (filter f xs)) ≡ (f s && (a || member s xs))
@@ -197,11 +175,7 @@ pub styles_again : (old : List Style) (f : Style → Bool) (middle before : List
     → open_styles (onto (tokens_between old (filter f all_styles) middle) before) ≡ filter f all_styles
 styles_again old f middle before once quiet h =
     congruent (λ s. is_open s (onto (tokens_between old (filter f all_styles) middle) before)) f all_styles
-    (λ s. across s old (filter f all_styles) middle before once quiet (h s) ∙ member_filter s f all_styles ∙ ap (λ b. f s && b) (all_members s) ∙ and_true (f s))
-  where
-    and_true : (b : Bool) → (b && true) ≡ b
-    and_true true = refl
-    and_true false = refl
+    (λ s. across s old (filter f all_styles) middle before once quiet (h s) ∙ member_filter s f all_styles ∙ ap (λ b. f s && b) (all_members s) ∙ and-true (f s))
 
 -- a list of open styles has none twice
 pub once : (f : Style → Bool) → AllOnce (filter f all_styles)
@@ -211,10 +185,6 @@ once f = once_filter all_styles (refl, (refl, (refl, (refl, (refl, (refl, (refl,
     once_filter [] h = tt
     once_filter (x ∷ xs) h = by (f x) (once_filter xs h.1)
       where
-        and_false : (b : Bool) → (b && false) ≡ false
-        and_false true = refl
-        and_false false = refl
-
         by : (b : Bool) → AllOnce (filter f xs) → AllOnce (cond b (x ∷ filter f xs) (filter f xs))
-        by true g = (member_filter x f xs ∙ ap (λ c. f x && c) h.0 ∙ and_false (f x), g)
+        by true g = (member_filter x f xs ∙ ap (λ c. f x && c) h.0 ∙ and-false (f x), g)
         by false g = g

@@ -1,4 +1,5 @@
 -- A printed text is read without an error.
+use Rattle.std.proofs.lemmas.List.Folds.{list_any-append}
 use Rattle.std.proofs.Common.{◌≡◌, ℕ, ◌+◌, ◌==◌, ◌||◌, ◌&&◌, not, List, [], ◌∷◌, ◌++◌, Bool, true, false, cond, refl, ap, ◌∙◌, map, reverse, Option, Some, None}
 use Rattle.std.specs.List.{list_any}
 use Rattle.gabc_places.specs.declared.place.Place.{Place}
@@ -86,14 +87,6 @@ in_print t =
 
 -- ---- their findings
 
-any_more : (xs ys : List Code) → list_any is_error (xs ++ ys) ≡ (list_any is_error xs || list_any is_error ys)
-any_more [] ys = refl
-any_more (x ∷ xs) ys = ap (λ (b : Bool). is_error x || b) (any_more xs ys) ∙ assoc (is_error x) (list_any is_error xs) (list_any is_error ys)
-  where
-    assoc : (a b c : Bool) → (a || (b || c)) ≡ ((a || b) || c)
-    assoc true b c = refl
-    assoc false b c = refl
-
 found_codes : (p : Place) (cs : List Code) → has_error (map (found_at p) cs) ≡ list_any is_error cs
 found_codes p [] = refl
 found_codes p (c ∷ cs) = ap (λ (b : Bool). is_error c || b) (found_codes p cs)
@@ -121,24 +114,16 @@ late_fine bs kind.Tag Other e = refl
 late_fine bs kind.Tag _ e = refl
 late_fine bs _ s e = refl
 
-found_more : (xs ys : List Finding) → has_error (xs ++ ys) ≡ (has_error xs || has_error ys)
-found_more [] ys = refl
-found_more (x ∷ xs) ys = ap (λ (b : Bool). is_error x.code || b) (found_more xs ys) ∙ assoc (is_error x.code) (has_error xs) (has_error ys)
-  where
-    assoc : (a b c : Bool) → (a || (b || c)) ≡ ((a || b) || c)
-    assoc true b c = refl
-    assoc false b c = refl
-
 module _ (at : Place) where
   token_fine : (bs : List Token) (k : Token) → is_stray k.kind ≡ false → has_error (findings_at at bs k) ≡ false
   token_fine bs k e =
-      found_codes (place_of at bs) (early_codes bs k.kind ++ late_codes bs k.kind (effect k)) ∙ any_more (early_codes bs k.kind) (late_codes bs k.kind (effect k))
+      found_codes (place_of at bs) (early_codes bs k.kind ++ late_codes bs k.kind (effect k)) ∙ list_any-append is_error (early_codes bs k.kind) (late_codes bs k.kind (effect k))
       ∙ rw (early_fine bs k.kind, late_fine bs k.kind (effect k) e) refl
 
   along_fine : (ks bs : List Token) → NoStray ks → has_error (along (findings_at at) bs ks) ≡ false
   along_fine [] bs h = refl
   along_fine (k ∷ ks) bs h =
-      found_more (findings_at at bs k) (along (findings_at at) (k ∷ bs) ks)
+      list_any-append (λ (f : Finding). is_error f.code) (findings_at at bs k) (along (findings_at at) (k ∷ bs) ks)
       ∙ rw (token_fine bs k h.0, along_fine ks (k ∷ bs) h.1) refl
 
   end_fine : (bs : List Token) → has_error (findings_at_end at bs) ≡ false
@@ -155,5 +140,5 @@ module _ (at : Place) where
   no_errors t rest =
       ap (λ (v : ViewFacts). has_error (findings at (print v ++ 40 ∷ rest))) (facts_is t)
       ∙ ap (λ (ks : List Token). has_error (along (findings_at at) [] ks ++ findings_at_end at (reverse ks))) (tokens_printed t rest)
-      ∙ found_more (along (findings_at at) [] (print_tokens (view t))) (findings_at_end at (reverse (print_tokens (view t))))
+      ∙ list_any-append (λ (f : Finding). is_error f.code) (along (findings_at at) [] (print_tokens (view t))) (findings_at_end at (reverse (print_tokens (view t))))
       ∙ rw (along_fine (print_tokens (view t)) [] (in_print t), end_fine (reverse (print_tokens (view t)))) refl

@@ -1,4 +1,5 @@
 -- A printed text is read as it was.
+use Rattle.std.proofs.Math.Bool.{and-false}
 use Rattle.std.proofs.lemmas.List.{reverse-append}
 use Rattle.std.proofs.Common.{◌≡◌, ℕ, zero, suc, ◌+◌, ◌-◌, ◌≤◌, ◌==◌, List, [], ◌∷◌, ◌++◌, Bool, true, false, ◌||◌, ◌&&◌, not, cond, refl, sym, ap, ◌∙◌, subst, reverse, append_assoc, append-nil, Option, Some, None, length, length-append, take, drop, arith, codes, option_map, min}
 use Rattle.gabc_places.specs.declared.place.Span.{Span}
@@ -222,11 +223,7 @@ in_order before [] h = tt
 in_order before (k ∷ ks) h = by (is_begin k.kind) refl (in_order (k ∷ before) ks)
   where
     no_end : is_end k.kind && has_begin before && not (has_end before) ≡ false
-    no_end = rw h (nothing (is_end k.kind) (has_end before))
-      where
-        nothing : (a b : Bool) → (a && false && not b) ≡ false
-        nothing true b = refl
-        nothing false b = refl
+    no_end = rw (h, and-false (is_end k.kind)) refl
 
     by : (b : Bool) → is_begin k.kind ≡ b → (has_begin (k ∷ before) ≡ false → Ordered (along begin_at (k ∷ before) ks) (along end_at (k ∷ before) ks))
         → Ordered (along begin_at before (k ∷ ks)) (along end_at before (k ∷ ks))

@@ -1,4 +1,5 @@
 -- The tags of a set of styles: each style's, where it is in the set.
+use Rattle.std.proofs.lemmas.List.Elements.{filter-append}
 use Rattle.std.proofs.Common.{◌≡◌, ℕ, List, [], ◌∷◌, ◌++◌, Bool, true, false, cond, refl, sym, ap, ◌∙◌, append-nil, reverse}
 use Rattle.std.proofs.lemmas.List.{reverse-append}
 use Rattle.std.specs.List.{filter, flat_map}
@@ -19,15 +20,6 @@ tagged f s (r ∷ ss) = by (tagged f s ss) (has_style s r)
     by : flat_map f (filter (λ r. has_style s r) ss) ≡ tags_of f s ss → (b : Bool)
         → flat_map f (cond b (r ∷ filter (λ r. has_style s r) ss) (filter (λ r. has_style s r) ss)) ≡ cond b (f r) [] ++ tags_of f s ss
     by e true = ap (λ (x : List ℕ). f r ++ x) e
-    by e false = e
-
--- a filter of two lists
-filter-append : (p : Style → Bool) (ss rs : List Style) → filter p (ss ++ rs) ≡ filter p ss ++ filter p rs
-filter-append p [] rs = refl
-filter-append p (s ∷ ss) rs = by (filter-append p ss rs) (p s)
-  where
-    by : filter p (ss ++ rs) ≡ filter p ss ++ filter p rs → (b : Bool) → cond b (s ∷ filter p (ss ++ rs)) (filter p (ss ++ rs)) ≡ cond b (s ∷ filter p ss) (filter p ss) ++ filter p rs
-    by e true = ap (λ (x : List Style). s ∷ x) e
     by e false = e
 
 reverse-filter : (p : Style → Bool) (ss : List Style) → reverse (filter p ss) ≡ filter p (reverse ss)

@@ -1,4 +1,5 @@
 -- What a text says is the same from its first token on and from its last one back.
+use Rattle.std.proofs.Math.Bool.{or-true}
 use Rattle.std.proofs.Common.{◌≡◌, ℕ, zero, suc, ◌-◌, ◌==◌, ◌||◌, ◌&&◌, not, List, [], ◌∷◌, ◌++◌, Bool, true, false, cond, refl, sym, ap, ◌∙◌, length, take, drop, reverse, Option, Some, None, arith}
 use Rattle.gabc_places.specs.declared.place.Span.{Span}
 use Rattle.gabc_text.specs.declared.token.TokenKind.{TokenKind}
@@ -97,12 +98,8 @@ but_end_take (c ∷ s) = prefix c s ∙ ap (λ (n : ℕ). take n (c ∷ s)) (let
 
 one_translation : (ks before : List Token) → has_translation before ≡ true → translation_text (onto ks before) ≡ translation_text before
 one_translation [] before h = refl
-one_translation (k ∷ ks) before h = one_translation ks (k ∷ before) (rw h (ends (is_translation k.kind))) ∙ by k.kind
+one_translation (k ∷ ks) before h = one_translation ks (k ∷ before) (rw h (or-true (is_translation k.kind))) ∙ by k.kind
   where
-    ends : (b : Bool) → (b || true) ≡ true
-    ends true = refl
-    ends false = refl
-
     by : (d : TokenKind) → translation_text (record { kind = d; first = k.first; more = k.more } ∷ before) ≡ translation_text before
     by kind.Translation = rw h refl
     by _ = refl

@@ -1,4 +1,5 @@
 -- Where a raw part ends: how much of its ending the characters before have matched.
+use Rattle.std.proofs.Math.Bool.{and-false}
 use Rattle.std.proofs.Common.{◌≡◌, ℕ, ◌<◌, ◌==◌, List, [], ◌∷◌, ◌++◌, Bool, true, false, ◌&&◌, cond, refl, sym, ap, ◌∙◌, eq-eqb, append_assoc, append-nil, length, Option, Some, None, option_map, arith}
 use Rattle.gabc_text.specs.Token.{through, begins_with}
 use Rattle.gabc_text.proofs.tokens.TokensByCharacter.{lacks, not_and}
@@ -37,11 +38,7 @@ begins_itself (c ∷ e) t = rw (eq-eqb c c refl, begins_itself e t) refl
 pub too_short : (e t : List ℕ) → length t < length e → begins_with e t ≡ false
 too_short [] t h = absurd (omega arith)
 too_short (d ∷ e) [] h = refl
-too_short (d ∷ e) (c ∷ t) h = rw (too_short e t (omega arith)) (and_no (d == c))
-  where
-    and_no : (b : Bool) → (b && false) ≡ false
-    and_no true = refl
-    and_no false = refl
+too_short (d ∷ e) (c ∷ t) h = rw (too_short e t (omega arith)) (and-false (d == c))
 
 pub through_short : (e t : List ℕ) → length t < length e → through e t ≡ None
 through_short e [] h = refl
