@@ -1,4 +1,5 @@
 -- Parts of a regular text, one after another.
+use Rattle.std.specs.List.{list_all}
 use Rattle.std.proofs.Common.{◌≡◌, ℕ, ◌<◌, ◌≤◌, ◌+◌, ◌-◌, ◌==◌, List, [], ◌∷◌, ◌++◌, Bool, true, false, not, length, refl, sym, ap, ap₂, subst, ◌∙◌, arith, take, drop, get_or, map, append_assoc, length-append, Option, Some, None, zero, suc, filter, append-nil}
 use Rattle.std.specs.Cmp.Lexicographic.{pointwise}
 use Rattle.std.proofs.lemmas.Bool.{true≢false, not-false}
@@ -15,9 +16,9 @@ use Rattle.gabc_text.specs.Token.{spelling}
 use Rattle.gabc_text.specs.View.{PieceFacts, is_same, all_styles}
 use Rattle.gabc_text.specs.ViewFacts.{tags_among}
 use Rattle.gabc_text.specs.RegularText.{tags_of}
-use Rattle.gabc_text.specs.Printed.{print_from, text_of_tokens, opening_tag, closing_tag}
+use Rattle.gabc_text.specs.Printed.{print_from, text_of_tokens, opening_tag, closing_tag, name_of}
 use Rattle.gabc_text.specs.machine.PrintedPieces.{Good, AllGood}
-use Rattle.gabc_text.specs.machine.RegularBytes.{in_style, is_style, word_after, blank_after, first_styles, last_styles, AreApart, printed_text, IsSpelled, IsRun, IsEnclosed, IsPart, IsBegun, nothing_before}
+use Rattle.gabc_text.specs.machine.RegularBytes.{in_style, is_style, word_after, blank_after, first_styles, last_styles, AreApart, printed_text, IsSpelled, IsRun, IsEnclosed, IsPart, IsBegun, nothing_before, is_low}
 use Rattle.gabc_text.proofs.printing.PiecesPrintWell.{any_blank}
 use Rattle.gabc_text.proofs.RegularBytes.{ascii_spelled, spelled_join, one_spelled, none_spelled, after_is, at_blank, blank, blank_good}
 use Rattle.gabc_text.proofs.printing.PrintedPiecesAreJoined.{in_styles, good_in, known_in, blank_in, word_in, first_in, last_in, plain_printed, styled_printed, text_join, good_join, good_after, known_join, tags_in, tags_join, word_join, word_stays, blank_join, among_more, centre_text, last_join, after_blank, some_blank, apart_none}
@@ -48,57 +49,49 @@ some_pieces (p ∷ ps) e f = e
 run_some : (bs : List ℕ) (r : IsRun bs) → 0 < length bs → blank_after true r.pieces ≡ false
 run_some bs r some = some_pieces r.pieces r.no_blank (r.word some)
 
-pub plain_part : (bs : List ℕ) → IsRun bs → 0 < length bs → IsPart None bs
-plain_part bs r some =
-    let f = run_some bs r some in
+part_of : (style : Option Style) (test : Style → Bool) (bs inner : List ℕ) (r : IsRun inner) → 0 < length inner → in_style style ≡ filter test all_styles
+    → IsSpelled (text_of_tokens (print_from None 0 [] (map (in_styles (in_style style)) r.pieces))) bs → IsPart style bs
+part_of style test bs inner r some listed spells =
+    let f = run_some inner r some in
     record {
-      pieces = map (in_styles []) r.pieces;
-      spells = subst (λ (t : List ℕ). IsSpelled t bs) (sym (plain_printed r.pieces)) r.spells;
-      good = good_in [] (λ s. false) false false r.pieces refl r.good;
-      known = known_in [] r.pieces r.known;
-      some = blank_in [] true r.pieces ∙ f;
-      first_are = first_in [] r.pieces f;
-      last_are = last_in [] r.pieces f;
-      no_mark = tags_in [] r.pieces ∙ r.no_mark;
-      word = word_in [] false r.pieces ∙ r.word some;
+      pieces = map (in_styles (in_style style)) r.pieces;
+      spells = spells;
+      good = good_in (in_style style) test false false r.pieces listed r.good;
+      known = known_in (in_style style) r.pieces r.known;
+      some = blank_in (in_style style) true r.pieces ∙ f;
+      first_are = first_in (in_style style) r.pieces f;
+      last_are = last_in (in_style style) r.pieces f;
+      no_mark = tags_in (in_style style) r.pieces ∙ r.no_mark;
+      word = word_in (in_style style) false r.pieces ∙ r.word some;
     }
 
+pub plain_part : (bs : List ℕ) → IsRun bs → 0 < length bs → IsPart None bs
+plain_part bs r some = part_of None (λ s. false) bs bs r some refl (subst (λ (t : List ℕ). IsSpelled t bs) (sym (plain_printed r.pieces)) r.spells)
+
 -- tags are of ASCII
+name_low : (s : Style) → list_all is_low (name_of s) ≡ true
+name_low B = refl
+name_low C = refl
+name_low E = refl
+name_low I = refl
+name_low Sc = refl
+name_low Tt = refl
+name_low Ul = refl
+
 opening_spelled : (s : Style) → IsSpelled (spelling (opening_tag s)) (spelling (opening_tag s))
-opening_spelled B = ascii_spelled (spelling (opening_tag B)) refl
-opening_spelled C = ascii_spelled (spelling (opening_tag C)) refl
-opening_spelled E = ascii_spelled (spelling (opening_tag E)) refl
-opening_spelled I = ascii_spelled (spelling (opening_tag I)) refl
-opening_spelled Sc = ascii_spelled (spelling (opening_tag Sc)) refl
-opening_spelled Tt = ascii_spelled (spelling (opening_tag Tt)) refl
-opening_spelled Ul = ascii_spelled (spelling (opening_tag Ul)) refl
+opening_spelled s = ascii_spelled (spelling (opening_tag s)) (name_low s)
 
 closing_spelled : (s : Style) → IsSpelled (spelling (closing_tag s)) (spelling (closing_tag s))
-closing_spelled B = ascii_spelled (spelling (closing_tag B)) refl
-closing_spelled C = ascii_spelled (spelling (closing_tag C)) refl
-closing_spelled E = ascii_spelled (spelling (closing_tag E)) refl
-closing_spelled I = ascii_spelled (spelling (closing_tag I)) refl
-closing_spelled Sc = ascii_spelled (spelling (closing_tag Sc)) refl
-closing_spelled Tt = ascii_spelled (spelling (closing_tag Tt)) refl
-closing_spelled Ul = ascii_spelled (spelling (closing_tag Ul)) refl
+closing_spelled s = ascii_spelled (spelling (closing_tag s)) (name_low s)
 
 pub styled_part : (s : Style) (bs : List ℕ) → IsEnclosed (spelling (opening_tag s)) (spelling (closing_tag s)) bs → IsPart (Some s) bs
 styled_part s bs x =
     let r = x.run in
-    let f = run_some x.inner x.run x.some in
-    record {
-      pieces = map (in_styles (s ∷ [])) r.pieces;
-      spells = subst (λ (t : List ℕ). IsSpelled t bs) (sym (styled_printed s r.pieces f)) (subst (λ (u : List ℕ). IsSpelled (spelling (opening_tag s) ++ (printed_text r.pieces ++ spelling (closing_tag s))) u) (sym x.parts)
-          (spelled_join (spelling (opening_tag s)) (printed_text r.pieces ++ spelling (closing_tag s)) (spelling (opening_tag s)) (x.inner ++ spelling (closing_tag s)) (opening_spelled s)
-          (spelled_join (printed_text r.pieces) (spelling (closing_tag s)) x.inner (spelling (closing_tag s)) r.spells (closing_spelled s))));
-      good = good_in (s ∷ []) (is_same s) false false r.pieces (listed_alone s) r.good;
-      known = known_in (s ∷ []) r.pieces r.known;
-      some = blank_in (s ∷ []) true r.pieces ∙ f;
-      first_are = first_in (s ∷ []) r.pieces f;
-      last_are = last_in (s ∷ []) r.pieces f;
-      no_mark = tags_in (s ∷ []) r.pieces ∙ r.no_mark;
-      word = word_in (s ∷ []) false r.pieces ∙ r.word x.some;
-    }
+    part_of (Some s) (is_same s) bs x.inner r x.some (listed_alone s)
+    (subst (λ (t : List ℕ). IsSpelled t bs) (sym (styled_printed s r.pieces (run_some x.inner r x.some)))
+    (subst (λ (u : List ℕ). IsSpelled (spelling (opening_tag s) ++ (printed_text r.pieces ++ spelling (closing_tag s))) u) (sym x.parts)
+    (spelled_join (spelling (opening_tag s)) (printed_text r.pieces ++ spelling (closing_tag s)) (spelling (opening_tag s)) (x.inner ++ spelling (closing_tag s)) (opening_spelled s)
+    (spelled_join (printed_text r.pieces) (spelling (closing_tag s)) x.inner (spelling (closing_tag s)) r.spells (closing_spelled s)))))
 
 pub styled_so : (s : Style) (a b bs : List ℕ) → a ≡ spelling (opening_tag s) → b ≡ spelling (closing_tag s) → IsEnclosed a b bs → IsPart (Some s) bs
 styled_so s a b bs f g x = styled_part s bs (subst (λ (u : List ℕ). IsEnclosed u (spelling (closing_tag s)) bs) f (subst (λ (v : List ℕ). IsEnclosed a v bs) g x))

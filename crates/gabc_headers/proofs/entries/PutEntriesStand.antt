@@ -1,6 +1,6 @@
 -- Putting the entries in turn gives those that stand.
 use Rattle.std.proofs.Common.{◌≡◌, ℕ, List, [], ◌∷◌, ◌++◌, Bool, true, false, cond, not, ◌&&◌, ◌||◌, refl, sym, ap, ◌∙◌, subst, append_assoc, append-nil, bytes_eq}
-use Rattle.std.proofs.lemmas.Bool.{or_parts}
+use Rattle.std.proofs.lemmas.Bool.{or_parts, false_from_ne_true}
 use Rattle.std.specs.Cmp.Lexicographic.{same_text}
 use Rattle.gabc_headers.specs.Book.{is_one_of, repeats, unless, last_value, value_of, standing_entries}
 use Rattle.gabc_headers.specs.EntryMap.{is_annotation, with_value, put_all}
@@ -35,11 +35,7 @@ seen_again m s h n = by (bytes_eq n m) refl
     by false e = refl
 
 apart : (a b : List ℕ) → is_annotation a ≡ false → is_annotation b ≡ true → bytes_eq a b ≡ false
-apart a b h k = by (bytes_eq a b) refl
-  where
-    by : (x : Bool) → bytes_eq a b ≡ x → x ≡ false
-    by true e = absurd (let f = ap is_annotation (same_text a b (sym e)) in cc)
-    by false e = refl
+apart a b h k = false_from_ne_true (bytes_eq a b) (λ e. let f = ap is_annotation (same_text a b (sym e)) in cc)
 
 module _ {X : Type 0} where
   pub with_value-new : (ds : List (List ℕ × X)) (name : List ℕ) (v : X) → is_one_of name (names ds) ≡ false → with_value ds name v ≡ ds ++ (name, v) ∷ []

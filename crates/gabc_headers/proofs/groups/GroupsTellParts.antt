@@ -52,10 +52,10 @@ unfinished_parts l b k n g e h = header_parts l k n b g false e
     ∙ (ap (λ (x : List HeaderPart). x ++ parts (within k (name_of l) (after_colon l)) (k + 1) (n + (length l + 1)) b) (append-nil (bad_name_parts k (name_of l) (n + length (before_colon l))))
     ∙ ap (λ (x : List HeaderPart). bad_name_parts k (name_of l) (n + length (before_colon l)) ++ x) (open_parts k (name_of l) (after_colon l) (k + 1) (n + (length l + 1)) b h))
 
-skipped_parts : (l : List ℕ) (k n : ℕ) (rest : List (List ℕ)) → is_bare l ≡ true → parts outside k n (l ∷ rest) ≡ parts outside (k + 1) (n + (length l + 1)) rest
+pub skipped_parts : (l : List ℕ) (k n : ℕ) (rest : List (List ℕ)) → is_bare l ≡ true → parts outside k n (l ∷ rest) ≡ parts outside (k + 1) (n + (length l + 1)) rest
 skipped_parts l k n rest e = rw e refl
 
-colonless_parts : (l : List ℕ) (k n : ℕ) (rest : List (List ℕ)) → is_bare l ≡ false → has_colon l ≡ false
+pub colonless_parts : (l : List ℕ) (k n : ℕ) (rest : List (List ℕ)) → is_bare l ≡ false → has_colon l ≡ false
     → parts outside k n (l ∷ rest) ≡ left_out k (n + length l) ∷ parts outside (k + 1) (n + (length l + 1)) rest
 colonless_parts l k n rest e c = rw (e, c) refl
 

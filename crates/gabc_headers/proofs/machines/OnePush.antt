@@ -1,6 +1,6 @@
 -- The machine, one push after the other.
 use Rattle.std.proofs.Math.Bool.{and_comm}
-use Rattle.std.proofs.lemmas.Bool.{and_parts}
+use Rattle.std.proofs.lemmas.Bool.{and_parts, eqb-true}
 use Rattle.std.proofs.Common.{◌≡◌, ℕ, ◌+◌, ◌<◌, ◌≤◌, List, [], ◌∷◌, ◌++◌, length, Bool, true, false, cond, ◌&&◌, ◌==◌, nat_lt, Option, None, refl, sym, ap, ◌∙◌, subst, arith}
 use Rattle.std.proofs.lemmas.Bool.Decides.{nat_tests}
 use Rattle.std.specs.Char.{len_utf8}
@@ -98,15 +98,12 @@ module _ (t : List ℕ) (limit : ℕ) (rest : List ℕ) where
       → AfterPush t limit rest es (held_push r c).0 (held_push r c).1
   held_pushes done r es c a h = by (c == 37) refl
     where
-      equal : (c == 37) ≡ true → c ≡ 37
-      equal q = grind (arith, nat_tests)
-
       by : (b : Bool) → (c == 37) ≡ b
           → AfterPush t limit rest es (cond {A = HeaderMachine × HeaderStep} b (r, Ended (Score r.place (r.bytes + 2) (open_in r.parts.state r.parts.header)))
           (then_take (take_one (record r { held = false }) 37).0 (take_one (record r { held = false }) 37).1 c)).0
           (cond {A = HeaderMachine × HeaderStep} b (r, Ended (Score r.place (r.bytes + 2) (open_in r.parts.state r.parts.header)))
           (then_take (take_one (record r { held = false }) 37).0 (take_one (record r { held = false }) 37).1 c)).1
-      by true q = score_here t limit done r es rest (subst (λ (x : ℕ). MachineReads t limit done (37 ∷ x ∷ rest) r es) (equal q) h) a
+      by true q = score_here t limit done r es rest (subst (λ (x : ℕ). MachineReads t limit done (37 ∷ x ∷ rest) r es) (eqb-true c 37 q) h) a
       by false q = release (nat_lt r.limit (r.bytes + len_utf8 37)) refl
         where
           e : (r.at_line && is_score_line (37 ∷ c ∷ rest)) ≡ false
@@ -136,14 +133,11 @@ module _ (t : List ℕ) (limit : ℕ) (rest : List ℕ) where
   pub pushes : (r : HeaderMachine) (es : List HeaderEvent) (c : ℕ) → Following t limit (c ∷ rest) r es → AfterPush t limit rest es (push_one r c).0 (push_one r c).1
   pushes r es c h = by r.held refl h.reads
     where
-      equal : (c == 37) ≡ true → c ≡ 37
-      equal q = grind (arith, nat_tests)
-
       first : r.held ≡ false → MachineReads t limit h.done (c ∷ rest) r es → (b : Bool) → (r.at_line && (c == 37)) ≡ b
           → AfterPush t limit rest es (cond {A = HeaderMachine × HeaderStep} b (record r { held = true }, Read None) (take_one r c)).0 (cond {A = HeaderMachine × HeaderStep} b (record r { held = true }, Read None) (take_one r c)).1
       first k x true q = record {
         done = h.done;
-        reads = reheld t limit h.done (37 ∷ rest) r es true (subst (λ (y : ℕ). MachineReads t limit h.done (y ∷ rest) r es) (equal (and_parts r.at_line (c == 37) q).1) x);
+        reads = reheld t limit h.done (37 ∷ rest) r es true (subst (λ (y : ℕ). MachineReads t limit h.done (y ∷ rest) r es) (eqb-true c 37 (and_parts r.at_line (c == 37) q).1) x);
         held = λ y. (and_parts r.at_line (c == 37) q).0;
       }
       first k x false q = takes h.done r es c k (and_comm (c == 37) r.at_line ∙ q) x

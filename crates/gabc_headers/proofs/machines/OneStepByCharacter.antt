@@ -1,4 +1,5 @@
 -- One step of the machine, by the kind of the character; and the end of the text.
+use Rattle.std.proofs.lemmas.Bool.{eqb-true}
 use Rattle.std.proofs.Common.{◌≡◌, ℕ, ◌+◌, List, [], ◌∷◌, ◌++◌, drop, Bool, true, false, cond, ◌&&◌, ◌==◌, ◌≢◌, Option, Some, None, refl, sym, ap, ◌∙◌, subst, arith, append-nil, slice_range}
 use Rattle.std.proofs.lemmas.Bool.Decides.{nat_tests}
 use Rattle.gabc_headers.specs.Lines.{is_blank, is_bare}
@@ -33,18 +34,15 @@ pub data IsKind (c : ℕ) : HeaderChar → Type 0 where
 pub is_kind : (c : ℕ) → IsKind c (header_char_of c)
 is_kind c = on59 (c == 59) refl
   where
-    equal : (d : ℕ) → (c == d) ≡ true → c ≡ d
-    equal d e = grind (arith, nat_tests)
-
     apart : (d n : ℕ) → (c == d) ≡ true → d ≢ n → (c == n) ≡ false
     apart d n e f = grind (arith, nat_tests)
 
     on58 : (b : Bool) → (c == 58) ≡ b → (c == 10) ≡ false → (c == 9) ≡ false → (c == 32) ≡ false → (c == 37) ≡ false → (c == 59) ≡ false → IsKind c (cond b Colon Other)
-    on58 true e a f g h i = colon (equal 58 e)
+    on58 true e a f g h i = colon (eqb-true c 58 e)
     on58 false e a f g h i = other (rw (g, f) refl) a e h i
 
     on10 : (b : Bool) → (c == 10) ≡ b → (c == 9) ≡ false → (c == 32) ≡ false → (c == 37) ≡ false → (c == 59) ≡ false → IsKind c (cond b LineEnd (cond (c == 58) Colon Other))
-    on10 true e f g h i = line (equal 10 e)
+    on10 true e f g h i = line (eqb-true c 10 e)
     on10 false e f g h i = on58 (c == 58) refl e f g h i
 
     on9 : (b : Bool) → (c == 9) ≡ b → (c == 32) ≡ false → (c == 37) ≡ false → (c == 59) ≡ false → IsKind c (cond b Blank (cond (c == 10) LineEnd (cond (c == 58) Colon Other)))
@@ -56,11 +54,11 @@ is_kind c = on59 (c == 59) refl
     on32 false e h i = on9 (c == 9) refl e h i
 
     on37 : (b : Bool) → (c == 37) ≡ b → (c == 59) ≡ false → IsKind c (cond b Percent (cond (c == 32) Blank (cond (c == 9) Blank (cond (c == 10) LineEnd (cond (c == 58) Colon Other)))))
-    on37 true e i = percent (equal 37 e)
+    on37 true e i = percent (eqb-true c 37 e)
     on37 false e i = on32 (c == 32) refl e i
 
     on59 : (b : Bool) → (c == 59) ≡ b → IsKind c (cond b Semicolon (cond (c == 37) Percent (cond (c == 32) Blank (cond (c == 9) Blank (cond (c == 10) LineEnd (cond (c == 58) Colon Other))))))
-    on59 true e = semi (equal 59 e)
+    on59 true e = semi (eqb-true c 59 e)
     on59 false e = on37 (c == 37) refl e
 
 -- ---- a step

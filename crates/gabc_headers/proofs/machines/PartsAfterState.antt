@@ -1,4 +1,5 @@
 -- Where the machine stands: the parts of the text are those emitted so far, and those of what is left.
+use Rattle.gabc_headers.proofs.groups.GroupsTellParts.{skipped_parts, colonless_parts}
 use Rattle.std.proofs.Math.Bool.{and-false}
 use Rattle.std.proofs.Common.{◌≡◌, ℕ, ◌+◌, suc, List, [], ◌∷◌, ◌++◌, length, drop, Bool, true, false, cond, ◌&&◌, ◌||◌, ◌==◌, not, Option, Some, None, refl, sym, ap, ◌∙◌, subst, arith, append_assoc, append-nil, length-append, slice_range}
 use Rattle.gabc_headers.specs.Lines.{mark_end, run_len, lines, on_first, is_blank, is_blank_or_lf, ends_no_value, is_bare, has_mark, before_mark, has_colon, before_colon, after_colon, trim_value, trim_name}
@@ -152,17 +153,6 @@ module _ (all : List HeaderPart) (text : List ℕ) where
         ∙ ap (λ (y : List ℕ). done ++ parts outside rd.line h.start (y ∷ later_lines r)) (push h.prefix (first_line r) c));
   }
 
-  -- a line that is bare
-  bare_line : (l : List ℕ) (k n : ℕ) (ls : List (List ℕ)) → is_bare l ≡ true → parts outside k n (l ∷ ls) ≡ parts outside (k + 1) (n + (length l + 1)) ls
-  bare_line l k n ls h = ap (λ (b : Bool). cond b [] (cond (has_colon l) (bad_name_parts k (name_of l) (n + length (before_colon l))
-      ++ cond (has_mark 1 (after_colon l)) (ended_parts k (name_of l) (before_mark 1 (after_colon l)) (n + (length (before_colon l) + (1 + mark_end 1 (after_colon l))))) []) (left_out k (n + length l) ∷ []))
-      ++ parts (cond (b || (not (has_colon l) || has_mark 1 (after_colon l))) outside (within k (name_of l) (after_colon l))) (k + 1) (n + (length l + 1)) ls) h
-
-  -- a line without `:`
-  wordless_line : (l : List ℕ) (k n : ℕ) (ls : List (List ℕ)) → is_bare l ≡ false → has_colon l ≡ false
-      → parts outside k n (l ∷ ls) ≡ left_out k (n + length l) ∷ parts outside (k + 1) (n + (length l + 1)) ls
-  wordless_line l k n ls h g = rw (h, g) refl
-
   -- a header's first line
   header_first : (l : List ℕ) (k n : ℕ) (ls : List (List ℕ)) → is_bare l ≡ false → has_colon l ≡ true
       → parts outside k n (l ∷ ls) ≡ bad_name_parts k (name_of l) (n + length (before_colon l))
@@ -183,10 +173,10 @@ module _ (all : List HeaderPart) (text : List ℕ) where
 
       by : (b : Bool) → rd.trim.leading ≡ b → InName r (i + 1) (at_line_start (rd.line + 1) (i + 1)) (done ++ seen text (cond b None (Some (LeftOut rd.line i))))
       by true g = begin_line r (i + 1) (rd.line + 1) (done ++ []) e (h.left
-          ∙ (ap (λ (x : List HeaderPart). done ++ x) (bare_line (h.prefix ++ []) rd.line h.start (lines r) (h.so.bare [] ∙ ap (λ (x : Bool). x && true) g))
+          ∙ (ap (λ (x : List HeaderPart). done ++ x) (skipped_parts (h.prefix ++ []) rd.line h.start (lines r) (h.so.bare [] ∙ ap (λ (x : Bool). x && true) g))
           ∙ (ap (λ (n : ℕ). done ++ parts outside (rd.line + 1) n (lines r)) next ∙ ap (λ (x : List HeaderPart). x ++ parts outside (rd.line + 1) (i + 1) (lines r)) (sym (append-nil done)))))
       by false g = begin_line r (i + 1) (rd.line + 1) (done ++ left_out rd.line i ∷ []) e (h.left
-          ∙ (ap (λ (x : List HeaderPart). done ++ x) (wordless_line (h.prefix ++ []) rd.line h.start (lines r) (h.so.bare [] ∙ ap (λ (x : Bool). x && true) g) (h.so.has []))
+          ∙ (ap (λ (x : List HeaderPart). done ++ x) (colonless_parts (h.prefix ++ []) rd.line h.start (lines r) (h.so.bare [] ∙ ap (λ (x : Bool). x && true) g) (h.so.has []))
           ∙ (ap (λ (n : ℕ). done ++ left_out rd.line (h.start + length (h.prefix ++ [])) ∷ parts outside (rd.line + 1) n (lines r)) next
           ∙ (ap (λ (n : ℕ). done ++ left_out rd.line n ∷ parts outside (rd.line + 1) (i + 1) (lines r)) (let a = h.place in let b = ap length nil in let x : h.start + length (h.prefix ++ []) ≡ i = omega arith in x)
           ∙ sym (append_assoc done (left_out rd.line i ∷ []) (parts outside (rd.line + 1) (i + 1) (lines r)))))))
@@ -194,7 +184,7 @@ module _ (all : List HeaderPart) (text : List ℕ) where
   -- the `%` of a line of comment
   pub name_percent : (r : List ℕ) (i : ℕ) (rd : PartMachine) (done : List HeaderPart) → rd.trim.leading ≡ true → InName (37 ∷ r) i rd done → InSkip r (i + 1) (record rd { state = Skip }) done
   name_percent r i rd done g h = record {
-    left = h.left ∙ (ap (λ (x : List HeaderPart). done ++ x) (bare_line (h.prefix ++ 37 ∷ first_line r) rd.line h.start (later_lines r) (h.so.bare (37 ∷ first_line r) ∙ ap (λ (x : Bool). x && true) g))
+    left = h.left ∙ (ap (λ (x : List HeaderPart). done ++ x) (skipped_parts (h.prefix ++ 37 ∷ first_line r) rd.line h.start (later_lines r) (h.so.bare (37 ∷ first_line r) ∙ ap (λ (x : Bool). x && true) g))
         ∙ ap (λ (n : ℕ). done ++ parts outside (rd.line + 1) n (later_lines r)) next);
   }
     where
@@ -372,8 +362,8 @@ module _ (all : List HeaderPart) (text : List ℕ) where
   end_name i rd done h = by rd.trim.leading refl
     where
       by : (b : Bool) → rd.trim.leading ≡ b → all ≡ (done ++ seen text (cond b None (Some (LeftOut rd.line i)))) ++ []
-      by true g = h.left ∙ (ap (λ (x : List HeaderPart). done ++ x) (bare_line (h.prefix ++ []) rd.line h.start [] (h.so.bare [] ∙ ap (λ (x : Bool). x && true) g)) ∙ sym (append-nil (done ++ [])))
-      by false g = h.left ∙ (ap (λ (x : List HeaderPart). done ++ x) (wordless_line (h.prefix ++ []) rd.line h.start [] (h.so.bare [] ∙ ap (λ (x : Bool). x && true) g) (h.so.has []))
+      by true g = h.left ∙ (ap (λ (x : List HeaderPart). done ++ x) (skipped_parts (h.prefix ++ []) rd.line h.start [] (h.so.bare [] ∙ ap (λ (x : Bool). x && true) g)) ∙ sym (append-nil (done ++ [])))
+      by false g = h.left ∙ (ap (λ (x : List HeaderPart). done ++ x) (colonless_parts (h.prefix ++ []) rd.line h.start [] (h.so.bare [] ∙ ap (λ (x : Bool). x && true) g) (h.so.has []))
           ∙ (ap (λ (n : ℕ). done ++ left_out rd.line n ∷ []) (let a = h.place in let b = length-append h.prefix [] in let x : h.start + length (h.prefix ++ []) ≡ i = omega arith in x)
           ∙ sym (append-nil (done ++ left_out rd.line i ∷ []))))
 

@@ -1,6 +1,6 @@
 -- The entries of a book are trimmed and count, no name comes twice in it, and it is the book of its own entries.
 use Rattle.std.proofs.Common.{◌≡◌, ℕ, List, [], ◌∷◌, ◌++◌, Bool, true, false, cond, not, ◌||◌, ◌&&◌, bytes_eq, codes, refl, sym, ap, subst, ◌∙◌, None}
-use Rattle.std.proofs.lemmas.Bool.{or_parts}
+use Rattle.std.proofs.lemmas.Bool.{or_parts, or_right}
 use Rattle.std.specs.Cmp.Lexicographic.{same_text}
 use Rattle.gabc_places.specs.Findings.{Known}
 use Rattle.gabc_headers.specs.Parts.{HeaderPart, left_out, header, unended}
@@ -99,12 +99,8 @@ book_once es = standing_once [] [] es (λ name e. e)
 last_is : (seen : List (List ℕ)) (name v : List ℕ) (es : List (List ℕ × List ℕ)) → bytes_eq name (codes "annotation") ≡ false → is_one_of name seen ≡ true → NoneAgain seen es
     → last_value name v es ≡ v
 last_is seen name v [] a o h = refl
-last_is seen name v (e ∷ es) a o h = by (bytes_eq name e.0) refl (last_is (e.0 ∷ seen) name v es a (or_true (bytes_eq name e.0) (is_one_of name seen) o) h.1)
+last_is seen name v (e ∷ es) a o h = by (bytes_eq name e.0) refl (last_is (e.0 ∷ seen) name v es a (or_right (bytes_eq name e.0) (is_one_of name seen) o) h.1)
   where
-    or_true : (x y : Bool) → y ≡ true → (x || y) ≡ true
-    or_true true y h = refl
-    or_true false y h = h
-
     by : (b : Bool) → bytes_eq name e.0 ≡ b → last_value name v es ≡ v → last_value name (cond b e.1 v) es ≡ v
     by true f r = absurd (let g : repeats seen name ≡ false = ap (repeats seen) (same_text name e.0 (sym f)) ∙ h.0 in let k : repeats seen name ≡ true = rw (a, o) refl in let l = sym g ∙ k in cc)
     by false f r = r

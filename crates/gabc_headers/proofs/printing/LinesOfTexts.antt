@@ -67,11 +67,8 @@ pub lines_joined : (u : List ℕ) → below_text (lines u) ≡ 10 ∷ u
 lines_joined [] = refl
 lines_joined (c ∷ u) = by (c == 10) refl (lines_joined u) (lines_split u)
   where
-    tail : {a b : List ℕ} → ◌≡◌ {A = List ℕ} (10 ∷ a) (10 ∷ b) → a ≡ b
-    tail e = cc
-
     by : (b : Bool) → (c == 10) ≡ b → below_text (lines u) ≡ 10 ∷ u → lines u ≡ first_line u ∷ later_lines u → below_text (cond b ([] ∷ lines u) (on_first c (lines u))) ≡ 10 ∷ c ∷ u
     by true e h s = ap (λ (x : List ℕ). 10 ∷ x) (h ∙ ap (λ (x : ℕ). x ∷ u) (sym (eqb-true c 10 e)))
     by false e h s =
-        let g : first_line u ++ below_text (later_lines u) ≡ u = tail (sym (ap below_text s) ∙ h) in
+        let g : first_line u ++ below_text (later_lines u) ≡ u = cc (sym (ap below_text s) ∙ h) in
         ap (λ (x : List (List ℕ)). below_text (on_first c x)) s ∙ ap (λ (x : List ℕ). 10 ∷ c ∷ x) g

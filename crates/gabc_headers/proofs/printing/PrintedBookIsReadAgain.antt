@@ -206,6 +206,13 @@ module _ (limits : Limits) (book : List (List ℕ × List ℕ)) (w : IsWithinLim
 
 -- ---- the book of a text
 
+pub own_book : (limits : Limits) (t : List ℕ) (heads : Heads) → heads_of limits t ≡ Ok heads → heads.book ≡ book_of (head_parts t)
+own_book limits t heads ok = by (head_stops limits t) ok
+  where
+    by : (stops : List Stop) → heads_by t (earliest stops) ≡ Ok heads → heads.book ≡ book_of (head_parts t)
+    by [] e = cc
+    by (s ∷ stops) e = absurd (cc)
+
 -- headers that are read whole have a book within the limits
 within_limits : (limits : Limits) (t : List ℕ) (heads : Heads) → heads_of limits t ≡ Ok heads → IsWithinLimits limits heads.book
 within_limits limits t heads ok =
@@ -214,16 +221,12 @@ within_limits limits t heads ok =
     let above = both_empty _ _ (both_empty (open_stops (head_len t + 1) (open_line (head_parts t))) (score_stops limits t) none.1).1 in
     let all : AreEntries (entries (head_parts t)) = subst (λ (x : List HeaderPart). AreEntries (entries x)) (sym (groups_tell groups 1 0 (head_of (lines t)) cut))
     (entries_good (parts_of_groups 1 0 groups) (good_parts groups (head_of (lines t)) 1 0 cut (head_lines t))) in
-    subst (IsWithinLimits limits) (sym (whole (head_stops limits t) ok)) (record {
+    subst (IsWithinLimits limits) (sym (own_book limits t heads ok)) (record {
       entries = standing_good [] (entries (head_parts t)) all;
       once = book_once (entries (head_parts t));
       header = within limits.header (bytes_len (header_lines (book_of (head_parts t)))) _ above.0;
       input = within limits.input (bytes_len (header_lines (book_of (head_parts t))) + 3) _ above.1;
     })
-  where
-    whole : (stops : List Stop) → heads_by t (earliest stops) ≡ Ok heads → heads.book ≡ book_of (head_parts t)
-    whole [] e = cc
-    whole (s ∷ stops) e = absurd (cc)
 
 within_larger : (limits larger : Limits) (book : List (List ℕ × List ℕ)) → AreNoLess limits larger → IsWithinLimits limits book → IsWithinLimits larger book
 within_larger limits larger book no_less w =

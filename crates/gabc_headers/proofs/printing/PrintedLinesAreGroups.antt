@@ -214,11 +214,8 @@ record OneLine (v : List ℕ) : Type 0 where
 
 one_of : (v l : List ℕ) (ls : List (List ℕ)) → lines v ≡ l ∷ ls → wants_lines (l ∷ ls) ≡ false → OneLine v
 one_of v l [] s h =
-    let same : l ≡ v = tail (sym (append-nil (10 ∷ l)) ∙ sym (ap below_text s) ∙ lines_joined v) in
+    let same : l ≡ v = cc (sym (append-nil (10 ∷ l)) ∙ sym (ap below_text s) ∙ lines_joined v) in
     record { feed = single_line v (s ∙ ap (λ (x : List ℕ). x ∷ []) same); none = sym (ap (has_mark 1) same) ∙ h }
-  where
-    tail : {a b : List ℕ} → ◌≡◌ {A = List ℕ} (10 ∷ a) (10 ∷ b) → a ≡ b
-    tail e = cc
 one_of v l (m ∷ ls) s h = absurd (cc)
 
 pub printed_entry : (name v : List ℕ) → IsName name → IsValue v → PrintedEntry (name, v)

@@ -1,4 +1,5 @@
 -- A header that counts takes at least three bytes of the text: one of its name, the `:` and a `;`.
+use Rattle.std.proofs.lemmas.Bool.{and_parts}
 use Rattle.std.proofs.Common.{◌≡◌, ℕ, ◌+◌, ◌*◌, ◌/◌, ◌<◌, ◌≤◌, ◌&&◌, nat_lt, List, [], ◌∷◌, ◌++◌, length, Bool, true, false, cond, refl, subst, arith, Option, Some, None}
 use Rattle.std.proofs.lemmas.Bool.Decides.{nat_tests}
 use Rattle.std.specs.Char.{len_utf8}
@@ -129,12 +130,8 @@ named : (k bytes next : ℕ) (r : PartMachine) → bytes + 1 ≤ next → (3 * k
 named k bytes next r l h false q = let a = h.0 in let b = h.1 in omega (arith, a, b, l)
 named k bytes next r l h true q = by (nat_lt r.trim.to r.trim.from) refl
   where
-    first : (a b : Bool) → (a && b) ≡ true → a ≡ true
-    first true b q = refl
-    first false b q = q
-
     filled : nat_lt r.trim.from (span_of r.trim).to ≡ true
-    filled = first _ _ q
+    filled = (and_parts _ _ q).0
 
     by : (b : Bool) → nat_lt r.trim.to r.trim.from ≡ b → 3 * k + 2 ≤ next
     by true e = absurd (let f : nat_lt r.trim.from r.trim.from ≡ true = subst (λ (b : Bool). nat_lt r.trim.from (cond b r.trim.from r.trim.to) ≡ true) e filled in let g : r.trim.from < r.trim.from = grind (arith, nat_tests) in omega (arith, g))

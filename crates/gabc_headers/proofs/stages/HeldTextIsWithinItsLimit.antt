@@ -4,7 +4,7 @@ use Rattle.std.specs.Option.{option_map}
 use Rattle.std.specs.Char.{len_utf8}
 use Rattle.std.specs.List.{All, Contains}
 use Rattle.std.proofs.Math.Seq.{take-suc, take-length, drop-append_seam}
-use Rattle.std.proofs.lemmas.Bool.{and_parts, ltb-true, ltb-false, eqb-true}
+use Rattle.std.proofs.lemmas.Bool.{and_parts, ltb-true, ltb-false, eqb-true, false_from_ne_true}
 use Rattle.std.proofs.lemmas.Bool.Decides.{nat_tests}
 use Rattle.std.proofs.lemmas.List.{get_or_append_left}
 use Rattle.std.proofs.lemmas.List.Elements.{All-append, All-contains, All-cons, All-nil, All-head}
@@ -175,11 +175,8 @@ score_before limits t score = All-append (StopsBefore n) (text_stops limits.head
 
 module _ (limits : Limits) (t : List ℕ) (some : 1 ≤ limits.header) (r : Stop) (contains : Contains (head_stops limits t) r) (least : All (IsNoLater r) (head_stops limits t)) (at_end : r.point ≡ length t) where
   unscored : has_score (lines t) ≡ false
-  unscored = by (has_score (lines t)) refl
-    where
-      by : (b : Bool) → has_score (lines t) ≡ b → b ≡ false
-      by true e = absurd (let before = All-contains (StopsBefore (length t)) (head_stops limits t) r (score_before limits t e) contains in omega (arith, before, at_end))
-      by false e = refl
+  unscored = false_from_ne_true (has_score (lines t)) (λ e.
+      let before = All-contains (StopsBefore (length t)) (head_stops limits t) r (score_before limits t e) contains in omega (arith, before, at_end))
 
   -- so the text does not stop earlier
   past : (p : ℕ) (place : Place) → IsNoLater r (stop_at p place F4) → p < length t → ⊥

@@ -1,4 +1,5 @@
 -- What a machine that has read a text keeps, character by character.
+use Rattle.std.proofs.lemmas.Bool.{and_parts}
 use Rattle.std.proofs.Common.{◌≡◌, ℕ, ◌+◌, ◌==◌, ◌&&◌, nat_lt, List, [], ◌∷◌, ◌++◌, Bool, true, false, cond, refl, sym, ap, subst, arith, Option, None, append_assoc, append-nil, zero-add}
 use Rattle.std.proofs.lemmas.Bool.Decides.{nat_tests}
 use Rattle.std.specs.Char.{len_utf8}
@@ -71,12 +72,8 @@ taken r next c e p = by (nat_lt r.limit (r.bytes + len_utf8 c)) p
 pub read_by : (r next : HeaderMachine) (c : ℕ) (e : Option HeaderEvent) → push_one r c ≡ (next, Read e) → ReadBy r c next e
 read_by r next c e p = by r.held refl p
   where
-    equal : (a b : Bool) → (a && b) ≡ true → b ≡ true
-    equal true b q = q
-    equal false b q = absurd (cc)
-
     first : r.held ≡ false → (b : Bool) → (r.at_line && (c == 37)) ≡ b → cond {A = HeaderMachine × HeaderStep} b (record r { held = true }, Read None) (take_one r c) ≡ (next, Read e) → ReadBy r c next e
-    first k true q s = holds k (let n : (c == 37) ≡ true = equal r.at_line (c == 37) q in grind (arith, nat_tests)) (sym (ap machine_of s)) (sym (ap event_of s))
+    first k true q s = holds k (let n : (c == 37) ≡ true = (and_parts r.at_line (c == 37) q).1 in grind (arith, nat_tests)) (sym (ap machine_of s)) (sym (ap event_of s))
     first k false q s = let t = taken r next c e s in steps k t.0 t.1
 
     then : r.held ≡ true → (b : Bool) → nat_lt r.limit (r.bytes + len_utf8 37) ≡ b

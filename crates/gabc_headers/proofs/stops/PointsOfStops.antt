@@ -3,7 +3,7 @@ use Rattle.std.proofs.Common.{◌≡◌, ℕ, ◌+◌, ◌-◌, ◌<◌, ◌≤�
 use Rattle.std.specs.Option.{option_map}
 use Rattle.std.specs.Char.{len_utf8}
 use Rattle.std.proofs.lemmas.Bool.Decides.{nat_tests}
-use Rattle.std.proofs.lemmas.Bool.{le-ltb}
+use Rattle.std.proofs.lemmas.Bool.{le-ltb, and_parts}
 use Rattle.gabc_places.proofs.NumbersByTests.{above_eqb, same_eqb, same_ltb}
 use Rattle.gabc_places.specs.declared.place.Place.{Place}
 use Rattle.gabc_places.specs.declared.code.Code.TheVariants.{F3, F4, F7}
@@ -30,11 +30,7 @@ lines_all (c ∷ t) = by (c == 10) (lines_all t)
 
 score_line_len : (l : List ℕ) → is_score_line l ≡ true → 2 ≤ length l
 score_line_len [] h = absurd (cc)
-score_line_len (c ∷ []) h = absurd (let e = and_right (c == 37) false h in cc)
-  where
-    and_right : (a b : Bool) → (a && b) ≡ true → b ≡ true
-    and_right true b h = h
-    and_right false b h = absurd (cc)
+score_line_len (c ∷ []) h = absurd (let e = (and_parts (c == 37) false h).1 in cc)
 score_line_len (c ∷ d ∷ l) h = omega arith
 
 score_len : (ls : List (List ℕ)) → has_score ls ≡ true → lines_len (head_of ls) + 3 ≤ lines_len ls

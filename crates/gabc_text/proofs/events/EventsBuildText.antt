@@ -176,7 +176,7 @@ module _ (at : Place) where
 
 -- ---- the pieces
 
-piece_is : (k : TokenKind) (s : TagEffect) (q : PieceKind) → piece_kind k s ≡ Some q → is_blank_piece q ≡ false
+pub piece_is : (k : TokenKind) (s : TagEffect) (q : PieceKind) → piece_kind k s ≡ Some q → is_blank_piece q ≡ false
 piece_is kind.Letter s q e = let f : piece.Char ≡ q = cc in ap is_blank_piece (sym f)
 piece_is kind.Raw s q e = let f : piece.Raw ≡ q = cc in ap is_blank_piece (sym f)
 piece_is kind.Tag Mark q e = let f : piece.Mark ≡ q = cc in ap is_blank_piece (sym f)

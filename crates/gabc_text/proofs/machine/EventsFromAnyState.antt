@@ -1,4 +1,5 @@
 -- A character more, and the end: from any state on, the machine gives what the definitions say of the tokens ahead.
+use Rattle.std.proofs.Math.Seq.{drop-append-add}
 use Rattle.std.proofs.Common.{◌≡◌, ℕ, ◌==◌, ◌&&◌, List, [], ◌∷◌, ◌++◌, Bool, true, false, cond, refl, sym, ap, ◌∙◌, subst, append_assoc, append-nil, length, drop, Option, Some, None, inl, inr, ◌⊎◌}
 use Rattle.std.proofs.lemmas.Bool.{eqb-true}
 use Rattle.gabc_places.specs.declared.place.Place.{Place}
@@ -29,7 +30,7 @@ use Rattle.gabc_text.proofs.machine.EventsStepByStep.{stepwise, stepwise_left}
 use Rattle.gabc_text.proofs.tokens.TokensByCharacter.{drop_past}
 use Rattle.gabc_text.proofs.machine.TokenStateByCharacter.{Holds, Settles, WentBy, goes, settles, ends, EndsAs}
 use Rattle.gabc_text.proofs.machine.KeptOfOpenToken.{kept_held, sort_settled, settled_uncut, ends_uncut}
-use Rattle.gabc_text.proofs.machine.TokensOneAfterAnother.{size, drop_more, rest_done, with_none, with_more, end_other}
+use Rattle.gabc_text.proofs.machine.TokensOneAfterAnother.{size, rest_done, with_none, with_more, end_other}
 use Rattle.gabc_text.proofs.machine.FactsPastTokens.{past_append, bytes_past_append, facts_on, progress_on, past_token, after}
 use Rattle.gabc_text.proofs.machine.TokenEventsAgree.{whole_same, end_same}
 use Rattle.gabc_text.proofs.machine.EventsOfOpenToken.{KeptGo, ListsGo, kept_goes, lists_goes, bytes_go, none_held, none_first, lists_held, each_held, early_is, in_translation, events_read, but_last_is, not_lone}
@@ -40,7 +41,7 @@ abbrev pub remaining : List ℕ → List ℕ
 remaining t = drop (size (tokens t)) t
 
 remaining_more : (k : Token) (t rest : List ℕ) → tokens t ≡ k ∷ tokens rest → t ≡ spelling k ++ rest → remaining t ≡ remaining rest
-remaining_more k t rest e f = rw (e, f) (drop_more (spelling k) rest (size (tokens rest)))
+remaining_more k t rest e f = rw (e, f) (drop-append-add (spelling k) rest (size (tokens rest)))
 
 -- what is left where the machine goes on with this stage at c
 abbrev LeftAt : TextStage → ℕ → List ℕ → List ℕ
@@ -69,7 +70,7 @@ module _ (read : List ℕ) (s : TextStage) where
   ahead_more : (k : Token) (t rest : List ℕ) → tokens t ≡ k ∷ tokens rest → t ≡ spelling k ++ rest → is_open_kind k.kind ≡ false
       → ahead t ≡ lists_past read s [] k ++ with_first (owed_events_at read s (k ∷ [])) (lists_from [] (past_token read s k) [] (tokens rest) (remaining rest))
   ahead_more k t rest e f u =
-      rw (e, f, drop_more (spelling k) rest (size (tokens rest))) (first_token read s k (tokens rest) (remaining rest) u)
+      rw (e, f, drop-append-add (spelling k) rest (size (tokens rest))) (first_token read s k (tokens rest) (remaining rest) u)
 
   -- ---- a token that ends before the next character, or at the end
 

@@ -1,4 +1,5 @@
 -- What the machine gives does not depend on what follows.
+use Rattle.std.proofs.lemmas.Bool.{false_from_ne_true, true_from_ne_false}
 use Rattle.std.proofs.Common.{◌≡◌, ℕ, suc, ◌+◌, ◌≤◌, List, [], ◌∷◌, ◌++◌, Bool, true, false, cond, refl, ap, ◌∙◌, length, length-append, take, arith}
 use Rattle.gabc_text.specs.declared.stage.TextStage.{TextStage}
 use Rattle.gabc_text.specs.declared.text_event.TextEvent.{TextEvent}
@@ -25,23 +26,15 @@ few_left s (c ∷ t) = by ((push_stage s c).ended) (few_left (push_stage s c) t)
 
 -- the `(` ends the text
 ended_there : (s : TextStage) (u : List ℕ) → stepwise_left s (40 ∷ u) ≡ 40 ∷ u → (push_stage s 40).ended ≡ true
-ended_there s u e = by ((push_stage s 40).ended) refl
-  where
-    by : (b : Bool) → (push_stage s 40).ended ≡ b → b ≡ true
-    by true f = refl
-    by false f =
-        let g : stepwise_left (push_stage s 40) u ≡ 40 ∷ u = (rw f refl) ∙ e in
-        absurd (omega (arith, few_left (push_stage s 40) u, ap (length {A = ℕ}) g))
+ended_there s u e = true_from_ne_false (push_stage s 40).ended (λ f.
+    let g : stepwise_left (push_stage s 40) u ≡ 40 ∷ u = (rw f refl) ∙ e in
+    omega (arith, few_left (push_stage s 40) u, ap (length {A = ℕ}) g))
 
 -- no character before it does
 not_before : (s : TextStage) (c : ℕ) (t u : List ℕ) → stepwise_left s (c ∷ (t ++ 40 ∷ u)) ≡ 40 ∷ u → (push_stage s c).ended ≡ false
-not_before s c t u e = by ((push_stage s c).ended) refl
-  where
-    by : (b : Bool) → (push_stage s c).ended ≡ b → b ≡ false
-    by false f = refl
-    by true f =
-        let g : c ∷ (t ++ 40 ∷ u) ≡ 40 ∷ u = (rw f refl) ∙ e in
-        absurd (omega (arith, ap (length {A = ℕ}) g, length-append t (40 ∷ u)))
+not_before s c t u e = false_from_ne_true (push_stage s c).ended (λ f.
+    let g : c ∷ (t ++ 40 ∷ u) ≡ 40 ∷ u = (rw f refl) ∙ e in
+    omega (arith, ap (length {A = ℕ}) g, length-append t (40 ∷ u)))
 
 pub left_through : (s : TextStage) (t u v : List ℕ) → stepwise_left s (t ++ 40 ∷ u) ≡ 40 ∷ u → stepwise_left s (t ++ 40 ∷ v) ≡ 40 ∷ v
 left_through s [] u v e = rw (ended_there s u e) refl

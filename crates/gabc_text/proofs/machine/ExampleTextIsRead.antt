@@ -1,4 +1,6 @@
 -- The text that a state stands for is what was read of a token, in that state.
+use Rattle.gabc_text.proofs.tokens.TokensByCharacter.{lacks}
+use Rattle.gabc_text.specs.declared.token.TagEffect.TheVariants.{Begins}
 use Rattle.std.proofs.Common.{◌≡◌, ℕ, ◌-◌, ◌<◌, ◌≤◌, ◌==◌, nat_lt, List, [], ◌∷◌, ◌++◌, Bool, true, false, cond, refl, ap, ◌∙◌, ne_eqb, length, min, take, Some, arith, codes}
 use Rattle.std.proofs.lemmas.Bool.{ltb-true, ltb-false}
 use Rattle.std.proofs.Math.Bool.{and-false}
@@ -12,7 +14,7 @@ use Rattle.gabc_text.specs.declared.text_facts.TextFacts.{TextFacts}
 use Rattle.gabc_text.specs.declared.progress.Progress.{Progress}
 use Rattle.gabc_text.specs.declared.stage.TextStage.{TextStage}
 use Rattle.gabc_text.specs.declared.text_event.TextEvent.{TextEvent}
-use Rattle.gabc_text.specs.Token.{ending_of}
+use Rattle.gabc_text.specs.Token.{ending_of, effect_of}
 use Rattle.gabc_text.specs.machine.TokenState.{wanted_char, step_in_raw}
 use Rattle.gabc_text.specs.Events.{option_list_of}
 use Rattle.gabc_text.specs.machine.TextStage.{char_event, events_of_step, stage_after_step, stage_past_char, push_stage, events_of_push}
@@ -34,33 +36,24 @@ within_is_below Sp m = omega arith
 within_is_below Alt m = omega arith
 
 holds_raw : (raw : RawKind) (m : ℕ) → InRaw raw (within_ending raw m) (stands_for (Raw raw m))
-holds_raw V m = record {
-  s = codes "v";
-  r = take (within_ending V m) (ending_of V);
-  held_is = refl;
-  tag_lacks = refl;
-  begins = refl;
-  below = within_is_below V m;
-  matched = record { q = []; split = refl; goes = λ t. prefix_none _ };
-}
-holds_raw Sp m = record {
-  s = codes "sp";
-  r = take (within_ending Sp m) (ending_of Sp);
-  held_is = refl;
-  tag_lacks = refl;
-  begins = refl;
-  below = within_is_below Sp m;
-  matched = record { q = []; split = refl; goes = λ t. prefix_none _ };
-}
-holds_raw Alt m = record {
-  s = codes "alt";
-  r = take (within_ending Alt m) (ending_of Alt);
-  held_is = refl;
-  tag_lacks = refl;
-  begins = refl;
-  below = within_is_below Alt m;
-  matched = record { q = []; split = refl; goes = λ t. prefix_none _ };
-}
+holds_raw raw m = by raw
+  where
+    named : (raw : RawKind) (s : List ℕ) → stands_for (Raw raw m) ≡ 60 ∷ (s ++ 62 ∷ []) ++ take (within_ending raw m) (ending_of raw) → lacks 62 s ≡ true → effect_of (60 ∷ s ++ 62 ∷ []) ≡ Begins raw
+        → InRaw raw (within_ending raw m) (stands_for (Raw raw m))
+    named raw s held_is tag_lacks begins = record {
+      s = s;
+      r = take (within_ending raw m) (ending_of raw);
+      held_is = held_is;
+      tag_lacks = tag_lacks;
+      begins = begins;
+      below = within_is_below raw m;
+      matched = record { q = []; split = refl; goes = λ t. prefix_none _ };
+    }
+
+    by : (raw : RawKind) → InRaw raw (within_ending raw m) (stands_for (Raw raw m))
+    by V = named V (codes "v") refl refl refl
+    by Sp = named Sp (codes "sp") refl refl refl
+    by Alt = named Alt (codes "alt") refl refl refl
 
 -- the same state, which counts no more of an ending than it has
 abbrev pub least : TokenState → TokenState

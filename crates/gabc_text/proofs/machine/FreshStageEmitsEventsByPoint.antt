@@ -188,17 +188,13 @@ module _ (at : Place) (full : List ℕ) (fits : CountsFit at full) where
   owed_fresh [] y e = refl
   owed_fresh (k ∷ before) y e = ap (λ (x : List TextEvent). cond (is_lone k) x []) (whole_at_fresh before k y (shift before k y e))
 
+  one_fresh : (before : List Token) (b : Bool) → cond b (out.Found (record { place = place_of at before; code = W5 }) ∷ []) [] ≡ finding_events at before (cond b (W5 ∷ []) [])
+  one_fresh before true = refl
+  one_fresh before false = refl
+
   early_fresh : (before : List Token) (k : TokenKind) → early_events_by (facts_of before) (place_of at before) [] k ≡ finding_events at before (early_codes before k)
-  early_fresh before kind.Translation = by (has_translation before)
-    where
-      by : (b : Bool) → cond b (out.Found (record { place = place_of at before; code = W5 }) ∷ []) [] ≡ finding_events at before (cond b (W5 ∷ []) [])
-      by true = refl
-      by false = refl
-  early_fresh before kind.OpenTranslation = by (has_translation before)
-    where
-      by : (b : Bool) → cond b (out.Found (record { place = place_of at before; code = W5 }) ∷ []) [] ≡ finding_events at before (cond b (W5 ∷ []) [])
-      by true = refl
-      by false = refl
+  early_fresh before kind.Translation = one_fresh before (has_translation before)
+  early_fresh before kind.OpenTranslation = one_fresh before (has_translation before)
   early_fresh before _ = refl
 
   kept_fresh : (before : List Token) (k : Token) (y : List ℕ) → After before (spelling k ++ y) → lists_kept (facts_of before) (place_of at before) k.kind (spelling k) ≡ kept_lists_by at before k.kind (spelling k)

@@ -2,7 +2,7 @@
 use Rattle.std.proofs.Math.Bool.{and-false}
 use Rattle.std.proofs.Common.{◌≡◌, ℕ, List, [], ◌∷◌, ◌++◌, length, map, nat_lt, Bool, true, false, not, cond, ◌&&◌, ◌||◌, ◌==◌, refl, sym, ap, ◌∙◌, arith, append_assoc, append-nil, length-append, ne_eqb, codes}
 use Rattle.std.specs.List.{list_all, zip}
-use Rattle.std.proofs.lemmas.Bool.{eqb-true, eqb-false, ltb-false, le-ltb, and_parts}
+use Rattle.std.proofs.lemmas.Bool.{eqb-true, eqb-false, ltb-false, le-ltb, and_parts, false_from_ne_true}
 use Rattle.gabc_text.specs.declared.token.TagEffect.{TagEffect}
 use Rattle.gabc_text.specs.declared.token.TagEffect.TheVariants.{Other}
 use Rattle.gabc_text.specs.declared.tags.TheConstants.{KEPT}
@@ -51,11 +51,7 @@ text_by_characters (c ∷ r) [] e = absurd (omega (arith, e))
 text_by_characters (c ∷ r) (d ∷ s) e = ap (λ (b : Bool). (d == c) && b) (text_by_characters r s (omega (arith, e)))
 
 pub other_length : (r s : List ℕ) → (length r ≡ length s → ⊥) → is_text r s ≡ false
-other_length r s h = by (is_text r s) refl
-  where
-    by : (b : Bool) → is_text r s ≡ b → b ≡ false
-    by true e = absurd (h (ap length (text_is r s e)))
-    by false e = refl
+other_length r s h = false_from_ne_true (is_text r s) (λ e. h (ap length (text_is r s e)))
 
 -- ---- names that no row has
 

@@ -177,6 +177,11 @@ tag_completes name held so h e n =
           (tag_token h.s t h.open_still ∙ ap (token_of_tag (h.s ++ 62 ∷ []) t) same ∙ plain_tag (h.s ++ 62 ∷ []) t so n) (sym (append_assoc h.s (62 ∷ []) t));
     }
 
+some_ending : (r : RawKind) → 0 < length (ending_of r)
+some_ending V = omega arith
+some_ending Sp = omega arith
+some_ending Alt = omega arith
+
 tag_goes : (name held : List ℕ) (so : TagEffect) → InTag name held → effect_of (60 ∷ name ++ 62 ∷ []) ≡ so → WentBy (step_at_tag_end so) held 62
 tag_goes name held (Begins raw) h e = record {
   s = h.s;
@@ -187,11 +192,6 @@ tag_goes name held (Begins raw) h e = record {
   below = some_ending raw;
   matched = match_none (ending_of raw);
 }
-  where
-    some_ending : (r : RawKind) → 0 < length (ending_of r)
-    some_ending V = omega arith
-    some_ending Sp = omega arith
-    some_ending Alt = omega arith
 tag_goes name held (Opens r) h e = tag_completes name held (Opens r) h e tt
 tag_goes name held (Closes r) h e = tag_completes name held (Closes r) h e tt
 tag_goes name held Mark h e = tag_completes name held Mark h e tt
@@ -315,15 +315,10 @@ raw_goes raw m held c h =
         by_test (c == 60) _ _ held c
         (λ f. raw_more raw m 1 held c h (some_way raw).0
         (subst (Matching (ending_of raw) (h.r ++ c ∷ [])) (begun (eqb-true c 60 f) ∙ sym (some_way raw).1) again))
-        (λ f. raw_more raw m 0 held c h (none_yet raw) (subst (Matching (ending_of raw) (h.r ++ c ∷ [])) (rw (turned 60 c f) refl) again))
+        (λ f. raw_more raw m 0 held c h (some_ending raw) (subst (Matching (ending_of raw) (h.r ++ c ∷ [])) (rw (turned 60 c f) refl) again))
       where
         begun : c ≡ 60 → cond (60 == c) (c ∷ []) [] ≡ 60 ∷ []
         begun f = rw f refl
-
-        none_yet : (r : RawKind) → 0 < length (ending_of r)
-        none_yet V = omega arith
-        none_yet Sp = omega arith
-        none_yet Alt = omega arith
 
 -- ---- any state
 

@@ -28,13 +28,6 @@ length_onto : (ks before : List Token) → length (text_of (onto ks before)) ≡
 length_onto [] before = omega arith
 length_onto (k ∷ ks) before = omega (arith, length_onto ks (k ∷ before), length-append (text_of before) (spelling k))
 
-pub drop_more : (s t : List ℕ) (n : ℕ) → drop (length s + n) (s ++ t) ≡ drop n t
-drop_more s t n = drop_sum s t n
-  where
-    drop_sum : (s t : List ℕ) (n : ℕ) → drop (length s + n) (s ++ t) ≡ drop n t
-    drop_sum [] t n = ap (λ (m : ℕ). drop m t) (let e : 0 + n ≡ n = omega arith in e)
-    drop_sum (c ∷ s) t n = ap (λ (m : ℕ). drop m (c ∷ s ++ t)) (let e : suc (length s) + n ≡ suc (length s + n) = omega arith in e) ∙ drop_sum s t n
-
 pub after_is : (t : List ℕ) → after_tokens t ≡ drop (size (tokens t)) t
 after_is t = ap (λ (n : ℕ). drop n t) (length_onto (tokens t) [] ∙ (let e : 0 + size (tokens t) ≡ size (tokens t) = omega arith in e))
 

@@ -1,4 +1,5 @@
 -- What is emitted of a text by a point is found no later than there.
+use Rattle.gabc_text.proofs.tokens.TokensSpellPrefix.{left_of}
 use Rattle.std.proofs.Common.{◌≡◌, ℕ, suc, ◌+◌, List, [], ◌∷◌, ◌++◌, Bool, true, false, cond, refl, sym, ap, ◌∙◌, subst, append_assoc, append-nil, length, length-append, drop, take, map, arith}
 use Rattle.gabc_places.specs.StageLaw.{concat_of}
 use Rattle.gabc_places.specs.Place.{next_place, place_past}
@@ -219,15 +220,7 @@ module _ (at : Place) where
 
 -- the text as it is parted, and what it gives
 pub events_parted : (at : Place) (t : List ℕ) (p : Parted t (tokens t)) → events_by_point at t ≡ along (lists_at at) [] (tokens t) ++ lists_end at (onto (tokens t) []) p.rest
-events_parted at t p = ap (λ (x : List ℕ). along (lists_at at) [] (tokens t) ++ lists_end at (onto (tokens t) []) x) (left_is t p)
-  where
-    spelled : (ks : List Token) → size ks ≡ length (text_of_tokens ks)
-    spelled [] = refl
-    spelled (k ∷ ks) = ap (λ (n : ℕ). length (spelling k) + n) (spelled ks) ∙ sym (length-append (spelling k) (text_of_tokens ks))
-
-    left_is : (t : List ℕ) (p : Parted t (tokens t)) → after_tokens t ≡ p.rest
-    left_is t p =
-        after_is t ∙ ap (λ (n : ℕ). drop n t) (spelled (tokens t)) ∙ ap (drop (length (text_of_tokens (tokens t)))) p.parts ∙ drop_past (text_of_tokens (tokens t)) p.rest
+events_parted at t p = ap (λ (x : List ℕ). along (lists_at at) [] (tokens t) ++ lists_end at (onto (tokens t) []) x) (left_of t p)
 
 pub found_within : (at : Place) (prefix rest : List ℕ) → LieBetween at (place_past at prefix) (found_in (concat_of (take (length prefix + 1) (events_by_point at (prefix ++ rest)))))
 found_within at prefix rest =

@@ -1,4 +1,5 @@
 -- A text that begins with a blank, as an LF, begins a word, and says nothing else by it.
+use Rattle.gabc_text.specs.Printed.{word_break}
 use Rattle.std.proofs.Math.Bool.{or-true}
 use Rattle.std.proofs.Common.{◌≡◌, ℕ, ◌+◌, List, [], ◌∷◌, ◌++◌, Bool, true, false, not, ◌||◌, ◌&&◌, is_some, length, Option, Some, None, refl, ap, ap₂, ◌∙◌, arith}
 use Rattle.gabc_text.specs.declared.styles.Style.{Style}
@@ -96,6 +97,11 @@ gap_alike b before h = record {
 
 pub none_alike : Alike [] []
 none_alike = record { styles = λ s. refl; word = refl; blank = λ e. refl; begun = refl; ended = refl; translated = refl; count = refl; begin = refl; end = refl; translation = refl }
+
+-- the LF before a word, if there is one
+pub break_alike : (b : Bool) → Alike (onto (word_break b) []) []
+break_alike true = gap_alike 10 [] none_alike
+break_alike false = none_alike
 
 -- a token before all that is no piece, and counts for nothing but perhaps for the beginning of a word
 pub one_before : (k : Token) (ks : List Token) (w : Bool) → pieces_at [] k ≡ [] → Alike (k ∷ []) [] → starts_word (onto ks (k ∷ [])) ≡ w → view_facts_by (k ∷ ks) ≡ record (view_facts_by ks) { word_start = w }

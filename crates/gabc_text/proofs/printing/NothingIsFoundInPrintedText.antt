@@ -1,8 +1,11 @@
 -- Nothing is found in a printed text whose tags are all known.
-use Rattle.std.proofs.Math.Bool.{not-and_self}
+use Rattle.gabc_text.proofs.printing.LineFeedBeginsWord.{Alike, break_alike}
+use borrow.Author.Clash.{clash}
+use Rattle.gabc_text.proofs.machine.TokenStateByCharacter.{turned}
+use Rattle.std.proofs.Math.Bool.{not-and_self, and-false}
 use Rattle.std.proofs.lemmas.List.Folds.{list_any-append}
-use Rattle.std.proofs.Common.{◌≡◌, ℕ, ◌+◌, ◌≤◌, ◌<◌, ◌==◌, List, [], ◌∷◌, ◌++◌, Bool, true, false, ◌||◌, ◌&&◌, not, cond, refl, sym, ap, ap₂, ◌∙◌, map, reverse, append-nil, append_assoc, Option, Some, None, length, length-append, arith}
-use Rattle.std.proofs.lemmas.Bool.{true≢false, or_parts, or_right}
+use Rattle.std.proofs.Common.{eq-eqb, ◌≡◌, ℕ, ◌+◌, ◌≤◌, ◌<◌, ◌==◌, List, [], ◌∷◌, ◌++◌, Bool, true, false, ◌||◌, ◌&&◌, not, cond, refl, sym, ap, ap₂, ◌∙◌, map, reverse, append-nil, append_assoc, Option, Some, None, length, length-append, arith}
+use Rattle.std.proofs.lemmas.Bool.{true≢false, or_parts, or_right, false_from_ne_true, true_from_ne_false}
 use Rattle.std.proofs.lemmas.List.{reverse-append}
 use Rattle.gabc_places.specs.declared.place.Place.{Place}
 use Rattle.gabc_places.specs.declared.place.Span.{Span}
@@ -18,7 +21,7 @@ use Rattle.gabc_text.specs.declared.token.TokenKind.TheVariants as kind
 use Rattle.gabc_text.specs.declared.token.TagEffect.{TagEffect}
 use Rattle.gabc_text.specs.declared.token.TagEffect.TheVariants.{Mark, Other}
 use Rattle.gabc_text.specs.Token.{Token, spelling, effect_of}
-use Rattle.gabc_text.specs.View.{along, effect, effect_as, tag_piece, piece_kind, PieceFacts, is_same, is_open, is_open_after, is_begin, is_end, has_begin, has_end, is_translation, has_translation, is_left_out, kept_at, kept_as, is_space, follows_space, is_cut, early_codes, late_codes, found_at, findings_at, codes_at_end, findings_at_end, place_of, is_word_kind, is_blank_piece, has_word, count_pieces}
+use Rattle.gabc_text.specs.View.{along, effect, effect_as, tag_piece, piece_kind, PieceFacts, is_same, rank, is_open, is_open_after, is_begin, is_end, has_begin, has_end, is_translation, has_translation, is_left_out, kept_at, kept_as, is_space, follows_space, is_cut, early_codes, late_codes, found_at, findings_at, codes_at_end, findings_at_end, place_of, is_word_kind, is_blank_piece, has_word, count_pieces}
 use Rattle.gabc_text.specs.ViewFacts.{ViewFacts, LiesAmong}
 use Rattle.gabc_text.specs.Canonical.{after_common}
 use Rattle.gabc_text.specs.Printed.{opening_tag, closing_tag, begin_brace, end_brace, brace_tokens, tokens_between, printed_piece, print_from, text_of_tokens, text_tokens, translation_tokens, word_break, print_tokens}
@@ -35,41 +38,21 @@ use Rattle.gabc_places.proofs.NothingAfterAnEnd.{both_empty}
 
 -- ---- styles, none of which stands twice
 
-not_both : {X : Type 0} (b : Bool) → b ≡ true → b ≡ false → X
-not_both b e f = absurd (true≢false (sym e ∙ f))
-
 pub itself : (s : Style) → is_same s s ≡ true
-itself B = refl
-itself C = refl
-itself E = refl
-itself I = refl
-itself Sc = refl
-itself Tt = refl
-itself Ul = refl
+itself s = eq-eqb (rank s) (rank s) refl
 
 in_head : (y : Style) (ys : List Style) → member y (y ∷ ys) ≡ true
 in_head y ys = rw (itself y) refl
 
-same_turned : (r s : Style) → is_same r s ≡ false → is_same s r ≡ false
-same_turned r s e = by (is_same s r) refl
-  where
-    by : (b : Bool) → is_same s r ≡ b → b ≡ false
-    by false f = refl
-    by true f = not_both (is_same r s) (ap (λ (x : Style). is_same r x) (same_style s r f) ∙ itself r) e
-
 -- a style is not among others that one of them is not
 other_than : (y s : Style) (ys : List Style) → member y ys ≡ false → member s ys ≡ true → is_same y s ≡ false
-other_than y s ys h g = by (is_same y s) refl
-  where
-    by : (b : Bool) → is_same y s ≡ b → b ≡ false
-    by false e = refl
-    by true e = not_both (member s ys) g (ap (λ (x : Style). member x ys) (sym (same_style y s e)) ∙ h)
+other_than y s ys h g = false_from_ne_true (is_same y s) (λ e. clash (member s ys) g (ap (λ (x : Style). member x ys) (sym (same_style y s e)) ∙ h))
 
 once_more : (xs : List Style) (y : Style) → AllOnce xs → member y xs ≡ false → AllOnce (xs ++ y ∷ [])
 once_more [] y h g = (refl, tt)
 once_more (x ∷ xs) y h g =
     let n = or_parts (is_same x y) (member y xs) g in
-    (list_any-append (λ (r : Style). is_same r x) xs (y ∷ []) ∙ rw (h.0, same_turned x y n.0) refl, once_more xs y h.1 n.1)
+    (list_any-append (λ (r : Style). is_same r x) xs (y ∷ []) ∙ rw (h.0, turned (rank y) (rank x) n.0) refl, once_more xs y h.1 n.1)
 
 once_turned : (xs : List Style) → AllOnce xs → AllOnce (reverse xs)
 once_turned [] h = tt
@@ -96,11 +79,7 @@ once_new (x ∷ old) (y ∷ new) h = by (is_same x y) (once_new old new h.1)
     by false g = h
 
 of_old : (s : Style) (old new : List Style) → member s (after_common old new).0 ≡ true → member s old ≡ true
-of_old s old new h = by (member s old) refl
-  where
-    by : (b : Bool) → member s old ≡ b → b ≡ true
-    by true e = refl
-    by false e = not_both (member s (after_common old new).0) h (within s old new e)
+of_old s old new h = true_from_ne_false (member s old) (λ e. clash (member s (after_common old new).0) h (within s old new e))
 
 of_new : (s : Style) (old new : List Style) → member s (after_common old new).1 ≡ true → member s new ≡ true
 of_new s [] new h = h
@@ -197,32 +176,25 @@ gap_aside centre i old new before o n h =
     }
 
 -- a piece that is no unknown tag
-record Passed (k : Token) : Type 0 where
-  none : (before : List Token) → codes_aside before k ≡ []
-  opens : (s : Style) (before : List Token) → is_open s (k ∷ before) ≡ is_open s before
-  no_translation : is_translation k.kind ≡ false
-
-record ByKind (d : TokenKind) (so : TagEffect) : Type 0 where
+record Passed (d : TokenKind) (so : TagEffect) : Type 0 where
   none : (before : List Token) → codes_by before d so ≡ []
   opens : (s : Style) (was : Bool) → is_open_after s so was ≡ was
   no_translation : is_translation d ≡ false
 
-piece_passed : (p : PieceFacts) (w b : Bool) → Good p w b → is_unknown p.kind ≡ false → Passed (printed_piece p.kind p.text)
-piece_passed p w b g u = printed_by Passed p w b (λ _ _. record { none = λ before. refl; opens = λ s before. refl; no_translation = refl }) (λ k e. from k p.kind u e) g
+piece_passed : (p : PieceFacts) (w b : Bool) → Good p w b → is_unknown p.kind ≡ false → Passed (printed_piece p.kind p.text).kind (effect (printed_piece p.kind p.text))
+piece_passed p w b g u =
+    printed_by (λ (k : Token). Passed k.kind (effect k)) p w b (λ _ _. record { none = λ before. refl; opens = λ s was. refl; no_translation = refl }) (λ k e. kinds k.kind (spelling k) p.kind u e) g
   where
-    tags : (so : TagEffect) (q : PieceKind) → is_unknown q ≡ false → tag_piece so ≡ Some q → ByKind kind.Tag so
+    tags : (so : TagEffect) (q : PieceKind) → is_unknown q ≡ false → tag_piece so ≡ Some q → Passed kind.Tag so
     tags Mark q n e = record { none = λ before. refl; opens = λ s was. refl; no_translation = refl }
-    tags Other q n e = not_both (is_unknown q) (ap is_unknown (let f : q ≡ piece.Tag = cc in f)) n
+    tags Other q n e = clash (is_unknown q) (ap is_unknown (let f : q ≡ piece.Tag = cc in f)) n
     tags _ q n e = absurd (cc)
 
-    kinds : (d : TokenKind) (t : List ℕ) (q : PieceKind) → is_unknown q ≡ false → piece_kind d (effect_as d t) ≡ Some q → ByKind d (effect_as d t)
+    kinds : (d : TokenKind) (t : List ℕ) (q : PieceKind) → is_unknown q ≡ false → piece_kind d (effect_as d t) ≡ Some q → Passed d (effect_as d t)
     kinds kind.Letter t q n e = record { none = λ before. refl; opens = λ s was. refl; no_translation = refl }
     kinds kind.Raw t q n e = record { none = λ before. refl; opens = λ s was. refl; no_translation = refl }
     kinds kind.Tag t q n e = tags (effect_of t) q n e
     kinds _ t q n e = absurd (cc)
-
-    from : (k : Token) (q : PieceKind) → is_unknown q ≡ false → piece_kind k.kind (effect k) ≡ Some q → Passed k
-    from k q n e = let r = kinds k.kind (spelling k) q n e in record { none = r.none; opens = λ s before. r.opens s (is_open s before); no_translation = r.no_translation }
 
 pieces_aside : (centre : Option Span) (i : ℕ) (old : List Style) (ps : List PieceFacts) (w b : Bool) (before : List Token) → AllOnce old → ((s : Style) → is_open s before ≡ member s old)
     → AllGood w b ps → AllKnown ps → Aside before (print_from centre i old ps) []
@@ -235,7 +207,7 @@ pieces_aside centre i old (p ∷ ps) w b before o h g k =
     let first = gap_aside centre i old p.styles before o none h in
     let passed = piece_passed p w b g.0 k.0 in
     let rest = pieces_aside centre (i + 1) p.styles ps (is_word_kind (Some p.kind) || w) (is_blank_piece p.kind) (it ∷ onto gap before) none
-    (λ s. passed.opens s (onto gap before) ∙ first.opens s) g.1 k.1 in
+    (λ s. passed.opens s (is_open s (onto gap before)) ∙ first.opens s) g.1 k.1 in
     let all : onto (gap ++ it ∷ more) before ≡ onto more (it ∷ onto gap before) = push_append gap (it ∷ more) before in
     record {
       none = both_aside before gap (it ∷ more) first.none (ap₂ (λ (x y : List Code). x ++ y) (passed.none (onto gap before)) rest.none);
@@ -327,37 +299,28 @@ not_begun (k ∷ ks) before h e = by (is_begin k.kind) refl (rw h at e) (not_beg
 -- after its word start
 record Start (b : Bool) : Type 0 where
   none : NoneAside [] (word_break b)
-  opens : (s : Style) → is_open s (onto (word_break b) []) ≡ false
-  translated : has_translation (onto (word_break b) []) ≡ false
-  word : has_word (onto (word_break b) []) ≡ false
-  count : count_pieces (onto (word_break b) []) ≡ 0
-  begun : has_begin (onto (word_break b) []) ≡ false
-  ended : has_end (onto (word_break b) []) ≡ false
   kept_long : (ks : List Token) → length (word_kept b ++ text_of_tokens ks) ≡ length (text_of_tokens (word_break b ++ ks))
 
 start_of : (b : Bool) → Start b
-start_of true = record { none = refl; opens = λ s. refl; translated = refl; word = refl; count = refl; begun = refl; ended = refl; kept_long = λ ks. refl }
-start_of false = record { none = refl; opens = λ s. refl; translated = refl; word = refl; count = refl; begun = refl; ended = refl; kept_long = λ ks. refl }
+start_of true = record { none = refl; kept_long = λ ks. refl }
+start_of false = record { none = refl; kept_long = λ ks. refl }
 
 -- the centre is not left open
-shut_centre : (v : ViewFacts) → Sound v → (before : List Token) → Start v.word_start → before ≡ onto (word_break v.word_start) []
+shut_centre : (v : ViewFacts) → Sound v → (before : List Token) → Alike before []
     → (has_begin (onto (text_tokens v) before) && not (has_end (onto (text_tokens v) before))) ≡ false
-shut_centre v s before a e = by v.centre s.centre_in
+shut_centre v s before a = by v.centre s.centre_in
   where
-    never : (x y : Bool) → y ≡ true → (x && not y) ≡ false
-    never true y f = rw f refl
-    never false y f = refl
-
     by : (c : Option Span) → LiesAmong (length v.pieces) c → (has_begin (onto (print_from c 0 [] v.pieces) before) && not (has_end (onto (print_from c 0 [] v.pieces) before))) ≡ false
     by None h =
-        let f = not_begun (print_from None 0 [] v.pieces) before (ap has_begin e ∙ a.begun)
-        (no_centre 0 [] v.pieces false false before (ap has_word e ∙ a.word) (λ z. absurd (cc)) s.good) in
+        let f = not_begun (print_from None 0 [] v.pieces) before a.begun
+        (no_centre 0 [] v.pieces false false before a.word (λ z. absurd (cc)) s.good) in
         rw f refl
     by (Some c) h =
-        let both = centre_from c 0 [] v.pieces false false before false false (ap has_word e ∙ a.word) (λ z. absurd (cc)) s.good (ap count_pieces e ∙ a.count)
-        (at_start c (length v.pieces) h) (ap has_begin e ∙ a.begun) (ap has_end e ∙ a.ended) in
-        never (has_begin (onto (print_from (Some c) 0 [] v.pieces) before)) (has_end (onto (print_from (Some c) 0 [] v.pieces) before))
-        (ended_by (print_from (Some c) 0 [] v.pieces) before c.to [] both.1)
+        let both = centre_from c 0 [] v.pieces false false before false false a.word (λ z. absurd (cc)) s.good a.count
+        (at_start c (length v.pieces) h) a.begun a.ended in
+        let ended : has_end (onto (print_from (Some c) 0 [] v.pieces) before) ≡ true =
+        ended_by (print_from (Some c) 0 [] v.pieces) before c.to [] both.1 in
+        rw ended (and-false _)
 
 -- a translation after the text
 record After (before : List Token) (tr : Option (List ℕ)) : Type 0 where
@@ -381,16 +344,17 @@ none_last at before e = by (is_cut before)
 pub nothing_in : (v : ViewFacts) → Sound v → AllKnown v.pieces → (at : Place) → along (findings_at at) [] (print_tokens v) ++ findings_at_end at (reverse (print_tokens v)) ≡ []
 nothing_in v s known at =
     let a = start_of v.word_start in
+    let same = break_alike v.word_start in
     let wb = word_break v.word_start in
     let ms = text_tokens v in
     let ls = translation_tokens v.translation in
-    let text = pieces_aside v.centre 0 [] v.pieces false false (onto wb []) tt a.opens s.good known in
+    let text = pieces_aside v.centre 0 [] v.pieces false false (onto wb []) tt same.styles s.good known in
     let turn : onto (wb ++ ms) [] ≡ onto ms (onto wb []) = push_append wb ms [] in
-    let last = translated_once (onto (wb ++ ms) []) v.translation (ap has_translation turn ∙ text.translated ∙ a.translated) in
+    let last = translated_once (onto (wb ++ ms) []) v.translation (ap has_translation turn ∙ text.translated ∙ same.translated) in
     let none : NoneAside [] (wb ++ ms ++ ls) = both_aside [] (wb ++ ms) ls (both_aside [] wb ms a.none text.none) last.none in
     let long : length (along kept_at [] (wb ++ ms ++ ls)) ≡ length (text_of_tokens (wb ++ ms ++ ls)) =
     ap length (view_kept v s) ∙ a.kept_long (ms ++ ls) ∙ ap (λ (ks : List Token). length (text_of_tokens ks)) (sym (append_assoc wb ms ls)) in
     let all : reverse (wb ++ ms ++ ls) ≡ onto ls (onto (wb ++ ms) []) = sym (append-nil (reverse (wb ++ ms ++ ls))) ∙ reverse_push (wb ++ ms ++ ls) [] ∙ push_append (wb ++ ms) ls [] in
     let codes : codes_at_end (reverse (wb ++ ms ++ ls)) ≡ [] =
-    ap codes_at_end all ∙ last.codes ∙ ap codes_at_end turn ∙ no_codes (onto ms (onto wb [])) text.opens (shut_centre v s (onto wb []) a refl) in
+    ap codes_at_end all ∙ last.codes ∙ ap codes_at_end turn ∙ no_codes (onto ms (onto wb [])) text.opens (shut_centre v s (onto wb []) same) in
     ap₂ (λ (x y : List Finding). x ++ y) (none_along at [] (wb ++ ms ++ ls) long none) (none_last at (reverse (wb ++ ms ++ ls)) codes)

@@ -1,4 +1,5 @@
 -- All of a printed text is kept.
+use Rattle.gabc_text.proofs.printing.LineFeedBeginsWord.{break_alike}
 use Rattle.std.proofs.Common.{◌≡◌, ℕ, ◌+◌, ◌==◌, List, [], ◌∷◌, ◌++◌, Bool, true, false, ◌||◌, cond, refl, sym, ap, ◌∙◌, map, reverse, append_assoc, Option, Some, None, length, arith}
 use Rattle.std.proofs.lemmas.Bool.{eqb-true, eqb-false}
 use Rattle.gabc_places.specs.declared.place.Span.{Span}
@@ -122,15 +123,11 @@ view_kept v s =
     end None before = refl
     end (Some t) before = refl
 
-    starts : (b : Bool) → (has_word (onto (word_break b) []) ≡ false) × (count_pieces (onto (word_break b) []) ≡ 0) × (has_begin (onto (word_break b) []) ≡ false) × (has_end (onto (word_break b) []) ≡ false)
-    starts true = (refl, refl, refl, refl)
-    starts false = (refl, refl, refl, refl)
-
     text : (b : Bool) (c : Option Span) → LiesAmong (length v.pieces) c → Kept (onto (word_break b) []) (print_from c 0 [] v.pieces)
-    text b None h = kept_none 0 [] v.pieces false false (onto (word_break b) []) (starts b).0 (λ e. absurd (cc)) s.good
+    text b None h = kept_none 0 [] v.pieces false false (onto (word_break b) []) (break_alike b).word (λ e. absurd (cc)) s.good
     text b (Some c) h =
-        kept_from c 0 [] v.pieces false false (onto (word_break b) []) false false (starts b).0 (λ e. absurd (cc)) s.good (starts b).1
-        (at_start c (length v.pieces) h) (starts b).2 (starts b).3
+        kept_from c 0 [] v.pieces false false (onto (word_break b) []) false false (break_alike b).word (λ e. absurd (cc)) s.good (break_alike b).count
+        (at_start c (length v.pieces) h) (break_alike b).begun (break_alike b).ended
 
 pub printed_kept : (t rest : List ℕ) → kept (print (view_facts t) ++ 40 ∷ rest) ≡ word_kept (view_facts t).word_start ++ text_of_tokens (text_tokens (view_facts t) ++ translation_tokens (view_facts t).translation)
 printed_kept t rest =

@@ -1,4 +1,5 @@
 -- A printed text is read as it was.
+use Rattle.gabc_text.proofs.printing.LineFeedBeginsWord.{Alike, break_alike}
 use Rattle.std.proofs.Math.Bool.{and-false}
 use Rattle.std.proofs.lemmas.List.{reverse-append}
 use Rattle.std.proofs.Common.{◌≡◌, ℕ, zero, suc, ◌+◌, ◌-◌, ◌≤◌, ◌==◌, List, [], ◌∷◌, ◌++◌, Bool, true, false, ◌||◌, ◌&&◌, not, cond, refl, sym, ap, ◌∙◌, subst, reverse, append_assoc, append-nil, Option, Some, None, length, length-append, take, drop, arith, codes, option_map, min}
@@ -254,42 +255,30 @@ view_sound t = record {
 
 -- the tokens of the word start give nothing but it
 record Opening (ks : List Token) (starts : Bool) : Type 0 where
+  alike : Alike (onto ks []) []
   stable : AllStable ks
   pieces : along pieces_at [] ks ≡ []
   begins : along begin_at [] ks ≡ []
   ends : along end_at [] ks ≡ []
-  open_none : (s : Style) → is_open s (onto ks []) ≡ false
-  word : has_word (onto ks []) ≡ false
-  count : count_pieces (onto ks []) ≡ 0
-  begun : has_begin (onto ks []) ≡ false
-  ended : has_end (onto ks []) ≡ false
   starts_are : starts_word (onto ks []) ≡ starts
   translation : (ls : List Token) → translation_from (ks ++ ls) ≡ translation_from ls
 
 opening_of : (b : Bool) → Opening (word_break b) b
 opening_of true = record {
+  alike = break_alike true;
   stable = ((λ u. refl), tt);
   pieces = refl;
   begins = refl;
   ends = refl;
-  open_none = λ s. refl;
-  word = refl;
-  count = refl;
-  begun = refl;
-  ended = refl;
   starts_are = refl;
   translation = λ ls. refl;
 }
 opening_of false = record {
+  alike = break_alike false;
   stable = tt;
   pieces = refl;
   begins = refl;
   ends = refl;
-  open_none = λ s. refl;
-  word = refl;
-  count = refl;
-  begun = refl;
-  ended = refl;
   starts_are = refl;
   translation = λ ls. refl;
 }
@@ -341,12 +330,12 @@ printed_view v s =
     let ls = translation_tokens v.translation in
     let pieces : along pieces_at [] (wb ++ ms ++ ls) ≡ v.pieces =
     middle pieces_at wb ms ls o.pieces (z.pieces (onto (wb ++ ms) []))
-    ∙ pieces_again v.centre 0 [] v.pieces false false (onto wb []) tt o.open_none o.word (λ e. absurd (cc)) s.good in
+    ∙ pieces_again v.centre 0 [] v.pieces false false (onto wb []) tt o.alike.styles o.alike.word (λ e. absurd (cc)) s.good in
     let kept : pieces_of (wb ++ ms ++ ls) ≡ v.pieces = ap but_blank pieces ∙ s.no_last in
     let starts : starts_word (reverse (wb ++ ms ++ ls)) ≡ v.word_start =
     ap starts_word (sym (append-nil (reverse (wb ++ ms ++ ls))) ∙ reverse_push (wb ++ ms ++ ls) [] ∙ push_append (wb ++ ms) ls [])
     ∙ z.starts (onto (wb ++ ms) []) ∙ ap starts_word (push_append wb ms [])
-    ∙ starts_from v.centre 0 [] v.pieces false false (onto wb []) o.word (λ e. absurd (cc)) s.good ∙ o.starts_are in
+    ∙ starts_from v.centre 0 [] v.pieces false false (onto wb []) o.alike.word (λ e. absurd (cc)) s.good ∙ o.starts_are in
     let tr : translation_from (wb ++ ms ++ ls) ≡ v.translation =
     ap translation_from (append_assoc wb ms ls) ∙ o.translation (ms ++ ls)
     ∙ translation_after v.centre 0 [] v.pieces false false ls s.good ∙ z.translation in
@@ -362,11 +351,11 @@ printed_view v s =
         (along end_at [] (word_break v.word_start ++ print_from c 0 [] v.pieces ++ translation_tokens v.translation)) ≡ c
     by None o z h =
         let e = middle begin_at (word_break v.word_start) (print_from None 0 [] v.pieces) (translation_tokens v.translation) o.begins (z.begins (onto (word_break v.word_start ++ print_from None 0 [] v.pieces) []))
-        ∙ no_centre 0 [] v.pieces false false (onto (word_break v.word_start) []) o.word (λ e. absurd (cc)) s.good in
+        ∙ no_centre 0 [] v.pieces false false (onto (word_break v.word_start) []) o.alike.word (λ e. absurd (cc)) s.good in
         rw e refl
     by (Some c) o z h =
-        let both = centre_from c 0 [] v.pieces false false (onto (word_break v.word_start) []) false false o.word (λ e. absurd (cc)) s.good o.count
-        (at_start c (length v.pieces) h) o.begun o.ended in
+        let both = centre_from c 0 [] v.pieces false false (onto (word_break v.word_start) []) false false o.alike.word (λ e. absurd (cc)) s.good o.alike.count
+        (at_start c (length v.pieces) h) o.alike.begun o.alike.ended in
         centre_read (length v.pieces) c _ _
         (middle begin_at (word_break v.word_start) (print_from (Some c) 0 [] v.pieces) (translation_tokens v.translation) o.begins (z.begins (onto (word_break v.word_start ++ print_from (Some c) 0 [] v.pieces) [])) ∙ both.0)
         (middle end_at (word_break v.word_start) (print_from (Some c) 0 [] v.pieces) (translation_tokens v.translation) o.ends (z.ends (onto (word_break v.word_start ++ print_from (Some c) 0 [] v.pieces) [])) ∙ both.1)

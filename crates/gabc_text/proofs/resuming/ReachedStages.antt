@@ -1,5 +1,5 @@
 -- What holds of every stage that has read a text.
-use Rattle.std.proofs.lemmas.Bool.{and_parts, false≢true}
+use Rattle.std.proofs.lemmas.Bool.{and_parts, false≢true, false_from_ne_true}
 use Rattle.std.proofs.Common.{◌≡◌, ◌==◌, ◌&&◌, ◌||◌, not, nat_lt, ◌+◌, ℕ, List, [], ◌∷◌, ◌++◌, Bool, true, false, cond, Option, Some, None, refl, sym, ◌∙◌, if◌then◌else◌}
 use Rattle.gabc_places.specs.declared.place.Place.{Place}
 use Rattle.gabc_text.specs.declared.text_facts.TextFacts.{TextFacts}
@@ -143,8 +143,4 @@ done_stays s [] e = e
 done_stays s (c ∷ t) e = done_stays (push_stage s c) t (rw e refl)
 
 pub goes_on : (s : TextStage) (t : List ℕ) → (stage_past s t).ended ≡ false → s.ended ≡ false
-goes_on s t e = by s.ended refl
-  where
-    by : (b : Bool) → s.ended ≡ b → b ≡ false
-    by true f = absurd (false≢true (sym e ∙ done_stays s t f))
-    by false f = refl
+goes_on s t e = false_from_ne_true s.ended (λ f. false≢true (sym e ∙ done_stays s t f))

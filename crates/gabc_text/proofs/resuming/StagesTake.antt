@@ -1,6 +1,6 @@
 -- A stage takes each character, and its opener may stand anywhere.
 use Rattle.std.proofs.Common.{◌≡◌, ◌==◌, ◌&&◌, ◌≤◌, not, ℕ, List, [], ◌∷◌, length, Bool, true, false, Option, Some, None, is_some, option_to_list, refl, sym, ap, ◌∙◌, subst, arith, if◌then◌else◌}
-use Rattle.std.proofs.lemmas.Bool.{eqb-true, false≢true}
+use Rattle.std.proofs.lemmas.Bool.{eqb-true, false≢true, not-true}
 use Rattle.gabc_places.specs.declared.place.Place.{Place}
 use Rattle.gabc_text.specs.declared.progress.Progress.{Progress}
 use Rattle.gabc_text.specs.declared.text_facts.TextFacts.{TextFacts}
@@ -93,11 +93,7 @@ module _ (s : TextStage) (k : List ℕ) (keeps : Keeps s k) where
     none_kept opened = by (push_stage s c).ended refl
       where
         inside : (b : Bool) → is_in_comment s ≡ b → comment_with k b c ≡ true → (push_stage s c).ended ≡ false → kept_in (events_of_push s c) ≡ []
-        inside true e f g = kept_is s c keeps.goes_on g ∙ ap option_to_list (comment_kept s c (comment_is s.state (sym (comment_told s keeps.goes_on) ∙ e)) (no_feed (c == 10) f))
-          where
-            no_feed : (b : Bool) → not b ≡ true → b ≡ false
-            no_feed true h = absurd (false≢true h)
-            no_feed false h = refl
+        inside true e f g = kept_is s c keeps.goes_on g ∙ ap option_to_list (comment_kept s c (comment_is s.state (sym (comment_told s keeps.goes_on) ∙ e)) (not-true (c == 10) f))
         inside false e f g = kept_now e ∙ begun (c == 37) refl f
           where
             begun : (b : Bool) → (c == 37) ≡ b → (b && begins_comment k) ≡ true → kept_with k c ≡ []

@@ -1,4 +1,5 @@
 -- The spans of a text's view stand for what the view says.
+use Rattle.gabc_text.proofs.events.EventsBuildText.{piece_is}
 use Rattle.std.proofs.Common.{◌≡◌, ℕ, ◌||◌, ◌&&◌, not, is_some, List, [], ◌∷◌, ◌++◌, Bool, true, false, cond, refl, sym, ap, ◌∙◌, append_assoc, Option, Some, None}
 use Rattle.std.proofs.lemmas.Bool.{or_parts}
 use Rattle.gabc_text.specs.declared.token.TokenKind.{TokenKind}
@@ -106,16 +107,6 @@ module _ (K : List ℕ) (before : List Token) (k : Token) (rest : List ℕ) (who
   piece_stands piece.Mark b e = record { kind_is = refl; styles_are = styles_facts before; stands = all_of_it e }
   piece_stands piece.Blank b e = absurd (cc)
 
-  no_blank : (d : TokenKind) (s : TagEffect) (q : PieceKind) → piece_kind d s ≡ Some q → is_blank_piece q ≡ false
-  no_blank kind.Letter s q e = let f : piece.Char ≡ q = cc in ap is_blank_piece (sym f)
-  no_blank kind.Raw s q e = let f : piece.Raw ≡ q = cc in ap is_blank_piece (sym f)
-  no_blank kind.Tag Mark q e = let f : piece.Mark ≡ q = cc in ap is_blank_piece (sym f)
-  no_blank kind.Tag Other q e = let f : piece.Tag ≡ q = cc in ap is_blank_piece (sym f)
-  no_blank kind.Tag (Opens r) q e = absurd (cc)
-  no_blank kind.Tag (Closes r) q e = absurd (cc)
-  no_blank kind.Tag (Begins r) q e = absurd (cc)
-  no_blank _ s q e = absurd (cc)
-
   blank_kept : is_space k.kind ≡ true → follows_blank before ≡ false → kept_at before k ≡ 32 ∷ []
   blank_kept e f = by k.kind e (no_space before f)
     where
@@ -151,7 +142,7 @@ module _ (K : List ℕ) (before : List Token) (k : Token) (rest : List ℕ) (who
       by : (o : Option PieceKind) → kind_of k ≡ o → ArePiecesOf K (all_pieces_by before k o) (piece_of before k o)
       by (Some q) e =
           let h = kept_spelled before k k.kind (effect k) q e in
-          (piece_stands q (no_blank k.kind (effect k) q e) (rw (h.0, h.1) refl), tt)
+          (piece_stands q (piece_is k.kind (effect k) q e) (rw (h.0, h.1) refl), tt)
       by None e = blank (is_space k.kind) (has_word before) (follows_blank before) refl refl
 
 along_facts : (ks before : List Token) (K : List ℕ) → K ≡ kept_of before ++ along kept_at before ks → ArePiecesOf K (along all_pieces_at before ks) (along pieces_at before ks)

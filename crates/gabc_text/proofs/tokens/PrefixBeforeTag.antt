@@ -1,5 +1,5 @@
 -- The prefix of a text: its first character, and what stands before its first `<`.
-use Rattle.std.proofs.Common.{◌≡◌, ℕ, ◌+◌, ◌-◌, ◌<◌, ◌≤◌, ◌==◌, List, [], ◌∷◌, ◌++◌, Bool, true, false, cond, refl, sym, ap, ◌∙◌, subst, length, length-append, take, drop, slice_index, take-append-drop, arith, IsUtf8}
+use Rattle.std.proofs.Common.{◌≡◌, ℕ, ◌+◌, ◌-◌, ◌<◌, ◌≤◌, ◌==◌, List, [], ◌∷◌, ◌++◌, Bool, true, false, cond, refl, sym, ap, ◌∙◌, subst, length, length-append, take, drop, slice_index, take-append-drop, arith, IsUtf8, ne_eqb}
 use Rattle.std.specs.Str.{chars, NonePass, IsCharBoundary}
 use Rattle.std.specs.Char.{len_utf8}
 use Rattle.std.proofs.lemmas.Bool.Decides.{nat_tests}
@@ -85,12 +85,8 @@ prefix_chars bs prefix back v f g =
 -- a text that begins with another character has such a prefix
 pub some_prefix : (bs prefix cs : List ℕ) (c : ℕ) → chars bs ≡ c ∷ cs → ¬ (c ≡ 60) → chars prefix ≡ before_first 60 (chars bs) → 0 < length prefix
 some_prefix bs [] cs c e n f =
-    let g : [] ≡ c ∷ before_first 60 cs = sym chars-nil ∙ f ∙ ap (before_first 60) e ∙ rw (no_test (60 == c) refl) refl in
+    let g : [] ≡ c ∷ before_first 60 cs = sym chars-nil ∙ f ∙ ap (before_first 60) e ∙ rw (ne_eqb 60 c (λ h. n (sym h))) refl in
     absurd (cc)
-  where
-    no_test : (b : Bool) → (60 == c) ≡ b → b ≡ false
-    no_test true h = absurd (n (sym (eqb-true 60 c h)))
-    no_test false h = refl
 some_prefix bs (b ∷ prefix) cs c e n f = omega arith
 
 -- ---- a text that is cut after its first character

@@ -1,4 +1,5 @@
 -- The canonical header lines of a plain text's book are plain.
+use Rattle.gabc_headers.proofs.printing.PrintedBookIsReadAgain.{own_book}
 use Rattle.std.proofs.Common.{◌≡◌, ℕ, ◌+◌, List, [], ◌∷◌, ◌++◌, Bool, true, false, ◌&&◌, ◌||◌, not, cond, ◌==◌, length, refl, ap, ◌∙◌, Option, Some, None, Ok, codes}
 use Rattle.std.proofs.lemmas.Bool.{and_parts, and_from}
 use Rattle.std.specs.List.{list_all}
@@ -219,8 +220,4 @@ header_lines_plain (e ∷ es) h =
 -- the canonical header lines of a text, and `%%`
 pub heads_plain : (limits : Limits) (t : List ℕ) (heads : Heads) → heads_of limits t ≡ Ok heads → plain t ≡ true → plain (canonical_heads heads.book) ≡ true
 heads_plain limits t heads ok h =
-    append is_plain (header_lines heads.book) (codes "%%") (header_lines_plain heads.book (ap plain_book (by (head_stops limits t) ok) ∙ book_plain t h)) refl
-  where
-    by : (stops : List Stop) → heads_by t (earliest stops) ≡ Ok heads → heads.book ≡ book_of (head_parts t)
-    by [] e = cc
-    by (s ∷ stops) e = absurd (cc)
+    append is_plain (header_lines heads.book) (codes "%%") (header_lines_plain heads.book (ap plain_book (own_book limits t heads ok) ∙ book_plain t h)) refl
