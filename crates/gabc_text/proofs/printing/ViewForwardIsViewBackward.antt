@@ -1,6 +1,6 @@
 -- What a text says is the same from its first token on and from its last one back.
 use Rattle.std.proofs.Math.Bool.{or-true}
-use Rattle.std.proofs.Common.{◌≡◌, ℕ, zero, suc, ◌-◌, ◌==◌, ◌||◌, ◌&&◌, not, List, [], ◌∷◌, ◌++◌, Bool, true, false, cond, refl, sym, ap, ◌∙◌, length, take, drop, reverse, Option, Some, None, arith}
+use Rattle.std.proofs.Common.{◌≡◌, ℕ, zero, suc, ◌-◌, ◌==◌, ◌||◌, ◌&&◌, not, List, [], ◌∷◌, ◌++◌, Bool, true, false, cond, refl, sym, ap, ◌∙◌, length, take, drop, reverse, Option, Some, None, arith, subst}
 use Rattle.gabc_places.specs.declared.place.Span.{Span}
 use Rattle.gabc_text.specs.declared.token.TokenKind.{TokenKind}
 use Rattle.gabc_text.specs.declared.token.TokenKind.TheVariants as kind
@@ -11,7 +11,7 @@ use Rattle.gabc_text.specs.View.{along, is_begin, is_end, has_begin, has_end, be
 use Rattle.gabc_text.specs.Events.{but_last}
 use Rattle.gabc_text.specs.ViewFacts.{ViewFacts, view_facts, translation_text, but_end}
 use Rattle.gabc_text.specs.Printed.{print}
-use Rattle.gabc_text.proofs.tokens.CasesOfCharacters.{by_case, single_kind}
+use Rattle.gabc_text.proofs.tokens.CasesOfCharacters.{by_case, single_kind, translation_first}
 use Rattle.gabc_text.proofs.machine.TokensOneAfterAnother.{onto}
 use Rattle.gabc_text.proofs.printing.ViewFromFirstToken.{begin_at, end_at, translation_from, view, view_by, pieces_of}
 use Rattle.gabc_text.proofs.printing.ViewFromFirstToken as forward
@@ -138,38 +138,12 @@ at_bracket t = by (through (93 ∷ []) t)
     by None h = refl
     by (Some y) h = absurd (cc)
 
-at_tag : (t : List ℕ) → TakesAll t 60
-at_tag t h = absurd (by (through (62 ∷ []) t) h)
-  where
-    raws : (name u : List ℕ) (o : Option (List ℕ)) → is_open_one (ended_token kind.Raw kind.OpenTag 60 name u o).kind ≡ true → ⊥
-    raws name u None h = absurd (cc)
-    raws name u (Some y) h = absurd (cc)
-
-    sorted : (name u : List ℕ) (s : TagEffect) → is_open_one (token_of_tag name u s).kind ≡ true → ⊥
-    sorted name u (Begins raw) h = raws name u (through (ending_of raw) u) h
-    sorted name u (Opens r) h = absurd (cc)
-    sorted name u (Closes r) h = absurd (cc)
-    sorted name u Mark h = absurd (cc)
-    sorted name u Other h = absurd (cc)
-
-    by : (o : Option (List ℕ)) → is_open_one (tag_at t o).kind ≡ true → ⊥
-    by None h = absurd (cc)
-    by (Some name) h = sorted name (drop (length name) t) (effect_of (60 ∷ name)) h
-
-at_dollar : (t : List ℕ) → TakesAll t 36
-at_dollar [] h = absurd (cc)
-at_dollar (c ∷ t) h = absurd (cc)
-
-single_no : (c : ℕ) → is_open_one (single c) ≡ false
-single_no c = single_kind (λ k. is_open_one k ≡ false) refl refl refl refl refl c
-
 takes_all : (c : ℕ) (t : List ℕ) → TakesAll t c
-takes_all c t =
-    by_case 36 c (TakesAll t) (at_dollar t) (λ e36.
-    by_case 37 c (TakesAll t) (λ h. absurd (cc)) (λ e37.
-    by_case 60 c (TakesAll t) (at_tag t) (λ e60.
-    by_case 91 c (TakesAll t) (at_bracket t) (λ e91.
-    λ h. absurd (let f : is_open_one (single c) ≡ true = rw (e36, e37, e60, e91) at h in let g = single_no c in cc)))))
+takes_all c t h = subst (TakesAll t) (sym (translation_first c t (by (token_at c t).kind h))) (at_bracket t) h
+  where
+    by : (d : TokenKind) → is_open_one d ≡ true → is_translation d ≡ true
+    by kind.OpenTranslation h = refl
+    by _ h = absurd (cc)
 
 open_last : (n : ℕ) (t : List ℕ) → OpenLast (tokens_after n t)
 open_last n [] = tt

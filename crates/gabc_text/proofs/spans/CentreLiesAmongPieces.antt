@@ -1,5 +1,5 @@
 -- The centre lies among the pieces, and the translation's span stands for what is between its brackets.
-use Rattle.std.proofs.Common.{◌≡◌, ℕ, zero, suc, ◌+◌, ◌-◌, ◌≤◌, ◌==◌, ◌&&◌, not, List, [], ◌∷◌, ◌++◌, Bool, true, false, cond, refl, sym, ap, ◌∙◌, append_assoc, append-nil, length, length-append, reverse, drop, Option, Some, None, option_map, arith, nat_lt, slice_range}
+use Rattle.std.proofs.Common.{◌≡◌, ℕ, zero, suc, ◌+◌, ◌-◌, ◌≤◌, ◌==◌, ◌&&◌, not, List, [], ◌∷◌, ◌++◌, Bool, true, false, cond, refl, sym, ap, ◌∙◌, append_assoc, append-nil, length, length-append, reverse, drop, Option, Some, None, option_map, arith, nat_lt, slice_range, subst}
 use Rattle.std.proofs.lemmas.Bool.{le-ltb, or_parts}
 use Rattle.std.proofs.lemmas.Str.{encodes-append}
 use Rattle.std.proofs.Math.Seq.{drop-append_seam, take-append_seam}
@@ -10,12 +10,12 @@ use Rattle.gabc_text.specs.declared.token.TokenKind.TheVariants as kind
 use Rattle.gabc_text.specs.declared.token.TagEffect.{TagEffect}
 use Rattle.gabc_text.specs.declared.token.TagEffect.TheVariants.{Opens, Closes, Mark, Begins, Other}
 use Rattle.gabc_text.specs.Token.{Token, spelling, tokens, tokens_after, token_at, tag_at, token_of_tag, ended_token, through, single, effect_of, ending_of}
-use Rattle.gabc_text.specs.View.{is_begin, is_end, has_begin, has_end, count_pieces, pieces_at, begin_of, end_of, centre_by, has_translation, is_left_out, is_space, follows_space, kept, kept_at, bytes_of}
+use Rattle.gabc_text.specs.View.{is_begin, is_end, has_begin, has_end, count_pieces, pieces_at, begin_of, end_of, centre_by, has_translation, is_left_out, is_space, follows_space, kept, kept_at, bytes_of, is_translation}
 use Rattle.gabc_text.specs.Events.{kept_of, but_last, is_whole_translation, translation_at}
 use Rattle.gabc_text.specs.TextRead.{pieces_in, translation_of, view_in}
 use Rattle.gabc_text.specs.Canonical.{span_bytes}
 use Rattle.gabc_text.specs.ViewFacts.{StandsFor, LiesAmong, IsTranslation, translation_text, but_end, StandsForView}
-use Rattle.gabc_text.proofs.tokens.CasesOfCharacters.{by_case, single_kind}
+use Rattle.gabc_text.proofs.tokens.CasesOfCharacters.{by_case, single_kind, translation_first}
 use Rattle.gabc_text.proofs.tokens.CountsOfTexts.{bytes_append}
 use Rattle.gabc_text.proofs.machine.LoopOverText.{bytes_encodes}
 use Rattle.gabc_text.proofs.machine.TokensOneAfterAnother.{onto}
@@ -101,41 +101,12 @@ at_bracket t = by (through (93 ∷ []) t) refl
     by None e h = absurd (cc)
     by (Some y) e h = let r = through_ends t y e in (r.0, refl, r.1)
 
-at_tag : (t : List ℕ) → Bracketed (token_at 60 t)
-at_tag t = by (through (62 ∷ []) t)
-  where
-    sorted : (name u : List ℕ) (s : TagEffect) → Bracketed (token_of_tag name u s)
-    sorted name u (Begins raw) h = raws (through (ending_of raw) u) h
-      where
-        raws : (o : Option (List ℕ)) → Bracketed (ended_token kind.Raw kind.OpenTag 60 name u o)
-        raws None h = absurd (cc)
-        raws (Some y) h = absurd (cc)
-    sorted name u (Opens r) h = absurd (cc)
-    sorted name u (Closes r) h = absurd (cc)
-    sorted name u Mark h = absurd (cc)
-    sorted name u Other h = absurd (cc)
-
-    by : (o : Option (List ℕ)) → Bracketed (tag_at t o)
-    by None h = absurd (cc)
-    by (Some name) h = sorted name (drop (length name) t) (effect_of (60 ∷ name)) h
-
-at_dollar : (t : List ℕ) → Bracketed (token_at 36 t)
-at_dollar [] h = absurd (cc)
-at_dollar (c ∷ t) h = absurd (cc)
-
-single_no : (c : ℕ) → is_whole_translation (single c) ≡ false
-single_no c = single_kind (λ k. is_whole_translation k ≡ false) refl refl refl refl refl c
-
-abbrev BracketedAt : List ℕ → ℕ → Type 0
-BracketedAt t c = Bracketed (token_at c t)
-
 bracketed : (c : ℕ) (t : List ℕ) → Bracketed (token_at c t)
-bracketed c t =
-    by_case 36 c (BracketedAt t) (at_dollar t) (λ e36.
-    by_case 37 c (BracketedAt t) (λ h. absurd (cc)) (λ e37.
-    by_case 60 c (BracketedAt t) (at_tag t) (λ e60.
-    by_case 91 c (BracketedAt t) (at_bracket t) (λ e91.
-    λ h. absurd (let f : is_whole_translation (single c) ≡ true = rw (e36, e37, e60, e91) at h in let g = single_no c in cc)))))
+bracketed c t h = subst (λ (x : ℕ). Bracketed (token_at x t)) (sym (translation_first c t (by (token_at c t).kind h))) (at_bracket t) h
+  where
+    by : (d : TokenKind) → is_whole_translation d ≡ true → is_translation d ≡ true
+    by kind.Translation h = refl
+    by _ h = absurd (cc)
 
 abbrev AllBracketed : List Token → Type 0
 AllBracketed [] = Unit {0}

@@ -1,9 +1,12 @@
 -- A character is this one or another, and by itself a token of one of five kinds; tests of tests.
-use Rattle.std.proofs.Common.{◌≡◌, ℕ, ◌==◌, Bool, true, false, cond, refl, sym, subst, codes}
-use Rattle.std.proofs.lemmas.Bool.{eqb-true}
+use Rattle.gabc_text.specs.declared.token.TagEffect.TheVariants.{Opens, Closes, Mark, Begins, Other}
+use Rattle.gabc_text.specs.declared.token.TagEffect.{TagEffect}
+use Rattle.gabc_text.specs.View.{is_translation}
+use Rattle.std.proofs.Common.{◌≡◌, ℕ, ◌==◌, Bool, true, false, cond, refl, sym, subst, codes, List, [], ◌∷◌, ◌∙◌, Option, Some, None, drop, length}
+use Rattle.std.proofs.lemmas.Bool.{eqb-true, true≢false}
 use Rattle.gabc_text.specs.declared.token.TokenKind.{TokenKind}
 use Rattle.gabc_text.specs.declared.token.TokenKind.TheVariants as kind
-use Rattle.gabc_text.specs.Token.{single, is_blank, is_one_of}
+use Rattle.gabc_text.specs.Token.{single, is_blank, is_one_of, token_at, ended_token, token_of_tag, tag_at, through, ending_of, effect_of}
 
 pub by_case : (x c : ℕ) (P : ℕ → Type 0) → P x → (c == x ≡ false → P c) → P c
 by_case x c P here other = by (c == x) refl
@@ -22,3 +25,34 @@ single_kind P a b d e l c = by (is_blank c) (is_one_of (codes ")]>") c) (c == 12
     by false false true z = d
     by false false false true = e
     by false false false false = l
+
+-- a translation begins with `[`
+pub translation_first : (c : ℕ) (t : List ℕ) → is_translation (token_at c t).kind ≡ true → c ≡ 91
+translation_first c t =
+    by_case 36 c AtBracket (λ h. absurd (true≢false (sym h ∙ dollar t))) (λ e36.
+    by_case 37 c AtBracket (λ h. absurd (cc)) (λ e37.
+    by_case 60 c AtBracket (λ h. absurd (true≢false (sym h ∙ tag (through (codes ">") t)))) (λ e60.
+    by_case 91 c AtBracket (λ h. refl) (λ e91.
+    λ h. absurd (true≢false (sym (rw (e36, e37, e60, e91) at h) ∙ single_kind (λ k. is_translation k ≡ false) refl refl refl refl refl c))))))
+  where
+    AtBracket : ℕ → Type 0
+    AtBracket x = is_translation (token_at x t).kind ≡ true → x ≡ 91
+
+    dollar : (t : List ℕ) → is_translation (token_at 36 t).kind ≡ false
+    dollar [] = refl
+    dollar (c ∷ t) = refl
+
+    raws : (name u : List ℕ) (o : Option (List ℕ)) → is_translation (ended_token kind.Raw kind.OpenTag 60 name u o).kind ≡ false
+    raws name u None = refl
+    raws name u (Some y) = refl
+
+    sorted : (name u : List ℕ) (s : TagEffect) → is_translation (token_of_tag name u s).kind ≡ false
+    sorted name u (Begins raw) = raws name u (through (ending_of raw) u)
+    sorted name u (Opens r) = refl
+    sorted name u (Closes r) = refl
+    sorted name u Mark = refl
+    sorted name u Other = refl
+
+    tag : (o : Option (List ℕ)) → is_translation (tag_at t o).kind ≡ false
+    tag None = refl
+    tag (Some name) = sorted name (drop (length name) t) (effect_of (60 ∷ name))

@@ -1,4 +1,5 @@
 -- Syllables of units that say the same, say the same.
+use Rattle.gabc_score.proofs.holding.SyllableHoldsPartByPart.{first_turn}
 use Rattle.std.proofs.Common.{◌≡◌, ℕ, suc, ◌+◌, ◌%◌, List, [], ◌∷◌, ◌++◌, map, filter, length, length-append, Bool, true, false, IsTrue, ◌↔◌, Option, Some, None, codes, refl, sym, ap, ap₂, subst, ◌∙◌, append_assoc, arith}
 use Rattle.std.specs.List.{flat_map}
 use Rattle.std.specs.Option.{option_map}
@@ -74,10 +75,7 @@ read_lined lines before (r ∷ rs) h =
     )
 
 notes_lined : (lines : ℕ) (u : ScoreUnit) (xss : List (List Char)) (whole : List ℕ) (snippets : List Snippet) → NotesAre lines u xss whole snippets → AreLined lines 0 snippets
-notes_lined lines u [] whole snippets h = subst (AreLined lines 0) (sym h.snippets_are) (nothing lines, tt)
-  where
-    nothing : (n : ℕ) → 0 ≡ 0 % (n + 1)
-    nothing n = grind arith
+notes_lined lines u [] whole snippets h = subst (AreLined lines 0) (sym h.snippets_are) (first_turn lines, tt)
 notes_lined lines u (xs ∷ xss) whole snippets h =
     let n = h.holds in
     subst (AreLined lines 0) (sym n.snippets_are) (read_lined lines [] (n.earlier ++ n.last ∷ []) (λ earlier later s e. (n.each earlier later s e).line_is))
