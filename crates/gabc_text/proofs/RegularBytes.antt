@@ -1,4 +1,5 @@
 -- Bytes of letters and of runs, one after another.
+use Rattle.gabc_text.proofs.tokens.CasesOfCharacters.{no_special, special_is_low}
 use Rattle.std.proofs.Common.{◌≡◌, ◌≢◌, ℕ, zero, suc, slice_index, ◌<◌, List, [], ◌∷◌, ◌++◌, Bool, true, false, not, ◌||◌, ◌&&◌, ◌==◌, length, refl, sym, ap, ap₂, subst, ◌∙◌, arith, ◌+◌, ◌-◌, ◌≤◌, take, drop, get_or, append-nil, take_all, length-drop, drop-cons, ◌*◌, ◌/◌, ◌%◌, nat_lt, mod-lt, Some}
 use Rattle.std.specs.List.{All, list_all}
 use Rattle.std.specs.Str.{chars, all_scalars}
@@ -157,21 +158,6 @@ escaped_word c bytes special s = record {
   known = refl;
 }
 
-no_special : (c : ℕ) → 128 ≤ c → is_special c ≡ false
-no_special c h =
-    rw (
-      below_eqb 40 c (omega arith),
-      below_eqb 41 c (omega arith),
-      below_eqb 91 c (omega arith),
-      below_eqb 93 c (omega arith),
-      below_eqb 123 c (omega arith),
-      below_eqb 125 c (omega arith),
-      below_eqb 60 c (omega arith),
-      below_eqb 62 c (omega arith),
-      below_eqb 37 c (omega arith),
-      below_eqb 36 c (omega arith),
-    ) refl
-
 no_blank_past : (c : ℕ) → 32 < c → is_blank c ≡ false
 no_blank_past c h = rw (below_eqb 32 c (omega arith), below_eqb 9 c (omega arith), below_eqb 10 c (omega arith)) refl
 
@@ -256,13 +242,6 @@ letter_is a h =
     let f = and_parts (not (is_special a)) (nat_lt 32 a && nat_lt a 127) h in
     let x = within_bounds 32 127 a f.1 in
     bare_word a (a ∷ []) (not-true (is_special a) f.0) (no_blank_past a x.0) (one_spelled a (omega (arith, x.1)) (λ e. omega (arith, x.0)))
-
-special_is_low : (c : ℕ) → is_special c ≡ true → c < 128
-special_is_low c h = by (nat_lt c 128) refl
-  where
-    by : (x : Bool) → nat_lt c 128 ≡ x → c < 128
-    by true e = ltb-true c 128 e
-    by false e = absurd (true≢false (sym h ∙ no_special c (ltb-false c 128 e)))
 
 escaped_is : (b : ℕ) → is_special b ≡ true → IsWord (36 ∷ b ∷ [])
 escaped_is b h =

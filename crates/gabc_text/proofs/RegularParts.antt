@@ -19,9 +19,9 @@ use Rattle.gabc_text.specs.RegularText.{tags_of}
 use Rattle.gabc_text.specs.Printed.{print_from, text_of_tokens, opening_tag, closing_tag, name_of}
 use Rattle.gabc_text.specs.machine.PrintedPieces.{Good, AllGood}
 use Rattle.gabc_text.specs.machine.RegularBytes.{in_style, is_style, word_after, blank_after, first_styles, last_styles, AreApart, printed_text, IsSpelled, IsRun, IsEnclosed, IsPart, IsBegun, nothing_before, is_low}
-use Rattle.gabc_text.proofs.printing.PiecesPrintWell.{any_blank}
+use Rattle.gabc_text.proofs.printing.PiecesPrintWell.{good_after}
 use Rattle.gabc_text.proofs.RegularBytes.{ascii_spelled, spelled_join, one_spelled, none_spelled, after_is, at_blank, blank, blank_good}
-use Rattle.gabc_text.proofs.printing.PrintedPiecesAreJoined.{in_styles, good_in, known_in, blank_in, word_in, first_in, last_in, plain_printed, styled_printed, text_join, good_join, good_after, known_join, tags_in, tags_join, word_join, word_stays, blank_join, among_more, centre_text, last_join, after_blank, some_blank, apart_none}
+use Rattle.gabc_text.proofs.printing.PrintedPiecesAreJoined.{in_styles, good_in, known_in, blank_in, word_in, first_in, last_in, plain_printed, styled_printed, text_join, good_join, known_join, tags_in, tags_join, word_join, word_stays, blank_join, among_more, centre_text, last_join, after_blank, some_blank, apart_none}
 
 -- ---- styles
 
@@ -145,7 +145,7 @@ module _ (mark : Option SpanMark) (b : Before) (style : Option Style) (bs more :
         middle = x.middle;
         spells = subst (λ (t : List ℕ). IsSpelled t (bs ++ more)) (sym (text_join x.middle x.pieces p.pieces x.middle_in p.some apart))
             (spelled_join (text_of_tokens (print_from x.middle 0 [] x.pieces)) (text_of_tokens (print_from None 0 [] p.pieces)) bs more x.spells p.spells);
-        good = good_join false false x.pieces p.pieces x.good (subst (λ (z : Bool). AllGood (word_after false x.pieces) z p.pieces) (sym x.no_blank) (good_after false (word_after false x.pieces) false p.pieces p.good (λ e. absurd (cc))));
+        good = good_join false false x.pieces p.pieces x.good (subst (λ (z : Bool). AllGood (word_after false x.pieces) z p.pieces) (sym x.no_blank) (good_after false (word_after false x.pieces) false false p.pieces p.good (λ e. absurd (cc))));
         known = known_join x.pieces p.pieces x.known p.known;
         no_blank = blank_join false x.pieces p.pieces ∙ some_blank (blank_after false x.pieces) p.pieces p.some;
         last_are = last_join [] x.pieces p.pieces p.some ∙ p.last_are;
@@ -167,7 +167,7 @@ module _ (mark : Option SpanMark) (b : Before) (style : Option Style) (bs more :
             (spelled_join (32 ∷ []) (text_of_tokens (print_from None 0 [] p.pieces)) (32 ∷ []) more (one_spelled 32 (omega arith) (λ e. omega arith)) p.spells));
         good = good_join false false x.pieces (blank ∷ p.pieces) x.good (
           subst (λ (z : Bool). Good blank z (blank_after false x.pieces)) (sym word) (subst (λ (z : Bool). Good blank true z) (sym x.no_blank) blank_good),
-          good_after false true true p.pieces (any_blank false true p.pieces p.good) (λ e. refl),
+          good_after false true false true p.pieces p.good (λ e. absurd (cc)),
         );
         known = known_join x.pieces (blank ∷ p.pieces) x.known (refl, p.known);
         no_blank = blank_join false x.pieces (blank ∷ p.pieces) ∙ some_blank true p.pieces p.some;
@@ -218,7 +218,7 @@ centre_begun mark b bs more x h m =
           (spelled_join (123 ∷ []) (inner ++ 125 ∷ []) (123 ∷ []) (m.inner ++ 125 ∷ []) (ascii_spelled (123 ∷ []) refl)
           (spelled_join inner (125 ∷ []) m.inner (125 ∷ []) r.spells (ascii_spelled (125 ∷ []) refl)))));
       good = good_join false false x.pieces qs x.good (subst (λ (z : Bool). AllGood (word_after false x.pieces) z qs) (sym x.no_blank)
-          (good_after false (word_after false x.pieces) false qs (good_in [] (λ s. false) false false r.pieces refl r.good) (λ g. absurd (cc))));
+          (good_after false (word_after false x.pieces) false false qs (good_in [] (λ s. false) false false r.pieces refl r.good) (λ g. absurd (cc))));
       known = known_join x.pieces qs x.known (known_in [] r.pieces r.known);
       no_blank = blank_join false x.pieces qs ∙ some_blank (blank_after false x.pieces) qs (blank_in [] true r.pieces ∙ some);
       last_are = last_join [] x.pieces qs (blank_in [] true r.pieces ∙ some) ∙ last_in [] r.pieces some;

@@ -1,5 +1,5 @@
 -- A character more, and the end: from any state on, the machine gives what the definitions say of the tokens ahead.
-use Rattle.std.proofs.Math.Seq.{drop-append-add}
+use Rattle.std.proofs.Math.Seq.{drop-append-add, drop-append_seam}
 use Rattle.std.proofs.Common.{◌≡◌, ℕ, ◌==◌, ◌&&◌, List, [], ◌∷◌, ◌++◌, Bool, true, false, cond, refl, sym, ap, ◌∙◌, subst, append_assoc, append-nil, length, drop, Option, Some, None, inl, inr, ◌⊎◌}
 use Rattle.std.proofs.lemmas.Bool.{eqb-true}
 use Rattle.gabc_places.specs.declared.place.Place.{Place}
@@ -27,7 +27,6 @@ use Rattle.gabc_text.specs.witness.FactsPast.{past, bytes_past}
 use Rattle.gabc_text.specs.witness.EventsLeft.{findings_there, kept_by, lists_kept, early_events_by, last_by, token_events_by, lists_past, lists_last, owed_events_at, facts_at, progress_at}
 use Rattle.gabc_text.specs.ViewFacts.{but_end}
 use Rattle.gabc_text.proofs.machine.EventsStepByStep.{stepwise, stepwise_left}
-use Rattle.gabc_text.proofs.tokens.TokensByCharacter.{drop_past}
 use Rattle.gabc_text.proofs.machine.TokenStateByCharacter.{Holds, Settles, WentBy, goes, settles, ends, EndsAs}
 use Rattle.gabc_text.proofs.machine.KeptOfOpenToken.{kept_held, sort_settled, settled_uncut, ends_uncut}
 use Rattle.gabc_text.proofs.machine.TokensOneAfterAnother.{size, rest_done, with_none, with_more, end_other}
@@ -180,7 +179,7 @@ moved xs ys rest = sym (append_assoc xs (ys ∷ []) rest)
 
 -- the part of a token that was to come
 to_come : (read more : List ℕ) (k : Token) → spelling k ≡ read ++ more → drop (length read) (spelling k) ≡ more
-to_come read more k e = ap (drop (length read)) e ∙ drop_past read more
+to_come read more k e = ap (drop (length read)) e ∙ drop-append_seam read more
 
 more_kept : (state : TokenState) (c : ℕ) (d : TokenKind) (so : TagEffect) (more : List ℕ) → (state ≡ Plain → more ≡ []) → next_step state c ≡ Ends d so → kept_held state more ≡ more
 more_kept Plain c d so more h e = sym (h refl)

@@ -1,4 +1,5 @@
 -- What was read of a token, by the state, and what a character more does.
+use Rattle.std.proofs.Math.Seq.{drop-append_seam}
 use Rattle.std.proofs.Common.{◌≡◌, ℕ, zero, suc, ◌+◌, ◌<◌, ◌==◌, nat_lt, List, [], ◌∷◌, ◌++◌, Bool, true, false, cond, refl, sym, ap, ◌∙◌, subst, ne_eqb, append_assoc, append-nil, length, length-take, take, drop, Option, Some, None, arith, codes}
 use Rattle.std.proofs.lemmas.Bool.{eqb-true, eqb-false}
 use Rattle.gabc_text.specs.declared.token.TokenKind.{TokenKind}
@@ -15,7 +16,7 @@ use Rattle.gabc_text.specs.Token.{Token, spelling, tokens, token_at, token_of_ta
 use Rattle.gabc_text.specs.View.{effect, effect_as}
 use Rattle.gabc_text.specs.machine.TokenState.{settled_kind, wanted_char, step_in_raw, step_at_tag_end, first_step, next_step, kind_at_end}
 use Rattle.gabc_text.specs.machine.TagPrefix.{next_name}
-use Rattle.gabc_text.proofs.tokens.TokensByCharacter.{tokens_first, drop_past, lacks, lacks_more, before_lacks, before_all, through_one, through_none}
+use Rattle.gabc_text.proofs.tokens.TokensByCharacter.{tokens_first, lacks, lacks_more, before_lacks, before_all, through_one, through_none}
 use Rattle.gabc_text.proofs.tokens.RawEndingIsMatched.{Matching, match_none, match_more, match_fails, match_ends, match_open, drop_one}
 use Rattle.gabc_text.proofs.tokens.CasesOfCharacters.{single_kind}
 use Rattle.gabc_text.proofs.machine.TagNameByCharacter.{IsName, name_more, name_ends}
@@ -161,7 +162,7 @@ plain_tag name t Other n = refl
 
 tag_token : (s t : List ℕ) → lacks 62 s ≡ true → token_at 60 (s ++ 62 ∷ t) ≡ token_of_tag (s ++ 62 ∷ []) t (effect_of (60 ∷ s ++ 62 ∷ []))
 tag_token s t h =
-    let e : drop (length (s ++ 62 ∷ [])) (s ++ 62 ∷ t) ≡ t = ap (drop (length (s ++ 62 ∷ []))) (sym (append_assoc s (62 ∷ []) t)) ∙ drop_past (s ++ 62 ∷ []) t in
+    let e : drop (length (s ++ 62 ∷ [])) (s ++ 62 ∷ t) ≡ t = ap (drop (length (s ++ 62 ∷ []))) (sym (append_assoc s (62 ∷ []) t)) ∙ drop-append_seam (s ++ 62 ∷ []) t in
     ap (tag_at (s ++ 62 ∷ t)) (through_one 62 s t h) ∙ ap (λ (u : List ℕ). token_of_tag (s ++ 62 ∷ []) u (effect_of (60 ∷ s ++ 62 ∷ []))) e
 
 tag_completes : (name held : List ℕ) (so : TagEffect) → InTag name held → effect_of (60 ∷ name ++ 62 ∷ []) ≡ so → is_no_raw so → Completes held 62 kind.Tag so

@@ -1,4 +1,5 @@
 -- What is emitted of a text by a point is found no later than there.
+use Rattle.std.proofs.Math.Seq.{drop-append_seam}
 use Rattle.gabc_text.proofs.tokens.TokensSpellPrefix.{left_of}
 use Rattle.std.proofs.Common.{◌≡◌, ℕ, suc, ◌+◌, List, [], ◌∷◌, ◌++◌, Bool, true, false, cond, refl, sym, ap, ◌∙◌, subst, append_assoc, append-nil, length, length-append, drop, take, map, arith}
 use Rattle.gabc_places.specs.StageLaw.{concat_of}
@@ -20,7 +21,6 @@ use Rattle.gabc_text.specs.Printed.{text_of_tokens}
 use Rattle.gabc_places.proofs.PlacesOfAText.{place_append}
 use Rattle.gabc_places.proofs.PlacesInOrder.{up_to_self, up_to_next, up_to_past, lie_wider, lie_append}
 use Rattle.gabc_text.proofs.machine.TokensOneAfterAnother.{onto, after_is, size}
-use Rattle.gabc_text.proofs.tokens.TokensByCharacter.{drop_past}
 use Rattle.gabc_text.proofs.tokens.TextIsTokensAndRest.{Goes, AllGo, Parted, parted}
 
 -- ---- the order of places

@@ -1,4 +1,5 @@
 -- Blanks in front of a regular text begin a word, with comments among them or without, and all else is as without them.
+use Rattle.std.proofs.Math.Seq.{drop-append_seam}
 use Rattle.std.proofs.Common.{◌≡◌, ◌≢◌, ◌⊎◌, inl, inr, ℕ, ◌==◌, List, [], ◌∷◌, ◌++◌, Bool, true, false, not, ◌&&◌, cond, if◌then◌else◌, Option, Some, None, is_some, subst, refl, sym, ap, ap₂, ◌∙◌, append-nil, append_assoc, map, reverse, length, drop, encode_utf8_all}
 use Rattle.std.proofs.lemmas.Bool.{true≢false, eqb-true, and_parts}
 use Rattle.gabc_places.specs.declared.place.Place.{Place}
@@ -21,7 +22,7 @@ use Rattle.gabc_text.specs.RegularText.{IsRegularText, is_gap, is_gap_after}
 use Rattle.gabc_text.proofs.tokens.CasesOfCharacters.{by_case}
 use Rattle.gabc_text.proofs.machine.TokenStateByCharacter.{turned}
 use Rattle.gabc_text.proofs.machine.TokensOneAfterAnother.{size, after_is, onto}
-use Rattle.gabc_text.proofs.tokens.TokensByCharacter.{drop_past, tokens_first, lacks, lacks_more, before_lacks}
+use Rattle.gabc_text.proofs.tokens.TokensByCharacter.{tokens_first, lacks, lacks_more, before_lacks}
 use Rattle.gabc_text.proofs.printing.PrintedTextEndsBeforeNotes.{size_written}
 use Rattle.gabc_text.proofs.printing.PrintedTagsOpenStyles.{push_append, along_append}
 use Rattle.gabc_text.proofs.printing.LineFeedBeginsWord.{gap, remark, Alike, alike_more, alike_onto, gap_alike, remark_alike, none_alike, gap_begins_word, remark_says_nothing}
@@ -145,7 +146,7 @@ ends_after_it g t rest h r =
     written_append (front f.parts) (tokens t) ∙ ap₂ (λ (x y : List ℕ). x ++ y) f.spelled (ap text_of_tokens (own_tokens t r) ∙ own_form t r) in
     after_is (g ++ (t ++ 40 ∷ rest)) ∙ ap (λ (ks : List Token). drop (size ks) (g ++ (t ++ 40 ∷ rest))) (all_tokens g t rest f r)
     ∙ ap (λ (n : ℕ). drop n (g ++ (t ++ 40 ∷ rest))) (size_written (front f.parts ++ tokens t) ∙ ap (λ (x : List ℕ). length x) text)
-    ∙ ap (drop (length (g ++ t))) (sym (append_assoc g t (40 ∷ rest))) ∙ drop_past (g ++ t) (40 ∷ rest)
+    ∙ ap (drop (length (g ++ t))) (sym (append_assoc g t (40 ∷ rest))) ∙ drop-append_seam (g ++ t) (40 ∷ rest)
 
 -- ---- what is found
 

@@ -1,4 +1,5 @@
 -- The canonical text of a text's view is the printed form of what the text says.
+use Rattle.std.proofs.lemmas.Bool.{lt-ltb}
 use Rattle.std.proofs.Common.{◌≡◌, ℕ, suc, ◌+◌, ◌==◌, ◌||◌, List, [], ◌∷◌, ◌++◌, Bool, true, false, cond, refl, sym, ap, ◌∙◌, append_assoc, map, reverse, length, Option, Some, None, codes, nat_lt}
 use Rattle.std.specs.List.{flat_map}
 use Rattle.std.proofs.lemmas.Str.{encodes-append}
@@ -17,7 +18,7 @@ use Rattle.gabc_text.specs.TextRead.{view_in, pieces_in}
 use Rattle.gabc_text.specs.Canonical.{after_common, style_opening, style_closing, braces, boundary, span_bytes, with_dollar, piece_text, piece_text_by, text_from, canonical_text}
 use Rattle.gabc_text.specs.ViewFacts.{piece_facts_in, view_facts, StandsForView, IsPieceOf, ArePiecesOf, kept_of_piece}
 use Rattle.gabc_text.specs.Printed.{opening_tag, closing_tag, begin_brace, end_brace, brace_tokens, tokens_between, letter, spelled_as, printed_piece, print_from, text_tokens, text_of_tokens}
-use Rattle.gabc_text.proofs.tokens.CasesOfCharacters.{by_case}
+use Rattle.gabc_text.proofs.tokens.CasesOfCharacters.{by_case, special_is_low}
 use Rattle.gabc_text.proofs.machine.TokenStateByCharacter.{turned}
 use Rattle.gabc_text.proofs.printing.PiecesPrintWell.{pieces_good}
 use Rattle.gabc_text.proofs.spans.SpansStandForView.{pieces_facts}
@@ -79,23 +80,6 @@ boundary_bytes old new m ms e =
 
 -- ---- a piece
 
-abbrev Small : ℕ → Type 0
-Small c = is_special c ≡ true → nat_lt c 128 ≡ true
-
-special_small : (c : ℕ) → is_special c ≡ true → nat_lt c 128 ≡ true
-special_small c =
-    by_case 40 c Small (λ s. refl) (λ e40.
-    by_case 41 c Small (λ s. refl) (λ e41.
-    by_case 91 c Small (λ s. refl) (λ e91.
-    by_case 93 c Small (λ s. refl) (λ e93.
-    by_case 123 c Small (λ s. refl) (λ e123.
-    by_case 125 c Small (λ s. refl) (λ e125.
-    by_case 60 c Small (λ s. refl) (λ e60.
-    by_case 62 c Small (λ s. refl) (λ e62.
-    by_case 37 c Small (λ s. refl) (λ e37.
-    by_case 36 c Small (λ s. refl) (λ e36.
-    λ s. absurd (let f = rw (turned 40 c e40, turned 41 c e41, turned 91 c e91, turned 93 c e93, turned 123 c e123, turned 125 c e125, turned 60 c e60, turned 62 c e62, turned 37 c e37, turned 36 c e36) at s in cc)))))))))))
-
 escaped_by : (c : ℕ) (x y z s : Bool) (a1 a2 b1 b2 b3 d1 d2 d3 d4 : ℕ) → is_special c ≡ s → (s ≡ true → x ≡ true)
     → with_dollar (cond x (c ∷ []) (cond y (a1 ∷ a2 ∷ []) (cond z (b1 ∷ b2 ∷ b3 ∷ []) (d1 ∷ d2 ∷ d3 ∷ d4 ∷ []))) ++ [])
     ≡ cond s (36 ∷ []) [] ++ (cond x (c ∷ []) (cond y (a1 ∷ a2 ∷ []) (cond z (b1 ∷ b2 ∷ b3 ∷ []) (d1 ∷ d2 ∷ d3 ∷ d4 ∷ []))) ++ [])
@@ -112,7 +96,7 @@ letter_bytes c false = refl
 
 escaped_bytes : (c : ℕ) → with_dollar (encodes (c ∷ [])) ≡ encodes (spelling (letter (c ∷ [])))
 unfolding encode
-escaped_bytes c = escaped_by c (nat_lt c 128) (nat_lt c 2048) (nat_lt c 65536) (is_special c) _ _ _ _ _ _ _ _ _ refl (special_small c) ∙ letter_bytes c (is_special c)
+escaped_bytes c = escaped_by c (nat_lt c 128) (nat_lt c 2048) (nat_lt c 65536) (is_special c) _ _ _ _ _ _ _ _ _ refl (λ s. lt-ltb c 128 (special_is_low c s)) ∙ letter_bytes c (is_special c)
 
 blank_bytes : codes " " ≡ encodes (32 ∷ [])
 unfolding encode

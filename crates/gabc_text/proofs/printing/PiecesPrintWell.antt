@@ -1,4 +1,5 @@
 -- The pieces of a text are such that their printed form is read again.
+use Rattle.gabc_text.proofs.events.EventsBuildText.{piece_is}
 use Rattle.std.proofs.Common.{◌≡◌, ℕ, zero, suc, ◌==◌, List, [], ◌∷◌, ◌++◌, Bool, true, false, ◌||◌, ◌&&◌, not, cond, refl, sym, ap, subst, length, drop, Option, Some, None, codes}
 use Rattle.gabc_text.specs.declared.view.PieceKind.{PieceKind}
 use Rattle.gabc_text.specs.declared.view.PieceKind.TheVariants as piece
@@ -10,7 +11,7 @@ use Rattle.gabc_text.specs.Token.{Token, tokens, tokens_after, token_at, dollar_
 use Rattle.gabc_text.specs.View.{along, effect, effect_as, kind_of, piece_kind, tag_piece, is_open, open_styles, is_word_kind, has_word, follows_blank, pieces_at, piece_of, PieceFacts, text_of_piece, is_space, is_blank_piece, last_of}
 use Rattle.gabc_text.proofs.printing.ViewFromFirstToken.{pieces_of}
 use Rattle.gabc_text.specs.ViewFacts.{but_blank}
-use Rattle.gabc_text.proofs.tokens.CasesOfCharacters.{by_case}
+use Rattle.gabc_text.proofs.tokens.CasesOfCharacters.{by_case, tag_kind}
 use Rattle.gabc_text.proofs.machine.TokenStateByCharacter.{turned}
 use Rattle.gabc_text.proofs.printing.TokensAreReadAgain.{IsReadAgain, token_again, letter_stable}
 use Rattle.gabc_text.specs.machine.PrintedPieces.{AllGood, Good, Says}
@@ -45,19 +46,7 @@ dollar_letter (d ∷ t) = by (is_special d) refl
     by false e = record { c = 36; reads_so = refl; no_blank = refl }
 
 tag_letter : (t : List ℕ) (o : Option (List ℕ)) → (tag_at t o).kind ≡ kind.Letter → IsLetter (tag_at t o)
-tag_letter t None e = absurd (cc)
-tag_letter t (Some name) e = absurd (by (effect_of (60 ∷ name)) e)
-  where
-    in_raw : (v : List ℕ) (o : Option (List ℕ)) → (ended_token kind.Raw kind.OpenTag 60 name v o).kind ≡ kind.Letter → ⊥
-    in_raw v None e = absurd (cc)
-    in_raw v (Some y) e = absurd (cc)
-
-    by : (s : TagEffect) → (token_of_tag name (drop (length name) t) s).kind ≡ kind.Letter → ⊥
-    by (Begins raw) e = in_raw (drop (length name) t) (through (ending_of raw) (drop (length name) t)) e
-    by (Opens r) e = absurd (cc)
-    by (Closes r) e = absurd (cc)
-    by Mark e = absurd (cc)
-    by Other e = absurd (cc)
+tag_letter t o e = absurd (tag_kind (λ k. k ≡ kind.Letter → ⊥) (λ e. absurd (cc)) (λ e. absurd (cc)) (λ e. absurd (cc)) t o e)
 
 single_letter : (c : ℕ) → single c ≡ kind.Letter → is_blank c ≡ false
 single_letter c e = by (is_blank c) e
@@ -136,27 +125,31 @@ good_by _ c s before w b p f e = absurd (cc)
 
 -- ---- the pieces of a text
 
-pub any_blank : (b d : Bool) (ps : List PieceFacts) → AllGood false b ps → AllGood false d ps
-any_blank b d [] h = tt
-any_blank b d (p ∷ ps) h = (record { test = (h.0).test; styles_are = (h.0).styles_are; stable = (h.0).stable; reads_so = by p.kind (h.0).reads_so }, h.1)
+-- pieces that are good where no word stands before them are good after one, and after a blank or none
+pub good_after : (x w b d : Bool) (ps : List PieceFacts) → AllGood x b ps → (x ≡ true → (w ≡ true) × (b ≡ false → d ≡ false)) → AllGood w d ps
+good_after x w b d [] h f = tt
+good_after x w b d (p ∷ ps) h f = (
+  record { test = (h.0).test; styles_are = (h.0).styles_are; stable = (h.0).stable; reads_so = by p.kind (h.0).reads_so },
+  good_after (is_word_kind (Some p.kind) || x) (is_word_kind (Some p.kind) || w) (is_blank_piece p.kind) (is_blank_piece p.kind) ps h.1 (λ e. (more (is_word_kind (Some p.kind)) e, λ n. n)),
+)
   where
-    by : (k : PieceKind) → Says k p.text false b → Says k p.text false d
-    by piece.Blank g = absurd (let e = g.1 in cc)
+    more : (a : Bool) → (a || x) ≡ true → (a || w) ≡ true
+    more true e = refl
+    more false e = (f e).0
+
+    by : (k : PieceKind) → Says k p.text x b → Says k p.text w d
+    by piece.Blank g = (g.0, (f g.1).0, (f g.1).1 g.2)
     by piece.Char g = g
     by piece.Raw g = g
     by piece.Tag g = g
     by piece.Mark g = g
 
 no_space : (d : TokenKind) (so : TagEffect) (p : PieceKind) → piece_kind d so ≡ Some p → (is_space d ≡ false) × (is_blank_piece p ≡ false)
-no_space kind.Letter so p e = (refl, ap is_blank_piece (let g : p ≡ piece.Char = cc in g))
-no_space kind.Raw so p e = (refl, ap is_blank_piece (let g : p ≡ piece.Raw = cc in g))
-no_space kind.Tag so p e = (refl, by so e)
+no_space d so p e = (by d e, piece_is d so p e)
   where
-    by : (so : TagEffect) → tag_piece so ≡ Some p → is_blank_piece p ≡ false
-    by Mark e = ap is_blank_piece (let g : p ≡ piece.Mark = cc in g)
-    by Other e = ap is_blank_piece (let g : p ≡ piece.Tag = cc in g)
-    by _ e = absurd (cc)
-no_space _ so p e = absurd (cc)
+    by : (d : TokenKind) → piece_kind d so ≡ Some p → is_space d ≡ false
+    by kind.Blank e = absurd (cc)
+    by _ e = refl
 
 abbrev blank_after : List Token → PieceFacts
 blank_after before = record { kind = piece.Blank; styles = open_styles before; text = [] }
@@ -166,7 +159,7 @@ blank_case : (before : List Token) (sp w b : Bool) (ps : List PieceFacts) → Al
 blank_case before true true false ps g =
     (record { test = λ s. is_open s before; styles_are = refl; stable = λ u. refl; reads_so = (refl, refl, refl) }, g)
 blank_case before true true true ps g = g
-blank_case before true false b ps g = any_blank true b ps g
+blank_case before true false b ps g = good_after false false true b ps g (λ e. absurd (cc))
 blank_case before false w b ps g = g
 
 pub good_along : (before ks : List Token) → EachFine ks → AllGood (has_word before) (follows_blank before) (along pieces_at before ks)

@@ -29,25 +29,6 @@ pub good_join : (w b : Bool) (ps qs : List PieceFacts) → AllGood w b ps → Al
 good_join w b [] qs h g = g
 good_join w b (p ∷ ps) qs h g = (h.0, good_join (is_word_kind (Some p.kind) || w) (is_blank_piece p.kind) ps qs h.1 g)
 
--- pieces that are good where no word stands before them are good after one
-pub good_after : (x w b : Bool) (ps : List PieceFacts) → AllGood x b ps → (x ≡ true → w ≡ true) → AllGood w b ps
-good_after x w b [] h f = tt
-good_after x w b (p ∷ ps) h f = (
-  record { test = (h.0).test; styles_are = (h.0).styles_are; stable = (h.0).stable; reads_so = by p.kind (h.0).reads_so },
-  good_after (is_word_kind (Some p.kind) || x) (is_word_kind (Some p.kind) || w) (is_blank_piece p.kind) ps h.1 (more (is_word_kind (Some p.kind))),
-)
-  where
-    more : (a : Bool) → (a || x) ≡ true → (a || w) ≡ true
-    more true e = refl
-    more false e = f e
-
-    by : (k : PieceKind) → Says k p.text x b → Says k p.text w b
-    by piece.Blank g = (g.0, f g.1, g.2)
-    by piece.Char g = g
-    by piece.Raw g = g
-    by piece.Tag g = g
-    by piece.Mark g = g
-
 pub known_join : (ps qs : List PieceFacts) → AllKnown ps → AllKnown qs → AllKnown (ps ++ qs)
 known_join [] qs h g = g
 known_join (p ∷ ps) qs h g = (h.0, known_join ps qs h.1 g)

@@ -1,4 +1,5 @@
 -- A printed text ends before the `(` that stands after it.
+use Rattle.std.proofs.Math.Seq.{drop-append_seam}
 use Rattle.std.proofs.Common.{◌≡◌, ℕ, ◌+◌, List, [], ◌∷◌, ◌++◌, refl, sym, ap, ◌∙◌, length, length-append, drop}
 use Rattle.gabc_text.specs.Token.{Token, spelling}
 use Rattle.gabc_text.specs.Events.{after_tokens}
@@ -8,7 +9,6 @@ use Rattle.gabc_text.proofs.printing.ViewFromFirstToken.{view}
 use Rattle.gabc_text.proofs.printing.ViewForwardIsViewBackward.{facts_is}
 use Rattle.gabc_text.proofs.printing.PrintedTextIsReadAgain.{tokens_printed}
 use Rattle.gabc_text.proofs.machine.TokensOneAfterAnother.{size, after_is}
-use Rattle.gabc_text.proofs.tokens.TokensByCharacter.{drop_past}
 
 pub size_written : (ks : List Token) → size ks ≡ length (text_of_tokens ks)
 size_written [] = refl
@@ -20,4 +20,4 @@ printed_ends t rest =
     ∙ after_is (print (view t) ++ 40 ∷ rest)
     ∙ ap (λ (ks : List Token). drop (size ks) (print (view t) ++ 40 ∷ rest)) (tokens_printed t rest)
     ∙ ap (λ (n : ℕ). drop n (text_of_tokens (print_tokens (view t)) ++ 40 ∷ rest)) (size_written (print_tokens (view t)))
-    ∙ drop_past (text_of_tokens (print_tokens (view t))) (40 ∷ rest)
+    ∙ drop-append_seam (text_of_tokens (print_tokens (view t))) (40 ∷ rest)

@@ -1,4 +1,5 @@
 -- Tokens that are read again, whatever follows.
+use Rattle.std.proofs.Math.Seq.{drop-append_seam}
 use Rattle.std.proofs.Common.{◌≡◌, ℕ, ◌≤◌, ◌==◌, List, [], ◌∷◌, ◌++◌, Bool, true, false, ◌&&◌, cond, refl, sym, ap, ◌∙◌, subst, append_assoc, append-nil, length, drop, Option, Some, None, option_map, arith, codes}
 use Rattle.std.proofs.Common.{eq-eqb}
 use Rattle.std.proofs.lemmas.Bool.{eqb-true, and_parts}
@@ -14,7 +15,7 @@ use Rattle.gabc_text.specs.declared.styles.Style.TheVariants.{B, C, E, I, Sc, Tt
 use Rattle.gabc_text.specs.Token.{Token, spelling, tokens, token_at, through, begins_with, ended_token, tag_at, token_of_tag, single, is_special, is_blank, effect_of, ending_of}
 use Rattle.gabc_text.specs.machine.PrintedPieces.{Stable}
 use Rattle.gabc_text.specs.Printed.{text_of_tokens, opening_tag, closing_tag, letter}
-use Rattle.gabc_text.proofs.tokens.TokensByCharacter.{tokens_first, drop_past}
+use Rattle.gabc_text.proofs.tokens.TokensByCharacter.{tokens_first}
 use Rattle.gabc_text.proofs.tokens.RawEndingIsMatched.{begins_itself}
 use Rattle.gabc_text.proofs.machine.TokenStateByCharacter.{turned}
 
@@ -123,7 +124,7 @@ raw_found Alt t y e = (found 60 (codes "/alt>") t y e).again
 tag_again : (t name y u : List ℕ) → through (62 ∷ []) t ≡ Some name → token_at 60 ((name ++ y) ++ u) ≡ token_of_tag name (y ++ u) (effect_of (60 ∷ name))
 tag_again t name y u e =
     ap (token_at 60) (append_assoc name y u) ∙ ap (tag_at (name ++ (y ++ u))) (one_found 62 t name e (y ++ u))
-    ∙ ap (λ (x : List ℕ). token_of_tag name x (effect_of (60 ∷ name))) (drop_past name (y ++ u))
+    ∙ ap (λ (x : List ℕ). token_of_tag name x (effect_of (60 ∷ name))) (drop-append_seam name (y ++ u))
 
 tag_only : (t name : List ℕ) (s : TagEffect) → through (62 ∷ []) t ≡ Some name → effect_of (60 ∷ name) ≡ s
     → ((u : List ℕ) → token_of_tag name u s ≡ record { kind = kind.Tag; first = 60; more = name }) → Stable (record { kind = kind.Tag; first = 60; more = name })

@@ -1,4 +1,5 @@
 -- The tokens of a kept text are those of the text as they are kept.
+use Rattle.std.proofs.Math.Seq.{drop-append_seam}
 use Rattle.std.proofs.Common.{◌≡◌, ℕ, zero, suc, ◌==◌, List, [], ◌∷◌, ◌++◌, Bool, true, false, cond, refl, sym, ap, ◌∙◌, append-nil, length, drop, reverse, Option, Some, None, inl, inr, ◌⊎◌}
 use Rattle.gabc_text.specs.declared.text_facts.TextFacts.{TextFacts}
 use Rattle.gabc_text.specs.declared.token.TokenKind.TheVariants as kind
@@ -10,7 +11,6 @@ use Rattle.gabc_text.specs.ViewFacts.{ViewFacts, view_facts, but_blank, translat
 use Rattle.gabc_text.specs.Printed.{text_of_tokens}
 use Rattle.gabc_text.proofs.tokens.CasesOfCharacters.{by_case}
 use Rattle.gabc_text.proofs.machine.TokenStateByCharacter.{turned}
-use Rattle.gabc_text.proofs.tokens.TokensByCharacter.{drop_past}
 use Rattle.gabc_text.proofs.printing.TokensAreReadAgain.{token_again, again_by, escaped_stable, found}
 use Rattle.gabc_text.proofs.printing.KeptTextIsReadAgain.{kept_token, kept_token_by, one_blank, alike}
 use Rattle.gabc_text.specs.machine.PrintedPieces.{Stable}
@@ -102,7 +102,7 @@ tag_read t ne = by (through (62 ∷ []) t) refl
     rest_of : (name : List ℕ) → through (62 ∷ []) t ≡ Some name → name ++ drop (length name) t ≡ t
     rest_of name e =
         let f = found 62 [] t name e in
-        ap (λ (x : List ℕ). name ++ drop (length name) x) f.parts ∙ ap (λ (x : List ℕ). name ++ x) (drop_past name f.rest) ∙ sym f.parts
+        ap (λ (x : List ℕ). name ++ drop (length name) x) f.parts ∙ ap (λ (x : List ℕ). name ++ x) (drop-append_seam name f.rest) ∙ sym f.parts
 
     raws : (name : List ℕ) (o : Option (List ℕ)) → through (62 ∷ []) t ≡ Some name → token_at 60 t ≡ ended_token kind.Raw kind.OpenTag 60 name (drop (length name) t) o
         → IsReadBack (token_at 60 t) (tokens_after (length (token_at 60 t).more) t)

@@ -1,12 +1,13 @@
 -- A character is this one or another, and by itself a token of one of five kinds; tests of tests.
+use Rattle.gabc_places.proofs.NumbersByTests.{below_eqb}
 use Rattle.gabc_text.specs.declared.token.TagEffect.TheVariants.{Opens, Closes, Mark, Begins, Other}
 use Rattle.gabc_text.specs.declared.token.TagEffect.{TagEffect}
 use Rattle.gabc_text.specs.View.{is_translation}
-use Rattle.std.proofs.Common.{◌≡◌, ℕ, ◌==◌, Bool, true, false, cond, refl, sym, subst, codes, List, [], ◌∷◌, ◌∙◌, Option, Some, None, drop, length}
-use Rattle.std.proofs.lemmas.Bool.{eqb-true, true≢false}
+use Rattle.std.proofs.Common.{◌≡◌, ℕ, ◌==◌, Bool, true, false, cond, refl, sym, subst, codes, List, [], ◌∷◌, ◌∙◌, Option, Some, None, drop, length, nat_lt, ◌<◌, ◌≤◌, arith}
+use Rattle.std.proofs.lemmas.Bool.{eqb-true, true≢false, ltb-true, ltb-false, true_from_ne_false}
 use Rattle.gabc_text.specs.declared.token.TokenKind.{TokenKind}
 use Rattle.gabc_text.specs.declared.token.TokenKind.TheVariants as kind
-use Rattle.gabc_text.specs.Token.{single, is_blank, is_one_of, token_at, ended_token, token_of_tag, tag_at, through, ending_of, effect_of}
+use Rattle.gabc_text.specs.Token.{single, is_blank, is_one_of, token_at, ended_token, token_of_tag, tag_at, through, ending_of, effect_of, is_special}
 
 pub by_case : (x c : ℕ) (P : ℕ → Type 0) → P x → (c == x ≡ false → P c) → P c
 by_case x c P here other = by (c == x) refl
@@ -26,12 +27,28 @@ single_kind P a b d e l c = by (is_blank c) (is_one_of (codes ")]>") c) (c == 12
     by false false false true = e
     by false false false false = l
 
+-- what a token is that begins with `<`
+pub tag_kind : (P : TokenKind → Type 0) → P kind.Tag → P kind.Raw → P kind.OpenTag → (t : List ℕ) (o : Option (List ℕ)) → P (tag_at t o).kind
+tag_kind P tag raw cut t None = cut
+tag_kind P tag raw cut t (Some name) = by (effect_of (60 ∷ name))
+  where
+    raws : (o : Option (List ℕ)) → P (ended_token kind.Raw kind.OpenTag 60 name (drop (length name) t) o).kind
+    raws None = cut
+    raws (Some y) = raw
+
+    by : (s : TagEffect) → P (token_of_tag name (drop (length name) t) s).kind
+    by (Begins r) = raws (through (ending_of r) (drop (length name) t))
+    by (Opens r) = tag
+    by (Closes r) = tag
+    by Mark = tag
+    by Other = tag
+
 -- a translation begins with `[`
 pub translation_first : (c : ℕ) (t : List ℕ) → is_translation (token_at c t).kind ≡ true → c ≡ 91
 translation_first c t =
     by_case 36 c AtBracket (λ h. absurd (true≢false (sym h ∙ dollar t))) (λ e36.
     by_case 37 c AtBracket (λ h. absurd (cc)) (λ e37.
-    by_case 60 c AtBracket (λ h. absurd (true≢false (sym h ∙ tag (through (codes ">") t)))) (λ e60.
+    by_case 60 c AtBracket (λ h. absurd (true≢false (sym h ∙ tag_kind (λ k. is_translation k ≡ false) refl refl refl t (through (codes ">") t)))) (λ e60.
     by_case 91 c AtBracket (λ h. refl) (λ e91.
     λ h. absurd (true≢false (sym (rw (e36, e37, e60, e91) at h) ∙ single_kind (λ k. is_translation k ≡ false) refl refl refl refl refl c))))))
   where
@@ -42,17 +59,21 @@ translation_first c t =
     dollar [] = refl
     dollar (c ∷ t) = refl
 
-    raws : (name u : List ℕ) (o : Option (List ℕ)) → is_translation (ended_token kind.Raw kind.OpenTag 60 name u o).kind ≡ false
-    raws name u None = refl
-    raws name u (Some y) = refl
+-- special characters are of ASCII
+pub no_special : (c : ℕ) → 128 ≤ c → is_special c ≡ false
+no_special c h =
+    rw (
+      below_eqb 40 c (omega arith),
+      below_eqb 41 c (omega arith),
+      below_eqb 91 c (omega arith),
+      below_eqb 93 c (omega arith),
+      below_eqb 123 c (omega arith),
+      below_eqb 125 c (omega arith),
+      below_eqb 60 c (omega arith),
+      below_eqb 62 c (omega arith),
+      below_eqb 37 c (omega arith),
+      below_eqb 36 c (omega arith),
+    ) refl
 
-    sorted : (name u : List ℕ) (s : TagEffect) → is_translation (token_of_tag name u s).kind ≡ false
-    sorted name u (Begins raw) = raws name u (through (ending_of raw) u)
-    sorted name u (Opens r) = refl
-    sorted name u (Closes r) = refl
-    sorted name u Mark = refl
-    sorted name u Other = refl
-
-    tag : (o : Option (List ℕ)) → is_translation (tag_at t o).kind ≡ false
-    tag None = refl
-    tag (Some name) = sorted name (drop (length name) t) (effect_of (60 ∷ name))
+pub special_is_low : (c : ℕ) → is_special c ≡ true → c < 128
+special_is_low c h = ltb-true c 128 (true_from_ne_false (nat_lt c 128) (λ e. true≢false (sym h ∙ no_special c (ltb-false c 128 e))))

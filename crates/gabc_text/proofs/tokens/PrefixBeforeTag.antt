@@ -1,4 +1,5 @@
 -- The prefix of a text: its first character, and what stands before its first `<`.
+use Rattle.std.proofs.Math.Seq.{drop-append_seam}
 use Rattle.std.proofs.Common.{◌≡◌, ℕ, ◌+◌, ◌-◌, ◌<◌, ◌≤◌, ◌==◌, List, [], ◌∷◌, ◌++◌, Bool, true, false, cond, refl, sym, ap, ◌∙◌, subst, length, length-append, take, drop, slice_index, take-append-drop, arith, IsUtf8, ne_eqb}
 use Rattle.std.specs.Str.{chars, NonePass, IsCharBoundary}
 use Rattle.std.specs.Char.{len_utf8}

@@ -1,4 +1,5 @@
 -- A text is its tokens and what follows them.
+use Rattle.std.proofs.Math.Seq.{drop-append_seam}
 use Rattle.std.proofs.Common.{◌≡◌, ℕ, zero, suc, ◌==◌, List, [], ◌∷◌, ◌++◌, Bool, true, false, cond, refl, sym, ap, ◌∙◌, append_assoc, append-nil, length, drop, Option, Some, None, codes, subst, inl, inr, ◌⊎◌}
 use Rattle.std.proofs.lemmas.Bool.{eqb-true}
 use Rattle.gabc_text.specs.declared.token.TokenKind.TheVariants as kind
@@ -10,7 +11,6 @@ use Rattle.gabc_text.specs.Token.{Token, spelling, tokens, tokens_after, token_a
 use Rattle.gabc_text.specs.View.{is_space, is_open_kind}
 use Rattle.gabc_text.specs.Printed.{text_of_tokens}
 use Rattle.gabc_text.proofs.tokens.CasesOfCharacters.{by_case}
-use Rattle.gabc_text.proofs.tokens.TokensByCharacter.{drop_past}
 use Rattle.gabc_text.proofs.machine.KeptOfOpenToken.{single_uncut}
 use Rattle.gabc_text.proofs.printing.TokensAreReadAgain.{found}
 
@@ -76,7 +76,7 @@ prefix_tag t = by (through (62 ∷ []) t) refl
     by None e = record { rest = []; parts = sym (append-nil t); goes = record { is_last = λ f. refl; blank = λ f. absurd (cc) } }
     by (Some name) e =
         let f = found 62 [] t name e in
-        let d : drop (length name) t ≡ f.rest = ap (drop (length name)) f.parts ∙ drop_past name f.rest in
+        let d : drop (length name) t ≡ f.rest = ap (drop (length name)) f.parts ∙ drop-append_seam name f.rest in
         subst (λ (u : List ℕ). Front (token_of_tag name u (effect_of (60 ∷ name))) t) (sym d)
         (subst (Front (token_of_tag name f.rest (effect_of (60 ∷ name)))) (sym f.parts) (prefix_tagged name f.rest (effect_of (60 ∷ name))))
 
@@ -115,7 +115,7 @@ pub record Parted (t : List ℕ) (ks : List Token) : Type 0 where
 
 parted_first : (c : ℕ) (t : List ℕ) (k : Token) (ks : List Token) → k.first ≡ c → Front k t → Parted (drop (length k.more) t) ks → Parted (c ∷ t) (k ∷ ks)
 parted_first c t k ks e f p =
-    let d : drop (length k.more) t ≡ f.rest = ap (drop (length k.more)) f.parts ∙ drop_past k.more f.rest in
+    let d : drop (length k.more) t ≡ f.rest = ap (drop (length k.more)) f.parts ∙ drop-append_seam k.more f.rest in
     let r : f.rest ≡ text_of_tokens ks ++ p.rest = sym d ∙ p.parts in
     record {
       rest = p.rest;
