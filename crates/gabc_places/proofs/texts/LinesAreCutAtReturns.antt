@@ -1,4 +1,5 @@
 -- Bytes up to a CR byte are characters up to a CR.
+use Rattle.gabc_places.proofs.NumbersByTests.{same_eqb}
 use Rattle.std.proofs.Common.{◌≡◌, ℕ, ◌+◌, ◌<◌, ◌≤◌, Bool, true, false, cond, List, [], ◌∷◌, ◌++◌, filter, length, take, drop, slice_index, refl, ap, sym, ◌∙◌, arith, append_assoc, length-append, ◌==◌, IsUtf8}
 use Rattle.std.specs.Str.{chars, IsCharBoundary, NonePass}
 use Rattle.std.proofs.lemmas.Bool.Decides.{nat_tests}
@@ -10,29 +11,33 @@ use Rattle.gabc_places.proofs.texts.CharactersOfStrings.{chars-split}
 use Rattle.gabc_places.proofs.texts.TextIsReadLineByLine.{text_after, line-shown, line-last, after-return}
 use lib.Utf8.{encode, encodes}
 
--- no byte is a CR
-abbrev NoReturnByte : List ℕ → Type 0
-NoReturnByte bs = (k : ℕ) → k < length bs → ¬ ((slice_index bs k == 13) ≡ true)
+-- no byte is this one
+abbrev pub LacksByte : ℕ → List ℕ → Type 0
+LacksByte d bs = (k : ℕ) → k < length bs → ¬ ((slice_index bs k == d) ≡ true)
 
-first_is : (b : Bool) (c : ℕ) (bs : List ℕ) → (c == 13) ≡ b → NoReturnByte (encode c ++ bs) → b ≡ false
-first_is true c bs e none =
-    let same : c ≡ 13 = grind (arith, nat_tests) in
-    let at : encode c ++ bs ≡ 13 ∷ bs = rw (same, encode_ascii 13 (omega arith)) refl in
-    absurd (none 0 (omega (arith, ap length at)) (rw at refl))
-first_is false c bs e none = refl
+first_is : (d : ℕ) → d < 128 → (b : Bool) (c : ℕ) (bs : List ℕ) → (c == d) ≡ b → LacksByte d (encode c ++ bs) → b ≡ false
+first_is d low true c bs e none =
+    let same : c ≡ d = grind (arith, nat_tests) in
+    let at : encode c ++ bs ≡ d ∷ bs = rw (same, encode_ascii d low) refl in
+    absurd (none 0 (omega (arith, ap length at)) (rw at (same_eqb d)))
+first_is d low false c bs e none = refl
 
-none_of : (cs : List ℕ) → NoReturnByte (encodes cs) → NonePass (λ c. c == 13) cs
-none_of [] none = tt
-none_of (c ∷ cs) none = (
-  first_is (c == 13) c (encodes cs) refl none,
-  none_of cs (λ k less is. none (length (encode c) + k) (omega (arith, length-append (encode c) (encodes cs))) (rw (get_or-append-add (encode c) (encodes cs) k 0) is)),
+-- where no byte is one of ASCII, no character is it
+none_of : (d : ℕ) → d < 128 → (cs : List ℕ) → LacksByte d (encodes cs) → NonePass (λ c. c == d) cs
+none_of d low [] none = tt
+none_of d low (c ∷ cs) none = (
+  first_is d low (c == d) c (encodes cs) refl none,
+  none_of d low cs (λ k less is. none (length (encode c) + k) (omega (arith, length-append (encode c) (encodes cs))) (rw (get_or-append-add (encode c) (encodes cs) k 0) is)),
 )
 
 -- without the byte there is no such character
-pub no-return : (bs : List ℕ) → IsUtf8 bs → Nowhere (Passes (is_byte 13) bs) 0 (length bs) → NonePass (λ c. c == 13) (chars bs)
-no-return bs u none = none_of (chars bs) (λ k less is.
+pub no_byte : (d : ℕ) → d < 128 → (bs : List ℕ) → IsUtf8 bs → LacksByte d bs → NonePass (λ c. c == d) (chars bs)
+no_byte d low bs u none = none_of d low (chars bs) (λ k less is.
     let e : encodes (chars bs) ≡ bs = encodes-chars bs u in
-    none k (omega arith) (omega (arith, ap length e)) (rw e at is))
+    none k (omega (arith, ap length e)) (rw e at is))
+
+pub no-return : (bs : List ℕ) → IsUtf8 bs → Nowhere (Passes (is_byte 13) bs) 0 (length bs) → NonePass (λ c. c == 13) (chars bs)
+no-return bs u none = no_byte 13 (omega arith) bs u (λ k less is. none k (omega arith) less is)
 
 no-return-prefix : (bs prefix : List ℕ) (at : ℕ) → prefix ≡ take at bs → at ≤ length bs → IsUtf8 prefix → Nowhere (Passes (is_byte 13) bs) 0 at → NonePass (λ c. c == 13) (chars prefix)
 no-return-prefix bs prefix at e le u none = no-return prefix u (λ k low less is.

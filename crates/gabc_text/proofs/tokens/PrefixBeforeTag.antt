@@ -1,4 +1,5 @@
 -- The prefix of a text: its first character, and what stands before its first `<`.
+use Rattle.gabc_places.proofs.texts.LinesAreCutAtReturns.{no_byte}
 use Rattle.std.proofs.Math.Seq.{drop-append_seam}
 use Rattle.std.proofs.Common.{◌≡◌, ℕ, ◌+◌, ◌-◌, ◌<◌, ◌≤◌, ◌==◌, List, [], ◌∷◌, ◌++◌, Bool, true, false, cond, refl, sym, ap, ◌∙◌, subst, length, length-append, take, drop, slice_index, take-append-drop, arith, IsUtf8, ne_eqb}
 use Rattle.std.specs.Str.{chars, NonePass, IsCharBoundary}
@@ -14,30 +15,6 @@ use Rattle.gabc_text.proofs.tokens.TokensByCharacter.{lacks, before_lacks, befor
 use Rattle.gabc_text.specs.View.{bytes_of}
 use Rattle.gabc_text.proofs.machine.TokenStateByCharacter.{turned}
 use Rattle.gabc_text.proofs.machine.LoopOverText.{bytes_chars}
-
--- no byte begins a tag
-abbrev NoTagByte : List ℕ → Type 0
-NoTagByte bs = (k : ℕ) → k < length bs → ¬ ((slice_index bs k == 60) ≡ true)
-
-first_is : (b : Bool) (c : ℕ) (bs : List ℕ) → (c == 60) ≡ b → NoTagByte (encode c ++ bs) → b ≡ false
-first_is true c bs e none =
-    let same : c ≡ 60 = grind (arith, nat_tests) in
-    let at : encode c ++ bs ≡ 60 ∷ bs = rw (same, encode_ascii 60 (omega arith)) refl in
-    absurd (none 0 (omega (arith, ap length at)) (rw at refl))
-first_is false c bs e none = refl
-
-none_of : (cs : List ℕ) → NoTagByte (encodes cs) → NonePass (λ c. c == 60) cs
-none_of [] none = tt
-none_of (c ∷ cs) none = (
-  first_is (c == 60) c (encodes cs) refl none,
-  none_of cs (λ k less is. none (length (encode c) + k) (omega (arith, length-append (encode c) (encodes cs))) (rw (get_or-append-add (encode c) (encodes cs) k 0) is)),
-)
-
--- without the byte there is no such character
-no_tag : (bs : List ℕ) → IsUtf8 bs → NoTagByte bs → NonePass (λ c. c == 60) (chars bs)
-no_tag bs u none = none_of (chars bs) (λ k less is.
-    let e : encodes (chars bs) ≡ bs = encodes-chars bs u in
-    none k (omega (arith, ap length e)) (rw e at is))
 
 lacks_none : (cs : List ℕ) → NonePass (λ c. c == 60) cs → lacks 60 cs ≡ true
 lacks_none [] h = refl
@@ -55,7 +32,7 @@ none_before (c ∷ cs) = by (60 == c) refl (none_before cs)
 -- ---- what stands before the first `<`
 
 pub prefix_none : (bs : List ℕ) → IsUtf8 bs → Nowhere (Passes (is_byte 60) bs) 0 (length bs) → chars bs ≡ before_first 60 (chars bs)
-prefix_none bs u none = sym (before_all 60 (chars bs) (lacks_none (chars bs) (no_tag bs u (λ k less is. none k (omega arith) less is))))
+prefix_none bs u none = sym (before_all 60 (chars bs) (lacks_none (chars bs) (no_byte 60 (omega arith) bs u (λ k less is. none k (omega arith) less is))))
 
 pub prefix_some : (bs prefix : List ℕ) (at : ℕ) → IsUtf8 bs → NoneBefore (Passes (is_byte 60) bs) 0 (length bs) at → (slice_index bs at == 60) ≡ true → prefix ≡ take at bs → chars prefix ≡ before_first 60 (chars bs)
 prefix_some bs prefix at u first is f =
@@ -66,7 +43,7 @@ prefix_some bs prefix at u first is f =
     let tag : drop at bs ≡ encode 60 ++ drop (at + 1) bs = drop_more bs at 0 first.high ∙ rw (same, encode_ascii 60 (omega arith)) refl in
     let back : chars (drop at bs) ≡ 60 ∷ chars (drop (at + 1) bs) = chars_past_char (drop at bs) (drop (at + 1) bs) 60 w tag in
     let whole : chars bs ≡ chars (take at bs) ++ chars (drop at bs) = ap chars (sym (take-append-drop at bs)) ∙ chars-append (take at bs) (drop at bs) v in
-    let none : NonePass (λ c. c == 60) (chars (take at bs)) = no_tag (take at bs) v (λ k less is.
+    let none : NonePass (λ c. c == 60) (chars (take at bs)) = no_byte 60 (omega arith) (take at bs) v (λ k less is.
     let short : k < at = omega (arith, length-take-le at bs (omega arith)) in
     first.before k (omega arith) short (rw (get_or-take at bs k 0 short) at is)) in
     ap chars f ∙ sym (ap (before_first 60) (whole ∙ ap (λ (x : List ℕ). chars (take at bs) ++ x) back) ∙ before_lacks 60 (chars (take at bs)) (chars (drop (at + 1) bs)) (lacks_none (chars (take at bs)) none))
