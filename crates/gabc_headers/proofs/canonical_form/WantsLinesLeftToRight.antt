@@ -1,4 +1,5 @@
 -- Whether a value wants lines of its own, from left to right.
+use Rattle.std.proofs.lemmas.Bool.{or_parts}
 use Rattle.std.proofs.Common.{rules, ◌≢◌, ◌≡◌, ◌⊎◌, inl, inr, ℕ, List, [], ◌∷◌, ◌++◌, Bool, true, false, cond, ◌||◌, ◌&&◌, ◌==◌, refl, sym, ap, ◌∙◌, append_assoc, append-nil}
 use Rattle.std.proofs.Math.Bool.{or-true, and-false, or-false, and-true, or_assoc, or_self}
 use Rattle.gabc_headers.specs.Lines.{lines, on_first, is_bare, is_mark, has_mark}
@@ -60,11 +61,7 @@ lf_several (c ∷ v) h = by (c == 10) h (lf_several v)
 -- without an LF there is one line
 one_line : (v : List ℕ) → has_lf v ≡ false → lines v ≡ v ∷ []
 one_line [] h = refl
-one_line (c ∷ v) h = by (c == 10) h (one_line v)
-  where
-    by : (b : Bool) → (b || has_lf v) ≡ false → (has_lf v ≡ false → lines v ≡ v ∷ []) → cond b ([] ∷ lines v) (on_first c (lines v)) ≡ (c ∷ v) ∷ []
-    by true h r = absurd (cc)
-    by false h r = rw (r h) refl
+one_line (c ∷ v) h = let o = or_parts (c == 10) (has_lf v) h in rw (o.0, one_line v o.1) refl
 
 pub wants_start : (v : List ℕ) → wants_lines (lines v) ≡ wants_from false v
 wants_start v = by (has_lf v) refl

@@ -40,12 +40,8 @@ apart a b h k = false_from_ne_true (bytes_eq a b) (λ e. let f = ap is_annotatio
 module _ {X : Type 0} where
   pub with_value-new : (ds : List (List ℕ × X)) (name : List ℕ) (v : X) → is_one_of name (names ds) ≡ false → with_value ds name v ≡ ds ++ (name, v) ∷ []
   with_value-new [] name v h = refl
-  with_value-new (d ∷ ds) name v h = by (bytes_eq name d.0) h (with_value-new ds name v)
-    where
-      by : (b : Bool) → (b || is_one_of name (names ds)) ≡ false → (is_one_of name (names ds) ≡ false → with_value ds name v ≡ ds ++ (name, v) ∷ [])
-          → cond b ((d.0, v) ∷ ds) (d ∷ with_value ds name v) ≡ d ∷ (ds ++ (name, v) ∷ [])
-      by true h r = absurd (cc)
-      by false h r = ap (λ (x : List (List ℕ × X)). d ∷ x) (r h)
+  with_value-new (d ∷ ds) name v h =
+      let o = or_parts (bytes_eq name d.0) (is_one_of name (names ds)) h in rw o.0 (ap (λ (x : List (List ℕ × X)). d ∷ x) (with_value-new ds name v o.1))
 
   pub names-with_value : (ds : List (List ℕ × X)) (name : List ℕ) (v : X) → is_one_of name (names ds) ≡ true → names (with_value ds name v) ≡ names ds
   names-with_value [] name v h = absurd (cc)

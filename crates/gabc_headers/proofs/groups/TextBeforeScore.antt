@@ -1,4 +1,5 @@
 -- The text before the line `%%`, one character after the other.
+use Rattle.std.proofs.lemmas.Bool.{or_parts}
 use Rattle.std.proofs.Common.{◌≡◌, ℕ, ◌+◌, suc, List, [], ◌∷◌, ◌++◌, length, Bool, true, false, cond, ◌&&◌, ◌||◌, ◌==◌, refl, sym, ap, ◌∙◌, arith, append_assoc}
 use Rattle.std.proofs.lemmas.Bool.Decides.{nat_tests}
 use Rattle.gabc_headers.specs.Lines.{lines, on_first, is_percent, is_score_line, head_of, has_score, lines_len}
@@ -73,11 +74,7 @@ score_lines t = (scored t).lines
 -- a text without the line `%%` is all headers
 all_text : (s : Bool) (r : List ℕ) → is_scored s r ≡ false → head_text s r ≡ r
 all_text s [] h = refl
-all_text s (c ∷ r) h = by (s && is_score_line (c ∷ r)) h (λ e. all_text (c == 10) r e)
-  where
-    by : (b : Bool) → (b || is_scored (c == 10) r) ≡ false → (is_scored (c == 10) r ≡ false → head_text (c == 10) r ≡ r) → cond b [] (c ∷ head_text (c == 10) r) ≡ c ∷ r
-    by true h e = absurd (cc)
-    by false h e = ap (λ (x : List ℕ). c ∷ x) (e h)
+all_text s (c ∷ r) h = let o = or_parts (s && is_score_line (c ∷ r)) (is_scored (c == 10) r) h in rw o.0 (ap (λ (x : List ℕ). c ∷ x) (all_text (c == 10) r o.1))
 
 -- the lines before the line `%%` are as long as the text before it
 record Long (r : List ℕ) : Type 0 where
@@ -144,11 +141,7 @@ lined (c ∷ r) = lined_more c r (lined r)
 -- without a line `%%` all lines are the headers
 all_lines : (ls : List (List ℕ)) → has_score ls ≡ false → head_of ls ≡ ls
 all_lines [] h = refl
-all_lines (l ∷ ls) h = by (is_score_line l) h (λ e. all_lines ls e)
-  where
-    by : (b : Bool) → (b || has_score ls) ≡ false → (has_score ls ≡ false → head_of ls ≡ ls) → cond b [] (l ∷ head_of ls) ≡ l ∷ ls
-    by true h e = absurd (cc)
-    by false h e = ap (λ (x : List (List ℕ)). l ∷ x) (e h)
+all_lines (l ∷ ls) h = let o = or_parts (is_score_line l) (has_score ls) h in rw o.0 (ap (λ (x : List (List ℕ)). l ∷ x) (all_lines ls o.1))
 
 -- an empty line more reports nothing
 parts_more : (w : LineContext) (k n : ℕ) (ls : List (List ℕ)) → parts w k n (ls ++ [] ∷ []) ≡ parts w k n ls

@@ -1,4 +1,5 @@
 -- Trims as a loop over characters has them: how many characters are left out at the start, and how many are kept.
+use Rattle.std.proofs.lemmas.Bool.{and_parts}
 use Rattle.std.proofs.Common.{◌≡◌, ℕ, ◌-◌, suc, zero, List, [], ◌∷◌, ◌++◌, length, take, drop, Bool, true, false, cond, ◌&&◌, refl, sym, ap, ◌∙◌, arith, zero-le, take_all}
 use Rattle.gabc_headers.specs.Lines.{trim_start, trim_end, unless_last}
 
@@ -43,11 +44,7 @@ module _ (out : ℕ → Bool) where
   -- many at the end that pass change nothing
   pub trim_end-all_out : (l m : List ℕ) → all_out out m ≡ true → trim_end out (l ++ m) ≡ trim_end out l
   trim_end-all_out [] [] h = refl
-  trim_end-all_out [] (c ∷ m) h = by (out c) h (trim_end-all_out [] m)
-    where
-      by : (b : Bool) → (b && all_out out m) ≡ true → (all_out out m ≡ true → trim_end out m ≡ []) → unless_last b c (trim_end out m) ≡ []
-      by true h r = rw (r h) refl
-      by false h r = absurd (cc)
+  trim_end-all_out [] (c ∷ m) h = let f = and_parts (out c) (all_out out m) h in rw (trim_end-all_out [] m f.1, f.0) refl
   trim_end-all_out (d ∷ l) m h = ap (unless_last (out d) d) (trim_end-all_out l m h)
 
   -- one more after one that is kept
@@ -63,11 +60,7 @@ module _ (out : ℕ → Bool) where
   -- where all pass
   pub lead_len-all : (l : List ℕ) → all_out out l ≡ true → lead_len out l ≡ length l
   lead_len-all [] h = refl
-  lead_len-all (c ∷ l) h = by (out c) h (lead_len-all l)
-    where
-      by : (b : Bool) → (b && all_out out l) ≡ true → (all_out out l ≡ true → lead_len out l ≡ length l) → cond b (suc (lead_len out l)) 0 ≡ suc (length l)
-      by true h r = ap suc (r h)
-      by false h r = absurd (cc)
+  lead_len-all (c ∷ l) h = let f = and_parts (out c) (all_out out l) h in rw f.0 (ap suc (lead_len-all l f.1))
 
 -- the trimmed list as a part of the list
 pub trim_start-take : (out : ℕ → Bool) (w : ℕ) (l : List ℕ) → trim_start out (take w l) ≡ take (w - lead_len out l) (drop (lead_len out l) l)

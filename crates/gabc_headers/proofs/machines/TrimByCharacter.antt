@@ -1,4 +1,5 @@
 -- The machine's trim, one character after the other.
+use Rattle.std.proofs.lemmas.Bool.{and_parts}
 use Rattle.std.proofs.Math.Bool.{and-true, and_assoc}
 use Rattle.std.proofs.Common.{◌≡◌, ℕ, ◌+◌, ◌-◌, ◌≤◌, suc, List, [], ◌∷◌, ◌++◌, length, take, drop, Bool, true, false, cond, ◌&&◌, refl, sym, ap, ◌∙◌, arith, length-append, length-drop, slice_range, drop-drop}
 use Rattle.std.proofs.lemmas.List.{drop-append-le, take-append-le}
@@ -29,12 +30,10 @@ lead_len-stop out [] c h = by (out c)
     by : (b : Bool) → cond b (suc 0) 0 ≡ 0 + cond b 1 0
     by true = refl
     by false = refl
-lead_len-stop out (d ∷ u) c h = by (out d) h (lead_len-stop out u c)
-  where
-    by : (b : Bool) → (b && all_out out u) ≡ true → (all_out out u ≡ true → lead_len out (u ++ c ∷ []) ≡ length u + cond (out c) 1 0)
-        → cond b (suc (lead_len out (u ++ c ∷ []))) 0 ≡ suc (length u) + cond (out c) 1 0
-    by true h r = let e = r h in omega arith
-    by false h r = absurd (cc)
+lead_len-stop out (d ∷ u) c h =
+    let f = and_parts (out d) (all_out out u) h in
+    let e = lead_len-stop out u c f.1 in
+    rw f.0 (omega arith)
 
 -- with one character more
 pub trim_push : (lead last : ℕ → Bool) (start : ℕ) (u : List ℕ) (t : Trim) (c at : ℕ) (a b : Bool) → TrimOf lead last start u t → lead c ≡ a → last c ≡ b → at ≡ start + length u

@@ -1,6 +1,6 @@
 -- The lines of texts that are put together.
 use Rattle.std.proofs.Common.{◌≡◌, ℕ, ◌==◌, List, [], ◌∷◌, ◌++◌, Bool, true, false, cond, ◌||◌, refl, sym, ap, ◌∙◌}
-use Rattle.std.proofs.lemmas.Bool.{eqb-true}
+use Rattle.std.proofs.lemmas.Bool.{eqb-true, or_parts}
 use Rattle.gabc_headers.specs.Lines.{lines, on_first}
 use Rattle.gabc_headers.proofs.machines.PartsAfterState.{first_line, later_lines, lines_split}
 
@@ -11,11 +11,7 @@ has x (c ∷ l) = (c == x) || has x l
 
 pub has-append : (x : ℕ) (a b : List ℕ) → has x a ≡ false → has x b ≡ false → has x (a ++ b) ≡ false
 has-append x [] b h g = g
-has-append x (c ∷ a) b h g = by (c == x) h (has-append x a b)
-  where
-    by : (p : Bool) → (p || has x a) ≡ false → (has x a ≡ false → has x b ≡ false → has x (a ++ b) ≡ false) → (p || has x (a ++ b)) ≡ false
-    by true h r = absurd (cc)
-    by false h r = r h g
+has-append x (c ∷ a) b h g = let o = or_parts (c == x) (has x a) h in rw o.0 (has-append x a b o.1 g)
 
 -- after an LF the lines of what follows begin
 pub lines_after : (u t : List ℕ) → lines (u ++ 10 ∷ t) ≡ lines u ++ lines t
@@ -31,11 +27,7 @@ lines_after (c ∷ u) t = by (c == 10) (lines_after u t) (lines_split u)
 -- a text without LF is one line
 pub one_line : (u : List ℕ) → has 10 u ≡ false → lines u ≡ u ∷ []
 one_line [] h = refl
-one_line (c ∷ u) h = by (c == 10) h (one_line u)
-  where
-    by : (b : Bool) → (b || has 10 u) ≡ false → (has 10 u ≡ false → lines u ≡ u ∷ []) → cond b ([] ∷ lines u) (on_first c (lines u)) ≡ (c ∷ u) ∷ []
-    by true h r = absurd (cc)
-    by false h r = ap (on_first c) (r h)
+one_line (c ∷ u) h = let o = or_parts (c == 10) (has 10 u) h in rw o.0 (ap (on_first c) (one_line u o.1))
 
 -- the lines, with a text after the last
 abbrev pub with_last : List ℕ → List (List ℕ) → List (List ℕ)
