@@ -64,92 +64,52 @@ unreachable-requires-in-Ended-Text c =
     let st = stands c.self.inside.limits c.self.inside.part (string_bytes c.self.inside.text) (string_capacity c.self.inside.text) c.self.inside.machine c.self.inside.headers c.args.self.now c.self.view_is c.requires.reading c.self.invariant in
     emits_no_end c.self.inside.limits (string_bytes c.self.inside.text) (string_capacity c.self.inside.text) c.self.inside.machine c.push.new.self c.self.inside.headers c.args.c (IsUtf8-string_bytes c.self.inside.text) c.ranges.c.0 st.reads c.in-Ended-Text.field-0-0 c.in-Ended-Text.field-0-1 (sym c.in-Ended-Text.ensures.pushes ∙ ap (λ (x : HeaderEnding). (c.push.new.self, Ended x)) c.in-Ended-Text.field-0-is)
 
-pub returns-in-Some-clause-state : goal.returns-in-Some-clause-state
-returns-in-Some-clause-state c =
+pub returns-in-Some : goal.returns-in-Some
+returns-in-Some c =
     let st = stands c.self.inside.limits c.self.inside.part (string_bytes c.self.inside.text) (string_capacity c.self.inside.text) c.self.inside.machine c.self.inside.headers c.args.self.now c.self.view_is c.requires.reading c.self.invariant in
     let on = reads_on c.self.inside.limits (string_bytes c.self.inside.text) (string_capacity c.self.inside.text) c.self.inside.machine c.push.new.self c.self.inside.headers c.args.c (IsUtf8-string_bytes c.self.inside.text) c.ranges.c.0 st.reads (Some c.in-Some.event) c.push.ensures.bounds (sym c.in-Read.ensures.pushes ∙ ap (λ (e : Option HeaderEvent). (c.push.new.self, Read e)) c.in-Some.is) in
-    state_on c.self.inside.limits c.self.inside.part (string_bytes c.self.inside.text) (string_bytes c.push-in-Read.new.self) c.self.inside.headers c.take_event-found.new.headers c.args.self.now c.args.c st.part_is c.self.view_is c.take_event-found.ensures.hasher (rw c.in-Ok.ensures.bytes on.progress)
+    record {
+      state = state_on c.self.inside.limits c.self.inside.part (string_bytes c.self.inside.text) (string_bytes c.push-in-Read.new.self) c.self.inside.headers c.take_event-found.new.headers c.args.self.now c.args.c st.part_is c.self.view_is c.take_event-found.ensures.hasher (rw c.in-Ok.ensures.bytes on.progress);
+      out = out_is c.self.inside.limits c.self.inside.part (string_bytes c.self.inside.text) c.self.inside.headers c.args.self.now c.args.c (map (λ f. Found f) (found_list c.take_event-found.result)) c.args.out.now c.emit_finding.new.out st.part_is c.self.view_is (on.events ∙ (rw (← c.in-Ok.ensures.bytes, ← c.as_str.ensures.value) (ap (λ (x : List Finding). map (λ f. Found f) x) (sym c.take_event-found.ensures.found)))) c.emit_finding.ensures;
+      few = few_is c.self.inside.limits c.self.inside.part (string_bytes c.self.inside.text) c.self.inside.headers c.args.self.now c.args.c (map (λ f. Found f) (found_list c.take_event-found.result)) st.part_is c.self.view_is (on.events ∙ (rw (← c.in-Ok.ensures.bytes, ← c.as_str.ensures.value) (ap (λ (x : List Finding). map (λ f. Found f) x) (sym c.take_event-found.ensures.found)))) (few_found c.take_event-found.result);
+    }
 
-pub returns-in-Some-clause-out : goal.returns-in-Some-clause-out
-returns-in-Some-clause-out c =
-    let st = stands c.self.inside.limits c.self.inside.part (string_bytes c.self.inside.text) (string_capacity c.self.inside.text) c.self.inside.machine c.self.inside.headers c.args.self.now c.self.view_is c.requires.reading c.self.invariant in
-    let on = reads_on c.self.inside.limits (string_bytes c.self.inside.text) (string_capacity c.self.inside.text) c.self.inside.machine c.push.new.self c.self.inside.headers c.args.c (IsUtf8-string_bytes c.self.inside.text) c.ranges.c.0 st.reads (Some c.in-Some.event) c.push.ensures.bounds (sym c.in-Read.ensures.pushes ∙ ap (λ (e : Option HeaderEvent). (c.push.new.self, Read e)) c.in-Some.is) in
-    out_is c.self.inside.limits c.self.inside.part (string_bytes c.self.inside.text) c.self.inside.headers c.args.self.now c.args.c (map (λ f. Found f) (found_list c.take_event-found.result)) c.args.out.now c.emit_finding.new.out st.part_is c.self.view_is (on.events ∙ (rw (← c.in-Ok.ensures.bytes, ← c.as_str.ensures.value) (ap (λ (x : List Finding). map (λ f. Found f) x) (sym c.take_event-found.ensures.found)))) c.emit_finding.ensures
-
-pub returns-in-Some-clause-few : goal.returns-in-Some-clause-few
-returns-in-Some-clause-few c =
-    let st = stands c.self.inside.limits c.self.inside.part (string_bytes c.self.inside.text) (string_capacity c.self.inside.text) c.self.inside.machine c.self.inside.headers c.args.self.now c.self.view_is c.requires.reading c.self.invariant in
-    let on = reads_on c.self.inside.limits (string_bytes c.self.inside.text) (string_capacity c.self.inside.text) c.self.inside.machine c.push.new.self c.self.inside.headers c.args.c (IsUtf8-string_bytes c.self.inside.text) c.ranges.c.0 st.reads (Some c.in-Some.event) c.push.ensures.bounds (sym c.in-Read.ensures.pushes ∙ ap (λ (e : Option HeaderEvent). (c.push.new.self, Read e)) c.in-Some.is) in
-    few_is c.self.inside.limits c.self.inside.part (string_bytes c.self.inside.text) c.self.inside.headers c.args.self.now c.args.c (map (λ f. Found f) (found_list c.take_event-found.result)) st.part_is c.self.view_is (on.events ∙ (rw (← c.in-Ok.ensures.bytes, ← c.as_str.ensures.value) (ap (λ (x : List Finding). map (λ f. Found f) x) (sym c.take_event-found.ensures.found)))) (few_found c.take_event-found.result)
-
-pub returns-in_default-event-clause-state : goal.returns-in_default-event-clause-state
-returns-in_default-event-clause-state c =
+pub returns-in_default-event : goal.returns-in_default-event
+returns-in_default-event c =
     let st = stands c.self.inside.limits c.self.inside.part (string_bytes c.self.inside.text) (string_capacity c.self.inside.text) c.self.inside.machine c.self.inside.headers c.args.self.now c.self.view_is c.requires.reading c.self.invariant in
     let on = reads_on c.self.inside.limits (string_bytes c.self.inside.text) (string_capacity c.self.inside.text) c.self.inside.machine c.push.new.self c.self.inside.headers c.args.c (IsUtf8-string_bytes c.self.inside.text) c.ranges.c.0 st.reads None c.push.ensures.bounds (sym c.in-Read.ensures.pushes ∙ ap (λ (e : Option HeaderEvent). (c.push.new.self, Read e)) c.in_default-event.is) in
-    state_on c.self.inside.limits c.self.inside.part (string_bytes c.self.inside.text) (string_bytes c.push-in-Read.new.self) c.self.inside.headers c.self.inside.headers c.args.self.now c.args.c st.part_is c.self.view_is refl (rw c.in-Ok.ensures.bytes on.progress)
+    record {
+      state = state_on c.self.inside.limits c.self.inside.part (string_bytes c.self.inside.text) (string_bytes c.push-in-Read.new.self) c.self.inside.headers c.self.inside.headers c.args.self.now c.args.c st.part_is c.self.view_is refl (rw c.in-Ok.ensures.bytes on.progress);
+      out = out_is c.self.inside.limits c.self.inside.part (string_bytes c.self.inside.text) c.self.inside.headers c.args.self.now c.args.c [] c.args.out.now c.args.out.now st.part_is c.self.view_is on.events (nothing_added c.args.out.now);
+      few = few_is c.self.inside.limits c.self.inside.part (string_bytes c.self.inside.text) c.self.inside.headers c.args.self.now c.args.c [] st.part_is c.self.view_is on.events (omega arith);
+    }
 
-pub returns-in_default-event-clause-out : goal.returns-in_default-event-clause-out
-returns-in_default-event-clause-out c =
-    let st = stands c.self.inside.limits c.self.inside.part (string_bytes c.self.inside.text) (string_capacity c.self.inside.text) c.self.inside.machine c.self.inside.headers c.args.self.now c.self.view_is c.requires.reading c.self.invariant in
-    let on = reads_on c.self.inside.limits (string_bytes c.self.inside.text) (string_capacity c.self.inside.text) c.self.inside.machine c.push.new.self c.self.inside.headers c.args.c (IsUtf8-string_bytes c.self.inside.text) c.ranges.c.0 st.reads None c.push.ensures.bounds (sym c.in-Read.ensures.pushes ∙ ap (λ (e : Option HeaderEvent). (c.push.new.self, Read e)) c.in_default-event.is) in
-    out_is c.self.inside.limits c.self.inside.part (string_bytes c.self.inside.text) c.self.inside.headers c.args.self.now c.args.c [] c.args.out.now c.args.out.now st.part_is c.self.view_is on.events (nothing_added c.args.out.now)
-
-pub returns-in_default-event-clause-few : goal.returns-in_default-event-clause-few
-returns-in_default-event-clause-few c =
-    let st = stands c.self.inside.limits c.self.inside.part (string_bytes c.self.inside.text) (string_capacity c.self.inside.text) c.self.inside.machine c.self.inside.headers c.args.self.now c.self.view_is c.requires.reading c.self.invariant in
-    let on = reads_on c.self.inside.limits (string_bytes c.self.inside.text) (string_capacity c.self.inside.text) c.self.inside.machine c.push.new.self c.self.inside.headers c.args.c (IsUtf8-string_bytes c.self.inside.text) c.ranges.c.0 st.reads None c.push.ensures.bounds (sym c.in-Read.ensures.pushes ∙ ap (λ (e : Option HeaderEvent). (c.push.new.self, Read e)) c.in_default-event.is) in
-    few_is c.self.inside.limits c.self.inside.part (string_bytes c.self.inside.text) c.self.inside.headers c.args.self.now c.args.c [] st.part_is c.self.view_is on.events (omega arith)
-
-pub returns-in-Ok-score_len-clause-state : goal.returns-in-Ok-score_len-clause-state
-returns-in-Ok-score_len-clause-state c =
+pub returns-in-Ok-score_len : goal.returns-in-Ok-score_len
+returns-in-Ok-score_len c =
     let st = stands c.self.inside.limits c.self.inside.part (string_bytes c.self.inside.text) (string_capacity c.self.inside.text) c.self.inside.machine c.self.inside.headers c.args.self.now c.self.view_is c.requires.reading c.self.invariant in
     let emits = emits_whole c.self.inside.limits (string_bytes c.self.inside.text) (string_capacity c.self.inside.text) c.self.inside.machine c.push.new.self c.self.inside.headers c.args.c (IsUtf8-string_bytes c.self.inside.text) c.ranges.c.0 st.reads c.in-Ended-Score.place c.in-Ended-Score.field-0-1 c.in-Ended-Score.open_line c.in-Ok-score_len.size (sym c.in-Ended-Score.ensures.pushes ∙ ap (λ (x : HeaderEnding). (c.push.new.self, Ended x)) c.in-Ended-Score.field-0-is) (rw (← c.as_str-text.ensures.value, ← c.in-Ended-Score.place-is, ← c.in-Ended-Score.open_line-is) (sym c.in-Ok-score_len.ensures)) in
-    state_after c.self.inside.limits c.self.inside.part (string_bytes c.self.inside.text) c.self.inside.headers c.args.self.now c.args.c st.part_is c.self.view_is emits.progress_is
+    record {
+      state = state_after c.self.inside.limits c.self.inside.part (string_bytes c.self.inside.text) c.self.inside.headers c.args.self.now c.args.c st.part_is c.self.view_is emits.progress_is;
+      out = out_is c.self.inside.limits c.self.inside.part (string_bytes c.self.inside.text) c.self.inside.headers c.args.self.now c.args.c (map (λ f. Found f) (name_found c.in-Ended-Score.place (spelled_entries (string_bytes c.self.inside.text) c.self.inside.headers.items)) ++ event_of_book (spelled_entries (string_bytes c.self.inside.text) c.self.inside.headers.items) ∷ []) c.args.out.now c.emit_heads.new.out st.part_is c.self.view_is emits.events_are (rw (← c.in-Ended-Score.place-is, ← c.as_str-text.ensures.value, ← c.of.ensures) c.emit_heads.ensures);
+      few = few_is c.self.inside.limits c.self.inside.part (string_bytes c.self.inside.text) c.self.inside.headers c.args.self.now c.args.c (map (λ f. Found f) (name_found c.in-Ended-Score.place (spelled_entries (string_bytes c.self.inside.text) c.self.inside.headers.items)) ++ event_of_book (spelled_entries (string_bytes c.self.inside.text) c.self.inside.headers.items) ∷ []) st.part_is c.self.view_is emits.events_are (few_heads c.in-Ended-Score.place (spelled_entries (string_bytes c.self.inside.text) c.self.inside.headers.items) (event_of_book (spelled_entries (string_bytes c.self.inside.text) c.self.inside.headers.items)));
+    }
 
-pub returns-in-Ok-score_len-clause-out : goal.returns-in-Ok-score_len-clause-out
-returns-in-Ok-score_len-clause-out c =
-    let st = stands c.self.inside.limits c.self.inside.part (string_bytes c.self.inside.text) (string_capacity c.self.inside.text) c.self.inside.machine c.self.inside.headers c.args.self.now c.self.view_is c.requires.reading c.self.invariant in
-    let emits = emits_whole c.self.inside.limits (string_bytes c.self.inside.text) (string_capacity c.self.inside.text) c.self.inside.machine c.push.new.self c.self.inside.headers c.args.c (IsUtf8-string_bytes c.self.inside.text) c.ranges.c.0 st.reads c.in-Ended-Score.place c.in-Ended-Score.field-0-1 c.in-Ended-Score.open_line c.in-Ok-score_len.size (sym c.in-Ended-Score.ensures.pushes ∙ ap (λ (x : HeaderEnding). (c.push.new.self, Ended x)) c.in-Ended-Score.field-0-is) (rw (← c.as_str-text.ensures.value, ← c.in-Ended-Score.place-is, ← c.in-Ended-Score.open_line-is) (sym c.in-Ok-score_len.ensures)) in
-    out_is c.self.inside.limits c.self.inside.part (string_bytes c.self.inside.text) c.self.inside.headers c.args.self.now c.args.c (map (λ f. Found f) (name_found c.in-Ended-Score.place (spelled_entries (string_bytes c.self.inside.text) c.self.inside.headers.items)) ++ event_of_book (spelled_entries (string_bytes c.self.inside.text) c.self.inside.headers.items) ∷ []) c.args.out.now c.emit_heads.new.out st.part_is c.self.view_is emits.events_are (rw (← c.in-Ended-Score.place-is, ← c.as_str-text.ensures.value, ← c.of.ensures) c.emit_heads.ensures)
-
-pub returns-in-Ok-score_len-clause-few : goal.returns-in-Ok-score_len-clause-few
-returns-in-Ok-score_len-clause-few c =
-    let st = stands c.self.inside.limits c.self.inside.part (string_bytes c.self.inside.text) (string_capacity c.self.inside.text) c.self.inside.machine c.self.inside.headers c.args.self.now c.self.view_is c.requires.reading c.self.invariant in
-    let emits = emits_whole c.self.inside.limits (string_bytes c.self.inside.text) (string_capacity c.self.inside.text) c.self.inside.machine c.push.new.self c.self.inside.headers c.args.c (IsUtf8-string_bytes c.self.inside.text) c.ranges.c.0 st.reads c.in-Ended-Score.place c.in-Ended-Score.field-0-1 c.in-Ended-Score.open_line c.in-Ok-score_len.size (sym c.in-Ended-Score.ensures.pushes ∙ ap (λ (x : HeaderEnding). (c.push.new.self, Ended x)) c.in-Ended-Score.field-0-is) (rw (← c.as_str-text.ensures.value, ← c.in-Ended-Score.place-is, ← c.in-Ended-Score.open_line-is) (sym c.in-Ok-score_len.ensures)) in
-    few_is c.self.inside.limits c.self.inside.part (string_bytes c.self.inside.text) c.self.inside.headers c.args.self.now c.args.c (map (λ f. Found f) (name_found c.in-Ended-Score.place (spelled_entries (string_bytes c.self.inside.text) c.self.inside.headers.items)) ++ event_of_book (spelled_entries (string_bytes c.self.inside.text) c.self.inside.headers.items) ∷ []) st.part_is c.self.view_is emits.events_are (few_heads c.in-Ended-Score.place (spelled_entries (string_bytes c.self.inside.text) c.self.inside.headers.items) (event_of_book (spelled_entries (string_bytes c.self.inside.text) c.self.inside.headers.items)))
-
-pub returns-in-Err-clause-state : goal.returns-in-Err-clause-state
-returns-in-Err-clause-state c =
+pub returns-in-Err : goal.returns-in-Err
+returns-in-Err c =
     let st = stands c.self.inside.limits c.self.inside.part (string_bytes c.self.inside.text) (string_capacity c.self.inside.text) c.self.inside.machine c.self.inside.headers c.args.self.now c.self.view_is c.requires.reading c.self.invariant in
     let emits = emits_stop c.self.inside.limits (string_bytes c.self.inside.text) (string_capacity c.self.inside.text) c.self.inside.machine c.push.new.self c.self.inside.headers c.args.c (IsUtf8-string_bytes c.self.inside.text) c.ranges.c.0 st.reads c.in-Ended-Score.place c.in-Ended-Score.field-0-1 c.in-Ended-Score.open_line c.in-Err.fault (sym c.in-Ended-Score.ensures.pushes ∙ ap (λ (x : HeaderEnding). (c.push.new.self, Ended x)) c.in-Ended-Score.field-0-is) (rw (← c.as_str-text.ensures.value, ← c.in-Ended-Score.place-is, ← c.in-Ended-Score.open_line-is) (sym c.in-Err.ensures)) in
-    state_over c.self.inside.limits c.self.inside.part (string_bytes c.self.inside.text) c.self.inside.headers c.args.self.now c.stop.new.self c.args.c st.part_is c.self.view_is emits.progress_is c.stop.ensures.state
+    record {
+      state = state_over c.self.inside.limits c.self.inside.part (string_bytes c.self.inside.text) c.self.inside.headers c.args.self.now c.stop.new.self c.args.c st.part_is c.self.view_is emits.progress_is c.stop.ensures.state;
+      out = out_is c.self.inside.limits c.self.inside.part (string_bytes c.self.inside.text) c.self.inside.headers c.args.self.now c.args.c (Stop c.in-Err.fault ∷ []) c.args.out.now c.stop.new.out st.part_is c.self.view_is emits.events_are c.stop.ensures.out;
+      few = few_is c.self.inside.limits c.self.inside.part (string_bytes c.self.inside.text) c.self.inside.headers c.args.self.now c.args.c (Stop c.in-Err.fault ∷ []) st.part_is c.self.view_is emits.events_are (omega arith);
+    }
 
-pub returns-in-Err-clause-out : goal.returns-in-Err-clause-out
-returns-in-Err-clause-out c =
-    let st = stands c.self.inside.limits c.self.inside.part (string_bytes c.self.inside.text) (string_capacity c.self.inside.text) c.self.inside.machine c.self.inside.headers c.args.self.now c.self.view_is c.requires.reading c.self.invariant in
-    let emits = emits_stop c.self.inside.limits (string_bytes c.self.inside.text) (string_capacity c.self.inside.text) c.self.inside.machine c.push.new.self c.self.inside.headers c.args.c (IsUtf8-string_bytes c.self.inside.text) c.ranges.c.0 st.reads c.in-Ended-Score.place c.in-Ended-Score.field-0-1 c.in-Ended-Score.open_line c.in-Err.fault (sym c.in-Ended-Score.ensures.pushes ∙ ap (λ (x : HeaderEnding). (c.push.new.self, Ended x)) c.in-Ended-Score.field-0-is) (rw (← c.as_str-text.ensures.value, ← c.in-Ended-Score.place-is, ← c.in-Ended-Score.open_line-is) (sym c.in-Err.ensures)) in
-    out_is c.self.inside.limits c.self.inside.part (string_bytes c.self.inside.text) c.self.inside.headers c.args.self.now c.args.c (Stop c.in-Err.fault ∷ []) c.args.out.now c.stop.new.out st.part_is c.self.view_is emits.events_are c.stop.ensures.out
-
-pub returns-in-Err-clause-few : goal.returns-in-Err-clause-few
-returns-in-Err-clause-few c =
-    let st = stands c.self.inside.limits c.self.inside.part (string_bytes c.self.inside.text) (string_capacity c.self.inside.text) c.self.inside.machine c.self.inside.headers c.args.self.now c.self.view_is c.requires.reading c.self.invariant in
-    let emits = emits_stop c.self.inside.limits (string_bytes c.self.inside.text) (string_capacity c.self.inside.text) c.self.inside.machine c.push.new.self c.self.inside.headers c.args.c (IsUtf8-string_bytes c.self.inside.text) c.ranges.c.0 st.reads c.in-Ended-Score.place c.in-Ended-Score.field-0-1 c.in-Ended-Score.open_line c.in-Err.fault (sym c.in-Ended-Score.ensures.pushes ∙ ap (λ (x : HeaderEnding). (c.push.new.self, Ended x)) c.in-Ended-Score.field-0-is) (rw (← c.as_str-text.ensures.value, ← c.in-Ended-Score.place-is, ← c.in-Ended-Score.open_line-is) (sym c.in-Err.ensures)) in
-    few_is c.self.inside.limits c.self.inside.part (string_bytes c.self.inside.text) c.self.inside.headers c.args.self.now c.args.c (Stop c.in-Err.fault ∷ []) st.part_is c.self.view_is emits.events_are (omega arith)
-
-pub returns-in-Ended-Limit-clause-state : goal.returns-in-Ended-Limit-clause-state
-returns-in-Ended-Limit-clause-state c =
+pub returns-in-Ended-Limit : goal.returns-in-Ended-Limit
+returns-in-Ended-Limit c =
     let st = stands c.self.inside.limits c.self.inside.part (string_bytes c.self.inside.text) (string_capacity c.self.inside.text) c.self.inside.machine c.self.inside.headers c.args.self.now c.self.view_is c.requires.reading c.self.invariant in
     let emits = emits_limit c.self.inside.limits (string_bytes c.self.inside.text) (string_capacity c.self.inside.text) c.self.inside.machine c.push.new.self c.self.inside.headers c.args.c (IsUtf8-string_bytes c.self.inside.text) c.ranges.c.0 st.reads c.in-Ended-Limit.place (sym c.in-Ended-Limit.ensures.pushes ∙ ap (λ (x : HeaderEnding). (c.push.new.self, Ended x)) c.in-Ended-Limit.field-0-is) in
-    state_over c.self.inside.limits c.self.inside.part (string_bytes c.self.inside.text) c.self.inside.headers c.args.self.now c.stop-in-Ended-Limit.new.self c.args.c st.part_is c.self.view_is emits.progress_is c.stop-in-Ended-Limit.ensures.state
-
-pub returns-in-Ended-Limit-clause-out : goal.returns-in-Ended-Limit-clause-out
-returns-in-Ended-Limit-clause-out c =
-    let st = stands c.self.inside.limits c.self.inside.part (string_bytes c.self.inside.text) (string_capacity c.self.inside.text) c.self.inside.machine c.self.inside.headers c.args.self.now c.self.view_is c.requires.reading c.self.invariant in
-    let emits = emits_limit c.self.inside.limits (string_bytes c.self.inside.text) (string_capacity c.self.inside.text) c.self.inside.machine c.push.new.self c.self.inside.headers c.args.c (IsUtf8-string_bytes c.self.inside.text) c.ranges.c.0 st.reads c.in-Ended-Limit.place (sym c.in-Ended-Limit.ensures.pushes ∙ ap (λ (x : HeaderEnding). (c.push.new.self, Ended x)) c.in-Ended-Limit.field-0-is) in
-    out_is c.self.inside.limits c.self.inside.part (string_bytes c.self.inside.text) c.self.inside.headers c.args.self.now c.args.c (Stop (record { place = c.in-Ended-Limit.place; code = F4 }) ∷ []) c.args.out.now c.stop-in-Ended-Limit.new.out st.part_is c.self.view_is emits.events_are (rw (← c.in-Ended-Limit.place-is) c.stop-in-Ended-Limit.ensures.out)
-
-pub returns-in-Ended-Limit-clause-few : goal.returns-in-Ended-Limit-clause-few
-returns-in-Ended-Limit-clause-few c =
-    let st = stands c.self.inside.limits c.self.inside.part (string_bytes c.self.inside.text) (string_capacity c.self.inside.text) c.self.inside.machine c.self.inside.headers c.args.self.now c.self.view_is c.requires.reading c.self.invariant in
-    let emits = emits_limit c.self.inside.limits (string_bytes c.self.inside.text) (string_capacity c.self.inside.text) c.self.inside.machine c.push.new.self c.self.inside.headers c.args.c (IsUtf8-string_bytes c.self.inside.text) c.ranges.c.0 st.reads c.in-Ended-Limit.place (sym c.in-Ended-Limit.ensures.pushes ∙ ap (λ (x : HeaderEnding). (c.push.new.self, Ended x)) c.in-Ended-Limit.field-0-is) in
-    few_is c.self.inside.limits c.self.inside.part (string_bytes c.self.inside.text) c.self.inside.headers c.args.self.now c.args.c (Stop (record { place = c.in-Ended-Limit.place; code = F4 }) ∷ []) st.part_is c.self.view_is emits.events_are (omega arith)
+    record {
+      state = state_over c.self.inside.limits c.self.inside.part (string_bytes c.self.inside.text) c.self.inside.headers c.args.self.now c.stop-in-Ended-Limit.new.self c.args.c st.part_is c.self.view_is emits.progress_is c.stop-in-Ended-Limit.ensures.state;
+      out = out_is c.self.inside.limits c.self.inside.part (string_bytes c.self.inside.text) c.self.inside.headers c.args.self.now c.args.c (Stop (record { place = c.in-Ended-Limit.place; code = F4 }) ∷ []) c.args.out.now c.stop-in-Ended-Limit.new.out st.part_is c.self.view_is emits.events_are (rw (← c.in-Ended-Limit.place-is) c.stop-in-Ended-Limit.ensures.out);
+      few = few_is c.self.inside.limits c.self.inside.part (string_bytes c.self.inside.text) c.self.inside.headers c.args.self.now c.args.c (Stop (record { place = c.in-Ended-Limit.place; code = F4 }) ∷ []) st.part_is c.self.view_is emits.events_are (omega arith);
+    }
