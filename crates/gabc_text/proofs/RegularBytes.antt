@@ -1,11 +1,10 @@
 -- Bytes of letters and of runs, one after another.
-use Rattle.gabc_text.proofs.tokens.CasesOfCharacters.{no_special, special_is_low}
 use Rattle.std.proofs.Common.{◌≡◌, ◌≢◌, ℕ, zero, suc, slice_index, ◌<◌, List, [], ◌∷◌, ◌++◌, Bool, true, false, not, ◌||◌, ◌&&◌, ◌==◌, length, refl, sym, ap, ap₂, subst, ◌∙◌, arith, ◌+◌, ◌-◌, ◌≤◌, take, drop, get_or, append-nil, take_all, length-drop, drop-cons, ◌*◌, ◌/◌, ◌%◌, nat_lt, mod-lt, Some}
 use Rattle.std.specs.List.{All, list_all}
 use Rattle.std.specs.Str.{chars, all_scalars}
 use Rattle.std.proofs.lemmas.List.Elements.{All-append, All-from_recursion}
 use Rattle.std.proofs.lemmas.List.Folds.{list_all-append}
-use Rattle.std.proofs.lemmas.Bool.{eqb-true, eqb-false, ltb-true, ltb-false, lt-ltb, true≢false, and_parts, le-ltb, not-true}
+use Rattle.std.proofs.lemmas.Bool.{eqb-true, eqb-false, ltb-true, lt-ltb, true≢false, and_parts, le-ltb, not-true}
 use Rattle.std.proofs.Math.Nat.{div-add-mod}
 use Rattle.std.proofs.Math.Seq.{take-add}
 use Rattle.std.proofs.lemmas.List.{length-take-le}
@@ -26,6 +25,7 @@ use Rattle.gabc_text.specs.machine.RegularBytes.{is_low, is_plain_byte, word_aft
 use Rattle.gabc_text.proofs.printing.TokensAreReadAgain.{letter_stable}
 use Rattle.gabc_text.proofs.printing.PiecesPrintWell.{letter_emits, special_no_blank}
 use Rattle.gabc_text.proofs.printing.PrintedPiecesAreJoined.{printed_join, good_join, known_join, tags_join, word_join, blank_join}
+use Rattle.gabc_text.proofs.tokens.CasesOfCharacters.{no_special, special_is_low}
 
 -- ---- spelled characters
 

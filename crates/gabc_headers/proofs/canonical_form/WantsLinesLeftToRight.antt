@@ -1,7 +1,7 @@
 -- Whether a value wants lines of its own, from left to right.
-use Rattle.std.proofs.lemmas.Bool.{or_parts}
 use Rattle.std.proofs.Common.{rules, ◌≢◌, ◌≡◌, ◌⊎◌, inl, inr, ℕ, List, [], ◌∷◌, ◌++◌, Bool, true, false, cond, ◌||◌, ◌&&◌, ◌==◌, refl, sym, ap, ◌∙◌, append_assoc, append-nil}
 use Rattle.std.proofs.Math.Bool.{or-true, and-false, or-false, and-true, or_assoc, or_self}
+use Rattle.std.proofs.lemmas.Bool.{or_parts}
 use Rattle.gabc_headers.specs.Lines.{lines, on_first, is_bare, is_mark, has_mark}
 use Rattle.gabc_headers.specs.Canonical.{wants_lines}
 

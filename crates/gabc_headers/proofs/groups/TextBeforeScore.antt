@@ -1,7 +1,7 @@
 -- The text before the line `%%`, one character after the other.
-use Rattle.std.proofs.lemmas.Bool.{or_parts}
 use Rattle.std.proofs.Common.{◌≡◌, ℕ, ◌+◌, suc, List, [], ◌∷◌, ◌++◌, length, Bool, true, false, cond, ◌&&◌, ◌||◌, ◌==◌, refl, sym, ap, ◌∙◌, arith, append_assoc}
 use Rattle.std.proofs.lemmas.Bool.Decides.{nat_tests}
+use Rattle.std.proofs.lemmas.Bool.{or_parts}
 use Rattle.gabc_headers.specs.Lines.{lines, on_first, is_percent, is_score_line, head_of, has_score, lines_len}
 use Rattle.gabc_headers.specs.Parts.{HeaderPart}
 use Rattle.gabc_headers.specs.witness.Parts.{LineContext, outside, within, parts, parts_of_line, context_below, head_parts}

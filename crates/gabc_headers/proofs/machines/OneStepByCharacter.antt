@@ -1,7 +1,7 @@
 -- One step of the machine, by the kind of the character; and the end of the text.
-use Rattle.std.proofs.lemmas.Bool.{eqb-true}
 use Rattle.std.proofs.Common.{◌≡◌, ℕ, ◌+◌, List, [], ◌∷◌, ◌++◌, drop, Bool, true, false, cond, ◌&&◌, ◌==◌, ◌≢◌, Option, Some, None, refl, sym, ap, ◌∙◌, subst, arith, append-nil, slice_range}
 use Rattle.std.proofs.lemmas.Bool.Decides.{nat_tests}
+use Rattle.std.proofs.lemmas.Bool.{eqb-true}
 use Rattle.gabc_headers.specs.Lines.{is_blank, is_bare}
 use Rattle.gabc_headers.specs.Parts.{HeaderPart, is_good_name}
 use Rattle.gabc_headers.specs.declared.characters.Run.{Run}

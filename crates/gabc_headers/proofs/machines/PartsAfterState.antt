@@ -1,7 +1,6 @@
 -- Where the machine stands: the parts of the text are those emitted so far, and those of what is left.
-use Rattle.gabc_headers.proofs.groups.GroupsTellParts.{skipped_parts, colonless_parts}
+use Rattle.std.proofs.Common.{◌≡◌, ℕ, ◌+◌, suc, List, [], ◌∷◌, ◌++◌, length, drop, Bool, true, false, cond, ◌&&◌, ◌==◌, Option, Some, None, refl, sym, ap, ◌∙◌, subst, arith, append_assoc, append-nil, length-append, slice_range}
 use Rattle.std.proofs.Math.Bool.{and-false}
-use Rattle.std.proofs.Common.{◌≡◌, ℕ, ◌+◌, suc, List, [], ◌∷◌, ◌++◌, length, drop, Bool, true, false, cond, ◌&&◌, ◌||◌, ◌==◌, not, Option, Some, None, refl, sym, ap, ◌∙◌, subst, arith, append_assoc, append-nil, length-append, slice_range}
 use Rattle.gabc_headers.specs.Lines.{mark_end, run_len, lines, on_first, is_blank, is_blank_or_lf, ends_no_value, is_bare, has_mark, before_mark, has_colon, before_colon, after_colon, trim_value, trim_name}
 use Rattle.gabc_headers.specs.Parts.{HeaderPart, left_out, header, unended, ended_parts, bad_name_parts, name_of, good_name, is_good_name}
 use Rattle.gabc_headers.specs.witness.Parts.{outside, within, parts}
@@ -18,6 +17,7 @@ use Rattle.gabc_headers.specs.machine.PartMachine.{span_of, at_line_start, event
 use Rattle.gabc_headers.proofs.machines.EventsAreParts.{text_at, seen, span_slice}
 use Rattle.gabc_headers.proofs.marks_of_lines.RunByCharacter.{wanted, RunOf, Closed, begin_run, run_closes, run_open}
 use Rattle.gabc_headers.proofs.machines.TrimByCharacter.{TrimOf, begin_trim, trim_push, trim_slice}
+use Rattle.gabc_headers.proofs.groups.GroupsTellParts.{skipped_parts, colonless_parts}
 
 -- ---- lines
 

@@ -1,6 +1,6 @@
 -- Trims as a loop over characters has them: how many characters are left out at the start, and how many are kept.
-use Rattle.std.proofs.lemmas.Bool.{and_parts}
 use Rattle.std.proofs.Common.{◌≡◌, ℕ, ◌-◌, suc, zero, List, [], ◌∷◌, ◌++◌, length, take, drop, Bool, true, false, cond, ◌&&◌, refl, sym, ap, ◌∙◌, arith, zero-le, take_all}
+use Rattle.std.proofs.lemmas.Bool.{and_parts}
 use Rattle.gabc_headers.specs.Lines.{trim_start, trim_end, unless_last}
 
 -- whether all pass, and how many pass before the first that does not

@@ -1,8 +1,8 @@
 -- The machine's trim, one character after the other.
-use Rattle.std.proofs.lemmas.Bool.{and_parts}
-use Rattle.std.proofs.Math.Bool.{and-true, and_assoc}
 use Rattle.std.proofs.Common.{◌≡◌, ℕ, ◌+◌, ◌-◌, ◌≤◌, suc, List, [], ◌∷◌, ◌++◌, length, take, drop, Bool, true, false, cond, ◌&&◌, refl, sym, ap, ◌∙◌, arith, length-append, length-drop, slice_range, drop-drop}
 use Rattle.std.proofs.lemmas.List.{drop-append-le, take-append-le}
+use Rattle.std.proofs.lemmas.Bool.{and_parts}
+use Rattle.std.proofs.Math.Bool.{and-true, and_assoc}
 use Rattle.gabc_headers.specs.Lines.{trim_start, trim_end, unless_last}
 use Rattle.gabc_headers.specs.declared.part_machine.Trim.{Trim}
 use Rattle.gabc_headers.specs.machine.PartMachine.{next_trim}

@@ -1,8 +1,8 @@
 -- What a line's start says of its first mark, whatever follows.
-use Rattle.std.proofs.Math.Bool.{and-false, or-true}
 use Rattle.std.proofs.Common.{◌≡◌, ℕ, ◌+◌, ◌-◌, ◌≤◌, suc, zero, List, [], ◌∷◌, ◌++◌, length, Bool, true, false, ◌||◌, ◌&&◌, ◌==◌, ◌≢◌, nat_le, refl, sym, ap, ◌∙◌, arith, append_assoc, append-nil, length-append}
 use Rattle.std.proofs.lemmas.Bool.Decides.{nat_tests}
 use Rattle.std.proofs.lemmas.Bool.{and_parts}
+use Rattle.std.proofs.Math.Bool.{and-false, or-true}
 use Rattle.gabc_headers.specs.Lines.{mark_end, run_len, is_blank, is_bare, is_mark, has_mark, before_mark}
 use Rattle.gabc_headers.proofs.machines.TrimAsLoop.{all_out}
 

@@ -1,7 +1,7 @@
 -- Texts of several lines in which no mark of two or more `;` begins, and none of whose later lines begins with `%%`.
-use Rattle.std.proofs.Math.Bool.{and-false}
 use Rattle.std.proofs.Common.{◌≡◌, ℕ, ◌-◌, ◌==◌, List, [], ◌∷◌, ◌++◌, Bool, true, false, cond, ◌||◌, ◌&&◌, ◌⊎◌, inl, inr, nat_le, refl, sym, ap, subst, ◌∙◌, append_assoc, append-nil}
 use Rattle.std.proofs.lemmas.Bool.{or_parts}
+use Rattle.std.proofs.Math.Bool.{and-false}
 use Rattle.gabc_headers.specs.Lines.{lines, on_first, is_blank, is_bare, is_mark, has_mark, before_mark, is_blank_or_lf, ends_no_value, is_score_line}
 use Rattle.gabc_headers.specs.Groups.{HaveNoMark}
 use Rattle.gabc_headers.proofs.machines.PartsAfterState.{first_line, later_lines, lines_split}

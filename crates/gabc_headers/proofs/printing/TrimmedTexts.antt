@@ -1,6 +1,6 @@
 -- Trimmed texts, and what trimming leaves of a text.
-use Rattle.std.proofs.lemmas.Bool.{or_parts}
 use Rattle.std.proofs.Common.{◌≡◌, ℕ, ◌==◌, List, [], ◌∷◌, ◌++◌, Bool, true, false, cond, ◌||◌, ◌&&◌, refl, sym, ap, ◌∙◌}
+use Rattle.std.proofs.lemmas.Bool.{or_parts}
 use Rattle.gabc_headers.specs.Lines.{trim_start, trim_end, unless_last, is_blank, is_bare}
 use Rattle.gabc_headers.proofs.printing.LinesOfTexts.{has}
 

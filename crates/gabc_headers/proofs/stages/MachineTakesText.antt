@@ -1,8 +1,8 @@
 -- What a machine that has read a text keeps, character by character.
-use Rattle.std.proofs.lemmas.Bool.{and_parts}
 use Rattle.std.proofs.Common.{◌≡◌, ℕ, ◌+◌, ◌==◌, ◌&&◌, nat_lt, List, [], ◌∷◌, ◌++◌, Bool, true, false, cond, refl, sym, ap, subst, arith, Option, None, append_assoc, append-nil, zero-add}
 use Rattle.std.proofs.lemmas.Bool.Decides.{nat_tests}
 use Rattle.std.specs.Char.{len_utf8}
+use Rattle.std.proofs.lemmas.Bool.{and_parts}
 use Rattle.gabc_headers.specs.declared.events.HeaderEvent.{HeaderEvent}
 use Rattle.gabc_headers.specs.declared.events.HeaderEnding.TheVariants.{Score, Limit}
 use Rattle.gabc_headers.specs.declared.header_machine.HeaderMachine.{HeaderMachine}

@@ -1,5 +1,4 @@
 -- Bytes up to a CR byte are characters up to a CR.
-use Rattle.gabc_places.proofs.NumbersByTests.{same_eqb}
 use Rattle.std.proofs.Common.{◌≡◌, ℕ, ◌+◌, ◌<◌, ◌≤◌, Bool, true, false, cond, List, [], ◌∷◌, ◌++◌, filter, length, take, drop, slice_index, refl, ap, sym, ◌∙◌, arith, append_assoc, length-append, ◌==◌, IsUtf8}
 use Rattle.std.specs.Str.{chars, IsCharBoundary, NonePass}
 use Rattle.std.proofs.lemmas.Bool.Decides.{nat_tests}
@@ -10,6 +9,7 @@ use Rattle.gabc_places.specs.Text.{is_shown, text_of_characters}
 use Rattle.gabc_places.proofs.texts.CharactersOfStrings.{chars-split}
 use Rattle.gabc_places.proofs.texts.TextIsReadLineByLine.{text_after, line-shown, line-last, after-return}
 use lib.Utf8.{encode, encodes}
+use Rattle.gabc_places.proofs.NumbersByTests.{same_eqb}
 
 -- no byte is this one
 abbrev pub LacksByte : ℕ → List ℕ → Type 0

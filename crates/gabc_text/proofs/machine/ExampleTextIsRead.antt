@@ -1,6 +1,4 @@
 -- The text that a state stands for is what was read of a token, in that state.
-use Rattle.gabc_text.proofs.tokens.TokensByCharacter.{lacks}
-use Rattle.gabc_text.specs.declared.token.TagEffect.TheVariants.{Begins}
 use Rattle.std.proofs.Common.{◌≡◌, ℕ, ◌-◌, ◌<◌, ◌≤◌, ◌==◌, nat_lt, List, [], ◌∷◌, ◌++◌, Bool, true, false, cond, refl, ap, ◌∙◌, ne_eqb, length, min, take, Some, arith, codes}
 use Rattle.std.proofs.lemmas.Bool.{ltb-true, ltb-false}
 use Rattle.std.proofs.Math.Bool.{and-false}
@@ -23,6 +21,8 @@ use Rattle.gabc_text.proofs.machine.EventsStepByStep.{stepwise, stepwise_left}
 use Rattle.gabc_text.proofs.tokens.RawEndingIsMatched.{prefix_none}
 use Rattle.gabc_text.proofs.machine.TagNameByCharacter.{is_name, name_lacks}
 use Rattle.gabc_text.proofs.machine.TokenStateByCharacter.{Holds, InRaw}
+use Rattle.gabc_text.proofs.tokens.TokensByCharacter.{lacks}
+use Rattle.gabc_text.specs.declared.token.TagEffect.TheVariants.{Begins}
 
 -- ---- a raw part
 

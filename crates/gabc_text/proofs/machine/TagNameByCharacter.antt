@@ -1,8 +1,8 @@
 -- A tag's name as its characters come: its first ones show what the tag does.
-use Rattle.std.proofs.Math.Bool.{and-false}
 use Rattle.std.proofs.Common.{◌≡◌, ℕ, List, [], ◌∷◌, ◌++◌, length, map, nat_lt, Bool, true, false, not, cond, ◌&&◌, ◌||◌, ◌==◌, refl, sym, ap, ◌∙◌, arith, append_assoc, append-nil, length-append, ne_eqb, codes}
 use Rattle.std.specs.List.{list_all, zip}
 use Rattle.std.proofs.lemmas.Bool.{eqb-true, eqb-false, ltb-false, le-ltb, and_parts, false_from_ne_true}
+use Rattle.std.proofs.Math.Bool.{and-false}
 use Rattle.gabc_text.specs.declared.token.TagEffect.{TagEffect}
 use Rattle.gabc_text.specs.declared.token.TagEffect.TheVariants.{Other}
 use Rattle.gabc_text.specs.declared.tags.TheConstants.{KEPT}

@@ -1,7 +1,7 @@
 -- What was read of a token, by the state, and what a character more does.
-use Rattle.std.proofs.Math.Seq.{drop-append_seam}
 use Rattle.std.proofs.Common.{◌≡◌, ℕ, zero, suc, ◌+◌, ◌<◌, ◌==◌, nat_lt, List, [], ◌∷◌, ◌++◌, Bool, true, false, cond, refl, sym, ap, ◌∙◌, subst, ne_eqb, append_assoc, append-nil, length, length-take, take, drop, Option, Some, None, arith, codes}
 use Rattle.std.proofs.lemmas.Bool.{eqb-true, eqb-false}
+use Rattle.std.proofs.Math.Seq.{drop-append_seam}
 use Rattle.gabc_text.specs.declared.token.TokenKind.{TokenKind}
 use Rattle.gabc_text.specs.declared.token.TokenKind.TheVariants as kind
 use Rattle.gabc_text.specs.declared.token.TagEffect.{TagEffect}

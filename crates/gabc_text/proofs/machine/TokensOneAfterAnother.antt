@@ -1,5 +1,5 @@
 -- Tokens one after another, lists of events, and where they end.
-use Rattle.std.proofs.Common.{◌≡◌, ℕ, suc, ◌+◌, List, [], ◌∷◌, ◌++◌, true, refl, ap, ◌∙◌, subst, append-nil, length, length-append, drop, Some, arith}
+use Rattle.std.proofs.Common.{◌≡◌, ℕ, ◌+◌, List, [], ◌∷◌, ◌++◌, true, refl, ap, ◌∙◌, subst, append-nil, length, length-append, drop, Some, arith}
 use Rattle.gabc_text.specs.declared.token.TokenKind.{TokenKind}
 use Rattle.gabc_text.specs.declared.token.TokenKind.TheVariants as kind
 use Rattle.gabc_text.specs.declared.token.TagEffect.TheVariants.{Other}

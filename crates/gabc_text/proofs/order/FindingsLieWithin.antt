@@ -1,7 +1,5 @@
 -- What is emitted of a text by a point is found no later than there.
-use Rattle.std.proofs.Math.Seq.{drop-append_seam}
-use Rattle.gabc_text.proofs.tokens.TokensSpellPrefix.{left_of}
-use Rattle.std.proofs.Common.{◌≡◌, ℕ, suc, ◌+◌, List, [], ◌∷◌, ◌++◌, Bool, true, false, cond, refl, sym, ap, ◌∙◌, subst, append_assoc, append-nil, length, length-append, drop, take, map, arith}
+use Rattle.std.proofs.Common.{◌≡◌, ℕ, suc, ◌+◌, List, [], ◌∷◌, ◌++◌, Bool, true, false, cond, refl, sym, ap, ◌∙◌, subst, append_assoc, append-nil, length, take, map, arith}
 use Rattle.gabc_places.specs.StageLaw.{concat_of}
 use Rattle.gabc_places.specs.Place.{next_place, place_past}
 use Rattle.gabc_places.specs.Findings.{IsUpTo, LieBetween}
@@ -15,13 +13,14 @@ use Rattle.gabc_text.specs.declared.text_event.TextEvent.{TextEvent}
 use Rattle.gabc_text.specs.declared.text_event.TextEvent.TheVariants as out
 use Rattle.gabc_text.specs.Token.{Token, spelling, tokens}
 use Rattle.gabc_text.specs.View.{along, effect, is_left_out, is_space, follows_space, place_of, text_of, found_at, findings_at_end, early_codes, late_codes, is_cut, codes_at_end}
-use Rattle.gabc_text.specs.Events.{events_by_point, after_tokens, end_events, lists_at, lists_end, with_first, with_last, no_events_each, kept_each, kept_lists_by, owed_events, last_char_events, early_events, token_events, finding_events, is_lone, parts_at, option_list_of, centre_of, end_after}
+use Rattle.gabc_text.specs.Events.{events_by_point, end_events, lists_at, lists_end, with_first, with_last, no_events_each, kept_each, kept_lists_by, owed_events, last_char_events, early_events, token_events, finding_events, is_lone, parts_at, option_list_of, centre_of, end_after}
 use Rattle.gabc_text.specs.BuiltText.{found_in}
 use Rattle.gabc_text.specs.Printed.{text_of_tokens}
 use Rattle.gabc_places.proofs.PlacesOfAText.{place_append}
 use Rattle.gabc_places.proofs.PlacesInOrder.{up_to_self, up_to_next, up_to_past, lie_wider, lie_append}
-use Rattle.gabc_text.proofs.machine.TokensOneAfterAnother.{onto, after_is, size}
+use Rattle.gabc_text.proofs.machine.TokensOneAfterAnother.{onto}
 use Rattle.gabc_text.proofs.tokens.TextIsTokensAndRest.{Goes, AllGo, Parted, parted}
+use Rattle.gabc_text.proofs.tokens.TokensSpellPrefix.{left_of}
 
 -- ---- the order of places
 

@@ -1,7 +1,7 @@
 -- Blanks in front of a regular text begin a word, with comments among them or without, and all else is as without them.
-use Rattle.std.proofs.Math.Seq.{drop-append_seam}
 use Rattle.std.proofs.Common.{◌≡◌, ◌≢◌, ◌⊎◌, inl, inr, ℕ, ◌==◌, List, [], ◌∷◌, ◌++◌, Bool, true, false, not, ◌&&◌, cond, if◌then◌else◌, Option, Some, None, is_some, subst, refl, sym, ap, ap₂, ◌∙◌, append-nil, append_assoc, map, reverse, length, drop, encode_utf8_all}
 use Rattle.std.proofs.lemmas.Bool.{true≢false, eqb-true, and_parts}
+use Rattle.std.proofs.Math.Seq.{drop-append_seam}
 use Rattle.gabc_places.specs.declared.place.Place.{Place}
 use Rattle.gabc_places.specs.declared.code.Code.{Code}
 use Rattle.gabc_places.specs.declared.code.Finding.{Finding}

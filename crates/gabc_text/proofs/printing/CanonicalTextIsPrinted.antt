@@ -1,8 +1,8 @@
 -- The canonical text of a text's view is the printed form of what the text says.
-use Rattle.std.proofs.lemmas.Bool.{lt-ltb}
 use Rattle.std.proofs.Common.{◌≡◌, ℕ, suc, ◌+◌, ◌==◌, ◌||◌, List, [], ◌∷◌, ◌++◌, Bool, true, false, cond, refl, sym, ap, ◌∙◌, append_assoc, map, reverse, length, Option, Some, None, codes, nat_lt}
 use Rattle.std.specs.List.{flat_map}
 use Rattle.std.proofs.lemmas.Str.{encodes-append}
+use Rattle.std.proofs.lemmas.Bool.{lt-ltb}
 use lib.Utf8.{encode, encodes}
 use Rattle.gabc_places.specs.declared.place.Span.{Span}
 use Rattle.gabc_text.specs.declared.styles.Style.{Style}
@@ -18,8 +18,7 @@ use Rattle.gabc_text.specs.TextRead.{view_in, pieces_in}
 use Rattle.gabc_text.specs.Canonical.{after_common, style_opening, style_closing, braces, boundary, span_bytes, with_dollar, piece_text, piece_text_by, text_from, canonical_text}
 use Rattle.gabc_text.specs.ViewFacts.{piece_facts_in, view_facts, StandsForView, IsPieceOf, ArePiecesOf, kept_of_piece}
 use Rattle.gabc_text.specs.Printed.{opening_tag, closing_tag, begin_brace, end_brace, brace_tokens, tokens_between, letter, spelled_as, printed_piece, print_from, text_tokens, text_of_tokens}
-use Rattle.gabc_text.proofs.tokens.CasesOfCharacters.{by_case, special_is_low}
-use Rattle.gabc_text.proofs.machine.TokenStateByCharacter.{turned}
+use Rattle.gabc_text.proofs.tokens.CasesOfCharacters.{special_is_low}
 use Rattle.gabc_text.proofs.printing.PiecesPrintWell.{pieces_good}
 use Rattle.gabc_text.proofs.spans.SpansStandForView.{pieces_facts}
 use Rattle.gabc_text.proofs.spans.CentreLiesAmongPieces.{spanned_is}

@@ -1,7 +1,6 @@
 -- A text that begins with a blank, as an LF, begins a word, and says nothing else by it.
-use Rattle.gabc_text.specs.Printed.{word_break}
-use Rattle.std.proofs.Math.Bool.{or-true}
 use Rattle.std.proofs.Common.{◌≡◌, ℕ, ◌+◌, List, [], ◌∷◌, ◌++◌, Bool, true, false, not, ◌||◌, ◌&&◌, is_some, length, Option, Some, None, refl, ap, ap₂, ◌∙◌, arith}
+use Rattle.std.proofs.Math.Bool.{or-true}
 use Rattle.gabc_text.specs.declared.styles.Style.{Style}
 use Rattle.gabc_text.specs.declared.styles.Style.TheVariants.{B, C, E, I, Sc, Tt, Ul}
 use Rattle.gabc_text.specs.declared.view.PieceKind.{PieceKind}
@@ -10,6 +9,7 @@ use Rattle.gabc_text.specs.Token.{Token, tokens, tokens_after}
 use Rattle.gabc_text.specs.View.{along, PieceFacts, effect, kind_of, piece_of, pieces_at, is_space, is_begin, is_open, is_open_after, open_styles, has_word, has_begin, has_end, has_translation, is_word_kind, follows_blank, starts_word, count_pieces, begin_of, end_of, centre_by}
 use Rattle.gabc_text.specs.ViewFacts.{ViewFacts, view_facts, view_facts_by, but_blank, translation_text}
 use Rattle.gabc_text.proofs.machine.TokensOneAfterAnother.{onto}
+use Rattle.gabc_text.specs.Printed.{word_break}
 
 stays : (ks before : List Token) → starts_word before ≡ true → starts_word (onto ks before) ≡ true
 stays [] before h = h

@@ -1,12 +1,10 @@
 -- Nothing is found in a printed text whose tags are all known.
-use Rattle.gabc_text.proofs.printing.LineFeedBeginsWord.{Alike, break_alike}
+use Rattle.std.proofs.Common.{eq-eqb, ◌≡◌, ℕ, ◌+◌, ◌≤◌, ◌<◌, ◌==◌, List, [], ◌∷◌, ◌++◌, Bool, true, false, ◌||◌, ◌&&◌, not, cond, refl, sym, ap, ap₂, ◌∙◌, map, reverse, append-nil, append_assoc, Option, Some, None, length, length-append, arith}
+use Rattle.std.proofs.lemmas.Bool.{or_parts, or_right, false_from_ne_true, true_from_ne_false}
+use Rattle.std.proofs.lemmas.List.{reverse-append}
 use borrow.Author.Clash.{clash}
-use Rattle.gabc_text.proofs.machine.TokenStateByCharacter.{turned}
 use Rattle.std.proofs.Math.Bool.{not-and_self, and-false}
 use Rattle.std.proofs.lemmas.List.Folds.{list_any-append}
-use Rattle.std.proofs.Common.{eq-eqb, ◌≡◌, ℕ, ◌+◌, ◌≤◌, ◌<◌, ◌==◌, List, [], ◌∷◌, ◌++◌, Bool, true, false, ◌||◌, ◌&&◌, not, cond, refl, sym, ap, ap₂, ◌∙◌, map, reverse, append-nil, append_assoc, Option, Some, None, length, length-append, arith}
-use Rattle.std.proofs.lemmas.Bool.{true≢false, or_parts, or_right, false_from_ne_true, true_from_ne_false}
-use Rattle.std.proofs.lemmas.List.{reverse-append}
 use Rattle.gabc_places.specs.declared.place.Place.{Place}
 use Rattle.gabc_places.specs.declared.place.Span.{Span}
 use Rattle.gabc_places.specs.declared.code.Code.{Code}
@@ -21,7 +19,7 @@ use Rattle.gabc_text.specs.declared.token.TokenKind.TheVariants as kind
 use Rattle.gabc_text.specs.declared.token.TagEffect.{TagEffect}
 use Rattle.gabc_text.specs.declared.token.TagEffect.TheVariants.{Mark, Other}
 use Rattle.gabc_text.specs.Token.{Token, spelling, effect_of}
-use Rattle.gabc_text.specs.View.{along, effect, effect_as, tag_piece, piece_kind, PieceFacts, is_same, rank, is_open, is_open_after, is_begin, is_end, has_begin, has_end, is_translation, has_translation, is_left_out, kept_at, kept_as, is_space, follows_space, is_cut, early_codes, late_codes, found_at, findings_at, codes_at_end, findings_at_end, place_of, is_word_kind, is_blank_piece, has_word, count_pieces}
+use Rattle.gabc_text.specs.View.{along, effect, effect_as, tag_piece, piece_kind, PieceFacts, is_same, rank, is_open, is_open_after, is_begin, is_end, has_begin, has_end, is_translation, has_translation, is_left_out, kept_at, kept_as, is_space, follows_space, is_cut, early_codes, late_codes, found_at, findings_at, codes_at_end, findings_at_end, place_of, is_word_kind, is_blank_piece, count_pieces}
 use Rattle.gabc_text.specs.ViewFacts.{ViewFacts, LiesAmong}
 use Rattle.gabc_text.specs.Canonical.{after_common}
 use Rattle.gabc_text.specs.Printed.{opening_tag, closing_tag, begin_brace, end_brace, brace_tokens, tokens_between, printed_piece, print_from, text_of_tokens, text_tokens, translation_tokens, word_break, print_tokens}
@@ -33,8 +31,10 @@ use Rattle.gabc_text.specs.machine.RegularBytes.{is_unknown, AllKnown}
 use Rattle.gabc_text.proofs.printing.PrintedTagsOpenStyles.{push_append, along_append, member, AllOnce, across, once, same_style, any_reverse, within, tag_opens, tag_closes, open_one, close_one, closed}
 use Rattle.gabc_text.proofs.printing.PrintedPiecesAreReadAgain.{AllSilent, printed_by, between_silent, are_braces}
 use Rattle.gabc_text.proofs.machine.TokensOneAfterAnother.{onto}
-use Rattle.gabc_text.specs.machine.PrintedPieces.{AllGood, Good, Says}
+use Rattle.gabc_text.specs.machine.PrintedPieces.{AllGood, Good}
 use Rattle.gabc_places.proofs.NothingAfterAnEnd.{both_empty}
+use Rattle.gabc_text.proofs.printing.LineFeedBeginsWord.{Alike, break_alike}
+use Rattle.gabc_text.proofs.machine.TokenStateByCharacter.{turned}
 
 -- ---- styles, none of which stands twice
 

@@ -1,13 +1,12 @@
 -- The pieces of a text are such that their printed form is read again.
-use Rattle.gabc_text.proofs.events.EventsBuildText.{piece_is}
-use Rattle.std.proofs.Common.{◌≡◌, ℕ, zero, suc, ◌==◌, List, [], ◌∷◌, ◌++◌, Bool, true, false, ◌||◌, ◌&&◌, not, cond, refl, sym, ap, subst, length, drop, Option, Some, None, codes}
+use Rattle.std.proofs.Common.{◌≡◌, ℕ, zero, suc, ◌==◌, List, [], ◌∷◌, ◌++◌, Bool, true, false, ◌||◌, ◌&&◌, not, cond, refl, sym, ap, subst, length, Option, Some, None, codes}
 use Rattle.gabc_text.specs.declared.view.PieceKind.{PieceKind}
 use Rattle.gabc_text.specs.declared.view.PieceKind.TheVariants as piece
 use Rattle.gabc_text.specs.declared.token.TokenKind.{TokenKind}
 use Rattle.gabc_text.specs.declared.token.TokenKind.TheVariants as kind
 use Rattle.gabc_text.specs.declared.token.TagEffect.{TagEffect}
-use Rattle.gabc_text.specs.declared.token.TagEffect.TheVariants.{Opens, Closes, Mark, Begins, Other}
-use Rattle.gabc_text.specs.Token.{Token, tokens, tokens_after, token_at, dollar_at, tag_at, token_of_tag, ended_token, through, ending_of, single, is_special, is_blank, is_one_of, effect_of}
+use Rattle.gabc_text.specs.declared.token.TagEffect.TheVariants.{Mark, Other}
+use Rattle.gabc_text.specs.Token.{Token, tokens, tokens_after, token_at, dollar_at, tag_at, ended_token, through, single, is_special, is_blank, is_one_of, effect_of}
 use Rattle.gabc_text.specs.View.{along, effect, effect_as, kind_of, piece_kind, tag_piece, is_open, open_styles, is_word_kind, has_word, follows_blank, pieces_at, piece_of, PieceFacts, text_of_piece, is_space, is_blank_piece, last_of}
 use Rattle.gabc_text.proofs.printing.ViewFromFirstToken.{pieces_of}
 use Rattle.gabc_text.specs.ViewFacts.{but_blank}
@@ -15,6 +14,7 @@ use Rattle.gabc_text.proofs.tokens.CasesOfCharacters.{by_case, tag_kind}
 use Rattle.gabc_text.proofs.machine.TokenStateByCharacter.{turned}
 use Rattle.gabc_text.proofs.printing.TokensAreReadAgain.{IsReadAgain, token_again, letter_stable}
 use Rattle.gabc_text.specs.machine.PrintedPieces.{AllGood, Good, Says}
+use Rattle.gabc_text.proofs.events.EventsBuildText.{piece_is}
 
 -- ---- letters
 
@@ -125,7 +125,7 @@ good_by _ c s before w b p f e = absurd (cc)
 
 -- ---- the pieces of a text
 
--- pieces that are good where no word stands before them are good after one, and after a blank or none
+-- pieces that are good where no word stands before them are good after one, and after a blank
 pub good_after : (x w b d : Bool) (ps : List PieceFacts) → AllGood x b ps → (x ≡ true → (w ≡ true) × (b ≡ false → d ≡ false)) → AllGood w d ps
 good_after x w b d [] h f = tt
 good_after x w b d (p ∷ ps) h f = (

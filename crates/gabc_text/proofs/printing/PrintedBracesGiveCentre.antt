@@ -3,21 +3,18 @@ use Rattle.std.proofs.Common.{◌≡◌, ℕ, suc, ◌+◌, ◌<◌, ◌≤◌, 
 use Rattle.std.proofs.lemmas.Bool.{eqb-true, eqb-false}
 use Rattle.gabc_places.specs.declared.place.Span.{Span}
 use Rattle.gabc_text.specs.declared.styles.Style.{Style}
-use Rattle.gabc_text.specs.declared.styles.Style.TheVariants.{B, C, E, I, Sc, Tt, Ul}
-use Rattle.gabc_text.specs.declared.view.PieceKind.{PieceKind}
-use Rattle.gabc_text.specs.declared.view.PieceKind.TheVariants as piece
 use Rattle.gabc_text.specs.declared.token.TokenKind.{TokenKind}
 use Rattle.gabc_text.specs.declared.token.TokenKind.TheVariants as kind
-use Rattle.gabc_text.specs.Token.{Token, spelling}
-use Rattle.gabc_text.specs.View.{along, piece_kind, effect_as, pieces_at, PieceFacts, is_word_kind, has_word, follows_blank, is_blank_piece, is_begin, is_end, has_begin, has_end, count_pieces}
+use Rattle.gabc_text.specs.Token.{Token}
+use Rattle.gabc_text.specs.View.{along, pieces_at, PieceFacts, is_word_kind, has_word, follows_blank, is_blank_piece, is_begin, is_end, has_begin, has_end, count_pieces}
 use Rattle.gabc_text.proofs.printing.ViewFromFirstToken.{begin_at, end_at}
-use Rattle.gabc_text.specs.ViewFacts.{LiesAmong}
 use Rattle.gabc_text.specs.Canonical.{after_common}
 use Rattle.gabc_text.specs.Printed.{print_from, printed_piece, tokens_between, brace_tokens, opening_tag, closing_tag, begin_brace, end_brace}
 use Rattle.gabc_text.proofs.printing.PrintedTagsOpenStyles.{push_append, along_append}
 use Rattle.gabc_text.proofs.printing.PrintedPiecesAreReadAgain.{AllSilent, Does, does, no_pieces, opening_silent, closing_silent, silent_word, silent_blank, between_silent, are_braces, printed_kind}
 use Rattle.gabc_text.proofs.machine.TokensOneAfterAnother.{onto}
-use Rattle.gabc_text.specs.machine.PrintedPieces.{AllGood, Good, Says}
+use Rattle.gabc_text.specs.machine.PrintedPieces.{AllGood, Good}
+use Rattle.gabc_text.specs.ViewFacts.{LiesAmong}
 
 -- what the tokens ks give of the centre, and what stands after them
 pub record Marks (before ks : List Token) (begins ends : List ℕ) (begun ended : Bool) (n : ℕ) : Type 0 where

@@ -1,20 +1,19 @@
 -- Pieces one after another are printed one after another, if no style stays open between them.
-use Rattle.std.proofs.Math.Bool.{or-true}
 use Rattle.std.proofs.lemmas.Bool.{ne_eqb}
 use Rattle.std.proofs.lemmas.List.{map-append}
 use Rattle.std.proofs.lemmas.List.Elements.{filter-append}
 use Rattle.std.proofs.Common.{◌≡◌, ℕ, ◌+◌, ◌<◌, ◌==◌, List, [], ◌∷◌, ◌++◌, Bool, true, false, ◌||◌, cond, refl, sym, ap, ap₂, ◌∙◌, map, reverse, filter, append-nil, append_assoc, Option, Some, None, length, length-append, eq-eqb, arith}
+use Rattle.std.proofs.Math.Bool.{or-true}
 use Rattle.gabc_places.proofs.NumbersByTests.{below_eqb}
 use Rattle.gabc_places.specs.declared.place.Span.{Span}
 use Rattle.gabc_text.specs.declared.styles.Style.{Style}
-use Rattle.gabc_text.specs.declared.view.PieceKind.{PieceKind}
 use Rattle.gabc_text.specs.declared.view.PieceKind.TheVariants as piece
 use Rattle.gabc_text.specs.Token.{Token, spelling}
 use Rattle.gabc_text.specs.View.{PieceFacts, all_styles, is_word_kind, is_blank_piece}
 use Rattle.gabc_text.specs.ViewFacts.{but_blank, is_mark, tags_among, LiesAmong}
 use Rattle.gabc_text.specs.Canonical.{after_common}
 use Rattle.gabc_text.specs.Printed.{opening_tag, closing_tag, begin_brace, end_brace, brace_tokens, tokens_between, print_from, text_of_tokens}
-use Rattle.gabc_text.specs.machine.PrintedPieces.{AllGood, Says}
+use Rattle.gabc_text.specs.machine.PrintedPieces.{AllGood}
 use Rattle.gabc_text.specs.machine.RegularBytes.{AllKnown, word_after, blank_after, first_styles, last_styles, AreApart, printed_as, printed_text}
 use Rattle.gabc_text.proofs.printing.PrintedTextIsKept.{written_append}
 use Rattle.gabc_text.proofs.printing.ChangedStylesCloseFromTheFirst.{none_after}

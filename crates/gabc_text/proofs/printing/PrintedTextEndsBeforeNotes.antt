@@ -1,6 +1,6 @@
 -- A printed text ends before the `(` that stands after it.
-use Rattle.std.proofs.Math.Seq.{drop-append_seam}
 use Rattle.std.proofs.Common.{◌≡◌, ℕ, ◌+◌, List, [], ◌∷◌, ◌++◌, refl, sym, ap, ◌∙◌, length, length-append, drop}
+use Rattle.std.proofs.Math.Seq.{drop-append_seam}
 use Rattle.gabc_text.specs.Token.{Token, spelling}
 use Rattle.gabc_text.specs.Events.{after_tokens}
 use Rattle.gabc_text.specs.ViewFacts.{ViewFacts, view_facts}

@@ -1,31 +1,28 @@
 -- A printed text is read without an error.
-use Rattle.std.proofs.lemmas.List.Folds.{list_any-append}
 use Rattle.std.proofs.Common.{◌≡◌, ℕ, ◌+◌, ◌==◌, ◌||◌, ◌&&◌, not, List, [], ◌∷◌, ◌++◌, Bool, true, false, cond, refl, ap, ◌∙◌, map, reverse, Option, Some, None}
 use Rattle.std.specs.List.{list_any}
+use Rattle.std.proofs.lemmas.List.Folds.{list_any-append}
 use Rattle.gabc_places.specs.declared.place.Place.{Place}
 use Rattle.gabc_places.specs.declared.place.Span.{Span}
 use Rattle.gabc_places.specs.declared.code.Code.{Code}
 use Rattle.gabc_places.specs.declared.code.Code.TheVariants.{W3, W4}
 use Rattle.gabc_places.specs.declared.code.Finding.{Finding}
 use Rattle.gabc_text.specs.declared.styles.Style.{Style}
-use Rattle.gabc_text.specs.declared.styles.Style.TheVariants.{B, C, E, I, Sc, Tt, Ul}
-use Rattle.gabc_text.specs.declared.view.PieceKind.{PieceKind}
-use Rattle.gabc_text.specs.declared.view.PieceKind.TheVariants as piece
 use Rattle.gabc_text.specs.declared.token.TokenKind.{TokenKind}
 use Rattle.gabc_text.specs.declared.token.TokenKind.TheVariants as kind
 use Rattle.gabc_text.specs.declared.token.TagEffect.{TagEffect}
 use Rattle.gabc_text.specs.declared.token.TagEffect.TheVariants.{Opens, Closes, Other}
-use Rattle.gabc_text.specs.Token.{Token, spelling}
-use Rattle.gabc_text.specs.View.{along, effect, effect_as, piece_kind, PieceFacts, is_open, all_styles, has_begin, has_end, has_translation, is_cut, early_codes, late_codes, found_at, findings_at, findings_at_end, findings, place_of, is_word_kind, is_blank_piece}
+use Rattle.gabc_text.specs.Token.{Token}
+use Rattle.gabc_text.specs.View.{along, effect, PieceFacts, is_open, all_styles, has_begin, has_end, has_translation, is_cut, early_codes, late_codes, found_at, findings_at, findings_at_end, findings, place_of, is_word_kind, is_blank_piece}
 use Rattle.gabc_text.specs.Canonical.{after_common}
 use Rattle.gabc_text.specs.ViewFacts.{ViewFacts, view_facts, is_error, has_error}
 use Rattle.gabc_text.specs.Printed.{opening_tag, closing_tag, begin_brace, end_brace, brace_tokens, tokens_between, printed_piece, print_from, text_tokens, translation_tokens, word_break, print_tokens, print}
 use Rattle.gabc_text.proofs.printing.ViewFromFirstToken.{view}
 use Rattle.gabc_text.proofs.printing.PiecesPrintWell.{pieces_good}
-use Rattle.gabc_text.proofs.printing.PrintedPiecesAreReadAgain.{printed_kind}
 use Rattle.gabc_text.proofs.printing.PrintedTextIsReadAgain.{tokens_printed}
 use Rattle.gabc_text.proofs.printing.ViewForwardIsViewBackward.{facts_is}
-use Rattle.gabc_text.specs.machine.PrintedPieces.{AllGood, Good, Says}
+use Rattle.gabc_text.specs.machine.PrintedPieces.{AllGood}
+use Rattle.gabc_text.proofs.printing.PrintedPiecesAreReadAgain.{printed_kind}
 
 -- ---- tokens that are no stray characters
 

@@ -1,13 +1,10 @@
 -- All of a printed text is kept.
-use Rattle.gabc_text.proofs.printing.LineFeedBeginsWord.{break_alike}
-use Rattle.std.proofs.Common.{◌≡◌, ℕ, ◌+◌, ◌==◌, List, [], ◌∷◌, ◌++◌, Bool, true, false, ◌||◌, cond, refl, sym, ap, ◌∙◌, map, reverse, append_assoc, Option, Some, None, length, arith}
-use Rattle.std.proofs.lemmas.Bool.{eqb-true, eqb-false}
+use Rattle.std.proofs.Common.{◌≡◌, ℕ, ◌+◌, ◌==◌, List, [], ◌∷◌, ◌++◌, Bool, true, false, ◌||◌, cond, refl, sym, ap, ◌∙◌, map, reverse, append_assoc, Option, Some, None, length}
 use Rattle.gabc_places.specs.declared.place.Span.{Span}
 use Rattle.gabc_text.specs.declared.styles.Style.{Style}
-use Rattle.gabc_text.specs.declared.view.PieceKind.{PieceKind}
 use Rattle.gabc_text.specs.declared.view.PieceKind.TheVariants as piece
 use Rattle.gabc_text.specs.Token.{Token, spelling}
-use Rattle.gabc_text.specs.View.{along, effect, kind_of, PieceFacts, is_word_kind, has_word, follows_blank, follows_space, is_blank_piece, has_begin, has_end, count_pieces, is_left_out, is_space, kept, kept_at}
+use Rattle.gabc_text.specs.View.{along, effect, kind_of, PieceFacts, is_word_kind, has_word, follows_blank, follows_space, is_blank_piece, has_begin, has_end, count_pieces, kept, kept_at}
 use Rattle.gabc_text.specs.Canonical.{after_common}
 use Rattle.gabc_text.specs.ViewFacts.{ViewFacts, view_facts, LiesAmong}
 use Rattle.gabc_text.specs.Printed.{print_from, printed_piece, tokens_between, brace_tokens, opening_tag, closing_tag, text_of_tokens, text_tokens, translation_tokens, word_break, print_tokens, print}
@@ -19,7 +16,8 @@ use Rattle.gabc_text.proofs.printing.ViewFromFirstToken.{view}
 use Rattle.gabc_text.proofs.printing.PrintedTextIsReadAgain.{Sound, view_sound, tokens_printed}
 use Rattle.gabc_text.proofs.printing.ViewForwardIsViewBackward.{facts_is}
 use Rattle.gabc_text.proofs.machine.TokensOneAfterAnother.{onto}
-use Rattle.gabc_text.specs.machine.PrintedPieces.{AllGood, Good, Says}
+use Rattle.gabc_text.specs.machine.PrintedPieces.{AllGood, Good}
+use Rattle.gabc_text.proofs.printing.LineFeedBeginsWord.{break_alike}
 
 pub written_append : (ks ls : List Token) → text_of_tokens (ks ++ ls) ≡ text_of_tokens ks ++ text_of_tokens ls
 written_append [] ls = refl

@@ -1,16 +1,15 @@
 -- A printed text is read as it was.
-use Rattle.gabc_text.proofs.printing.LineFeedBeginsWord.{Alike, break_alike}
-use Rattle.std.proofs.Math.Bool.{and-false}
 use Rattle.std.proofs.lemmas.List.{reverse-append}
 use Rattle.std.proofs.Common.{◌≡◌, ℕ, zero, suc, ◌+◌, ◌-◌, ◌≤◌, ◌==◌, List, [], ◌∷◌, ◌++◌, Bool, true, false, ◌||◌, ◌&&◌, not, cond, refl, sym, ap, ◌∙◌, subst, reverse, append_assoc, append-nil, Option, Some, None, length, length-append, take, drop, arith, codes, option_map, min}
+use Rattle.std.proofs.Math.Bool.{and-false}
 use Rattle.gabc_places.specs.declared.place.Span.{Span}
 use Rattle.gabc_text.specs.declared.styles.Style.{Style}
 use Rattle.gabc_text.specs.declared.view.PieceKind.{PieceKind}
 use Rattle.gabc_text.specs.declared.view.PieceKind.TheVariants as piece
 use Rattle.gabc_text.specs.declared.token.TokenKind.{TokenKind}
 use Rattle.gabc_text.specs.declared.token.TokenKind.TheVariants as kind
-use Rattle.gabc_text.specs.Token.{Token, spelling, tokens, tokens_after, token_at, tag_at, token_of_tag, ended_token, through, ending_of, single, dollar_at, is_blank, is_one_of, effect_of}
-use Rattle.gabc_text.specs.View.{along, piece_kind, effect_as, is_word_kind, has_word, follows_blank, starts_word, pieces_at, PieceFacts, is_blank_piece, is_open, is_translation, is_begin, is_end, has_begin, has_end, count_pieces}
+use Rattle.gabc_text.specs.Token.{Token, tokens, tokens_after, token_at, tag_at, token_of_tag, ended_token, through, ending_of, single, dollar_at, is_blank, is_one_of, effect_of}
+use Rattle.gabc_text.specs.View.{along, is_word_kind, has_word, follows_blank, starts_word, pieces_at, PieceFacts, is_blank_piece, is_translation, is_begin, is_end, has_begin, has_end, count_pieces}
 use Rattle.gabc_text.proofs.printing.ViewFromFirstToken.{pieces_of, view, view_by, translation_by, translation_from, begin_at, end_at, centre_by}
 use Rattle.gabc_text.specs.ViewFacts.{ViewFacts, but_blank, LiesAmong}
 use Rattle.gabc_text.specs.Printed.{print_tokens, print_from, text_tokens, translation_tokens, word_break, printed_piece, tokens_between, brace_tokens, print}
@@ -24,6 +23,7 @@ use Rattle.gabc_text.proofs.printing.PrintedPiecesAreReadAgain.{AllSilent, silen
 use Rattle.gabc_text.proofs.printing.PiecesPrintWell.{pieces_good, good_along, tokens_fine}
 use Rattle.gabc_text.proofs.machine.TokensOneAfterAnother.{onto}
 use Rattle.gabc_text.specs.machine.PrintedPieces.{AllGood, Good, Says, Stable}
+use Rattle.gabc_text.proofs.printing.LineFeedBeginsWord.{Alike, break_alike}
 
 -- ---- all that is printed is stable
 

@@ -1,8 +1,8 @@
 -- Tokens that are read again, whatever follows.
-use Rattle.std.proofs.Math.Seq.{drop-append_seam}
 use Rattle.std.proofs.Common.{◌≡◌, ℕ, ◌≤◌, ◌==◌, List, [], ◌∷◌, ◌++◌, Bool, true, false, ◌&&◌, cond, refl, sym, ap, ◌∙◌, subst, append_assoc, append-nil, length, drop, Option, Some, None, option_map, arith, codes}
 use Rattle.std.proofs.Common.{eq-eqb}
 use Rattle.std.proofs.lemmas.Bool.{eqb-true, and_parts}
+use Rattle.std.proofs.Math.Seq.{drop-append_seam}
 use Rattle.gabc_text.proofs.tokens.CasesOfCharacters.{by_case, single_kind}
 use Rattle.gabc_text.specs.declared.token.TokenKind.{TokenKind}
 use Rattle.gabc_text.specs.declared.token.TokenKind.TheVariants as kind

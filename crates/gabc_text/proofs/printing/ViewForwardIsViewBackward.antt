@@ -1,17 +1,15 @@
 -- What a text says is the same from its first token on and from its last one back.
+use Rattle.std.proofs.Common.{◌≡◌, ℕ, zero, suc, ◌-◌, ◌==◌, ◌||◌, ◌&&◌, not, List, [], ◌∷◌, ◌++◌, Bool, true, false, cond, refl, sym, ap, ◌∙◌, length, take, reverse, Option, Some, None, arith, subst}
 use Rattle.std.proofs.Math.Bool.{or-true}
-use Rattle.std.proofs.Common.{◌≡◌, ℕ, zero, suc, ◌-◌, ◌==◌, ◌||◌, ◌&&◌, not, List, [], ◌∷◌, ◌++◌, Bool, true, false, cond, refl, sym, ap, ◌∙◌, length, take, drop, reverse, Option, Some, None, arith, subst}
 use Rattle.gabc_places.specs.declared.place.Span.{Span}
 use Rattle.gabc_text.specs.declared.token.TokenKind.{TokenKind}
 use Rattle.gabc_text.specs.declared.token.TokenKind.TheVariants as kind
-use Rattle.gabc_text.specs.declared.token.TagEffect.{TagEffect}
-use Rattle.gabc_text.specs.declared.token.TagEffect.TheVariants.{Opens, Closes, Mark, Begins, Other}
-use Rattle.gabc_text.specs.Token.{Token, tokens, tokens_after, token_at, tag_at, token_of_tag, ended_token, through, ending_of, effect_of, single}
+use Rattle.gabc_text.specs.Token.{Token, tokens, tokens_after, token_at, ended_token, through}
 use Rattle.gabc_text.specs.View.{along, is_begin, is_end, has_begin, has_end, begin_of, end_of, count_pieces, centre_by, has_translation, is_translation, starts_word}
 use Rattle.gabc_text.specs.Events.{but_last}
 use Rattle.gabc_text.specs.ViewFacts.{ViewFacts, view_facts, translation_text, but_end}
 use Rattle.gabc_text.specs.Printed.{print}
-use Rattle.gabc_text.proofs.tokens.CasesOfCharacters.{by_case, single_kind, translation_first}
+use Rattle.gabc_text.proofs.tokens.CasesOfCharacters.{translation_first}
 use Rattle.gabc_text.proofs.machine.TokensOneAfterAnother.{onto}
 use Rattle.gabc_text.proofs.printing.ViewFromFirstToken.{begin_at, end_at, translation_from, view, view_by, pieces_of}
 use Rattle.gabc_text.proofs.printing.ViewFromFirstToken as forward

@@ -1,5 +1,5 @@
 -- The centre lies among the pieces, and the translation's span stands for what is between its brackets.
-use Rattle.std.proofs.Common.{◌≡◌, ℕ, zero, suc, ◌+◌, ◌-◌, ◌≤◌, ◌==◌, ◌&&◌, not, List, [], ◌∷◌, ◌++◌, Bool, true, false, cond, refl, sym, ap, ◌∙◌, append_assoc, append-nil, length, length-append, reverse, drop, Option, Some, None, option_map, arith, nat_lt, slice_range, subst}
+use Rattle.std.proofs.Common.{◌≡◌, ℕ, zero, suc, ◌+◌, ◌-◌, ◌≤◌, ◌==◌, ◌&&◌, not, List, [], ◌∷◌, ◌++◌, Bool, true, false, cond, refl, sym, ap, ◌∙◌, append_assoc, append-nil, length, length-append, reverse, Option, Some, None, option_map, arith, nat_lt, slice_range, subst}
 use Rattle.std.proofs.lemmas.Bool.{le-ltb, or_parts}
 use Rattle.std.proofs.lemmas.Str.{encodes-append}
 use Rattle.std.proofs.Math.Seq.{drop-append_seam, take-append_seam}
@@ -7,15 +7,13 @@ use lib.Utf8.{encodes}
 use Rattle.gabc_places.specs.declared.place.Span.{Span}
 use Rattle.gabc_text.specs.declared.token.TokenKind.{TokenKind}
 use Rattle.gabc_text.specs.declared.token.TokenKind.TheVariants as kind
-use Rattle.gabc_text.specs.declared.token.TagEffect.{TagEffect}
-use Rattle.gabc_text.specs.declared.token.TagEffect.TheVariants.{Opens, Closes, Mark, Begins, Other}
-use Rattle.gabc_text.specs.Token.{Token, spelling, tokens, tokens_after, token_at, tag_at, token_of_tag, ended_token, through, single, effect_of, ending_of}
+use Rattle.gabc_text.specs.Token.{Token, spelling, tokens, tokens_after, token_at, ended_token, through}
 use Rattle.gabc_text.specs.View.{is_begin, is_end, has_begin, has_end, count_pieces, pieces_at, begin_of, end_of, centre_by, has_translation, is_left_out, is_space, follows_space, kept, kept_at, bytes_of, is_translation}
 use Rattle.gabc_text.specs.Events.{kept_of, but_last, is_whole_translation, translation_at}
 use Rattle.gabc_text.specs.TextRead.{pieces_in, translation_of, view_in}
 use Rattle.gabc_text.specs.Canonical.{span_bytes}
 use Rattle.gabc_text.specs.ViewFacts.{StandsFor, LiesAmong, IsTranslation, translation_text, but_end, StandsForView}
-use Rattle.gabc_text.proofs.tokens.CasesOfCharacters.{by_case, single_kind, translation_first}
+use Rattle.gabc_text.proofs.tokens.CasesOfCharacters.{translation_first}
 use Rattle.gabc_text.proofs.tokens.CountsOfTexts.{bytes_append}
 use Rattle.gabc_text.proofs.machine.LoopOverText.{bytes_encodes}
 use Rattle.gabc_text.proofs.machine.TokensOneAfterAnother.{onto}

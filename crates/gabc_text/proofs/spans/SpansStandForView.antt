@@ -1,11 +1,9 @@
 -- The spans of a text's view stand for what the view says.
-use Rattle.gabc_text.proofs.events.EventsBuildText.{piece_is}
 use Rattle.std.proofs.Common.{◌≡◌, ℕ, ◌||◌, ◌&&◌, not, is_some, List, [], ◌∷◌, ◌++◌, Bool, true, false, cond, refl, sym, ap, ◌∙◌, append_assoc, Option, Some, None}
 use Rattle.std.proofs.lemmas.Bool.{or_parts}
 use Rattle.gabc_text.specs.declared.token.TokenKind.{TokenKind}
 use Rattle.gabc_text.specs.declared.token.TokenKind.TheVariants as kind
 use Rattle.gabc_text.specs.declared.token.TagEffect.{TagEffect}
-use Rattle.gabc_text.specs.declared.token.TagEffect.TheVariants.{Opens, Closes, Mark, Begins, Other}
 use Rattle.gabc_text.specs.declared.view.PieceKind.{PieceKind}
 use Rattle.gabc_text.specs.declared.view.PieceKind.TheVariants as piece
 use Rattle.gabc_text.specs.declared.view.Piece.{Piece}
@@ -15,6 +13,7 @@ use Rattle.gabc_text.specs.Events.{kept_of, but_last, last_at, styles_of, piece_
 use Rattle.gabc_text.specs.TextRead.{but_last_blank, pieces_in}
 use Rattle.gabc_text.specs.Canonical.{listed_styles}
 use Rattle.gabc_text.specs.ViewFacts.{but_blank, piece_facts_in, StandsFor, IsPieceOf, ArePiecesOf}
+use Rattle.gabc_text.proofs.events.EventsBuildText.{piece_is}
 
 -- ---- lists of pieces
 

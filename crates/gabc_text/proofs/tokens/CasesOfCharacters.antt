@@ -1,13 +1,13 @@
 -- A character is this one or another, and by itself a token of one of five kinds; tests of tests.
-use Rattle.gabc_places.proofs.NumbersByTests.{below_eqb}
-use Rattle.gabc_text.specs.declared.token.TagEffect.TheVariants.{Opens, Closes, Mark, Begins, Other}
-use Rattle.gabc_text.specs.declared.token.TagEffect.{TagEffect}
-use Rattle.gabc_text.specs.View.{is_translation}
 use Rattle.std.proofs.Common.{◌≡◌, ℕ, ◌==◌, Bool, true, false, cond, refl, sym, subst, codes, List, [], ◌∷◌, ◌∙◌, Option, Some, None, drop, length, nat_lt, ◌<◌, ◌≤◌, arith}
 use Rattle.std.proofs.lemmas.Bool.{eqb-true, true≢false, ltb-true, ltb-false, true_from_ne_false}
 use Rattle.gabc_text.specs.declared.token.TokenKind.{TokenKind}
 use Rattle.gabc_text.specs.declared.token.TokenKind.TheVariants as kind
 use Rattle.gabc_text.specs.Token.{single, is_blank, is_one_of, token_at, ended_token, token_of_tag, tag_at, through, ending_of, effect_of, is_special}
+use Rattle.gabc_places.proofs.NumbersByTests.{below_eqb}
+use Rattle.gabc_text.specs.declared.token.TagEffect.TheVariants.{Opens, Closes, Mark, Begins, Other}
+use Rattle.gabc_text.specs.declared.token.TagEffect.{TagEffect}
+use Rattle.gabc_text.specs.View.{is_translation}
 
 pub by_case : (x c : ℕ) (P : ℕ → Type 0) → P x → (c == x ≡ false → P c) → P c
 by_case x c P here other = by (c == x) refl

@@ -1,20 +1,18 @@
 -- The prefix of a text: its first character, and what stands before its first `<`.
-use Rattle.gabc_places.proofs.texts.LinesAreCutAtReturns.{no_byte}
-use Rattle.std.proofs.Math.Seq.{drop-append_seam}
-use Rattle.std.proofs.Common.{◌≡◌, ℕ, ◌+◌, ◌-◌, ◌<◌, ◌≤◌, ◌==◌, List, [], ◌∷◌, ◌++◌, Bool, true, false, cond, refl, sym, ap, ◌∙◌, subst, length, length-append, take, drop, slice_index, take-append-drop, arith, IsUtf8, ne_eqb}
+use Rattle.std.proofs.Common.{◌≡◌, ℕ, ◌+◌, ◌-◌, ◌<◌, ◌≤◌, ◌==◌, List, [], ◌∷◌, ◌++◌, Bool, true, false, cond, refl, sym, ap, ◌∙◌, subst, length, take, drop, slice_index, take-append-drop, arith, IsUtf8, ne_eqb}
 use Rattle.std.specs.Str.{chars, NonePass, IsCharBoundary}
 use Rattle.std.specs.Char.{len_utf8}
 use Rattle.std.proofs.lemmas.Bool.Decides.{nat_tests}
-use Rattle.std.proofs.lemmas.Bool.{eqb-true}
-use Rattle.std.proofs.lemmas.List.{drop_more, get_or-append-add, get_or-take, length-take, length-take-le}
-use Rattle.std.proofs.lemmas.Str.{encodes-chars, encode_ascii, chars-append, chars_past_char, chars-nil, IsUtf8-take, IsUtf8-drop, IsCharBoundary-before_ascii, IsCharBoundary-from_take, IsCharBoundary-past_char, drop_past_char}
+use Rattle.std.proofs.lemmas.List.{drop_more, get_or-take, length-take, length-take-le}
+use Rattle.std.proofs.lemmas.Str.{encode_ascii, chars-append, chars_past_char, chars-nil, IsUtf8-take, IsUtf8-drop, IsCharBoundary-before_ascii, IsCharBoundary-from_take, IsCharBoundary-past_char, drop_past_char}
 use Rattle.memchr.specs.Find.{Nowhere, NoneBefore, Passes, is_byte}
-use lib.Utf8.{encode, encodes}
+use lib.Utf8.{encode}
 use Rattle.gabc_text.specs.Token.{before_first}
 use Rattle.gabc_text.proofs.tokens.TokensByCharacter.{lacks, before_lacks, before_all}
 use Rattle.gabc_text.specs.View.{bytes_of}
 use Rattle.gabc_text.proofs.machine.TokenStateByCharacter.{turned}
 use Rattle.gabc_text.proofs.machine.LoopOverText.{bytes_chars}
+use Rattle.gabc_places.proofs.texts.LinesAreCutAtReturns.{no_byte}
 
 lacks_none : (cs : List ℕ) → NonePass (λ c. c == 60) cs → lacks 60 cs ≡ true
 lacks_none [] h = refl

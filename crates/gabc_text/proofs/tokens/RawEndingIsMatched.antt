@@ -1,6 +1,6 @@
 -- Where a raw part ends: how much of its ending the characters before have matched.
+use Rattle.std.proofs.Common.{◌≡◌, ℕ, ◌<◌, ◌==◌, List, [], ◌∷◌, ◌++◌, Bool, true, false, cond, refl, sym, ap, ◌∙◌, eq-eqb, append_assoc, append-nil, length, Option, Some, None, option_map, arith}
 use Rattle.std.proofs.Math.Bool.{and-false}
-use Rattle.std.proofs.Common.{◌≡◌, ℕ, ◌<◌, ◌==◌, List, [], ◌∷◌, ◌++◌, Bool, true, false, ◌&&◌, cond, refl, sym, ap, ◌∙◌, eq-eqb, append_assoc, append-nil, length, Option, Some, None, option_map, arith}
 use Rattle.gabc_text.specs.Token.{through, begins_with}
 use Rattle.gabc_text.proofs.tokens.TokensByCharacter.{lacks, not_and}
 

@@ -1,5 +1,4 @@
 -- The canonical header lines of a plain text's book are plain.
-use Rattle.gabc_headers.proofs.printing.PrintedBookIsReadAgain.{own_book}
 use Rattle.std.proofs.Common.{◌≡◌, ℕ, ◌+◌, List, [], ◌∷◌, ◌++◌, Bool, true, false, ◌&&◌, ◌||◌, not, cond, ◌==◌, length, refl, ap, ◌∙◌, Option, Some, None, Ok, codes}
 use Rattle.std.proofs.lemmas.Bool.{and_parts, and_from}
 use Rattle.std.specs.List.{list_all}
@@ -15,6 +14,7 @@ use Rattle.gabc_headers.specs.Heads.{heads_of}
 use Rattle.gabc_headers.specs.witness.Heads.{head_stops, heads_by}
 use Rattle.gabc_write.proofs.plain.PlainCharacters.{either, plain_option, is_plain, plain, append}
 use Rattle.std.specs.Prelude.{bytes_eq}
+use Rattle.gabc_headers.proofs.printing.PrintedBookIsReadAgain.{own_book}
 
 -- ---- lines
 

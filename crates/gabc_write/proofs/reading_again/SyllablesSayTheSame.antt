@@ -1,5 +1,4 @@
 -- Syllables of units that say the same, say the same.
-use Rattle.gabc_score.proofs.holding.SyllableHoldsPartByPart.{first_turn}
 use Rattle.std.proofs.Common.{◌≡◌, ℕ, suc, ◌+◌, ◌%◌, List, [], ◌∷◌, ◌++◌, map, filter, length, length-append, Bool, true, false, IsTrue, ◌↔◌, Option, Some, None, codes, refl, sym, ap, ap₂, subst, ◌∙◌, append_assoc, arith}
 use Rattle.std.specs.List.{flat_map}
 use Rattle.std.specs.Option.{option_map}
@@ -22,6 +21,7 @@ use Rattle.gabc_score.specs.Syllable.{PlacedSyllable, slice}
 use Rattle.gabc_score.specs.SyllablesOfUnits.{ScoreUnit, NotesAre, HoldsUnit, IsLeftOpen, AreSyllablesOf, begins_word, next_begins_word, tags_in}
 use Rattle.gabc_write.specs.BodyAgain.{SyllableFacts, FirstBeginsWord, FirstTextBeginsWord, AreFactsOf}
 use Rattle.gabc_write.specs.SyllableMeaning.{PieceMeaning, meaning_of_piece, SyllableMeaning, meaning_of, AreSame}
+use Rattle.gabc_score.proofs.holding.SyllableHoldsPartByPart.{first_turn}
 
 -- ---- what facts say
 

@@ -45,16 +45,8 @@ stands_before told s runs b = record {
   outside = ap is_in_comment b.begins.begins ∙ none_open;
 }
 
-pub returns-clause-reads : goal.returns-clause-reads
-returns-clause-reads c =
-    let told = c.args.told.now in
-    let b = c.requires.begins in
-    (c.read_again.ensures.again told (c.what_is_read_can_be_read_again.ensures c.requires.runs) (sym b.holds.limits_are) (sym b.holds.before_is)
-    (reports told c.reading.result.now c.in-Some.openers c.in-Some-in_comment.in_comment c.requires.front c.reading.ensures c.in-Some.ensures c.in-Some-in_comment.ensures)
-    (stands_before told c.args.stage.now c.requires.runs b)).0
-
-pub returns-clause-tells : goal.returns-clause-tells
-returns-clause-tells c =
+pub returns : goal.returns
+returns c =
     let told = c.args.told.now in
     let new = c.read_again.new.self in
     let b = c.requires.begins in
@@ -65,16 +57,19 @@ returns-clause-tells c =
     let next = body_tells told.part told.held.next c.in-Some-next.next c.in-Some-next.ensures in
     let there = body_tells new.part new.held.next c.in-Some-next.next (sym same.next_is) in
     record {
-      holds = record {
-        limits_are = c.read_again.ensures.limits ∙ b.holds.limits_are;
-        before_is = same.before_same ∙ b.holds.before_is;
-        held = subst (HoldTheSame (told.before.syllables == 0) (held_of told)) (sym same.held_same) b.holds.held;
-        says = subst (SayTheSame (told.before.syllables == 0) (held_of told)) (sym same.held_same) b.holds.says;
+      reads = again.0;
+      tells = record {
+        holds = record {
+          limits_are = c.read_again.ensures.limits ∙ b.holds.limits_are;
+          before_is = same.before_same ∙ b.holds.before_is;
+          held = subst (HoldTheSame (told.before.syllables == 0) (held_of told)) (sym same.held_same) b.holds.held;
+          says = subst (SayTheSame (told.before.syllables == 0) (held_of told)) (sym same.held_same) b.holds.says;
+        };
+        reading = was.reading ∙ sym is.reading;
+        openers = was.openers_are ∙ sym is.openers_are;
+        comment = was.comment_is ∙ sym is.comment_is;
+        front = is.front;
+        next = sym next ∙ there;
+        stands = subst (λ (p : Place). IsAt p new.body.part) there same.stands;
       };
-      reading = was.reading ∙ sym is.reading;
-      openers = was.openers_are ∙ sym is.openers_are;
-      comment = was.comment_is ∙ sym is.comment_is;
-      front = is.front;
-      next = sym next ∙ there;
-      stands = subst (λ (p : Place). IsAt p new.body.part) there same.stands;
     }

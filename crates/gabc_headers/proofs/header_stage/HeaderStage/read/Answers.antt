@@ -20,17 +20,14 @@ unreachable-requires c =
     let on = reads_on c.self.inside.limits (string_bytes c.self.inside.text) (string_capacity c.self.inside.text) c.self.inside.machine c.push.new.self c.self.inside.headers c.args.c (IsUtf8-string_bytes c.self.inside.text) c.ranges.c.0 st.reads c.in-Read.event c.push.ensures.bounds (sym c.in-Read.ensures.pushes) in
     absurd (let f = on.fits in let n = c.in_default.ensures.full in let o = c.self.inside.text.bytes.ok.0 in omega (arith, f, n, o))
 
-pub take_event-found-requires-clause-good : goal.take_event-found-requires-clause-good
-take_event-found-requires-clause-good c =
+pub take_event-found-requires : goal.take_event-found-requires
+take_event-found-requires c =
     let st = stands c.self.inside.limits c.self.inside.part (string_bytes c.self.inside.text) (string_capacity c.self.inside.text) c.self.inside.machine c.self.inside.headers c.args.self.now c.self.view_is c.requires.reading c.self.invariant in
     let on = reads_on c.self.inside.limits (string_bytes c.self.inside.text) (string_capacity c.self.inside.text) c.self.inside.machine c.push.new.self c.self.inside.headers c.args.c (IsUtf8-string_bytes c.self.inside.text) c.ranges.c.0 st.reads (Some c.in-Some.event) c.push.ensures.bounds (sym c.in-Read.ensures.pushes ∙ ap (λ (e : Option HeaderEvent). (c.push.new.self, Read e)) c.in-Some.is) in
-    rw (c.as_str.ensures.value, c.in-Ok.ensures.bytes) on.good
-
-pub take_event-found-requires-clause-room : goal.take_event-found-requires-clause-room
-take_event-found-requires-clause-room c =
-    let st = stands c.self.inside.limits c.self.inside.part (string_bytes c.self.inside.text) (string_capacity c.self.inside.text) c.self.inside.machine c.self.inside.headers c.args.self.now c.self.view_is c.requires.reading c.self.invariant in
-    let on = reads_on c.self.inside.limits (string_bytes c.self.inside.text) (string_capacity c.self.inside.text) c.self.inside.machine c.push.new.self c.self.inside.headers c.args.c (IsUtf8-string_bytes c.self.inside.text) c.ranges.c.0 st.reads (Some c.in-Some.event) c.push.ensures.bounds (sym c.in-Read.ensures.pushes ∙ ap (λ (e : Option HeaderEvent). (c.push.new.self, Read e)) c.in-Some.is) in
-    on.room
+    record {
+      good = rw (c.as_str.ensures.value, c.in-Ok.ensures.bytes) on.good;
+      room = on.room;
+    }
 
 pub invariant_of-self : goal.invariant_of-self
 invariant_of-self c =
