@@ -3,7 +3,6 @@ use Rattle.std.proofs.Common.{◌≡◌, ℕ, ◌+◌, List, [], ◌∷◌, ◌+
 use Rattle.std.proofs.lemmas.Bool.{and_parts, and_from}
 use Rattle.std.specs.List.{list_all}
 use Rattle.gabc_places.specs.declared.limits.Limits.{Limits}
-use Rattle.gabc_places.specs.Findings.{Stop, earliest}
 use Rattle.gabc_headers.specs.declared.heads.Heads.{Heads}
 use Rattle.gabc_headers.specs.Lines.{on_first, lines, is_blank, is_bare, is_mark, has_mark, before_mark, mark_end, has_colon, before_colon, after_colon, trim_start, unless_last, trim_end, trim_name, is_blank_or_lf, ends_no_value, trim_value, is_score_line, head_of}
 use Rattle.gabc_headers.specs.Parts.{HeaderPart, left_out, header, unended, is_good_name, name_of, ended_parts, bad_name_parts}
@@ -11,7 +10,6 @@ use Rattle.gabc_headers.specs.witness.Parts.{LineContext, outside, within, parts
 use Rattle.gabc_headers.specs.Book.{is_kept, repeats, unless, entries, last_value, value_of, standing_entries, book_of}
 use Rattle.gabc_headers.specs.Canonical.{wants_lines, printed_value, header_line, header_lines, canonical_heads}
 use Rattle.gabc_headers.specs.Heads.{heads_of}
-use Rattle.gabc_headers.specs.witness.Heads.{head_stops, heads_by}
 use Rattle.gabc_write.proofs.plain.PlainCharacters.{either, plain_option, is_plain, plain, append}
 use Rattle.std.specs.Prelude.{bytes_eq}
 use Rattle.gabc_headers.proofs.printing.PrintedBookIsReadAgain.{own_book}
