@@ -28,8 +28,8 @@ const KEPT_OUTPUT: usize = 16_777_216;
 const KEPT_MESSAGES: usize = 8192;
 
 /// Returns how many bytes of the output the first run over `score` keeps, where there is room for
-/// `room`: 32 for each byte of the score, which is more than most dumps have, and no more than
-/// there is room for, nor than 16 MB.
+/// `room` bytes: 32 for each byte of the score, which is more than most dumps have, and no more
+/// than there is room for, nor than `KEPT_OUTPUT`.
 fn kept_output(score: &[u8], room: usize) -> usize {
     score.len().saturating_mul(32).min(room).min(KEPT_OUTPUT)
 }
