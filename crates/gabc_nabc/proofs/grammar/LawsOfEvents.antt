@@ -32,28 +32,7 @@ use Rattle.gabc_nabc.proofs.machine.TextWithACharacterMore.{end_more, kept_more,
 -- at each state at most one kind may end
 once : (s : DescriptorState) → ends_once (rows_of nabc machine s) ≡ true
 once Start = refl
-once CodeL = refl
-once CodeP = refl
-once CodeS = refl
-once Code = refl
-once Glyph = refl
-once Modified = refl
-once GlyphH = refl
-once Pitched = refl
-once Joined = refl
-once TailL = refl
-once TailP = refl
-once TailS = refl
-once Points = refl
-once PointsLetter = refl
-once Letters = refl
-once LettersMore = refl
-once Counted = refl
-once CountedH = refl
-once Tail = refl
-once Slash = refl
-once Tick = refl
-once Space = refl
+once _ = refl
 
 -- rows that spell one text are of one kind
 pub kinds_are_one : OneKind nabc
@@ -83,54 +62,12 @@ completion _ = []
 
 completed : (s : DescriptorState) → is_whole (run nabc (reading nabc machine s) (completion s)) ≡ true
 completed Start = refl
-completed CodeL = refl
-completed CodeP = refl
-completed CodeS = refl
-completed Code = refl
-completed Glyph = refl
-completed Modified = refl
-completed GlyphH = refl
-completed Pitched = refl
-completed Joined = refl
-completed TailL = refl
-completed TailP = refl
-completed TailS = refl
-completed Points = refl
-completed PointsLetter = refl
-completed Letters = refl
-completed LettersMore = refl
-completed Counted = refl
-completed CountedH = refl
-completed Tail = refl
-completed Slash = refl
-completed Tick = refl
-completed Space = refl
+completed _ = refl
 
 -- it is no longer than two characters
 short : (s : DescriptorState) → length (completion s) ≤ 2
 short Start = omega arith
-short CodeL = omega arith
-short CodeP = omega arith
-short CodeS = omega arith
-short Code = omega arith
-short Glyph = omega arith
-short Modified = omega arith
-short GlyphH = omega arith
-short Pitched = omega arith
-short Joined = omega arith
-short TailL = omega arith
-short TailP = omega arith
-short TailS = omega arith
-short Points = omega arith
-short PointsLetter = omega arith
-short Letters = omega arith
-short LettersMore = omega arith
-short Counted = omega arith
-short CountedH = omega arith
-short Tail = omega arith
-short Slash = omega arith
-short Tick = omega arith
-short Space = omega arith
+short _ = omega arith
 
 -- a viable text needs at most two characters more
 pub two_complete : (t : List ℕ) → IsViable nabc t → (more : List ℕ) × (length more ≤ 2) × IsSnippet nabc (t ++ more)

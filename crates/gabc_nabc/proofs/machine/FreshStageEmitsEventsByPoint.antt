@@ -42,28 +42,7 @@ letters_agree s c = letters_agree_at s (next_state s (class_of_character c)) c
 
 pub letters_checked : (s : DescriptorState) → below 129 (letters_agree s) ≡ true
 letters_checked Start = refl
-letters_checked CodeL = refl
-letters_checked CodeP = refl
-letters_checked CodeS = refl
-letters_checked Code = refl
-letters_checked Glyph = refl
-letters_checked Modified = refl
-letters_checked GlyphH = refl
-letters_checked Pitched = refl
-letters_checked Joined = refl
-letters_checked TailL = refl
-letters_checked TailP = refl
-letters_checked TailS = refl
-letters_checked Points = refl
-letters_checked PointsLetter = refl
-letters_checked Letters = refl
-letters_checked LettersMore = refl
-letters_checked Counted = refl
-letters_checked CountedH = refl
-letters_checked Tail = refl
-letters_checked Slash = refl
-letters_checked Tick = refl
-letters_checked Space = refl
+letters_checked _ = refl
 
 begins_far : (c : ℕ) → 128 ≤ c → begins_code c ≡ false
 begins_far c h = grind (arith, nat_tests)

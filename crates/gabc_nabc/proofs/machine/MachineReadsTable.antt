@@ -30,54 +30,12 @@ far c h = grind (arith, nat_tests)
 -- the tests of reading snippets come out
 snippets_checked : (s : DescriptorState) → test_snippets alike nabc machine s ≡ true
 snippets_checked Start = refl
-snippets_checked CodeL = refl
-snippets_checked CodeP = refl
-snippets_checked CodeS = refl
-snippets_checked Code = refl
-snippets_checked Glyph = refl
-snippets_checked Modified = refl
-snippets_checked GlyphH = refl
-snippets_checked Pitched = refl
-snippets_checked Joined = refl
-snippets_checked TailL = refl
-snippets_checked TailP = refl
-snippets_checked TailS = refl
-snippets_checked Points = refl
-snippets_checked PointsLetter = refl
-snippets_checked Letters = refl
-snippets_checked LettersMore = refl
-snippets_checked Counted = refl
-snippets_checked CountedH = refl
-snippets_checked Tail = refl
-snippets_checked Slash = refl
-snippets_checked Tick = refl
-snippets_checked Space = refl
+snippets_checked _ = refl
 
 -- the tests of reading items come out
 items_checked : (s : DescriptorState) → test_items alike nabc machine s ≡ true
 items_checked Start = refl
-items_checked CodeL = refl
-items_checked CodeP = refl
-items_checked CodeS = refl
-items_checked Code = refl
-items_checked Glyph = refl
-items_checked Modified = refl
-items_checked GlyphH = refl
-items_checked Pitched = refl
-items_checked Joined = refl
-items_checked TailL = refl
-items_checked TailP = refl
-items_checked TailS = refl
-items_checked Points = refl
-items_checked PointsLetter = refl
-items_checked Letters = refl
-items_checked LettersMore = refl
-items_checked Counted = refl
-items_checked CountedH = refl
-items_checked Tail = refl
-items_checked Slash = refl
-items_checked Tick = refl
-items_checked Space = refl
+items_checked _ = refl
 
 -- the machine reads the snippets of the table
 pub snippets_read : ReadsSnippets nabc machine

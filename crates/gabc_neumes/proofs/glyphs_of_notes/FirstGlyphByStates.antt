@@ -54,23 +54,8 @@ kind_of_one shape.Inclinatum = record { base = base.Inclinata; tail = tail.Plain
 kind_of_one s = record { base = base.One s; tail = tail.Plain }
 
 pub one_ends : (s : Shape) → kind_at_end (One s) ≡ Some (kind_of_one s)
-one_ends shape.Punctum = refl
 one_ends shape.Inclinatum = refl
-one_ends shape.Virga = refl
-one_ends shape.Bivirga = refl
-one_ends shape.Trivirga = refl
-one_ends shape.VirgaReversa = refl
-one_ends shape.Stropha = refl
-one_ends shape.Distropha = refl
-one_ends shape.Tristropha = refl
-one_ends shape.Oriscus = refl
-one_ends shape.OriscusScapus = refl
-one_ends shape.Quilisma = refl
-one_ends shape.QuilismaQuadratum = refl
-one_ends shape.Quadratum = refl
-one_ends shape.Cavum = refl
-one_ends shape.Lined = refl
-one_ends shape.Linea = refl
+one_ends _ = refl
 
 pub first_best : (n : Note) (ns : List Note) → HasBest (letters (n ∷ ns))
 first_best n ns =

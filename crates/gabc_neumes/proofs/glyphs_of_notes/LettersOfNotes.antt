@@ -57,22 +57,7 @@ letter_at b (n ∷ ns) (suc i) d e l = letter_at (Some n.height) ns i d e (omega
 
 of_first : (s : Shape) → class_of_letter (shape_letter s) ≡ First s
 of_first shape.Punctum = refl
-of_first shape.Inclinatum = refl
-of_first shape.Virga = refl
-of_first shape.Bivirga = refl
-of_first shape.Trivirga = refl
-of_first shape.VirgaReversa = refl
-of_first shape.Stropha = refl
-of_first shape.Distropha = refl
-of_first shape.Tristropha = refl
-of_first shape.Oriscus = refl
-of_first shape.OriscusScapus = refl
-of_first shape.Quilisma = refl
-of_first shape.QuilismaQuadratum = refl
-of_first shape.Quadratum = refl
-of_first shape.Cavum = refl
-of_first shape.Lined = refl
-of_first shape.Linea = refl
+of_first _ = refl
 
 of_joinable : (l h : Bool) → class_of_letter (if l then 68 else if h then 85 else 69) ≡ (if l then Down else if h then Up else Level)
 of_joinable true h = refl
@@ -92,16 +77,7 @@ of_step shape.OriscusScapus a b = of_joinable (nat_lt b a) (nat_lt a b)
 of_step shape.Quilisma a b = of_joinable (nat_lt b a) (nat_lt a b)
 of_step shape.QuilismaQuadratum a b = of_joinable (nat_lt b a) (nat_lt a b)
 of_step shape.Quadratum a b = of_joinable (nat_lt b a) (nat_lt a b)
-of_step shape.Virga a b = refl
-of_step shape.Bivirga a b = refl
-of_step shape.Trivirga a b = refl
-of_step shape.VirgaReversa a b = refl
-of_step shape.Stropha a b = refl
-of_step shape.Distropha a b = refl
-of_step shape.Tristropha a b = refl
-of_step shape.Cavum a b = refl
-of_step shape.Lined a b = refl
-of_step shape.Linea a b = refl
+of_step _ a b = refl
 
 pub class_of_letter_of : (b : Option ℕ) (n : Note) → class_of_letter (letter_of b n) ≡ class_at b n
 class_of_letter_of None n = of_first n.shape

@@ -1,14 +1,16 @@
 -- The machine reads the table of neumes.
 use Rattle.std.proofs.Common.{◌≡◌, ℕ, ◌≤◌, Bool, true, false, ◌&&◌, refl, arith, ap, ◌∙◌}
+use denote.Enum.Bare.{sameb, same_true}
 use Rattle.std.proofs.lemmas.Bool.Decides.{nat_tests}
 use Rattle.gabc_notes.specs.declared.note.Shape.{Shape}
 use Rattle.gabc_notes.specs.declared.note.Shape.TheVariants as shape
+use Rattle.gabc_notes.specs.contracts.note.Shape.{the_type as shape_type}
 use Rattle.gabc_neumes.specs.Table.{neumes}
 use Rattle.gabc_neumes.specs.machine.GlyphMachine.{class_of_letter, next_state, kind_at_end, example}
 use Rattle.gabc_neumes.specs.declared.glyph.Base.{Base}
 use Rattle.gabc_neumes.specs.declared.glyph.Base.TheVariants as base
 use Rattle.gabc_neumes.specs.declared.glyph.Tail.{Tail}
-use Rattle.gabc_neumes.specs.declared.glyph.Tail.TheVariants as tail
+use Rattle.gabc_neumes.specs.contracts.glyph.Tail.{the_type as tail_type}
 use Rattle.gabc_neumes.specs.declared.glyph.GlyphKind.{GlyphKind}
 use Rattle.gabc_neumes.specs.declared.state.NoteClass.{NoteClass}
 use Rattle.gabc_neumes.specs.declared.state.JoinedBase.TheVariants as joined
@@ -35,44 +37,10 @@ machine = record {
 
 -- tests of two kinds, part by part, and that what tests alike is equal
 abbrev pub same_shape : Shape → Shape → Bool
-same_shape shape.Inclinatum shape.Inclinatum = true
-same_shape shape.Punctum shape.Punctum = true
-same_shape shape.Virga shape.Virga = true
-same_shape shape.Bivirga shape.Bivirga = true
-same_shape shape.Trivirga shape.Trivirga = true
-same_shape shape.VirgaReversa shape.VirgaReversa = true
-same_shape shape.Stropha shape.Stropha = true
-same_shape shape.Distropha shape.Distropha = true
-same_shape shape.Tristropha shape.Tristropha = true
-same_shape shape.Oriscus shape.Oriscus = true
-same_shape shape.OriscusScapus shape.OriscusScapus = true
-same_shape shape.Quilisma shape.Quilisma = true
-same_shape shape.QuilismaQuadratum shape.QuilismaQuadratum = true
-same_shape shape.Quadratum shape.Quadratum = true
-same_shape shape.Cavum shape.Cavum = true
-same_shape shape.Lined shape.Lined = true
-same_shape shape.Linea shape.Linea = true
-same_shape _ _ = false
+same_shape = sameb shape_type
 
 pub same_shape_equal : (k j : Shape) → same_shape k j ≡ true → k ≡ j
-same_shape_equal shape.Inclinatum shape.Inclinatum e = refl
-same_shape_equal shape.Punctum shape.Punctum e = refl
-same_shape_equal shape.Virga shape.Virga e = refl
-same_shape_equal shape.Bivirga shape.Bivirga e = refl
-same_shape_equal shape.Trivirga shape.Trivirga e = refl
-same_shape_equal shape.VirgaReversa shape.VirgaReversa e = refl
-same_shape_equal shape.Stropha shape.Stropha e = refl
-same_shape_equal shape.Distropha shape.Distropha e = refl
-same_shape_equal shape.Tristropha shape.Tristropha e = refl
-same_shape_equal shape.Oriscus shape.Oriscus e = refl
-same_shape_equal shape.OriscusScapus shape.OriscusScapus e = refl
-same_shape_equal shape.Quilisma shape.Quilisma e = refl
-same_shape_equal shape.QuilismaQuadratum shape.QuilismaQuadratum e = refl
-same_shape_equal shape.Quadratum shape.Quadratum e = refl
-same_shape_equal shape.Cavum shape.Cavum e = refl
-same_shape_equal shape.Lined shape.Lined e = refl
-same_shape_equal shape.Linea shape.Linea e = refl
-same_shape_equal _ _ e = absurd (cc)
+same_shape_equal = same_true shape_type tt
 
 abbrev pub same_base : Base → Base → Bool
 same_base base.Pes base.Pes = true
@@ -105,16 +73,10 @@ same_base_equal (base.One s) (base.One r) e = (let f = same_shape_equal s r e in
 same_base_equal _ _ e = absurd (cc)
 
 abbrev pub same_tail : Tail → Tail → Bool
-same_tail tail.Plain tail.Plain = true
-same_tail tail.Subpunctis tail.Subpunctis = true
-same_tail tail.Resupinus tail.Resupinus = true
-same_tail _ _ = false
+same_tail = sameb tail_type
 
 pub same_tail_equal : (k j : Tail) → same_tail k j ≡ true → k ≡ j
-same_tail_equal tail.Plain tail.Plain e = refl
-same_tail_equal tail.Subpunctis tail.Subpunctis e = refl
-same_tail_equal tail.Resupinus tail.Resupinus e = refl
-same_tail_equal _ _ e = absurd (cc)
+same_tail_equal = same_true tail_type tt
 
 abbrev pub same_kind : GlyphKind → GlyphKind → Bool
 same_kind k j = same_base k.base j.base && same_tail k.tail j.tail
@@ -137,52 +99,10 @@ tests s = test_items same_kind neumes machine s && ends_once (rows_of neumes mac
 checked : (s : GlyphState) → tests s ≡ true
 checked Start = refl
 checked (One shape.Inclinatum) = refl
-checked (One shape.Punctum) = refl
-checked (One shape.Virga) = refl
-checked (One shape.Bivirga) = refl
-checked (One shape.Trivirga) = refl
-checked (One shape.VirgaReversa) = refl
-checked (One shape.Stropha) = refl
-checked (One shape.Distropha) = refl
-checked (One shape.Tristropha) = refl
-checked (One shape.Oriscus) = refl
-checked (One shape.OriscusScapus) = refl
-checked (One shape.Quilisma) = refl
-checked (One shape.QuilismaQuadratum) = refl
-checked (One shape.Quadratum) = refl
-checked (One shape.Cavum) = refl
-checked (One shape.Lined) = refl
-checked (One shape.Linea) = refl
 checked (Plain joined.Pes) = refl
-checked (Plain joined.Clivis) = refl
-checked (Plain joined.Torculus) = refl
-checked (Plain joined.Porrectus) = refl
-checked (Plain joined.Scandicus) = refl
-checked (Plain joined.ScandicusFlexus) = refl
-checked (Plain joined.TorculusResupinus) = refl
-checked (Plain joined.PorrectusFlexus) = refl
-checked (Plain joined.TorculusResupinusFlexus) = refl
 checked (Falling joined.Pes) = refl
-checked (Falling joined.Clivis) = refl
-checked (Falling joined.Torculus) = refl
-checked (Falling joined.Porrectus) = refl
-checked (Falling joined.Scandicus) = refl
-checked (Falling joined.ScandicusFlexus) = refl
-checked (Falling joined.TorculusResupinus) = refl
-checked (Falling joined.PorrectusFlexus) = refl
-checked (Falling joined.TorculusResupinusFlexus) = refl
 checked (Resumed joined.Pes) = refl
-checked (Resumed joined.Clivis) = refl
-checked (Resumed joined.Torculus) = refl
-checked (Resumed joined.Porrectus) = refl
-checked (Resumed joined.Scandicus) = refl
-checked (Resumed joined.ScandicusFlexus) = refl
-checked (Resumed joined.TorculusResupinus) = refl
-checked (Resumed joined.PorrectusFlexus) = refl
-checked (Resumed joined.TorculusResupinusFlexus) = refl
-checked Half = refl
-checked Climacus = refl
-checked ResumedClimacus = refl
+checked _ = refl
 
 items_checked : (s : GlyphState) → test_items same_kind neumes machine s ≡ true
 items_checked s = (and_true (test_items same_kind neumes machine s) (ends_once (rows_of neumes machine s)) (checked s)).0

@@ -15,30 +15,14 @@ use Rattle.gabc_neumes.proofs.glyphs_of_notes.KindByStates.{KindSoFar, far_first
 -- before a state in which no glyph ends stands one in which one ends
 before_open : (s z : GlyphState) (c : NoteClass) → next_state s c ≡ Some z → kind_at_end z ≡ None → (j : GlyphKind) × (kind_at_end s ≡ Some j)
 before_open Start z (First s) e f = (let g = one_ends s in absurd (cc))
-before_open Start z Up e f = absurd (cc)
-before_open Start z Down e f = absurd (cc)
-before_open Start z Level e f = absurd (cc)
-before_open Start z PointUp e f = absurd (cc)
-before_open Start z PointDown e f = absurd (cc)
-before_open Start z PointLevel e f = absurd (cc)
-before_open Start z Other e f = absurd (cc)
-before_open Half z (First s) e f = absurd (cc)
-before_open Half z Up e f = absurd (cc)
-before_open Half z Down e f = absurd (cc)
-before_open Half z Level e f = absurd (cc)
-before_open Half z PointUp e f = absurd (cc)
+before_open Start z _ e f = absurd (cc)
 before_open Half z PointDown e f = absurd (let g : kind_at_end z ≡ kind_at_end Climacus = ap kind_at_end (out e) in cc)
   where
     out : Some Climacus ≡ Some z → z ≡ Climacus
     out h = cc
-before_open Half z PointLevel e f = absurd (cc)
-before_open Half z Other e f = absurd (cc)
+before_open Half z _ e f = absurd (cc)
 before_open (One s) z c e f = (kind_of_one s, one_ends s)
-before_open (Plain j) z c e f = (_, refl)
-before_open (Falling j) z c e f = (_, refl)
-before_open Climacus z c e f = (_, refl)
-before_open (Resumed j) z c e f = (_, refl)
-before_open ResumedClimacus z c e f = (_, refl)
+before_open _ z c e f = (_, refl)
 
 -- the notes are read to some state
 abbrev pub IsOpen : List Note → Type 0

@@ -95,70 +95,14 @@ test s c = cond (is_raw (on s c)) ((raw_state s && not (c == 93)) || ((c == 91) 
 
 tested : (s : ItemState) → below 129 (test s) ≡ true
 tested Start = refl
-tested Dash = refl
-tested DashPitch = refl
-tested Body = refl
-tested Pitch = refl
-tested ClefPitch = refl
-tested ClefFlat = refl
-tested ClefS = refl
-tested Join = refl
-tested JoinPitch = refl
-tested JoinFlat = refl
-tested Altered = refl
-tested Sharp = refl
-tested BarS = refl
-tested Colon = refl
-tested BarAsked = refl
-tested BarSigned = refl
-tested Slash = refl
-tested Blanks = refl
-tested SmallZ = refl
-tested CapitalZ = refl
-tested Raw = refl
-tested SlashRaw = refl
-tested At = refl
 tested (Done FullAlteration) = refl
-tested (Done FullClef) = refl
-tested (Done FullSpacing) = refl
-tested (Done FullCustos) = refl
-tested (Done FullBreak) = refl
-tested (Done FullAttribute) = refl
-tested (Done FullFusion) = refl
+tested _ = refl
 
 -- a `[` after a snippet opens raw or makes a snippet
 opened : (s : ItemState) → cond (whole_at s) (whole_or_raw (on s 91)) true ≡ true
 opened Start = refl
-opened Dash = refl
-opened DashPitch = refl
-opened Body = refl
-opened Pitch = refl
-opened ClefPitch = refl
-opened ClefFlat = refl
-opened ClefS = refl
-opened Join = refl
-opened JoinPitch = refl
-opened JoinFlat = refl
-opened Altered = refl
-opened Sharp = refl
-opened BarS = refl
-opened Colon = refl
-opened BarAsked = refl
-opened BarSigned = refl
-opened Slash = refl
-opened Blanks = refl
-opened SmallZ = refl
-opened CapitalZ = refl
-opened Raw = refl
-opened SlashRaw = refl
-opened At = refl
 opened (Done FullAlteration) = refl
-opened (Done FullClef) = refl
-opened (Done FullSpacing) = refl
-opened (Done FullCustos) = refl
-opened (Done FullBreak) = refl
-opened (Done FullAttribute) = refl
-opened (Done FullFusion) = refl
+opened _ = refl
 
 test_at : (s : ItemState) (c : ℕ) → test s c ≡ true
 test_at s c = elim (dec_lt c 128) [

@@ -19,36 +19,8 @@ use Rattle.gabc_notes.proofs.machine.MachineReadsTable.{machine, snippets_read, 
 -- at each state at most one kind may end
 once : (s : ItemState) → ends_once (rows_of gabc machine s) ≡ true
 once Start = refl
-once Dash = refl
-once DashPitch = refl
-once Body = refl
-once Pitch = refl
-once ClefPitch = refl
-once ClefFlat = refl
-once ClefS = refl
-once Join = refl
-once JoinPitch = refl
-once JoinFlat = refl
-once Altered = refl
-once Sharp = refl
-once BarS = refl
-once Colon = refl
-once BarAsked = refl
-once BarSigned = refl
-once Slash = refl
-once Blanks = refl
-once SmallZ = refl
-once CapitalZ = refl
-once Raw = refl
-once SlashRaw = refl
-once At = refl
 once (Done FullAlteration) = refl
-once (Done FullClef) = refl
-once (Done FullSpacing) = refl
-once (Done FullCustos) = refl
-once (Done FullBreak) = refl
-once (Done FullAttribute) = refl
-once (Done FullFusion) = refl
+once _ = refl
 
 -- rows that spell one text are of one kind
 pub kinds_are_one : OneKind gabc
@@ -67,69 +39,13 @@ completion _ = []
 
 completed : (s : ItemState) → is_whole (run gabc (reading gabc machine s) (completion s)) ≡ true
 completed Start = refl
-completed Dash = refl
-completed DashPitch = refl
-completed Body = refl
-completed Pitch = refl
-completed ClefPitch = refl
-completed ClefFlat = refl
-completed ClefS = refl
-completed Join = refl
-completed JoinPitch = refl
-completed JoinFlat = refl
-completed Altered = refl
-completed Sharp = refl
-completed BarS = refl
-completed Colon = refl
-completed BarAsked = refl
-completed BarSigned = refl
-completed Slash = refl
-completed Blanks = refl
-completed SmallZ = refl
-completed CapitalZ = refl
-completed Raw = refl
-completed SlashRaw = refl
-completed At = refl
 completed (Done FullAlteration) = refl
-completed (Done FullClef) = refl
-completed (Done FullSpacing) = refl
-completed (Done FullCustos) = refl
-completed (Done FullBreak) = refl
-completed (Done FullAttribute) = refl
-completed (Done FullFusion) = refl
+completed _ = refl
 
 short : (s : ItemState) → length (completion s) ≤ 1
 short Start = omega arith
-short Dash = omega arith
-short DashPitch = omega arith
-short Body = omega arith
-short Pitch = omega arith
-short ClefPitch = omega arith
-short ClefFlat = omega arith
-short ClefS = omega arith
-short Join = omega arith
-short JoinPitch = omega arith
-short JoinFlat = omega arith
-short Altered = omega arith
-short Sharp = omega arith
-short BarS = omega arith
-short Colon = omega arith
-short BarAsked = omega arith
-short BarSigned = omega arith
-short Slash = omega arith
-short Blanks = omega arith
-short SmallZ = omega arith
-short CapitalZ = omega arith
-short Raw = omega arith
-short SlashRaw = omega arith
-short At = omega arith
 short (Done FullAlteration) = omega arith
-short (Done FullClef) = omega arith
-short (Done FullSpacing) = omega arith
-short (Done FullCustos) = omega arith
-short (Done FullBreak) = omega arith
-short (Done FullAttribute) = omega arith
-short (Done FullFusion) = omega arith
+short _ = omega arith
 
 -- one character is enough to complete a viable text
 pub one_completes : (t : List ℕ) → IsViable gabc t → (more : List ℕ) × (length more ≤ 1) × IsSnippet gabc (t ++ more)

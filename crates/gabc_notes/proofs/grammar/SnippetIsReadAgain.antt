@@ -48,36 +48,8 @@ is_barred s c = raw_state s || is_none (on s c)
 
 barred : (s : ItemState) → (is_barred s 41 && (is_barred s 124 && is_barred s 37)) ≡ true
 barred Start = refl
-barred Dash = refl
-barred DashPitch = refl
-barred Body = refl
-barred Pitch = refl
-barred ClefPitch = refl
-barred ClefFlat = refl
-barred ClefS = refl
-barred Join = refl
-barred JoinPitch = refl
-barred JoinFlat = refl
-barred Altered = refl
-barred Sharp = refl
-barred BarS = refl
-barred Colon = refl
-barred BarAsked = refl
-barred BarSigned = refl
-barred Slash = refl
-barred Blanks = refl
-barred SmallZ = refl
-barred CapitalZ = refl
-barred Raw = refl
-barred SlashRaw = refl
-barred At = refl
 barred (Done FullAlteration) = refl
-barred (Done FullClef) = refl
-barred (Done FullSpacing) = refl
-barred (Done FullCustos) = refl
-barred (Done FullBreak) = refl
-barred (Done FullAttribute) = refl
-barred (Done FullFusion) = refl
+barred _ = refl
 
 barred_by : (s z : ItemState) (d : ℕ) → is_barred s d ≡ true → raw_state s ≡ false → on s d ≡ Some z → ⊥
 barred_by s z d b r e = let f : is_barred s d ≡ false = rw (r, e) refl in let g : true ≡ false = sym b ∙ f in cc

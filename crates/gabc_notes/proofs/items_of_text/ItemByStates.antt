@@ -54,36 +54,8 @@ mark_test s = opened_at s (on s 91) && (closed_at s (on s 93) && cond (whole_at 
 
 pub marks_tested : (s : ItemState) → mark_test s ≡ true
 marks_tested Start = refl
-marks_tested Dash = refl
-marks_tested DashPitch = refl
-marks_tested Body = refl
-marks_tested Pitch = refl
-marks_tested ClefPitch = refl
-marks_tested ClefFlat = refl
-marks_tested ClefS = refl
-marks_tested Join = refl
-marks_tested JoinPitch = refl
-marks_tested JoinFlat = refl
-marks_tested Altered = refl
-marks_tested Sharp = refl
-marks_tested BarS = refl
-marks_tested Colon = refl
-marks_tested BarAsked = refl
-marks_tested BarSigned = refl
-marks_tested Slash = refl
-marks_tested Blanks = refl
-marks_tested SmallZ = refl
-marks_tested CapitalZ = refl
-marks_tested Raw = refl
-marks_tested SlashRaw = refl
-marks_tested At = refl
 marks_tested (Done FullAlteration) = refl
-marks_tested (Done FullClef) = refl
-marks_tested (Done FullSpacing) = refl
-marks_tested (Done FullCustos) = refl
-marks_tested (Done FullBreak) = refl
-marks_tested (Done FullAttribute) = refl
-marks_tested (Done FullFusion) = refl
+marks_tested _ = refl
 
 -- the states that the tests report
 pub fusion_state : (s : ItemState) → is_fusion s ≡ true → s ≡ Done FullFusion

@@ -30,79 +30,20 @@ use Rattle.gabc_notes.specs.witness.StageEvents.{CharEvents}
 -- whether a state lies inside raw
 pub raw_is : (s : ItemState) → raw_at (reading gabc machine s) ≡ raw_state s
 raw_is Start = refl
-raw_is Dash = refl
-raw_is DashPitch = refl
-raw_is Body = refl
-raw_is Pitch = refl
-raw_is ClefPitch = refl
-raw_is ClefFlat = refl
-raw_is ClefS = refl
-raw_is Join = refl
-raw_is JoinPitch = refl
-raw_is JoinFlat = refl
-raw_is Altered = refl
-raw_is Sharp = refl
-raw_is BarS = refl
-raw_is Colon = refl
-raw_is BarAsked = refl
-raw_is BarSigned = refl
-raw_is Slash = refl
-raw_is Blanks = refl
-raw_is SmallZ = refl
-raw_is CapitalZ = refl
-raw_is Raw = refl
-raw_is SlashRaw = refl
-raw_is At = refl
 raw_is (Done FullAlteration) = refl
-raw_is (Done FullClef) = refl
-raw_is (Done FullSpacing) = refl
-raw_is (Done FullCustos) = refl
-raw_is (Done FullBreak) = refl
-raw_is (Done FullAttribute) = refl
-raw_is (Done FullFusion) = refl
+raw_is _ = refl
 
 -- whether a state ends with an attribute
 pub attribute_is : (s : ItemState) → is_attribute_kind (kind_at (reading gabc machine s)) ≡ attribute_state s
 attribute_is Start = refl
-attribute_is Dash = refl
-attribute_is DashPitch = refl
-attribute_is Body = refl
-attribute_is Pitch = refl
-attribute_is ClefPitch = refl
-attribute_is ClefFlat = refl
-attribute_is ClefS = refl
-attribute_is Join = refl
-attribute_is JoinPitch = refl
-attribute_is JoinFlat = refl
-attribute_is Altered = refl
-attribute_is Sharp = refl
-attribute_is BarS = refl
-attribute_is Colon = refl
-attribute_is BarAsked = refl
-attribute_is BarSigned = refl
-attribute_is Slash = refl
-attribute_is Blanks = refl
-attribute_is SmallZ = refl
-attribute_is CapitalZ = refl
-attribute_is Raw = refl
-attribute_is SlashRaw = refl
-attribute_is At = refl
 attribute_is (Done FullAlteration) = refl
-attribute_is (Done FullClef) = refl
-attribute_is (Done FullSpacing) = refl
-attribute_is (Done FullCustos) = refl
-attribute_is (Done FullBreak) = refl
-attribute_is (Done FullAttribute) = refl
-attribute_is (Done FullFusion) = refl
+attribute_is _ = refl
 
 -- the digit of a macro's name is emitted
 pub digit_is : (n : MacroPrefix) → macro_digit (example_prefix n) ≡ digit_of_prefix n
 digit_is Closed = refl
-digit_is Opened = refl
-digit_is Letter = refl
-digit_is Named = refl
 digit_is (Last c) = refl
-digit_is Other = refl
+digit_is _ = refl
 
 -- what is known by the readings is what is known by the states
 by_states : (s : ItemState) (o : Option ItemState) (n : MacroPrefix) → facts_at (reading gabc machine s) (reading_of gabc machine o) (digit_of_prefix n) ≡ facts_by_states s o n
