@@ -1,5 +1,5 @@
 -- A stage keeps the text that it has kept.
-use Rattle.std.proofs.Common.{◌≡◌, ◌==◌, ◌&&◌, ◌||◌, not, ℕ, List, [], ◌∷◌, ◌++◌, Bool, true, false, Option, Some, None, is_some, length, drop, map, refl, sym, ap, ◌∙◌, subst, inl, inr, append-nil, append_assoc, eqb-true, if◌then◌else◌}
+use Rattle.std.proofs.Common.{◌≡◌, ◌==◌, ◌&&◌, ◌||◌, not, ℕ, List, [], ◌∷◌, ◌++◌, Bool, true, false, Option, Some, None, is_some, length, drop, map, refl, sym, ap, ◌∙◌, subst, inl, inr, append-nil, append_assoc, eqb-true, if◌then◌else◌, arith}
 use Rattle.std.proofs.Math.Seq.{drop-append_seam}
 use Rattle.std.proofs.lemmas.Bool.{true≢false}
 use Rattle.std.proofs.lemmas.List.{same_from_push}
@@ -150,11 +150,7 @@ module _ (m : Bool) (k : List ℕ) (x : Char) where
 -- ---- what a character does to a stage
 
 not_ends : (a m b v : Bool) → (if a then Silent else (if m then Ends else (if b then Silent else (if v then Keep else LeaveOut)))) ≡ Ends → (not a && m) ≡ true
-not_ends true m b v e = absurd (cc)
-not_ends false true b v e = refl
-not_ends false false true v e = absurd (cc)
-not_ends false false false true e = absurd (cc)
-not_ends false false false false e = absurd (cc)
+not_ends a m b v e = grind arith
 
 comment_after : (s : NabcStage) (c : ℕ) → s.ended ≡ false → is_end_after (comment_of s) c ≡ false → comment_of (stage_after s c) ≡ comment_in (comment_of s) c
 comment_after s c on e =

@@ -1,5 +1,5 @@
 -- After an end that a stage emits, it emits nothing.
-use Rattle.std.proofs.Common.{◌≡◌, List, [], ◌∷◌, ◌++◌, Bool, true, false, cond, not, ◌&&◌, ◌||◌, ◌==◌, ℕ, refl, sym, ap, ◌∙◌, Option, Some, None, append_assoc, option_to_list}
+use Rattle.std.proofs.Common.{◌≡◌, List, [], ◌∷◌, ◌++◌, Bool, true, false, cond, not, ◌&&◌, ◌||◌, ◌==◌, ℕ, refl, sym, ap, ◌∙◌, Option, Some, None, append_assoc, option_to_list, arith}
 use Rattle.std.specs.List.{list_any}
 use Rattle.std.proofs.lemmas.List.Folds.{list_any-append}
 use Rattle.gabc_places.specs.declared.code.Code.{Code}
@@ -43,10 +43,7 @@ warned : (macros : ℕ) (b : Before) (e : CharFacts) (x : Char) → list_any is_
 warned macros b e x = go e.raw (e.attribute && is_missing macros e.digit) (((x.c == 91) && (not e.raw_after && b.fused)) || ((x.c == 93) && not b.fused))
   where
     go : (r m u : Bool) → list_any is_ended (option_to_list (cond r (cond m (Some (finding_event b.place W8)) None) (cond u (Some (finding_event x.place W10)) None)) ++ []) ≡ false
-    go true true u = refl
-    go true false u = refl
-    go false m true = refl
-    go false m false = refl
+    go r m u = grind arith
 
 -- after an end that a push gives, the stage is over
 pub push_stops : (st next : NoteStage) (x : Char) (o : Option ItemState) (e : CharFacts) (r : CharRole) (g : CharEvents) (old new : BoundedList NoteEvent)

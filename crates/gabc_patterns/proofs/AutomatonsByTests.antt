@@ -77,10 +77,7 @@ alike false false = true
 
 -- tests that come out alike are equal
 pub alike_equal : (a b : Bool) → alike a b ≡ true → a ≡ b
-alike_equal true true e = refl
-alike_equal true false e = absurd (cc)
-alike_equal false true e = absurd (cc)
-alike_equal false false e = refl
+alike_equal a b e = grind arith
 
 module _ {K : Type 0} (same_kind : K → K → Bool) where
   -- rows that are written alike

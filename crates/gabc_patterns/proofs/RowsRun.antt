@@ -1,5 +1,5 @@
 -- The rows after a text, and the kind of an item that ends there.
-use Rattle.std.proofs.Common.{◌≡◌, ℕ, List, [], ◌∷◌, ◌++◌, Bool, true, false, cond, not, ◌||◌, refl, sym, ◌∙◌, subst, Some, None, append-nil, inl, inr}
+use Rattle.std.proofs.Common.{◌≡◌, ℕ, List, [], ◌∷◌, ◌++◌, Bool, true, false, cond, not, ◌||◌, refl, sym, ◌∙◌, subst, Some, None, append-nil, inl, inr, arith}
 use Rattle.gabc_patterns.specs.Pattern.{Pattern}
 use Rattle.gabc_patterns.specs.LongestItems.{Table, IsItemOf, IsItem}
 use Rattle.gabc_patterns.specs.Derivative.{may_end, rows_after, rows_run, rows_end, end_kind}
@@ -62,9 +62,7 @@ ends_once [] = true
 ends_once (row ∷ rows) = cond (may_end row.1) (not (rows_end rows)) (ends_once rows)
 
 clash : (a b c : Bool) → a ≡ true → b ≡ true → cond a (not b) c ≡ true → ⊥
-clash true true c e f g = absurd (cc)
-clash true false c e f g = absurd (cc)
-clash false b c e f g = absurd (cc)
+clash a b c e f g = grind arith
 
 ends_later : (a b c : Bool) → b ≡ true → cond a (not b) c ≡ true → c ≡ true
 ends_later true true c f g = absurd (cc)

@@ -1,5 +1,5 @@
 -- What is emitted of an NABC snippet by relations is what is computed character by character.
-use Rattle.std.proofs.Common.{◌≡◌, ℕ, List, [], ◌∷◌, ◌++◌, Bool, true, false, cond, ◌&&◌, ◌||◌, inl, inr, refl, sym, ap, ◌∙◌, subst}
+use Rattle.std.proofs.Common.{◌≡◌, ℕ, List, [], ◌∷◌, ◌++◌, Bool, true, false, cond, ◌&&◌, ◌||◌, inl, inr, refl, sym, ap, ◌∙◌, subst, arith}
 use Rattle.std.specs.Prelude.{map}
 use Rattle.gabc_places.specs.declared.code.Code.TheVariants.{E3, E6, W7}
 use Rattle.gabc_places.specs.declared.code.Finding.{Finding}
@@ -52,10 +52,7 @@ parted t x o e =
         ∙ ap (λ (b : Bool). cond b (end_events (kept_of t) x) (cond (is_character t x.c) (character_events (kept_of t) x) [])) e
 
     go : (c v m : Bool) → at c v m ≡ cond (c && v) (Kept x ∷ []) [] ++ map Found (findings_of (at c v m))
-    go false v m = refl
-    go true false m = refl
-    go true true true = refl
-    go true true false = refl
+    go c v m = grind arith
 
 of_character : (t : List ℕ) (x : Char) → has_end t ≡ false → is_end t x.c ≡ false → AreOfCharacter t x (events_at t x)
 of_character t x o e = record {

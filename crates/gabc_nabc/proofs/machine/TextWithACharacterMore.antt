@@ -16,23 +16,7 @@ use Rattle.gabc_nabc.specs.witness.DescriptorMachine.{comment_in}
 use Rattle.gabc_notes.specs.witness.StageEvents.{count_plus}
 
 comment_step : (percent feed later has opened : Bool) → (percent && not (has || (feed || false))) || (later || (opened && not feed)) ≡ later || (((percent && not has) || opened) && not feed)
-comment_step false false false false opened = refl
-comment_step false false false true opened = refl
-comment_step false false true false opened = refl
-comment_step false false true true opened = refl
-comment_step false true false false false = refl
-comment_step false true false false true = refl
-comment_step false true false true false = refl
-comment_step false true false true true = refl
-comment_step false true true has opened = refl
-comment_step true false false false opened = refl
-comment_step true false false true opened = refl
-comment_step true false true false opened = refl
-comment_step true false true true opened = refl
-comment_step true true later false false = refl
-comment_step true true later false true = refl
-comment_step true true later true false = refl
-comment_step true true later true true = refl
+comment_step percent feed later has opened = grind arith
 
 -- whether a comment is open
 pub comment_more : (t : List ℕ) (c : ℕ) → in_comment (t ++ c ∷ []) ≡ comment_in (in_comment t) c

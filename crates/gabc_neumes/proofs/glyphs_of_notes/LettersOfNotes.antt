@@ -60,14 +60,10 @@ of_first shape.Punctum = refl
 of_first _ = refl
 
 of_joinable : (l h : Bool) → class_of_letter (if l then 68 else if h then 85 else 69) ≡ (if l then Down else if h then Up else Level)
-of_joinable true h = refl
-of_joinable false true = refl
-of_joinable false false = refl
+of_joinable l h = grind arith
 
 of_point : (l h : Bool) → class_of_letter (if l then 100 else if h then 117 else 101) ≡ (if l then PointDown else if h then PointUp else PointLevel)
-of_point true h = refl
-of_point false true = refl
-of_point false false = refl
+of_point l h = grind arith
 
 of_step : (s : Shape) (a b : ℕ) → class_of_letter (step_letter s a b) ≡ step_class s a b
 of_step shape.Inclinatum a b = of_point (nat_lt b a) (nat_lt a b)

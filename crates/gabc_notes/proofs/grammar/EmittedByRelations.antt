@@ -1,5 +1,5 @@
 -- What is emitted of a snippet by relations is what is computed character by character.
-use Rattle.std.proofs.Common.{◌≡◌, ℕ, List, [], ◌∷◌, ◌++◌, Bool, true, false, cond, not, ◌&&◌, ◌⊎◌, inl, inr, refl, sym, ap, ◌∙◌, subst}
+use Rattle.std.proofs.Common.{◌≡◌, ℕ, List, [], ◌∷◌, ◌++◌, Bool, true, false, cond, not, ◌&&◌, ◌⊎◌, inl, inr, refl, sym, ap, ◌∙◌, subst, arith}
 use Rattle.std.proofs.lemmas.Bool.{false_from_ne_true}
 use Rattle.std.specs.Prelude.{map}
 use Rattle.gabc_places.specs.declared.code.Code.TheVariants.{E1, E6, W8, W10}
@@ -55,12 +55,7 @@ parted split macros back x o e =
         ∙ ap (λ (b : Bool). cond b (at_end (point back x)) (cond (is_comment (point back x)) [] (cond (is_kept (point back x)) (Kept x ∷ warnings macros (point back x)) (finding_event x.place E1 ∷ [])))) e
 
     go : (c v u m : Bool) → at c v u m ≡ cond (not c && v) (Kept x ∷ []) [] ++ map Found (findings_of (at c v u m))
-    go true v u m = refl
-    go false false u m = refl
-    go false true true true = refl
-    go false true true false = refl
-    go false true false true = refl
-    go false true false false = refl
+    go c v u m = grind arith
 
 of_character : (split : Bool) (macros : ℕ) (back : List Char) (x : Char) → is_over split back ≡ false → is_end split (point back x) ≡ false
     → AreOfCharacter split macros (marks back) (x, is_comment (point back x)) (events_at split macros (point back x))
@@ -100,10 +95,7 @@ of_mark split back x e = record {
     at a b = cond a [] (finding_event x.place E6 ∷ []) ++ (cond b (finding_event x.place W10 ∷ []) [] ++ Ended (end_by_mark x.c) (bytes_of (trim gabc (kept back))) ∷ [])
 
     go : (a b : Bool) → at a b ≡ map Found (findings_of (at a b)) ++ Ended (end_by_mark x.c) (bytes_of (trim gabc (kept back))) ∷ []
-    go true true = refl
-    go true false = refl
-    go false true = refl
-    go false false = refl
+    go a b = grind arith
 
 of_mark_only : (split : Bool) (back : List Char) (x : Char) (events : List NoteEvent) → AreOfMark split (marks back) x events → events ≡ at_end (point back x)
 unfolding of_mark

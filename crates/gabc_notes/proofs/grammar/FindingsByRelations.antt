@@ -40,15 +40,7 @@ missing_some macros (Some (Attribute, t)) e = go (macro_in t) refl e
         → (u : List ℕ) × (digit : ℕ) × (◌≡◌ {A = Option ItemText} (Some (Attribute, t)) (Some (Attribute, u))) × (macro_in u ≡ Some digit) × (is_defined macros digit ≡ false)
     go None f g = absurd (cc)
     go (Some d) f g = (t, d, refl, f, not-true (is_defined macros d) g)
-missing_some macros None e = absurd (cc)
-missing_some macros (Some (Note, t)) e = absurd (cc)
-missing_some macros (Some (Alteration, t)) e = absurd (cc)
-missing_some macros (Some (Clef, t)) e = absurd (cc)
-missing_some macros (Some (Bar, t)) e = absurd (cc)
-missing_some macros (Some (Spacing, t)) e = absurd (cc)
-missing_some macros (Some (Custos, t)) e = absurd (cc)
-missing_some macros (Some (Break, t)) e = absurd (cc)
-missing_some macros (Some (Fusion, t)) e = absurd (cc)
+missing_some macros _ e = absurd (cc)
 
 -- what warns of a bracket that is not paired is a fusion mark
 fusion_item : (back : List Char) (x : Char) → is_unpaired (point back x) ≡ true → (t : List ℕ) × (item_at (point back x) ≡ Some (Fusion, t))

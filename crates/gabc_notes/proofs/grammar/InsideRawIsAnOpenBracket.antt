@@ -172,9 +172,7 @@ find s (c ∷ u) h = go (on s c) refl (λ z. find z u)
     ]
 
 pub raw_not_whole : (s : ItemState) → raw_state s ≡ true → whole_at s ≡ false
-raw_not_whole Raw e = refl
-raw_not_whole SlashRaw e = refl
-raw_not_whole _ e = absurd (cc)
+raw_not_whole s e = grind arith
 
 raw_no_snippet : (o : Option ItemState) → is_raw o ≡ true → is_whole_state o ≡ false
 raw_no_snippet None e = absurd (cc)

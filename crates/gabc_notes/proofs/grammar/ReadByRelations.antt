@@ -1,7 +1,7 @@
 -- What is read of a text by relations over the whole of it is what is computed character by character.
 use mathlib.Core.List.{reverse_aux}
 use lib.Utf8.{encodes}
-use Rattle.std.proofs.Common.{◌≡◌, ℕ, ◌+◌, List, [], ◌∷◌, ◌++◌, Bool, true, false, cond, not, ◌&&◌, ◌||◌, ◌==◌, ◌⊎◌, inl, inr, refl, sym, ap, ◌∙◌, subst, length, drop, Option, Some, None, append-nil, append_assoc, eqb-true}
+use Rattle.std.proofs.Common.{◌≡◌, ℕ, ◌+◌, List, [], ◌∷◌, ◌++◌, Bool, true, false, cond, not, ◌&&◌, ◌||◌, ◌==◌, ◌⊎◌, inl, inr, refl, sym, ap, ◌∙◌, subst, length, drop, Option, Some, None, append-nil, append_assoc, eqb-true, arith}
 use Rattle.std.specs.Prelude.{reverse, sum_by, string_bytes}
 use Rattle.std.specs.Char.{len_utf8}
 use Rattle.std.specs.List.{fold}
@@ -210,10 +210,7 @@ endings_are back x = go (is_snippet gabc (kept back)) (is_fused back)
   where
     go : (a b : Bool) → findings_of (cond a [] (finding_event x.place E6 ∷ []) ++ (cond b (finding_event x.place W10 ∷ []) [] ++ Ended (end_by_mark x.c) (bytes_of (trim gabc (kept back))) ∷ []))
         ≡ cond a [] (record { place = x.place; code = E6 } ∷ []) ++ cond b (record { place = x.place; code = W10 } ∷ []) []
-    go true true = refl
-    go true false = refl
-    go false true = refl
-    go false false = refl
+    go a b = grind arith
 
 is_unfinished_at : (back : List Char) (x : Char) → AreThoseFound (λ f. (f ≡ record { place = x.place; code = E6 }) × (¬ IsSnippet gabc (kept back))) (unfinished_at back x)
 unfolding unfinished_at

@@ -1,5 +1,5 @@
 -- The item that ends with a character, by the states of the machine before and after it.
-use Rattle.std.proofs.Common.{◌≡◌, ℕ, ◌⊎◌, inl, inr, List, [], ◌∷◌, ◌++◌, Bool, true, false, cond, not, ◌&&◌, ◌||◌, ◌==◌, refl, sym, ap, ◌∙◌, subst, codes, Option, Some, None, append_assoc, eqb-true}
+use Rattle.std.proofs.Common.{◌≡◌, ℕ, ◌⊎◌, inl, inr, List, [], ◌∷◌, ◌++◌, Bool, true, false, cond, not, ◌&&◌, ◌||◌, ◌==◌, refl, sym, ap, ◌∙◌, subst, codes, Option, Some, None, append_assoc, eqb-true, arith}
 use Rattle.std.proofs.Math.Bool.{and-false, and-true}
 use Rattle.std.proofs.lemmas.List.{same_from_push}
 use Rattle.gabc_patterns.specs.Pattern.{is_in}
@@ -72,9 +72,7 @@ attribute_is_state _ e = absurd (cc)
 
 -- a raw state is neither whole nor an attribute
 pub raw_alone : (s : ItemState) → raw_state s ≡ true → (whole_at s ≡ false) × (attribute_state s ≡ false)
-raw_alone Raw e = (refl, refl)
-raw_alone SlashRaw e = (refl, refl)
-raw_alone _ e = absurd (cc)
+raw_alone s e = grind arith
 
 pub opened_by : (s z : ItemState) → on s 91 ≡ Some z → (raw_state z ≡ true) ⊎ ((z ≡ Done FullFusion) × (raw_state s ≡ false))
 opened_by s z e =

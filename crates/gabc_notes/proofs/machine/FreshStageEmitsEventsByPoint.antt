@@ -1,5 +1,5 @@
 -- What a fresh stage emits is what the definition says of the characters by those before them.
-use Rattle.std.proofs.Common.{◌≡◌, ℕ, inl, inr, List, [], ◌∷◌, ◌++◌, Bool, true, false, cond, not, ◌&&◌, ◌||◌, ◌==◌, refl, sym, ap, ◌∙◌, subst, Option, Some, None, option_to_list, append_assoc, eqb-true}
+use Rattle.std.proofs.Common.{◌≡◌, ℕ, inl, inr, List, [], ◌∷◌, ◌++◌, Bool, true, false, cond, not, ◌&&◌, ◌||◌, ◌==◌, refl, sym, ap, ◌∙◌, subst, Option, Some, None, option_to_list, append_assoc, eqb-true, arith}
 use Rattle.gabc_places.specs.declared.code.Code.TheVariants.{E1, E6, W8, W10}
 use Rattle.gabc_places.specs.declared.place.Char.{Char}
 use Rattle.gabc_places.specs.StageLaw.{silence}
@@ -301,10 +301,7 @@ mark_emits macros back raw b x f w =
   where
     go : (s o : Bool) → option_to_list (cond s None (Some (finding_event x.place E6))) ++ (option_to_list (cond o (Some (finding_event x.place W10)) None) ++ Ended (end_by_mark x.c) b.whole ∷ [])
         ≡ cond s [] (finding_event x.place E6 ∷ []) ++ (cond o (finding_event x.place W10 ∷ []) [] ++ Ended (end_by_mark x.c) b.whole ∷ [])
-    go true true = refl
-    go true false = refl
-    go false true = refl
-    go false false = refl
+    go s o = grind arith
 
 -- the characters end before the snippet does
 cut_emits : (split : Bool) (back : List Char) (raw : List ℕ) (b : Before) → Holds split back raw b → cut_event (in_raw (kept back)) b ∷ [] ≡ cut_events split back

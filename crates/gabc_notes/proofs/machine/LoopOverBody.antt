@@ -85,10 +85,7 @@ warnings_plain macros p e = go (is_unpaired p) (is_missing macros (macro_of (ite
         → (kept_of (cond a (finding_event p.here.place W10 ∷ []) [] ++ cond b (finding_event (opener p.back) W8 ∷ []) []) ≡ [])
         × (end_of e (cond a (finding_event p.here.place W10 ∷ []) [] ++ cond b (finding_event (opener p.back) W8 ∷ []) []) ≡ e)
         × (ends_of (cond a (finding_event p.here.place W10 ∷ []) [] ++ cond b (finding_event (opener p.back) W8 ∷ []) []) ≡ [])
-    go true true = (refl, refl, refl)
-    go true false = (refl, refl, refl)
-    go false true = (refl, refl, refl)
-    go false false = (refl, refl, refl)
+    go a b = grind arith
 
 -- the end of a snippet keeps no character
 pub end_plain : (p : Point) (e : Option (NoteEnd × ℕ)) → (kept_of (at_end p) ≡ []) × (end_of e (at_end p) ≡ Some (end_by_mark p.here.c, bytes_of (trim gabc (kept p.back))))
@@ -101,10 +98,7 @@ end_plain p e = go (is_snippet gabc (kept p.back)) (is_fused p.back)
         ≡ Some (end_by_mark p.here.c, bytes_of (trim gabc (kept p.back))))
         × (ends_of (cond a [] (finding_event p.here.place E6 ∷ []) ++ (cond b (finding_event p.here.place W10 ∷ []) [] ++ Ended (end_by_mark p.here.c) (bytes_of (trim gabc (kept p.back))) ∷ []))
         ≡ (end_by_mark p.here.c, bytes_of (trim gabc (kept p.back))) ∷ [])
-    go true true = (refl, refl, refl)
-    go true false = (refl, refl, refl)
-    go false true = (refl, refl, refl)
-    go false false = (refl, refl, refl)
+    go a b = grind arith
 
 -- what is said of a character that does not end the snippet: it goes on the kept text as is emitted, and ends nothing
 pub record Goes (split : Bool) (macros : ℕ) (back : List Char) (x : Char) : Type 0 where

@@ -35,9 +35,7 @@ fused_more back x = go (opens_fusion (item_at (point back x))) refl (closes_fusi
     go : (a : Bool) → opens_fusion (item_at (point back x)) ≡ a → (l : Bool)
         → option_map_or (λ (p : Point). opens_fusion (item_at p)) (cond (a || l) (Some (point back x)) (find (λ (p : Point). opens_fusion (item_at p) || closes_fusion (item_at p)) (points back))) false
         ≡ cond a true (cond l false (is_fused back))
-    go true e l = e
-    go false e true = e
-    go false e false = refl
+    go a e l = grind arith
 
 pub opener_more : (back : List Char) (x : Char) → opener (x ∷ back) ≡ cond (is_kept (point back x) && not (is_in_raw (point back x))) x.place (opener back)
 opener_more back x = go (is_kept (point back x) && not (is_in_raw (point back x)))

@@ -109,9 +109,7 @@ stays : (s : ItemState) (n : MacroPrefix) (f : Bool) (c : ℕ) → raw_state s �
 stays s n f c raw inside = ap (regular_by (record { item = s; name = n; fused = f }) c) (raw_stays s c raw (not-true (c == 93) inside)) ∙ by s raw
   where
     by : (s : ItemState) → raw_state s ≡ true → regular_by (record { item = s; name = n; fused = f }) c (Some s) ≡ Some (record { item = s; name = prefix_with n c; fused = f })
-    by Raw e = refl
-    by SlashRaw e = refl
-    by _ e = absurd (cc e)
+    by s e = grind arith
 
 -- the `]`
 closes : (p : RegularPoint) (n : MacroPrefix) → raw_state p.item ≡ true
@@ -120,9 +118,7 @@ closes p n raw = by p.item raw
   where
     by : (s : ItemState) → raw_state s ≡ true
         → regular_after (record { item = s; name = n; fused = p.fused }) 93 ≡ (if attribute_state (closed_item s) && is_some (digit_of_prefix n) then None else Some (reading_at (record { item = closed_item s; fused = p.fused })))
-    by Raw e = refl
-    by SlashRaw e = refl
-    by _ e = absurd (cc e)
+    by s e = grind arith
 
 -- the characters of a bracket, which stay inside
 inside : (text u later : List ℕ) (s : ItemState) (n : MacroPrefix) (f : Bool) (read regular : ℕ) → IsReadTo text (record { item = s; name = n; fused = f }) read regular

@@ -1,5 +1,5 @@
 -- The reading of regular snippets: where it goes on each character is kept and nothing is found, and where it does not, what begins so is not regular.
-use Rattle.std.proofs.Common.{◌≡◌, ℕ, ◌^◌, List, [], ◌∷◌, ◌++◌, Bool, true, false, cond, not, ◌&&◌, ◌||◌, ◌==◌, nat_lt, ◌%◌, refl, sym, ap, ◌∙◌, Option, Some, None, is_some, append_assoc, if◌then◌else◌}
+use Rattle.std.proofs.Common.{◌≡◌, ℕ, ◌^◌, List, [], ◌∷◌, ◌++◌, Bool, true, false, cond, not, ◌&&◌, ◌||◌, ◌==◌, nat_lt, ◌%◌, refl, sym, ap, ◌∙◌, Option, Some, None, is_some, append_assoc, if◌then◌else◌, arith}
 use Rattle.std.proofs.Math.Nat.{zero-div}
 use Rattle.std.proofs.lemmas.List.{append_cancel_left, map-append}
 use Rattle.std.proofs.lemmas.Bool.{not-true}
@@ -62,11 +62,7 @@ silent macros b e x h = by e.raw e.attribute e.digit (((x.c == 91) && (not e.raw
   where
     by : (raw attribute : Bool) (digit : Option ℕ) (pair : Bool) → (if raw then attribute && is_some digit else pair) ≡ false
         → (if raw then (if attribute && is_missing macros digit then Some (finding_event b.place W8) else None) else if pair then Some (finding_event x.place W10) else None) ≡ None
-    by true true None pair h = refl
-    by true true (Some d) pair h = absurd (cc)
-    by true false digit pair h = refl
-    by false attribute digit true h = absurd (cc)
-    by false attribute digit false h = refl
+    by raw attribute digit pair h = grind arith
 
 -- where no macro is defined, each macro is missing
 none_defined : (d : ℕ) → is_defined 0 d ≡ false

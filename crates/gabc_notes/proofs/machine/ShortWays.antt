@@ -1,5 +1,5 @@
 -- The short ways of the stage do what its general way does.
-use Rattle.std.proofs.Common.{◌≡◌, ℕ, ◌+◌, ◌-◌, ◌^◌, min, List, [], ◌∷◌, ◌++◌, Bool, true, false, cond, ◌==◌, ◌&&◌, refl, sym, ap, ◌∙◌, Option, Some, None, option_to_list}
+use Rattle.std.proofs.Common.{◌≡◌, ℕ, ◌+◌, ◌-◌, ◌^◌, min, List, [], ◌∷◌, ◌++◌, Bool, true, false, cond, ◌==◌, ◌&&◌, refl, sym, ap, ◌∙◌, Option, Some, None, option_to_list, arith}
 use Rattle.std.specs.Char.{len_utf8}
 use Rattle.gabc_places.specs.declared.place.Char.{Char}
 use Rattle.gabc_places.specs.BoundedList.{BoundedList, extended_by}
@@ -61,9 +61,7 @@ module _ (st : NoteStage) (x : Char) (z : ItemState) (comment : st.before.commen
 -- ---- a character inside raw that does not end it
 
 no_attribute : (s : ItemState) → raw_state s ≡ true → attribute_state s ≡ false
-no_attribute Raw e = refl
-no_attribute SlashRaw e = refl
-no_attribute _ e = absurd (cc e)
+no_attribute s e = grind arith
 
 module _ (st : NoteStage) (x : Char) (comment : st.before.comment ≡ false) (inside : raw_state st.state ≡ true) (other : (x.c == 93) ≡ false) where
   inside_role : role_in st.split st.before.comment (short_facts st st.state) x.c ≡ Keep
@@ -98,9 +96,7 @@ kept_taken st next x o e r w xs f g h k kept m none n =
 
 ends_otherwise : (whole fused : Bool) (x : Char) (kept : ℕ)
     → option_to_list (cond whole None (Some (finding_event x.place E6))) ++ (option_to_list (cond fused (Some (finding_event x.place W10)) None) ++ (Ended (end_by_mark x.c) kept ∷ [])) ≡ Kept x ∷ [] → ⊥
-ends_otherwise false fused x kept e = cc
-ends_otherwise true false x kept e = cc
-ends_otherwise true true x kept e = cc
+ends_otherwise whole fused x kept e = grind arith
 
 -- it is not kept, or a warning comes with it
 pub emits_otherwise : (r : CharRole) (macros : ℕ) (b : Before) (e : CharFacts) (x : Char) (w : Option NoteEvent) → w ≡ warning_in macros b e x → (r ≡ Keep → w ≡ None → ⊥)
@@ -138,6 +134,4 @@ close_emits st x old new f comment outside close p =
 -- ---- a text that is a snippet ends outside raw
 
 pub not_raw : (s : ItemState) → whole_at s ≡ true → raw_state s ≡ false
-not_raw Raw e = absurd (cc)
-not_raw SlashRaw e = absurd (cc)
-not_raw _ e = refl
+not_raw s e = grind arith

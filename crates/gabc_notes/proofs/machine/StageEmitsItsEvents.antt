@@ -63,36 +63,15 @@ pub name_alike : (n : MacroPrefix) (c : ℕ) → NameAlike (example_prefix n ++ 
 name_alike Closed c w = go (c == 91) refl w
   where
     go : (b : Bool) → c == 91 ≡ b → (w : List ℕ) → macro_digit (c ∷ w) ≡ macro_digit (example_prefix (cond b Opened Other) ++ w)
-    go true e [] = refl
-    go true e (l ∷ []) = refl
-    go true e (l ∷ m ∷ []) = refl
-    go true e (l ∷ m ∷ d ∷ []) = rw e refl
-    go true e (l ∷ m ∷ d ∷ x ∷ w) = refl
-    go false e [] = refl
-    go false e (l ∷ []) = refl
-    go false e (l ∷ m ∷ []) = refl
-    go false e (l ∷ m ∷ d ∷ []) = rw e refl
-    go false e (l ∷ m ∷ d ∷ x ∷ w) = refl
+    go b e w2 = grind arith
 name_alike Opened c w = go (is_in c (codes "nge")) refl w
   where
     go : (b : Bool) → is_in c (codes "nge") ≡ b → (w : List ℕ) → macro_digit (91 ∷ c ∷ w) ≡ macro_digit (example_prefix (cond b Letter Other) ++ w)
-    go true e [] = refl
-    go true e (m ∷ []) = refl
-    go true e (m ∷ d ∷ []) = rw e refl
-    go true e (m ∷ d ∷ x ∷ w) = refl
-    go false e [] = refl
-    go false e (m ∷ []) = refl
-    go false e (m ∷ d ∷ []) = rw e refl
-    go false e (m ∷ d ∷ x ∷ w) = refl
+    go b e w2 = grind arith
 name_alike Letter c w = go (c == 109) refl w
   where
     go : (b : Bool) → c == 109 ≡ b → (w : List ℕ) → macro_digit (91 ∷ 110 ∷ c ∷ w) ≡ macro_digit (example_prefix (cond b Named Other) ++ w)
-    go true e [] = refl
-    go true e (d ∷ []) = rw e refl
-    go true e (d ∷ x ∷ w) = refl
-    go false e [] = refl
-    go false e (d ∷ []) = rw e refl
-    go false e (d ∷ x ∷ w) = refl
+    go b e w2 = grind arith
 name_alike Named c w = refl
 name_alike (Last d) c w = refl
 name_alike Other c w = refl
@@ -109,10 +88,7 @@ pub not_kept : (split comment : Bool) (s : ItemState) (n : MacroPrefix) (c : ℕ
 not_kept split comment s n c e = go (comment && not (c == 10)) (not (raw_state s) && ((c == 41) || (split && (c == 124)))) (not (raw_state s) && (c == 37)) e
   where
     go : (a b d : Bool) → cond a Silent (cond b Ends (cond d Comment LeaveOut)) ≡ Keep → ⊥
-    go true b d e = absurd (cc)
-    go false true d e = absurd (cc)
-    go false false true e = absurd (cc)
-    go false false false e = absurd (cc)
+    go a b d e = grind arith
 
 -- what follows a character is what the stage emits from there on
 follow_rest : (st : NoteStage) (x : Char) (xs : List Char) (o : Option ItemState) (e : CharFacts) (r : CharRole) → st.ended ≡ false
@@ -154,14 +130,7 @@ pub few_emitted : (g : CharEvents) → length (event_list g) ≤ 3
 few_emitted g = go g.first g.second g.third
   where
     go : (a b c : Option NoteEvent) → length (option_to_list a ++ (option_to_list b ++ option_to_list c)) ≤ 3
-    go None None None = omega arith
-    go None None (Some c) = omega arith
-    go None (Some b) None = omega arith
-    go None (Some b) (Some c) = omega arith
-    go (Some a) None None = omega arith
-    go (Some a) None (Some c) = omega arith
-    go (Some a) (Some b) None = omega arith
-    go (Some a) (Some b) (Some c) = omega arith
+    go a b c = grind arith
 
 -- so a push is as the law of stages says
 pub push_emits : (st next : NoteStage) (x : Char) (o : Option ItemState) (e : CharFacts) (r : CharRole) (g : CharEvents) (old new : BoundedList NoteEvent) → st.ended ≡ false

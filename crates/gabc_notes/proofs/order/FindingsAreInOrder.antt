@@ -114,23 +114,17 @@ item_snippet : (T : Option ItemText → Bool) (p : Point) → T None ≡ false �
 item_snippet T p n e = (some_kept T (is_kept p) (is_snippet gabc (kept_with p)) (last_of (items gabc (kept_with p))) n e).1
 
 open_no_macro : (i : Option ItemText) → opens_fusion i ≡ true → macro_of i ≡ None
-open_no_macro None e = refl
-open_no_macro (Some (Attribute, t)) e = absurd (cc)
-open_no_macro (Some (_, t)) e = refl
+open_no_macro i e = grind arith
 
 close_no_macro : (i : Option ItemText) → closes_fusion i ≡ true → macro_of i ≡ None
-close_no_macro None e = refl
-close_no_macro (Some (Attribute, t)) e = absurd (cc)
-close_no_macro (Some (_, t)) e = refl
+close_no_macro i e = grind arith
 
 -- inside raw every character is viable
 raw_goes : (s : ItemState) → raw_state s ≡ true → (c : ℕ) → is_alive (reading_of gabc machine (on s c)) ≡ true
 raw_goes s r c = go (c == 93) refl
   where
     at_close : (s : ItemState) → raw_state s ≡ true → is_alive (reading_of gabc machine (on s 93)) ≡ true
-    at_close Raw r = refl
-    at_close SlashRaw r = refl
-    at_close _ r = absurd (cc)
+    at_close s r = grind arith
 
     some : (o : Option ItemState) → is_raw o ≡ true → is_alive (reading_of gabc machine o) ≡ true
     some None e = absurd (cc)

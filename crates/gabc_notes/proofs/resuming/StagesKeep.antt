@@ -1,5 +1,5 @@
 -- A stage keeps the text that it has kept.
-use Rattle.std.proofs.Common.{◌≡◌, ◌==◌, ◌&&◌, ◌||◌, not, ℕ, List, [], ◌∷◌, ◌++◌, Bool, true, false, cond, Option, Some, None, is_some, option_to_list, refl, sym, ap, ◌∙◌, subst, append-nil, append_assoc, if◌then◌else◌}
+use Rattle.std.proofs.Common.{◌≡◌, ◌==◌, ◌&&◌, ◌||◌, not, ℕ, List, [], ◌∷◌, ◌++◌, Bool, true, false, cond, Option, Some, None, is_some, option_to_list, refl, sym, ap, ◌∙◌, subst, append-nil, append_assoc, if◌then◌else◌, arith}
 use Rattle.std.proofs.lemmas.Bool.{true≢false}
 use Rattle.gabc_places.specs.declared.code.Code.TheVariants.{E6, W8, W10}
 use Rattle.gabc_places.specs.declared.place.Char.{Char}
@@ -152,10 +152,7 @@ module _ (s : NoteStage) (x : Char) where
       by (facts_of s x.c).raw ((facts_of s x.c).attribute && is_missing s.macros (facts_of s x.c).digit) (((x.c == 91) && (not (facts_of s x.c).raw_after && s.before.fused)) || ((x.c == 93) && not s.before.fused))
     where
       by : (a b d : Bool) → IsQuiet (option_to_list (if a then (if b then Some (finding_event s.before.place W8) else None) else (if d then Some (finding_event x.place W10) else None)) ++ [])
-      by true true d = (refl, refl)
-      by true false d = (refl, refl)
-      by false b true = (refl, refl)
-      by false b false = (refl, refl)
+      by a b d = grind arith
 
   abbrev pub emitted : CharRole → List NoteEvent
   emitted r = event_list (events_in r s.macros s.before (facts_of s x.c) x)
@@ -178,19 +175,13 @@ module _ (s : NoteStage) (x : Char) where
   ends_are Ends = by (facts_of s x.c).whole s.before.fused
     where
       by : (a b : Bool) → ends_of (option_to_list (if a then None else Some (finding_event x.place E6)) ++ (option_to_list (if b then Some (finding_event x.place W10) else None) ++ option_to_list (Some (event.Ended (end_by_mark x.c) s.before.whole)))) ≡ (end_by_mark x.c, s.before.whole) ∷ []
-      by true true = refl
-      by true false = refl
-      by false true = refl
-      by false false = refl
+      by a b = grind arith
 
   none_kept : kept_of (emitted Ends) ≡ []
   none_kept = by (facts_of s x.c).whole s.before.fused
     where
       by : (a b : Bool) → kept_of (option_to_list (if a then None else Some (finding_event x.place E6)) ++ (option_to_list (if b then Some (finding_event x.place W10) else None) ++ option_to_list (Some (event.Ended (end_by_mark x.c) s.before.whole)))) ≡ []
-      by true true = refl
-      by true false = refl
-      by false true = refl
-      by false false = refl
+      by a b = grind arith
 
 -- ---- one character more is kept
 
@@ -302,9 +293,7 @@ module _ (split : Bool) (macros : ℕ) (s : NoteStage) (x : Char) (k : List ℕ)
       plain = kept_aside s x.c e
 
       by : (a r : Bool) → (if a then Some (if r then s.before.place else x.place) else None) ≡ opener_after a (if r then Some s.before.place else None) x.place
-      by true true = refl
-      by true false = refl
-      by false r = refl
+      by a r = grind arith
 
   goes : is_end_after split k (comment_of s) x.c ≡ false → GoesOn split macros k s x (events_of_push s x) (stage_after_one s x)
   goes ongoing = by (role_of s x.c) refl

@@ -39,10 +39,7 @@ module _ (split : Bool) (macros : ℕ) (s : NoteStage) (x : Char) (k : List ℕ)
   goes_on = ap (λ (c : ℕ). is_end_after split k (comment_of s) c) is ∙ by (not (is_comment_after k (comment_of s) 37)) (not (in_raw k)) split
     where
       by : (a b d : Bool) → (a && (b && ((37 == 41) || (d && (37 == 124))))) ≡ false
-      by true true true = refl
-      by true true false = refl
-      by true false d = refl
-      by false b d = refl
+      by a b d = grind arith
 
   goes : GoesOn split macros k s x (events_of_push s x) (stage_after_one s x)
   goes = (push_keeps s x).goes split macros k h goes_on

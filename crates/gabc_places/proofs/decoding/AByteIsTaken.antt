@@ -24,9 +24,7 @@ byte_taken x s e h = by s.ended (s.taken == s.limit) e (ne_eqb s.taken s.limit h
   where
     by : (b t : Bool) → b ≡ false → t ≡ false
         → cond b (record { events = []; state = s }) (cond t (stop_with F7 s) (after_byte (s.pending ++ x ∷ []) s)) ≡ after_byte (s.pending ++ x ∷ []) s
-    by false false f g = refl
-    by true t f g = absurd (cc)
-    by false true f g = absurd (cc)
+    by b t f g = grind arith
 
 spelled : (x : ℕ) → x < 128 → x ∷ [] ≡ encode x ++ []
 unfolding encode

@@ -203,9 +203,7 @@ module _ (limits : Limits) (bytes : List ℕ) (s : DecoderState) (h : IsReading 
     where
       by : (b t : Bool) → b ≡ false → t ≡ true
           → cond b (record { events = []; state = s }) (cond t (stop_with F7 s) (take_pending pending (utf8_prefix_of pending) (tail_of pending) (with_byte s))) ≡ stop_with F7 s
-      by false true f g = refl
-      by true t f g = absurd (cc)
-      by false false f g = absurd (cc)
+      by b t f g = grind arith
 
   halts_at_limit : s.taken ≡ s.limit → Halts limits bytes (stop_with F7 s) x
   halts_at_limit full = record {

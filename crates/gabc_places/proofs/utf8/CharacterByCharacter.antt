@@ -96,15 +96,10 @@ stays_1 true x n e = absurd (cc)
 stays_1 false x n e = e
 
 stays_2 : (t u : Bool) (x : Option ℕ) (n : ℕ) → cond t (cond u None (Some 1)) (Some 1) ≡ Some n → cond t (cond u x (Some 1)) (Some 1) ≡ Some n
-stays_2 true true x n e = absurd (cc)
-stays_2 true false x n e = e
-stays_2 false u x n e = e
+stays_2 t u x n e = grind arith
 
 stays_3 : (t u v : Bool) (x : Option ℕ) (n : ℕ) → cond t (cond u (cond v None (Some 2)) (Some 1)) (Some 1) ≡ Some n → cond t (cond u (cond v x (Some 2)) (Some 1)) (Some 1) ≡ Some n
-stays_3 true true true x n e = absurd (cc)
-stays_3 true true false x n e = e
-stays_3 true false v x n e = e
-stays_3 false u v x n e = e
+stays_3 t u v x n e = grind arith
 
 after_1 : (a : ℕ) (xs : List ℕ) → utf8_error_len (a ∷ xs) ≡ cond (is_in_range 0xC2 0xF4 a) (error_len_after_one (a ∷ xs)) (Some 1)
 unfolding utf8_error_len
@@ -131,10 +126,7 @@ fault_stays (a ∷ b ∷ c ∷ d ∷ bs) xs n e = rw (after_1 a (b ∷ c ∷ d �
     (rw (after_1 a (b ∷ c ∷ d ∷ bs), after_2 a b (c ∷ d ∷ bs), after_3 a b c (d ∷ bs), after_4 a b c d bs) at e)
 
 not_none : (t u v : Bool) → cond {A = Option ℕ} t (cond u (cond v (Some 3) (Some 2)) (Some 1)) (Some 1) ≡ None → ⊥
-not_none true true true e = cc
-not_none true true false e = cc
-not_none true false v e = cc
-not_none false u v e = cc
+not_none t u v e = grind arith
 
 -- the beginning of a character has at most three bytes
 pub partial_short : (bs : List ℕ) → IsPartial bs → length bs < 4

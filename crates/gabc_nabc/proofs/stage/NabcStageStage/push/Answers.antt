@@ -14,10 +14,7 @@ few_outputs true g = omega arith
 few_outputs false g = go g.first g.second
   where
     go : (o p : Option NoteEvent) → length (event_list (record { first = o; second = p })) ≤ 3
-    go None None = omega arith
-    go None (Some p) = omega arith
-    go (Some o) None = omega arith
-    go (Some o) (Some p) = omega arith
+    go o p = grind arith
 
 pub returns-clause-events : goal.returns-clause-events
 returns-clause-events c =
