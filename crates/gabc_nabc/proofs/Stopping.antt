@@ -1,5 +1,5 @@
 -- After an end that a stage emits, it emits nothing.
-use Rattle.std.proofs.Common.{◌≡◌, List, [], ◌∷◌, ◌++◌, Bool, true, false, cond, refl, ap, ◌∙◌, ℕ, Option, Some, None, option_to_list}
+use Rattle.std.proofs.Common.{◌≡◌, List, [], ◌∷◌, ◌++◌, Bool, true, false, cond, refl, ap, ◌∙◌, ℕ, Option, Some, None, option_to_list, arith}
 use Rattle.std.specs.List.{list_any}
 use Rattle.gabc_places.specs.declared.code.Code.TheVariants.{E6, W7}
 use Rattle.gabc_places.specs.declared.place.Char.{Char}
@@ -36,11 +36,7 @@ no_end : (r : NabcRole) (e : NabcFacts) (w : ℕ) (x : Char) → (r ≡ Ends →
 no_end Silent e w x n = refl
 no_end LeaveOut e w x n = refl
 no_end Ends e w x n = absurd (n refl)
-no_end Keep e w x n = go e.unknown
-  where
-    go : (b : Bool) → list_any is_ended (Kept x ∷ option_to_list (cond b (Some (finding_event x.place W7)) None)) ≡ false
-    go true = refl
-    go false = refl
+no_end Keep e w x n = grind arith
 
 -- after an end that a push gives, the stage is over
 pub push_stops : (st next : NabcStage) (x : Char) (old new : BoundedList NoteEvent) → next ≡ stage_after st x.c → new ≡ extended_by old (stage_events_at st x)

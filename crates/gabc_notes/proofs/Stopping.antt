@@ -40,10 +40,7 @@ none_found false place code = refl
 
 -- a character that is kept comes with no end
 warned : (macros : ℕ) (b : Before) (e : CharFacts) (x : Char) → list_any is_ended (event_list (events_in Keep macros b e x)) ≡ false
-warned macros b e x = go e.raw (e.attribute && is_missing macros e.digit) (((x.c == 91) && (not e.raw_after && b.fused)) || ((x.c == 93) && not b.fused))
-  where
-    go : (r m u : Bool) → list_any is_ended (option_to_list (cond r (cond m (Some (finding_event b.place W8)) None) (cond u (Some (finding_event x.place W10)) None)) ++ []) ≡ false
-    go r m u = grind arith
+warned macros b e x = grind arith
 
 -- after an end that a push gives, the stage is over
 pub push_stops : (st next : NoteStage) (x : Char) (o : Option ItemState) (e : CharFacts) (r : CharRole) (g : CharEvents) (old new : BoundedList NoteEvent)

@@ -20,11 +20,7 @@ comment_step percent feed later has opened = grind arith
 
 -- whether a comment is open
 pub comment_more : (t : List ℕ) (c : ℕ) → in_comment (t ++ c ∷ []) ≡ comment_in (in_comment t) c
-comment_more [] c = go (c == 37)
-  where
-    go : (b : Bool) → (b && true) || false ≡ b || false
-    go true = refl
-    go false = refl
+comment_more [] c = grind arith
 comment_more (d ∷ t) c =
     ap (λ (b : Bool). ((d == 37) && not b) || in_comment (t ++ c ∷ [])) (list_any-append (λ (x : ℕ). x == 10) t (c ∷ []))
     ∙ (ap (λ (b : Bool). ((d == 37) && not (is_in 10 t || is_in 10 (c ∷ []))) || b) (comment_more t c)

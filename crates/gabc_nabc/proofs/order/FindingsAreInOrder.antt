@@ -89,11 +89,7 @@ before_next p c code (f ∷ fs) h = (go (next_after p c f h.0), h.1)
     go (inr (l, k)) = inr (l, inl (omega arith))
 
 pub cut_quiet : (t : List ℕ) → findings_of (concat_of (cut_events t ∷ [])) ≡ []
-cut_quiet t = go (has_end t)
-  where
-    go : (b : Bool) → findings_of (concat_of (cond b [] (Ended (Cut (record { line = 0; column = 0 })) (bytes_in (kept_of t)) ∷ []) ∷ [])) ≡ []
-    go true = refl
-    go false = refl
+cut_quiet t = grind arith
 
 in_order_from : (cs : List ℕ) (t : List ℕ) (p : Place) → InOrderFrom p (findings_of (concat_of (nabc_events_after t (placed_characters_from p cs))))
 in_order_from [] t p = subst (InOrderFrom p) (sym (cut_quiet t)) tt

@@ -159,10 +159,7 @@ emitted_end split macros (x ∷ xs) back o = go (is_emitted split macros back x 
 
 -- the bytes that are emitted
 pub fewer_bytes : (mark : Option ℕ) (back : List Char) → bytes_of (kept_by mark back) ≤ sum_by len_utf8 (kept back)
-fewer_bytes None back = least (sum_by len_utf8 (kept back)) (sum_by len_utf8 (kept back)) (omega arith)
-  where
-    least : (a b : ℕ) → a ≤ b → min a 18446744073709551615 ≤ b
-    least a b l = omega arith
+fewer_bytes None back = grind arith
 fewer_bytes (Some c) back =
     let t = trim_trims gabc refl (kept back) in
     least (sum_by len_utf8 (trim gabc (kept back))) (sum_by len_utf8 (kept back))
@@ -262,7 +259,4 @@ opened (x ∷ back) r = go (is_comment (point back x)) refl (is_viable gabc (kep
 -- ---- after the end
 
 pub nothing_over : (split : Bool) (macros : ℕ) (p : Point) → is_over split p.back ≡ true → events_at split macros p ≡ []
-nothing_over split macros p o = rest (is_over split p.back) _ o
-  where
-    rest : (b : Bool) (l : List NoteEvent) → b ≡ true → cond b [] l ≡ []
-    rest b l e = rw e refl
+nothing_over split macros p o = grind arith

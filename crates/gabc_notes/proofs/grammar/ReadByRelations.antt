@@ -206,11 +206,7 @@ fused_at back x = cond (is_fused back) (record { place = x.place; code = W10 } �
 
 endings_are : (back : List Char) (x : Char) → findings_of (at_end (point back x)) ≡ unfinished_at back x ++ fused_at back x
 unfolding unfinished_at fused_at
-endings_are back x = go (is_snippet gabc (kept back)) (is_fused back)
-  where
-    go : (a b : Bool) → findings_of (cond a [] (finding_event x.place E6 ∷ []) ++ (cond b (finding_event x.place W10 ∷ []) [] ++ Ended (end_by_mark x.c) (bytes_of (trim gabc (kept back))) ∷ []))
-        ≡ cond a [] (record { place = x.place; code = E6 } ∷ []) ++ cond b (record { place = x.place; code = W10 } ∷ []) []
-    go a b = grind arith
+endings_are back x = grind arith
 
 is_unfinished_at : (back : List Char) (x : Char) → AreThoseFound (λ f. (f ≡ record { place = x.place; code = E6 }) × (¬ IsSnippet gabc (kept back))) (unfinished_at back x)
 unfolding unfinished_at
@@ -255,11 +251,7 @@ bytes_marks : (back : List Char) → sum_by (λ (m : Marked). len_utf8 m.0.c) (m
 bytes_marks back = sum_from 0 back
 
 ends_as : (n c : ℕ) → ending_at (end_by_mark c) n ≡ cond (c == 124) (snippet_ending.Next n) (snippet_ending.Close n)
-ends_as n c = go (c == 124)
-  where
-    go : (b : Bool) → ending_at (cond b ending.Next ending.Close) n ≡ cond b (snippet_ending.Next n) (snippet_ending.Close n)
-    go true = refl
-    go false = refl
+ends_as n c = grind arith
 
 pub cut_at : (back : List Char) → IsCutAt (marks back) (cond (in_raw (kept back)) (opener back) (record { line = 0; column = 0 }))
 cut_at back = go (in_raw (kept back)) refl

@@ -109,11 +109,7 @@ warned : (rs rz a d fu att : Bool) (M : Option ℕ → Bool) (digit : Option ℕ
 warned rs rz a d fu att M digit w8 w10 e = go rs a d
   where
     inside : (att : Bool) → option_to_list (cond (att && M digit) (Some w8) None) ++ [] ≡ cond (M (cond att digit None)) (w8 ∷ []) []
-    inside true = last (M digit)
-      where
-        last : (m : Bool) → option_to_list (cond m (Some w8) None) ++ [] ≡ cond m (w8 ∷ []) []
-        last true = refl
-        last false = refl
+    inside true = grind arith
     inside false = rw e refl
 
     outside : (b : Bool) → option_to_list (cond b (Some w10) None) ++ [] ≡ cond b (w10 ∷ []) [] ++ cond (M None) (w8 ∷ []) []

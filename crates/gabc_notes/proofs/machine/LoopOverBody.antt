@@ -90,15 +90,7 @@ warnings_plain macros p e = go (is_unpaired p) (is_missing macros (macro_of (ite
 -- the end of a snippet keeps no character
 pub end_plain : (p : Point) (e : Option (NoteEnd × ℕ)) → (kept_of (at_end p) ≡ []) × (end_of e (at_end p) ≡ Some (end_by_mark p.here.c, bytes_of (trim gabc (kept p.back))))
     × (ends_of (at_end p) ≡ (end_by_mark p.here.c, bytes_of (trim gabc (kept p.back))) ∷ [])
-end_plain p e = go (is_snippet gabc (kept p.back)) (is_fused p.back)
-  where
-    go : (a b : Bool)
-        → (kept_of (cond a [] (finding_event p.here.place E6 ∷ []) ++ (cond b (finding_event p.here.place W10 ∷ []) [] ++ Ended (end_by_mark p.here.c) (bytes_of (trim gabc (kept p.back))) ∷ [])) ≡ [])
-        × (end_of e (cond a [] (finding_event p.here.place E6 ∷ []) ++ (cond b (finding_event p.here.place W10 ∷ []) [] ++ Ended (end_by_mark p.here.c) (bytes_of (trim gabc (kept p.back))) ∷ []))
-        ≡ Some (end_by_mark p.here.c, bytes_of (trim gabc (kept p.back))))
-        × (ends_of (cond a [] (finding_event p.here.place E6 ∷ []) ++ (cond b (finding_event p.here.place W10 ∷ []) [] ++ Ended (end_by_mark p.here.c) (bytes_of (trim gabc (kept p.back))) ∷ []))
-        ≡ (end_by_mark p.here.c, bytes_of (trim gabc (kept p.back))) ∷ [])
-    go a b = grind arith
+end_plain p e = grind arith
 
 -- what is said of a character that does not end the snippet: it goes on the kept text as is emitted, and ends nothing
 pub record Goes (split : Bool) (macros : ℕ) (back : List Char) (x : Char) : Type 0 where
@@ -318,8 +310,4 @@ place_fits p c n m l k h = go (c == 10) (next_place p c) refl
     go false r e = rw e (omega arith, omega arith)
 
 pub first_scalar : (c : ℕ) (cs : List ℕ) → scalars (c ∷ cs) ≡ true → scalar c ≡ true
-first_scalar c cs e = go (scalar c) e
-  where
-    go : (s : Bool) → (s && scalars cs) ≡ true → s ≡ true
-    go true e = refl
-    go false e = absurd (cc)
+first_scalar c cs e = grind arith

@@ -114,11 +114,7 @@ stays s n f c raw inside = ap (regular_by (record { item = s; name = n; fused = 
 -- the `]`
 closes : (p : RegularPoint) (n : MacroPrefix) → raw_state p.item ≡ true
     → regular_after (record { item = p.item; name = n; fused = p.fused }) 93 ≡ (if attribute_state (closed_item p.item) && is_some (digit_of_prefix n) then None else Some (reading_at (closed_point p)))
-closes p n raw = by p.item raw
-  where
-    by : (s : ItemState) → raw_state s ≡ true
-        → regular_after (record { item = s; name = n; fused = p.fused }) 93 ≡ (if attribute_state (closed_item s) && is_some (digit_of_prefix n) then None else Some (reading_at (record { item = closed_item s; fused = p.fused })))
-    by s e = grind arith
+closes p n raw = grind arith
 
 -- the characters of a bracket, which stay inside
 inside : (text u later : List ℕ) (s : ItemState) (n : MacroPrefix) (f : Bool) (read regular : ℕ) → IsReadTo text (record { item = s; name = n; fused = f }) read regular

@@ -58,11 +58,7 @@ keeps_plain false false c f = (let p = f refl in rw (p.no_bracket, p.no_percent)
 -- the reading warns wherever a stage does
 silent : (macros : ℕ) (b : Before) (e : CharFacts) (x : Char)
     → (if e.raw then e.attribute && is_some e.digit else ((x.c == 91) && (not e.raw_after && b.fused)) || ((x.c == 93) && not b.fused)) ≡ false → warning_in macros b e x ≡ None
-silent macros b e x h = by e.raw e.attribute e.digit (((x.c == 91) && (not e.raw_after && b.fused)) || ((x.c == 93) && not b.fused)) h
-  where
-    by : (raw attribute : Bool) (digit : Option ℕ) (pair : Bool) → (if raw then attribute && is_some digit else pair) ≡ false
-        → (if raw then (if attribute && is_missing macros digit then Some (finding_event b.place W8) else None) else if pair then Some (finding_event x.place W10) else None) ≡ None
-    by raw attribute digit pair h = grind arith
+silent macros b e x h = grind arith
 
 -- where no macro is defined, each macro is missing
 none_defined : (d : ℕ) → is_defined 0 d ≡ false

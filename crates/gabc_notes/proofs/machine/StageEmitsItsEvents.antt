@@ -60,18 +60,9 @@ looked_is s n c =
 
 -- a name with a character more
 pub name_alike : (n : MacroPrefix) (c : ℕ) → NameAlike (example_prefix n ++ c ∷ []) (example_prefix (prefix_with n c))
-name_alike Closed c w = go (c == 91) refl w
-  where
-    go : (b : Bool) → c == 91 ≡ b → (w : List ℕ) → macro_digit (c ∷ w) ≡ macro_digit (example_prefix (cond b Opened Other) ++ w)
-    go b e w2 = grind arith
-name_alike Opened c w = go (is_in c (codes "nge")) refl w
-  where
-    go : (b : Bool) → is_in c (codes "nge") ≡ b → (w : List ℕ) → macro_digit (91 ∷ c ∷ w) ≡ macro_digit (example_prefix (cond b Letter Other) ++ w)
-    go b e w2 = grind arith
-name_alike Letter c w = go (c == 109) refl w
-  where
-    go : (b : Bool) → c == 109 ≡ b → (w : List ℕ) → macro_digit (91 ∷ 110 ∷ c ∷ w) ≡ macro_digit (example_prefix (cond b Named Other) ++ w)
-    go b e w2 = grind arith
+name_alike Closed c w = grind arith
+name_alike Opened c w = grind arith
+name_alike Letter c w = grind arith
 name_alike Named c w = refl
 name_alike (Last d) c w = refl
 name_alike Other c w = refl
@@ -85,10 +76,7 @@ named_alike e n c = go e.raw_after
 
 -- what is not viable is not kept
 pub not_kept : (split comment : Bool) (s : ItemState) (n : MacroPrefix) (c : ℕ) → role_in split comment (facts_by_states s None n) c ≡ Keep → ⊥
-not_kept split comment s n c e = go (comment && not (c == 10)) (not (raw_state s) && ((c == 41) || (split && (c == 124)))) (not (raw_state s) && (c == 37)) e
-  where
-    go : (a b d : Bool) → cond a Silent (cond b Ends (cond d Comment LeaveOut)) ≡ Keep → ⊥
-    go a b d e = grind arith
+not_kept split comment s n c e = grind arith
 
 -- what follows a character is what the stage emits from there on
 follow_rest : (st : NoteStage) (x : Char) (xs : List Char) (o : Option ItemState) (e : CharFacts) (r : CharRole) → st.ended ≡ false
@@ -127,10 +115,7 @@ push_law st x xs o e r f g h k =
 
 -- one call gives at most three events
 pub few_emitted : (g : CharEvents) → length (event_list g) ≤ 3
-few_emitted g = go g.first g.second g.third
-  where
-    go : (a b c : Option NoteEvent) → length (option_to_list a ++ (option_to_list b ++ option_to_list c)) ≤ 3
-    go a b c = grind arith
+few_emitted g = grind arith
 
 -- so a push is as the law of stages says
 pub push_emits : (st next : NoteStage) (x : Char) (o : Option ItemState) (e : CharFacts) (r : CharRole) (g : CharEvents) (old new : BoundedList NoteEvent) → st.ended ≡ false

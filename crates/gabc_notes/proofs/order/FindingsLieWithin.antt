@@ -95,11 +95,7 @@ facts_within at split macros back x l h = start (is_over split back) refl
 -- ---- the characters of a prefix and the one after it
 
 cut_quiet : (split : Bool) (back : List Char) → findings_of (cut_events split back ++ []) ≡ []
-cut_quiet split back = go (is_over split back)
-  where
-    go : (o : Bool) → findings_of (cond o [] (Ended (end_by None back) (bytes_of (kept back)) ∷ []) ++ []) ≡ []
-    go true = refl
-    go false = refl
+cut_quiet split back = grind arith
 
 through : (at : Place) (split : Bool) (macros : ℕ) (prefix rest : List ℕ) (back : List Char) (p : Place) → IsUpTo at p → StandBetween at p back
     → LieBetween at (place_past p prefix) (findings_of (concat_of (take (length prefix + 1) (note_events_after split macros back (placed_characters_from p (prefix ++ rest))))))

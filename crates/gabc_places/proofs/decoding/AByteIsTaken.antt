@@ -20,11 +20,7 @@ abbrev after_byte : List ℕ → DecoderState → DecoderStep
 after_byte bytes s = take_pending bytes (utf8_prefix_of bytes) (tail_of bytes) (with_byte s)
 
 pub byte_taken : (x : ℕ) (s : DecoderState) → s.ended ≡ false → (s.taken ≡ s.limit → ⊥) → take_byte x s ≡ after_byte (s.pending ++ x ∷ []) s
-byte_taken x s e h = by s.ended (s.taken == s.limit) e (ne_eqb s.taken s.limit h)
-  where
-    by : (b t : Bool) → b ≡ false → t ≡ false
-        → cond b (record { events = []; state = s }) (cond t (stop_with F7 s) (after_byte (s.pending ++ x ∷ []) s)) ≡ after_byte (s.pending ++ x ∷ []) s
-    by b t f g = grind arith
+byte_taken x s e h = grind arith
 
 spelled : (x : ℕ) → x < 128 → x ∷ [] ≡ encode x ++ []
 unfolding encode

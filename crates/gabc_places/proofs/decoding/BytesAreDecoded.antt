@@ -199,11 +199,7 @@ module _ (limits : Limits) (bytes : List ℕ) (s : DecoderState) (h : IsReading 
 
   -- the limit is reached
   at_limit : s.taken ≡ s.limit → take_byte x s ≡ stop_with F7 s
-  at_limit full = by s.ended (s.taken == s.limit) h.running (grind (arith, nat_tests))
-    where
-      by : (b t : Bool) → b ≡ false → t ≡ true
-          → cond b (record { events = []; state = s }) (cond t (stop_with F7 s) (take_pending pending (utf8_prefix_of pending) (tail_of pending) (with_byte s))) ≡ stop_with F7 s
-      by b t f g = grind arith
+  at_limit full = grind arith
 
   halts_at_limit : s.taken ≡ s.limit → Halts limits bytes (stop_with F7 s) x
   halts_at_limit full = record {

@@ -75,11 +75,7 @@ character_same t q c e =
     ap (λ (b : Bool). if b then record { events = []; state = record t { previous = c } } else record { events = Ok (record { c = read_as c; place = t.place }) ∷ []; state = record t { place = next_place t.place (read_as c); previous = c } }) e
 
 end_same : (s : DecoderState) (q : ℕ) → (take_end s).events ≡ (take_end (with_previous s q)).events
-end_same s q = by (not s.ended && is_unfinished s.pending)
-  where
-    by : (b : Bool) → (if b then stop_with F1 s else record { events = []; state = record s { ended = true } }).events ≡ (if b then stop_with F1 (with_previous s q) else record { events = []; state = record (with_previous s q) { ended = true } }).events
-    by true = refl
-    by false = refl
+end_same s q = grind arith
 
 -- Decoders agree that differ in the character before alone, where that does not matter.
 pub agree : (xs : List ℕ) (s : DecoderState) (q : ℕ) → IsPartial s.pending → AreBothCr s q → events_left s xs ≡ events_left (with_previous s q) xs

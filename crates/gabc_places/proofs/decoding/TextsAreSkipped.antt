@@ -31,11 +31,7 @@ pub record Runs (s : DecoderState) : Type 0 where
   pub whole : s.pending ≡ []
 
 pub most_is_left : (s : DecoderState) → most_skipped s ≤ s.limit - s.taken
-most_is_left s = by (not s.ended && not (is_unfinished s.pending))
-  where
-    by : (b : Bool) → cond b (s.limit - s.taken) 0 ≤ s.limit - s.taken
-    by true = omega arith
-    by false = omega arith
+most_is_left s = grind arith
 
 -- a decoder that may skip a byte runs, and no character is pending
 pub runs : (s : DecoderState) → 1 ≤ most_skipped s → Runs s

@@ -11,10 +11,7 @@ use Rattle.gabc_nabc.proofs.stage.NabcStageStage.push.Goals as goal
 
 few_outputs : (b : Bool) (g : NabcEvents) → length (cond b [] (event_list g)) ≤ 3
 few_outputs true g = omega arith
-few_outputs false g = go g.first g.second
-  where
-    go : (o p : Option NoteEvent) → length (event_list (record { first = o; second = p })) ≤ 3
-    go o p = grind arith
+few_outputs false g = grind arith
 
 pub returns-clause-events : goal.returns-clause-events
 returns-clause-events c =
