@@ -169,7 +169,11 @@ module _ (s : NabcStage) (x : Char) (k : List ℕ) (h : Keeps s k) where
   text = text_with k (comment_of s) h.whole
 
   on : s.ended ≡ false
-  on = grind arith
+  on = by s.ended (h.emits [] ∙ ap (λ (b : Bool). (if b then [] else Ended (Cut (record { line = 0; column = 0 })) (bytes_in (kept_of (with_comment k (comment_of s)))) ∷ []) ∷ []) text.no_end)
+    where
+      by : (b : Bool) → (if b then [] else Ended (Cut (record { line = 0; column = 0 })) s.kept ∷ []) ∷ [] ≡ (Ended (Cut (record { line = 0; column = 0 })) (bytes_in (kept_of (with_comment k (comment_of s)))) ∷ []) ∷ [] → b ≡ false
+      by true e = absurd (cc)
+      by false e = refl
 
   events_are : stage_events_at s x ≡ events_by (comment_of s) k x
   events_are =

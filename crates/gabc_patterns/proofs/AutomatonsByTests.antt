@@ -1,8 +1,8 @@
 -- An automaton of a table, and the tests by which it is one.
 use Rattle.std.proofs.Common.{◌≡◌, ℕ, suc, zero, ◌<◌, List, [], ◌∷◌, Bool, true, false, ◌&&◌, refl, Option, Some, None, arith, eq-or-lt_of_le, le_of_suc-le-suc, inl, inr}
+use Rattle.std.proofs.lemmas.Bool.{and_parts}
 use Rattle.gabc_patterns.specs.LongestItems.{Table}
 use Rattle.gabc_patterns.specs.Derivative.{same_pattern, rows_after, rows_run, rows_end, Munch, start, nowhere, within, step, run, is_whole, is_alive, end_kind}
-use Rattle.gabc_patterns.proofs.BothOfTwoTests.{and_true}
 use Rattle.gabc_patterns.proofs.EqualPatterns.{same_equal}
 use Rattle.gabc_patterns.proofs.CharactersBeyondTheTable.{are_plain, stands_plain}
 
@@ -66,7 +66,7 @@ below (suc n) f = f n && below n f
 pub below_at : (n : ℕ) (f : ℕ → Bool) (c : ℕ) → below n f ≡ true → c < n → f c ≡ true
 below_at zero f c e h = absurd (omega arith)
 below_at (suc n) f c e h =
-    let g = and_true (f n) (below n f) e in
+    let g = and_parts (f n) (below n f) e in
     elim (eq-or-lt_of_le (le_of_suc-le-suc h)) [ inl x ↦ rw x g.0 | inr x ↦ below_at n f c g.1 x ]
 
 -- two tests that come out alike
@@ -104,8 +104,8 @@ module _ {K : Type 0} (same_kind : K → K → Bool) where
     pub same_rows_equal : (rs ss : Table K) → same_rows rs ss ≡ true → rs ≡ ss
     same_rows_equal [] [] e = refl
     same_rows_equal ((k, p) ∷ rs) ((j, q) ∷ ss) e =
-        let h = and_true (same_kind k j) (same_pattern p q && same_rows rs ss) e in
-        let i = and_true (same_pattern p q) (same_rows rs ss) h.1 in
+        let h = and_parts (same_kind k j) (same_pattern p q && same_rows rs ss) e in
+        let i = and_parts (same_pattern p q) (same_rows rs ss) h.1 in
         let f = same_kind_equal k j h.0 in
         let g = same_equal p q i.0 in
         let r = same_rows_equal rs ss i.1 in
@@ -117,7 +117,7 @@ module _ {K : Type 0} (same_kind : K → K → Bool) where
     same_reading_equal start start e = refl
     same_reading_equal nowhere nowhere e = refl
     same_reading_equal (within rs m) (within ss n) e =
-        let h = and_true (same_rows rs ss) (same_reading m n) e in
+        let h = and_parts (same_rows rs ss) (same_reading m n) e in
         let f = same_rows_equal rs ss h.0 in
         let g = same_reading_equal m n h.1 in
         cc

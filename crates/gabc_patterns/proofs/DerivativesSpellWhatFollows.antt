@@ -1,10 +1,10 @@
 -- What may follow a character.
 use Rattle.std.proofs.Common.{◌≡◌, ℕ, ◌==◌, ◌⊎◌, inl, inr, List, [], ◌∷◌, ◌++◌, Bool, true, false, cond, refl, sym, ap, ◌∙◌, subst, ne_eqb}
-use Rattle.std.proofs.lemmas.Bool.{eqb-false}
+use Rattle.std.proofs.lemmas.Bool.{eqb-false, and_parts, or_cases, or_left, or_right}
 use Rattle.std.specs.List.{concat}
 use Rattle.gabc_patterns.specs.Pattern.{Pattern, never, nothing, one_of, any_but, ◌·◌, ◌or◌, many, is_in, Spells, Each}
 use Rattle.gabc_patterns.specs.Derivative.{is_choice, join, either, may_end, derivative}
-use Rattle.gabc_patterns.proofs.BothOfTwoTests.{and_true, or_true, or_left, or_right, append_none}
+use Rattle.gabc_patterns.proofs.PartsOfNothing.{append_none}
 use Rattle.gabc_patterns.proofs.EqualPatterns.{choice_spells}
 
 -- ---- the joined forms
@@ -62,9 +62,9 @@ end_from nothing e = refl
 end_from (one_of cs) e = absurd (cc)
 end_from (any_but x) e = absurd (cc)
 end_from (p · q) e =
-    let h = and_true (may_end p) (may_end q) e in
+    let h = and_parts (may_end p) (may_end q) e in
     ([], [], end_from p h.0, end_from q h.1, refl)
-end_from (p or q) e = elim (or_true (may_end p) (may_end q) e) [ inl h ↦ inl (end_from p h) | inr h ↦ inr (end_from q h) ]
+end_from (p or q) e = elim (or_cases (may_end p) (may_end q) e) [ inl h ↦ inl (end_from p h) | inr h ↦ inr (end_from q h) ]
 end_from (many p) e = ([], tt, refl)
 
 -- a pattern that spells the empty text tests so

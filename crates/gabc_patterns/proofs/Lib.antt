@@ -1,5 +1,4 @@
 pub mod AutomatonsByTests
-pub mod BothOfTwoTests
 pub mod CharactersBeyondTheTable
 pub mod DerivativesSpellWhatFollows
 pub mod EqualPatterns
@@ -18,6 +17,7 @@ pub mod LongestMunchByCharacter
 pub mod LongestPrefixIsFound
 pub mod LongestPrefixIsOne
 pub mod OneReading
+pub mod PartsOfNothing
 pub mod ReadingExists
 pub mod RowsAfterACharacter
 pub mod RowsRun

@@ -4,7 +4,7 @@ use Rattle.gabc_patterns.specs.Pattern.{Pattern, Spells}
 use Rattle.gabc_patterns.specs.LongestItems.{Table, Longest, IsItemOf, IsItem, IsSnippet, IsViable}
 use Rattle.gabc_patterns.specs.Derivative.{derivative, possible, rows_after, rows_end, Munch, start, nowhere, within, enter, step, run, is_whole, is_alive}
 use Rattle.gabc_patterns.specs.ItemsRead.{NoneBegins}
-use Rattle.gabc_patterns.proofs.BothOfTwoTests.{append_none}
+use Rattle.gabc_patterns.proofs.PartsOfNothing.{append_none}
 use Rattle.gabc_patterns.proofs.RowsAfterACharacter.{possible_from, rows_to, rows_from, rows_end_to, rows_end_from}
 
 -- ---- what may follow

@@ -1,5 +1,6 @@
 -- The longest prefix of a text that is of some kind is found character by character.
 use Rattle.std.proofs.Common.{◌≡◌, ◌≤◌, ◌⊎◌, inl, inr, ℕ, ◌+◌, List, [], ◌∷◌, ◌++◌, length, take, encode_utf8_all, refl, sym, ap, subst, ◌∙◌, arith, IsUtf8, append-nil, append_assoc, length-append, Bool, true, ◌&&◌}
+use Rattle.std.proofs.lemmas.Bool.{and_parts}
 use Rattle.std.specs.Char.{len_utf8}
 use Rattle.std.specs.Str.{chars, IsCharBoundary}
 use Rattle.std.specs.String.Boundary.{IsSplitPoint}
@@ -7,7 +8,7 @@ use Rattle.std.proofs.lemmas.List.{take_at}
 use Rattle.std.proofs.lemmas.Str.{IsCharBoundary-at_seam, chars-encodes, encodes-append, length-encode, encodes-chars, scalars-chars}
 use lib.Utf8.{encode, encodes, scalar, scalars}
 use Rattle.gabc_patterns.specs.LongestPrefix.{IsLongestPrefix}
-use Rattle.gabc_patterns.proofs.BothOfTwoTests.{and_true, append_none}
+use Rattle.gabc_patterns.proofs.PartsOfNothing.{append_none}
 use Rattle.gabc_patterns.proofs.LongestPrefixIsOne.{compare}
 
 -- a text that begins another one ends before a character of it, or goes on after that
@@ -27,7 +28,7 @@ bytes_more y c = bytes_append y (c ∷ []) ∙ ap (λ (n : ℕ). length (encodes
 
 pub scalars_parts : (a b : List ℕ) → scalars (a ++ b) ≡ true → (scalars a ≡ true) × (scalars b ≡ true)
 scalars_parts [] b e = (refl, e)
-scalars_parts (c ∷ a) b e = (let h = and_true (scalar c) (scalars (a ++ b)) e in let g = scalars_parts a b h.1 in (ap (λ (s : Bool). s && scalars a) h.0 ∙ g.0, g.1))
+scalars_parts (c ∷ a) b e = (let h = and_parts (scalar c) (scalars (a ++ b)) e in let g = scalars_parts a b h.1 in (ap (λ (s : Bool). s && scalars a) h.0 ∙ g.0, g.1))
 
 module _ (P : List ℕ → Type 0) where
   -- Of what was read so far that many bytes are the longest prefix.

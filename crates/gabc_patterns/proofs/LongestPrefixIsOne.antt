@@ -1,7 +1,7 @@
 -- The longest prefix is one.
 use Rattle.std.proofs.Common.{◌≡◌, List, [], ◌∷◌, ◌++◌, refl, sym, ap, ◌∙◌, subst, append-nil, inl, inr, ◌⊎◌}
 use Rattle.gabc_patterns.specs.LongestItems.{Longest}
-use Rattle.gabc_patterns.proofs.BothOfTwoTests.{append_none}
+use Rattle.gabc_patterns.proofs.PartsOfNothing.{append_none}
 
 -- of two prefixes of one list, one is a prefix of the other
 pub compare : {X : Type 0} (a b x y : List X) → a ++ x ≡ b ++ y

@@ -1,9 +1,9 @@
 -- The rows of a table after a character.
 use Rattle.std.proofs.Common.{◌≡◌, ℕ, ◌⊎◌, inl, inr, List, [], ◌∷◌, ◌++◌, Bool, true, false, not, cond, refl, eq-eqb, suc, arith}
+use Rattle.std.proofs.lemmas.Bool.{and_parts, or_cases, or_left, or_right}
 use Rattle.gabc_patterns.specs.Pattern.{Pattern, never, nothing, one_of, any_but, ◌·◌, ◌or◌, many, is_in, Spells}
 use Rattle.gabc_patterns.specs.LongestItems.{Table, IsItemOf, IsItem}
 use Rattle.gabc_patterns.specs.Derivative.{derivative, may_end, is_empty, possible, rows_after, rows_end}
-use Rattle.gabc_patterns.proofs.BothOfTwoTests.{and_true, or_true, or_left, or_right}
 use Rattle.gabc_patterns.proofs.DerivativesSpellWhatFollows.{end_from, end_to, after_to, after_from}
 
 -- ---- patterns with a text
@@ -20,12 +20,12 @@ possible_from (one_of []) e = absurd (cc)
 possible_from (one_of (c ∷ cs)) e = (c ∷ [], (c, is_in_first c cs, refl))
 possible_from (any_but x) e = (suc x ∷ [], (suc x, (λ f. omega arith), refl))
 possible_from (p · q) e =
-    let h = and_true (possible p) (possible q) e in
+    let h = and_parts (possible p) (possible q) e in
     let a = possible_from p h.0 in
     let b = possible_from q h.1 in
     (a.0 ++ b.0, (a.0, b.0, a.1, b.1, refl))
 possible_from (p or q) e =
-    elim (or_true (possible p) (possible q) e) [
+    elim (or_cases (possible p) (possible q) e) [
       | inl h ↦ (let a = possible_from p h in (a.0, inl a.1))
       | inr h ↦ (let a = possible_from q h in (a.0, inr a.1))
     ]
@@ -87,7 +87,7 @@ rows_end_to (row ∷ rows) k (inr h) = or_right (may_end row.1) (rows_end rows) 
 pub rows_end_from : {K : Type 0} (rows : Table K) → rows_end rows ≡ true → IsItem rows []
 rows_end_from [] e = absurd (cc)
 rows_end_from (row ∷ rows) e =
-    elim (or_true (may_end row.1) (rows_end rows) e) [
+    elim (or_cases (may_end row.1) (rows_end rows) e) [
       | inl h ↦ (row.0, inl (refl, end_from row.1 h))
       | inr h ↦ (let x = rows_end_from rows h in (x.0, inr x.1))
     ]

@@ -1,9 +1,9 @@
 -- An automaton whose tests come out reads the table.
 use Rattle.std.proofs.Common.{◌≡◌, ℕ, ◌<◌, ◌≤◌, [], Bool, true, false, ◌&&◌, sym, ap, ◌∙◌, arith}
+use Rattle.std.proofs.lemmas.Bool.{and_parts}
 use native.Mathlib.Decide.{dec_lt}
 use Rattle.gabc_patterns.specs.LongestItems.{Table}
 use Rattle.gabc_patterns.specs.Derivative.{rows_after, rows_end, step, is_whole, is_alive, end_kind}
-use Rattle.gabc_patterns.proofs.BothOfTwoTests.{and_true}
 use Rattle.gabc_patterns.proofs.CharactersBeyondTheTable.{are_plain, stands_plain, rows_beyond, step_beyond}
 use Rattle.gabc_patterns.proofs.AutomatonsByTests.{Automaton, reading, reading_of, rows_of, rows_at, ReadsSnippets, ReadsItems, below, below_at, alike, alike_equal, same_rows_equal, same_reading_equal, same_end, same_end_equal, agrees, agrees_on, test_snippets, test_items}
 
@@ -47,9 +47,9 @@ module _ {K S C : Type 0} (same_kind : K → K → Bool) (same_kind_equal : (k j
       parts : (s : S) → (is_alive (reading table a s) ≡ true) × (alike (is_whole (reading table a s)) (a.whole s) ≡ true)
           × (stands_plain (reading table a s) ≡ true) × (below 129 (agrees same_kind table a s) ≡ true)
       parts s =
-          let x = and_true (is_alive (reading table a s)) (alike (is_whole (reading table a s)) (a.whole s) && (stands_plain (reading table a s) && below 129 (agrees same_kind table a s))) (h s) in
-          let y = and_true (alike (is_whole (reading table a s)) (a.whole s)) (stands_plain (reading table a s) && below 129 (agrees same_kind table a s)) x.1 in
-          let z = and_true (stands_plain (reading table a s)) (below 129 (agrees same_kind table a s)) y.1 in
+          let x = and_parts (is_alive (reading table a s)) (alike (is_whole (reading table a s)) (a.whole s) && (stands_plain (reading table a s) && below 129 (agrees same_kind table a s))) (h s) in
+          let y = and_parts (alike (is_whole (reading table a s)) (a.whole s)) (stands_plain (reading table a s) && below 129 (agrees same_kind table a s)) x.1 in
+          let z = and_parts (stands_plain (reading table a s)) (below 129 (agrees same_kind table a s)) y.1 in
           (x.0, y.0, z.0, z.1)
 
   -- it reads items
@@ -63,6 +63,6 @@ module _ {K S C : Type 0} (same_kind : K → K → Bool) (same_kind_equal : (k j
       parts : (s : S) → (same_end same_kind (end_kind (rows_of table a s)) (a.ends s) ≡ true)
           × (are_plain (rows_of table a s) ≡ true) × (below 129 (agrees_on same_kind table a s) ≡ true)
       parts s =
-          let x = and_true (same_end same_kind (end_kind (rows_of table a s)) (a.ends s)) (are_plain (rows_of table a s) && below 129 (agrees_on same_kind table a s)) (h s) in
-          let y = and_true (are_plain (rows_of table a s)) (below 129 (agrees_on same_kind table a s)) x.1 in
+          let x = and_parts (same_end same_kind (end_kind (rows_of table a s)) (a.ends s)) (are_plain (rows_of table a s) && below 129 (agrees_on same_kind table a s)) (h s) in
+          let y = and_parts (are_plain (rows_of table a s)) (below 129 (agrees_on same_kind table a s)) x.1 in
           (x.0, y.0, y.1)

@@ -1,11 +1,11 @@
 -- The codes of a descriptor are those of the glyphs that the table spells.
 use Rattle.std.proofs.Common.{◌≡◌, ℕ, suc, ◌+◌, ◌-◌, List, [], ◌∷◌, ◌++◌, length, map, drop, get_or, Bool, true, false, cond, not, ◌&&◌, ◌||◌, ◌==◌, ◌≢◌, refl, sym, ap, ◌∙◌, codes, arith, append_assoc, append-nil, inl, inr, slice_index}
+use Rattle.std.proofs.lemmas.Bool.{and_parts}
 use Rattle.std.specs.List.{flat_map, range_with_len, concat}
 use Rattle.std.proofs.lemmas.List.{get_or-drop, drop-drop}
 use Rattle.std.proofs.lemmas.List.Folds.{list_any-append}
 use Rattle.std.proofs.lemmas.Bool.Decides.{nat_tests}
 use Rattle.gabc_patterns.specs.Pattern.{Pattern, never, nothing, one_of, any_but, ◌·◌, ◌or◌, many, text, Each, Spells, is_in}
-use Rattle.gabc_patterns.proofs.BothOfTwoTests.{and_true}
 use Rattle.gabc_nabc.specs.Table.{code, glyph, points, letters, descriptor}
 use Rattle.gabc_nabc.specs.Codes.{code_at, codes_in, glyphs_joined, code_of_glyph, HasCodesOfGlyphs}
 use Rattle.gabc_nabc.proofs.glyphs.CodesAreTwoLetters.{same_in, firsts, letters as all_letters, after_s, after_p, after_l}
@@ -126,10 +126,10 @@ spells_none n nothing t h e = rw h refl
 spells_none n (one_of cs) t (c, i, f) e = rw f (not_same c n cs i e)
 spells_none n (any_but x) t (c, h, f) e = rw f (other_than c n x h e)
 spells_none n (p · q) t (a, b, h, i, f) e =
-    let both = and_true (avoids n p) (avoids n q) e in
+    let both = and_parts (avoids n p) (avoids n q) e in
     ap (is_in n) f ∙ (list_any-append (λ (d : ℕ). d == n) a b ∙ rw (spells_none n p a h both.0, spells_none n q b i both.1) refl)
-spells_none n (p or q) t (inl h) e = spells_none n p t h (and_true (avoids n p) (avoids n q) e).0
-spells_none n (p or q) t (inr h) e = spells_none n q t h (and_true (avoids n p) (avoids n q) e).1
+spells_none n (p or q) t (inl h) e = spells_none n p t h (and_parts (avoids n p) (avoids n q) e).0
+spells_none n (p or q) t (inr h) e = spells_none n q t h (and_parts (avoids n p) (avoids n q) e).1
 spells_none n (many p) t (parts, h, f) e = ap (is_in n) f ∙ none_in_parts n (Spells p) (λ u i. spells_none n p u i e) parts h
 
 -- ---- glyphs

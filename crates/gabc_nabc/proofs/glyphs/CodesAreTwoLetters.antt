@@ -2,9 +2,8 @@
 use Rattle.std.proofs.Common.{◌≡◌, ℕ, ◌≤◌, List, [], ◌∷◌, ◌++◌, Bool, true, false, not, ◌&&◌, ◌||◌, ◌==◌, refl, sym, ap, ◌∙◌, subst, codes, arith, IsTrue, ◌↔◌, inl, inr}
 use native.Mathlib.Decide.{dec_lt}
 use Rattle.std.proofs.lemmas.Bool.Decides.{nat_tests}
-use Rattle.std.proofs.lemmas.Bool.{not-true}
+use Rattle.std.proofs.lemmas.Bool.{not-true, and_parts}
 use Rattle.gabc_patterns.specs.Pattern.{Spells, one_of, ◌·◌, is_in}
-use Rattle.gabc_patterns.proofs.BothOfTwoTests.{and_true}
 use Rattle.gabc_patterns.proofs.AutomatonsByTests.{below, below_at, alike, alike_equal}
 use Rattle.gabc_nabc.specs.Table.{code}
 use Rattle.gabc_nabc.specs.Events.{is_letter, begins_code, is_code}
@@ -96,15 +95,15 @@ spelled a c e = go (a == 115) (a == 112) (a == 108) refl refl refl
         let same : a ≡ 108 = grind (arith, nat_tests) in
         inr (inr (inr (pair_from (108 ∷ []) after_l a c (in_same 108 a same) (after_l_are c ∙ (ap (λ (n : ℕ). is_code n c) (sym same) ∙ e)))))
     go false false false f g h =
-        let both = and_true (begins_code a) (is_letter c) (sym (plain_code a c f g h) ∙ e) in
+        let both = and_parts (begins_code a) (is_letter c) (sym (plain_code a c f g h) ∙ e) in
         inl (pair_from firsts letters a c (firsts_are a ∙ rw (both.0, f, g, h) refl) (letters_are c ∙ both.1))
 
 is_spelled : (a c : ℕ) → Spells code (a ∷ c ∷ []) → is_code a c ≡ true
 is_spelled a c (inl h) =
     let x = pair_to firsts letters a c h in
-    let y = and_true (begins_code a) (not (a == 115) && (not (a == 112) && not (a == 108))) (sym (firsts_are a) ∙ x.0) in
-    let z = and_true (not (a == 115)) (not (a == 112) && not (a == 108)) y.1 in
-    let w = and_true (not (a == 112)) (not (a == 108)) z.1 in
+    let y = and_parts (begins_code a) (not (a == 115) && (not (a == 112) && not (a == 108))) (sym (firsts_are a) ∙ x.0) in
+    let z = and_parts (not (a == 115)) (not (a == 112) && not (a == 108)) y.1 in
+    let w = and_parts (not (a == 112)) (not (a == 108)) z.1 in
     plain_code a c (not-true (a == 115) z.0) (not-true (a == 112) w.0) (not-true (a == 108) w.1) ∙ rw (y.0, sym (letters_are c) ∙ x.1) refl
 is_spelled a c (inr (inl h)) =
     let x = pair_to (115 ∷ []) after_s a c h in

@@ -1,5 +1,6 @@
 -- The stage emits what the definition says.
 use Rattle.std.proofs.Common.{◌≡◌, ℕ, ◌<◌, ◌≤◌, List, [], ◌∷◌, ◌++◌, Bool, true, false, cond, ◌&&◌, ◌||◌, ◌==◌, refl, sym, ap, ◌∙◌, subst, arith, Option, Some, None, is_some, option_to_list}
+use Rattle.std.proofs.lemmas.Bool.{and_parts}
 use native.Mathlib.Decide.{dec_lt}
 use Rattle.std.proofs.lemmas.Bool.Decides.{nat_tests}
 use Rattle.std.proofs.Math.Bool.{or-false}
@@ -8,7 +9,6 @@ use Rattle.gabc_places.specs.declared.place.Char.{Char}
 use Rattle.gabc_patterns.specs.Pattern.{is_in}
 use Rattle.gabc_patterns.specs.Derivative.{is_snippet, is_viable, is_alive}
 use Rattle.gabc_patterns.specs.Function.{trim}
-use Rattle.gabc_patterns.proofs.BothOfTwoTests.{and_true}
 use Rattle.gabc_patterns.proofs.AutomatonsByTests.{below, below_at, alike, alike_equal, reading_of}
 use Rattle.gabc_patterns.proofs.StatesAfterTexts.{Stands, stands_first, stands_next, whole_is}
 use Rattle.gabc_patterns.proofs.StatesFollowExamples.{viable_next}
@@ -61,7 +61,7 @@ letters_at s z c e = elim (dec_lt c 128) [
     at : (d : ℕ) → d < 129 → next_state s (class_of_character d) ≡ Some z → (awaits z ≡ (whole_at s || is_joined s) && begins_code d) × (is_joined z ≡ (d == 33))
     at d l f =
         let t = subst (λ (o : Option DescriptorState). letters_agree_at s o d ≡ true) f (below_at 129 (letters_agree s) d (letters_checked s) l) in
-        let p = and_true (alike (awaits z) ((whole_at s || is_joined s) && begins_code d)) (alike (is_joined z) (d == 33)) t in
+        let p = and_parts (alike (awaits z) ((whole_at s || is_joined s) && begins_code d)) (alike (is_joined z) (d == 33)) t in
         (alike_equal (awaits z) ((whole_at s || is_joined s) && begins_code d) p.0, alike_equal (is_joined z) (d == 33) p.1)
 
 -- ---- the stage after a text

@@ -1,5 +1,6 @@
 -- The places between which findings lie, and the marks at which ends are emitted.
 use Rattle.std.proofs.Common.{◌≡◌, ℕ, ◌+◌, suc, List, [], ◌∷◌, ◌++◌, Bool, true, false, cond, not, ◌||◌, ◌==◌, inl, inr, refl, sym, ◌∙◌, subst, length, take, eqb-true, arith}
+use Rattle.std.proofs.lemmas.Bool.{and_parts, or_cases}
 use Rattle.gabc_notes.proofs.machine.LoopOverBody.{findings_append}
 use Rattle.gabc_places.proofs.PlacesInOrder.{up_to_self, up_to_then, up_to_next, up_to_past, lie_append}
 use Rattle.gabc_places.specs.declared.code.Code.TheVariants.{E6}
@@ -11,7 +12,6 @@ use Rattle.gabc_places.specs.StageLaw.{concat_of}
 use Rattle.gabc_places.specs.Place.{next_place, place_past, placed_characters_from}
 use Rattle.gabc_patterns.specs.Derivative.{is_snippet}
 use Rattle.gabc_patterns.specs.Function.{trim}
-use Rattle.gabc_patterns.proofs.BothOfTwoTests.{and_true, or_true}
 use Rattle.gabc_notes.specs.Ends.{IsMarkOf, EndWithMark, EndAtMost, AreCutAtMost}
 use Rattle.gabc_notes.specs.SnippetRead.{findings_of}
 use Rattle.gabc_notes.specs.declared.stage.NoteEnd.TheVariants.{Next, Close, Cut}
@@ -61,7 +61,7 @@ mark_is c h = go (c == 124) refl
   where
     go : (b : Bool) → (c == 124) ≡ b → IsMarkOf true (cond b Next Close) c
     go true e = (eqb-true c 124 e, refl)
-    go false e = elim (or_true (c == 41) (c == 124) h) [
+    go false e = elim (or_cases (c == 41) (c == 124) h) [
       | inl d ↦ eqb-true c 41 d
       | inr d ↦ absurd (let f = sym e ∙ d in cc)
     ]
@@ -70,7 +70,7 @@ end_marked : (t : List ℕ) (x : Char) → is_end t x.c ≡ true → EndWithMark
 end_marked t x e = go (is_snippet nabc (kept_of t))
   where
     mark : IsMarkOf true (end_by_mark x.c) x.c
-    mark = mark_is x.c (and_true (not (in_comment t)) ((x.c == 41) || (x.c == 124)) e).1
+    mark = mark_is x.c (and_parts (not (in_comment t)) ((x.c == 41) || (x.c == 124)) e).1
 
     go : (a : Bool) → EndWithMark true x.c (cond a [] (finding_event x.place E6 ∷ []) ++ Ended (end_by_mark x.c) (bytes_in (trim nabc (kept_of t))) ∷ [])
     go true = record { before = []; how = end_by_mark x.c; bytes = bytes_in (trim nabc (kept_of t)); cut = refl; endless = refl; mark = mark }

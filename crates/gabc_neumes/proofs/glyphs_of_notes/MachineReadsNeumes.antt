@@ -1,5 +1,6 @@
 -- The machine reads the table of neumes.
 use Rattle.std.proofs.Common.{◌≡◌, ℕ, ◌≤◌, Bool, true, false, ◌&&◌, refl, arith, ap, ◌∙◌}
+use Rattle.std.proofs.lemmas.Bool.{and_parts}
 use denote.Enum.Bare.{sameb, same_true}
 use Rattle.std.proofs.lemmas.Bool.Decides.{nat_tests}
 use Rattle.gabc_notes.specs.declared.note.Shape.{Shape}
@@ -17,7 +18,6 @@ use Rattle.gabc_neumes.specs.declared.state.JoinedBase.TheVariants as joined
 use Rattle.gabc_neumes.specs.declared.state.GlyphState.{GlyphState}
 use Rattle.gabc_neumes.specs.declared.state.GlyphState.TheVariants.{Start, One, Plain, Falling, Half, Climacus, Resumed, ResumedClimacus}
 use Rattle.gabc_patterns.specs.LongestItems.{OneKind}
-use Rattle.gabc_patterns.proofs.BothOfTwoTests.{and_true}
 use Rattle.gabc_patterns.proofs.AutomatonsByTests.{Automaton, ReadsItems, rows_of, test_items}
 use Rattle.gabc_patterns.proofs.RowsRun.{ends_once}
 use Rattle.gabc_patterns.proofs.ItemSoFar.{one_kind}
@@ -83,7 +83,7 @@ same_kind k j = same_base k.base j.base && same_tail k.tail j.tail
 
 pub same_kind_equal : (k j : GlyphKind) → same_kind k j ≡ true → k ≡ j
 same_kind_equal k j e =
-    let h = and_true (same_base k.base j.base) (same_tail k.tail j.tail) e in
+    let h = and_parts (same_base k.base j.base) (same_tail k.tail j.tail) e in
     ap (λ (b : Base). record { base = b; tail = k.tail }) (same_base_equal k.base j.base h.0)
     ∙ ap (λ (t : Tail). record { base = j.base; tail = t }) (same_tail_equal k.tail j.tail h.1)
 
@@ -105,10 +105,10 @@ checked (Resumed joined.Pes) = refl
 checked _ = refl
 
 items_checked : (s : GlyphState) → test_items same_kind neumes machine s ≡ true
-items_checked s = (and_true (test_items same_kind neumes machine s) (ends_once (rows_of neumes machine s)) (checked s)).0
+items_checked s = (and_parts (test_items same_kind neumes machine s) (ends_once (rows_of neumes machine s)) (checked s)).0
 
 once : (s : GlyphState) → ends_once (rows_of neumes machine s) ≡ true
-once s = (and_true (test_items same_kind neumes machine s) (ends_once (rows_of neumes machine s)) (checked s)).1
+once s = (and_parts (test_items same_kind neumes machine s) (ends_once (rows_of neumes machine s)) (checked s)).1
 
 -- the machine reads the neumes of the table
 pub items_read : ReadsItems neumes machine

@@ -1,6 +1,6 @@
 -- What is said of a snippet's characters by relations is what is computed of them.
 use Rattle.std.proofs.Common.{◌≡◌, ℕ, List, [], ◌∷◌, ◌++◌, Bool, true, false, cond, not, ◌&&◌, ◌||◌, ◌==◌, inl, inr, refl, sym, ap, ◌∙◌, subst, codes, map, Option, Some, None}
-use Rattle.std.proofs.lemmas.Bool.{not-true, false_from_ne_true}
+use Rattle.std.proofs.lemmas.Bool.{not-true, false_from_ne_true, and_parts}
 use Rattle.std.specs.Prelude.{◌↔◌, IsTrue}
 use Rattle.std.specs.List.{list_any}
 use Rattle.gabc_places.specs.declared.place.Char.{Char}
@@ -9,7 +9,6 @@ use Rattle.gabc_patterns.specs.LongestItems.{IsReading}
 use Rattle.gabc_patterns.specs.Kept.{Keeps}
 use Rattle.gabc_patterns.specs.Derivative.{is_snippet, is_viable}
 use Rattle.gabc_patterns.specs.Function.{items, keep}
-use Rattle.gabc_patterns.proofs.BothOfTwoTests.{and_true}
 use Rattle.gabc_patterns.proofs.EqualPatterns.{same_texts_equal}
 use Rattle.gabc_patterns.proofs.FunctionsMeetRelations.{keep_keeps, keeps_is}
 use Rattle.gabc_patterns.proofs.ItemsFunctionReads.{items_are}
@@ -201,7 +200,7 @@ marked_only (m ∷ ms) h =
 pub kept_with_to : (back : List Char) (x : Char) → is_kept (point back x) ≡ true → IsKeptWith (marks (x ∷ back)) (kept_with (point back x))
 unfolding marks
 kept_with_to back x e =
-    let f = and_true (not (is_comment (point back x))) (is_viable gabc (kept_with (point back x))) e in
+    let f = and_parts (not (is_comment (point back x))) (is_viable gabc (kept_with (point back x))) e in
     (not-true (is_comment (point back x)) f.0, (kept back, kept_keeps back, refl, viable_from gabc refl (kept_with (point back x)) f.1))
 
 pub kept_with_from : (back : List Char) (x : Char) (t : List ℕ) → IsKeptWith (marks (x ∷ back)) t → (is_kept (point back x) ≡ true) × (t ≡ kept_with (point back x))
@@ -288,7 +287,7 @@ fused_from (x ∷ back) (inr (n, h)) = fused_more back x ∙ go (opens_fusion (i
 outside_to : (back : List Char) (x : Char) → (is_kept (point back x) && not (is_in_raw (point back x))) ≡ true → IsKeptOutside (marks (x ∷ back))
 unfolding marks
 outside_to back x e =
-    let f = and_true (is_kept (point back x)) (not (is_in_raw (point back x))) e in
+    let f = and_parts (is_kept (point back x)) (not (is_in_raw (point back x))) e in
     ((kept_with (point back x), kept_with_to back x f.0), no_raw_to back (not-true (is_in_raw (point back x)) f.1))
 
 outside_from : (back : List Char) (x : Char) → IsKeptOutside (marks (x ∷ back)) → (is_kept (point back x) && not (is_in_raw (point back x))) ≡ true

@@ -1,12 +1,12 @@
 -- What is found at a snippet's characters by relations is what is computed of them.
 use Rattle.std.proofs.Common.{◌≡◌, ℕ, List, [], ◌∷◌, ◌++◌, Bool, true, false, cond, not, ◌&&◌, ◌||◌, ◌⊎◌, inl, inr, refl, sym, ap, ◌∙◌, subst, codes, Option, Some, None}
-use Rattle.std.proofs.lemmas.Bool.{not-true, false_from_ne_true}
+use Rattle.std.proofs.Math.Bool.{or-true}
+use Rattle.std.proofs.lemmas.Bool.{not-true, false_from_ne_true, and_parts, or_cases}
 use Rattle.gabc_places.specs.declared.code.Code.{Code}
 use Rattle.gabc_places.specs.declared.code.Code.TheVariants.{E1, W8, W10}
 use Rattle.gabc_places.specs.declared.code.Finding.{Finding}
 use Rattle.gabc_places.specs.declared.place.Char.{Char}
 use Rattle.gabc_places.specs.declared.place.Place.{Place}
-use Rattle.gabc_patterns.proofs.BothOfTwoTests.{and_true, or_true}
 use Rattle.gabc_notes.specs.Events.{ItemText, is_comment, kept_with, is_kept, item_at, opens_fusion, closes_fusion, macro_in, macro_of, is_fused, opener, finding_event, is_defined, is_missing, is_end, is_over, is_unpaired, warnings, at_end, events_at}
 use Rattle.gabc_notes.specs.FoundAt.{AreThoseFound}
 use Rattle.gabc_notes.specs.SnippetRead.{findings_of}
@@ -44,16 +44,16 @@ missing_some macros _ e = absurd (cc)
 
 -- what warns of a bracket that is not paired is a fusion mark
 fusion_item : (back : List Char) (x : Char) → is_unpaired (point back x) ≡ true → (t : List ℕ) × (item_at (point back x) ≡ Some (Fusion, t))
-fusion_item back x e = elim (or_true (opens_fusion (item_at (point back x)) && is_fused back) (closes_fusion (item_at (point back x)) && not (is_fused back)) e) [
-  | inl h ↦ (codes "@[", opens_some (item_at (point back x)) (and_true (opens_fusion (item_at (point back x))) (is_fused back) h).0)
-  | inr h ↦ (codes "]", closes_some (item_at (point back x)) (and_true (closes_fusion (item_at (point back x))) (not (is_fused back)) h).0)
+fusion_item back x e = elim (or_cases (opens_fusion (item_at (point back x)) && is_fused back) (closes_fusion (item_at (point back x)) && not (is_fused back)) e) [
+  | inl h ↦ (codes "@[", opens_some (item_at (point back x)) (and_parts (opens_fusion (item_at (point back x))) (is_fused back) h).0)
+  | inr h ↦ (codes "]", closes_some (item_at (point back x)) (and_parts (closes_fusion (item_at (point back x))) (not (is_fused back)) h).0)
 ]
 
 unpaired_to : (back : List Char) (x : Char) → is_unpaired (point back x) ≡ true
     → (EndsItem (marks (x ∷ back)) (Fusion, codes "@[") × IsFused (marks back)) ⊎ (EndsItem (marks (x ∷ back)) (Fusion, codes "]") × (¬ IsFused (marks back)))
-unpaired_to back x e = elim (or_true (opens_fusion (item_at (point back x)) && is_fused back) (closes_fusion (item_at (point back x)) && not (is_fused back)) e) [
-  | inl h ↦ (let g = and_true (opens_fusion (item_at (point back x))) (is_fused back) h in inl (opens_to back x g.0, fused_to back g.1))
-  | inr h ↦ (let g = and_true (closes_fusion (item_at (point back x))) (not (is_fused back)) h in
+unpaired_to back x e = elim (or_cases (opens_fusion (item_at (point back x)) && is_fused back) (closes_fusion (item_at (point back x)) && not (is_fused back)) e) [
+  | inl h ↦ (let g = and_parts (opens_fusion (item_at (point back x))) (is_fused back) h in inl (opens_to back x g.0, fused_to back g.1))
+  | inr h ↦ (let g = and_parts (closes_fusion (item_at (point back x))) (not (is_fused back)) h in
       inr (closes_to back x g.0, λ f. (let a = not-true (is_fused back) g.1 in let b = fused_from back f in absurd (cc))))
 ]
 
@@ -69,11 +69,7 @@ unpaired_from back x (inr h) =
     let o = closes_from back x h.0 in
     let f : is_fused back ≡ false = false_from_ne_true (is_fused back) (λ e. h.1 (fused_to back e)) in
     ap (λ (b : Bool). (opens_fusion (item_at (point back x)) && is_fused back) || (b && not (is_fused back))) o
-    ∙ (ap (λ (b : Bool). (opens_fusion (item_at (point back x)) && is_fused back) || not b) f ∙ last (opens_fusion (item_at (point back x)) && is_fused back))
-  where
-    last : (b : Bool) → (b || true) ≡ true
-    last true = refl
-    last false = refl
+    ∙ (ap (λ (b : Bool). (opens_fusion (item_at (point back x)) && is_fused back) || not b) f ∙ or-true (opens_fusion (item_at (point back x)) && is_fused back))
 
 missing_from : (macros : ℕ) (back : List Char) (x : Char) (t : List ℕ) (digit : ℕ) → EndsItem (marks (x ∷ back)) (Attribute, t) → macro_in t ≡ Some digit → is_defined macros digit ≡ false
     → is_missing macros (macro_of (item_at (point back x))) ≡ true

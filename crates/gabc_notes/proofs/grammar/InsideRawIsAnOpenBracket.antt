@@ -1,12 +1,11 @@
 -- A text lies inside raw exactly where a bracket is open.
 use Rattle.std.proofs.Common.{◌≡◌, ℕ, ◌≤◌, List, [], ◌∷◌, ◌++◌, Bool, true, false, cond, not, ◌&&◌, ◌||◌, ◌==◌, ◌⊎◌, inl, inr, refl, sym, ap, ◌∙◌, subst, Option, Some, None, arith, eqb-true, ne_eqb}
-use Rattle.std.proofs.lemmas.Bool.{or_parts, not-true}
+use Rattle.std.proofs.lemmas.Bool.{or_parts, not-true, and_parts, or_cases}
 use native.Mathlib.Decide.{dec_lt}
 use Rattle.gabc_patterns.specs.Pattern.{is_in}
 use Rattle.gabc_patterns.specs.LongestItems.{IsSnippet}
 use Rattle.gabc_patterns.specs.Derivative.{Munch, start, nowhere, run, is_whole, is_snippet}
 use Rattle.gabc_patterns.proofs.AutomatonsByTests.{reading_of, below, below_at}
-use Rattle.gabc_patterns.proofs.BothOfTwoTests.{and_true, or_true}
 use Rattle.gabc_patterns.proofs.LongestMunchByCharacter.{snippet_to, snippet_from}
 use Rattle.gabc_notes.specs.Table.{gabc}
 use Rattle.gabc_notes.specs.machine.CharClass.{class_of_character}
@@ -122,9 +121,9 @@ pub step_in : (s z : ItemState) (c : ℕ) → on s c ≡ Some z → raw_state z 
 step_in s z c e h =
     let r : is_raw (on s c) ≡ true = ap is_raw e ∙ h in
     let f = raw_then (is_raw (on s c)) ((raw_state s && not (c == 93)) || ((c == 91) && (whole_at s && not (raw_state s)))) (not (raw_state s) || (c == 93)) r (test_at s c) in
-    elim (or_true (raw_state s && not (c == 93)) ((c == 91) && (whole_at s && not (raw_state s))) f) [
-      | inl x ↦ (let g = and_true (raw_state s) (not (c == 93)) x in inl (g.0, not-true (c == 93) g.1))
-      | inr x ↦ (let g = and_true (c == 91) (whole_at s && not (raw_state s)) x in inr (eqb-true c 91 g.0, (and_true (whole_at s) (not (raw_state s)) g.1).0))
+    elim (or_cases (raw_state s && not (c == 93)) ((c == 91) && (whole_at s && not (raw_state s))) f) [
+      | inl x ↦ (let g = and_parts (raw_state s) (not (c == 93)) x in inl (g.0, not-true (c == 93) g.1))
+      | inr x ↦ (let g = and_parts (c == 91) (whole_at s && not (raw_state s)) x in inr (eqb-true c 91 g.0, (and_parts (whole_at s) (not (raw_state s)) g.1).0))
     ]
 
 -- inside raw only a `]` leads out
@@ -217,7 +216,7 @@ open_from t h = raw_emitted t ∙ (ap (λ (u : List ℕ). is_raw (walk_from (Som
 
     next : (z : Option ItemState) → whole_or_raw z ≡ true → (is_whole_state z ≡ true → ⊥) → is_raw (walk_from z h.after) ≡ true
     next None w n = absurd (cc)
-    next (Some z) w n = elim (or_true (whole_at z) (raw_state z) w) [ inl x ↦ absurd (n x) | inr x ↦ stays z h.after x h.unclosed ]
+    next (Some z) w n = elim (or_cases (whole_at z) (raw_state z) w) [ inl x ↦ absurd (n x) | inr x ↦ stays z h.after x h.unclosed ]
 
     go : (o : Option ItemState) → is_whole_state o ≡ true → (is_whole_state (walk_from o (91 ∷ [])) ≡ true → ⊥) → is_raw (walk_from o (91 ∷ h.after)) ≡ true
     go None w n = absurd (cc)

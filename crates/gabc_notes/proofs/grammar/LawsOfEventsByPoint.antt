@@ -1,16 +1,16 @@
 -- What follows of the definition by positions.
 use Rattle.std.proofs.Common.{◌≡◌, ℕ, ◌≤◌, min, List, [], ◌∷◌, ◌++◌, Bool, true, false, cond, not, ◌&&◌, ◌||◌, ◌==◌, ◌⊎◌, inl, inr, refl, sym, ap, ◌∙◌, length, take, Option, Some, None, append-nil, append_assoc, eqb-true, arith, Decides}
+use Rattle.std.proofs.Math.Bool.{or-true}
 use Rattle.std.specs.Prelude.{sum_by}
 use Rattle.std.specs.Char.{len_utf8}
 use Rattle.std.specs.List.{list_any}
 use Rattle.std.proofs.lemmas.List.Sums.{sum_by-append}
-use Rattle.std.proofs.lemmas.Bool.{not-true}
+use Rattle.std.proofs.lemmas.Bool.{not-true, and_parts, or_cases}
 use Rattle.gabc_places.specs.declared.place.Char.{Char}
 use Rattle.gabc_places.specs.StageLaw.{concat_of}
 use Rattle.gabc_patterns.specs.Pattern.{is_in}
 use Rattle.gabc_patterns.specs.Derivative.{is_viable}
 use Rattle.gabc_patterns.specs.Function.{trim}
-use Rattle.gabc_patterns.proofs.BothOfTwoTests.{and_true, or_true}
 use Rattle.gabc_patterns.proofs.FunctionsMeetRelations.{trim_trims}
 use Rattle.gabc_notes.specs.Table.{gabc}
 use Rattle.gabc_notes.specs.machine.ItemMachine.{whole_at, raw_state}
@@ -31,7 +31,7 @@ use Rattle.gabc_notes.proofs.machine.OneCharacterMore.{point, kept_more, kept_sa
 
 -- a `%` outside raw
 begins_comment : (back : List Char) (x : Char) → (not (in_raw (kept back)) && (x.c == 37)) ≡ true → InComment (x ∷ back)
-begins_comment back x h = (let g = and_true (not (in_raw (kept back))) (x.c == 37) h in record {
+begins_comment back x h = (let g = and_parts (not (in_raw (kept back))) (x.c == 37) h in record {
   line = [];
   mark = x;
   before = back;
@@ -42,10 +42,10 @@ begins_comment back x h = (let g = and_true (not (in_raw (kept back))) (x.c == 3
 })
 
 comment_to : (back : List Char) (x : Char) → is_comment (point back x) ≡ true → InComment (x ∷ back)
-comment_to [] x e = begins_comment [] x (and_true (not (x.c == 10)) (false || (not (in_raw (kept [])) && (x.c == 37))) e).1
+comment_to [] x e = begins_comment [] x (and_parts (not (x.c == 10)) (false || (not (in_raw (kept [])) && (x.c == 37))) e).1
 comment_to (y ∷ back) x e =
-    let f = and_true (not (x.c == 10)) (is_comment (point back y) || (not (in_raw (kept (y ∷ back))) && (x.c == 37))) e in
-    elim (or_true (is_comment (point back y)) (not (in_raw (kept (y ∷ back))) && (x.c == 37)) f.1) [
+    let f = and_parts (not (x.c == 10)) (is_comment (point back y) || (not (in_raw (kept (y ∷ back))) && (x.c == 37))) e in
+    elim (or_cases (is_comment (point back y)) (not (in_raw (kept (y ∷ back))) && (x.c == 37)) f.1) [
       | inl h ↦ (let i = comment_to back y h in record {
         line = x ∷ i.line;
         mark = i.mark;
@@ -64,11 +64,7 @@ comment_by : (back line before : List Char) (x mark : Char) → x ∷ back ≡ l
 comment_by back [] before x mark e p o n =
     let f = parts x mark back before e in
     let c : x.c ≡ 37 = ap (λ (y : Char). y.c) f.0 ∙ p in
-    rw (c, ap (λ (b : List Char). in_raw (kept b)) f.1 ∙ o) (last (ends_in_comment (with_comments back)))
-  where
-    last : (b : Bool) → (b || true) ≡ true
-    last true = refl
-    last false = refl
+    rw (c, ap (λ (b : List Char). in_raw (kept b)) f.1 ∙ o) (or-true (ends_in_comment (with_comments back)))
 comment_by [] (l ∷ line) before x mark e p o n = absurd (none line (parts x l [] (line ++ mark ∷ before) e).1)
   where
     none : (line : List Char) → [] ≡ line ++ mark ∷ before → ⊥

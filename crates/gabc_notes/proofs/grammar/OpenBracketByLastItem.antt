@@ -1,10 +1,10 @@
 -- An open bracket, by the last item before it.
 use Rattle.std.proofs.Common.{◌≡◌, ℕ, List, [], ◌∷◌, ◌++◌, Bool, true, false, cond, inl, inr, refl, sym, ap, ◌∙◌, subst, codes, Option, Some, None, append-nil, append_assoc, Decides}
+use Rattle.std.proofs.lemmas.Bool.{and_parts}
 use Rattle.std.proofs.lemmas.List.{same_from_push}
 use Rattle.gabc_patterns.specs.LongestItems.{IsItemOf, IsItem, IsReading, IsSnippet, IsViable}
 use Rattle.gabc_patterns.specs.Derivative.{is_alive, is_whole}
 use Rattle.gabc_patterns.proofs.AutomatonsByTests.{reading}
-use Rattle.gabc_patterns.proofs.BothOfTwoTests.{and_true}
 use Rattle.gabc_patterns.proofs.LongestPrefixIsOne.{longest_all}
 use Rattle.gabc_patterns.proofs.LongestMunchByCharacter.{snippet_to, snippet_from, viable_to}
 use Rattle.gabc_patterns.proofs.RowsRun.{item_at_end}
@@ -52,7 +52,7 @@ at_joins before items h r =
     let e = ends_of items (Fusion, codes "@") before r in
     let prefix = prefix_snippet e.before e.prefix (codes "@") e.reads in
     let n = next e.prefix 64 prefix (subst (IsViable gabc) e.cut (viable before h)) in
-    let test = (and_true (closed_at n.from (on n.from 93)) _ (and_true (opened_at n.from (on n.from 91)) _ (marks_tested n.from)).1).1 in
+    let test = (and_parts (closed_at n.from (on n.from 93)) _ (and_parts (opened_at n.from (on n.from 91)) _ (marks_tested n.from)).1).1 in
     let joins : joined_at (Some n.to) ≡ true = ap joined_at (sym n.steps.next) ∙ then_true (whole_at n.from) (joined_at (on n.from 64)) n.whole test in
     let here : Stands gabc machine n.to before = subst (Stands gabc machine n.to) (sym e.cut) (stands_next gabc machine snippets_read n.from n.to e.prefix 64 n.steps.here n.steps.next) in
     go n.to (on n.to 91) refl here joins

@@ -2,13 +2,14 @@
 use mathlib.Core.List.{reverse_aux}
 use lib.Utf8.{encodes}
 use Rattle.std.proofs.Common.{◌≡◌, ℕ, ◌+◌, List, [], ◌∷◌, ◌++◌, Bool, true, false, cond, not, ◌&&◌, ◌||◌, ◌==◌, ◌⊎◌, inl, inr, refl, sym, ap, ◌∙◌, subst, length, drop, Option, Some, None, append-nil, append_assoc, eqb-true, arith}
+use Rattle.std.proofs.Math.Bool.{or-true}
 use Rattle.std.specs.Prelude.{reverse, sum_by, string_bytes}
 use Rattle.std.specs.Char.{len_utf8}
 use Rattle.std.specs.List.{fold}
 use Rattle.std.proofs.Math.Seq.{drop-append_seam}
 use Rattle.std.proofs.lemmas.List.{reverse-reverse}
 use Rattle.std.proofs.lemmas.Grind.{reverse_onto}
-use Rattle.std.proofs.lemmas.Bool.{not-true, false_from_ne_true}
+use Rattle.std.proofs.lemmas.Bool.{not-true, false_from_ne_true, and_parts, or_cases}
 use Rattle.gabc_places.specs.declared.code.Code.TheVariants.{E6, W10}
 use Rattle.gabc_places.specs.declared.code.Finding.{Finding}
 use Rattle.gabc_places.specs.declared.place.Char.{Char}
@@ -18,7 +19,6 @@ use Rattle.gabc_places.specs.StageLaw.{concat_of}
 use Rattle.gabc_patterns.specs.LongestItems.{IsSnippet}
 use Rattle.gabc_patterns.specs.Derivative.{is_snippet}
 use Rattle.gabc_patterns.specs.Function.{trim}
-use Rattle.gabc_patterns.proofs.BothOfTwoTests.{and_true, or_true}
 use Rattle.gabc_patterns.proofs.FunctionsMeetRelations.{trim_trims, trims_is, no_snippet}
 use Rattle.gabc_patterns.proofs.LongestMunchByCharacter.{snippet_from}
 use Rattle.gabc_notes.specs.Table.{gabc}
@@ -42,12 +42,12 @@ use Rattle.gabc_notes.proofs.grammar.FindingsByRelations.{Found, found_here, one
 
 pub end_to : (split : Bool) (back : List Char) (x : Char) → is_end split (point back x) ≡ true → IsEnd split (marks back) x
 end_to split back x e =
-    let f = and_true (not (is_comment (point back x))) (not (in_raw (kept back)) && ((x.c == 41) || (split && (x.c == 124)))) e in
-    let g = and_true (not (in_raw (kept back))) ((x.c == 41) || (split && (x.c == 124))) f.1 in
+    let f = and_parts (not (is_comment (point back x))) (not (in_raw (kept back)) && ((x.c == 41) || (split && (x.c == 124)))) e in
+    let g = and_parts (not (in_raw (kept back))) ((x.c == 41) || (split && (x.c == 124))) f.1 in
     record {
-      mark = elim (or_true (x.c == 41) (split && (x.c == 124)) g.1) [
+      mark = elim (or_cases (x.c == 41) (split && (x.c == 124)) g.1) [
         | inl h ↦ inl (eqb-true x.c 41 h)
-        | inr h ↦ (let i = and_true split (x.c == 124) h in inr (i.0, eqb-true x.c 124 i.1))
+        | inr h ↦ (let i = and_parts split (x.c == 124) h in inr (i.0, eqb-true x.c 124 i.1))
       ];
       no_comment = λ i. (let a = comment_from back x false i in let b = not-true (is_comment (point back x)) f.0 in absurd (cc));
       no_raw = no_raw_to back (not-true (in_raw (kept back)) g.0);
@@ -60,21 +60,13 @@ end_from split back x h =
     ap (λ (b : Bool). not b && (not (in_raw (kept back)) && ((x.c == 41) || (split && (x.c == 124))))) quiet
     ∙ (ap (λ (b : Bool). not b && ((x.c == 41) || (split && (x.c == 124)))) (no_raw_from back h.no_raw) ∙ go h.mark)
   where
-    last : (b : Bool) → (b || true) ≡ true
-    last true = refl
-    last false = refl
-
     go : (x.c ≡ 41) ⊎ ((split ≡ true) × (x.c ≡ 124)) → ((x.c == 41) || (split && (x.c == 124))) ≡ true
     go (inl e) = ap (λ (c : ℕ). (c == 41) || (split && (x.c == 124))) e
-    go (inr e) = ap (λ (b : Bool). (x.c == 41) || (b && (x.c == 124))) e.0 ∙ (ap (λ (c : ℕ). (x.c == 41) || (c == 124)) e.1 ∙ last (x.c == 41))
+    go (inr e) = ap (λ (b : Bool). (x.c == 41) || (b && (x.c == 124))) e.0 ∙ (ap (λ (c : ℕ). (x.c == 41) || (c == 124)) e.1 ∙ or-true (x.c == 41))
 
 over_from : (split : Bool) (after before : List Char) (x : Char) → is_end split (point before x) ≡ true → is_over split (after ++ x ∷ before) ≡ true
 over_from split [] before x e = ap (λ (b : Bool). b || is_over split before) e
-over_from split (y ∷ after) before x e = ap (λ (b : Bool). is_end split (point (after ++ x ∷ before) y) || b) (over_from split after before x e) ∙ last (is_end split (point (after ++ x ∷ before) y))
-  where
-    last : (b : Bool) → (b || true) ≡ true
-    last true = refl
-    last false = refl
+over_from split (y ∷ after) before x e = ap (λ (b : Bool). is_end split (point (after ++ x ∷ before) y) || b) (over_from split after before x e) ∙ or-true (is_end split (point (after ++ x ∷ before) y))
 
 tail_is : (before : List Marked) (m : Marked) → m ∷ before ≡ marks (chars_of (m ∷ before)) → before ≡ marks (chars_of before)
 unfolding marks
@@ -178,11 +170,7 @@ split_on split macros back (x ∷ xs) before o h = go (is_emitted split macros b
 -- the first end is the one with which the rest begins
 over_on : (split : Bool) (back xs : List Char) → is_over split back ≡ true → is_over split (reverse_aux xs back) ≡ true
 over_on split back [] o = o
-over_on split back (x ∷ xs) o = over_on split (x ∷ back) xs (ap (λ (b : Bool). is_end split (point back x) || b) o ∙ last (is_end split (point back x)))
-  where
-    last : (b : Bool) → (b || true) ≡ true
-    last true = refl
-    last false = refl
+over_on split back (x ∷ xs) o = over_on split (x ∷ back) xs (ap (λ (b : Bool). is_end split (point back x) || b) o ∙ or-true (is_end split (point back x)))
 
 stop_is : (split : Bool) (back xs rest : List Char) → is_over split (reverse_aux xs back) ≡ false → StopsAt split (reverse_aux xs back) rest
     → stop_after split back (xs ++ rest) ≡ record { back = reverse_aux xs back; mark = mark_of rest }

@@ -1,5 +1,6 @@
 -- A snippet in front of its mark is read again as that snippet.
 use Rattle.std.proofs.Common.{◌≡◌, ℕ, suc, List, [], ◌∷◌, ◌++◌, Bool, true, false, cond, not, ◌&&◌, ◌||◌, ◌==◌, refl, sym, ap, ◌∙◌, subst, length, take, Option, Some, None, append-nil, append_assoc, ne_eqb, add-one}
+use Rattle.std.proofs.lemmas.Bool.{and_parts}
 use mathlib.Core.List.{reverse_aux}
 use Rattle.std.specs.List.{All}
 use Rattle.std.proofs.Math.Seq.{take-length}
@@ -13,7 +14,6 @@ use Rattle.gabc_places.proofs.PlacesOfAText.{length_placed}
 use Rattle.gabc_patterns.specs.LongestItems.{IsSnippet}
 use Rattle.gabc_patterns.specs.Derivative.{is_snippet, is_viable}
 use Rattle.gabc_patterns.specs.Function.{trim}
-use Rattle.gabc_patterns.proofs.BothOfTwoTests.{and_true}
 use Rattle.gabc_patterns.proofs.KeptTextIsKeptAgain.{viable_prefix, snippet_viable}
 use Rattle.gabc_patterns.proofs.FunctionsMeetRelations.{viable_decides, snippet_decides, trim_snippet, trim_trims}
 use Rattle.gabc_notes.specs.Table.{gabc}
@@ -63,8 +63,8 @@ pub record IsPlain (c : ℕ) : Type 0 where
 pub plain_outside : (k : List ℕ) (c : ℕ) → is_viable gabc (k ++ c ∷ []) ≡ true → in_raw k ≡ false → IsPlain c
 plain_outside k c v r =
     let y = by_states k c v in
-    let b = and_true (is_barred y.from 41) (is_barred y.from 124 && is_barred y.from 37) (barred y.from) in
-    let d = and_true (is_barred y.from 124) (is_barred y.from 37) b.1 in
+    let b = and_parts (is_barred y.from 41) (is_barred y.from 124 && is_barred y.from 37) (barred y.from) in
+    let d = and_parts (is_barred y.from 124) (is_barred y.from 37) b.1 in
     let never : (e : ℕ) → is_barred y.from e ≡ true → c == e ≡ false =
     λ e h. ne_eqb c e (λ f. barred_by y.from y.to e h (sym y.raw ∙ r) (subst (λ (n : ℕ). on y.from n ≡ Some y.to) f y.steps.next)) in
     record { no_bracket = never 41 b.0; no_bar = never 124 d.0; no_percent = never 37 d.1 }

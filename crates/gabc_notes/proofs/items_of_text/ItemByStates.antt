@@ -1,12 +1,12 @@
 -- The item that ends with a character, by the states of the machine before and after it.
 use Rattle.std.proofs.Common.{◌≡◌, ℕ, ◌⊎◌, inl, inr, List, [], ◌∷◌, ◌++◌, Bool, true, false, cond, not, ◌&&◌, ◌||◌, ◌==◌, refl, sym, ap, ◌∙◌, subst, codes, Option, Some, None, append_assoc, eqb-true, arith}
+use Rattle.std.proofs.lemmas.Bool.{and_parts, or_cases, not-true}
 use Rattle.std.proofs.Math.Bool.{and-false, and-true}
 use Rattle.std.proofs.lemmas.List.{same_from_push}
 use Rattle.gabc_patterns.specs.Pattern.{is_in}
 use Rattle.gabc_patterns.specs.LongestItems.{IsItemOf, IsReading, IsSnippet}
 use Rattle.gabc_patterns.specs.Derivative.{start, run, is_snippet, is_whole, same_texts}
 use Rattle.gabc_patterns.proofs.AutomatonsByTests.{reading}
-use Rattle.gabc_patterns.proofs.BothOfTwoTests.{and_true, or_true}
 use Rattle.gabc_patterns.proofs.LongestPrefixIsOne.{compare}
 use Rattle.gabc_patterns.proofs.LongestMunchByCharacter.{snippet_to, snippet_from}
 use Rattle.gabc_patterns.proofs.StatesAfterTexts.{Stands, after_char}
@@ -76,26 +76,22 @@ raw_alone s e = grind arith
 
 pub opened_by : (s z : ItemState) → on s 91 ≡ Some z → (raw_state z ≡ true) ⊎ ((z ≡ Done FullFusion) × (raw_state s ≡ false))
 opened_by s z e =
-    let f = (and_true (opened_at s (on s 91)) _ (marks_tested s)).0 in
+    let f = (and_parts (opened_at s (on s 91)) _ (marks_tested s)).0 in
     let g : opened_at s (Some z) ≡ true = ap (opened_at s) (sym e) ∙ f in
-    elim (or_true (raw_state z) (is_fusion z && not (raw_state s)) g) [
+    elim (or_cases (raw_state z) (is_fusion z && not (raw_state s)) g) [
       | inl x ↦ inl x
-      | inr x ↦ (let h = and_true (is_fusion z) (not (raw_state s)) x in inr (fusion_state z h.0, no (raw_state s) h.1))
+      | inr x ↦ (let h = and_parts (is_fusion z) (not (raw_state s)) x in inr (fusion_state z h.0, not-true (raw_state s) h.1))
     ]
-  where
-    no : (b : Bool) → not b ≡ true → b ≡ false
-    no true h = absurd (cc)
-    no false h = refl
 
 pub closed_by : (s z : ItemState) → on s 93 ≡ Some z
     → ((raw_state s ≡ true) × ((z ≡ Done FullAttribute) ⊎ (z ≡ Done FullSpacing))) ⊎ ((raw_state s ≡ false) × (z ≡ Done FullFusion))
 closed_by s z e =
-    let f = (and_true (closed_at s (on s 93)) _ (and_true (opened_at s (on s 91)) _ (marks_tested s)).1).0 in
+    let f = (and_parts (closed_at s (on s 93)) _ (and_parts (opened_at s (on s 91)) _ (marks_tested s)).1).0 in
     go (raw_state s) refl (ap (closed_at s) (sym e) ∙ f)
   where
     go : (b : Bool) → raw_state s ≡ b → cond b (attribute_state z || is_spacing z) (is_fusion z) ≡ true
         → ((raw_state s ≡ true) × ((z ≡ Done FullAttribute) ⊎ (z ≡ Done FullSpacing))) ⊎ ((raw_state s ≡ false) × (z ≡ Done FullFusion))
-    go true r h = inl (r, elim (or_true (attribute_state z) (is_spacing z) h) [ inl x ↦ inl (attribute_is_state z x) | inr x ↦ inr (spacing_state z x) ])
+    go true r h = inl (r, elim (or_cases (attribute_state z) (is_spacing z) h) [ inl x ↦ inl (attribute_is_state z x) | inr x ↦ inr (spacing_state z x) ])
     go false r h = inr (r, fusion_state z h)
 
 -- ---- the item by the states

@@ -2,7 +2,7 @@
 use Rattle.std.proofs.Common.{◌≡◌, ℕ, ◌⊎◌, inl, inr, List, [], ◌∷◌, ◌++◌, Bool, true, false, cond, Some, refl, sym, ap, ◌∙◌, subst, append-nil, append_assoc}
 use Rattle.gabc_patterns.specs.LongestItems.{Table, Longest, IsItemOf, IsItem, IsReading, IsSnippet}
 use Rattle.gabc_patterns.specs.Derivative.{rows_after, rows_run, rows_end, Munch, start, nowhere, within, enter, step, run, end_kind}
-use Rattle.gabc_patterns.proofs.BothOfTwoTests.{append_none}
+use Rattle.gabc_patterns.proofs.PartsOfNothing.{append_none}
 use Rattle.gabc_patterns.proofs.LongestMunchByCharacter.{Ended, longest_from}
 use Rattle.gabc_patterns.proofs.RowsAfterACharacter.{rows_to, rows_end_to, rows_end_from}
 use Rattle.gabc_patterns.proofs.RowsRun.{item_at_end}

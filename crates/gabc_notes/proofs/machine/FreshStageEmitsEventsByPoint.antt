@@ -7,7 +7,7 @@ use Rattle.gabc_places.specs.declared.place.Place.{Place}
 use Rattle.gabc_patterns.specs.LongestItems.{IsSnippet, IsViable}
 use Rattle.gabc_patterns.specs.Derivative.{Munch, is_alive, is_snippet, is_viable}
 use Rattle.gabc_patterns.specs.Function.{trim}
-use Rattle.gabc_patterns.proofs.BothOfTwoTests.{append_none}
+use Rattle.gabc_patterns.proofs.PartsOfNothing.{append_none}
 use Rattle.gabc_patterns.proofs.FunctionsMeetRelations.{viable_decides}
 use Rattle.gabc_patterns.proofs.LongestPrefixIsOne.{split_push}
 use Rattle.gabc_patterns.proofs.StatesAfterTexts.{Stands, state_of, after_char}
@@ -106,33 +106,7 @@ opens_by false false false false false f = refl
 warned : (rs rz a d fu att : Bool) (M : Option ℕ → Bool) (digit : Option ℕ) (w8 w10 : NoteEvent) → M None ≡ false
     → option_to_list (cond rs (cond (att && M digit) (Some w8) None) (cond ((a && (not rz && fu)) || (d && not fu)) (Some w10) None)) ++ []
     ≡ cond (((a && (not rs && not rz)) && fu) || ((d && not rs) && not fu)) (w10 ∷ []) [] ++ cond (M (cond (rs && att) digit None)) (w8 ∷ []) []
-warned rs rz a d fu att M digit w8 w10 e = go rs a d
-  where
-    inside : (att : Bool) → option_to_list (cond (att && M digit) (Some w8) None) ++ [] ≡ cond (M (cond att digit None)) (w8 ∷ []) []
-    inside true = grind arith
-    inside false = rw e refl
-
-    outside : (b : Bool) → option_to_list (cond b (Some w10) None) ++ [] ≡ cond b (w10 ∷ []) [] ++ cond (M None) (w8 ∷ []) []
-    outside true = rw e refl
-    outside false = rw e refl
-
-    and_assoc : (x y z : Bool) → ((x && y) && z) ≡ (x && (y && z))
-    and_assoc true y z = refl
-    and_assoc false y z = refl
-
-    and_one : (b : Bool) → (b && true) ≡ b
-    and_one true = refl
-    and_one false = refl
-
-    go : (rs a d : Bool) → option_to_list (cond rs (cond (att && M digit) (Some w8) None) (cond ((a && (not rz && fu)) || (d && not fu)) (Some w10) None)) ++ []
-        ≡ cond (((a && (not rs && not rz)) && fu) || ((d && not rs) && not fu)) (w10 ∷ []) [] ++ cond (M (cond (rs && att) digit None)) (w8 ∷ []) []
-    go true true true = inside att
-    go true true false = inside att
-    go true false true = inside att
-    go true false false = inside att
-    go false a d =
-        outside ((a && (not rz && fu)) || (d && not fu))
-        ∙ ap (λ (b : Bool). cond b (w10 ∷ []) [] ++ cond (M None) (w8 ∷ []) []) (sym (rw (and_assoc a (not rz) fu, and_one d) refl))
+warned rs rz a d fu att M digit w8 w10 e = grind arith
 
 flipped : {X : Type 0} (r : Bool) (a b : X) → cond (not r) a b ≡ cond r b a
 flipped true a b = refl

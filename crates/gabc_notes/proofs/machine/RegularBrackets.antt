@@ -1,6 +1,6 @@
 -- The reading of a regular snippet by bytes, which looks only for the end of a bracket, does what the reading by characters does.
 use Rattle.std.proofs.Common.{◌≡◌, ◌<◌, ◌≤◌, ◌+◌, ◌⊎◌, ◌&&◌, ◌||◌, ◌==◌, nat_le, inl, inr, ℕ, List, [], ◌∷◌, ◌++◌, Bool, true, false, codes, Some, None, is_some, length, length-append, length-drop, take, drop, get_or, refl, sym, ap, subst, ◌∙◌, arith, IsUtf8, if◌then◌else◌, eqb-true, append-nil, append_assoc}
-use Rattle.std.proofs.lemmas.Bool.{leb-true, not-true}
+use Rattle.std.proofs.lemmas.Bool.{leb-true, not-true, and_parts}
 use Rattle.std.proofs.lemmas.List.{drop-drop, drop_more, length-take-le, take-append-drop, take_all}
 use Rattle.std.proofs.lemmas.List.Folds.{list_all-append}
 use Rattle.std.proofs.lemmas.Str.{byte_from_char, char_from_byte, chars-encodes, chars-IsAscii, drop_past_char, encode_ascii, encodes-chars, encodes-IsAscii, IsCharBoundary-before_ascii, IsUtf8-take, scalars-chars, length-encode, len_utf8_ascii}
@@ -11,7 +11,6 @@ use lib.Utf8.{encode, encodes, scalars}
 use native.Mathlib.Decide.{dec_lt}
 use Rattle.gabc_patterns.specs.LongestPrefix.{IsLongestPrefix}
 use Rattle.gabc_patterns.specs.Pattern.{is_in}
-use Rattle.gabc_patterns.proofs.BothOfTwoTests.{and_true}
 use Rattle.gabc_notes.specs.Notes.{is_digit}
 use Rattle.gabc_notes.specs.Events.{digit_if}
 use Rattle.gabc_notes.specs.Regular.{IsRegular}
@@ -70,12 +69,12 @@ named n [] = ap macro_digit (append-nil (example_prefix n)) ∙ digit_is n
 named n (c ∷ t) = ap macro_digit (sym (append_assoc (example_prefix n) (c ∷ []) t)) ∙ (name_alike n c t ∙ named (prefix_with n c) t)
 
 digit_low : (c : ℕ) → is_digit c ≡ true → c < 128
-digit_low c h = (let g = and_true (nat_le 48 c) (nat_le c 57) h in let k = leb-true c 57 g.1 in omega (arith, k))
+digit_low c h = (let g = and_parts (nat_le 48 c) (nat_le c 57) h in let k = leb-true c 57 g.1 in omega (arith, k))
 
 macro_ascii : (t : List ℕ) → is_macro t ≡ true → IsAscii t
 macro_ascii (a ∷ m ∷ d ∷ []) h =
-    (let f = and_true (is_in a (codes "nge")) ((m == 109) && is_digit d) (some_digit (is_in a (codes "nge") && ((m == 109) && is_digit d)) h) in
-    let g = and_true (m == 109) (is_digit d) f.1 in
+    (let f = and_parts (is_in a (codes "nge")) ((m == 109) && is_digit d) (some_digit (is_in a (codes "nge") && ((m == 109) && is_digit d)) h) in
+    let g = and_parts (m == 109) (is_digit d) f.1 in
     one_ascii a (m ∷ d ∷ []) (low (codes "nge") a refl f.0) (one_ascii m (d ∷ []) (let e = eqb-true m 109 g.0 in omega (arith, e)) (one_ascii d [] (digit_low d g.1) none_ascii)))
   where
     some_digit : (b : Bool) → is_some (digit_if b d) ≡ true → b ≡ true
@@ -98,7 +97,7 @@ named_by_bytes u s = by (is_macro u) (is_macro (encodes u)) refl refl
 -- no `]` is in its characters where none is in its bytes
 chars_inside : (u : List ℕ) → list_all is_inside (encodes u) ≡ true → list_all is_inside u ≡ true
 chars_inside [] h = refl
-chars_inside (c ∷ u) h = (let g = and_true (list_all is_inside (encode c)) (list_all is_inside (encodes u)) (sym (list_all-append is_inside (encode c) (encodes u)) ∙ h) in by (c == 93) refl g.0 (chars_inside u g.1))
+chars_inside (c ∷ u) h = (let g = and_parts (list_all is_inside (encode c)) (list_all is_inside (encodes u)) (sym (list_all-append is_inside (encode c) (encodes u)) ∙ h) in by (c == 93) refl g.0 (chars_inside u g.1))
   where
     by : (b : Bool) → (c == 93) ≡ b → list_all is_inside (encode c) ≡ true → list_all is_inside u ≡ true → list_all is_inside (c ∷ u) ≡ true
     by true e f g = absurd (let k : false ≡ true = sym (ap (list_all is_inside) (encode_ascii 93 (omega arith))) ∙ (ap (λ (n : ℕ). list_all is_inside (encode n)) (sym (eqb-true c 93 e)) ∙ f) in cc)
@@ -122,7 +121,7 @@ inside : (text u later : List ℕ) (s : ItemState) (n : MacroPrefix) (f : Bool) 
     → IsReadTo text (record { item = s; name = name_from n u; fused = f }) (read + length (encodes u)) regular
 inside text [] later s n f read regular h raw step all = subst (λ (k : ℕ). IsReadTo text (record { item = s; name = n; fused = f }) k regular) (omega arith) h
 inside text (c ∷ u) later s n f read regular h raw step all =
-    (let g = and_true (is_inside c) (list_all is_inside u) all in
+    (let g = and_parts (is_inside c) (list_all is_inside u) all in
     let cut : drop read text ≡ encode c ++ (encodes u ++ later) = step ∙ append_assoc (encode c) (encodes u) later in
     let more = past_char text (record { item = s; name = n; fused = f }) read regular h (record { item = s; name = prefix_with n c; fused = f }) c (encodes u ++ later) cut (stays s n f c raw g.0) in
     let same : longest_at (record { item = s; name = prefix_with n c; fused = f }) (read + len_utf8 c) regular ≡ regular = rw (raw_not_whole s raw) refl in

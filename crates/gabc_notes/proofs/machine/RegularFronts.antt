@@ -2,13 +2,12 @@
 use Rattle.std.proofs.Common.{◌≡◌, ◌<◌, ◌≤◌, ◌+◌, ◌⊎◌, inl, inr, ℕ, zero, suc, List, [], ◌∷◌, ◌++◌, Bool, true, false, ◌||◌, ◌==◌, nat_lt, codes, map, Option, length, length-drop, take, drop, get_or, encode_utf8_all, refl, sym, ap, subst, ◌∙◌, arith, None, Some, IsUtf8, append-nil, append_assoc, length-append, if◌then◌else◌}
 use Rattle.std.specs.List.{list_all}
 use Rattle.std.specs.Str.{chars, IsAscii, IsCharBoundary}
-use Rattle.std.proofs.lemmas.Bool.{eqb-true, ltb-true}
+use Rattle.std.proofs.lemmas.Bool.{eqb-true, ltb-true, and_parts}
 use Rattle.std.proofs.lemmas.List.{take_more, take-append-drop, drop_more, length-take-le}
 use Rattle.std.proofs.lemmas.List.Folds.{list_all-append}
 use Rattle.std.proofs.lemmas.Str.{chars-append, chars-IsAscii, chars_past_char, encode_ascii, encodes-append, encodes-IsAscii, IsCharBoundary-from_take, IsUtf8-drop, IsUtf8-from_ascii, IsUtf8-past_char, drop_past_char}
 use Rattle.gabc_patterns.specs.LongestPrefix.{IsLongestPrefix}
 use Rattle.gabc_patterns.specs.Pattern.{is_in}
-use Rattle.gabc_patterns.proofs.BothOfTwoTests.{and_true}
 use Rattle.gabc_places.proofs.texts.CharactersOfStrings.{chars-none}
 use Rattle.gabc_patterns.proofs.LongestPrefixIsFound.{IsLongestSoFar, bytes_more, longest_of, longest_same, longest_whole}
 use Rattle.gabc_patterns.proofs.TextIsReadByCharacter.{one_read}
@@ -26,7 +25,7 @@ use Rattle.gabc_notes.proofs.machine.RegularPrefixes.{Reads, reads_first, reads_
 
 pub front_more : (t : List ℕ) (c : ℕ) → 0 < length t → is_front t ≡ true → goes_on_front c ≡ true → is_front (t ++ c ∷ []) ≡ true
 front_more [] c some h g = absurd (omega arith)
-front_more (d ∷ t) c some h g = (let b = and_true (begins_front d) (list_all goes_on_front t) h in rw (list_all-append goes_on_front t (c ∷ []), b.0, b.1, g) refl)
+front_more (d ∷ t) c some h g = (let b = and_parts (begins_front d) (list_all goes_on_front t) h in rw (list_all-append goes_on_front t (c ∷ []), b.0, b.1, g) refl)
 
 -- ---- each character of a front goes on with the reading
 
@@ -76,14 +75,14 @@ goes_on c h b = at_each (λ (s : ItemState). takes s c ≡ goes_there c) (at Cle
 run_reads : (t y : List ℕ) (b : ℕ) → list_all goes_on_front t ≡ true → Reads y (in_item (item_at b)) → Reads (y ++ t) (in_item (item_from (item_at b) t))
 run_reads [] y b h r = subst (λ (l : List ℕ). Reads l (in_item (item_at b))) (sym (append-nil y)) r
 run_reads (c ∷ t) y b h r =
-    (let g = and_true (goes_on_front c) (list_all goes_on_front t) h in
+    (let g = and_parts (goes_on_front c) (list_all goes_on_front t) h in
     subst (λ (l : List ℕ). Reads l (in_item (item_from (item_at c) t))) (append_assoc y (c ∷ []) t)
     (run_reads t (y ++ c ∷ []) c g.1 (reads_more y (in_item (item_at b)) (in_item (item_at c)) c r (goes_on c g.0 b))))
 
 front_reads : (t : List ℕ) → is_front t ≡ true → Reads t (front_state t)
 front_reads [] h = reads_first
 front_reads (c ∷ t) h =
-    (let g = and_true (begins_front c) (list_all goes_on_front t) h in
+    (let g = and_parts (begins_front c) (list_all goes_on_front t) h in
     run_reads t (c ∷ []) c g.1 (reads_more [] (in_item Start) (in_item (item_at c)) c reads_first (begins c g.0)))
 
 -- the state that the code makes of the last character
@@ -118,11 +117,11 @@ low cs c e h = ltb-true c 128 (same_at (λ d. nat_lt d 128) (λ d. true) cs c e 
 
 run_ascii : (t : List ℕ) → list_all goes_on_front t ≡ true → IsAscii t
 run_ascii [] h = none_ascii
-run_ascii (c ∷ t) h = (let g = and_true (goes_on_front c) (list_all goes_on_front t) h in one_ascii c t (low (codes "acdefghijklmnp._'vswo") c refl g.0) (run_ascii t g.1))
+run_ascii (c ∷ t) h = (let g = and_parts (goes_on_front c) (list_all goes_on_front t) h in one_ascii c t (low (codes "acdefghijklmnp._'vswo") c refl g.0) (run_ascii t g.1))
 
 front_ascii : (t : List ℕ) → is_front t ≡ true → IsAscii t
 front_ascii [] h = none_ascii
-front_ascii (c ∷ t) h = (let g = and_true (begins_front c) (list_all goes_on_front t) h in one_ascii c t (low (codes "acdefghijklmnp") c refl g.0) (run_ascii t g.1))
+front_ascii (c ∷ t) h = (let g = and_parts (begins_front c) (list_all goes_on_front t) h in one_ascii c t (low (codes "acdefghijklmnp") c refl g.0) (run_ascii t g.1))
 
 pub front_known : (t : List ℕ) → is_front t ≡ true → IsKnown t (front_state t)
 front_known t h = record {
@@ -165,7 +164,7 @@ bar_known (c ∷ []) h = record {
   parts = same_at (λ d. regular_after (in_item (bar_item d)) 124) (λ d. None) (codes ",:;Zz") c refl h;
 }
 bar_known (c ∷ d ∷ []) h =
-    (let g = and_true (c == 58) (d == 58) h in
+    (let g = and_parts (c == 58) (d == 58) h in
     subst (λ (k : ℕ). IsKnown (k ∷ d ∷ []) (in_item Bar)) (sym (eqb-true c 58 g.0))
     (subst (λ (k : ℕ). IsKnown (58 ∷ k ∷ []) (in_item Bar)) (sym (eqb-true d 58 g.1)) two_colons))
 bar_known (c ∷ d ∷ e ∷ t) h = absurd (cc h)

@@ -1,8 +1,9 @@
 -- The reading of regular snippets: where it goes on each character is kept and nothing is found, and where it does not, what begins so is not regular.
 use Rattle.std.proofs.Common.{◌≡◌, ℕ, ◌^◌, List, [], ◌∷◌, ◌++◌, Bool, true, false, cond, not, ◌&&◌, ◌||◌, ◌==◌, nat_lt, ◌%◌, refl, sym, ap, ◌∙◌, Option, Some, None, is_some, append_assoc, if◌then◌else◌, arith}
+use Rattle.std.proofs.Math.Bool.{and-false}
 use Rattle.std.proofs.Math.Nat.{zero-div}
 use Rattle.std.proofs.lemmas.List.{append_cancel_left, map-append}
-use Rattle.std.proofs.lemmas.Bool.{not-true}
+use Rattle.std.proofs.lemmas.Bool.{not-true, and_parts}
 use Rattle.gabc_places.specs.declared.code.Code.TheVariants.{W8, W10}
 use Rattle.gabc_places.specs.declared.place.Char.{Char}
 use Rattle.gabc_places.specs.declared.place.Place.{Place}
@@ -11,7 +12,6 @@ use Rattle.gabc_places.specs.StageLaw.{silence}
 use Rattle.gabc_places.proofs.PlacesOfAText.{placed_append}
 use Rattle.gabc_patterns.specs.LongestItems.{IsSnippet}
 use Rattle.gabc_patterns.specs.Derivative.{is_viable}
-use Rattle.gabc_patterns.proofs.BothOfTwoTests.{and_true}
 use Rattle.gabc_patterns.proofs.FunctionsMeetRelations.{snippet_decides, trim_snippet}
 use Rattle.gabc_patterns.proofs.StatesAfterTexts.{whole_is, whole_at as snippet_at}
 use Rattle.gabc_notes.specs.Table.{gabc}
@@ -62,11 +62,7 @@ silent macros b e x h = grind arith
 
 -- where no macro is defined, each macro is missing
 none_defined : (d : ℕ) → is_defined 0 d ≡ false
-none_defined d = ap (λ (n : ℕ). nat_lt d 16 && (n % 2 == 1)) (zero-div (2 ^ d)) ∙ by (nat_lt d 16)
-  where
-    by : (b : Bool) → (b && false) ≡ false
-    by true = refl
-    by false = refl
+none_defined d = ap (λ (n : ℕ). nat_lt d 16 && (n % 2 == 1)) (zero-div (2 ^ d)) ∙ and-false (nat_lt d 16)
 
 -- and a stage without macros warns wherever the reading does
 warned : (b : Before) (e : CharFacts) (x : Char) → warning_in 0 b e x ≡ None
@@ -233,7 +229,7 @@ reads_regular t r h e = record {
 }
   where
     whole : {split : Bool} {macros : ℕ} {at : Place} → (g : ReadsSo split macros at t r) → (whole_at g.st.state ≡ true) × (g.st.before.fused ≡ false)
-    whole g = (let b = and_true (whole_at g.st.state) (not g.st.before.fused) (ap ends_regularly (sym g.is) ∙ e) in (b.0, not-true g.st.before.fused b.1))
+    whole g = (let b = and_parts (whole_at g.st.state) (not g.st.before.fused) (ap ends_regularly (sym g.is) ∙ e) in (b.0, not-true g.st.before.fused b.1))
 
     is : IsSnippet gabc t
     is = (let g = h false 0 (record { line = 1; column = 1 }) in snippet_at gabc machine snippets_read g.st.state t g.after.stands (whole g).0)

@@ -1,5 +1,6 @@
 -- The short ways of the stage do what its general way does.
 use Rattle.std.proofs.Common.{◌≡◌, ℕ, ◌+◌, ◌-◌, ◌^◌, min, List, [], ◌∷◌, ◌++◌, Bool, true, false, cond, ◌==◌, ◌&&◌, refl, sym, ap, ◌∙◌, Option, Some, None, option_to_list, arith}
+use Rattle.std.proofs.Math.Bool.{and-false, and-true}
 use Rattle.std.specs.Char.{len_utf8}
 use Rattle.gabc_places.specs.declared.place.Char.{Char}
 use Rattle.gabc_places.specs.BoundedList.{BoundedList, extended_by}
@@ -26,14 +27,6 @@ use Rattle.gabc_notes.proofs.machine.StageEmitsItsEvents.{push_law, push_emits}
 
 -- ---- a character on the short way
 
-split_off : (b : Bool) → cond (b && false) Ends Keep ≡ Keep
-split_off true = refl
-split_off false = refl
-
-still_fused : (b : Bool) → b && true ≡ b
-still_fused true = refl
-still_fused false = refl
-
 -- what is known of the character
 abbrev pub short_facts : NoteStage → ItemState → CharFacts
 short_facts st z = facts_by_states st.state (Some z) st.name
@@ -44,13 +37,13 @@ note_made st z kept x = record st { state = z; name = Closed; before = record st
 
 module _ (st : NoteStage) (x : Char) (z : ItemState) (comment : st.before.comment ≡ false) (step : IsShortStep st.state x.c z) where
   note_role : role_in st.split st.before.comment (short_facts st z) x.c ≡ Keep
-  note_role = rw (comment, step.outside, step.closes_no_notes, step.ends_no_snippet, step.begins_no_comment) (split_off st.split)
+  note_role = rw (comment, step.outside, step.closes_no_notes, step.ends_no_snippet, step.begins_no_comment, and-false st.split) refl
 
   note_events : event_list (events_in Keep st.macros st.before (short_facts st z) x) ≡ Kept x ∷ []
   note_events = rw (step.outside, step.opens_nothing, step.closes_nothing) refl
 
   pub note_stage : (kept : ℕ) → kept ≡ min (st.before.kept + 1) (2 ^ 64 - 1) → note_made st z kept x ≡ stage_kept st z x
-  note_stage kept h = rw (h, comment, step.outside, step.outside_after, step.whole_after, step.is_byte, step.opens_nothing, step.closes_nothing, still_fused st.before.fused) refl
+  note_stage kept h = rw (h, comment, step.outside, step.outside_after, step.whole_after, step.is_byte, step.opens_nothing, step.closes_nothing, and-true st.before.fused) refl
 
   pub note_emits : (next : NoteStage) (old new : BoundedList NoteEvent) → st.ended ≡ false → next ≡ stage_kept st z x → new ≡ extended_by old (Kept x ∷ [])
       → Pushes (events_left st) (events_left next) x 3 old new

@@ -1,6 +1,6 @@
 -- The findings of a text are emitted in the order of their places.
 use Rattle.std.proofs.Common.{◌≡◌, ℕ, List, [], ◌∷◌, ◌++◌, Bool, true, false, cond, not, ◌&&◌, ◌||◌, ◌==◌, ◌⊎◌, inl, inr, refl, sym, ap, ◌∙◌, subst, codes, eqb-true, Option, Some, None, arith}
-use Rattle.std.proofs.lemmas.Bool.{or_parts, not-true}
+use Rattle.std.proofs.lemmas.Bool.{or_parts, not-true, and_parts, or_cases}
 use Rattle.std.proofs.Math.Bool.{and-false}
 use Rattle.gabc_places.proofs.PlacesInOrder.{before_up_to, up_to_self, up_to_then, before_then, before_next, stands_before}
 use Rattle.gabc_places.specs.declared.code.Code.TheVariants.{E1, E6, W8, W10}
@@ -14,7 +14,6 @@ use Rattle.gabc_places.specs.PlacesInOrder.{IsEarlier}
 use Rattle.gabc_patterns.specs.Derivative.{is_alive, is_snippet, is_viable}
 use Rattle.gabc_patterns.specs.Function.{items, trim}
 use Rattle.gabc_patterns.proofs.AutomatonsByTests.{reading_of}
-use Rattle.gabc_patterns.proofs.BothOfTwoTests.{and_true, or_true}
 use Rattle.gabc_patterns.proofs.LongestMunchByCharacter.{snippet_from}
 use Rattle.gabc_patterns.proofs.StatesAfterTexts.{state_of, after_char}
 use Rattle.gabc_notes.specs.Table.{gabc}
@@ -136,7 +135,7 @@ raw_goes s r c = go (c == 93) refl
 
 raw_viable : (k : List ℕ) (c : ℕ) → in_raw k ≡ true → is_viable gabc (k ++ c ∷ []) ≡ true
 raw_viable k c r =
-    let snippet = snippet_from gabc refl (k ++ codes "]") (and_true (is_snippet gabc (k ++ codes "]")) (not (is_snippet gabc k)) r).0 in
+    let snippet = snippet_from gabc refl (k ++ codes "]") (and_parts (is_snippet gabc (k ++ codes "]")) (not (is_snippet gabc k)) r).0 in
     let y = state_of gabc machine snippets_read k (codes "]", snippet) in
     let state : raw_state y.0 ≡ true = sym (raw_by k ∙ (ap raw_at (sym y.1.reads) ∙ raw_is y.0)) ∙ r in
     ap is_alive (after_char gabc machine snippets_read y.0 k c (on y.0 c) y.1 refl) ∙ raw_goes y.0 state c
@@ -229,10 +228,10 @@ kept_sorted split macros back x q fs t c n w l b s = go (is_unpaired (point back
         (ap in_raw same ∙ (ap (λ (d : Bool). is_snippet gabc (kept_with (point back x) ++ codes "]") && not d) e ∙ and-false (is_snippet gabc (kept_with (point back x) ++ codes "]")))) s
 
     mark : is_unpaired (point back x) ≡ true → (is_snippet gabc (kept_with (point back x)) ≡ true) × (macro_of (item_at (point back x)) ≡ None)
-    mark e = elim (or_true (opens_fusion (item_at (point back x)) && is_fused back) (closes_fusion (item_at (point back x)) && not (is_fused back)) e) [
-      | inl h ↦ (let f = (and_true (opens_fusion (item_at (point back x))) (is_fused back) h).0 in
+    mark e = elim (or_cases (opens_fusion (item_at (point back x)) && is_fused back) (closes_fusion (item_at (point back x)) && not (is_fused back)) e) [
+      | inl h ↦ (let f = (and_parts (opens_fusion (item_at (point back x))) (is_fused back) h).0 in
           (item_snippet opens_fusion (point back x) refl f, open_no_macro (item_at (point back x)) f))
-      | inr h ↦ (let f = (and_true (closes_fusion (item_at (point back x))) (not (is_fused back)) h).0 in
+      | inr h ↦ (let f = (and_parts (closes_fusion (item_at (point back x))) (not (is_fused back)) h).0 in
           (item_snippet closes_fusion (point back x) refl f, close_no_macro (item_at (point back x)) f))
     ]
 
@@ -290,7 +289,7 @@ one_sorted split macros back xs x q o l b F = elim (is_emitted split macros back
         → Sorted (low back x.place) (findings_of (events_at split macros (point back x)) ++ findings_of (concat_of (note_events_after split macros (x ∷ back) xs)))
     ended e f =
         let none : concat_of (note_events_after split macros (x ∷ back) xs) ≡ [] = over_joined split macros (x ∷ back) xs (more_over split back x true o e) in
-        let out = not-true (in_raw (kept back)) (and_true (not (in_raw (kept back))) ((x.c == 41) || (split && (x.c == 124))) (and_true (not (is_comment (point back x))) _ e).1).0 in
+        let out = not-true (in_raw (kept back)) (and_parts (not (in_raw (kept back))) ((x.c == 41) || (split && (x.c == 124))) (and_parts (not (is_comment (point back x))) _ e).1).0 in
         subst (λ (a : List NoteEvent). Sorted (low back x.place) (findings_of a ++ findings_of (concat_of (note_events_after split macros (x ∷ back) xs)))) (sym f)
         (subst (λ (a : List NoteEvent). Sorted (low back x.place) (findings_of (at_end (point back x)) ++ findings_of a)) (sym none) (end_sorted macros back x out))
 

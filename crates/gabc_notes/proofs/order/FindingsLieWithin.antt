@@ -1,5 +1,6 @@
 -- The places between which findings lie, and the marks at which ends are emitted.
 use Rattle.std.proofs.Common.{◌≡◌, ℕ, ◌+◌, suc, List, [], ◌∷◌, ◌++◌, Bool, true, false, cond, not, ◌&&◌, ◌||◌, ◌==◌, inl, inr, refl, sym, ap, ◌∙◌, subst, length, take, eqb-true, None, arith}
+use Rattle.std.proofs.lemmas.Bool.{and_parts, or_cases}
 use Rattle.gabc_places.proofs.PlacesInOrder.{lie_wider, up_to_past, lie_append, before_up_to, up_to_self, up_to_then, before_next}
 use Rattle.gabc_places.specs.declared.code.Code.TheVariants.{E1, E6, W8, W10}
 use Rattle.gabc_places.specs.declared.place.Char.{Char}
@@ -9,7 +10,6 @@ use Rattle.gabc_places.specs.StageLaw.{concat_of}
 use Rattle.gabc_places.specs.Place.{next_place, place_past, placed_characters_from}
 use Rattle.gabc_patterns.specs.Derivative.{is_snippet}
 use Rattle.gabc_patterns.specs.Function.{trim}
-use Rattle.gabc_patterns.proofs.BothOfTwoTests.{and_true, or_true}
 use Rattle.gabc_notes.specs.Table.{gabc}
 use Rattle.gabc_notes.specs.Events.{Point, in_raw, kept, is_comment, is_end, is_over, is_fused, is_unpaired, is_missing, opener, item_at, macro_of, bytes_of, finding_event, end_by_mark, warnings, at_end, events_at, cut_events, note_events, note_events_after}
 use Rattle.gabc_notes.specs.SnippetRead.{findings_of, ends_of, end_by}
@@ -129,21 +129,21 @@ mark_is split c h = go (c == 124) refl
     go : (b : Bool) → (c == 124) ≡ b → IsMarkOf split (cond b Next Close) c
     go true e = (
       eqb-true c 124 e,
-      elim (or_true (c == 41) (split && (c == 124)) h) [
+      elim (or_cases (c == 41) (split && (c == 124)) h) [
         | inl d ↦ absurd (let f = eqb-true c 41 d in let g = eqb-true c 124 e in omega arith)
-        | inr d ↦ (and_true split (c == 124) d).0
+        | inr d ↦ (and_parts split (c == 124) d).0
       ],
     )
-    go false e = elim (or_true (c == 41) (split && (c == 124)) h) [
+    go false e = elim (or_cases (c == 41) (split && (c == 124)) h) [
       | inl d ↦ eqb-true c 41 d
-      | inr d ↦ absurd (let f = sym e ∙ (and_true split (c == 124) d).1 in cc)
+      | inr d ↦ absurd (let f = sym e ∙ (and_parts split (c == 124) d).1 in cc)
     ]
 
 end_marked : (split : Bool) (back : List Char) (x : Char) → is_end split (point back x) ≡ true → EndWithMark split x.c (at_end (point back x))
 end_marked split back x e = go (is_snippet gabc (kept back)) (is_fused back)
   where
     mark : IsMarkOf split (end_by_mark x.c) x.c
-    mark = mark_is split x.c (and_true (not (in_raw (kept back))) ((x.c == 41) || (split && (x.c == 124))) (and_true (not (is_comment (point back x))) _ e).1).1
+    mark = mark_is split x.c (and_parts (not (in_raw (kept back))) ((x.c == 41) || (split && (x.c == 124))) (and_parts (not (is_comment (point back x))) _ e).1).1
 
     go : (a b : Bool) → EndWithMark split x.c (cond a [] (finding_event x.place E6 ∷ []) ++ (cond b (finding_event x.place W10 ∷ []) [] ++ Ended (end_by_mark x.c) (bytes_of (trim gabc (kept back))) ∷ []))
     go true true = record { before = finding_event x.place W10 ∷ []; how = end_by_mark x.c; bytes = bytes_of (trim gabc (kept back)); cut = refl; endless = refl; mark = mark }

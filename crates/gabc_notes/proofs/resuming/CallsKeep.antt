@@ -1,5 +1,6 @@
 -- What the calls of a stage do to the text that it keeps.
 use Rattle.std.proofs.Common.{◌≡◌, ◌==◌, ◌&&◌, List, [], ◌∷◌, Bool, true, false, Option, Some, None, length, drop, refl, sym, ap, ◌∙◌, subst}
+use Rattle.std.proofs.Math.Bool.{and-false}
 use Rattle.std.proofs.Math.Seq.{drop-append_seam}
 use Rattle.gabc_places.specs.BoundedList.{BoundedList}
 use Rattle.gabc_places.specs.StageLaw.{Pushes}
@@ -34,12 +35,8 @@ read_state s next x o facts role on eo ef er e =
 pub short_state : (s : NoteStage) (x : Char) (z : ItemState) → s.ended ≡ false → s.before.comment ≡ false → IsShortStep s.state x.c z → stage_kept s z x ≡ stage_after_one s x
 short_state s x z on no_comment step = sym (goes_after s x on ∙ same)
   where
-    never : (b : Bool) → (b && false) ≡ false
-    never true = refl
-    never false = refl
-
     same : stage_after s (role_of s x.c) (facts_of s x.c) (next_of s x.c) x ≡ stage_kept s z x
-    same = rw (step.step, no_comment, step.outside, step.closes_no_notes, step.ends_no_snippet, never s.split, step.begins_no_comment) refl
+    same = rw (step.step, no_comment, step.outside, step.closes_no_notes, step.ends_no_snippet, and-false s.split, step.begins_no_comment) refl
 
 -- the one inside raw
 pub inside_state : (s : NoteStage) (x : Char) → s.ended ≡ false → s.before.comment ≡ false → raw_state s.state ≡ true → (x.c == 93) ≡ false → stage_kept s s.state x ≡ stage_after_one s x

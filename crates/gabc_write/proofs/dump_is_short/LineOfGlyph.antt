@@ -14,9 +14,8 @@ use Rattle.gabc_neumes.specs.declared.glyph.GlyphKind.{GlyphKind}
 use Rattle.gabc_patterns.specs.Derivative.{rows_run, end_kind}
 use Rattle.gabc_patterns.specs.Pattern.{Pattern, Spells, never, nothing, one_of, any_but, ◌·◌, ◌or◌, many}
 use Rattle.gabc_patterns.specs.LongestItems.{Table, IsItemOf}
-use Rattle.gabc_patterns.proofs.BothOfTwoTests.{and_true}
 use Rattle.gabc_patterns.proofs.RowsRun.{item_at_end}
-use Rattle.std.proofs.lemmas.Bool.{leb-true}
+use Rattle.std.proofs.lemmas.Bool.{leb-true, and_parts}
 use Rattle.std.proofs.Math.Nat.{min-le_left, min-le_right}
 use Rattle.gabc_neumes.proofs.glyphs_of_notes.LettersOfNotes.{many as letters_count}
 use Rattle.gabc_write.specs.DumpOfNotes.{line_of_glyph}
@@ -53,9 +52,9 @@ word_by_rows : (rows : Table GlyphKind) (k : GlyphKind) (t : List ℕ) → are_s
 unfolding are_short
 word_by_rows [] k t e i = absurd i
 word_by_rows (row ∷ rows) k t e (inl (same, s)) =
-    let short = leb-true (length (kind_word row.0)) (9 * least row.1 + 9) (and_true _ _ e).0 in
+    let short = leb-true (length (kind_word row.0)) (9 * least row.1 + 9) (and_parts _ _ e).0 in
     omega (arith, short, least_of row.1 t s, ap (λ (x : GlyphKind). length (kind_word x)) same)
-word_by_rows (row ∷ rows) k t e (inr i) = word_by_rows rows k t (and_true _ _ e).1 i
+word_by_rows (row ∷ rows) k t e (inr i) = word_by_rows rows k t (and_parts _ _ e).1 i
 
 all_short : are_short neumes ≡ true
 unfolding are_short least

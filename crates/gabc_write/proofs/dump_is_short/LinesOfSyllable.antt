@@ -2,7 +2,7 @@
 use Rattle.std.proofs.Common.{◌≡◌, ℕ, ◌+◌, ◌*◌, ◌-◌, ◌≤◌, ◌<◌, ◌^◌, ◌&&◌, ◌==◌, List, [], ◌∷◌, ◌++◌, Bool, true, false, cond, nat_le, Option, Some, None, length, length-append, length-take, length-drop, drop, codes, arith, refl, IsUtf8, if◌then◌else◌}
 use Rattle.std.specs.List.{All}
 use Rattle.std.specs.Fmt.{decimal}
-use Rattle.std.proofs.lemmas.Bool.{leb-true}
+use Rattle.std.proofs.lemmas.Bool.{leb-true, and_parts}
 use Rattle.std.proofs.lemmas.Fmt.{length-decimal-le}
 use Rattle.std.proofs.lemmas.List.Elements.{All-head, All-tail}
 use Rattle.std.proofs.lemmas.Str.{IsUtf8-between}
@@ -15,7 +15,6 @@ use Rattle.gabc_score.specs.Syllable.{PlacedSyllable, is_seam, slice, text_at}
 use Rattle.gabc_score.specs.declared.snippets.Snippet.{Snippet}
 use Rattle.gabc_score.specs.declared.syllable.Position.{Position}
 use Rattle.gabc_score.specs.declared.syllable.Position.TheVariants.{One, Beginning, Middle, End}
-use Rattle.gabc_patterns.proofs.BothOfTwoTests.{and_true}
 use Rattle.gabc_write.specs.DumpOfNotes.{lines_of_notes}
 use Rattle.gabc_write.specs.DumpOfNabc.{lines_of_nabc}
 use Rattle.gabc_write.specs.DumpOfSyllables.{position_word, first_line, line_of_text, line_of_translation, first_steps, steps_of_snippet, lines_of_snippet, lines_of_snippets, lines_of_syllable}
@@ -32,9 +31,9 @@ text_short span bytes u = by (nat_le span.from span.to && (nat_le span.to (lengt
     by : (b : Bool) → (nat_le span.from span.to && (nat_le span.to (length bytes) && (is_seam (drop span.from bytes) && is_seam (drop span.to bytes)))) ≡ b
         → IsUtf8 (cond b (slice span bytes) []) × (length (cond b (slice span bytes) []) ≤ length (slice span bytes))
     by true e =
-        let x = and_true _ _ e in
-        let y = and_true _ _ x.1 in
-        let z = and_true _ _ y.1 in
+        let x = and_parts _ _ e in
+        let y = and_parts _ _ x.1 in
+        let z = and_parts _ _ y.1 in
         let order = leb-true span.from span.to x.0 in
         let within = leb-true span.to (length bytes) y.0 in
         (IsUtf8-between bytes span.from span.to u order (seam_boundary bytes span.from (omega arith) z.0) (seam_boundary bytes span.to within z.1), omega arith)

@@ -1,6 +1,6 @@
 -- The dump of a syllable without notes is shorter: at most 2 bytes for each byte of its canonical text, and 128.
 use Rattle.std.proofs.Common.{◌≡◌, ℕ, ◌+◌, ◌*◌, ◌-◌, ◌≤◌, ◌<◌, ◌^◌, ◌&&◌, ◌==◌, List, [], ◌∷◌, ◌++◌, Bool, true, false, cond, nat_le, Option, Some, None, length, length-append, take, drop, codes, arith, refl, ap, sym, subst, ◌∙◌, if◌then◌else◌}
-use Rattle.std.proofs.lemmas.Bool.{eqb-true}
+use Rattle.std.proofs.lemmas.Bool.{eqb-true, and_parts}
 use Rattle.gabc_places.specs.declared.place.Span.{Span}
 use Rattle.gabc_neumes.specs.InForce.{InForce, passed}
 use Rattle.gabc_text.specs.Canonical.{canonical_text}
@@ -8,7 +8,6 @@ use Rattle.gabc_score.specs.Canonical.{translation_text, with_bars, canonical, s
 use Rattle.gabc_score.specs.NoNotes.{are_no_notes, has_no_notes}
 use Rattle.gabc_score.specs.Syllable.{PlacedSyllable, is_seam, slice, text_at}
 use Rattle.gabc_score.specs.declared.snippets.Snippet.{Snippet}
-use Rattle.gabc_patterns.proofs.BothOfTwoTests.{and_true}
 use Rattle.gabc_write.specs.DumpOfNotes.{lines_of_notes}
 use Rattle.gabc_write.specs.DumpOfNabc.{lines_of_nabc}
 use Rattle.gabc_write.specs.DumpOfSyllables.{first_line, line_of_text, line_of_translation, first_steps, lines_of_snippets, lines_of_syllable}
@@ -39,7 +38,7 @@ no_notes_short outset = omega (arith, notes_short outset [] ([], (refl, refl)) (
 snippets_short : (outset : InForce) (kept : List ℕ) (snippets : List Snippet) → are_no_notes snippets ≡ true → length (lines_of_snippets outset kept snippets) ≤ 7
 snippets_short outset kept [] none = absurd (cc)
 snippets_short outset kept (s ∷ []) none =
-    let both = and_true (s.line == 0) (s.span.from == s.span.to) none in
+    let both = and_parts (s.line == 0) (s.span.from == s.span.to) none in
     let empty = empty_text s.span kept (eqb-true s.span.from s.span.to both.1) in
     omega (arith, length-append (if s.line == 0 then lines_of_notes outset (text_at s.span kept) else lines_of_nabc s.line (text_at s.span kept)) [], by (s.line == 0) both.0 empty)
   where
