@@ -5,7 +5,7 @@ use Rattle.gabc_notes.specs.Items.{AreWithin}
 use Rattle.gabc_notes.specs.declared.item.Item.{Item}
 use Rattle.gabc_notes.specs.declared.note.Note.{Note}
 use Rattle.gabc_neumes.specs.Elements.{is_in_segment, notes_in}
-use Rattle.gabc_neumes.proofs.glyphs_of_notes.SearchOfGlyph.{Searched, fresh, searched_start, searched_with, searched_stops, searched_end, search_grows, found_of}
+use Rattle.gabc_neumes.proofs.glyphs_of_notes.SearchOfGlyph.{Searched, fresh, searched_start, searched_with, searched_stops, searched_end, search_grows, IsFound, found_of}
 use Rattle.gabc_neumes.proofs.runs_of_items.NotesAmongItems.{ahead_end, ahead_note, ahead_none}
 use Rattle.gabc_neumes.proofs.glyphs.glyph_from.Goals as goal
 
@@ -31,23 +31,21 @@ loop-item-init c =
       within = subst (AreWithin c.args.kept.now) (sym same) c.requires.within;
     }
 
-pub returns-then-not-is_in_segment-clause-glyph : goal.returns-then-not-is_in_segment-clause-glyph
-returns-then-not-is_in_segment-clause-glyph c =
+-- what is found where an item ends the segment
+found_before : (c : goal.Then-not-is_in_segment) → IsFound (c.args.first ∷ ahead c.args.kept.now c.args.later.now) c.loop-item.search.best
+found_before c =
     let kept = c.args.kept.now in
     let ns : List Note = c.args.first ∷ ahead kept c.args.later.now in
     let out : is_in_segment c.in-Some.item ≡ false = cc (c.is_in_segment.ensures, c.if-not-is_in_segment.true) in
     let none : ahead kept c.loop-item.item-iterator ≡ [] = ap (ahead kept) c.in-Some.ensures.steps ∙ ahead_end kept c.in-Some.item c.next.new.self out in
-    (found_of c.args.first (ahead kept c.args.later.now) c.loop-item.search.best
-    (searched_end ns c.loop-item.search (subst (λ (l : List Note). Searched ns l c.loop-item.search) none c.loop-item.invariant.searched))).glyph
+    found_of c.args.first (ahead kept c.args.later.now) c.loop-item.search.best
+    (searched_end ns c.loop-item.search (subst (λ (l : List Note). Searched ns l c.loop-item.search) none c.loop-item.invariant.searched))
+
+pub returns-then-not-is_in_segment-clause-glyph : goal.returns-then-not-is_in_segment-clause-glyph
+returns-then-not-is_in_segment-clause-glyph c = (found_before c).glyph
 
 pub returns-then-not-is_in_segment-clause-some : goal.returns-then-not-is_in_segment-clause-some
-returns-then-not-is_in_segment-clause-some c =
-    let kept = c.args.kept.now in
-    let ns : List Note = c.args.first ∷ ahead kept c.args.later.now in
-    let out : is_in_segment c.in-Some.item ≡ false = cc (c.is_in_segment.ensures, c.if-not-is_in_segment.true) in
-    let none : ahead kept c.loop-item.item-iterator ≡ [] = ap (ahead kept) c.in-Some.ensures.steps ∙ ahead_end kept c.in-Some.item c.next.new.self out in
-    (found_of c.args.first (ahead kept c.args.later.now) c.loop-item.search.best
-    (searched_end ns c.loop-item.search (subst (λ (l : List Note). Searched ns l c.loop-item.search) none c.loop-item.invariant.searched))).some
+returns-then-not-is_in_segment-clause-some c = (found_before c).some
 
 pub loop-item-preserved-in-Some-with : goal.loop-item-preserved-in-Some-with
 loop-item-preserved-in-Some-with c =
@@ -67,27 +65,23 @@ loop-item-preserved-in-Some-with c =
       within = rest_within kept c.loop-item.item-iterator c.next.new.self c.in-Some.item c.in-Some.ensures.steps c.loop-item.invariant.within;
     }
 
-pub returns-in-None-with-clause-glyph : goal.returns-in-None-with-clause-glyph
-returns-in-None-with-clause-glyph c =
+-- what is found where no glyph goes on with a note
+found_so_far : (c : goal.In-None-with) → IsFound (c.args.first ∷ ahead c.args.kept.now c.args.later.now) c.loop-item.search.best
+found_so_far c =
     let kept = c.args.kept.now in
     let ns : List Note = c.args.first ∷ ahead kept c.args.later.now in
     let joins : is_in_segment c.in-Some.item ≡ true = cc (c.is_in_segment.ensures, c.if-not-is_in_segment.false) in
     let next : ahead kept c.loop-item.item-iterator ≡ c.in-Some-note_of.note ∷ ahead kept c.next.new.self =
     ap (ahead kept) c.in-Some.ensures.steps ∙ ahead_note kept c.in-Some.item c.next.new.self c.in-Some-note_of.note joins (sym c.note_of.ensures ∙ c.in-Some-note_of.is) in
-    (found_of c.args.first (ahead kept c.args.later.now) c.loop-item.search.best
+    found_of c.args.first (ahead kept c.args.later.now) c.loop-item.search.best
     (searched_stops ns (ahead kept c.next.new.self) c.in-Some-note_of.note c.loop-item.search
-    (subst (λ (l : List Note). Searched ns l c.loop-item.search) next c.loop-item.invariant.searched) (sym c.with-in-Some-note_of.ensures ∙ c.in-None-with.is))).glyph
+    (subst (λ (l : List Note). Searched ns l c.loop-item.search) next c.loop-item.invariant.searched) (sym c.with-in-Some-note_of.ensures ∙ c.in-None-with.is))
+
+pub returns-in-None-with-clause-glyph : goal.returns-in-None-with-clause-glyph
+returns-in-None-with-clause-glyph c = (found_so_far c).glyph
 
 pub returns-in-None-with-clause-some : goal.returns-in-None-with-clause-some
-returns-in-None-with-clause-some c =
-    let kept = c.args.kept.now in
-    let ns : List Note = c.args.first ∷ ahead kept c.args.later.now in
-    let joins : is_in_segment c.in-Some.item ≡ true = cc (c.is_in_segment.ensures, c.if-not-is_in_segment.false) in
-    let next : ahead kept c.loop-item.item-iterator ≡ c.in-Some-note_of.note ∷ ahead kept c.next.new.self =
-    ap (ahead kept) c.in-Some.ensures.steps ∙ ahead_note kept c.in-Some.item c.next.new.self c.in-Some-note_of.note joins (sym c.note_of.ensures ∙ c.in-Some-note_of.is) in
-    (found_of c.args.first (ahead kept c.args.later.now) c.loop-item.search.best
-    (searched_stops ns (ahead kept c.next.new.self) c.in-Some-note_of.note c.loop-item.search
-    (subst (λ (l : List Note). Searched ns l c.loop-item.search) next c.loop-item.invariant.searched) (sym c.with-in-Some-note_of.ensures ∙ c.in-None-with.is))).some
+returns-in-None-with-clause-some c = (found_so_far c).some
 
 pub loop-item-preserved : goal.loop-item-preserved
 loop-item-preserved c =
