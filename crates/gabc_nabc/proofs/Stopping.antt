@@ -1,14 +1,14 @@
 -- After an end that a stage emits, it emits nothing.
 use Rattle.std.proofs.Common.{◌≡◌, List, [], ◌∷◌, ◌++◌, Bool, true, false, cond, refl, ap, ◌∙◌, ℕ, Option, Some, None, option_to_list, arith}
 use Rattle.std.specs.List.{list_any}
-use Rattle.gabc_places.specs.declared.code.Code.TheVariants.{E6, W7}
+use Rattle.gabc_places.specs.declared.code.Code.TheVariants.{E6}
 use Rattle.gabc_places.specs.declared.place.Char.{Char}
 use Rattle.gabc_places.specs.BoundedList.{BoundedList, extended_by}
 use Rattle.gabc_places.specs.StageLaw.{concat_of, EmitsNothing, StopsAtEnd}
 use Rattle.gabc_notes.specs.Ends.{is_ended}
 use Rattle.gabc_notes.specs.declared.stage.NoteEnd.TheVariants.{Cut}
 use Rattle.gabc_notes.specs.declared.stage.NoteEvent.{NoteEvent}
-use Rattle.gabc_notes.specs.declared.stage.NoteEvent.TheVariants.{Kept, Ended}
+use Rattle.gabc_notes.specs.declared.stage.NoteEvent.TheVariants.{Ended}
 use Rattle.gabc_places.proofs.NothingAfterAnEnd.{stops-endless, stops-last}
 use Rattle.gabc_nabc.specs.witness.DescriptorMachine.{events_in, event_list, role_at, facts_at, next_at, stage_events_at, stage_after, stage_moved_on, events_of_cut, events_left}
 use Rattle.gabc_notes.specs.Events.{finding_event, end_by_mark}

@@ -1,9 +1,9 @@
 -- After an end that a stage emits, it emits nothing.
-use Rattle.std.proofs.Common.{◌≡◌, List, [], ◌∷◌, ◌++◌, Bool, true, false, cond, not, ◌&&◌, ◌||◌, ◌==◌, ℕ, refl, sym, ap, ◌∙◌, Option, Some, None, append_assoc, option_to_list, arith}
+use Rattle.std.proofs.Common.{◌≡◌, List, [], ◌∷◌, ◌++◌, Bool, true, false, cond, ◌||◌, ℕ, refl, sym, ap, ◌∙◌, Option, Some, None, append_assoc, option_to_list, arith}
 use Rattle.std.specs.List.{list_any}
 use Rattle.std.proofs.lemmas.List.Folds.{list_any-append}
 use Rattle.gabc_places.specs.declared.code.Code.{Code}
-use Rattle.gabc_places.specs.declared.code.Code.TheVariants.{E6, W8, W10}
+use Rattle.gabc_places.specs.declared.code.Code.TheVariants.{E6, W10}
 use Rattle.gabc_places.specs.declared.place.Char.{Char}
 use Rattle.gabc_places.specs.declared.place.Place.{Place}
 use Rattle.gabc_places.specs.BoundedList.{BoundedList, extended_by}
@@ -13,7 +13,7 @@ use Rattle.gabc_notes.specs.Ends.{is_ended}
 use Rattle.gabc_notes.specs.machine.ItemMachine.{stage_after}
 use Rattle.gabc_notes.specs.machine.StageAfter.{next_of, facts_of, role_of, stage_after_one}
 use Rattle.gabc_notes.specs.witness.ItemMachine.{events_left}
-use Rattle.gabc_notes.specs.Events.{finding_event, end_by_mark, is_missing}
+use Rattle.gabc_notes.specs.Events.{finding_event, end_by_mark}
 use Rattle.gabc_notes.specs.witness.StageEvents.{events_in, event_list}
 use Rattle.gabc_notes.specs.declared.stage.Before.{Before}
 use Rattle.gabc_notes.specs.witness.StageEvents.{CharEvents}

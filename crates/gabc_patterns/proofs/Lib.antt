@@ -9,6 +9,7 @@ pub mod ItemHere
 pub mod ItemList
 pub mod ItemSoFar
 pub mod ItemsAsFarAsOneBegins
+pub mod ItemsByBytes
 pub mod ItemsByLetters
 pub mod ItemsFunctionReads
 pub mod ItemsOneByOne

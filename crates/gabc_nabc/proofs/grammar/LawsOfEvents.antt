@@ -25,7 +25,7 @@ use Rattle.gabc_notes.specs.Events.{finding_event, end_by_mark}
 use Rattle.gabc_notes.specs.SnippetRead.{ends_of, kept_of as kept_in}
 use Rattle.gabc_nabc.specs.SnippetRead.{before_end_after, before_end, from_end, kept_before, end_before}
 use Rattle.gabc_nabc.specs.declared.state.DescriptorState.{DescriptorState}
-use Rattle.gabc_nabc.specs.declared.state.DescriptorState.TheVariants.{Start, CodeL, CodeP, CodeS, Code, Glyph, Modified, GlyphH, Pitched, Joined, TailL, TailP, TailS, Points, PointsLetter, Letters, LettersMore, Counted, CountedH, Tail, Slash, Tick, Space}
+use Rattle.gabc_nabc.specs.declared.state.DescriptorState.TheVariants.{Start, CodeL, CodeP, CodeS, Code, GlyphH, Joined, TailL, TailP, TailS, Points, PointsLetter, Letters, LettersMore, CountedH}
 use Rattle.gabc_nabc.proofs.machine.MachineReadsTable.{machine, snippets_read, items_read}
 use Rattle.gabc_nabc.proofs.machine.TextWithACharacterMore.{end_more, kept_more, kept_same}
 

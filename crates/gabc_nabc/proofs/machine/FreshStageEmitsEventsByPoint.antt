@@ -22,7 +22,7 @@ use Rattle.gabc_notes.specs.declared.stage.NoteEvent.{NoteEvent}
 use Rattle.gabc_notes.specs.declared.stage.NoteEvent.TheVariants.{Kept, Ended}
 use Rattle.gabc_nabc.specs.declared.stage.NabcStage.{NabcStage}
 use Rattle.gabc_nabc.specs.declared.state.DescriptorState.{DescriptorState}
-use Rattle.gabc_nabc.specs.declared.state.DescriptorState.TheVariants.{Start, CodeL, CodeP, CodeS, Code, Glyph, Modified, GlyphH, Pitched, Joined, TailL, TailP, TailS, Points, PointsLetter, Letters, LettersMore, Counted, CountedH, Tail, Slash, Tick, Space}
+use Rattle.gabc_nabc.specs.declared.state.DescriptorState.TheVariants.{Start, Joined}
 use Rattle.gabc_nabc.proofs.machine.MachineReadsTable.{machine, snippets_read, far}
 use Rattle.gabc_nabc.proofs.machine.TextWithACharacterMore.{comment_more, end_more, kept_more, kept_same, trim_more, last_is, before_last_is, bytes_more}
 

@@ -7,7 +7,7 @@ use Rattle.gabc_nabc.specs.witness.DescriptorMachine.{going_on, next_state, whol
 use Rattle.gabc_nabc.specs.machine.DescriptorMachine.{is_space_at_end, example}
 use Rattle.gabc_nabc.specs.declared.class.NabcClass.{NabcClass}
 use Rattle.gabc_nabc.specs.declared.state.DescriptorState.{DescriptorState}
-use Rattle.gabc_nabc.specs.declared.state.DescriptorState.TheVariants.{Start, CodeL, CodeP, CodeS, Code, Glyph, Modified, GlyphH, Pitched, Joined, TailL, TailP, TailS, Points, PointsLetter, Letters, LettersMore, Counted, CountedH, Tail, Slash, Tick, Space}
+use Rattle.gabc_nabc.specs.declared.state.DescriptorState.TheVariants.{Start}
 use Rattle.gabc_patterns.proofs.AutomatonsByTests.{Automaton, ReadsSnippets, ReadsItems, alike, alike_equal, test_snippets, test_items}
 use Rattle.gabc_patterns.proofs.TestedAutomatonReads.{reads_snippets, reads_items}
 

@@ -1,18 +1,18 @@
 -- The parts of a text one after the other, by their bytes.
 use Rattle.std.specs.Prelude.{Bool}
-use Rattle.std.proofs.Common.{◌≡◌, ℕ, zero, suc, List, [], ◌∷◌, ◌++◌, refl, sym, ap, ◌∙◌, subst, Option, Some, None, take, drop, length, ◌≤◌, ◌<◌, ◌+◌, arith, length-append, take-append-drop, IsUtf8}
+use Rattle.std.proofs.Common.{◌≡◌, ℕ, List, ◌∷◌, ◌++◌, refl, sym, ap, ◌∙◌, subst, Option, Some, None, take, drop, length, ◌≤◌, ◌<◌, ◌+◌, arith, length-append, take-append-drop, IsUtf8}
 use Rattle.std.specs.Str.{chars}
 use Rattle.std.proofs.lemmas.List.{length-take-le}
 use Rattle.std.proofs.lemmas.Str.{encodes-append, encodes-chars, scalars-chars, chars-encodes, length-le-encodes}
 use Rattle.std.proofs.Math.Seq.{drop-append_seam}
 use lib.Utf8.{encodes, scalars}
 use Rattle.gabc_places.proofs.texts.CharactersOfStrings.{scalars_split}
-use Rattle.gabc_patterns.specs.Function.{longest_item, items, items_within}
+use Rattle.gabc_patterns.specs.Function.{longest_item, items}
 use Rattle.gabc_patterns.proofs.ItemSoFar.{IsBest}
 use Rattle.gabc_patterns.proofs.ItemsFunctionReads.{longest_item_best}
 use Rattle.gabc_patterns.proofs.ItemsOneByOne.{items_more}
 use Rattle.gabc_nabc.specs.Table.{nabc}
-use Rattle.gabc_nabc.specs.Parts.{placed_parts, parts_of}
+use Rattle.gabc_nabc.specs.Parts.{placed_parts}
 use Rattle.gabc_nabc.specs.machine.Parts.{in_bytes, first_part_of}
 use Rattle.gabc_nabc.specs.declared.descriptor.Descriptor.{Descriptor}
 
@@ -52,24 +52,3 @@ after_first text at i u e = go (longest_item nabc (chars text)) (longest_item_be
           parts = ap (placed_parts at) (items_more nabc t k n f)
               ∙ ap (λ (r : List ℕ). part_at at (k, length (encodes a)) ∷ placed_parts (at + length (encodes a)) (items nabc r)) (sym later);
         })
-
--- ---- they are few
-
-as_many : (at : ℕ) (is : List (Bool × List ℕ)) → length (placed_parts at is) ≡ length is
-as_many at [] = refl
-as_many at (i ∷ is) = ap suc (as_many (at + length (encodes i.1)) is)
-
-at_most : (n : ℕ) (t : List ℕ) → length (items_within nabc n t) ≤ n
-at_most zero t = omega arith
-at_most (suc n) t = go (longest_item nabc t) (λ u. at_most n u)
-  where
-    go : (o : Option (Bool × ℕ)) → ((u : List ℕ) → length (items_within nabc n u) ≤ n)
-        → length (elim o as (λ _. List (Bool × List ℕ)) [ None ↦ [] | Some i ↦ (i.0, take i.1 t) ∷ items_within nabc n (drop i.1 t) ]) ≤ suc n
-    go None F = omega arith
-    go (Some i) F = let few = F (drop i.1 t) in omega arith
-
-pub parts_few : (bytes : List ℕ) → IsUtf8 bytes → length (parts_of bytes) ≤ length bytes
-parts_few bytes u =
-    let few = at_most (length (chars bytes)) (chars bytes) in
-    let whole = ap (length {A = ℕ}) (encodes-chars bytes u) in
-    omega (arith, as_many 0 (items nabc (chars bytes)), few, length-le-encodes (chars bytes), whole)

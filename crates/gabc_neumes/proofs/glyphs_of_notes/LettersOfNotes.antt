@@ -1,5 +1,5 @@
 -- The letters of notes one after the other.
-use Rattle.std.proofs.Common.{◌≡◌, ℕ, zero, suc, List, [], ◌∷◌, ◌++◌, refl, ap, Bool, true, false, if◌then◌else◌, Option, Some, None, take, length, get_or, ◌<◌, ◌+◌, nat_lt, arith, sym, ◌∙◌}
+use Rattle.std.proofs.Common.{◌≡◌, ℕ, zero, suc, List, [], ◌∷◌, ◌++◌, refl, ap, Bool, if◌then◌else◌, Option, Some, None, take, length, get_or, ◌<◌, ◌+◌, nat_lt, arith, sym, ◌∙◌}
 use Rattle.std.proofs.lemmas.List.{take_more}
 use Rattle.gabc_notes.specs.declared.note.Note.{Note}
 use Rattle.gabc_notes.specs.declared.note.Shape.{Shape}

@@ -16,7 +16,7 @@ use Rattle.gabc_neumes.specs.declared.glyph.GlyphKind.{GlyphKind}
 use Rattle.gabc_neumes.specs.declared.state.NoteClass.{NoteClass}
 use Rattle.gabc_neumes.specs.declared.state.JoinedBase.TheVariants as joined
 use Rattle.gabc_neumes.specs.declared.state.GlyphState.{GlyphState}
-use Rattle.gabc_neumes.specs.declared.state.GlyphState.TheVariants.{Start, One, Plain, Falling, Half, Climacus, Resumed, ResumedClimacus}
+use Rattle.gabc_neumes.specs.declared.state.GlyphState.TheVariants.{Start, One, Plain, Falling, Resumed}
 use Rattle.gabc_patterns.specs.LongestItems.{OneKind}
 use Rattle.gabc_patterns.proofs.AutomatonsByTests.{Automaton, ReadsItems, rows_of, test_items}
 use Rattle.gabc_patterns.proofs.RowsRun.{ends_once}

@@ -6,9 +6,9 @@ use Rattle.gabc_neumes.specs.Glyphs.{HasKind}
 use Rattle.gabc_neumes.specs.machine.GlyphMachine.{class_at, next_state, kind_at_end}
 use Rattle.gabc_neumes.specs.declared.glyph.GlyphKind.{GlyphKind}
 use Rattle.gabc_neumes.specs.declared.state.NoteClass.{NoteClass}
-use Rattle.gabc_neumes.specs.declared.state.NoteClass.TheVariants.{First, Up, Down, Level, PointUp, PointDown, PointLevel, Other}
+use Rattle.gabc_neumes.specs.declared.state.NoteClass.TheVariants.{First, PointDown}
 use Rattle.gabc_neumes.specs.declared.state.GlyphState.{GlyphState}
-use Rattle.gabc_neumes.specs.declared.state.GlyphState.TheVariants.{Start, One, Plain, Falling, Half, Climacus, Resumed, ResumedClimacus}
+use Rattle.gabc_neumes.specs.declared.state.GlyphState.TheVariants.{Start, One, Half, Climacus}
 use Rattle.gabc_neumes.proofs.glyphs_of_notes.FirstGlyphByStates.{kind_of_one, one_ends}
 use Rattle.gabc_neumes.proofs.glyphs_of_notes.KindByStates.{KindSoFar, far_first, far_more, far_stops, far_end}
 

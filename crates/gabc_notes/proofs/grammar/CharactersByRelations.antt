@@ -17,7 +17,7 @@ use Rattle.gabc_notes.specs.Table.{gabc}
 use Rattle.gabc_notes.specs.Raw.{IsOpen}
 use Rattle.gabc_notes.specs.Events.{ItemText, in_raw, outside_comments, with_comments, kept, is_comment, is_in_raw, kept_with, is_kept, last_of, last_item, item_at, opens_fusion, closes_fusion, is_fused, opener}
 use Rattle.gabc_notes.specs.NotesRead.{Marked, outside, IsKeptOf, IsInRaw, IsInComment, AreMarked, IsKeptWith, EndsItem, IsFused, IsKeptOutside, IsOpener}
-use Rattle.gabc_notes.specs.declared.item.ItemKind.TheVariants.{Note, Alteration, Clef, Bar, Spacing, Custos, Break, Attribute, Fusion}
+use Rattle.gabc_notes.specs.declared.item.ItemKind.TheVariants.{Fusion}
 use Rattle.gabc_notes.proofs.grammar.LawsOfEventsByPoint.{comment_decides}
 use Rattle.gabc_notes.proofs.grammar.OpenBracketByLastItem.{open_decides}
 use Rattle.gabc_notes.proofs.items_of_text.ItemAtCharacter.{last_item_is}

@@ -12,7 +12,7 @@ use Rattle.gabc_notes.specs.FoundAt.{AreThoseFound}
 use Rattle.gabc_notes.specs.SnippetRead.{findings_of}
 use Rattle.gabc_notes.specs.NotesRead.{Marked, EndsItem, IsFused, IsFound, AreFound}
 use Rattle.gabc_notes.specs.declared.item.ItemKind.{ItemKind}
-use Rattle.gabc_notes.specs.declared.item.ItemKind.TheVariants.{Note, Alteration, Clef, Bar, Spacing, Custos, Break, Attribute, Fusion}
+use Rattle.gabc_notes.specs.declared.item.ItemKind.TheVariants.{Note, Attribute, Fusion}
 use Rattle.gabc_notes.specs.declared.stage.NoteEvent.{NoteEvent}
 use Rattle.gabc_notes.specs.declared.stage.NoteEvent.TheVariants.{Kept}
 use Rattle.gabc_notes.proofs.FoundOnce.{same_finding, found_once}

@@ -12,8 +12,8 @@ use Rattle.gabc_notes.specs.Table.{gabc}
 use Rattle.gabc_notes.specs.Events.{in_raw}
 use Rattle.gabc_notes.specs.declared.item.ItemKind.{ItemKind}
 use Rattle.gabc_notes.specs.declared.state.ItemState.{ItemState}
-use Rattle.gabc_notes.specs.declared.state.ItemState.TheVariants.{Start, Dash, DashPitch, Body, Pitch, ClefPitch, ClefFlat, Clef as ClefS, Join, JoinPitch, JoinFlat, Altered, Sharp, Bar as BarS, Colon, BarAsked, BarSigned, Slash, Blanks, SmallZ, CapitalZ, Raw, SlashRaw, At, Done}
-use Rattle.gabc_notes.specs.declared.state.FullItem.TheVariants.{Alteration as FullAlteration, Clef as FullClef, Spacing as FullSpacing, Custos as FullCustos, Break as FullBreak, Attribute as FullAttribute, Fusion as FullFusion}
+use Rattle.gabc_notes.specs.declared.state.ItemState.TheVariants.{Start, Dash, Raw, SlashRaw, Done}
+use Rattle.gabc_notes.specs.declared.state.FullItem.TheVariants.{Alteration as FullAlteration}
 use Rattle.gabc_notes.proofs.machine.MachineReadsTable.{machine, snippets_read, items_read}
 
 -- at each state at most one kind may end

@@ -22,15 +22,13 @@ use Rattle.gabc_patterns.specs.Function.{trim}
 use Rattle.gabc_patterns.proofs.FunctionsMeetRelations.{trim_trims, trims_is, no_snippet}
 use Rattle.gabc_patterns.proofs.LongestMunchByCharacter.{snippet_from}
 use Rattle.gabc_notes.specs.Table.{gabc}
-use Rattle.gabc_notes.specs.Events.{in_raw, kept, is_comment, is_fused, opener, finding_event, end_by_mark, bytes_of, is_end, is_over, at_end, events_at, note_events_after, note_events}
+use Rattle.gabc_notes.specs.Events.{in_raw, kept, is_comment, is_fused, opener, end_by_mark, is_end, is_over, at_end, events_at, note_events_after, note_events}
 use Rattle.gabc_notes.specs.FoundAt.{AreThoseFound}
 use Rattle.gabc_notes.specs.SnippetRead.{SnippetStop, findings_of, stop_after, kept_by, index_of, ending_at, ending_by, IsComputed}
 use Rattle.gabc_notes.specs.NotesRead.{Marked, IsKeptOf, IsFused, AreFound, IsEnd, AreFoundAtEnd, IsCutAt, IsRead, IsSnippetRead}
 use Rattle.gabc_notes.specs.declared.snippet_read.SnippetEnding.TheVariants as snippet_ending
 use Rattle.gabc_notes.specs.declared.snippet_read.SnippetRead.{SnippetRead}
-use Rattle.gabc_notes.specs.declared.stage.NoteEnd.TheVariants as ending
 use Rattle.gabc_notes.specs.declared.stage.NoteEvent.{NoteEvent}
-use Rattle.gabc_notes.specs.declared.stage.NoteEvent.TheVariants.{Ended}
 use Rattle.gabc_notes.proofs.FoundOnce.{found_once}
 use Rattle.gabc_notes.proofs.grammar.CharactersByRelations.{marks, chars_of, chars_marks, marks_cut, marked_only, are_marked, remark, kept_keeps, kept_only, raw_to, raw_from, no_raw_to, no_raw_from, comment_to, comment_from, fused_to, fused_from, opener_is, opener_only}
 use Rattle.gabc_notes.proofs.grammar.LawsOfEventsByPoint.{over_joined, cut_outs, more_over}

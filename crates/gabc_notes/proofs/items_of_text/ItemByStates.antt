@@ -18,8 +18,8 @@ use Rattle.gabc_notes.specs.machine.ItemMachine.{whole_at, raw_state, attribute_
 use Rattle.gabc_notes.specs.declared.item.ItemKind.{ItemKind}
 use Rattle.gabc_notes.specs.declared.item.ItemKind.TheVariants.{Spacing, Attribute, Fusion}
 use Rattle.gabc_notes.specs.declared.state.ItemState.{ItemState}
-use Rattle.gabc_notes.specs.declared.state.ItemState.TheVariants.{Start, Dash, DashPitch, Body, Pitch, ClefPitch, ClefFlat, Clef as ClefS, Join, JoinPitch, JoinFlat, Altered, Sharp, Bar as BarS, Colon, BarAsked, BarSigned, Slash, Blanks, SmallZ, CapitalZ, Raw, SlashRaw, At, Done}
-use Rattle.gabc_notes.specs.declared.state.FullItem.TheVariants.{Alteration as FullAlteration, Clef as FullClef, Spacing as FullSpacing, Custos as FullCustos, Break as FullBreak, Attribute as FullAttribute, Fusion as FullFusion}
+use Rattle.gabc_notes.specs.declared.state.ItemState.TheVariants.{Start, Done}
+use Rattle.gabc_notes.specs.declared.state.FullItem.TheVariants.{Alteration as FullAlteration, Spacing as FullSpacing, Attribute as FullAttribute, Fusion as FullFusion}
 use Rattle.gabc_notes.proofs.machine.MachineReadsTable.{machine, snippets_read}
 use Rattle.gabc_notes.proofs.grammar.LawsOfKeptTexts.{none_empty}
 use Rattle.gabc_notes.proofs.grammar.InsideRawIsAnOpenBracket.{OpenBy, on, is_raw, step_on, open_from}

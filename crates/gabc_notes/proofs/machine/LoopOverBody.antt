@@ -6,19 +6,19 @@ use Rattle.std.specs.String.Boundary.{IsSplitPoint}
 use Rattle.std.proofs.lemmas.List.Sums.{sum_by-append, sum_by-cons}
 use Rattle.std.proofs.lemmas.List.{take_at}
 use Rattle.std.proofs.lemmas.Str.{length-encode, encodes-append, IsCharBoundary-at_seam}
-use Rattle.gabc_places.specs.declared.code.Code.TheVariants.{E1, E6, W8, W10}
+use Rattle.gabc_places.specs.declared.code.Code.TheVariants.{E1, W8, W10}
 use Rattle.gabc_places.specs.declared.code.Finding.{Finding}
 use Rattle.gabc_places.specs.declared.place.Char.{Char}
 use Rattle.gabc_places.specs.declared.place.Place.{Place}
 use Rattle.gabc_places.specs.StageLaw.{concat_of}
 use Rattle.gabc_places.specs.Place.{next_place}
-use Rattle.gabc_patterns.specs.Derivative.{is_snippet, is_viable}
+use Rattle.gabc_patterns.specs.Derivative.{is_viable}
 use Rattle.gabc_patterns.specs.Function.{trim}
 use Rattle.gabc_patterns.proofs.FunctionsMeetRelations.{trim_trims}
 use Rattle.gabc_notes.specs.Table.{gabc}
 use Rattle.gabc_notes.specs.witness.ItemMachine.{events_left}
 use Rattle.gabc_places.proofs.PushesAreOne.{joined_silence}
-use Rattle.gabc_notes.specs.Events.{in_raw, finding_event, end_by_mark, is_missing, Point, kept, is_comment, is_end, is_over, is_fused, is_unpaired, opener, item_at, macro_of, bytes_of, warnings, at_end, events_at, cut_events, note_events, note_events_after}
+use Rattle.gabc_notes.specs.Events.{in_raw, finding_event, end_by_mark, is_missing, Point, kept, is_comment, is_end, is_over, is_unpaired, opener, item_at, macro_of, bytes_of, warnings, at_end, events_at, cut_events, note_events, note_events_after}
 use Rattle.gabc_notes.specs.SnippetRead.{SnippetStop, kept_of, ends_of, findings_of, stop_after, index_of, kept_by, ending_by, ending_at}
 use Rattle.gabc_notes.specs.machine.BuiltSnippet.{BuiltSnippet, with_events, PushIsAdded, EndIsAdded}
 use Rattle.gabc_notes.specs.declared.stage.NoteEnd.{NoteEnd}

@@ -1,5 +1,5 @@
 -- The short ways of the stage do what its general way does.
-use Rattle.std.proofs.Common.{◌≡◌, ℕ, ◌+◌, ◌-◌, ◌^◌, min, List, [], ◌∷◌, ◌++◌, Bool, true, false, cond, ◌==◌, ◌&&◌, refl, sym, ap, ◌∙◌, Option, Some, None, option_to_list, arith}
+use Rattle.std.proofs.Common.{◌≡◌, ℕ, ◌+◌, ◌-◌, ◌^◌, min, List, [], ◌∷◌, ◌++◌, Bool, true, false, cond, ◌==◌, refl, sym, ap, ◌∙◌, Option, Some, None, option_to_list, arith}
 use Rattle.std.proofs.Math.Bool.{and-false, and-true}
 use Rattle.std.specs.Char.{len_utf8}
 use Rattle.gabc_places.specs.declared.place.Char.{Char}
@@ -21,7 +21,6 @@ use Rattle.gabc_notes.specs.declared.stage.NoteStage.{NoteStage}
 use Rattle.gabc_notes.specs.declared.stage.CharRole.{CharRole}
 use Rattle.gabc_notes.specs.declared.stage.CharRole.TheVariants.{Silent, Comment, Ends, Keep, LeaveOut}
 use Rattle.gabc_notes.specs.declared.state.ItemState.{ItemState}
-use Rattle.gabc_notes.specs.declared.state.ItemState.TheVariants.{Raw, SlashRaw}
 use Rattle.gabc_notes.proofs.grammar.InsideRawIsAnOpenBracket.{raw_not_whole, raw_stays}
 use Rattle.gabc_notes.proofs.machine.StageEmitsItsEvents.{push_law, push_emits}
 

@@ -1,7 +1,6 @@
 -- The stage emits what the definition says.
-use Rattle.std.proofs.Common.{◌≡◌, ℕ, List, [], ◌∷◌, ◌++◌, Bool, true, false, cond, not, ◌&&◌, ◌||◌, ◌==◌, refl, sym, ap, ◌∙◌, codes, Option, Some, None, length, ◌≤◌, arith, option_to_list}
+use Rattle.std.proofs.Common.{◌≡◌, ℕ, List, [], ◌∷◌, ◌++◌, Bool, true, false, cond, refl, sym, ap, ◌∙◌, Option, Some, None, length, ◌≤◌, arith}
 use Rattle.gabc_places.specs.declared.place.Char.{Char}
-use Rattle.gabc_patterns.specs.Pattern.{is_in}
 use Rattle.gabc_patterns.specs.Derivative.{Munch, start}
 use Rattle.gabc_patterns.proofs.StatesAfterTexts.{run-append}
 use Rattle.gabc_patterns.proofs.AutomatonsByTests.{reading, reading_of}
@@ -19,8 +18,8 @@ use Rattle.gabc_notes.specs.declared.stage.CharRole.{CharRole}
 use Rattle.gabc_notes.specs.declared.stage.CharRole.TheVariants.{Silent, Comment, Ends, Keep, LeaveOut}
 use Rattle.gabc_notes.specs.declared.stage.CharFacts.{CharFacts}
 use Rattle.gabc_notes.specs.declared.state.ItemState.{ItemState}
-use Rattle.gabc_notes.specs.declared.state.ItemState.TheVariants.{Start, Dash, DashPitch, Body, Pitch, ClefPitch, ClefFlat, Clef as ClefS, Join, JoinPitch, JoinFlat, Altered, Sharp, Bar as BarS, Colon, BarAsked, BarSigned, Slash, Blanks, SmallZ, CapitalZ, Raw, SlashRaw, At, Done}
-use Rattle.gabc_notes.specs.declared.state.FullItem.TheVariants.{Alteration as FullAlteration, Clef as FullClef, Spacing as FullSpacing, Custos as FullCustos, Break as FullBreak, Attribute as FullAttribute, Fusion as FullFusion}
+use Rattle.gabc_notes.specs.declared.state.ItemState.TheVariants.{Start, Done}
+use Rattle.gabc_notes.specs.declared.state.FullItem.TheVariants.{Alteration as FullAlteration}
 use Rattle.gabc_notes.proofs.machine.MachineReadsTable.{machine, snippets_read}
 use Rattle.gabc_notes.proofs.machine.EventsDependOnState.{at_end, raw_at, facts_at, facts_by, NameAlike, events_alike}
 use Rattle.gabc_places.specs.BoundedList.{BoundedList, extended_by}

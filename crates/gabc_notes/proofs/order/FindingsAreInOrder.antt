@@ -21,14 +21,12 @@ use Rattle.gabc_notes.specs.machine.StageEvents.{nothing_before}
 use Rattle.gabc_notes.specs.witness.StageEvents.{char_facts, raw_with, before_in}
 use Rattle.gabc_notes.specs.Events.{ItemText, Point, in_raw, kept, kept_with, is_comment, is_kept, is_end, is_over, is_fused, is_unpaired, is_missing, opener, item_at, opens_fusion, closes_fusion, macro_of, bytes_of, finding_event, end_by_mark, last_of, warnings, at_end, events_at, note_events, note_events_after}
 use Rattle.gabc_notes.specs.SnippetRead.{findings_of}
-use Rattle.gabc_notes.specs.declared.item.ItemKind.TheVariants.{Attribute}
 use Rattle.gabc_notes.specs.declared.stage.Before.{Before}
 use Rattle.gabc_notes.specs.declared.stage.NoteEvent.{NoteEvent}
 use Rattle.gabc_notes.specs.declared.stage.NoteEvent.TheVariants.{Kept, Ended}
 use Rattle.gabc_notes.specs.declared.stage.CharRole.TheVariants.{Keep}
 use Rattle.gabc_notes.specs.machine.ItemMachine.{raw_state}
 use Rattle.gabc_notes.specs.declared.state.ItemState.{ItemState}
-use Rattle.gabc_notes.specs.declared.state.ItemState.TheVariants.{Raw, SlashRaw}
 use Rattle.gabc_notes.proofs.machine.StageEmitsItsEvents.{raw_is}
 use Rattle.gabc_notes.proofs.machine.MachineReadsTable.{machine, snippets_read}
 use Rattle.gabc_notes.proofs.grammar.InsideRawIsAnOpenBracket.{on, is_raw, step_on}

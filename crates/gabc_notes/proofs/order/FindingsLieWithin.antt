@@ -1,5 +1,5 @@
 -- The places between which findings lie, and the marks at which ends are emitted.
-use Rattle.std.proofs.Common.{◌≡◌, ℕ, ◌+◌, suc, List, [], ◌∷◌, ◌++◌, Bool, true, false, cond, not, ◌&&◌, ◌||◌, ◌==◌, inl, inr, refl, sym, ap, ◌∙◌, subst, length, take, eqb-true, None, arith}
+use Rattle.std.proofs.Common.{◌≡◌, ℕ, ◌+◌, suc, List, [], ◌∷◌, ◌++◌, Bool, true, false, cond, not, ◌&&◌, ◌||◌, ◌==◌, inl, inr, refl, sym, ap, ◌∙◌, subst, length, take, eqb-true, arith}
 use Rattle.std.proofs.lemmas.Bool.{and_parts, or_cases}
 use Rattle.gabc_places.proofs.PlacesInOrder.{lie_wider, up_to_past, lie_append, before_up_to, up_to_self, up_to_then, before_next}
 use Rattle.gabc_places.specs.declared.code.Code.TheVariants.{E1, E6, W8, W10}
@@ -12,7 +12,7 @@ use Rattle.gabc_patterns.specs.Derivative.{is_snippet}
 use Rattle.gabc_patterns.specs.Function.{trim}
 use Rattle.gabc_notes.specs.Table.{gabc}
 use Rattle.gabc_notes.specs.Events.{Point, in_raw, kept, is_comment, is_end, is_over, is_fused, is_unpaired, is_missing, opener, item_at, macro_of, bytes_of, finding_event, end_by_mark, warnings, at_end, events_at, cut_events, note_events, note_events_after}
-use Rattle.gabc_notes.specs.SnippetRead.{findings_of, ends_of, end_by}
+use Rattle.gabc_notes.specs.SnippetRead.{findings_of, ends_of}
 use Rattle.gabc_notes.specs.Ends.{IsMarkOf, EndWithMark, EndAtMost, AreCutAtMost}
 use Rattle.gabc_notes.specs.declared.stage.NoteEnd.TheVariants.{Next, Close, Cut}
 use Rattle.gabc_notes.specs.declared.stage.NoteEvent.{NoteEvent}

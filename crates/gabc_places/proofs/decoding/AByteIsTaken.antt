@@ -1,14 +1,12 @@
 -- What a byte does to a decoder that runs.
-use Rattle.std.proofs.Common.{◌≡◌, ℕ, ◌+◌, ◌<◌, Bool, true, false, cond, List, [], ◌∷◌, ◌++◌, refl, ap, sym, ◌∙◌, arith, append-nil}
+use Rattle.std.proofs.Common.{◌≡◌, ℕ, ◌+◌, ◌<◌, false, List, [], ◌∷◌, ◌++◌, ap, sym, ◌∙◌, arith, append-nil}
 use Rattle.std.proofs.lemmas.Bool.Decides.{nat_tests}
-use Rattle.std.proofs.lemmas.Bool.{lt-ltb, ne_eqb, cond-true}
-use Rattle.std.specs.Bool.{◌==◌}
+use Rattle.std.proofs.lemmas.Bool.{lt-ltb, cond-true}
 use Rattle.std.specs.Char.{IsScalar}
 use lib.Utf8.{encode}
-use Rattle.gabc_places.specs.declared.code.Code.TheVariants.{F7}
 use Rattle.gabc_places.specs.Text.{utf8_prefix_of, tail_of}
 use Rattle.gabc_places.specs.DecoderMachine.{DecoderState}
-use Rattle.gabc_places.specs.witness.DecoderEvents.{DecoderStep, stop_with, take_character, take_pending, take_byte}
+use Rattle.gabc_places.specs.witness.DecoderEvents.{DecoderStep, take_character, take_pending, take_byte}
 use Rattle.gabc_places.proofs.utf8.CharacterByCharacter.{utf8_prefix_of-past, utf8_prefix_of-none}
 use Rattle.gabc_places.proofs.utf8.PartOfACharacter.{nothing_is_partial}
 

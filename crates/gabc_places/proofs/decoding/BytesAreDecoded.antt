@@ -1,12 +1,11 @@
 -- What a decoder emits for some bytes is what is known of them.
 use Rattle.std.proofs.Common.{◌≡◌, ℕ, zero, suc, not, if◌then◌else◌, ◌+◌, ◌-◌, ◌≤◌, ◌<◌, Bool, true, false, cond, List, [], ◌∷◌, ◌++◌, length, take, map, filter, Option, Some, None, Result, Ok, Err, refl, ap, ap₂, sym, ◌∙◌, subst, arith, append_assoc, append-nil, length-append, ◌⊎◌, inl, inr}
 use Rattle.std.proofs.lemmas.Bool.{cases_lt, cases_eq, and_parts, and_from}
-use Rattle.std.proofs.lemmas.Bool.Decides.{nat_tests}
 use Rattle.std.proofs.lemmas.Bool.{lt-ltb, le-ltb}
 use Rattle.std.proofs.lemmas.List.{take_all, map-append}
 use Rattle.std.proofs.lemmas.List.Elements.{filter-append}
 use Rattle.std.proofs.Math.Seq.{take-append_seam, take-append-add}
-use Rattle.std.specs.Bool.{nat_lt, ◌==◌}
+use Rattle.std.specs.Bool.{nat_lt}
 use Rattle.std.specs.Char.{IsScalar}
 use Rattle.std.specs.List.{zip}
 use Rattle.std.specs.Option.{option_map}

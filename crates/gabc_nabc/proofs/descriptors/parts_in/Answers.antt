@@ -1,5 +1,4 @@
-use Rattle.gabc_nabc.proofs.parts_of_text.PartsAreTheReading.{parts_lie}
-use Rattle.gabc_nabc.proofs.parts_of_text.PartsByBytes.{parts_few}
+use Rattle.gabc_nabc.proofs.parts_of_text.PartsAreTheReading.{parts_lie, parts_few}
 use Rattle.gabc_nabc.proofs.descriptors.parts_in.Goals as goal
 
 pub returns-clause-within : goal.returns-clause-within

@@ -1,4 +1,4 @@
-use Rattle.std.proofs.Common.{◌≤◌, ◌∷◌, ap, sym, ◌∙◌, Bool, true, false, cond, length, drop, List, arith, Option, Some, None, []}
+use Rattle.std.proofs.Common.{◌≤◌, ◌∷◌, ap, sym, ◌∙◌, Bool, true, false, cond, length, drop, List, arith, []}
 use Rattle.std.proofs.Math.Seq.{drop-append_seam}
 use Rattle.gabc_places.specs.BoundedList.{BoundedList}
 use Rattle.gabc_notes.specs.declared.stage.NoteEvent.{NoteEvent}
