@@ -104,16 +104,7 @@ fusion_texts t h = elim (at_row h) [
     two (a, b, x, y, e) = e ∙ (ap (λ (u : List ℕ). u ++ b) (one_char 64 a x) ∙ ap (λ (u : List ℕ). 64 ∷ u) (one_char 91 b y))
 
     at_row : IsItemOf gabc Fusion t → Spells fusion t
-    at_row (inl x) = absurd (let f : Note ≡ Fusion = x.0 in cc)
-    at_row (inr (inl x)) = absurd (let f : Alteration ≡ Fusion = x.0 in cc)
-    at_row (inr (inr (inl x))) = absurd (let f : Clef ≡ Fusion = x.0 in cc)
-    at_row (inr (inr (inr (inl x)))) = absurd (let f : Bar ≡ Fusion = x.0 in cc)
-    at_row (inr (inr (inr (inr (inl x))))) = absurd (let f : Spacing ≡ Fusion = x.0 in cc)
-    at_row (inr (inr (inr (inr (inr (inl x)))))) = absurd (let f : Custos ≡ Fusion = x.0 in cc)
-    at_row (inr (inr (inr (inr (inr (inr (inl x))))))) = absurd (let f : Break ≡ Fusion = x.0 in cc)
-    at_row (inr (inr (inr (inr (inr (inr (inr (inl x)))))))) = absurd (let f : Attribute ≡ Fusion = x.0 in cc)
-    at_row (inr (inr (inr (inr (inr (inr (inr (inr (inl x))))))))) = x.1
-    at_row (inr (inr (inr (inr (inr (inr (inr (inr (inr x))))))))) = absurd x
+    at_row h = grind arith
 
 -- what a bracket holds has no `]`
 no_close : (parts : List (List ℕ)) → Each (Spells (any_but 93)) parts → is_in 93 (concat parts) ≡ false
@@ -132,16 +123,7 @@ attribute_text t h = spelt (at_row h)
     )
 
     at_row : IsItemOf gabc Attribute t → Spells bracket t
-    at_row (inl x) = absurd (let f : Note ≡ Attribute = x.0 in cc)
-    at_row (inr (inl x)) = absurd (let f : Alteration ≡ Attribute = x.0 in cc)
-    at_row (inr (inr (inl x))) = absurd (let f : Clef ≡ Attribute = x.0 in cc)
-    at_row (inr (inr (inr (inl x)))) = absurd (let f : Bar ≡ Attribute = x.0 in cc)
-    at_row (inr (inr (inr (inr (inl x))))) = absurd (let f : Spacing ≡ Attribute = x.0 in cc)
-    at_row (inr (inr (inr (inr (inr (inl x)))))) = absurd (let f : Custos ≡ Attribute = x.0 in cc)
-    at_row (inr (inr (inr (inr (inr (inr (inl x))))))) = absurd (let f : Break ≡ Attribute = x.0 in cc)
-    at_row (inr (inr (inr (inr (inr (inr (inr (inl x)))))))) = x.1
-    at_row (inr (inr (inr (inr (inr (inr (inr (inr (inl x))))))))) = absurd (let f : Fusion ≡ Attribute = x.0 in cc)
-    at_row (inr (inr (inr (inr (inr (inr (inr (inr (inr x))))))))) = absurd x
+    at_row h = grind arith
 
 -- a fusion mark by its last character
 pub fusion_open : (k u : List ℕ) → Ends (Fusion, u) (k ++ 91 ∷ []) → u ≡ codes "@["

@@ -20,6 +20,7 @@ use Rattle.gabc_places.specs.declared.decoded.Decoded.{Decoded}
 use Rattle.gabc_places.specs.declared.decoded.Tail.{Tail}
 use Rattle.gabc_places.specs.declared.decoded.Tail.TheVariants.{Nothing, Part, Wrong}
 use Rattle.gabc_places.specs.Place.{place_after, placed_characters, placed_characters_after, next_place}
+use Rattle.gabc_places.specs.declared.place.Place.{Place}
 use Rattle.gabc_places.specs.StageLaw.{concat_of, silence}
 use Rattle.gabc_places.specs.Text.{is_left_out, read_as, with_previous, text_of_characters, utf8_prefix_of, tail_of, decoded_of, stop_code_of}
 use Rattle.gabc_places.specs.Decoder.{items_of, known_of, known_at_end}
@@ -247,32 +248,25 @@ module _ (limits : Limits) (bytes : List ℕ) (s : DecoderState) (h : IsReading 
       place_is true f = h.place ∙ ap place_after (sym (text_is true f ∙ append-nil (text_of_characters h.chars)))
       place_is false f = ap (λ p. next_place p (read_as c)) h.place ∙ next_after (text_of_characters h.chars) (read_as c) ∙ ap place_after (sym (text_is false f))
 
+      -- the reading after it, at the place that follows
+      abbrev next_at : (p : Place) → p ≡ place_after (text_of_characters (h.chars ++ c ∷ [])) → IsReading limits (bytes ++ x ∷ []) (record s { taken = s.taken + 1; place = p; pending = []; previous = c })
+      next_at p f = record {
+        chars = h.chars ++ c ∷ [];
+        bytes_are = all ∙ sym (append-nil (encodes (h.chars ++ c ∷ [])));
+        scalar = scalars-more h.chars c h.scalar sc;
+        partial = nothing_is_partial;
+        running = h.running;
+        limit = h.limit;
+        taken = omega (arith, h.taken, length-append bytes (x ∷ []));
+        within = omega (arith, less, h.taken, h.limit);
+        place = f;
+        previous = sym (last_or-more 0 h.chars c);
+      }
+
       next_is : (b : Bool) → is_left_out (s.previous, c) ≡ b → IsReading limits (bytes ++ x ∷ []) (step_by b c).state
       unfolding step_by
-      next_is true f = record {
-        chars = h.chars ++ c ∷ [];
-        bytes_are = all ∙ sym (append-nil (encodes (h.chars ++ c ∷ [])));
-        scalar = scalars-more h.chars c h.scalar sc;
-        partial = nothing_is_partial;
-        running = h.running;
-        limit = h.limit;
-        taken = omega (arith, h.taken, length-append bytes (x ∷ []));
-        within = omega (arith, less, h.taken, h.limit);
-        place = place_is true f;
-        previous = sym (last_or-more 0 h.chars c);
-      }
-      next_is false f = record {
-        chars = h.chars ++ c ∷ [];
-        bytes_are = all ∙ sym (append-nil (encodes (h.chars ++ c ∷ [])));
-        scalar = scalars-more h.chars c h.scalar sc;
-        partial = nothing_is_partial;
-        running = h.running;
-        limit = h.limit;
-        taken = omega (arith, h.taken, length-append bytes (x ∷ []));
-        within = omega (arith, less, h.taken, h.limit);
-        place = place_is false f;
-        previous = sym (last_or-more 0 h.chars c);
-      }
+      next_is true f = next_at s.place (place_is true f)
+      next_is false f = next_at (next_place s.place (read_as c)) (place_is false f)
 
       events_are : (b : Bool) → map (λ c. Ok c) (placed_characters_after (text_of_characters h.chars) (added b c)) ≡ (step_by b c).events
       unfolding step_by
