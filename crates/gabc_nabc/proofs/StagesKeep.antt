@@ -158,11 +158,9 @@ comment_after s c on e =
     ∙ by (role_at s c) (next_at s c) (λ f. absurd (true≢false (sym (not_ends s.comment ((c == 41) || (c == 124)) (is_in c (37 ∷ 32 ∷ 9 ∷ 10 ∷ [])) (is_some (next_at s c)) f) ∙ e)))
   where
     by : (r : NabcRole) (o : Option DescriptorState) → (r ≡ Ends → ⊥) → comment_of (stage_moved_on s r (facts_at s c) o c) ≡ comment_in s.comment c
-    by Silent o n = refl
     by Ends o n = absurd (n refl)
-    by Keep (Some z) n = refl
     by Keep None n = refl
-    by LeaveOut o n = refl
+    by _ o n = refl
 
 module _ (s : NabcStage) (x : Char) (k : List ℕ) (h : Keeps s k) where
   text : TextIs k (comment_of s) (with_comment k (comment_of s))

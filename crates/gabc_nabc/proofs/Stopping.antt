@@ -72,10 +72,8 @@ ended_as_before st next c n h = running st.ended refl
   where
     runs_on : (r : NabcRole) (e : NabcFacts) (o : Option DescriptorState) → (r ≡ Ends → ⊥) → (stage_moved_on st r e o c).ended ≡ st.ended
     runs_on Ends e o k = absurd (k refl)
-    runs_on Silent e o k = refl
-    runs_on LeaveOut e o k = refl
     runs_on Keep e None k = refl
-    runs_on Keep e (Some z) k = refl
+    runs_on _ e o k = refl
 
     moved : st.ended ≡ false → next ≡ stage_moved_on st (role_at st c) (facts_at st c) (next_at st c) c
     moved e = n ∙ rw e refl
@@ -87,9 +85,7 @@ ended_as_before st next c n h = running st.ended refl
 
     at_role : (r : NabcRole) → role_at st c ≡ r → st.ended ≡ false → next ≡ record st { ended = true }
     at_role Ends f e = moved e ∙ ap (λ (r : NabcRole). stage_moved_on st r (facts_at st c) (next_at st c) c) f
-    at_role Silent f e = absurd (goes_on e (λ h. cc))
-    at_role Keep f e = absurd (goes_on e (λ h. cc))
-    at_role LeaveOut f e = absurd (goes_on e (λ h. cc))
+    at_role _ f e = absurd (goes_on e (λ h. cc))
 
     running : (b : Bool) → st.ended ≡ b → next ≡ record st { ended = true }
     running true e = n ∙ (rw e refl ∙ ap (λ (b : Bool). record st { ended = b }) e)

@@ -57,9 +57,7 @@ push_stops st next x o e Ends g old new m n p =
 push_stops st next x o e Keep g old new m n p =
     let plain : list_any is_ended (event_list g) ≡ false = ap (λ (y : CharEvents). list_any is_ended (event_list y)) m ∙ warned st.macros st.before e x in
     stops-endless is_ended (events_left next) old new (event_list g) p plain
-push_stops st next x o e LeaveOut g old new m n p = stops-endless is_ended (events_left next) old new (event_list g) p (ap (λ (y : CharEvents). list_any is_ended (event_list y)) m)
-push_stops st next x o e Silent g old new m n p = stops-endless is_ended (events_left next) old new (event_list g) p (ap (λ (y : CharEvents). list_any is_ended (event_list y)) m)
-push_stops st next x o e Comment g old new m n p = stops-endless is_ended (events_left next) old new (event_list g) p (ap (λ (y : CharEvents). list_any is_ended (event_list y)) m)
+push_stops st next x o e _ g old new m n p = stops-endless is_ended (events_left next) old new (event_list g) p (ap (λ (y : CharEvents). list_any is_ended (event_list y)) m)
 
 -- a character that ends a stage changes nothing else of it
 pub ended_as_before : (st next : NoteStage) (x : Char) → next ≡ stage_after_one st x → next.ended ≡ true → next ≡ record st { ended = true }
@@ -67,11 +65,8 @@ ended_as_before st next x n h = running st.ended refl
   where
     runs_on : (r : CharRole) (e : CharFacts) (o : Option ItemState) → (r ≡ Ends → ⊥) → (stage_after st r e o x).ended ≡ st.ended
     runs_on Ends e o k = absurd (k refl)
-    runs_on Silent e o k = refl
-    runs_on Comment e o k = refl
-    runs_on LeaveOut e o k = refl
     runs_on Keep e None k = refl
-    runs_on Keep e (Some z) k = refl
+    runs_on _ e o k = refl
 
     moved : st.ended ≡ false → next ≡ stage_after st (role_of st x.c) (facts_of st x.c) (next_of st x.c) x
     moved e = n ∙ rw e refl
@@ -83,10 +78,7 @@ ended_as_before st next x n h = running st.ended refl
 
     at_role : (r : CharRole) → role_of st x.c ≡ r → st.ended ≡ false → next ≡ record st { ended = true }
     at_role Ends f e = moved e ∙ ap (λ (r : CharRole). stage_after st r (facts_of st x.c) (next_of st x.c) x) f
-    at_role Silent f e = absurd (goes_on e (λ k. cc))
-    at_role Comment f e = absurd (goes_on e (λ k. cc))
-    at_role Keep f e = absurd (goes_on e (λ k. cc))
-    at_role LeaveOut f e = absurd (goes_on e (λ k. cc))
+    at_role _ f e = absurd (goes_on e (λ k. cc))
 
     running : (b : Bool) → st.ended ≡ b → next ≡ record st { ended = true }
     running true e = n ∙ (rw e refl ∙ ap (λ (b : Bool). record st { ended = b }) e)

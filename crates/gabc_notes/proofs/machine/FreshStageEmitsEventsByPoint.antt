@@ -88,19 +88,7 @@ kept_by k c v =
 
 -- the tests of the item that ends with it, by raw
 opens_by : (rs rz a d fu : Bool) → (rz ≡ true → d ≡ false) → cond (a && (not rs && not rz)) true (cond (d && not rs) false fu) ≡ cond (rs || rz) fu (a || (fu && not d))
-opens_by true rz true true fu f = refl
-opens_by true rz true false fu f = refl
-opens_by true rz false true fu f = refl
-opens_by true rz false false fu f = refl
-opens_by false true true true fu f = absurd (let g : true ≡ false = f refl in cc)
-opens_by false true true false fu f = refl
-opens_by false true false true fu f = absurd (let g : true ≡ false = f refl in cc)
-opens_by false true false false fu f = refl
-opens_by false false true d fu f = refl
-opens_by false false false true true f = refl
-opens_by false false false true false f = refl
-opens_by false false false false true f = refl
-opens_by false false false false false f = refl
+opens_by rs rz a d fu f = grind arith
 
 -- the warnings
 warned : (rs rz a d fu att : Bool) (M : Option ℕ → Bool) (digit : Option ℕ) (w8 w10 : NoteEvent) → M None ≡ false

@@ -80,10 +80,7 @@ macro_ascii (a ∷ m ∷ d ∷ []) h =
     some_digit : (b : Bool) → is_some (digit_if b d) ≡ true → b ≡ true
     some_digit true e = refl
     some_digit false e = absurd (cc e)
-macro_ascii [] h = absurd (cc h)
-macro_ascii (a ∷ []) h = absurd (cc h)
-macro_ascii (a ∷ m ∷ []) h = absurd (cc h)
-macro_ascii (a ∷ m ∷ d ∷ e ∷ t) h = absurd (cc h)
+macro_ascii _ h = absurd (cc h)
 
 -- and so by its bytes
 named_by_bytes : (u : List ℕ) → scalars u ≡ true → is_macro u ≡ is_macro (encodes u)

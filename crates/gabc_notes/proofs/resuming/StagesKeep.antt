@@ -162,10 +162,7 @@ module _ (s : NoteStage) (x : Char) where
 
   abbrev ends_with : CharRole → List (NoteEnd × ℕ)
   ends_with Ends = (end_by_mark x.c, s.before.whole) ∷ []
-  ends_with Keep = []
-  ends_with LeaveOut = []
-  ends_with Silent = []
-  ends_with Comment = []
+  ends_with _ = []
 
   ends_are : (r : CharRole) → ends_of (emitted r) ≡ ends_with r
   ends_are Keep = warned.1
