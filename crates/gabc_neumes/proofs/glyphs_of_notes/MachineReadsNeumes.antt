@@ -97,7 +97,6 @@ tests s = test_items same_kind neumes machine s && ends_once (rows_of neumes mac
 
 -- the tests come out
 checked : (s : GlyphState) → tests s ≡ true
-checked Start = refl
 checked (One shape.Inclinatum) = refl
 checked (Plain joined.Pes) = refl
 checked (Falling joined.Pes) = refl

@@ -93,13 +93,11 @@ abbrev pub test : ItemState → ℕ → Bool
 test s c = cond (is_raw (on s c)) ((raw_state s && not (c == 93)) || ((c == 91) && (whole_at s && not (raw_state s)))) (not (raw_state s) || (c == 93))
 
 tested : (s : ItemState) → below 129 (test s) ≡ true
-tested Start = refl
 tested (Done FullAlteration) = refl
 tested _ = refl
 
 -- a `[` after a snippet opens raw or makes a snippet
 opened : (s : ItemState) → cond (whole_at s) (whole_or_raw (on s 91)) true ≡ true
-opened Start = refl
 opened (Done FullAlteration) = refl
 opened _ = refl
 

@@ -18,7 +18,6 @@ use Rattle.gabc_notes.proofs.machine.MachineReadsTable.{machine, snippets_read, 
 
 -- at each state at most one kind may end
 once : (s : ItemState) → ends_once (rows_of gabc machine s) ≡ true
-once Start = refl
 once (Done FullAlteration) = refl
 once _ = refl
 
@@ -38,12 +37,10 @@ completion SlashRaw = codes "]"
 completion _ = []
 
 completed : (s : ItemState) → is_whole (run gabc (reading gabc machine s) (completion s)) ≡ true
-completed Start = refl
 completed (Done FullAlteration) = refl
 completed _ = refl
 
 short : (s : ItemState) → length (completion s) ≤ 1
-short Start = omega arith
 short (Done FullAlteration) = omega arith
 short _ = omega arith
 

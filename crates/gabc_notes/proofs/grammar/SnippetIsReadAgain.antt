@@ -47,7 +47,6 @@ abbrev is_barred : ItemState → ℕ → Bool
 is_barred s c = raw_state s || is_none (on s c)
 
 barred : (s : ItemState) → (is_barred s 41 && (is_barred s 124 && is_barred s 37)) ≡ true
-barred Start = refl
 barred (Done FullAlteration) = refl
 barred _ = refl
 

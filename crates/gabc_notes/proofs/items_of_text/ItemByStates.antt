@@ -53,7 +53,6 @@ abbrev pub mark_test : ItemState → Bool
 mark_test s = opened_at s (on s 91) && (closed_at s (on s 93) && cond (whole_at s) (joined_at (on s 64)) true)
 
 pub marks_tested : (s : ItemState) → mark_test s ≡ true
-marks_tested Start = refl
 marks_tested (Done FullAlteration) = refl
 marks_tested _ = refl
 

@@ -41,13 +41,11 @@ far c h = grind (arith, nat_tests)
 
 -- the tests of reading snippets come out
 snippets_checked : (s : ItemState) → test_snippets same_kind gabc machine s ≡ true
-snippets_checked Start = refl
 snippets_checked (Done FullAlteration) = refl
 snippets_checked _ = refl
 
 -- the tests of reading items come out
 items_checked : (s : ItemState) → test_items same_kind gabc machine s ≡ true
-items_checked Start = refl
 items_checked (Done FullAlteration) = refl
 items_checked _ = refl
 

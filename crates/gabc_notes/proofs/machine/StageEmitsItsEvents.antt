@@ -28,19 +28,16 @@ use Rattle.gabc_notes.specs.witness.StageEvents.{CharEvents}
 
 -- whether a state lies inside raw
 pub raw_is : (s : ItemState) → raw_at (reading gabc machine s) ≡ raw_state s
-raw_is Start = refl
 raw_is (Done FullAlteration) = refl
 raw_is _ = refl
 
 -- whether a state ends with an attribute
 pub attribute_is : (s : ItemState) → is_attribute_kind (kind_at (reading gabc machine s)) ≡ attribute_state s
-attribute_is Start = refl
 attribute_is (Done FullAlteration) = refl
 attribute_is _ = refl
 
 -- the digit of a macro's name is emitted
 pub digit_is : (n : MacroPrefix) → macro_digit (example_prefix n) ≡ digit_of_prefix n
-digit_is Closed = refl
 digit_is (Last c) = refl
 digit_is _ = refl
 
