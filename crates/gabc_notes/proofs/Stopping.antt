@@ -21,7 +21,7 @@ use Rattle.gabc_notes.specs.declared.stage.NoteEvent.{NoteEvent}
 use Rattle.gabc_notes.specs.declared.stage.NoteEvent.TheVariants.{Ended}
 use Rattle.gabc_notes.specs.declared.stage.NoteStage.{NoteStage}
 use Rattle.gabc_notes.specs.declared.stage.CharRole.{CharRole}
-use Rattle.gabc_notes.specs.declared.stage.CharRole.TheVariants.{Silent, Comment, Ends, Keep, LeaveOut}
+use Rattle.gabc_notes.specs.declared.stage.CharRole.TheVariants.{Ends, Keep}
 use Rattle.gabc_notes.specs.declared.stage.CharFacts.{CharFacts}
 use Rattle.gabc_notes.specs.declared.state.ItemState.{ItemState}
 use Rattle.gabc_places.proofs.NothingAfterAnEnd.{stops-endless, stops-last}

@@ -12,7 +12,7 @@ use Rattle.gabc_notes.specs.Table.{gabc}
 use Rattle.gabc_notes.specs.Events.{in_raw}
 use Rattle.gabc_notes.specs.declared.item.ItemKind.{ItemKind}
 use Rattle.gabc_notes.specs.declared.state.ItemState.{ItemState}
-use Rattle.gabc_notes.specs.declared.state.ItemState.TheVariants.{Start, Dash, Raw, SlashRaw, Done}
+use Rattle.gabc_notes.specs.declared.state.ItemState.TheVariants.{Dash, Raw, SlashRaw, Done}
 use Rattle.gabc_notes.specs.declared.state.FullItem.TheVariants.{Alteration as FullAlteration}
 use Rattle.gabc_notes.proofs.machine.MachineReadsTable.{machine, snippets_read, items_read}
 

@@ -27,7 +27,7 @@ use Rattle.gabc_notes.specs.declared.stage.NoteEnd.TheVariants.{Next, Close, Cut
 use Rattle.gabc_notes.specs.declared.stage.NoteEvent.{NoteEvent}
 use Rattle.gabc_notes.specs.declared.stage.NoteEvent.TheVariants.{Kept, Ended}
 use Rattle.gabc_notes.specs.declared.state.ItemState.{ItemState}
-use Rattle.gabc_notes.specs.declared.state.ItemState.TheVariants.{Start, Done}
+use Rattle.gabc_notes.specs.declared.state.ItemState.TheVariants.{Done}
 use Rattle.gabc_notes.specs.declared.state.FullItem.TheVariants.{Alteration as FullAlteration}
 use Rattle.gabc_notes.proofs.KeptChars.{kept_chars-append}
 use Rattle.gabc_notes.proofs.grammar.InsideRawIsAnOpenBracket.{on}

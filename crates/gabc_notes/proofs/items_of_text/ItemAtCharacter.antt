@@ -12,7 +12,7 @@ use Rattle.gabc_notes.specs.Table.{gabc, bracket, fusion}
 use Rattle.gabc_notes.specs.witness.StageEvents.{kind_at}
 use Rattle.gabc_notes.specs.Events.{ItemText, last_of, last_item}
 use Rattle.gabc_notes.specs.declared.item.ItemKind.{ItemKind}
-use Rattle.gabc_notes.specs.declared.item.ItemKind.TheVariants.{Note, Alteration, Clef, Bar, Spacing, Custos, Break, Attribute, Fusion}
+use Rattle.gabc_notes.specs.declared.item.ItemKind.TheVariants.{Attribute, Fusion}
 use Rattle.gabc_notes.proofs.grammar.LawsOfKeptTexts.{kinds_are_one}
 use Rattle.gabc_notes.proofs.items_of_text.LastItemByState.{last_is, ReadsOn, shrink, cut_reading, join_reading}
 

@@ -18,7 +18,7 @@ use Rattle.gabc_notes.specs.machine.ItemMachine.{whole_at, raw_state, attribute_
 use Rattle.gabc_notes.specs.declared.item.ItemKind.{ItemKind}
 use Rattle.gabc_notes.specs.declared.item.ItemKind.TheVariants.{Spacing, Attribute, Fusion}
 use Rattle.gabc_notes.specs.declared.state.ItemState.{ItemState}
-use Rattle.gabc_notes.specs.declared.state.ItemState.TheVariants.{Start, Done}
+use Rattle.gabc_notes.specs.declared.state.ItemState.TheVariants.{Done}
 use Rattle.gabc_notes.specs.declared.state.FullItem.TheVariants.{Alteration as FullAlteration, Spacing as FullSpacing, Attribute as FullAttribute, Fusion as FullFusion}
 use Rattle.gabc_notes.proofs.machine.MachineReadsTable.{machine, snippets_read}
 use Rattle.gabc_notes.proofs.grammar.LawsOfKeptTexts.{none_empty}

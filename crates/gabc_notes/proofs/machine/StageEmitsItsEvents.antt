@@ -18,7 +18,7 @@ use Rattle.gabc_notes.specs.declared.stage.CharRole.{CharRole}
 use Rattle.gabc_notes.specs.declared.stage.CharRole.TheVariants.{Silent, Comment, Ends, Keep, LeaveOut}
 use Rattle.gabc_notes.specs.declared.stage.CharFacts.{CharFacts}
 use Rattle.gabc_notes.specs.declared.state.ItemState.{ItemState}
-use Rattle.gabc_notes.specs.declared.state.ItemState.TheVariants.{Start, Done}
+use Rattle.gabc_notes.specs.declared.state.ItemState.TheVariants.{Done}
 use Rattle.gabc_notes.specs.declared.state.FullItem.TheVariants.{Alteration as FullAlteration}
 use Rattle.gabc_notes.proofs.machine.MachineReadsTable.{machine, snippets_read}
 use Rattle.gabc_notes.proofs.machine.EventsDependOnState.{at_end, raw_at, facts_at, facts_by, NameAlike, events_alike}
