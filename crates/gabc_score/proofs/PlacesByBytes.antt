@@ -1,7 +1,6 @@
 -- The place after a text, by its bytes.
-use Rattle.std.proofs.Common.{◌≡◌, ℕ, zero, suc, ◌+◌, ◌-◌, ◌/◌, ◌%◌, ◌<◌, ◌≤◌, ◌==◌, nat_lt, Bool, true, false, cond, List, [], ◌∷◌, ◌++◌, length, take, drop, slice_index, refl, ap, sym, ◌∙◌, arith, length-drop, IsUtf8}
+use Rattle.std.proofs.Common.{◌≡◌, ℕ, zero, suc, ◌+◌, ◌/◌, ◌%◌, ◌<◌, ◌≤◌, ◌==◌, nat_lt, Bool, true, false, cond, List, [], ◌∷◌, ◌++◌, length, drop, slice_index, refl, ap, sym, ◌∙◌, arith, IsUtf8}
 use Rattle.std.proofs.lemmas.Bool.Decides.{nat_tests}
-use Rattle.std.proofs.Math.Seq.{take-length}
 use Rattle.std.proofs.lemmas.List.Sums.{sum_by-cons}
 use Rattle.std.specs.List.{count_by}
 use Rattle.std.specs.Str.{chars}
@@ -99,7 +98,3 @@ past_last p (b ∷ bs) none = by (b == 10) refl (past_last (stepped p (begins_ch
         → place_by_bytes (by_tests p t (begins_character b)) bs ≡ record { line = p.line; column = p.column + count_by begins_character (b ∷ bs) }
     by true e rest = absurd (none 0 (omega arith) e)
     by false e rest = rest ∙ ap (λ n. record { line = p.line; column = n }) {x = (p.column + cond (begins_character b) 1 0) + count_by begins_character bs} (let one = sum_by-cons (λ k. cond (begins_character k) 1 0) b bs in omega (arith, one))
-
--- what follows the first bytes
-pub from_there : (bs : List ℕ) (n : ℕ) → take (length bs - n) (drop n bs) ≡ drop n bs
-from_there bs n = ap (λ k. take k (drop n bs)) (sym (length-drop n bs)) ∙ take-length (drop n bs)

@@ -1,4 +1,5 @@
 -- What the gatherer holds is what the definitions say of what was emitted.
+use Rattle.std.proofs.Math.Bool.{and-true, and-false}
 use Rattle.std.proofs.Common.{◌≡◌, ℕ, ◌+◌, ◌-◌, ◌<◌, ◌^◌, ◌||◌, ◌&&◌, ◌==◌, min, not, nat_lt, Bool, true, false, cond, List, [], ◌∷◌, ◌++◌, length, take, drop, refl, sym, ap, ◌∙◌, arith, append_assoc, append-nil, length-append, encode_utf8, codes}
 use Rattle.std.specs.List.{list_any, sum_by, flat_map}
 use lib.Utf8.{encode}
@@ -42,20 +43,12 @@ cut_append e p n =
 abbrev pub over_by : ℕ → List UnplacedSyllable → Bool
 over_by limit made = list_any (λ (m : UnplacedSyllable). is_longer limit m.kept) made || list_any (λ text. is_longer limit text) (canonicals true made)
 
-first_is : (first b : Bool) → (first || b) ≡ ((first && true) || b)
-first_is true b = refl
-first_is false b = refl
-
-later_is : (first b : Bool) → b ≡ ((first && false) || b)
-later_is true b = refl
-later_is false b = refl
-
 canonicals_push : (first : Bool) (ms : List UnplacedSyllable) (m : UnplacedSyllable)
     → canonicals first (ms ++ m ∷ []) ≡ canonicals first ms ++ canonical ((first && is_none ms) || m.text.word_start) m ∷ []
-canonicals_push first [] m = ap (λ b. canonical b m ∷ []) (first_is first m.text.word_start)
+canonicals_push first [] m = ap (λ b. canonical (b || m.text.word_start) m ∷ []) (sym (and-true first))
 canonicals_push first (n ∷ ms) m =
     ap (λ (l : List (List ℕ)). canonical (first || n.text.word_start) n ∷ l)
-    (canonicals_push false ms m ∙ ap (λ b. canonicals false ms ++ canonical b m ∷ []) (later_is first m.text.word_start))
+    (canonicals_push false ms m ∙ ap (λ b. canonicals false ms ++ canonical (b || m.text.word_start) m ∷ []) (sym (and-false first)))
 
 module _ (limit : ℕ) (ms : List UnplacedSyllable) (m : UnplacedSyllable) where
   abbrev text_of : List ℕ
@@ -181,16 +174,9 @@ module _ (limit head : ℕ) (before : List BodyEvent) (small : limit < 2 ^ 64 - 
   unfolding encode
   gathered_step (event.Text (text.Kept c)) = kept_more (encode_utf8 c.c)
   gathered_step (event.Text (text.Part part.WordStart)) = refl
-  gathered_step (event.Text (text.Part (part.Piece p))) = refl
-  gathered_step (event.Text (text.Part (part.Centre s))) = refl
-  gathered_step (event.Text (text.Part (part.Translation s))) = refl
-  gathered_step (event.Text (text.Found f)) = refl
   gathered_step (event.Text (text.Ended text_end.Notes)) =
       ap (λ o. record now { builder = o }) (marked_is (ended_parts_of (since_close before)) (part_of (since_close before)) (codes "(") (view_of (since_close before)) (snippets_of (since_close before)))
-  gathered_step (event.Text (text.Ended text_end.Finished)) = refl
-  gathered_step (event.Text (text.Ended (text_end.Cut p))) = refl
   gathered_step (event.Notes line (note.Kept c)) = kept_more (encode_utf8 c.c)
-  gathered_step (event.Notes line (note.Found f)) = refl
   gathered_step (event.Notes line (note.Ended note_end.Next n)) =
       ap (λ o. record now { builder = o; first_kind = first_past now.first_kind line (span_of now.builder line n) (past_snippet now.builder line n 124).kept }) (ended_as line n 124)
       ∙ ap (λ k. record (gathered limit head (event.Notes line (note.Ended note_end.Next n) ∷ before)) { first_kind = k }) (first_as line n 124 refl)
@@ -199,4 +185,4 @@ module _ (limit head : ℕ) (before : List BodyEvent) (small : limit < 2 ^ 64 - 
       ∙ ap (λ k. record (with_made now (syllable_by (event.Notes line (note.Ended note_end.Close n) ∷ since_close before) (is_eu before) (is_nlba before))) { first_kind = k }) (first_as line n 41 refl)
       ∙ ap (λ (g : Gathered). record g { first_kind = first_of (event.Notes line (note.Ended note_end.Close n) ∷ before) })
       (made_is (syllable_by (event.Notes line (note.Ended note_end.Close n) ∷ since_close before) (is_eu before) (is_nlba before)))
-  gathered_step (event.Notes line (note.Ended (note_end.Cut p) n)) = refl
+  gathered_step _ = refl

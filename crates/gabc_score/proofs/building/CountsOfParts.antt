@@ -55,15 +55,10 @@ unmoved o p n k f s e = record { pieces_are = e; kept_grows = rw k (omega arith)
 grows_one : (g : Gathered) (e : TextEvent) → TextGrows g.builder (with_text g e).builder (pieces_in (e ∷ [])) (length (kept_in (e ∷ [])))
 grows_one g (text.Kept c) =
     let b = (kept_more g.builder.kept c.c).0 in record { pieces_are = omega arith; kept_grows = b; from_stays = λ h. omega (arith, h, b); snippets_stay = refl }
-grows_one g (text.Part text_part.WordStart) = unmoved _ _ 0 refl refl refl (omega arith)
 grows_one g (text.Part (text_part.Piece p)) = unmoved _ _ 1 refl refl refl (length-append g.builder.view.pieces (p ∷ []))
-grows_one g (text.Part (text_part.Centre s)) = unmoved _ _ 0 refl refl refl (omega arith)
-grows_one g (text.Part (text_part.Translation s)) = unmoved _ _ 0 refl refl refl (omega arith)
-grows_one g (text.Found f) = unmoved _ _ 0 refl refl refl (omega arith)
 grows_one g (text.Ended text_end.Notes) =
     let b = (kept_more g.builder.kept 40).0 in record { pieces_are = omega arith; kept_grows = omega (arith, b); from_stays = λ h. omega arith; snippets_stay = refl }
-grows_one g (text.Ended text_end.Finished) = unmoved _ _ 0 refl refl refl (omega arith)
-grows_one g (text.Ended (text_end.Cut p)) = unmoved _ _ 0 refl refl refl (omega arith)
+grows_one g _ = unmoved _ _ 0 refl refl refl (omega arith)
 
 grows_then : (o p q : OpenSyllable) (a b c d : ℕ) → TextGrows o p a b → TextGrows p q c d → TextGrows o q (a + c) (b + d)
 grows_then o p q a b c d h k = record {
@@ -74,19 +69,12 @@ grows_then o p q a b c d h k = record {
 }
 
 pieces_cons : (e : TextEvent) (es : List TextEvent) → pieces_in (e ∷ es) ≡ pieces_in (e ∷ []) + pieces_in es
-pieces_cons (text.Kept c) es = omega arith
 pieces_cons (text.Part text_part.WordStart) es = omega arith
-pieces_cons (text.Part (text_part.Piece p)) es = omega arith
-pieces_cons (text.Part (text_part.Centre s)) es = omega arith
-pieces_cons (text.Part (text_part.Translation s)) es = omega arith
-pieces_cons (text.Found f) es = omega arith
-pieces_cons (text.Ended h) es = omega arith
+pieces_cons _ es = omega arith
 
 kept_cons : (e : TextEvent) (es : List TextEvent) → length (kept_in (e ∷ es)) ≡ length (kept_in (e ∷ [])) + length (kept_in es)
 kept_cons (text.Kept c) es = omega arith
-kept_cons (text.Part p) es = omega arith
-kept_cons (text.Found f) es = omega arith
-kept_cons (text.Ended h) es = omega arith
+kept_cons _ es = omega arith
 
 grows_all : (g : Gathered) (es : List TextEvent) → TextGrows g.builder (with_all g (of_texts es)).builder (pieces_in es) (length (kept_in es))
 grows_all g [] = unmoved _ _ 0 refl refl refl (omega arith)
@@ -100,14 +88,9 @@ record TextAdds (g h : Gathered) : Type 0 where
 
 adds_one : (g : Gathered) (e : TextEvent) → TextAdds g (with_text g e)
 adds_one g (text.Kept c) = record { limit = refl; kept = (kept_more g.builder.kept c.c).1; pieces = omega arith }
-adds_one g (text.Part text_part.WordStart) = record { limit = refl; kept = omega arith; pieces = omega arith }
 adds_one g (text.Part (text_part.Piece p)) = record { limit = refl; kept = omega arith; pieces = let l = length-append g.builder.view.pieces (p ∷ []) in omega (arith, l) }
-adds_one g (text.Part (text_part.Centre s)) = record { limit = refl; kept = omega arith; pieces = omega arith }
-adds_one g (text.Part (text_part.Translation s)) = record { limit = refl; kept = omega arith; pieces = omega arith }
-adds_one g (text.Found f) = record { limit = refl; kept = omega arith; pieces = omega arith }
 adds_one g (text.Ended text_end.Notes) = record { limit = refl; kept = (kept_more g.builder.kept 40).1; pieces = omega arith }
-adds_one g (text.Ended text_end.Finished) = record { limit = refl; kept = omega arith; pieces = omega arith }
-adds_one g (text.Ended (text_end.Cut p)) = record { limit = refl; kept = omega arith; pieces = omega arith }
+adds_one g _ = record { limit = refl; kept = omega arith; pieces = omega arith }
 
 texts_fit : (g : Gathered) (es : List TextEvent) → length g.builder.kept + 4 * length es ≤ g.limit + 32 → length g.builder.view.pieces + length es ≤ g.limit + 32 → FitEach g (of_texts es)
 texts_fit g [] k p = tt
@@ -183,10 +166,9 @@ note_adds : (line : ℕ) (opened : Place) (g : Gathered) (e : NoteEvent) → Cou
 note_adds line opened g (note.Kept c) h =
     let m = kept_more g.builder.kept c.c in let low = m.0 in let from = h.1 in
     record { limit = refl; kept = m.1; snippets = omega arith; counts = (h.0, omega (arith, low, from)) }
-note_adds line opened g (note.Found f) h = record { limit = refl; kept = omega arith; snippets = omega arith; counts = h }
 note_adds line opened g (note.Ended note_end.Next n) h = snippet_adds g line n 124 h
 note_adds line opened g (note.Ended note_end.Close n) h = record { limit = refl; kept = omega arith; snippets = omega arith; counts = (omega arith, omega arith) }
-note_adds line opened g (note.Ended (note_end.Cut p) n) h = record { limit = refl; kept = omega arith; snippets = omega arith; counts = h }
+note_adds line opened g _ h = record { limit = refl; kept = omega arith; snippets = omega arith; counts = h }
 
 module _ (line : ℕ) (opened : Place) where
   abbrev of_notes : List NoteEvent → List BodyEvent
@@ -242,10 +224,9 @@ fresh_counts : (at : Place) (o : OpenSyllable) → o ≡ nothing_open → Counts
 fresh_counts at o e = subst (CountsHold (part.Text (fresh_stage at))) (sym e) (omega arith, (omega arith, refl))
 
 begun_counts : {lines macros line : ℕ} {opened : Place} (after : BodyPart) → step.Begins lines macros line opened after → (o : OpenSyllable) → CountsInNotes o → CountsHold after o
-begun_counts part.Comment b o h = absurd (let e = b.reads [] in cc)
-begun_counts (part.Text s) b o h = absurd (let e = b.reads [] in cc)
 begun_counts (part.Notes p s) b o h = h
 begun_counts (part.Nabc l p s) b o h = h
+begun_counts _ b o h = absurd (let e = b.reads [] in cc)
 
 -- in the part of a snippet the same is counted before and after
 record CountsAlike (before after : BodyPart) : Type 0 where

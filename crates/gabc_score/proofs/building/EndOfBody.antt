@@ -1,4 +1,5 @@
 -- The end of a body: the last text, the fault and the findings of the end.
+use Rattle.std.proofs.Math.Bool.{or-true}
 use Rattle.std.proofs.Common.{◌≡◌, ℕ, ◌+◌, ◌-◌, ◌<◌, ◌^◌, ◌||◌, ◌&&◌, not, min, nat_lt, Bool, true, false, cond, List, [], ◌∷◌, ◌++◌, Option, Some, None, refl, sym, ap, ◌∙◌, arith}
 use Rattle.std.specs.List.{list_any}
 use Rattle.std.specs.Option.{option_map}
@@ -16,11 +17,7 @@ use Rattle.gabc_score.proofs.building.EventsOfOnePoint.{code_is, lt_total}
 
 -- a kept text that is a syllable's counts there
 over_shuffle : (a k c n : Bool) → n ≡ false → (n || ((a || (k || false)) || c)) ≡ (k || ((a || (k || false)) || c))
-over_shuffle a true c n h = rw h (by a)
-  where
-    by : (b : Bool) → ((b || true) || c) ≡ true
-    by true = refl
-    by false = refl
+over_shuffle a true c n h = rw h (ap (λ (b : Bool). b || c) (or-true a))
 over_shuffle a false c n h = rw h refl
 
 pub none_longer : (limit : ℕ) → nat_lt limit 0 ≡ false

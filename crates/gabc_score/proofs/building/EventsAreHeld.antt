@@ -24,7 +24,7 @@ pub never_lent : (used : SlotUse) (b : Bool) → used ≡ used_by b → used ≢
 never_lent used true e = λ f. absurd (let p : Made ≡ Lent = sym e ∙ f in cc p)
 never_lent used false e = λ f. absurd (let p : Filling ≡ Lent = sym e ∙ f in cc p)
 
-none_closes : (used : SlotUse) (b : Bool) → used ≡ used_by b → used ≡ Filling → b ≡ false
+pub none_closes : (used : SlotUse) (b : Bool) → used ≡ used_by b → used ≡ Filling → b ≡ false
 none_closes used true e f = absurd (let p : Made ≡ Filling = sym e ∙ f in cc p)
 none_closes used false e f = refl
 

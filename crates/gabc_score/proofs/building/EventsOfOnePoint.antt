@@ -29,13 +29,9 @@ gathered_all limit head before h [] = refl
 gathered_all limit head before h (t ∷ now) = ap (λ g. with_all g now) (gathered_step limit head before h t) ∙ gathered_all limit head (t ∷ before) h now
 
 found_with : (found fs : List Finding) (t : BodyEvent) → findings_with (found ++ fs) t ≡ found ++ findings_with fs t
-found_with found fs (event.Text (text.Kept c)) = refl
-found_with found fs (event.Text (text.Part p)) = refl
 found_with found fs (event.Text (text.Found f)) = append_assoc found fs (f ∷ [])
-found_with found fs (event.Text (text.Ended e)) = refl
-found_with found fs (event.Notes line (note.Kept c)) = refl
 found_with found fs (event.Notes line (note.Found f)) = append_assoc found fs (f ∷ [])
-found_with found fs (event.Notes line (note.Ended e n)) = refl
+found_with found fs _ = refl
 
 -- what is found at a point comes after what was found before
 pub found_on : (before now : List BodyEvent) → findings_of (events_onto now before) ≡ findings_of before ++ findings_of (events_onto now [])

@@ -55,16 +55,11 @@ grown_seam (b ∷ part) more h k = h
 pub part_seam : (events : List BodyEvent) → is_seam (part_of events) ≡ true
 part_seam [] = refl
 part_seam (event.Text (text.Kept c) ∷ events) = grown_seam (part_of events) _ (part_seam events) (first_byte c.c [])
-part_seam (event.Text (text.Part p) ∷ events) = part_seam events
-part_seam (event.Text (text.Found f) ∷ events) = part_seam events
 part_seam (event.Text (text.Ended text_end.Notes) ∷ events) = refl
-part_seam (event.Text (text.Ended text_end.Finished) ∷ events) = part_seam events
-part_seam (event.Text (text.Ended (text_end.Cut p)) ∷ events) = part_seam events
 part_seam (event.Notes line (note.Kept c) ∷ events) = grown_seam (part_of events) _ (part_seam events) (first_byte c.c [])
-part_seam (event.Notes line (note.Found f) ∷ events) = part_seam events
 part_seam (event.Notes line (note.Ended note_end.Next n) ∷ events) = refl
 part_seam (event.Notes line (note.Ended note_end.Close n) ∷ events) = refl
-part_seam (event.Notes line (note.Ended (note_end.Cut p) n) ∷ events) = part_seam events
+part_seam (_ ∷ events) = part_seam events
 
 taken_seam : (n : ℕ) (part : List ℕ) → is_seam part ≡ true → is_seam (take n part) ≡ true
 taken_seam zero part h = refl

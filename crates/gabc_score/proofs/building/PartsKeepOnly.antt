@@ -26,15 +26,12 @@ use Rattle.gabc_score.proofs.building.SnippetsTakeCharacters.{Ending, Going, tak
 text_codes : (es : List TextEvent) → kept_codes (text_events es) ≡ kept_in es
 text_codes [] = refl
 text_codes (text_out.Kept c ∷ es) = ap (λ (t : List ℕ). c.c ∷ t) (text_codes es)
-text_codes (text_out.Part p ∷ es) = text_codes es
-text_codes (text_out.Found f ∷ es) = text_codes es
-text_codes (text_out.Ended h ∷ es) = text_codes es
+text_codes (_ ∷ es) = text_codes es
 
 note_codes : (line : ℕ) (opened : Place) (es : List NoteEvent) → kept_codes (map (note_event line opened) es) ≡ kept_of es
 note_codes line opened [] = refl
 note_codes line opened (note.Kept c ∷ es) = ap (λ (t : List ℕ). c.c ∷ t) (note_codes line opened es)
-note_codes line opened (note.Found f ∷ es) = note_codes line opened es
-note_codes line opened (note.Ended h n ∷ es) = note_codes line opened es
+note_codes line opened (_ ∷ es) = note_codes line opened es
 
 -- nothing more, or the character
 nothing_or : (ds : List ℕ) (c : ℕ) → (ds ≡ []) ⊎ (ds ≡ c ∷ []) → All (IsKeptOf c) ds

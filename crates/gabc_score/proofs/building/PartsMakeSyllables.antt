@@ -57,15 +57,13 @@ whole_stays (event.Text (text_out.Part text_part.WordStart) ∷ now) g e = whole
 whole_stays (event.Text (text_out.Part (text_part.Piece p)) ∷ now) g e = whole_stays now (with_event g (event.Text (text_out.Part (text_part.Piece p)))) e
 whole_stays (event.Text (text_out.Part (text_part.Centre s)) ∷ now) g e = whole_stays now (with_event g (event.Text (text_out.Part (text_part.Centre s)))) e
 whole_stays (event.Text (text_out.Part (text_part.Translation s)) ∷ now) g e = whole_stays now (with_event g (event.Text (text_out.Part (text_part.Translation s)))) e
-whole_stays (event.Text (text_out.Found f) ∷ now) g e = whole_stays now g e
 whole_stays (event.Text (text_out.Ended text_end.Notes) ∷ now) g e = whole_stays now (with_event g (event.Text (text_out.Ended text_end.Notes))) e
-whole_stays (event.Text (text_out.Ended text_end.Finished) ∷ now) g e = whole_stays now g e
 whole_stays (event.Text (text_out.Ended (text_end.Cut p)) ∷ now) g e = whole_stays now (with_event g (event.Text (text_out.Ended (text_end.Cut p)))) e
 whole_stays (event.Notes line (note.Kept c) ∷ now) g e = whole_stays now (with_event g (event.Notes line (note.Kept c))) e
-whole_stays (event.Notes line (note.Found f) ∷ now) g e = whole_stays now g e
 whole_stays (event.Notes line (note.Ended note_end.Next n) ∷ now) g e = whole_stays now (with_event g (event.Notes line (note.Ended note_end.Next n))) e
 whole_stays (event.Notes line (note.Ended note_end.Close n) ∷ now) g e = absurd (true≢false e)
 whole_stays (event.Notes line (note.Ended (note_end.Cut p) n) ∷ now) g e = whole_stays now (with_event g (event.Notes line (note.Ended (note_end.Cut p) n))) e
+whole_stays (_ ∷ now) g e = whole_stays now g e
 
 pub made_stays : (now : List BodyEvent) (g : Gathered) → list_any closes now ≡ false → (with_all g now).made ≡ g.made
 made_stays now g e = ap (λ w. w.0) (whole_stays now g e)
@@ -80,11 +78,8 @@ texts_close_none (o ∷ es) = texts_close_none es
 
 notes_close_alike : (line : ℕ) (opened : Place) (es : List NoteEvent) → list_any closes (of_notes line opened es) ≡ list_any is_close es
 notes_close_alike line opened [] = refl
-notes_close_alike line opened (note.Kept c ∷ es) = notes_close_alike line opened es
-notes_close_alike line opened (note.Found f ∷ es) = notes_close_alike line opened es
-notes_close_alike line opened (note.Ended note_end.Next n ∷ es) = notes_close_alike line opened es
 notes_close_alike line opened (note.Ended note_end.Close n ∷ es) = refl
-notes_close_alike line opened (note.Ended (note_end.Cut p) n ∷ es) = notes_close_alike line opened es
+notes_close_alike line opened (_ ∷ es) = notes_close_alike line opened es
 
 pub text_makes : (lines macros : ℕ) (before : BodyPart) (es : List TextEvent) → PartMakes lines macros before (text_events es)
 text_makes lines macros before es = none_makes lines macros before (text_events es) (texts_close_none es)

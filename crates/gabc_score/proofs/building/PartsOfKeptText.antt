@@ -1,5 +1,6 @@
 -- What was gathered stays what the parts of the kept text say, with the events of each part.
-use Rattle.std.proofs.Common.{◌≡◌, ℕ, ◌+◌, nat_lt, Bool, true, false, cond, not, ◌&&◌, ◌==◌, List, [], ◌∷◌, ◌++◌, map, length, encode_utf8, encode_utf8_all, refl, sym, ap, subst, ◌∙◌, append-nil, append_assoc, length-append}
+use Rattle.std.proofs.lemmas.Bool.{false_from_ne_true, and_parts}
+use Rattle.std.proofs.Common.{◌≡◌, ℕ, ◌+◌, nat_lt, Bool, true, false, cond, not, ◌==◌, List, [], ◌∷◌, ◌++◌, map, length, encode_utf8, encode_utf8_all, refl, sym, ap, subst, ◌∙◌, append-nil, append_assoc, length-append}
 use Rattle.std.proofs.lemmas.Bool.{true≢false}
 use Rattle.std.proofs.lemmas.List.{map-append}
 use Rattle.std.proofs.lemmas.List.Folds.{list_any-append}
@@ -37,23 +38,18 @@ use Rattle.gabc_score.proofs.texts_of_body.SeamsOfCharacters.{size, cut_between}
 -- ---- the same was gathered of the syllable that is read
 
 piece_alike : (g h : Gathered) (p : TextPart) → ReadAlike g h → ReadAlike (with_event g (event.Text (text_out.Part p))) (with_event h (event.Text (text_out.Part p)))
-piece_alike g h text_part.WordStart r = record { builder = rw r.builder refl; eu = r.eu; nlba = r.nlba }
 piece_alike g h (text_part.Piece p) r = record { builder = rw r.builder refl; eu = rw (r.builder, r.eu) refl; nlba = rw (r.builder, r.nlba) refl }
-piece_alike g h (text_part.Centre s) r = record { builder = rw r.builder refl; eu = r.eu; nlba = r.nlba }
-piece_alike g h (text_part.Translation s) r = record { builder = rw r.builder refl; eu = r.eu; nlba = r.nlba }
+piece_alike g h _ r = record { builder = rw r.builder refl; eu = r.eu; nlba = r.nlba }
 
 pub event_alike : (g h : Gathered) (e : BodyEvent) → ReadAlike g h → ReadAlike (with_event g e) (with_event h e)
-event_alike g h (event.Text (text_out.Kept c)) r = record { builder = rw r.builder refl; eu = r.eu; nlba = r.nlba }
 event_alike g h (event.Text (text_out.Part p)) r = piece_alike g h p r
 event_alike g h (event.Text (text_out.Found f)) r = r
-event_alike g h (event.Text (text_out.Ended text_end.Notes)) r = record { builder = rw r.builder refl; eu = r.eu; nlba = r.nlba }
 event_alike g h (event.Text (text_out.Ended text_end.Finished)) r = r
 event_alike g h (event.Text (text_out.Ended (text_end.Cut p))) r = record { builder = r.builder; eu = r.eu; nlba = r.nlba }
-event_alike g h (event.Notes line (note.Kept c)) r = record { builder = rw r.builder refl; eu = r.eu; nlba = r.nlba }
 event_alike g h (event.Notes line (note.Found f)) r = r
-event_alike g h (event.Notes line (note.Ended note_end.Next n)) r = record { builder = rw r.builder refl; eu = r.eu; nlba = r.nlba }
 event_alike g h (event.Notes line (note.Ended note_end.Close n)) r = record { builder = refl; eu = r.eu; nlba = r.nlba }
 event_alike g h (event.Notes line (note.Ended (note_end.Cut p) n)) r = record { builder = r.builder; eu = r.eu; nlba = r.nlba }
+event_alike g h _ r = record { builder = rw r.builder refl; eu = r.eu; nlba = r.nlba }
 
 pub all_alike : (es : List BodyEvent) (g h : Gathered) → ReadAlike g h → ReadAlike (with_all g es) (with_all h es)
 all_alike [] g h r = r
@@ -124,32 +120,23 @@ parts_go_on (p ∷ ps) = parts_go_on ps
 -- a text ended
 ended_said : (es : List TextEvent) → list_any is_text_end (text.said es) ≡ list_any is_text_end es
 ended_said [] = refl
-ended_said (text_out.Kept c ∷ es) = ended_said es
-ended_said (text_out.Part p ∷ es) = ended_said es
-ended_said (text_out.Found f ∷ es) = ended_said es
 ended_said (text_out.Ended text_end.Notes ∷ es) = refl
-ended_said (text_out.Ended text_end.Finished ∷ es) = ended_said es
-ended_said (text_out.Ended (text_end.Cut p) ∷ es) = ended_said es
+ended_said (_ ∷ es) = ended_said es
 
 pub ends_text : (es : List TextEvent) → list_any is_text_end es ≡ true → text.end_text es ≡ true
 ends_text [] e = absurd (true≢false (sym e))
-ends_text (text_out.Kept c ∷ es) e = ends_text es e
-ends_text (text_out.Part p ∷ es) e = ends_text es e
-ends_text (text_out.Found f ∷ es) e = ends_text es e
 ends_text (text_out.Ended how ∷ es) e = refl
+ends_text (_ ∷ es) e = ends_text es e
 
 in_notes_ended : (es : List TextEvent) → text.EndsInNotes es → list_any is_text_end es ≡ true
 in_notes_ended es h = ap (list_any is_text_end) h.is ∙ list_any-append is_text_end (out_parts h.parts) (text_out.Ended text_end.Notes ∷ []) ∙ rw (parts_end h.parts) refl
 
 -- a text that does not end at its `(` does not end
 pub text_goes_on : (s t : TextStage) (c : ℕ) (es : List TextEvent) (k : List ℕ) → text.KeepsOn s c es t → text.Keeps s k → list_any is_text_end es ≡ false → text.end_text es ≡ false
-text_goes_on s t c es k on keeps goes_on = by (text.end_text es) refl
-  where
-    by : (b : Bool) → text.end_text es ≡ b → b ≡ false
-    by false e = refl
-    by true e =
-        let h = on.ends k keeps e in
-        absurd (true≢false (sym (in_notes_ended (text.said_at_end k) h.notes) ∙ ap (list_any is_text_end) (sym h.said) ∙ ended_said es ∙ goes_on))
+text_goes_on s t c es k on keeps goes_on =
+    false_from_ne_true (text.end_text es) (λ e.
+    let h = on.ends k keeps e in
+    true≢false (sym (in_notes_ended (text.said_at_end k) h.notes) ∙ ap (list_any is_text_end) (sym h.said) ∙ ended_said es ∙ goes_on))
 
 -- after the end of a text
 pub record IsMarked (g h : Gathered) (mark : ℕ) : Type 0 where
@@ -316,15 +303,7 @@ module _ (lines macros : ℕ) where
       ends = on.ends k here.keeps (ends_text es over)
 
       ends_there : text.ends_after_it k ≡ true
-      ends_there = by (not_comment) (c == 40) (text.ends_after_it k) (sym (on.end k here.keeps) ∙ ends_text es over)
-        where
-          not_comment : Bool
-          not_comment = not (is_in_comment s)
-
-          by : (a b d : Bool) → (a && (b && d)) ≡ true → d ≡ true
-          by true true d e = e
-          by true false d e = absurd (true≢false (sym e))
-          by false b d e = absurd (true≢false (sym e))
+      ends_there = (and_parts (c == 40) (text.ends_after_it k) (and_parts (not (is_in_comment s)) _ (sym (on.end k here.keeps) ∙ ends_text es over)).1).1
 
       gathered_is : with_all g (text_events es) ≡ with_all g (text_events (text.said_at_end k))
       gathered_is = said_gathered g es ∙ ap (λ (os : List TextEvent). with_all g (text_events os)) ends.said

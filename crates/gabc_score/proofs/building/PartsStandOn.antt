@@ -21,10 +21,8 @@ use Rattle.gabc_score.specs.machine.PartSteps as step
 
 -- a part that reads a snippet counts no place
 snippet_stands : {lines macros line : ℕ} {opened : Place} (at : Place) (after : BodyPart) → Begins lines macros line opened after → IsAt at after
-snippet_stands at part.Comment b = tt
 snippet_stands at (part.Text s) b = absurd (let e = b.reads [] in cc)
-snippet_stands at (part.Notes o s) b = tt
-snippet_stands at (part.Nabc l o s) b = tt
+snippet_stands at _ b = tt
 
 module _ (lines macros : ℕ) (x : Char) where
   pub text_stands_on : (s t : TextStage) (es : List TextEvent) → text.KeepsOn s x.c es t → list_any is_text_end es ≡ false → PartStandsOn lines macros x (part.Text s) (part.Text t)

@@ -1,4 +1,6 @@
 -- What a snippet does with a character, be it of GABC or of NABC: it goes on, or it ends.
+use Rattle.std.proofs.Math.Bool.{or-false}
+use Rattle.std.proofs.lemmas.Bool.{not-true, and_parts}
 use Rattle.std.proofs.Common.{◌≡◌, ◌≢◌, ◌==◌, ◌&&◌, ◌||◌, ◌⊎◌, inl, inr, not, ℕ, zero, suc, ◌-◌, ◌^◌, min, nat_lt, Bool, true, false, List, [], ◌∷◌, ◌++◌, Option, Some, None, refl, sym, ap, subst, ◌∙◌, append-nil, if◌then◌else◌}
 use Rattle.std.proofs.lemmas.Bool.{eqb-true, true≢false}
 use Rattle.std.proofs.lemmas.List.{append_cancel_left}
@@ -48,19 +50,13 @@ is_close_end how = false
 
 any_next : (es : List NoteEvent) → list_any is_next es ≡ list_any (λ (e : NoteEnd × ℕ). is_next_end e.0) (ends_of es)
 any_next [] = refl
-any_next (note.Kept c ∷ es) = any_next es
-any_next (note.Found f ∷ es) = any_next es
 any_next (note.Ended note_end.Next n ∷ es) = refl
-any_next (note.Ended note_end.Close n ∷ es) = any_next es
-any_next (note.Ended (note_end.Cut p) n ∷ es) = any_next es
+any_next (_ ∷ es) = any_next es
 
 any_close : (es : List NoteEvent) → list_any is_close es ≡ list_any (λ (e : NoteEnd × ℕ). is_close_end e.0) (ends_of es)
 any_close [] = refl
-any_close (note.Kept c ∷ es) = any_close es
-any_close (note.Found f ∷ es) = any_close es
-any_close (note.Ended note_end.Next n ∷ es) = any_close es
 any_close (note.Ended note_end.Close n ∷ es) = refl
-any_close (note.Ended (note_end.Cut p) n ∷ es) = any_close es
+any_close (_ ∷ es) = any_close es
 
 -- none, or one by the mark at which the snippet ended
 module _ (es : List NoteEvent) (c n : ℕ) where
@@ -70,45 +66,38 @@ module _ (es : List NoteEvent) (c n : ℕ) where
   pub none_close : ends_of es ≡ [] → list_any is_close es ≡ false
   none_close e = any_close es ∙ ap (list_any (λ (e : NoteEnd × ℕ). is_close_end e.0)) e
 
-  pub one_ends : ends_of es ≡ (end_by_mark c, n) ∷ [] → list_any is_next es ≡ false → list_any is_close es ≡ false → ⊥
-  one_ends e f g = by (c == 124) (sym (any_next es ∙ ap (list_any (λ (e : NoteEnd × ℕ). is_next_end e.0)) e) ∙ f) (sym (any_close es ∙ ap (list_any (λ (e : NoteEnd × ℕ). is_close_end e.0)) e) ∙ g)
+  next_is : ends_of es ≡ (end_by_mark c, n) ∷ [] → list_any is_next es ≡ (c == 124)
+  next_is e = any_next es ∙ ap (list_any (λ (e : NoteEnd × ℕ). is_next_end e.0)) e ∙ by (c == 124)
     where
-      by : (b : Bool) → list_any (λ (e : NoteEnd × ℕ). is_next_end e.0) ((if b then note_end.Next else note_end.Close, n) ∷ []) ≡ false
-          → list_any (λ (e : NoteEnd × ℕ). is_close_end e.0) ((if b then note_end.Next else note_end.Close, n) ∷ []) ≡ false → ⊥
-      by true h k = true≢false h
-      by false h k = true≢false k
+      by : (b : Bool) → list_any (λ (e : NoteEnd × ℕ). is_next_end e.0) ((if b then note_end.Next else note_end.Close, n) ∷ []) ≡ b
+      by true = refl
+      by false = refl
+
+  close_is : ends_of es ≡ (end_by_mark c, n) ∷ [] → list_any is_close es ≡ not (c == 124)
+  close_is e = any_close es ∙ ap (list_any (λ (e : NoteEnd × ℕ). is_close_end e.0)) e ∙ by (c == 124)
+    where
+      by : (b : Bool) → list_any (λ (e : NoteEnd × ℕ). is_close_end e.0) ((if b then note_end.Next else note_end.Close, n) ∷ []) ≡ not b
+      by true = refl
+      by false = refl
+
+  pub one_ends : ends_of es ≡ (end_by_mark c, n) ∷ [] → list_any is_next es ≡ false → list_any is_close es ≡ false → ⊥
+  one_ends e f g = true≢false (ap not (sym f ∙ next_is e) ∙ sym (close_is e) ∙ g)
 
   pub next_ends : ends_of es ≡ (end_by_mark c, n) ∷ [] → list_any is_next es ≡ true → ends_of es ≡ (note_end.Next, n) ∷ []
-  next_ends e f = e ∙ ap (λ (how : NoteEnd). (how, n) ∷ []) (by (c == 124) (sym (any_next es ∙ ap (list_any (λ (e : NoteEnd × ℕ). is_next_end e.0)) e) ∙ f))
-    where
-      by : (b : Bool) → list_any (λ (e : NoteEnd × ℕ). is_next_end e.0) ((if b then note_end.Next else note_end.Close, n) ∷ []) ≡ true → (if b then note_end.Next else note_end.Close) ≡ note_end.Next
-      by true h = refl
-      by false h = absurd (true≢false (sym h))
+  next_ends e f = e ∙ ap (λ (b : Bool). (if b then note_end.Next else note_end.Close, n) ∷ []) (sym (next_is e) ∙ f)
 
   pub next_mark : ends_of es ≡ (end_by_mark c, n) ∷ [] → list_any is_next es ≡ true → c ≡ 124
-  next_mark e f = by (c == 124) refl (sym (any_next es ∙ ap (list_any (λ (e : NoteEnd × ℕ). is_next_end e.0)) e) ∙ f)
-    where
-      by : (b : Bool) → (c == 124) ≡ b → list_any (λ (e : NoteEnd × ℕ). is_next_end e.0) ((if b then note_end.Next else note_end.Close, n) ∷ []) ≡ true → c ≡ 124
-      by true g h = eqb-true c 124 g
-      by false g h = absurd (true≢false (sym h))
+  next_mark e f = eqb-true c 124 (sym (next_is e) ∙ f)
 
   pub not_next : ends_of es ≡ (end_by_mark c, n) ∷ [] → list_any is_close es ≡ true → (c == 124) ≡ false
-  not_next e f = by (c == 124) refl (sym (any_close es ∙ ap (list_any (λ (e : NoteEnd × ℕ). is_close_end e.0)) e) ∙ f)
-    where
-      by : (b : Bool) → (c == 124) ≡ b → list_any (λ (e : NoteEnd × ℕ). is_close_end e.0) ((if b then note_end.Next else note_end.Close, n) ∷ []) ≡ true → b ≡ false
-      by true g h = absurd (true≢false (sym h))
-      by false g h = refl
+  not_next e f = not-true (c == 124) (sym (close_is e) ∙ f)
 
   pub close_ends : ends_of es ≡ (end_by_mark c, n) ∷ [] → list_any is_close es ≡ true → ends_of es ≡ (note_end.Close, n) ∷ []
-  close_ends e f = e ∙ ap (λ (how : NoteEnd). (how, n) ∷ []) (by (c == 124) (sym (any_close es ∙ ap (list_any (λ (e : NoteEnd × ℕ). is_close_end e.0)) e) ∙ f))
-    where
-      by : (b : Bool) → list_any (λ (e : NoteEnd × ℕ). is_close_end e.0) ((if b then note_end.Next else note_end.Close, n) ∷ []) ≡ true → (if b then note_end.Next else note_end.Close) ≡ note_end.Close
-      by true h = absurd (true≢false (sym h))
-      by false h = refl
+  close_ends e f = e ∙ ap (λ (b : Bool). (if b then note_end.Next else note_end.Close, n) ∷ []) (not_next e f)
 
   -- what ends at a `|` does not close
   pub next_alone : ends_of es ≡ (end_by_mark c, n) ∷ [] → list_any is_next es ≡ true → list_any is_close es ≡ false
-  next_alone e f = any_close es ∙ ap (list_any (λ (e : NoteEnd × ℕ). is_close_end e.0)) (next_ends e f)
+  next_alone e f = close_is e ∙ ap not (sym (next_is e) ∙ f)
 
 -- ---- it goes on, or ends
 
@@ -178,21 +167,13 @@ module _ (lines macros : ℕ) (x : Char) where
 
     -- a `|` ends it only where snippets are split
     splits : (b r : Bool) → x.c ≡ 124 → (b && (r && ((x.c == 41) || (split && (x.c == 124))))) ≡ true → split ≡ true
-    splits b r c = subst (λ (c : ℕ). (b && (r && ((c == 41) || (split && (c == 124))))) ≡ true → split ≡ true) (sym c) (by b r split)
-      where
-        by : (b r s : Bool) → (b && (r && (s && true))) ≡ true → s ≡ true
-        by true true true e = refl
-        by true true false e = absurd (true≢false (sym e))
-        by true false s e = absurd (true≢false (sym e))
-        by false r s e = absurd (true≢false (sym e))
+    splits b r c =
+        subst (λ (c : ℕ). (b && (r && ((c == 41) || (split && (c == 124))))) ≡ true → split ≡ true) (sym c)
+        (λ e. (and_parts split _ (and_parts r _ (and_parts b _ e).1).1).0)
 
     gabc_mark : (a r b s d : Bool) → (x.c == 41) ≡ b → (x.c == 124) ≡ d → (a && (r && (b || (s && d)))) ≡ true → (x.c ≡ 124) ⊎ (x.c ≡ 41)
-    gabc_mark true true true s d f g e = inr (eqb-true x.c 41 f)
-    gabc_mark true true false true true f g e = inl (eqb-true x.c 124 g)
-    gabc_mark true true false true false f g e = absurd (true≢false (sym e))
-    gabc_mark true true false false d f g e = absurd (true≢false (sym e))
-    gabc_mark true false b s d f g e = absurd (true≢false (sym e))
-    gabc_mark false r b s d f g e = absurd (true≢false (sym e))
+    gabc_mark a r true s d f g e = inr (eqb-true x.c 41 f)
+    gabc_mark a r false s d f g e = inl (eqb-true x.c 124 (g ∙ (and_parts s d (and_parts r _ (and_parts a _ e).1).1).1))
 
     gabc_ends : notes.is_end_after split k (tells.comment_of s) x.c ≡ true → Ending lines macros 0 x es (in_notes u earlier k)
     gabc_ends over =
@@ -224,11 +205,7 @@ module _ (lines macros : ℕ) (x : Char) where
     -- in a comment nothing is kept
     none_in_comment : (m : Bool) → nabc.comment_of s ≡ m → comment_in m x.c ≡ true → nabc.kept_after k m x.c ≡ k
     none_in_comment true e i = refl
-    none_in_comment false e i = ap (nabc.kept_after k false) (eqb-true x.c 37 (by (x.c == 37) i))
-      where
-        by : (b : Bool) → (b || (false && not (x.c == 10))) ≡ true → b ≡ true
-        by true i = refl
-        by false i = absurd (true≢false (sym i))
+    none_in_comment false e i = ap (nabc.kept_after k false) (eqb-true x.c 37 (sym (or-false (x.c == 37)) ∙ i))
 
     nabc_goes : nabc.is_end_after (nabc.comment_of s) x.c ≡ false → Going lines macros line x (part.Nabc line opened s) (part.Nabc line opened t) es (in_notes u earlier k)
     nabc_goes e =
@@ -244,10 +221,8 @@ module _ (lines macros : ℕ) (x : Char) where
         }
 
     nabc_mark : (a b d : Bool) → (x.c == 41) ≡ b → (x.c == 124) ≡ d → (not a && (b || d)) ≡ true → (x.c ≡ 124) ⊎ (x.c ≡ 41)
-    nabc_mark false true d f g e = inr (eqb-true x.c 41 f)
-    nabc_mark false false true f g e = inl (eqb-true x.c 124 g)
-    nabc_mark false false false f g e = absurd (true≢false (sym e))
-    nabc_mark true b d f g e = absurd (true≢false (sym e))
+    nabc_mark a true d f g e = inr (eqb-true x.c 41 f)
+    nabc_mark a false d f g e = inl (eqb-true x.c 124 (g ∙ (and_parts (not a) d e).1))
 
     of_line : (l : ℕ) (v : List ℕ) → l ≢ 0 → IsSnippet nabc_table v → IsSnippetOf l v
     of_line zero v some i = absurd (some refl)

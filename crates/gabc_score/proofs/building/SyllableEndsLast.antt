@@ -45,28 +45,21 @@ last_emits_so ends (e ∷ f ∷ es) x h k = go (ends e) refl (last_emits_so ends
     go false g t = rw g t
 
 pub close_ends : (x : NoteEvent) → is_close x ≡ true → is_ended x ≡ true
-close_ends (note.Kept c) h = absurd (cc)
-close_ends (note.Found f) h = absurd (cc)
 close_ends (note.Ended how n) h = refl
+close_ends _ h = absurd (cc)
 
 -- so does the `|`
 pub next_ends : (x : NoteEvent) → is_next x ≡ true → is_ended x ≡ true
 next_ends (note.Ended how n) e = refl
-next_ends (note.Kept c) e = absurd (cc)
-next_ends (note.Found f) e = absurd (cc)
+next_ends _ e = absurd (cc)
 
 pub text_end_ends : (x : TextEvent) → is_text_end x ≡ true → is_end x ≡ true
-text_end_ends (text.Kept c) h = absurd (cc)
-text_end_ends (text.Part p) h = absurd (cc)
-text_end_ends (text.Found f) h = absurd (cc)
 text_end_ends (text.Ended how) h = refl
+text_end_ends _ h = absurd (cc)
 
 close_is : (line : ℕ) (opened : Place) (x : NoteEvent) → closes (note_event line opened x) ≡ is_close x
-close_is line opened (note.Kept c) = refl
-close_is line opened (note.Found f) = refl
 close_is line opened (note.Ended note_end.Next n) = refl
-close_is line opened (note.Ended note_end.Close n) = refl
-close_is line opened (note.Ended (note_end.Cut p) n) = refl
+close_is line opened _ = refl
 
 pub notes_close_last : (line : ℕ) (opened : Place) (es : List NoteEvent) → EndsLast is_close es → ClosesLast (map (note_event line opened) es)
 notes_close_last line opened [] h = tt

@@ -1,5 +1,6 @@
 -- What is open in a part of a body follows from the kept text, and from the place at which the end
 -- cuts it.
+use Rattle.std.proofs.Math.Bool.{and-false}
 use Rattle.std.proofs.Common.{◌≡◌, ◌≢◌, inl, inr, ◌==◌, ◌&&◌, ◌+◌, not, ℕ, zero, suc, Bool, true, false, if◌then◌else◌, List, [], ◌∷◌, ◌++◌, length, map, Option, Some, None, is_some, unwrap_or, refl, sym, ap, ◌∙◌, arith, append-nil}
 use Rattle.std.specs.Prelude.{IfSome}
 use Rattle.std.proofs.lemmas.Bool.{false≢true}
@@ -46,39 +47,30 @@ module _ (laws : Ends) (lines macros : ℕ) where
   notes_by part.Comment p keeps front = absurd (false≢true (sym front))
   notes_by (part.Text s) (in_text k) keeps front = refl
   notes_by (part.Text s) (in_notes u earlier k) keeps front = absurd keeps
-  notes_by (part.Notes opened s) (in_text k) keeps front = absurd keeps
   notes_by (part.Notes opened s) (in_notes u earlier k) keeps front = refl
-  notes_by (part.Nabc line opened s) (in_text k) keeps front = absurd keeps
   notes_by (part.Nabc line opened s) (in_notes u earlier k) keeps front = refl
+  notes_by _ (in_text k) keeps front = absurd keeps
 
   pub inner_by : (b : BodyPart) (p : KeptParts) → PartKeeps lines macros b p → is_in_front b ≡ false → is_some (openers_of b).inner ≡ is_open_in lines p
   inner_by part.Comment p keeps front = absurd (false≢true (sym front))
   inner_by (part.Text s) (in_text k) keeps front = laws.text_opener s k keeps
   inner_by (part.Text s) (in_notes u earlier k) keeps front = absurd keeps
-  inner_by (part.Notes opened s) (in_text k) keeps front = absurd keeps
   inner_by (part.Notes opened s) (in_notes u earlier k) keeps front =
       laws.gabc_opener _ macros s k keeps.1 ∙ ap (λ (n : ℕ). if n == 0 then in_raw k else false) (sym keeps.0.line_is)
-  inner_by (part.Nabc line opened s) (in_text k) keeps front = absurd keeps
   inner_by (part.Nabc line opened s) (in_notes u earlier k) keeps front = by line keeps.1.0 ∙ ap (λ (n : ℕ). if n == 0 then in_raw k else false) (sym keeps.0.line_is)
     where
       by : (n : ℕ) → n ≢ 0 → false ≡ (if n == 0 then in_raw k else false)
       by zero some = absurd (some refl)
-      by (suc n) some = ap (λ (b : Bool). if b then in_raw k else false) (sym (not_zero n))
-        where
-          not_zero : (n : ℕ) → (suc n == 0) ≡ false
-          not_zero n = grind arith
+      by (suc n) some = ap (λ (b : Bool). if b then in_raw k else false) {x = false} {y = suc n == 0} (grind arith)
+  inner_by _ (in_text k) keeps front = absurd keeps
 
 -- ---- where the end cuts
 
 -- a text, by its own events
 text_cut_of : (es : List TextEvent) → cut_of (text_events es ++ []) ≡ text_tells.cut_place es
 text_cut_of [] = refl
-text_cut_of (text_out.Kept x ∷ es) = text_cut_of es
-text_cut_of (text_out.Part p ∷ es) = text_cut_of es
-text_cut_of (text_out.Found f ∷ es) = text_cut_of es
-text_cut_of (text_out.Ended text_end.Notes ∷ es) = text_cut_of es
-text_cut_of (text_out.Ended text_end.Finished ∷ es) = text_cut_of es
 text_cut_of (text_out.Ended (text_end.Cut p) ∷ es) = refl
+text_cut_of (_ ∷ es) = text_cut_of es
 
 one_list : (lists : List (List TextEvent)) → length lists ≡ 0 + 1 → concat_of lists ≡ first_list lists
 one_list [] e = absurd (omega (arith, e))
@@ -94,11 +86,7 @@ no_other p = ap (λ (b : Bool). not (b && p.column == p.column)) (same_eqb p.lin
 
 later_other : (p q : Place) → IsEarlier q p → is_other (Some p) (Some q) ≡ true
 later_other p q (inl h) = ap (λ (b : Bool). not (b && p.column == q.column)) (above_eqb p.line q.line h)
-later_other p q (inr h) = ap (λ (b : Bool). not (p.line == q.line && b)) (above_eqb p.column q.column h.1) ∙ by (p.line == q.line)
-  where
-    by : (b : Bool) → not (b && false) ≡ true
-    by true = refl
-    by false = refl
+later_other p q (inr h) = ap (λ (b : Bool). not (p.line == q.line && b)) (above_eqb p.column q.column h.1) ∙ ap not (and-false (p.line == q.line))
 
 abbrev no_place : Place
 no_place = record { line = 0; column = 0 }
@@ -121,11 +109,9 @@ module _ (laws : Ends) (lines macros : ℕ) where
       ∙ ap text_tells.cut_place (sym (one_list (text_rest.events_left s []) (laws.text_each s []))))
       ∙ other_none (text_tells.opener_of s)
   cut_is (part.Text s) (in_notes u earlier k) keeps front next o = absurd keeps
-  cut_is (part.Notes opened s) (in_text k) keeps front next o = absurd keeps
   cut_is (part.Notes opened s) (in_notes u earlier k) keeps front next o =
       ap (λ (lists : List (List NoteEvent)). is_other (cut_of (map (note_event 0 opened) (first_list lists) ++ [])) (Some opened)) (laws.gabc_cut s keeps.1.goes_on).emits
       ∙ cut_by next opened (note_tells.opener_of s) o.inner o.in_order
-  cut_is (part.Nabc line opened s) (in_text k) keeps front next o = absurd keeps
   cut_is (part.Nabc line opened s) (in_notes u earlier k) keeps front next o =
       ap (λ (lists : List (List NoteEvent)). is_other (cut_of (map (note_event line opened) (first_list lists) ++ [])) (Some opened)) (keeps.1.1.emits [])
       ∙ by (has_end (nabc.with_comment k (nabc.comment_of s)))
@@ -133,3 +119,4 @@ module _ (laws : Ends) (lines macros : ℕ) where
       by : (b : Bool) → is_other (cut_of (map (note_event line opened) (first_list ((if b then [] else note.Ended (note_end.Cut no_place) (bytes_in (kept_of (nabc.with_comment k (nabc.comment_of s)))) ∷ []) ∷ [])) ++ [])) (Some opened) ≡ false
       by true = refl
       by false = no_other opened
+  cut_is _ (in_text k) keeps front next o = absurd keeps

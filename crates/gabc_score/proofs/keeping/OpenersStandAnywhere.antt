@@ -77,12 +77,11 @@ module _ (laws : Moves) (lines macros : ℕ) where
   opens_so part.Comment p o keeps front n i = absurd (false≢true (sym front))
   opens_so (part.Text s) (in_text k) o keeps front n i = text_so s k o.notes o.inner keeps n i
   opens_so (part.Text s) (in_notes u earlier k) o keeps front n i = absurd keeps
-  opens_so (part.Notes opened s) (in_text k) o keeps front n i = absurd keeps
   opens_so (part.Notes opened s) (in_notes u earlier k) o keeps front n i = notes_so opened s u earlier k o.notes o.inner keeps n i
-  opens_so (part.Nabc line opened s) (in_text k) o keeps front n i = absurd keeps
   opens_so (part.Nabc line opened s) (in_notes u earlier k) o keeps front n i = by o.notes o.inner n i
     where
       by : (n i : Option Place) → is_some n ≡ true → is_some i ≡ false → OpensSo lines macros (part.Nabc line opened s) (in_notes u earlier k) (record { notes = n; inner = i })
       by None i e f = absurd (false≢true e)
       by (Some q) (Some at) e f = absurd (true≢false f)
       by (Some q) None e f = record { there = part.Nabc line q s; keeps = keeps; openers = refl; comment = refl; front = refl }
+  opens_so _ (in_text k) o keeps front n i = absurd keeps

@@ -1,6 +1,7 @@
 -- Of a character a part of a body keeps no more bytes than it has, and none where a comment is open
 -- then.
-use Rattle.std.proofs.Common.{◌≡◌, ◌⊎◌, ◌≤◌, ◌+◌, ◌==◌, ◌&&◌, not, ℕ, Bool, true, false, List, [], ◌∷◌, ◌++◌, length, encode_utf8, encode_utf8_all, inl, inr, refl, sym, ap, ◌∙◌, subst, arith, append-nil, length-append}
+use Rattle.std.proofs.Math.Bool.{and-false}
+use Rattle.std.proofs.Common.{◌≡◌, ◌⊎◌, ◌≤◌, ◌+◌, ◌==◌, ◌&&◌, not, ℕ, true, false, List, [], ◌∷◌, ◌++◌, length, encode_utf8, encode_utf8_all, inl, inr, refl, sym, ap, ◌∙◌, subst, arith, append-nil, length-append}
 use Rattle.std.proofs.lemmas.Bool.{false≢true, true≢false}
 use Rattle.std.proofs.lemmas.List.{append_cancel_left}
 use Rattle.std.proofs.lemmas.List.Elements.{All-head}
@@ -106,11 +107,7 @@ module _ (lines macros : ℕ) where
       -- a `%` does not end it
       no_percent : {A : Type 0} (k : List ℕ) → text.Keeps s k → x.c ≡ 37 → A
       no_percent k keeps is =
-          absurd (true≢false (sym (ends_text t.events e) ∙ t.keeps.end k keeps ∙ ap (λ (c : ℕ). not (text_tells.is_in_comment s) && (c == 40 && text.ends_after_it k)) is ∙ by (text_tells.is_in_comment s)))
-        where
-          by : (b : Bool) → (not b && (37 == 40 && text.ends_after_it k)) ≡ false
-          by true = refl
-          by false = refl
+          absurd (true≢false (sym (ends_text t.events e) ∙ t.keeps.end k keeps ∙ ap (λ (c : ℕ). not (text_tells.is_in_comment s) && (c == 40 && text.ends_after_it k)) is ∙ and-false (not (text_tells.is_in_comment s))))
 
       pub text_end_one : KeepsOne lines macros x (part.Text s) after (text_events t.events)
       text_end_one = record { few = few; none = λ p keeps opened g. absurd (false≢true (sym outside ∙ opened)); made = made; percent = percent }

@@ -1,4 +1,5 @@
 -- A part of a body that keeps parts of a kept text takes a character.
+use Rattle.std.proofs.lemmas.Bool.{false_from_ne_true}
 use Rattle.std.proofs.Common.{◌≡◌, ◌≤◌, ℕ, zero, suc, nat_lt, Bool, true, false, if◌then◌else◌, List, [], ◌∷◌, Option, Some, None, is_some, refl, sym, ap, ◌∙◌, arith}
 use Rattle.std.proofs.lemmas.Bool.{false≢true, true≢false}
 use Rattle.std.specs.List.{list_any}
@@ -55,19 +56,14 @@ use Rattle.gabc_score.proofs.stopped_scores.ClosedWithin.{close_count, count_one
 
 text_opens : (es : List TextEvent) → list_any opens (text_events es) ≡ list_any is_text_end es
 text_opens [] = refl
-text_opens (text_out.Kept x ∷ es) = text_opens es
-text_opens (text_out.Part p ∷ es) = text_opens es
-text_opens (text_out.Found f ∷ es) = text_opens es
 text_opens (text_out.Ended text_end.Notes ∷ es) = refl
-text_opens (text_out.Ended text_end.Finished ∷ es) = text_opens es
-text_opens (text_out.Ended (text_end.Cut p) ∷ es) = text_opens es
+text_opens (_ ∷ es) = text_opens es
 
 module _ (line : ℕ) (opened : Place) where
   none_opens : (es : List NoteEvent) → list_any opens (of_notes line opened es) ≡ false
   none_opens [] = refl
   none_opens (note.Kept x ∷ es) = none_opens es
-  none_opens (note.Found f ∷ es) = none_opens es
-  none_opens (note.Ended how n ∷ es) = none_opens es
+  none_opens (_ ∷ es) = none_opens es
 
   one_closes : (es : List NoteEvent) → list_any is_close es ≡ true → 1 ≤ close_count (of_notes line opened es)
   one_closes [] e = absurd (false≢true e)
@@ -95,10 +91,6 @@ pub record TakesOne (lines macros : ℕ) (before : BodyPart) (x : Char) : Type 0
   pub opens_once : is_some (openers_of before).notes ≡ true → list_any opens now ≡ false
 
 -- ---- by its step
-
-never : (b : Bool) → (b ≡ true → ⊥) → b ≡ false
-never true h = absurd (h refl)
-never false h = refl
 
 module _ {lines macros : ℕ} {x : Char} where
   notes_are : {before after : BodyPart} {now : List BodyEvent} → PartSteps lines macros x before now after → close_count now ≡ 0 → (openers_of after).notes ≡ (if list_any opens now then Some x.place else (openers_of before).notes)
@@ -128,7 +120,7 @@ module _ {lines macros : ℕ} {x : Char} where
     keeps = keeps_on s;
     opens_on = opens_on s;
     stands = stands_on s;
-    front = never (is_in_front after) (λ in_front. true≢false (sym (leaves_front s in_front).0 ∙ front));
+    front = false_from_ne_true (is_in_front after) (λ in_front. true≢false (sym (leaves_front s in_front).0 ∙ front));
     keeps_one = one;
     notes_are = notes_are s;
     opens_once = opens_once s;
@@ -197,11 +189,10 @@ module _ (laws : Steps) (lines macros : ℕ) where
   takes_one part.Comment p keeps front x = absurd (false≢true (sym front))
   takes_one (part.Text s) (in_text k) keeps front x = let t = laws.text_takes s x.c keeps.goes_on in text_takes s x t (list_any is_text_end t.events) refl
   takes_one (part.Text s) (in_notes u earlier k) keeps front x = absurd keeps
-  takes_one (part.Notes opened s) (in_text k) keeps front x = absurd keeps
   takes_one (part.Notes opened s) (in_notes u earlier k) keeps front x =
       let t = laws.gabc_takes s x keeps.1.goes_on in
       snippet_takes (step.in_gabc {opened = opened} (record { emits = t.emits; keeps = t.keeps })) refl (gabc_percent opened s x t) (list_any is_next t.events) (list_any is_close t.events) refl refl
-  takes_one (part.Nabc line opened s) (in_text k) keeps front x = absurd keeps
   takes_one (part.Nabc line opened s) (in_notes u earlier k) keeps front x =
       let t = laws.nabc_takes s x in
       snippet_takes (step.in_nabc {line = line} {opened = opened} (record { emits = t.emits; keeps = t.keeps })) refl (nabc_percent line opened s x t) (list_any is_next t.events) (list_any is_close t.events) refl refl
+  takes_one _ (in_text k) keeps front x = absurd keeps

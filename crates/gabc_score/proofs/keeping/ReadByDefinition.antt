@@ -33,12 +33,8 @@ pub since_all : (ts : List BodyEvent) → all_syllables ts ≡ [] → since_clos
 since_all [] e = refl
 since_all (t ∷ ts) e = by (closes t) e (since_all ts)
   where
-    none : (ms : List UnplacedSyllable) (m : UnplacedSyllable) → ms ++ m ∷ [] ≡ [] → ⊥
-    none [] m h = cc
-    none (n ∷ ms) m h = cc
-
     by : (b : Bool) → cond b (all_syllables ts ++ syllable_by (t ∷ since_close ts) (is_eu ts) (is_nlba ts) ∷ []) (all_syllables ts) ≡ [] → (all_syllables ts ≡ [] → since_close ts ≡ ts) → cond b [] (t ∷ since_close ts) ≡ t ∷ ts
-    by true h later = absurd (none (all_syllables ts) (syllable_by (t ∷ since_close ts) (is_eu ts) (is_nlba ts)) h)
+    by true h later = absurd (let n = ap (λ (ms : List UnplacedSyllable). length ms) h in omega (arith, n, length-append (all_syllables ts) (syllable_by (t ∷ since_close ts) (is_eu ts) (is_nlba ts) ∷ [])))
     by false h later = ap (λ (us : List BodyEvent). t ∷ us) (later h)
 
 -- lists of other characters say nothing of where these open notes

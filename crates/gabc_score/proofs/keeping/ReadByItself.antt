@@ -182,9 +182,8 @@ module _ (steps : Steps) (lines macros : ℕ) where
   notes_on : (was next : Option Place) (opened : Bool) (at : Place) (later last : Option Place) → next ≡ (if opened then Some at else was) → (is_some was ≡ true → opened ≡ false) → option_or next later ≡ last
       → option_or was (if opened then Some at else later) ≡ last
   notes_on (Some p) next true at later last e once h = absurd (true≢false (once refl))
-  notes_on (Some p) next false at later last e once h = ap (λ (o : Option Place). option_or o later) (sym e) ∙ h
   notes_on None next true at later last e once h = ap (λ (o : Option Place). option_or o later) (sym e) ∙ h
-  notes_on None next false at later last e once h = ap (λ (o : Option Place). option_or o later) (sym e) ∙ h
+  notes_on _ next false at later last e once h = ap (λ (o : Option Place). option_or o later) (sym e) ∙ h
 
   module _ (again : Again) (told : BodyPart) (p : KeptParts) (keeps : PartKeeps lines macros told p) (fits : length (encode_utf8_all (joined p)) < 2 ^ 64) where
     -- the next character of the text that is reported

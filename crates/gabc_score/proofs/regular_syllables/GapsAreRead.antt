@@ -1,4 +1,5 @@
 -- Blanks and comments before a text, byte by byte.
+use Rattle.std.proofs.lemmas.Bool.{and_parts}
 use Rattle.std.proofs.Common.{◌≡◌, ℕ, zero, suc, ◌+◌, ◌<◌, List, [], ◌∷◌, ◌++◌, Bool, true, false, not, ◌&&◌, ◌==◌, nat_lt, if◌then◌else◌, length, take, drop, slice_index, refl, sym, ap, subst, ◌∙◌, arith, append_assoc}
 use Rattle.std.specs.List.{All}
 use Rattle.std.specs.Str.{IsAscii}
@@ -54,12 +55,7 @@ pub record IsOpenComment (bytes : List ℕ) : Type 0 where
   pub plain : All IsPlain bytes
 
 printable_is : (c : ℕ) → is_printable c ≡ true → (31 < c) × (c < 127)
-printable_is c h = by (nat_lt 31 c) (nat_lt c 127) refl refl h
-  where
-    by : (x y : Bool) → nat_lt 31 c ≡ x → nat_lt c 127 ≡ y → (x && y) ≡ true → (31 < c) × (c < 127)
-    by true true e f h = (ltb-true 31 c e, ltb-true c 127 f)
-    by true false e f h = absurd (cc)
-    by false y e f h = absurd (cc)
+printable_is c h = let p = and_parts (nat_lt 31 c) (nat_lt c 127) h in (ltb-true 31 c p.0, ltb-true c 127 p.1)
 
 pub more_opened : (bytes : List ℕ) (n : ℕ) → n < length bytes → is_printable (slice_index bytes n) ≡ true → IsOpenComment (take n bytes) → IsOpenComment (take (n + 1) bytes)
 more_opened bytes n less h o = subst IsOpenComment (sym (take_more bytes n 0 less)) (with_one (slice_index bytes n) h)

@@ -1,4 +1,6 @@
 -- A score that holds one syllable at most reads another one, by the lists of its characters.
+use Rattle.std.proofs.Common.{length-append}
+use Rattle.std.proofs.Math.Bool.{or-false}
 use Rattle.std.proofs.Common.{◌≡◌, ℕ, zero, suc, ◌+◌, ◌-◌, ◌<◌, ◌≤◌, ◌||◌, not, nat_lt, Bool, true, false, List, [], ◌∷◌, ◌++◌, map, length, take, drop, Option, Some, None, is_some, refl, sym, ap, subst, ◌∙◌, arith, append_assoc, append-nil}
 use Rattle.std.proofs.lemmas.Bool.{true≢false}
 use Rattle.std.proofs.lemmas.Bool.Decides.{nat_tests}
@@ -29,7 +31,7 @@ use Rattle.gabc_score.specs.machine.SyllableBuilder.{made_from}
 use Rattle.gabc_score.proofs.building.EventsOfOnePoint.{with_all_append}
 use Rattle.gabc_score.proofs.order.FindingsOfParts.{found, found_append, found_onto}
 use Rattle.gabc_score.proofs.regular_syllables.PointsPass.{score_through, points_through, NoneStops}
-use Rattle.gabc_score.proofs.resuming.HeldIsRead.{none_passed}
+use Rattle.gabc_score.proofs.score_events.EventsStayWithinBounds.{none_passed}
 use Rattle.gabc_score.proofs.resuming.SameButHeld.{all_stay}
 
 -- ---- what was made before does not count
@@ -39,24 +41,15 @@ put_before ps g = record g { made = ps ++ g.made }
 
 part_before : (ps : List UnplacedSyllable) (g : Gathered) (p : TextPart) → with_event (put_before ps g) (event.Text (text.Part p)) ≡ put_before ps (with_event g (event.Text (text.Part p)))
 part_before ps g part.WordStart = refl
-part_before ps g (part.Piece p) = refl
-part_before ps g (part.Centre s) = refl
-part_before ps g (part.Translation s) = refl
+part_before ps g _ = refl
 
 event_before : (ps : List UnplacedSyllable) (g : Gathered) (e : BodyEvent) → with_event (put_before ps g) e ≡ put_before ps (with_event g e)
-event_before ps g (event.Text (text.Kept c)) = refl
 event_before ps g (event.Text (text.Part p)) = part_before ps g p
-event_before ps g (event.Text (text.Found f)) = refl
 event_before ps g (event.Text (text.Ended text_end.Notes)) = refl
-event_before ps g (event.Text (text.Ended text_end.Finished)) = refl
-event_before ps g (event.Text (text.Ended (text_end.Cut p))) = refl
-event_before ps g (event.Notes line (note.Kept c)) = refl
-event_before ps g (event.Notes line (note.Found f)) = refl
-event_before ps g (event.Notes line (note.Ended note_end.Next n)) = refl
 event_before ps g (event.Notes line (note.Ended note_end.Close n)) =
     ap (λ (ms : List UnplacedSyllable). record (with_event g (event.Notes line (note.Ended note_end.Close n))) { made = ms })
     (append_assoc ps g.made (made_from (with_snippet g line n 41).builder g.eu g.nlba ∷ []))
-event_before ps g (event.Notes line (note.Ended (note_end.Cut p) n)) = refl
+event_before ps g _ = refl
 
 all_before : (es : List BodyEvent) (ps : List UnplacedSyllable) (g : Gathered) → with_all (put_before ps g) es ≡ put_before ps (with_all g es)
 all_before [] ps g = refl
@@ -80,11 +73,7 @@ few_given first (m ∷ []) few = refl
 few_given first (m ∷ n ∷ ms) few = absurd (omega (arith, few))
 
 few_lent : (has_lent : Bool) (ms : List UnplacedSyllable) → length ms ≤ 1 → (has_lent || nat_lt 1 (length ms)) ≡ has_lent
-few_lent has_lent ms few = by has_lent (nat_lt 1 (length ms)) (grind (arith, nat_tests, few))
-  where
-    by : (a b : Bool) → b ≡ false → (a || b) ≡ a
-    by true b e = refl
-    by false b e = e
+few_lent has_lent ms few = ap (λ (b : Bool). has_lent || b) {x = nat_lt 1 (length ms)} {y = false} (grind (arith, nat_tests, few)) ∙ or-false has_lent
 
 held_more : (ms : List UnplacedSyllable) (m : UnplacedSyllable) → length ms ≤ 1 → drop (length (ms ++ m ∷ []) - 1) (ms ++ m ∷ []) ≡ m ∷ []
 held_more [] m h = refl
@@ -96,10 +85,8 @@ lent_more [] m h = refl
 lent_more (k ∷ []) m h = refl
 lent_more (k ∷ l ∷ ms) m h = absurd (omega (arith, h))
 
-count_more : (ms : List UnplacedSyllable) (m : UnplacedSyllable) → length ms ≤ 1 → length (ms ++ m ∷ []) - 1 ≡ length ms
-count_more [] m h = refl
-count_more (k ∷ []) m h = refl
-count_more (k ∷ l ∷ ms) m h = absurd (omega (arith, h))
+count_more : (ms : List UnplacedSyllable) (m : UnplacedSyllable) → length (ms ++ m ∷ []) - 1 ≡ length ms
+count_more ms m = omega (arith, length-append ms (m ∷ []))
 
 -- ---- what comes first, a note or a clef
 
@@ -247,7 +234,7 @@ module _ (limits : Limits) (lent : Bool) (ms : List UnplacedSyllable) (few : len
       last_outputs =
           ap outputs_by last_is
           ∙ ap (λ (fs : List Finding). outputs_of fs (take (length (ms ++ m ∷ []) - 1) (placed_after lent (ms ++ m ∷ [])))) found_none
-          ∙ ap (λ (n : ℕ). outputs_of [] (take n (placed_after lent (ms ++ m ∷ [])))) (count_more ms m few)
+          ∙ ap (λ (n : ℕ). outputs_of [] (take n (placed_after lent (ms ++ m ∷ [])))) (count_more ms m)
 
   pub one_passes : (next : Place) (g : Gathered) (us : List Char) (lists : List (List BodyEvent)) (m : UnplacedSyllable) → length us ≡ length lists → Gathers limits g lists m
       → Pass (holding next g) us lists (holding_one (next_of us next) (with_all g (concat_of lists)) m) (take (length ms) (placed_after lent (ms ++ m ∷ [])))

@@ -86,8 +86,7 @@ text_none lists xs h =
 -- how a snippet ends: at a `|` before that of the next line, or at the `)`
 abbrev pub mark_by : ℕ → ℕ → Place → NoteEnd → Mark
 mark_by lines line opened note_end.Next = Next (next_line lines line) opened
-mark_by lines line opened note_end.Close = Closes
-mark_by lines line opened (note_end.Cut place) = Closes
+mark_by lines line opened _ = Closes
 
 pub head_same : {X : Type 0} (x y : X) (xs ys : List X) → x ∷ xs ≡ y ∷ ys → x ≡ y
 head_same x y xs ys e = cc
@@ -125,8 +124,7 @@ module _ (lines line : ℕ) (opened : Place) where
 -- a mark of a snippet is its end's
 abbrev pub code_of : NoteEnd → ℕ
 code_of note_end.Next = 124
-code_of note_end.Close = 41
-code_of (note_end.Cut place) = 41
+code_of _ = 41
 
 module _ (gabc_prefix : (split : Bool) (macros : ℕ) (xs ys zs : List Char) → take (length xs) (note_events split macros (xs ++ ys)) ≡ take (length xs) (note_events split macros (xs ++ zs)))
     (nabc_prefix : (xs ys zs : List Char) → take (length xs) (nabc_events (xs ++ ys)) ≡ take (length xs) (nabc_events (xs ++ zs))) (lines macros : ℕ) where

@@ -61,9 +61,9 @@ one_byte c t h = ap (λ (bs : List ℕ). bs ++ encodes t) (encode_ascii c (omega
 with_byte : (a : List ℕ) (c : ℕ) (b : List ℕ) → c < 128 → encodes a ++ c ∷ encodes b ≡ encodes (a ++ c ∷ b)
 with_byte a c b h = ap (λ (k : List ℕ). encodes a ++ k) (sym (one_byte c b h)) ∙ sym (encodes-append a (c ∷ b))
 
-pub none_left : (es : List EndedPart) (f : EndedPart) → map (λ (e : EndedPart). e.characters) (es ++ f ∷ []) ≡ [] → ⊥
-none_left [] f k = cc
-none_left (e ∷ es) f k = cc
+pub none_left : {X Y : Type 0} (f : X → Y) (xs : List X) (x : X) → map f (xs ++ x ∷ []) ≡ [] → ⊥
+none_left f [] x e = cc
+none_left f (y ∷ xs) x e = cc
 
 not_none : {X : Type 0} (xs : List X) (x : X) → xs ++ x ∷ [] ≡ [] → ⊥
 not_none [] x e = cc
@@ -72,10 +72,6 @@ not_none (y ∷ xs) x e = cc
 abbrev kept_texts : List ReadSnippet → List (List ℕ)
 kept_texts ss = map (λ (s : ReadSnippet). s.kept) ss
 
-none_kept : (earlier : List ReadSnippet) (last : ReadSnippet) → kept_texts (earlier ++ last ∷ []) ≡ [] → ⊥
-none_kept [] last e = cc
-none_kept (s ∷ earlier) last e = cc
-
 -- ---- notes as they stand
 
 -- snippets in brackets, by their kept texts
@@ -83,7 +79,7 @@ brackets : (earlier : List ReadSnippet) (last : ReadSnippet) (nexts : List (List
     → flat_map (λ (s : ReadSnippet). s.kept ++ codes "|") earlier ++ (last.kept ++ codes ")") ≡ notes_spelled nexts final
 brackets [] last [] final e = ap (λ (t : List ℕ). t ++ 41 ∷ []) (head_same last.kept final [] [] e)
 brackets [] last (t ∷ nexts) final e = absurd (not_none nexts final (sym (tail_same last.kept t [] (nexts ++ final ∷ []) e)))
-brackets (s ∷ earlier) last [] final e = absurd (none_kept earlier last (tail_same s.kept final (kept_texts (earlier ++ last ∷ [])) [] e))
+brackets (s ∷ earlier) last [] final e = absurd (none_left (λ (s : ReadSnippet). s.kept) earlier last (tail_same s.kept final (kept_texts (earlier ++ last ∷ [])) [] e))
 brackets (s ∷ earlier) last (t ∷ nexts) final e =
     let tail : List ℕ = last.kept ++ codes ")" in
     let more : List ℕ = flat_map (λ (s : ReadSnippet). s.kept ++ codes "|") earlier in
@@ -240,7 +236,7 @@ module _ (starts : (t : List ℕ) → (view_in t).word_start ≡ (view_facts t).
         stands = subst (λ (v : ViewContent). StandsForView h.whole v ((r.gap ++ r.text) ++ 40 ∷ notes)) text_is (subst (λ (t : List ℕ). StandsForView h.whole m.text t) unit_text h.stands)
 
         by : (xss : List (List Char)) → u.snippets ≡ xss → NotesAre lines u xss h.whole m.snippets → Spelled m
-        by [] e n = absurd (none_left (unit_at at r).nexts (unit_at at r).final e)
+        by [] e n = absurd (none_left (λ (e : EndedPart). e.characters) (unit_at at r).nexts (unit_at at r).final e)
         by (xs ∷ xss) e n =
             let k = n.holds in
             let ss = k.earlier ++ k.last ∷ [] in

@@ -126,7 +126,7 @@ module _ (lines macros : ℕ) (at : Place) (r : SyllableParts) (regular : IsRegu
       canonical_is = s.canonical_is;
       text_is = s.text_is;
       snippets_are = s.snippets_are;
-      unit = record { unit = units.score_unit unit []; noted = none_left unit.nexts unit.final; single = single; holds = s.one.holds };
+      unit = record { unit = units.score_unit unit []; noted = none_left (λ (e : EndedPart). e.characters) unit.nexts unit.final; single = single; holds = s.one.holds };
       tags = tags_are says_alone says_after;
       follows = record { eu = s.one.eu_is ∙ ap (eu_past m) (leaves_open spans).eu; nlba = s.one.nlba_is ∙ ap (nlba_past m) (leaves_open spans).nlba };
     }

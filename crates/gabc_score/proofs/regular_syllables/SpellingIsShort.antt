@@ -1,7 +1,7 @@
 -- A regular syllable keeps no more bytes than it has, and its canonical text has no more.
 use Rattle.std.proofs.Common.{◌≡◌, ℕ, ◌+◌, ◌<◌, ◌≤◌, Bool, true, cond, List, [], ◌∷◌, ◌++◌, length, sym, ap, ◌∙◌, arith, append-nil, length-append, encode_utf8}
 use Rattle.std.proofs.lemmas.List.{append_cancel_left}
-use Rattle.std.proofs.lemmas.Str.{encodes-append, length-encode, len_utf8_bounds}
+use Rattle.std.proofs.lemmas.Str.{length-encode, len_utf8_bounds}
 use lib.Utf8.{encodes}
 use Rattle.gabc_text.proofs.KeptCharacters.{codes_placed}
 use Rattle.gabc_places.specs.declared.place.Place.{Place}
@@ -15,15 +15,10 @@ use Rattle.gabc_score.specs.SyllablesOfUnits.{with_ends, snippets_in, characters
 use Rattle.gabc_score.specs.WithinLimits.{KeepsWithin}
 use Rattle.gabc_score.proofs.regular_syllables.RegularSyllableIsMade.{one_byte, text_kept}
 use Rattle.gabc_score.proofs.regular_syllables.RegularSyllableIsRead.{unit_placed}
+use Rattle.gabc_score.proofs.texts_of_body.SeamsOfCharacters.{size, size_append}
 use Rattle.gabc_score.proofs.texts_of_body.TextEmitsThroughEnd.{codes_append}
 
 -- ---- bytes
-
-abbrev size : List ℕ → ℕ
-size t = length (encodes t)
-
-size_append : (a b : List ℕ) → size (a ++ b) ≡ size a + size b
-size_append a b = ap (length {A = ℕ}) (encodes-append a b) ∙ length-append (encodes a) (encodes b)
 
 -- one byte in place of a gap
 one_for_gap : (b : ℕ) (gap : List ℕ) → b < 128 → size (cond (has_gap gap) (b ∷ []) []) ≤ size gap

@@ -1,5 +1,6 @@
 -- What is gathered of a unit that makes one syllable, whatever was gathered before: that syllable,
 -- with no limit passed.
+use Rattle.std.proofs.Math.Bool.{or-false}
 use Rattle.std.proofs.Common.{◌≡◌, ℕ, suc, ◌+◌, ◌<◌, ◌≤◌, ◌||◌, nat_lt, Bool, true, false, List, [], ◌∷◌, ◌++◌, length, take, take_all, Option, None, is_some, refl, sym, ap, subst, ◌∙◌, arith, append-nil}
 use Rattle.std.proofs.lemmas.Bool.Decides.{nat_tests}
 use Rattle.std.proofs.lemmas.List.{append_cancel_left}
@@ -37,7 +38,7 @@ use Rattle.gabc_score.specs.machine.SyllableBuilder.{OpenSyllable, nothing_open}
 use Rattle.gabc_score.proofs.building.BuilderHoldsDefinition.{gathered}
 use Rattle.gabc_score.proofs.order.FindingsOfParts.{found}
 use Rattle.gabc_score.proofs.regular_syllables.OneMore.{Fits, Gathers, stays_before}
-use Rattle.gabc_score.proofs.resuming.HeldIsRead.{neither_is}
+use Rattle.std.proofs.lemmas.Bool.{or_from}
 use Rattle.gabc_score.proofs.resuming.MadeOfEvents.{open_of, MadeAlike, made_after, Counts, counts_from, size_of}
 use Rattle.gabc_score.proofs.resuming.ScoresAgree.{same_but}
 use Rattle.gabc_score.proofs.score_events.WhatPrecedes.{preceded_all}
@@ -46,22 +47,13 @@ use Rattle.gabc_score.proofs.score_events.WhatPrecedes.{preceded_all}
 
 part_follows : (g : Gathered) (p : TextPart) → (with_event g (event.Text (text.Part p))).follows ≡ g.follows
 part_follows g part.WordStart = refl
-part_follows g (part.Piece p) = refl
-part_follows g (part.Centre s) = refl
-part_follows g (part.Translation s) = refl
+part_follows g _ = refl
 
 event_follows : (g : Gathered) (e : BodyEvent) → g.follows ≡ true → (with_event g e).follows ≡ true
-event_follows g (event.Text (text.Kept c)) h = h
 event_follows g (event.Text (text.Part p)) h = part_follows g p ∙ h
-event_follows g (event.Text (text.Found f)) h = h
 event_follows g (event.Text (text.Ended text_end.Notes)) h = h
-event_follows g (event.Text (text.Ended text_end.Finished)) h = h
-event_follows g (event.Text (text.Ended (text_end.Cut p))) h = h
-event_follows g (event.Notes line (note.Kept c)) h = h
-event_follows g (event.Notes line (note.Found f)) h = h
-event_follows g (event.Notes line (note.Ended note_end.Next n)) h = h
 event_follows g (event.Notes line (note.Ended note_end.Close n)) h = refl
-event_follows g (event.Notes line (note.Ended (note_end.Cut p) n)) h = h
+event_follows g _ h = h
 
 all_follow : (es : List BodyEvent) (g : Gathered) → g.follows ≡ true → (with_all g es).follows ≡ true
 all_follow [] g h = h
@@ -70,17 +62,9 @@ all_follow (e ∷ es) g h = all_follow es (with_event g e) (event_follows g e h)
 -- ---- no bracket is left open
 
 event_cuts : (e : BodyEvent) (before : List BodyEvent) → cut_of (e ∷ before) ≡ None → cut_of before ≡ None
-event_cuts (event.Text (text.Kept c)) before h = h
-event_cuts (event.Text (text.Part p)) before h = h
-event_cuts (event.Text (text.Found f)) before h = h
-event_cuts (event.Text (text.Ended text_end.Notes)) before h = h
-event_cuts (event.Text (text.Ended text_end.Finished)) before h = h
 event_cuts (event.Text (text.Ended (text_end.Cut p))) before h = absurd (cc h)
-event_cuts (event.Notes line (note.Kept c)) before h = h
-event_cuts (event.Notes line (note.Found f)) before h = h
-event_cuts (event.Notes line (note.Ended note_end.Next n)) before h = h
-event_cuts (event.Notes line (note.Ended note_end.Close n)) before h = h
 event_cuts (event.Notes line (note.Ended (note_end.Cut p) n)) before h = absurd (cc h)
+event_cuts _ before h = h
 
 all_cut : (es before : List BodyEvent) → cut_of (events_onto es before) ≡ None → cut_of before ≡ None
 all_cut [] before h = h
@@ -88,32 +72,19 @@ all_cut (e ∷ es) before h = event_cuts e before (all_cut es (e ∷ before) h)
 
 part_cut : (g : Gathered) (p : TextPart) → (with_event g (event.Text (text.Part p))).cut ≡ g.cut
 part_cut g part.WordStart = refl
-part_cut g (part.Piece p) = refl
-part_cut g (part.Centre s) = refl
-part_cut g (part.Translation s) = refl
+part_cut g _ = refl
 
 event_cut : (g : Gathered) (e : BodyEvent) (before : List BodyEvent) → cut_of (e ∷ before) ≡ None → (with_event g e).cut ≡ g.cut
-event_cut g (event.Text (text.Kept c)) before h = refl
 event_cut g (event.Text (text.Part p)) before h = part_cut g p
-event_cut g (event.Text (text.Found f)) before h = refl
-event_cut g (event.Text (text.Ended text_end.Notes)) before h = refl
-event_cut g (event.Text (text.Ended text_end.Finished)) before h = refl
 event_cut g (event.Text (text.Ended (text_end.Cut p))) before h = absurd (cc h)
-event_cut g (event.Notes line (note.Kept c)) before h = refl
-event_cut g (event.Notes line (note.Found f)) before h = refl
-event_cut g (event.Notes line (note.Ended note_end.Next n)) before h = refl
-event_cut g (event.Notes line (note.Ended note_end.Close n)) before h = refl
 event_cut g (event.Notes line (note.Ended (note_end.Cut p) n)) before h = absurd (cc h)
+event_cut g _ before h = refl
 
 stays_uncut : (es before : List BodyEvent) (g : Gathered) → cut_of (events_onto es before) ≡ None → (with_all g es).cut ≡ g.cut
 stays_uncut [] before g h = refl
 stays_uncut (e ∷ es) before g h = stays_uncut es (e ∷ before) (with_event g e) h ∙ event_cut g e before (all_cut es (e ∷ before) h)
 
 -- ---- the unit
-
-or_false : (b : Bool) → (b || false) ≡ b
-or_false true = refl
-or_false false = refl
 
 -- With n bytes of a syllable no limit is passed.
 pub record HasRoom (limits : Limits) (g : Gathered) (size : ℕ) : Type 0 where
@@ -161,7 +132,7 @@ module _ (g : Gathered) (spans : Spans) (nothing : g.builder ≡ nothing_open) (
     follows = follows ∙ ap (λ (ms : List UnplacedSyllable). nat_lt 0 (with_each preceding ms).syllables) (sym none);
     total = ap (λ (ms : List UnplacedSyllable). (with_each preceding ms).canonical) (sym none);
     sounded =
-        sym (or_false (is_some g.first_kind)) ∙ ap (λ (o : OpenSyllable). is_some g.first_kind || sounds_in o.kept o.snippets) (sym nothing)
+        sym (or-false (is_some g.first_kind)) ∙ ap (λ (o : OpenSyllable). is_some g.first_kind || sounds_in o.kept o.snippets) (sym nothing)
         ∙ ap (λ (ms : List UnplacedSyllable). (with_each preceding ms).sounded || sounds_in g.builder.kept g.builder.snippets) (sym none);
     snippets = subst (λ (o : OpenSyllable). All (EndsBefore o.from) o.snippets) (sym nothing) (All-nil (EndsBefore 0));
     from = subst (λ (o : OpenSyllable). o.from ≤ length o.kept) (sym nothing) (omega arith);
@@ -175,7 +146,7 @@ module _ (g : Gathered) (spans : Spans) (nothing : g.builder ≡ nothing_open) (
       (preceded_all preceding g (concat_of lists) preceded_now).sounded
       ∙ ap (λ (ms : List UnplacedSyllable). (with_each preceding ms).sounded || sounds_in h.builder.kept h.builder.snippets) made
       ∙ ap (λ (o : OpenSyllable). (is_some g.first_kind || sounds m) || sounds_in o.kept o.snippets) builder
-      ∙ or_false (is_some g.first_kind || sounds m) ∙ sounded
+      ∙ or-false (is_some g.first_kind || sounds m) ∙ sounded
 
   counted : Counts g (with_all g (concat_of lists))
   counted = counts_from g none (concat_of lists)
@@ -204,7 +175,7 @@ module _ (g : Gathered) (spans : Spans) (nothing : g.builder ≡ nothing_open) (
         let l = c.limit in let l2 = room.limit in let total = one_more.1 in let input = room.input in let few = size_few in let all = one.few limits.syllable keeps in let syllable = room.syllable in
         let long : is_longer g.limit m.kept ≡ false = grind (arith, nat_tests, all, l2) in
         let wide : nat_lt g.limit (size_of g.follows m) ≡ false = grind (arith, nat_tests, few, syllable, l2) in
-        record { kept = omega (arith, k, l, l2); over = one_more.0 ∙ neither_is g.over _ room.over (neither_is (is_longer g.limit m.kept) _ long wide); total = omega (arith, total, input, few) }
+        record { kept = omega (arith, k, l, l2); over = one_more.0 ∙ or_from g.over _ room.over (or_from (is_longer g.limit m.kept) _ long wide); total = omega (arith, total, input, few) }
 
     pub unit_gathers : found (concat_of lists) ≡ [] → Gathers limits g lists m
     unit_gathers quiet = record { none = none; sounded = sounds_on; earlier = earlier; made = made; fits = λ n h. fits n h (nat_lt (suc n) (length lists)) refl; nothing = quiet }

@@ -8,7 +8,7 @@ use Rattle.gabc_score.specs.Before.{preceding_of}
 use Rattle.gabc_score.specs.machine.Gatherer.{nothing_gathered}
 use Rattle.gabc_places.specs.declared.limits.Limits.{Limits}
 use Rattle.gabc_score.specs.machine.BodyBuilder.{code_in}
-use Rattle.gabc_score.proofs.resuming.HeldIsRead.{none_passed}
+use Rattle.gabc_score.proofs.score_events.EventsStayWithinBounds.{none_passed}
 use Rattle.gabc_score.specs.machine.PartKeeps.{in_text, IsReading, PartKeeps}
 use Rattle.gabc_score.specs.machine.Preceded.{EndsBefore, IsPreceded}
 use Rattle.gabc_score.specs.machine.Resumed.{first_sounded, gathered_after}

@@ -122,6 +122,5 @@ module _ (m : ScoreMachine) (front : is_in_front m.body.part ≡ true) (first : 
   -- What is left for a machine in front does not hang on the place of the next character.
   pub left_anywhere : (p : ScorePart) → IsScoreAt p m → held_in_body p m.pair.gathered.made ≡ None → (xs : List HeadEvent)
       → outputs_left m.limits p (record (held_score m) { next = place }) (record m.body { part = moved_part place m.body.part }) xs ≡ outputs_left m.limits p (held_score m) m.body xs
-  left_anywhere score_part.Heads h none xs = refl
-  left_anywhere score_part.Over h none xs = refl
   left_anywhere score_part.Body h none xs = in_body h (none_made m.pair.gathered.made none) xs
+  left_anywhere _ h none xs = refl

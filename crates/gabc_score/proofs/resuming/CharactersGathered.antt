@@ -1,5 +1,6 @@
 -- What a machine gives at a character, where no syllable is given.
-use Rattle.std.proofs.Common.{◌≡◌, ◌⊎◌, inl, inr, ℕ, ◌-◌, ◌≤◌, ◌||◌, ◌&&◌, ◌++◌, not, nat_lt, Bool, true, false, List, [], ◌∷◌, length, length-append, take, drop, Option, Some, None, is_some, refl, sym, ap, ◌∙◌, arith}
+use Rattle.std.proofs.Math.Bool.{or-false}
+use Rattle.std.proofs.Common.{◌≡◌, ◌⊎◌, inl, inr, ℕ, ◌-◌, ◌≤◌, ◌||◌, ◌&&◌, ◌++◌, not, nat_lt, Bool, false, List, [], ◌∷◌, length, length-append, take, drop, Option, Some, None, is_some, refl, sym, ap, ◌∙◌, arith}
 use Rattle.std.specs.List.{list_any}
 use Rattle.std.proofs.lemmas.List.Folds.{list_any-append}
 use Rattle.std.proofs.lemmas.Bool.{true≢false}
@@ -54,12 +55,8 @@ first_warns : (was now : Option ItemKind) (p : Place) → list_any is_error (fou
 first_warns None (Some Note) p = refl
 first_warns _ _ p = refl
 
-or_false : (a b : Bool) → b ≡ false → (a || b) ≡ a
-or_false true b e = refl
-or_false false b e = e
-
 any_given : (fs : List Finding) (was now : Option ItemKind) (p : Place) → list_any is_error_event (events_of (outputs_of (fs ++ found_first was now p) [])) ≡ list_any is_error fs
-any_given fs was now p = any_event (fs ++ found_first was now p) ∙ list_any-append is_error fs (found_first was now p) ∙ or_false (list_any is_error fs) (list_any is_error (found_first was now p)) (first_warns was now p)
+any_given fs was now p = any_event (fs ++ found_first was now p) ∙ list_any-append is_error fs (found_first was now p) ∙ ap (λ (b : Bool). list_any is_error fs || b) (first_warns was now p) ∙ or-false (list_any is_error fs)
 
 few_made : (g : Gathered) (now : List BodyEvent) → ClosesLast now → g.made ≡ [] → length (with_all g now).made ≤ 1
 few_made g now last none = by (same_or_closed g now last)

@@ -1,5 +1,7 @@
 -- A text that is read by itself is one syllable exactly where reading it one character after the other finds one.
-use Rattle.std.proofs.Common.{◌≡◌, ℕ, zero, suc, ◌+◌, ◌-◌, ◌<◌, ◌≤◌, ◌^◌, ◌||◌, ◌&&◌, not, min, nat_lt, Bool, true, false, cond, List, [], ◌∷◌, ◌++◌, length, take, take_all, take-take, Option, Some, None, is_some, refl, sym, ap, subst, ◌∙◌, arith, append-nil}
+use Rattle.std.proofs.lemmas.Bool.{or_from}
+use Rattle.gabc_score.proofs.score_events.EventsStayWithinBounds.{IsWithinLimits, is_within, none_passed}
+use Rattle.std.proofs.Common.{◌≡◌, ℕ, zero, suc, ◌-◌, ◌<◌, ◌≤◌, ◌^◌, ◌||◌, ◌&&◌, not, min, nat_lt, Bool, true, false, List, [], ◌∷◌, ◌++◌, length, take, take_all, take-take, Option, is_some, refl, sym, ap, subst, ◌∙◌, arith, append-nil}
 use Rattle.std.proofs.lemmas.Bool.{true≢false, and_parts, or_parts, not-true, and_from}
 use Rattle.std.proofs.lemmas.Bool.Decides.{nat_tests}
 use Rattle.std.proofs.lemmas.List.{append_cancel_left}
@@ -10,11 +12,10 @@ use Rattle.gabc_places.specs.Code.{severity_of}
 use Rattle.gabc_places.specs.Place.{placed_characters_from}
 use Rattle.gabc_places.specs.StageLaw.{concat_of}
 use Rattle.gabc_places.specs.declared.code.Code.{Code}
-use Rattle.gabc_places.specs.declared.code.Code.TheVariants.{F5, F7}
 use Rattle.gabc_places.specs.declared.code.Finding.{Finding}
 use Rattle.gabc_places.specs.declared.limits.Limits.{Limits}
 use Rattle.gabc_places.specs.declared.severity.Severity.{Severity}
-use Rattle.gabc_places.specs.declared.severity.Severity.TheVariants.{Warning, Error, Fatal}
+use Rattle.gabc_places.specs.declared.severity.Severity.TheVariants.{Warning}
 use Rattle.gabc_notes.specs.ReadAgain.{IsWarning}
 use Rattle.gabc_score.specs.declared.before.Before.{Before}
 use Rattle.gabc_score.specs.declared.events.BodyEvent.{BodyEvent}
@@ -36,47 +37,6 @@ use Rattle.gabc_score.proofs.resuming.OpenSpans.{opened, leaves_open}
 use Rattle.gabc_score.proofs.score_events.WhatPrecedes.{not_some}
 use Rattle.gabc_score.proofs.building.EventsOfSyllableParts.{onto_append}
 use Rattle.gabc_score.proofs.resuming.MachinesPassAgain.{no_code_by}
-
--- ---- tests
-
-pub neither_is : (a b : Bool) → a ≡ false → b ≡ false → (a || b) ≡ false
-neither_is a b e f = ap (λ x. x || b) e ∙ f
-
--- ---- no limit is passed
-
-pub record IsWithinLimits (limits : Limits) (g : Gathered) : Type 0 where
-  pub kept : length g.builder.kept ≤ g.limit
-  pub over : g.over ≡ false
-  pub file : is_none g.made ≡ false → g.total + 1 ≤ limits.input
-
-is_within : (limits : Limits) (g : Gathered) → code_in limits g ≡ None → IsWithinLimits limits g
-is_within limits g e = by (is_longer g.limit g.builder.kept) refl g.over refl e
-  where
-    file : (made low : Bool) → is_none g.made ≡ made → nat_lt limits.input (g.total + 1) ≡ low → cond (not made && low) (Some F7) None ≡ None → made ≡ false → g.total + 1 ≤ limits.input
-    file false false m l h f = grind (arith, nat_tests, l)
-    file false true m l h f = absurd (cc h)
-    file true low m l h f = absurd (true≢false f)
-
-    by : (long : Bool) → is_longer g.limit g.builder.kept ≡ long → (over : Bool) → g.over ≡ over → cond (long || over) (Some F5) (cond (not (is_none g.made) && nat_lt limits.input (g.total + 1)) (Some F7) None) ≡ None → IsWithinLimits limits g
-    by true l over o h = absurd (cc h)
-    by false l true o h = absurd (cc h)
-    by false l false o h = record { kept = grind (arith, nat_tests, l); over = o; file = file (is_none g.made) (nat_lt limits.input (g.total + 1)) refl refl h }
-
-pub none_passed : (limits : Limits) (g : Gathered) → IsWithinLimits limits g → code_in limits g ≡ None
-none_passed limits g w =
-    ap (λ b. cond (b || g.over) (Some F5) (cond (not (is_none g.made) && nat_lt limits.input (g.total + 1)) (Some F7) None)) short
-    ∙ ap (λ b. cond b (Some F5) (cond (not (is_none g.made) && nat_lt limits.input (g.total + 1)) (Some F7) None)) w.over
-    ∙ file (is_none g.made) refl
-  where
-    short : is_longer g.limit g.builder.kept ≡ false
-    short = let k = w.kept in grind (arith, nat_tests, k)
-
-    low : g.total + 1 ≤ limits.input → nat_lt limits.input (g.total + 1) ≡ false
-    low h = grind (arith, nat_tests, h)
-
-    file : (made : Bool) → is_none g.made ≡ made → cond (not made && nat_lt limits.input (g.total + 1)) (Some F7) None ≡ None
-    file true m = refl
-    file false m = ap (λ b. cond b (Some F7) None) (low (w.file m))
 
 -- ---- through lists of events
 
@@ -107,7 +67,7 @@ alone_is limits (now ∷ lists) g e =
       earlier = earlier (none_of g.made a.0) rest;
       some = ap (λ (h : Gathered). is_none h.made) (with_all_append g now (concat_of lists)) ∙ rest.some;
       within = within (is_within limits (with_all g now) (no_code_by (code_in limits (with_all g now)) (not-true (is_some (code_in limits (with_all g now))) c.0))) rest;
-      fine = errors_are now (concat_of lists) ∙ neither_is (list_any is_error (findings_now now)) (list_any is_error (findings_now (concat_of lists))) (not-true (list_any is_error (findings_now now)) c.1) rest.fine;
+      fine = errors_are now (concat_of lists) ∙ or_from (list_any is_error (findings_now now)) (list_any is_error (findings_now (concat_of lists))) (not-true (list_any is_error (findings_now now)) c.1) rest.fine;
     }
   where
     earlier : g.made ≡ [] → IsAlone limits (with_all g now) lists → (n : ℕ) → n < suc (length lists) → (with_all g (concat_of (take n (now ∷ lists)))).made ≡ []
@@ -138,8 +98,7 @@ alone_of limits (now ∷ lists) g a =
 
 grave_is : (s : Severity) → is_grave s ≡ false → s ≡ Warning
 grave_is Warning e = refl
-grave_is Error e = absurd (true≢false e)
-grave_is Fatal e = absurd (true≢false e)
+grave_is _ e = absurd (true≢false e)
 
 warn : (fs : List Finding) → list_any is_error fs ≡ false → All IsWarning fs
 warn [] e = All-nil IsWarning
@@ -147,7 +106,7 @@ warn (f ∷ fs) e = let n = or_parts (is_error f) (list_any is_error fs) e in Al
 
 warnings_are : (fs : List Finding) → All IsWarning fs → list_any is_error fs ≡ false
 warnings_are [] a = refl
-warnings_are (f ∷ fs) a = neither_is (is_error f) (list_any is_error fs) (ap is_grave (All-head IsWarning f fs a)) (warnings_are fs (All-tail IsWarning f fs a))
+warnings_are (f ∷ fs) a = or_from (is_error f) (list_any is_error fs) (ap is_grave (All-head IsWarning f fs a)) (warnings_are fs (All-tail IsWarning f fs a))
 
 -- ---- the text
 
@@ -283,4 +242,4 @@ module _ (limits : Limits) (b : Before) (g : Gathered) (limit : g.limit ≡ limi
           let wide : nat_lt g.limit (size_of g.follows m) ≡ false = let k = may.short in grind (arith, nat_tests, k, limit, size) in
           let t = c.1 in
           let f = may.file in
-          record { kept = kept n h; over = c.0 ∙ neither_is g.over _ over (neither_is (is_longer g.limit m.kept) _ long wide); file = λ some. omega (arith, t, f, total, size) }
+          record { kept = kept n h; over = c.0 ∙ or_from g.over _ over (or_from (is_longer g.limit m.kept) _ long wide); file = λ some. omega (arith, t, f, total, size) }

@@ -1,11 +1,10 @@
 -- A machine in the body reads the next character of a kept text again: it passes no limit, and stays in the body.
-use Rattle.std.proofs.Common.{◌≡◌, ◌⊎◌, inl, inr, ◌&&◌, ◌||◌, not, ℕ, zero, suc, ◌+◌, ◌≤◌, ◌<◌, nat_lt, Bool, true, false, cond, List, [], ◌∷◌, ◌++◌, length, Option, Some, None, is_some, encode_utf8, encode_utf8_all, refl, sym, ap, subst, ◌∙◌, arith, append-nil, append_assoc, length-append}
+use Rattle.std.proofs.Common.{◌≡◌, ◌⊎◌, inl, inr, ℕ, zero, suc, ◌≤◌, ◌<◌, nat_lt, Bool, true, false, List, [], ◌∷◌, ◌++◌, length, Option, Some, None, is_some, encode_utf8, encode_utf8_all, refl, sym, ap, subst, ◌∙◌, arith, append-nil, append_assoc, length-append}
 use Rattle.std.proofs.lemmas.Bool.{true≢false}
 use Rattle.std.proofs.lemmas.Bool.Decides.{nat_tests}
 use Rattle.std.proofs.lemmas.Str.{cons_from_encodes, encodes_same}
 use Rattle.gabc_places.specs.BoundedList.{BoundedList}
 use Rattle.gabc_places.specs.declared.code.Code.{Code}
-use Rattle.gabc_places.specs.declared.code.Code.TheVariants.{F5, F7}
 use Rattle.gabc_places.specs.declared.code.Finding.{Finding}
 use Rattle.gabc_places.specs.declared.limits.Limits.{Limits}
 use Rattle.gabc_places.specs.declared.place.Char.{Char}
@@ -21,7 +20,7 @@ use Rattle.gabc_score.specs.declared.events.BodyEvent.{BodyEvent}
 use Rattle.gabc_score.specs.declared.events.BodyEvent.TheVariants as event
 use Rattle.gabc_score.specs.declared.score_machine.ScoreMachine.{ScoreMachine}
 use Rattle.gabc_score.specs.declared.score_machine.ScorePart.TheVariants as score_part
-use Rattle.gabc_score.specs.Body.{is_longer, is_none}
+use Rattle.gabc_score.specs.Body.{is_none}
 use Rattle.gabc_score.specs.declared.body_tells.Openers.{Openers}
 use Rattle.gabc_score.specs.ScoreReports.{is_in_comment, is_in_front, moved_part}
 use Rattle.gabc_score.specs.Syllable.{UnplacedSyllable}
@@ -39,7 +38,7 @@ use Rattle.gabc_score.proofs.score_events.CharactersAreRead.{HasTurned}
 use Rattle.gabc_score.proofs.resuming.NextIsKept.{next_is}
 use Rattle.gabc_score.proofs.resuming.PartsAreOne.{parts_are_one}
 use Rattle.gabc_score.proofs.score_events.EventsStayWithinBounds.{limit_stays}
-use Rattle.gabc_score.proofs.score_events.FewAndShortAreLent.{not_over}
+use Rattle.gabc_score.proofs.score_events.EventsStayWithinBounds.{is_within, none_passed}
 
 -- ---- what is counted, where no syllable becomes whole
 
@@ -81,20 +80,14 @@ none_made g h now is e =
     ap (λ (k : Gathered). k.made) is ∙ (counted g now (none_more g (with_all g now) (ap (λ (k : Gathered). nat_lt (length g.made) (length k.made)) (sym is) ∙ e))).0
 
 -- no limit is passed with a kept text within its limit
-second : (a b : Bool) → cond a (Some F5) (cond b (Some F7) None) ≡ None → cond b (Some F7) None ≡ None
-second true b e = absurd (cc)
-second false b e = e
-
 no_code : (limits : Limits) (g h : Gathered) → code_in limits g ≡ None → h.made ≡ g.made → h.total ≡ g.total → h.over ≡ g.over → length h.builder.kept ≤ h.limit → code_in limits h ≡ None
 no_code limits g h none made total over few =
-    ap (λ (b : Bool). cond (b || h.over) (Some F5) (cond (not (is_none h.made) && nat_lt limits.input (h.total + 1)) (Some F7) None)) short
-    ∙ ap (λ (b : Bool). cond b (Some F5) (cond (not (is_none h.made) && nat_lt limits.input (h.total + 1)) (Some F7) None)) (over ∙ not_over limits g none)
-    ∙ ap (λ (ms : List UnplacedSyllable). cond (not (is_none ms) && nat_lt limits.input (h.total + 1)) (Some F7) None) made
-    ∙ ap (λ (n : ℕ). cond (not (is_none g.made) && nat_lt limits.input (n + 1)) (Some F7) None) total
-    ∙ second (is_longer g.limit g.builder.kept || g.over) (not (is_none g.made) && nat_lt limits.input (g.total + 1)) none
-  where
-    short : is_longer h.limit h.builder.kept ≡ false
-    short = grind (arith, nat_tests, few)
+    let w = is_within limits g none in
+    none_passed limits h (record {
+      kept = few;
+      over = over ∙ w.over;
+      file = λ some. let file = w.file (ap is_none (sym made) ∙ some) in omega (arith, file, total);
+    })
 
 -- ---- a machine past a character at which nothing became whole
 
@@ -119,14 +112,13 @@ module _ (again : Again) (ends : Ends) (lines macros : ℕ) where
   begins part.Comment p keeps front comment_open = absurd (true≢false front)
   begins (part.Text s) (in_text k) keeps front comment_open = let e = ends.text_comment s k keeps comment_open in (e, again.text_comments k e)
   begins (part.Text s) (in_notes u earlier k) keeps front comment_open = absurd keeps
-  begins (part.Notes opened s) (in_text k) keeps front comment_open = absurd keeps
   begins (part.Notes opened s) (in_notes u earlier k) keeps front comment_open = subst (λ (l : ℕ). BeginsIn l k) (sym keeps.0.line_is) (keeps.1.outside comment_open)
-  begins (part.Nabc line opened s) (in_text k) keeps front comment_open = absurd keeps
   begins (part.Nabc line opened s) (in_notes u earlier k) keeps front comment_open = subst (λ (l : ℕ). BeginsIn l k) (sym keeps.0.line_is) (by line keeps.1.0)
     where
       by : (l : ℕ) → (l ≡ 0 → ⊥) → BeginsIn l k
       by zero some = absurd (some refl)
       by (suc l) some = tt
+  begins _ (in_text k) keeps front comment_open = absurd keeps
 
 -- ---- a machine that takes a character where what is open begins
 

@@ -1,5 +1,5 @@
 -- What is made of events, after whatever was emitted before: the syllables, and what they count.
-use Rattle.std.proofs.Common.{◌≡◌, ℕ, ◌+◌, ◌-◌, ◌<◌, ◌^◌, ◌||◌, not, min, nat_lt, Bool, List, [], ◌∷◌, ◌++◌, length, refl, sym, ap, subst, ◌∙◌, append_assoc, append-nil}
+use Rattle.std.proofs.Common.{◌≡◌, ℕ, ◌+◌, ◌-◌, ◌<◌, ◌^◌, ◌||◌, not, min, nat_lt, Bool, List, [], ◌∷◌, ◌++◌, length, refl, sym, ap, subst, ◌∙◌, append_assoc, append-nil, length-append, arith}
 use Rattle.gabc_text.specs.declared.text_event.TextEnd.TheVariants as text_end
 use Rattle.gabc_text.specs.declared.text_event.TextEvent.TheVariants as text
 use Rattle.gabc_text.specs.declared.text_event.TextPart.TheVariants as part
@@ -75,12 +75,8 @@ pub record Counts (g h : Gathered) : Type 0 where
   pub one : (m : UnplacedSyllable) → h.made ≡ m ∷ [] → (h.over ≡ (g.over || (is_longer g.limit m.kept || nat_lt g.limit (size_of g.follows m)))) × (h.total ≡ min (g.total + size_of g.follows m) most)
 
 made_counts : (g h : Gathered) (m : UnplacedSyllable) → Counts g h → Counts g (with_made h m)
-made_counts g h m c = record { limit = c.limit; none = λ e. absurd (some h.made e); one = λ n e. by h.made refl n e }
+made_counts g h m c = record { limit = c.limit; none = λ e. absurd (let n = ap (λ (ms : List UnplacedSyllable). length ms) e in omega (arith, n, length-append h.made (m ∷ []))); one = λ n e. by h.made refl n e }
   where
-    some : (ms : List UnplacedSyllable) → ms ++ m ∷ [] ≡ [] → ⊥
-    some [] e = cc e
-    some (k ∷ ms) e = cc e
-
     first : (n : UnplacedSyllable) → m ≡ n → h.made ≡ [] → ((with_made h m).over ≡ (g.over || (is_longer g.limit n.kept || nat_lt g.limit (size_of g.follows n)))) × ((with_made h m).total ≡ min (g.total + size_of g.follows n) most)
     first n same none =
         let k = c.none none in
@@ -91,11 +87,7 @@ made_counts g h m c = record { limit = c.limit; none = λ e. absurd (some h.made
       where
         same : m ∷ [] ≡ n ∷ [] → m ≡ n
         same e = cc e
-    by (k ∷ ms) e n f = absurd (two ms (sym (ap (λ ms. ms ++ m ∷ []) e) ∙ f))
-      where
-        two : (ms : List UnplacedSyllable) → k ∷ (ms ++ m ∷ []) ≡ n ∷ [] → ⊥
-        two [] e = cc e
-        two (x ∷ ms) e = cc e
+    by (k ∷ ms) e n f = absurd (let two = ap (λ (ms : List UnplacedSyllable). length ms) (sym (ap (λ ms. ms ++ m ∷ []) e) ∙ f) in omega (arith, two, length-append ms (m ∷ [])))
 
 event_counts : (g h : Gathered) (e : BodyEvent) → Counts g h → Counts g (with_event h e)
 event_counts g h (event.Text (text.Part part.WordStart)) c = record { limit = c.limit; none = c.none; one = c.one }

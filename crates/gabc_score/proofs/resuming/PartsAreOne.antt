@@ -118,14 +118,13 @@ module _ (again : Again) (lines macros : ℕ) where
   kept_by part.Comment (in_notes t earlier k) h = absurd (cc)
   kept_by (part.Text s) (in_text k) h = inr (s, h)
   kept_by (part.Text s) (in_notes t earlier k) h = absurd h
-  kept_by (part.Notes opened s) (in_text k) h = absurd h
   kept_by (part.Notes opened s) (in_notes t earlier k) h = (h.0.text_ended, (h.0.snippets_ended, subst (λ (l : ℕ). IsKeptOn l k) (sym h.0.line_is) (s, h.1)))
-  kept_by (part.Nabc line opened s) (in_text k) h = absurd h
   kept_by (part.Nabc line opened s) (in_notes t earlier k) h = (h.0.text_ended, (h.0.snippets_ended, subst (λ (l : ℕ). IsKeptOn l k) (sym h.0.line_is) (on line h.1.0 h.1.1)))
     where
       on : (l : ℕ) → (l ≡ 0 → ⊥) → nabc.Keeps s k → IsKeptOn l k
       on zero some keeps = absurd (some refl)
       on (suc l) some keeps = (s, keeps)
+  kept_by _ (in_text k) h = absurd h
 
   pub in_text_alone : (k t : List ℕ) (earlier : List (List ℕ)) (l : List ℕ) → AreKept (in_text k) → IsEndedText t → k ≡ (t ++ 40 ∷ barred earlier) ++ l → ⊥
   in_text_alone k t earlier l (inl none) ended same = nothing_marked t (barred earlier ++ l) 40 (sym none ∙ same ∙ append_assoc t (40 ∷ barred earlier) l)

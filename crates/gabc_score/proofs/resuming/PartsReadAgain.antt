@@ -1,4 +1,5 @@
 -- A part reads the next character of a kept text again, by what its stage does.
+use Rattle.std.proofs.lemmas.Bool.{false_from_ne_true}
 use Rattle.std.proofs.Common.{◌≡◌, ◌≢◌, ◌⊎◌, inl, inr, ◌==◌, ◌&&◌, ◌||◌, not, ℕ, zero, suc, ◌+◌, ◌-◌, ◌^◌, ◌<◌, min, nat_lt, Bool, true, false, List, [], ◌∷◌, ◌++◌, length, Option, Some, None, encode_utf8, encode_utf8_all, refl, sym, ap, subst, ◌∙◌, append-nil, arith, if◌then◌else◌}
 use Rattle.std.proofs.Math.Bool.{and-false}
 use Rattle.std.proofs.lemmas.Bool.{true≢false}
@@ -65,8 +66,7 @@ begins_at outer inner opened after is at = record {
 not_in_front : (opened : Place) (after : BodyPart) → openers_of after ≡ record { notes = Some opened; inner = None } → is_in_front after ≡ false
 not_in_front opened part.Comment is = absurd (none_some opened (ap (λ (k : Openers). k.notes) is))
 not_in_front opened (part.Text s) is = refl
-not_in_front opened (part.Notes o s) is = refl
-not_in_front opened (part.Nabc l o s) is = refl
+not_in_front opened _ is = refl
 
 -- one character more
 one_more : (kept : List ℕ) (c : ℕ) → kept ++ encode_utf8 c ≡ kept ++ encode_utf8_all (c ∷ [])
@@ -80,11 +80,7 @@ none_cons c e = cc
 module _ (lines macros : ℕ) (x : Char) (s t : TextStage) (es : List TextEvent) (on : text.KeepsOn s x.c es t) where
   -- what keeps something does not end the text
   kept_goes_on : (k : List ℕ) → text.Keeps s k → text_tells.is_in_comment s ≡ false → text.kept_with k x.c ≡ x.c ∷ [] → text.end_text es ≡ false
-  kept_goes_on k keeps plain kept = by (text.end_text es) refl
-    where
-      by : (b : Bool) → text.end_text es ≡ b → b ≡ false
-      by false e = refl
-      by true e = absurd (none_cons x.c (sym kept ∙ sym (on.kept k keeps plain) ∙ (on.ends k keeps e).kept))
+  kept_goes_on k keeps plain kept = false_from_ne_true (text.end_text es) (λ e. none_cons x.c (sym kept ∙ sym (on.kept k keeps plain) ∙ (on.ends k keeps e).kept))
 
   percent_goes_on : (k : List ℕ) → text.Keeps s k → x.c ≡ 37 → text.end_text es ≡ false
   percent_goes_on k keeps is = on.end k keeps ∙ ap (λ (c : ℕ). not (text_tells.is_in_comment s) && (c == 40 && text.ends_after_it k)) is ∙ and-false (not (text_tells.is_in_comment s))

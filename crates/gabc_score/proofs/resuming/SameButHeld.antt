@@ -1,4 +1,5 @@
 -- What a stage gives does not depend on the syllable that it holds, but for that syllable itself.
+use Rattle.std.proofs.Math.Bool.{and-false}
 use Rattle.std.proofs.Common.{◌≡◌, inl, inr, ℕ, zero, suc, ◌+◌, ◌-◌, ◌==◌, ◌&&◌, ◌||◌, not, nat_lt, List, [], ◌∷◌, ◌++◌, map, length, take, drop, Bool, true, false, cond, Option, Some, None, is_some, refl, sym, ap, ◌∙◌, subst, arith}
 use Rattle.std.proofs.Math.Bool.{or-false}
 use Rattle.std.proofs.lemmas.Bool.{true≢false}
@@ -41,11 +42,7 @@ use Rattle.gabc_score.specs.machine.ScoreStage.{HeldScore, placed_after, held_ou
 -- one that has come stays
 kind_stays : (first : Option ItemKind) (line : ℕ) (span : Span) (kept : List ℕ) → is_some first ≡ true → first_past first line span kept ≡ first
 kind_stays None line span kept e = absurd (true≢false (sym e))
-kind_stays (Some k) line span kept e = by (line == 0)
-  where
-    by : (b : Bool) → cond (b && not (is_some (Some k))) (first_note_or_clef (items_of (text_at span kept))) (Some k) ≡ Some k
-    by true = refl
-    by false = refl
+kind_stays (Some k) line span kept e = ap (λ (b : Bool). cond b (first_note_or_clef (items_of (text_at span kept))) (Some k)) (and-false (line == 0))
 
 event_stays : (g : Gathered) (e : BodyEvent) → is_some g.first_kind ≡ true → (with_event g e).first_kind ≡ g.first_kind
 event_stays g (event.Text (text.Part part.WordStart)) h = refl
@@ -84,10 +81,9 @@ module _ (m n : UnplacedSyllable) where
   -- ---- outputs that are the same
 
   output_same : (o : ScoreOutput) → IsSameOutput m n o o
-  output_same (Found f) = refl
-  output_same (Stop f) = refl
   output_same (Syllable s) = inl refl
   output_same End = tt
+  output_same _ = refl
 
   outputs_same : (os : List ScoreOutput) → AreSameOutputs m n os os
   outputs_same [] = tt

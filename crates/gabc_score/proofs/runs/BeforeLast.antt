@@ -1,5 +1,6 @@
 -- A machine that goes on before a syllable, where none is held.
-use Rattle.std.proofs.Common.{◌≡◌, ℕ, ◌≤◌, ◌||◌, Bool, true, false, [], length, is_some, refl, sym, ap, subst, ◌∙◌, arith}
+use Rattle.std.proofs.Math.Bool.{or-false}
+use Rattle.std.proofs.Common.{◌≡◌, ℕ, ◌≤◌, ◌||◌, true, false, [], length, is_some, refl, sym, ap, subst, ◌∙◌, arith}
 use Rattle.std.proofs.lemmas.Bool.{true≢false}
 use Rattle.std.proofs.lemmas.Bool.Decides.{nat_tests}
 use Rattle.std.proofs.lemmas.List.Elements.{All-nil}
@@ -23,13 +24,9 @@ use Rattle.gabc_score.specs.machine.ScoreMachine.{IsInBody, IsShort}
 use Rattle.gabc_score.specs.machine.SlotPair.{SlotPairState, is_made}
 use Rattle.gabc_score.specs.machine.SyllableBuilder.{OpenSyllable, nothing_open}
 use Rattle.gabc_score.specs.witness.BodyStage.{BodyStageState}
-use Rattle.gabc_score.proofs.resuming.HeldIsRead.{none_passed}
+use Rattle.gabc_score.proofs.score_events.EventsStayWithinBounds.{none_passed}
 use Rattle.gabc_score.proofs.score_events.HeldWithinLimits.{within_none}
 use Rattle.gabc_score.proofs.score_events.UnitsAreHeld.{none_held}
-
-last_false : (b : Bool) → b ≡ (b || false)
-last_false true = refl
-last_false false = refl
 
 module _ (m : ScoreMachine) (rests : IsInBody m) (p : Preceding) (some : 1 ≤ p.syllables) (sounded : is_some m.pair.gathered.first_kind ≡ p.sounded)
     (nothing : m.pair.gathered.builder ≡ nothing_open) (follows : m.pair.gathered.follows ≡ true) where
@@ -40,7 +37,7 @@ module _ (m : ScoreMachine) (rests : IsInBody m) (p : Preceding) (some : 1 ≤ p
   preceded_next = record {
     follows = follows ∙ sym (grind (arith, nat_tests, some));
     total = refl;
-    sounded = sounded ∙ last_false p.sounded ∙ ap (λ (o : OpenSyllable). p.sounded || sounds_in o.kept o.snippets) (sym nothing);
+    sounded = sounded ∙ sym (or-false p.sounded) ∙ ap (λ (o : OpenSyllable). p.sounded || sounds_in o.kept o.snippets) (sym nothing);
     snippets = subst (λ (o : OpenSyllable). All (EndsBefore o.from) o.snippets) (sym nothing) (All-nil (EndsBefore 0));
     from = subst (λ (o : OpenSyllable). o.from ≤ length o.kept) (sym nothing) (omega arith);
   }

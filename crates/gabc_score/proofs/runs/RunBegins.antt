@@ -1,5 +1,6 @@
 -- A run begins with the syllable that is held.
-use Rattle.std.proofs.Common.{◌≡◌, ◌||◌, not, Bool, true, false, List, [], ◌∷◌, length, is_some, refl, sym, ap, ap₂, subst, ◌∙◌, arith}
+use Rattle.std.proofs.Math.Bool.{or-false}
+use Rattle.std.proofs.Common.{◌≡◌, ◌||◌, not, Bool, List, [], ◌∷◌, length, is_some, refl, sym, ap, ap₂, subst, ◌∙◌, arith}
 use Rattle.std.proofs.lemmas.List.Elements.{All-nil, All-cons, All-head}
 use Rattle.std.specs.List.{All}
 use Rattle.gabc_places.specs.TextOfAnInput.{IsPlain}
@@ -36,11 +37,7 @@ module _ (m : ScoreMachine) (at : Place) (held : UnplacedSyllable) (stands : Sta
       stands.rests.preceded.sounded
       ∙ ap (λ (p : Preceding). p.sounded || sounds_in m.pair.gathered.builder.kept m.pair.gathered.builder.snippets) (sym stands.rests.after)
       ∙ ap (λ (o : OpenSyllable). m.bounds.after.sounded || sounds_in o.kept o.snippets) stands.between.nothing
-      ∙ last_false m.bounds.after.sounded
-    where
-      last_false : (b : Bool) → (b || false) ≡ b
-      last_false true = refl
-      last_false false = refl
+      ∙ or-false m.bounds.after.sounded
 
   alike : ReadAlike m.pair.gathered (begun m.bounds.after.spans)
   alike = nothing_alike m.body.nabc_lines m.body.macros m.body.part m.bounds.after.spans m.pair.gathered stands.rests.reading (ap (λ (o : OpenSyllable). o.kept) stands.between.nothing)

@@ -1,4 +1,5 @@
 -- What a run gives, once its last syllable is held.
+use Rattle.gabc_text.proofs.tokens.CountsOfTexts.{place_small}
 use Rattle.std.proofs.Common.{◌≡◌, ℕ, ◌+◌, ◌<◌, ◌≤◌, ◌^◌, Bool, true, List, [], ◌∷◌, ◌++◌, map, length, refl, sym, ap, subst, ◌∙◌, arith, length-append}
 use Rattle.std.proofs.lemmas.Bool.Decides.{nat_tests}
 use Rattle.std.specs.Str.{chars}
@@ -32,7 +33,7 @@ use Rattle.gabc_score.specs.machine.ScoreMachine.{held_score, shown}
 use Rattle.gabc_score.specs.machine.ScoreStage.{HeldScore, body_left, outputs_left}
 use Rattle.gabc_score.proofs.runs.FoundSyllable.{some_are, utf8_is}
 use Rattle.gabc_score.proofs.runs.RunEnds.{EndsWith, before_last}
-use Rattle.gabc_score.proofs.runs.RunGoesOn.{few_characters, low_by}
+use Rattle.gabc_score.proofs.runs.RunGoesOn.{few_characters}
 use Rattle.gabc_score.proofs.score_events.CountsGoOn.{more}
 
 -- ---- counts and places
@@ -133,7 +134,7 @@ module _ (m : ScoreMachine) (at : Place) (t : List ℕ) (given : List PlacedSyll
   place_is : IsPlace at → IsPlace after.next
   place_is is =
       let from = from_one at text is.line is.column in
-      let low = low_by next (chars f.spelled.now) in
+      let low = place_small next (chars f.spelled.now) in
       let k = low.1 in
       let few = few_characters f.spelled.now (utf8_is f m.body.nabc_lines p.canonical m.limits found) in
       let e = ap (λ (q : Place). q.column) held.at in

@@ -1,4 +1,6 @@
 -- A run goes on with one more regular syllable.
+use Rattle.gabc_text.proofs.tokens.CountsOfTexts.{place_small}
+use Rattle.std.proofs.Math.Bool.{or-true}
 use Rattle.std.proofs.Common.{◌≡◌, ℕ, ◌+◌, ◌<◌, ◌≤◌, ◌^◌, ◌==◌, ◌||◌, not, min, nat_lt, Bool, true, false, List, [], ◌∷◌, ◌++◌, length, map, take, encode_utf8_all, Option, is_some, refl, sym, ap, ap₂, subst, ◌∙◌, arith, length-append}
 use Rattle.std.proofs.lemmas.Bool.Decides.{nat_tests}
 use Rattle.std.proofs.lemmas.List.Elements.{All-nil, All-cons, All-append}
@@ -6,9 +8,9 @@ use Rattle.std.specs.Str.{IsUtf8, chars}
 use Rattle.std.proofs.lemmas.Str.{encodes-chars, length-le-encodes}
 use Rattle.std.proofs.lemmas.List.{map-append}
 use Rattle.gabc_places.specs.TextOfAnInput.{IsPlain}
-use Rattle.gabc_places.specs.Place.{place_past, next_place}
+use Rattle.gabc_places.specs.Place.{place_past}
 use Rattle.gabc_places.specs.declared.place.Place.{Place}
-use Rattle.gabc_places.proofs.PlacesOfAText.{place_append, within_on}
+use Rattle.gabc_places.proofs.PlacesOfAText.{place_append}
 use Rattle.gabc_notes.specs.declared.item.ItemKind.{ItemKind}
 use Rattle.gabc_text.specs.Events.{CountsFit}
 use Rattle.gabc_score.specs.declared.before.Preceding.{Preceding}
@@ -34,15 +36,6 @@ use Rattle.gabc_score.proofs.runs.Throughs.{through_both}
 
 -- ---- the place
 
--- no count of a place grows by more than the bytes that were read
-pub low_by : (at : Place) (t : List ℕ) → ((place_past at t).line ≤ at.line + length t) × ((place_past at t).column ≤ at.column + length t)
-low_by at [] = (omega arith, omega arith)
-low_by at (c ∷ t) =
-    let one = within_on at (length t + 1) (length t) (at.line + (length t + 1)) (at.column + (length t + 1)) (omega arith) (omega arith) (omega arith) c (next_place at c) refl in
-    let rest = low_by (next_place at c) t in
-    let l = one.0 in let k = one.1 in let u = rest.0 in let v = rest.1 in
-    (omega (arith, l, u), omega (arith, k, v))
-
 pub few_characters : (bytes : List ℕ) → IsUtf8 bytes → length (chars bytes) ≤ length bytes
 few_characters bytes u = let l = length-le-encodes (chars bytes) in let e = ap (λ (b : List ℕ). length b) (encodes-chars bytes u) in omega (arith, l, e)
 
@@ -53,7 +46,7 @@ low_there at next bytes spelled rest text u e place line column =
     let a = length-append bytes (spelled ++ rest) in
     let b = length-append spelled rest in
     let few = few_characters bytes u in
-    let low = low_by at (chars bytes) in
+    let low = place_small at (chars bytes) in
     let l = low.0 in let k = low.1 in
     let pl = ap (λ (p : Place). p.line) place in let pc = ap (λ (p : Place). p.column) place in
     (omega (arith, n, a, b, few, l, pl, line), omega (arith, n, a, b, few, k, pc, column))
@@ -161,11 +154,7 @@ module _ (m : ScoreMachine) (at : Place) (t : List ℕ) (given : List PlacedSyll
         ∙ ap₂ (λ a b. record m.pair.gathered { made = one ∷ []; total = (past_found p f).canonical; eu = a; nlba = b }) eu_is nlba_is
 
     pub lent_is : (runs.s.has_lent || nat_lt 0 (length runs.s.gathered.made)) ≡ true
-    lent_is = ap (λ (g : Gathered). runs.s.has_lent || nat_lt 0 (length g.made)) runs.gathered ∙ or_true runs.s.has_lent
-      where
-        or_true : (b : Bool) → (b || nat_lt 0 1) ≡ true
-        or_true true = refl
-        or_true false = refl
+    lent_is = ap (λ (g : Gathered). runs.s.has_lent || nat_lt 0 (length g.made)) runs.gathered ∙ or-true runs.s.has_lent
 
     preceding_is : with_one p one ≡ past_found p f
     preceding_is =

@@ -56,9 +56,8 @@ module _ (limits : Limits) where
   score_ends [] = tt
   score_ends (head_event.Heads lines macros canonical ∷ xs) = body_ends (fresh_score limits canonical) (events_from texts_by_stage lines macros InComment (characters_in xs)) xs
   score_ends (head_event.Found f ∷ xs) = (λ l. absurd (cc), score_ends xs)
-  score_ends (head_event.Stop fault ∷ xs) = (λ l. joined_silence xs, silent _ (joined_silence xs))
-  score_ends (head_event.End ∷ xs) = (λ l. joined_silence xs, silent _ (joined_silence xs))
   score_ends (head_event.Body x ∷ xs) = score_ends xs
+  score_ends (_ ∷ xs) = (λ l. joined_silence xs, silent _ (joined_silence xs))
 
   left_ends : (part : ScorePart) (s : HeldScore) (body : BodyStageState) (xs : List HeadEvent) → Ends (concat_of (outputs_left limits part s body xs))
   left_ends score_part.Heads s body xs = score_ends xs
@@ -75,15 +74,13 @@ last_event : (l : BorrowedSyllable) (outputs later : List ScoreOutput) (before r
 last_event l [] later [] rest e h k t = absurd (cc)
 last_event l [] later (p ∷ before) rest e h k t = absurd (cc)
 last_event l (Found f ∷ outputs) later [] rest e h k t = absurd (cc)
-last_event l (Found f ∷ outputs) later (p ∷ before) rest e h k t = let r : events_borrowed l outputs ≡ before ++ e ∷ rest = cc in last_event l outputs later before rest e h.1 r t
 last_event l (Syllable s ∷ outputs) later [] rest e h k t = absurd (cc)
 last_event l (Syllable s ∷ outputs) later (p ∷ before) rest e h k t = let r : events_borrowed Second outputs ≡ before ++ e ∷ rest = cc in last_event Second outputs later before rest e h.1 r t
 last_event l (Stop fault ∷ outputs) later [] rest e h k t =
     let n = both_empty outputs later (h.0 refl) in let r : events_borrowed l outputs ≡ rest = cc in (sym r ∙ ap (events_borrowed l) n.0, n.1)
-last_event l (Stop fault ∷ outputs) later (p ∷ before) rest e h k t = let r : events_borrowed l outputs ≡ before ++ e ∷ rest = cc in last_event l outputs later before rest e h.1 r t
 last_event l (End ∷ outputs) later [] rest e h k t =
     let n = both_empty outputs later (h.0 refl) in let r : events_borrowed l outputs ≡ rest = cc in (sym r ∙ ap (events_borrowed l) n.0, n.1)
-last_event l (End ∷ outputs) later (p ∷ before) rest e h k t = let r : events_borrowed l outputs ≡ before ++ e ∷ rest = cc in last_event l outputs later before rest e h.1 r t
+last_event l (_ ∷ outputs) later (p ∷ before) rest e h k t = let r : events_borrowed l outputs ≡ before ++ e ∷ rest = cc in last_event l outputs later before rest e h.1 r t
 
 -- no outputs are no events
 pub no_events : (lists : List (List ScoreOutput)) → concat_of lists ≡ [] → concat_of (map (λ outputs. events_of outputs) lists) ≡ []

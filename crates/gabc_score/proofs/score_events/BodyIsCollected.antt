@@ -8,7 +8,7 @@ use Rattle.gabc_places.specs.declared.place.Place.{Place}
 use Rattle.gabc_headers.specs.declared.head_event.HeadEvent.{HeadEvent}
 use Rattle.gabc_score.specs.declared.body_result.BodyResult.{BodyResult}
 use Rattle.gabc_score.specs.declared.ending.InputEnding.{InputEnding}
-use Rattle.gabc_score.specs.declared.ending.InputEnding.TheVariants.{Whole, Broken, At}
+use Rattle.gabc_score.specs.declared.ending.InputEnding.TheVariants.{Whole}
 use Rattle.gabc_score.specs.declared.events.BodyEvent.{BodyEvent}
 use Rattle.gabc_score.specs.Body.{body_of}
 use Rattle.gabc_score.specs.NoteBeforeClef.{with_first_each}
@@ -43,11 +43,10 @@ below_next at n false l c = (omega (arith, l), omega (arith, c))
 
 pub counts_below : (ending : InputEnding) (at : Place) (cs : List ℕ) → at.line + length cs < 2 ^ 64 → at.column + length cs < 2 ^ 64 → AreCountsBelow (to_come ending (placed_characters_from at cs))
 counts_below Whole at [] l c = tt
-counts_below Broken at [] l c = tt
-counts_below (At fault) at [] l c = tt
 counts_below ending at (x ∷ cs) l c =
     let b = below_next at (length cs) (is_line_feed x) (omega (arith, l)) (omega (arith, c)) in
     ((omega (arith, l), omega (arith, c)), counts_below ending (next_place at x) cs b.0 b.1)
+counts_below _ at [] l c = tt
 
 -- ---- the whole body
 

@@ -39,8 +39,7 @@ end_place at (x ∷ xs) = end_place (next_place x.place x.c) xs
 -- a run that stops is not whole
 pub no_end : (ending : InputEnding) (fault : Fault) → is_whole ending (Some fault) ≡ false
 no_end Whole fault = refl
-no_end Broken fault = refl
-no_end (At other) fault = refl
+no_end _ fault = refl
 
 module _ (limits : Limits) (head : ℕ) (found : List Finding) where
   -- ---- the stop

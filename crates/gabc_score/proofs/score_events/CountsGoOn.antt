@@ -1,5 +1,5 @@
 -- The counts that a machine reports stay within the limits, past a point.
-use Rattle.std.proofs.Common.{◌≡◌, ◌⊎◌, inl, inr, ℕ, zero, suc, ◌++◌, None, ◌-◌, ◌≤◌, ◌<◌, ◌^◌, Bool, true, false, List, [], ◌∷◌, take, drop, map, length, refl, sym, ap, subst, ◌∙◌, arith}
+use Rattle.std.proofs.Common.{◌≡◌, ◌⊎◌, inl, inr, ℕ, zero, suc, None, ◌-◌, ◌≤◌, ◌<◌, ◌^◌, Bool, true, false, List, [], ◌∷◌, take, drop, map, length, refl, sym, ap, subst, ◌∙◌, arith, length-append}
 use Rattle.std.proofs.lemmas.Bool.{true≢false}
 use Rattle.std.specs.List.{All}
 use Rattle.std.proofs.lemmas.Bool.Decides.{nat_tests}
@@ -93,13 +93,9 @@ none_past before after has_lent g h turned now last there turns is was none =
     none_in [] e = refl
     none_in (m ∷ ms) e = absurd (cc e)
 
-    some : (ms : List UnplacedSyllable) (m : UnplacedSyllable) → ms ++ m ∷ [] ≡ [] → ⊥
-    some [] m e = cc e
-    some (k ∷ ms) m e = cc e
-
     old : ((with_all g now).made ≡ g.made) ⊎ Closed g (with_all g now) → (with_all g now).made ≡ [] → g.made ≡ []
     old (inl same) e = sym same ∙ e
-    old (inr c) e = absurd (some g.made c.m (sym c.made ∙ e))
+    old (inr c) e = absurd (let n = ap (λ (ms : List UnplacedSyllable). length ms) (sym c.made ∙ e) in omega (arith, n, length-append g.made (c.m ∷ [])))
 
 -- after the headers the counts are those that they give
 pub begins_of_text : (limits : Limits) (next : Place) (input : HeadEvent) (lines macros canonical : ℕ) (body : BodyStageState) (bounds : Bounds) → input ≡ head_event.Heads lines macros canonical

@@ -1,4 +1,7 @@
 -- What the events of a point leave within bounds.
+use Rattle.std.proofs.Common.{sym}
+use Rattle.std.proofs.lemmas.Bool.Decides.{nat_tests}
+use Rattle.std.proofs.lemmas.Bool.{or_parts}
 use Rattle.std.proofs.Common.{◌≡◌, ◌≤◌, ◌+◌, ◌-◌, ◌||◌, ◌&&◌, not, nat_lt, Bool, true, false, cond, List, [], ◌∷◌, ◌++◌, length, drop, Option, Some, None, refl, ap, ◌∙◌, arith, length-append, length-drop}
 use Rattle.gabc_places.specs.declared.code.Code.TheVariants.{W12, F5, F7}
 use Rattle.gabc_places.specs.declared.limits.Limits.{Limits}
@@ -20,13 +23,48 @@ use Rattle.gabc_score.specs.Syllable.{UnplacedSyllable}
 use Rattle.gabc_score.specs.machine.Gatherer.{Gathered, with_event}
 use Rattle.gabc_score.specs.machine.ScoreStage.{with_held}
 
--- where no limit is passed the kept text is within its limit
-pub within : (limits : Limits) (g : Gathered) → code_in limits g ≡ None → length g.builder.kept ≤ g.limit
-within limits g none = by (nat_lt g.limit (length g.builder.kept)) refl none
+-- ---- no limit is passed
+
+pub record IsWithinLimits (limits : Limits) (g : Gathered) : Type 0 where
+  pub kept : length g.builder.kept ≤ g.limit
+  pub over : g.over ≡ false
+  pub file : is_none g.made ≡ false → g.total + 1 ≤ limits.input
+
+neither : (a b : Bool) → cond a (Some F5) (cond b (Some F7) None) ≡ None → (a ≡ false) × (b ≡ false)
+neither false false e = (refl, refl)
+neither false true e = absurd (cc e)
+neither true b e = absurd (cc e)
+
+pub is_within : (limits : Limits) (g : Gathered) → code_in limits g ≡ None → IsWithinLimits limits g
+is_within limits g e =
+    let n = neither (is_longer g.limit g.builder.kept || g.over) (not (is_none g.made) && nat_lt limits.input (g.total + 1)) e in
+    let text = or_parts (is_longer g.limit g.builder.kept) g.over n.0 in
+    let short : nat_lt g.limit (length g.builder.kept) ≡ false = text.0 in
+    record {
+      kept = grind (arith, nat_tests, short);
+      over = text.1;
+      file = λ some. let low : nat_lt limits.input (g.total + 1) ≡ false = sym (ap (λ (b : Bool). not b && nat_lt limits.input (g.total + 1)) some) ∙ n.1 in grind (arith, nat_tests, low);
+    }
+
+pub none_passed : (limits : Limits) (g : Gathered) → IsWithinLimits limits g → code_in limits g ≡ None
+none_passed limits g w =
+    ap (λ b. cond (b || g.over) (Some F5) (cond (not (is_none g.made) && nat_lt limits.input (g.total + 1)) (Some F7) None)) short
+    ∙ ap (λ b. cond b (Some F5) (cond (not (is_none g.made) && nat_lt limits.input (g.total + 1)) (Some F7) None)) w.over
+    ∙ file (is_none g.made) refl
   where
-    by : (b : Bool) → nat_lt g.limit (length g.builder.kept) ≡ b → cond (b || g.over) (Some F5) (cond (not (is_none g.made) && nat_lt limits.input (g.total + 1)) (Some F7) None) ≡ None → length g.builder.kept ≤ g.limit
-    by true e n = absurd (cc)
-    by false e n = grind (arith, e)
+    short : is_longer g.limit g.builder.kept ≡ false
+    short = let k = w.kept in grind (arith, nat_tests, k)
+
+    low : g.total + 1 ≤ limits.input → nat_lt limits.input (g.total + 1) ≡ false
+    low h = grind (arith, nat_tests, h)
+
+    file : (made : Bool) → is_none g.made ≡ made → cond (not made && nat_lt limits.input (g.total + 1)) (Some F7) None ≡ None
+    file true m = refl
+    file false m = ap (λ b. cond b (Some F7) None) (low (w.file m))
+
+-- then the kept text is within its limit
+pub within : (limits : Limits) (g : Gathered) → code_in limits g ≡ None → length g.builder.kept ≤ g.limit
+within limits g none = (is_within limits g none).kept
 
 -- and none is where only the last syllable is held
 pub code_turned : (limits : Limits) (g : Gathered) → code_in limits g ≡ None → code_in limits (with_held g) ≡ None
@@ -53,13 +91,9 @@ limit_stays g [] = refl
 limit_stays g (t ∷ now) = limit_stays (with_event g t) now ∙ limit_with g t
 
 found_one : (found : List Finding) (t : BodyEvent) → length (findings_with found t) ≤ length found + 1
-found_one found (event.Text (text.Kept c)) = omega arith
-found_one found (event.Text (text.Part p)) = omega arith
 found_one found (event.Text (text.Found f)) = let l = length-append found (f ∷ []) in omega (arith, l)
-found_one found (event.Text (text.Ended e)) = omega arith
-found_one found (event.Notes line (note.Kept c)) = omega arith
 found_one found (event.Notes line (note.Found f)) = let l = length-append found (f ∷ []) in omega (arith, l)
-found_one found (event.Notes line (note.Ended e n)) = omega arith
+found_one found _ = omega arith
 
 -- no more is found than is emitted
 pub found_few : (now before : List BodyEvent) → length (findings_of (events_onto now before)) ≤ length (findings_of before) + length now

@@ -1,10 +1,11 @@
 -- What is borrowed at a point is within the limits: syllables that were made without passing one.
-use Rattle.std.proofs.Common.{◌≡◌, ℕ, ◌+◌, ◌-◌, ◌≤◌, ◌<◌, ◌^◌, ◌||◌, ◌&&◌, min, not, nat_lt, Bool, true, false, cond, List, [], ◌∷◌, ◌++◌, map, take, length, Option, Some, None, refl, sym, ap, ◌∙◌, subst, arith, append_assoc, length-take}
+use Rattle.std.proofs.lemmas.Bool.{or_parts}
+use Rattle.gabc_score.proofs.score_events.EventsStayWithinBounds.{is_within}
+use Rattle.std.proofs.Common.{◌≡◌, ℕ, ◌+◌, ◌-◌, ◌≤◌, ◌<◌, ◌^◌, ◌||◌, min, not, nat_lt, Bool, true, false, cond, List, [], ◌∷◌, ◌++◌, map, take, length, Option, Some, None, refl, sym, ap, ◌∙◌, subst, arith, append_assoc, length-take}
 use Rattle.std.proofs.lemmas.Bool.Decides.{nat_tests}
 use Rattle.std.specs.List.{All}
 use Rattle.std.proofs.lemmas.List.Elements.{All-nil, All-cons, All-head, All-tail, All-append}
 use Rattle.gabc_places.specs.declared.code.Code.{Code}
-use Rattle.gabc_places.specs.declared.code.Code.TheVariants.{F5, F7}
 use Rattle.gabc_places.specs.declared.code.Finding.{Finding}
 use Rattle.gabc_places.specs.declared.limits.Limits.{Limits}
 use Rattle.gabc_text.specs.declared.text_event.TextEnd.TheVariants as text_end
@@ -14,7 +15,7 @@ use Rattle.gabc_notes.specs.declared.stage.NoteEnd.TheVariants as note_end
 use Rattle.gabc_notes.specs.declared.stage.NoteEvent.TheVariants as note
 use Rattle.gabc_score.specs.declared.events.BodyEvent.{BodyEvent}
 use Rattle.gabc_score.specs.declared.events.BodyEvent.TheVariants as event
-use Rattle.gabc_score.specs.Body.{has_text, is_none}
+use Rattle.gabc_score.specs.Body.{has_text}
 use Rattle.gabc_score.specs.Canonical.{canonical, placed_syllables_by, starts_word}
 use Rattle.gabc_score.specs.NoNotes.{OnlyFirstHasNotes, has_no_notes}
 use Rattle.gabc_score.specs.ScoreEvents.{ScoreOutput, Found, Syllable, outputs_of, syllables_in}
@@ -43,10 +44,7 @@ pub counted : (limit len kept : ℕ) → limit < 2 ^ 32 → nat_lt limit kept �
 counted limit len kept h k e = (grind (arith, nat_tests), grind (arith, nat_tests))
 
 pub either : (a b c : Bool) → (a || (b || c)) ≡ false → (a ≡ false) × ((b ≡ false) × (c ≡ false))
-either false false false h = (refl, (refl, refl))
-either false false true h = absurd (cc h)
-either false true c h = absurd (cc h)
-either true b c h = absurd (cc h)
+either a b c h = let e = or_parts a (b || c) h in (e.0, or_parts b c e.1)
 
 without_start : (b : Bool) (m : UnplacedSyllable) → length (canonical false m) ≤ length (canonical b m)
 without_start true m = omega arith
@@ -81,12 +79,7 @@ short_last g s h = by (has_text g.builder.view)
 
 -- where no limit is passed nothing is over it
 pub not_over : (limits : Limits) (g : Gathered) → code_in limits g ≡ None → g.over ≡ false
-not_over limits g none = by (nat_lt g.limit (length g.builder.kept)) g.over none
-  where
-    by : (a over : Bool) → cond (a || over) (Some F5) (cond (not (is_none g.made) && nat_lt limits.input (g.total + 1)) (Some F7) None) ≡ None → over ≡ false
-    by false false h = refl
-    by true over h = absurd (cc)
-    by false true h = absurd (cc)
+not_over limits g none = (is_within limits g none).over
 
 -- what was made without passing a limit is short
 pub short_now : (limits : Limits) (g : Gathered) (now : List BodyEvent) → g.limit ≡ limits.syllable → g.over ≡ false → All (IsShort limits.syllable) g.made → code_in limits (with_all g now) ≡ None

@@ -27,16 +27,12 @@ use Rattle.gabc_score.specs.machine.PartSteps as step
 -- a part in which no comment is open is not in front
 pub no_comment_no_front : {A : Type 0} (b : BodyPart) → is_in_comment b ≡ false → is_in_front b ≡ true → A
 no_comment_no_front part.Comment e front = absurd (true≢false e)
-no_comment_no_front (part.Text s) e front = absurd (true≢false (sym front))
-no_comment_no_front (part.Notes opened s) e front = absurd (true≢false (sym front))
-no_comment_no_front (part.Nabc line opened s) e front = absurd (true≢false (sym front))
+no_comment_no_front _ e front = absurd (true≢false (sym front))
 
 -- where the next character stands does not count
 pub front_moved : (at : Place) (b : BodyPart) → is_in_front (moved_part at b) ≡ is_in_front b
 front_moved at part.Comment = refl
-front_moved at (part.Text s) = refl
-front_moved at (part.Notes opened s) = refl
-front_moved at (part.Nabc line opened s) = refl
+front_moved at _ = refl
 
 -- After a character the comment is still open only where nothing has come.
 pub front_past : (before after : BodyPart) (p later : Preceding) (has_lent : _) (g h turned : Gathered) (now : List BodyEvent) → PartLeavesFront before after now → (is_in_front before ≡ true → NoneIsWhole p g)

@@ -15,7 +15,6 @@ use Rattle.gabc_score.specs.UnitRead.{HoldsSomeUnit}
 
 pub held_is_text : ((lines : ℕ) (m : UnplacedSyllable) → HoldsSomeUnit lines m → IsText m.kept → (starts : Bool) → IsText (canonical starts m)) → (lines : ℕ) (p : Preceding) (part : ScorePart) (made : List UnplacedSyllable)
     → (part ≡ score_part.Body → All (λ (m : UnplacedSyllable). IsText m.kept) made) → IfSome (held_in_body part made) (HoldsSomeUnit lines) → IfSome (held_in_body part made) (λ m. IsText (written_after p m))
-held_is_text law lines p score_part.Heads made told unit = tt
-held_is_text law lines p score_part.Over made told unit = tt
 held_is_text law lines p score_part.Body [] told unit = tt
 held_is_text law lines p score_part.Body (m ∷ ms) told unit = law lines m unit (All-head (λ (m : UnplacedSyllable). IsText m.kept) m ms (told refl)) ((p.syllables == 0) || m.text.word_start)
+held_is_text law lines p _ made told unit = tt

@@ -176,6 +176,5 @@ score_is limits small low (head_event.Heads lines macros canonical ∷ xs) p =
     ap (λ s. [] ∷ body_left limits s lists xs) (holds_nothing limits canonical small low first_place (let h = p.0 in omega (arith, h)))
     ∙ ap (λ outputs. [] ∷ outputs) (left_is limits canonical small low first_place [] lists xs p.1)
 score_is limits small low (head_event.Found f ∷ xs) p = ap (λ outputs. (Found f ∷ []) ∷ outputs) (score_is limits small low xs p)
-score_is limits small low (head_event.Stop fault ∷ xs) p = refl
-score_is limits small low (head_event.End ∷ xs) p = refl
 score_is limits small low (head_event.Body x ∷ xs) p = ap (λ outputs. [] ∷ outputs) (score_is limits small low xs p.1)
+score_is limits small low (_ ∷ xs) p = refl

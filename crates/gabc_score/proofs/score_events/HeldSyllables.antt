@@ -110,12 +110,11 @@ placed_drop (suc k) first (m ∷ ms) = placed_drop k false ms ∙ ap (λ b. plac
 
 first_is : (n : ℕ) → first_after (n - 1) true ≡ not (nat_lt 1 n)
 unfolding first_after
-first_is zero = refl
-first_is (suc zero) = refl
 first_is (suc (suc n)) =
     let one_more : suc (suc n) - 1 ≡ suc n = omega arith in
     let two : nat_lt 1 (suc (suc n)) ≡ true = grind arith in
     rw (one_more, two) refl
+first_is _ = refl
 
 -- the syllables not given yet have the positions that they have among all
 pub placed_rest : (n : ℕ) (ms : List UnplacedSyllable) → placed_after (nat_lt 1 n) (drop (n - 1) ms) ≡ not_given n ms

@@ -1,9 +1,9 @@
 -- What was gathered stays within the limits as it will be written, past a point.
-use Rattle.std.proofs.Common.{◌≡◌, ℕ, zero, suc, ◌+◌, ◌-◌, ◌≤◌, ◌<◌, ◌^◌, ◌==◌, ◌||◌, ◌&&◌, not, nat_lt, Bool, true, false, cond, List, [], ◌∷◌, ◌++◌, take, drop, map, length, Some, None, refl, sym, ap, subst, ◌∙◌, arith}
+use Rattle.gabc_score.proofs.score_events.EventsStayWithinBounds.{is_within}
+use Rattle.std.proofs.Common.{◌≡◌, ℕ, zero, suc, ◌-◌, ◌≤◌, ◌<◌, ◌^◌, ◌==◌, ◌||◌, ◌&&◌, not, nat_lt, Bool, true, false, List, [], ◌∷◌, ◌++◌, take, drop, map, length, None, refl, sym, ap, subst, ◌∙◌, arith}
 use Rattle.std.proofs.lemmas.Bool.{true≢false}
 use Rattle.std.proofs.lemmas.Bool.Decides.{nat_tests}
 use Rattle.std.proofs.Math.Bool.{and-false, and-true}
-use Rattle.gabc_places.specs.declared.code.Code.TheVariants.{F5, F7}
 use Rattle.gabc_places.specs.declared.limits.Limits.{Limits}
 use Rattle.gabc_text.specs.declared.text_event.TextEnd.TheVariants as text_end
 use Rattle.gabc_text.specs.declared.text_event.TextEvent.TheVariants as text
@@ -14,7 +14,7 @@ use Rattle.gabc_score.specs.declared.before.Preceding.{Preceding}
 use Rattle.gabc_score.specs.declared.events.BodyEvent.{BodyEvent}
 use Rattle.gabc_score.specs.declared.events.BodyEvent.TheVariants as event
 use Rattle.gabc_score.specs.Before.{no_syllable, with_each, with_one, with_placed}
-use Rattle.gabc_score.specs.Body.{is_longer, is_none}
+use Rattle.gabc_score.specs.Body.{is_none}
 use Rattle.gabc_score.specs.Canonical.{canonical}
 use Rattle.gabc_score.specs.Syllable.{UnplacedSyllable, PlacedSyllable}
 use Rattle.gabc_score.specs.ReportedWithin.{IsAtOutset}
@@ -80,13 +80,7 @@ written_now limits p g now e over f written none =
     (not_over limits (with_all g now) none))
 
 pub file_now : (limits : Limits) (h : Gathered) → code_in limits h ≡ None → is_none h.made ≡ false → h.total < limits.input
-file_now limits h none some = by (is_longer h.limit h.builder.kept || h.over) (is_none h.made) (nat_lt limits.input (h.total + 1)) refl some none
-  where
-    by : (a n t : Bool) → nat_lt limits.input (h.total + 1) ≡ t → n ≡ false → cond a (Some F5) (cond (not n && t) (Some F7) None) ≡ None → h.total < limits.input
-    by true n t e s c = absurd (cc c)
-    by false false true e s c = absurd (cc c)
-    by false false false e s c = grind (arith, nat_tests, e)
-    by false true t e s c = absurd (true≢false s)
+file_now limits h none some = let file = (is_within limits h none).file some in omega (arith, file)
 
 -- ---- all but the last are given
 

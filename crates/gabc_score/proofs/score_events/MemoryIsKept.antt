@@ -14,9 +14,8 @@ use Rattle.gabc_score.proofs.score_events.EventsStayWithinBounds.{limit_stays}
 
 -- wherever a machine stands, it keeps its memory
 pub keeps : (m : ScoreMachine) (p : ScorePart) → IsScoreAt p m → KeepsMemory m
-keeps m score_part.Heads h = record { room = h.rests.room; limit = h.rests.limit }
-keeps m score_part.Body h = record { room = h.rests.room; limit = h.rests.limit }
 keeps m score_part.Over h = h
+keeps m _ h = record { room = h.rests.room; limit = h.rests.limit }
 
 -- the events of a point leave the limit of the slots as it was
 pub limit_past : (g freed new : Gathered) (now : List BodyEvent) → freed ≡ g → new ≡ with_all freed now → new.limit ≡ g.limit

@@ -14,10 +14,8 @@ use Rattle.gabc_score.proofs.score_events.OpenersInOrder.{openers_moved}
 
 module _ (text_stays : (s : TextStage) (at : Place) → text_tells.opener_of (text_reports.moved_to at s) ≡ text_tells.opener_of s) where
   pub openers_stay : (at : Place) (b : BodyPart) → openers_of (moved_part at b) ≡ openers_of b
-  openers_stay at part.Comment = refl
-  openers_stay at (part.Notes opened s) = refl
-  openers_stay at (part.Nabc line opened s) = refl
   openers_stay at (part.Text s) = ap (λ (o : Option Place). record { notes = None; inner = o }) (text_stays s at)
+  openers_stay at _ = refl
 
   pub moved_is_told : (at : Place) (s : ScoreStageState) → IsUpTo s.held.next at → IsPlace at → ReportsText s → ReportsText (moved_to at s)
   moved_is_told at s up is told body =

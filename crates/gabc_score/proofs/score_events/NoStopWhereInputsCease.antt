@@ -35,9 +35,8 @@ held ss =
     record { findings = ap (λ (s : Said). s.findings) said; stop = ap (λ (s : Said). s.fault) said; end = ap (λ (s : Said). s.ended) said }
 
 by_part : (limits : Limits) (part : ScorePart) (s : HeldScore) (body : BodyStageState) → NoStop (said_by (concat_of (outputs_left limits part s body [])))
-by_part limits score_part.Heads s body = record { findings = refl; stop = refl; end = refl }
-by_part limits score_part.Over s body = record { findings = refl; stop = refl; end = refl }
 by_part limits score_part.Body s body = held _
+by_part limits _ s body = record { findings = refl; stop = refl; end = refl }
 
 pub no_stop : (s : ScoreStageState) → NoStop (said_by (concat_of (left_of s [])))
 no_stop s = by_part s.limits s.part s.held s.body
@@ -80,17 +79,15 @@ in_body limits s (now ∷ lists) (head_event.Body x ∷ xs) h =
 in_body limits s [] (head_event.Body x ∷ xs) h = silent xs
 in_body limits s lists (head_event.End ∷ xs) h = absurd h
 in_body limits s lists (head_event.Stop fault ∷ xs) h = stopped s fault xs
-in_body limits s lists (head_event.Found f ∷ xs) h = in_body limits s lists xs h
-in_body limits s lists (head_event.Heads lines macros canonical ∷ xs) h = in_body limits s lists xs h
+in_body limits s lists (_ ∷ xs) h = in_body limits s lists xs h
 
 in_score : (limits : Limits) (xs : List HeadEvent) → HasNoEnd xs → has_end (concat_of (score_left limits xs)) ≡ false
 in_score limits [] h = refl
 in_score limits (head_event.Heads lines macros canonical ∷ xs) h =
     in_body limits (fresh_score limits canonical) (events_from texts_by_stage lines macros InComment (characters_in xs)) xs h
-in_score limits (head_event.Found f ∷ xs) h = in_score limits xs h
 in_score limits (head_event.Stop fault ∷ xs) h = silent xs
 in_score limits (head_event.End ∷ xs) h = absurd h
-in_score limits (head_event.Body x ∷ xs) h = in_score limits xs h
+in_score limits (_ ∷ xs) h = in_score limits xs h
 
 in_part : (limits : Limits) (part : ScorePart) (s : HeldScore) (body : BodyStageState) (xs : List HeadEvent) → HasNoEnd xs → has_end (concat_of (outputs_left limits part s body xs)) ≡ false
 in_part limits score_part.Heads s body xs h = in_score limits xs h

@@ -66,9 +66,8 @@ score_ends : (texts : Texts) (limits : Limits) (xs : List HeadEvent) → Ends (c
 score_ends texts limits [] = tt
 score_ends texts limits (head_event.Heads lines macros canonical ∷ xs) = body_ends limits canonical first_place [] (with_first_each [] (characters_in xs) (events_from texts lines macros InComment (characters_in xs))) xs
 score_ends texts limits (head_event.Found f ∷ xs) = (λ l. absurd (cc), score_ends texts limits xs)
-score_ends texts limits (head_event.Stop fault ∷ xs) = (λ l. joined_silence xs, silent _ (joined_silence xs))
-score_ends texts limits (head_event.End ∷ xs) = (λ l. joined_silence xs, silent _ (joined_silence xs))
 score_ends texts limits (head_event.Body x ∷ xs) = score_ends texts limits xs
+score_ends texts limits (_ ∷ xs) = (λ l. joined_silence xs, silent _ (joined_silence xs))
 
 nothing_after : (outputs before after : List ScoreOutput) (o : ScoreOutput) → Ends outputs → outputs ≡ before ++ o ∷ after → is_last o ≡ true → after ≡ []
 nothing_after [] [] after o h e l = absurd (cc)

@@ -1,6 +1,7 @@
 -- A character at which nothing is found, no syllable becomes whole and no limit is passed: nothing
 -- is given.
-use Rattle.std.proofs.Common.{◌≡◌, ℕ, ◌+◌, ◌-◌, ◌≤◌, ◌||◌, ◌&&◌, not, nat_lt, Bool, true, false, cond, List, [], length, take, Option, Some, None, refl, sym, ap, subst, ◌∙◌, arith, append-nil}
+use Rattle.gabc_score.proofs.building.EventsAreHeld.{none_closes}
+use Rattle.std.proofs.Common.{◌≡◌, ℕ, ◌+◌, ◌-◌, ◌≤◌, ◌||◌, ◌&&◌, not, nat_lt, Bool, false, cond, List, [], length, take, Option, Some, None, refl, sym, ap, subst, ◌∙◌, arith, append-nil}
 use Rattle.std.specs.List.{list_any}
 use Rattle.std.proofs.Math.Bool.{or-false}
 use Rattle.std.proofs.lemmas.Bool.Decides.{nat_tests}
@@ -20,7 +21,7 @@ use Rattle.gabc_score.specs.machine.BodyBuilder.{code_in}
 use Rattle.gabc_score.specs.machine.ReadsChar.{Gathers, Passes, ReadsChar, found_past, goes}
 use Rattle.gabc_score.specs.machine.ScoreMachine.{IsInBody}
 use Rattle.gabc_score.specs.machine.ScoreStage.{placed_after}
-use Rattle.gabc_score.specs.machine.SlotPair.{SlotPairState, is_made, used_by}
+use Rattle.gabc_score.specs.machine.SlotPair.{SlotPairState, is_made}
 use Rattle.gabc_score.specs.witness.BodyStage.{BodyStageState}
 use Rattle.gabc_score.proofs.building.PartsMakeSyllables.{whole_in, whole_stays}
 use Rattle.gabc_score.proofs.resuming.CharactersGathered.{few_is, held_all}
@@ -29,14 +30,10 @@ use Rattle.gabc_score.proofs.resuming.CharactersGathered.{few_is, held_all}
 abbrev code_at : Limits → Bool → List UnplacedSyllable × (ℕ × Bool) → Option Code
 code_at limits longer w = cond (longer || w.1.1) (Some F5) (cond (not (is_none w.0) && nat_lt limits.input (w.1.0 + 1)) (Some F7) None)
 
-not_used : (b : Bool) → used_by b ≡ Filling → b ≡ false
-not_used false e = refl
-not_used true e = absurd (cc)
-
 module _ {m : ScoreMachine} {x : Char} {b : BodyStageState} {p : SlotPairState} {f : BoundedList Finding} (h : IsInBody m) (a : Gathers m x b p f)
     (used : p.used ≡ Filling) (short : length p.gathered.builder.kept ≤ p.gathered.limit) where
   whole : whole_in p.gathered ≡ whole_in m.pair.gathered
-  whole = ap whole_in a.gathered ∙ whole_stays b.events m.pair.gathered (not_used (list_any closes b.events) (sym a.used ∙ used))
+  whole = ap whole_in a.gathered ∙ whole_stays b.events m.pair.gathered (none_closes p.used (list_any closes b.events) a.used used)
 
   none : code_in m.limits p.gathered ≡ None
   none =

@@ -28,23 +28,17 @@ with_none r =
 findings_more : (a b : List ScoreOutput) → findings_in (a ++ b) ≡ findings_in a ++ findings_in b
 findings_more [] b = refl
 findings_more (Found f ∷ a) b = ap (λ fs. f ∷ fs) (findings_more a b)
-findings_more (Stop f ∷ a) b = findings_more a b
-findings_more (Syllable s ∷ a) b = findings_more a b
-findings_more (End ∷ a) b = findings_more a b
+findings_more (_ ∷ a) b = findings_more a b
 
 syllables_more : (a b : List ScoreOutput) → syllables_in (a ++ b) ≡ syllables_in a ++ syllables_in b
 syllables_more [] b = refl
-syllables_more (Found f ∷ a) b = syllables_more a b
-syllables_more (Stop f ∷ a) b = syllables_more a b
 syllables_more (Syllable s ∷ a) b = ap (λ ss. s ∷ ss) (syllables_more a b)
-syllables_more (End ∷ a) b = syllables_more a b
+syllables_more (_ ∷ a) b = syllables_more a b
 
 fault_more : (a b : List ScoreOutput) → fault_in (a ++ b) ≡ fault_then (fault_in a) (fault_in b)
 fault_more [] b = refl
-fault_more (Found f ∷ a) b = fault_more a b
 fault_more (Stop f ∷ a) b = refl
-fault_more (Syllable s ∷ a) b = fault_more a b
-fault_more (End ∷ a) b = fault_more a b
+fault_more (_ ∷ a) b = fault_more a b
 
 -- outputs after outputs
 pub with_more : (r : BodyResult) (a b : List ScoreOutput) → result_with (result_with r a) b ≡ result_with r (a ++ b)
@@ -72,19 +66,18 @@ module _ (first second : PlacedSyllable) where
   collected_from l ahead (Found f ∷ outputs) n h e r = collected_from l ahead outputs n h e (record r { findings = r.findings ++ f ∷ [] }) ∙ ap (λ fs. record { syllables = r.syllables ++ syllables_in outputs; findings = fs; fault = fault_then r.fault (fault_in outputs) }) (append_assoc r.findings (f ∷ []) (findings_in outputs))
   collected_from l ahead (Stop f ∷ outputs) n h e r = collected_from l ahead outputs n h e (record r { fault = fault_then r.fault (Some f) }) ∙ ap (λ o. record { syllables = r.syllables ++ syllables_in outputs; findings = r.findings ++ findings_in outputs; fault = o }) (then_assoc r.fault (Some f) (fault_in outputs))
   collected_from l ahead (End ∷ outputs) n h e r = collected_from l ahead outputs n h e r
-  collected_from First ahead (Syllable s ∷ outputs) zero h e r = absurd (cc)
   collected_from First ahead (Syllable s ∷ outputs) (suc n) h e r =
       let k : s ∷ syllables_in outputs ≡ first ∷ take n (second ∷ []) = e ∙ ap (take (suc n)) h in
       let i : (s ≡ first) × (syllables_in outputs ≡ take n (second ∷ [])) = (cc, cc) in
       collected_from Second (second ∷ []) outputs n (inl refl) i.1 (record r { syllables = r.syllables ++ first ∷ [] })
       ∙ ap (λ ss. record { syllables = ss; findings = r.findings ++ findings_in outputs; fault = fault_then r.fault (fault_in outputs) }) (append_assoc r.syllables (first ∷ []) (syllables_in outputs) ∙ ap (λ t. r.syllables ++ t ∷ syllables_in outputs) (sym i.0))
-  collected_from Second ahead (Syllable s ∷ outputs) zero h e r = absurd (cc)
   collected_from Second ahead (Syllable s ∷ outputs) (suc n) (inr h) e r = absurd (let k : s ∷ syllables_in outputs ≡ [] = e ∙ ap (take (suc n)) h in cc)
   collected_from Second ahead (Syllable s ∷ outputs) (suc n) (inl h) e r =
       let k : s ∷ syllables_in outputs ≡ second ∷ take n [] = e ∙ ap (take (suc n)) h in
       let i : (s ≡ second) × (syllables_in outputs ≡ take n []) = (cc, cc) in
       collected_from Second [] outputs zero (inr refl) (i.1 ∙ none_of n) (record r { syllables = r.syllables ++ second ∷ [] })
       ∙ ap (λ ss. record { syllables = ss; findings = r.findings ++ findings_in outputs; fault = fault_then r.fault (fault_in outputs) }) (append_assoc r.syllables (second ∷ []) (syllables_in outputs) ∙ ap (λ t. r.syllables ++ t ∷ syllables_in outputs) (sym i.0))
+  collected_from _ ahead (Syllable s ∷ outputs) zero h e r = absurd (cc)
 
   pub collected : (r : BodyResult) (outputs : List ScoreOutput) → syllables_in outputs ≡ take (length (syllables_in outputs)) (first ∷ second ∷ []) → result_past_all first second r (events_of outputs) ≡ result_with r outputs
   collected r outputs e = collected_from First (first ∷ second ∷ []) outputs (length (syllables_in outputs)) refl e r

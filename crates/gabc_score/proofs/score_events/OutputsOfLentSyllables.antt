@@ -43,16 +43,12 @@ module _ (fs : List Finding) (tail : List ScoreOutput) (last : List ScoreEvent) 
   syllables_are (suc (suc (suc n))) h = absurd (omega (arith, h))
 
   count_is : (n : ℕ) → n ≤ 2 → length (take n (first ∷ second ∷ [])) ≡ n
-  count_is zero h = refl
-  count_is (suc zero) h = refl
-  count_is (suc (suc zero)) h = refl
   count_is (suc (suc (suc n))) h = absurd (omega (arith, h))
+  count_is _ h = refl
 
   lent_count : (n : ℕ) → n ≤ 2 → length (lent_of n) ≡ n
-  lent_count zero h = refl
-  lent_count (suc zero) h = refl
-  lent_count (suc (suc zero)) h = refl
   lent_count (suc (suc (suc n))) h = absurd (omega (arith, h))
+  lent_count _ h = refl
 
   all_syllables : (n : ℕ) → n ≤ 2 → syllables_in (outs_of n) ≡ take n (first ∷ second ∷ [])
   all_syllables n h = ap syllables_in (assoc n) ∙ found_syllables fs _ ∙ syllables_are n h

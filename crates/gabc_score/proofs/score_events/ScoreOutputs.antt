@@ -20,7 +20,7 @@ use Rattle.gabc_headers.specs.Heads.{heads_of, head_len}
 use Rattle.gabc_headers.specs.Lines.{bytes_len}
 use Rattle.gabc_score.specs.declared.body_result.BodyResult.{BodyResult}
 use Rattle.gabc_score.specs.declared.ending.InputEnding.{InputEnding}
-use Rattle.gabc_score.specs.declared.ending.InputEnding.TheVariants.{Whole, Broken, At}
+use Rattle.gabc_score.specs.declared.ending.InputEnding.TheVariants.{Whole}
 use Rattle.gabc_score.specs.declared.score.Score.{Score}
 use Rattle.gabc_score.specs.Body.{fault_at, code_by, events_to_stop, events_onto, result_by_fault, result_by}
 use Rattle.gabc_score.specs.Events.{Texts, InComment, events_from, texts_by_definition, body_events}
@@ -38,9 +38,8 @@ use Rattle.gabc_score.proofs.score_events.WhatOutputsSay.{Said, said_by, said_be
 
 pub characters_are : (ending : InputEnding) (xs : List Char) → characters_in (map (λ x. head_event.Body x) xs ++ ending_events ending) ≡ xs
 characters_are Whole [] = refl
-characters_are Broken [] = refl
-characters_are (At fault) [] = refl
 characters_are ending (x ∷ xs) = ap (λ ys. x ∷ ys) (characters_are ending xs)
+characters_are _ [] = refl
 
 found_heads : (texts : Texts) (limits : Limits) (fs : List Finding) (xs : List HeadEvent)
     → concat_of (score_outputs texts limits (map (λ f. head_event.Found f) fs ++ xs)) ≡ map (λ f. Found f) fs ++ concat_of (score_outputs texts limits xs)
@@ -74,8 +73,7 @@ module _ (limits : Limits) (head lines macros : ℕ) (found : List Finding) wher
     where
       to : (p : Place) → result_to Whole [] p ≡ record { syllables = []; findings = found ++ []; fault = None }
       to p = ap (λ c. result_by_fault found p [] (events_onto (concat_of (score_events lines macros [])) []) (option_map (fault_at p) c)) none_passed
-  anywhere Broken at other = refl
-  anywhere (At fault) at other = refl
+  anywhere _ at other = refl
 
   pub at_the_end : (ending : InputEnding) (prefix cs : List ℕ) (xs : List Char) → xs ≡ placed_characters_after prefix cs → (at : Place)
       → result_to ending xs (end_place at xs) ≡ result_to ending xs (place_after (prefix ++ cs))
@@ -140,8 +138,7 @@ stopped_says limits ending fs (Some fault) e =
 not_whole : (ending : InputEnding) (at_end : Bool) (fault : Fault) → is_whole ending (head_fault_by ending at_end fault) ≡ false
 not_whole ending false fault = no_end ending fault
 not_whole Whole true fault = refl
-not_whole Broken true fault = refl
-not_whole (At other) true fault = refl
+not_whole _ true fault = refl
 
 module _ (limits : Limits) (ending : InputEnding) (t : List ℕ) where
   score_says : said_by (outputs_of_text limits ending t) ≡ said_of_score ending (score_of limits ending t)

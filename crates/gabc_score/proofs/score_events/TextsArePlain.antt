@@ -85,13 +85,10 @@ plain_all g (event.Text (text.Part part.WordStart) ∷ now) e h = plain_all (wit
 plain_all g (event.Text (text.Part (part.Piece p)) ∷ now) e h = plain_all (with_event g (event.Text (text.Part (part.Piece p)))) now e h
 plain_all g (event.Text (text.Part (part.Centre x)) ∷ now) e h = plain_all (with_event g (event.Text (text.Part (part.Centre x)))) now e h
 plain_all g (event.Text (text.Part (part.Translation x)) ∷ now) e h = plain_all (with_event g (event.Text (text.Part (part.Translation x)))) now e h
-plain_all g (event.Text (text.Found f) ∷ now) e h = plain_all g now e h
 plain_all g (event.Text (text.Ended text_end.Notes) ∷ now) e h = plain_all (with_event g (event.Text (text.Ended text_end.Notes))) now e (plain_more g.builder.kept 40 (ascii 40 (omega arith) (omega arith)) h.0, h.1)
-plain_all g (event.Text (text.Ended text_end.Finished) ∷ now) e h = plain_all g now e h
 plain_all g (event.Text (text.Ended (text_end.Cut p)) ∷ now) e h = plain_all (with_event g (event.Text (text.Ended (text_end.Cut p)))) now e h
 plain_all g (event.Notes line (note.Kept c) ∷ now) e h =
     plain_all (with_event g (event.Notes line (note.Kept c))) now (All-tail IsTextCharacter c.c (kept_codes now) e) (plain_more g.builder.kept c.c (All-head IsTextCharacter c.c (kept_codes now) e) h.0, h.1)
-plain_all g (event.Notes line (note.Found f) ∷ now) e h = plain_all g now e h
 plain_all g (event.Notes line (note.Ended note_end.Next n) ∷ now) e h =
     plain_all (with_event g (event.Notes line (note.Ended note_end.Next n))) now e
     (plain_more (prefix_of (g.builder.from + n) g.builder.kept) 124 (ascii 124 (omega arith) (omega arith)) (plain_prefix (g.builder.from + n) g.builder.kept h.0), h.1)
@@ -101,6 +98,7 @@ plain_all g (event.Notes line (note.Ended note_end.Close n) ∷ now) e h =
     plain_all (with_event g (event.Notes line (note.Ended note_end.Close n))) now e
     (nothing_plain, All-append HasText g.made (made_from u.builder u.eu u.nlba ∷ []) h.1 (All-cons HasText (made_from u.builder u.eu u.nlba) [] kept (All-nil HasText)))
 plain_all g (event.Notes line (note.Ended (note_end.Cut p) n) ∷ now) e h = plain_all (with_event g (event.Notes line (note.Ended (note_end.Cut p) n))) now e h
+plain_all g (_ ∷ now) e h = plain_all g now e h
 
 -- what is kept of a character of a text is one
 pub of_character : (c : ℕ) (ds : List ℕ) → IsTextCharacter c → All (IsKeptOf c) ds → All IsTextCharacter ds

@@ -69,13 +69,12 @@ pub no_comment_inside : ((s : TextStage) (k : List ℕ) → text.Keeps s k → i
     → ((split : Bool) (macros : ℕ) (s : NoteStage) (k : List ℕ) → notes.Keeps split macros s k → is_some (opener_of s) ≡ in_raw k)
     → ((split : Bool) (macros : ℕ) (s : NoteStage) (k : List ℕ) → notes.Keeps split macros s k → comment_of s ≡ true → in_raw k ≡ false)
     → (lines macros : ℕ) (p : BodyPart) (parts : KeptParts) → PartKeeps lines macros p parts → HasNoCommentInside p
-no_comment_inside text_opener text_comment text_apart opener comment lines macros part.Comment parts h open_is = refl
 no_comment_inside text_opener text_comment text_apart opener comment lines macros (part.Text s) (in_text k) h open_is = is_none (text_tells.opener_of s) (text_opener s k h ∙ text_apart k (text_comment s k h open_is))
 no_comment_inside text_opener text_comment text_apart opener comment lines macros (part.Text s) (in_notes t earlier k) h open_is = absurd h
 no_comment_inside text_opener text_comment text_apart opener comment lines macros (part.Notes opened s) (in_text k) h open_is = absurd h
 no_comment_inside text_opener text_comment text_apart opener comment lines macros (part.Notes opened s) (in_notes t earlier k) h open_is =
     is_none (opener_of s) (opener (nat_lt 0 lines) macros s k h.1 ∙ comment (nat_lt 0 lines) macros s k h.1 open_is)
-no_comment_inside text_opener text_comment text_apart opener comment lines macros (part.Nabc line opened s) parts h open_is = refl
+no_comment_inside text_opener text_comment text_apart opener comment lines macros _ parts h open_is = refl
 
 pub tells_in_body : (m : ScoreMachine) → m.part ≡ score_part.Body → IsInBody m → length m.pair.gathered.made ≤ 1 → HasNoCommentInside m.body.part → ReportsWithin (shown m)
 tells_in_body m body h few comment = record {

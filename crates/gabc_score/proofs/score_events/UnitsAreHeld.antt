@@ -78,34 +78,31 @@ units_past lines macros l before p passed spans has_lent was g turned now fits i
 -- so of what a machine shows as held
 pub held_unit : (m : ScoreMachine) (p : ScorePart) → IsScoreAt p m → PartLaws → IfSome (held_in_body p m.pair.gathered.made) (HoldsSomeUnit m.body.nabc_lines)
 unfolding HoldUnits
-held_unit m score_part.Heads h laws = tt
-held_unit m score_part.Over h laws = tt
 held_unit m score_part.Body h laws = by m.pair.gathered.made (h.units laws).units
   where
     by : (made : List UnplacedSyllable) → All (HoldsSomeUnit m.body.nabc_lines) made → IfSome (held_in_body score_part.Body made) (HoldsSomeUnit m.body.nabc_lines)
     by [] a = tt
     by (s ∷ made) a = All-head (HoldsSomeUnit m.body.nabc_lines) s made a
+held_unit m _ h laws = tt
 
 -- its spans follow from those before it
 pub held_follows : (m : ScoreMachine) (p : ScorePart) → IsScoreAt p m → PartLaws → IfSome (held_in_body p m.pair.gathered.made) (FollowsSpans m.bounds.before.spans)
 unfolding HoldUnits FollowEach
-held_follows m score_part.Heads h laws = tt
-held_follows m score_part.Over h laws = tt
 held_follows m score_part.Body h laws = by m.pair.gathered.made (h.units laws).follow
   where
     by : (made : List UnplacedSyllable) → FollowEach m.bounds.before made → IfSome (held_in_body score_part.Body made) (FollowsSpans m.bounds.before.spans)
     by [] f = tt
     by (s ∷ made) f = f.0
+held_follows m _ h laws = tt
 
 -- and it is within the limits
 pub held_within : (m : ScoreMachine) (p : ScorePart) → IsScoreAt p m → IfSome (held_in_body p m.pair.gathered.made) (IsWithinAnywhere m.limits)
-held_within m score_part.Heads h = tt
-held_within m score_part.Over h = tt
 held_within m score_part.Body h = by m.pair.gathered.made h.rests.short
   where
     by : (made : List UnplacedSyllable) → All (IsShort m.limits.syllable) made → IfSome (held_in_body score_part.Body made) (IsWithinAnywhere m.limits)
     by [] a = tt
     by (s ∷ made) a = λ position. short_within m.limits position s (All-head (IsShort m.limits.syllable) s made a)
+held_within m _ h = tt
 
 -- ---- the laws
 

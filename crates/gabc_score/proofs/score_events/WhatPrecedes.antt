@@ -1,4 +1,5 @@
 -- What was gathered after the syllables given stays what these report, with each event more.
+use Rattle.std.proofs.Math.Bool.{or-true, or_assoc}
 use Rattle.std.proofs.Common.{◌≡◌, ℕ, suc, ◌+◌, ◌-◌, ◌≤◌, ◌<◌, ◌==◌, ◌&&◌, ◌||◌, ◌⊎◌, inl, inr, min, not, nat_le, nat_lt, Bool, true, false, cond, List, [], ◌∷◌, ◌++◌, map, length, take, drop, encode_utf8, Option, Some, None, refl, sym, ap, subst, ◌∙◌, arith, append-nil, length-append, length-drop, length-take}
 use Rattle.std.specs.Prelude.{is_some}
 use Rattle.std.specs.List.{All}
@@ -117,15 +118,7 @@ comes false None x = refl
 comes false (Some k) x = refl
 
 regroup : (p s n : Bool) → ((p || s) || n) ≡ (p || (s || (n || false)))
-regroup true s n = refl
-regroup false true n = refl
-regroup false false true = refl
-regroup false false false = refl
-
-last_false : (p s : Bool) → (p || s) ≡ ((p || s) || false)
-last_false true s = refl
-last_false false true = refl
-last_false false false = refl
+regroup p s n = or_assoc p s n ∙ ap (λ (b : Bool). p || (s || b)) (sym (or-false n))
 
 -- the mark that ends a snippet
 module _ (before : Preceding) (g : Gathered) (h : IsPreceded before g) (line count mark : ℕ) (some : 0 < length (encode_utf8 mark)) where
@@ -195,7 +188,7 @@ preceded_made before g h =
           ap (λ n. min (n + min (length (canonical (not g.follows || m.text.word_start) m)) most) most) h.total
           ∙ ap (λ b. min (p.canonical + min (length (canonical (b || m.text.word_start) m)) most) most) (ap not h.follows ∙ not_some p.syllables)
           ∙ ap (λ (q : Preceding). q.canonical) (sym e);
-      sounded = h.sounded ∙ last_false p.sounded (sounds m) ∙ ap (λ (q : Preceding). q.sounded || false) (sym e);
+      sounded = h.sounded ∙ sym (or-false (p.sounded || sounds m)) ∙ ap (λ (q : Preceding). q.sounded || false) (sym e);
       snippets = All-nil (EndsBefore 0);
       from = omega arith;
     }
@@ -275,15 +268,13 @@ same_or_closed g (event.Text (text.Part part.WordStart) ∷ now) c = let k = wit
 same_or_closed g (event.Text (text.Part (part.Piece p)) ∷ now) c = let k = with_event g (event.Text (text.Part (part.Piece p))) in after g k now refl (same_or_closed k now c.1)
 same_or_closed g (event.Text (text.Part (part.Centre s)) ∷ now) c = let k = with_event g (event.Text (text.Part (part.Centre s))) in after g k now refl (same_or_closed k now c.1)
 same_or_closed g (event.Text (text.Part (part.Translation s)) ∷ now) c = let k = with_event g (event.Text (text.Part (part.Translation s))) in after g k now refl (same_or_closed k now c.1)
-same_or_closed g (event.Text (text.Found f) ∷ now) c = after g g now refl (same_or_closed g now c.1)
 same_or_closed g (event.Text (text.Ended text_end.Notes) ∷ now) c = let k = with_event g (event.Text (text.Ended text_end.Notes)) in after g k now refl (same_or_closed k now c.1)
-same_or_closed g (event.Text (text.Ended text_end.Finished) ∷ now) c = after g g now refl (same_or_closed g now c.1)
 same_or_closed g (event.Text (text.Ended (text_end.Cut p)) ∷ now) c = let k = with_event g (event.Text (text.Ended (text_end.Cut p))) in after g k now refl (same_or_closed k now c.1)
 same_or_closed g (event.Notes line (note.Kept x) ∷ now) c = let k = with_event g (event.Notes line (note.Kept x)) in after g k now refl (same_or_closed k now c.1)
-same_or_closed g (event.Notes line (note.Found f) ∷ now) c = after g g now refl (same_or_closed g now c.1)
 same_or_closed g (event.Notes line (note.Ended note_end.Next n) ∷ now) c = let k = with_event g (event.Notes line (note.Ended note_end.Next n)) in after g k now refl (same_or_closed k now c.1)
 same_or_closed g (event.Notes line (note.Ended note_end.Close n) ∷ now) c = inr (closed_last g line n now (c.0 refl))
 same_or_closed g (event.Notes line (note.Ended (note_end.Cut p) n) ∷ now) c = let k = with_event g (event.Notes line (note.Ended (note_end.Cut p) n)) in after g k now refl (same_or_closed k now c.1)
+same_or_closed g (_ ∷ now) c = after g g now refl (same_or_closed g now c.1)
 
 -- what is after it then
 after_is : (before : Preceding) (h : Gathered) (ms : List UnplacedSyllable) (m : UnplacedSyllable) → IsPreceded before h → h.made ≡ ms ++ m ∷ [] → m.eu ≡ h.eu → m.nlba ≡ h.nlba → h.builder ≡ nothing_open
@@ -293,7 +284,7 @@ after_is before h ms m p made eu nlba builder =
     let e : with_each before h.made ≡ with_one q m = ap (with_each before) made ∙ each_then before ms m in
     let canonical_is : h.total ≡ (with_one q m).canonical = p.total ∙ ap (λ (k : Preceding). k.canonical) e in
     let sounded_is : is_some h.first_kind ≡ (with_one q m).sounded =
-    p.sounded ∙ ap (λ (o : OpenSyllable). (with_each before h.made).sounded || sounds_in o.kept o.snippets) builder ∙ ap (λ (k : Preceding). k.sounded || false) e ∙ sym (last_false q.sounded (sounds m)) in
+    p.sounded ∙ ap (λ (o : OpenSyllable). (with_each before h.made).sounded || sounds_in o.kept o.snippets) builder ∙ ap (λ (k : Preceding). k.sounded || false) e ∙ or-false (q.sounded || sounds m) in
     ap (λ (n : ℕ). by_fields (min (q.syllables + 1) most) n h.eu h.nlba (is_some h.first_kind)) canonical_is
     ∙ ap (λ b. by_fields (min (q.syllables + 1) most) (with_one q m).canonical b h.nlba (is_some h.first_kind)) (sym eu)
     ∙ ap (λ b. by_fields (min (q.syllables + 1) most) (with_one q m).canonical m.eu b (is_some h.first_kind)) (sym nlba)
@@ -417,12 +408,8 @@ pub lent_past : (before passed : Preceding) (has_lent gave : Bool) (made : List 
 lent_past before passed has_lent gave [] l p g = rw (g, p) (or-false has_lent ∙ l)
 lent_past before passed has_lent gave (m ∷ []) l p g = rw (g, p) (or-false has_lent ∙ l)
 lent_past before passed has_lent gave (m ∷ n ∷ made) l p g =
-    ap (λ b. has_lent || b) (g ∙ more) ∙ or_some has_lent ∙ sym (ap (λ (k : Preceding). nat_lt 0 k.syllables) p ∙ ap (λ k. nat_lt 0 (with_placed before (take k (placed_after has_lent (m ∷ n ∷ made)))).syllables) count ∙ some)
+    ap (λ b. has_lent || b) (g ∙ more) ∙ or-true has_lent ∙ sym (ap (λ (k : Preceding). nat_lt 0 k.syllables) p ∙ ap (λ k. nat_lt 0 (with_placed before (take k (placed_after has_lent (m ∷ n ∷ made)))).syllables) count ∙ some)
   where
-    or_some : (b : Bool) → (b || true) ≡ true
-    or_some true = refl
-    or_some false = refl
-
     more : nat_lt 1 (length (m ∷ n ∷ made)) ≡ true
     more = grind (arith, nat_tests)
 

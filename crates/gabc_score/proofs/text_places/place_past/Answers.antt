@@ -1,6 +1,7 @@
 use Rattle.std.proofs.Common.{ℕ, suc, ◌+◌, List, length, drop, sym, ap, ◌∙◌, arith, length-drop}
 use Rattle.gabc_score.specs.machine.PlaceByBytes.{place_by_bytes}
-use Rattle.gabc_score.proofs.PlacesByBytes.{places_agree, past_line, past_last, from_there}
+use Rattle.gabc_text.proofs.RegularBytes.{after_is}
+use Rattle.gabc_score.proofs.PlacesByBytes.{places_agree, past_line, past_last}
 use Rattle.gabc_score.proofs.text_places.place_past.Goals as goal
 
 pub loop-end-preserved : goal.loop-end-preserved
@@ -8,7 +9,7 @@ loop-end-preserved c =
     let found = c.in-Some.ensures in
     let i = c.loop-end.invariant in
     let rest = c.loop-end.rest.now in
-    let there = from_there rest (c.in-Some.end + 1) in
+    let there = after_is rest (c.in-Some.end + 1) in
     let n = ap (λ (l : List ℕ). length l) there ∙ length-drop (c.in-Some.end + 1) rest in
     let high = found.0.high in
     let line = i.line in

@@ -1,16 +1,13 @@
-use Rattle.std.proofs.Common.{◌≡◌, ℕ, ◌||◌, Bool, true, false, Option, is_some, refl, sym, ap, ◌∙◌}
+use Rattle.std.proofs.Math.Bool.{or-false}
+use Rattle.std.proofs.Common.{◌≡◌, ℕ, ◌||◌, Bool, true, false, Option, is_some, sym, ap, ◌∙◌}
 use Rattle.gabc_notes.specs.declared.item.ItemKind.{ItemKind}
 use Rattle.gabc_score.specs.RegularSyllable.{SyllableParts, with_lines}
 use Rattle.gabc_score.specs.machine.Run.{IsSteady, sounds_among}
 use Rattle.gabc_score.proofs.score_machine.ScoreMachine.is_first_with.Goals as goal
 
-or_false : (b : Bool) → (b || false) ≡ b
-or_false true = refl
-or_false false = refl
-
 -- where none comes with it
 silent : (lines : ℕ) (first : Option ItemKind) (r : SyllableParts) (b : Bool) → b ≡ sounds_among (with_lines lines 0 r.nexts r.final) → b ≡ false → IsSteady lines first r
-silent lines first r b e none = ap (λ x. is_some first || x) (sym e ∙ none) ∙ or_false (is_some first)
+silent lines first r b e none = ap (λ x. is_some first || x) (sym e ∙ none) ∙ or-false (is_some first)
 
 -- where one has come
 sounded : (lines : ℕ) (first : Option ItemKind) (r : SyllableParts) → is_some first ≡ true → IsSteady lines first r
