@@ -1,7 +1,6 @@
 -- A part of a body that keeps parts of a kept text takes a character.
-use Rattle.std.proofs.lemmas.Bool.{false_from_ne_true}
 use Rattle.std.proofs.Common.{◌≡◌, ◌≤◌, ℕ, zero, suc, nat_lt, Bool, true, false, if◌then◌else◌, List, [], ◌∷◌, Option, Some, None, is_some, refl, sym, ap, ◌∙◌, arith}
-use Rattle.std.proofs.lemmas.Bool.{false≢true, true≢false}
+use Rattle.std.proofs.lemmas.Bool.{false≢true, true≢false, false_from_ne_true}
 use Rattle.std.specs.List.{list_any}
 use Rattle.gabc_places.proofs.NumbersByTests.{suc_eqb}
 use Rattle.gabc_places.specs.declared.place.Char.{Char}

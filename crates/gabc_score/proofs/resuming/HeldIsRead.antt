@@ -1,8 +1,7 @@
 -- A text that is read by itself is one syllable exactly where reading it one character after the other finds one.
-use Rattle.std.proofs.lemmas.Bool.{or_from}
 use Rattle.gabc_score.proofs.score_events.EventsStayWithinBounds.{IsWithinLimits, is_within, none_passed}
 use Rattle.std.proofs.Common.{◌≡◌, ℕ, zero, suc, ◌-◌, ◌<◌, ◌≤◌, ◌^◌, ◌||◌, ◌&&◌, not, min, nat_lt, Bool, true, false, List, [], ◌∷◌, ◌++◌, length, take, take_all, take-take, Option, is_some, refl, sym, ap, subst, ◌∙◌, arith, append-nil}
-use Rattle.std.proofs.lemmas.Bool.{true≢false, and_parts, or_parts, not-true, and_from}
+use Rattle.std.proofs.lemmas.Bool.{true≢false, and_parts, or_parts, not-true, and_from, or_from}
 use Rattle.std.proofs.lemmas.Bool.Decides.{nat_tests}
 use Rattle.std.proofs.lemmas.List.{append_cancel_left}
 use Rattle.std.proofs.lemmas.List.Elements.{All-nil, All-cons, All-head, All-tail}

@@ -37,8 +37,7 @@ use Rattle.gabc_score.proofs.resuming.CharactersGathered.{few_is, held_all}
 use Rattle.gabc_score.proofs.score_events.CharactersAreRead.{HasTurned}
 use Rattle.gabc_score.proofs.resuming.NextIsKept.{next_is}
 use Rattle.gabc_score.proofs.resuming.PartsAreOne.{parts_are_one}
-use Rattle.gabc_score.proofs.score_events.EventsStayWithinBounds.{limit_stays}
-use Rattle.gabc_score.proofs.score_events.EventsStayWithinBounds.{is_within, none_passed}
+use Rattle.gabc_score.proofs.score_events.EventsStayWithinBounds.{is_within, none_passed, limit_stays}
 
 -- ---- what is counted, where no syllable becomes whole
 

@@ -1,7 +1,6 @@
 -- What a stage gives does not depend on the syllable that it holds, but for that syllable itself.
-use Rattle.std.proofs.Math.Bool.{and-false}
+use Rattle.std.proofs.Math.Bool.{and-false, or-false}
 use Rattle.std.proofs.Common.{◌≡◌, inl, inr, ℕ, zero, suc, ◌+◌, ◌-◌, ◌==◌, ◌&&◌, ◌||◌, not, nat_lt, List, [], ◌∷◌, ◌++◌, map, length, take, drop, Bool, true, false, cond, Option, Some, None, is_some, refl, sym, ap, ◌∙◌, subst, arith}
-use Rattle.std.proofs.Math.Bool.{or-false}
 use Rattle.std.proofs.lemmas.Bool.{true≢false}
 use Rattle.std.specs.Option.{option_map}
 use Rattle.gabc_places.specs.declared.code.Code.{Code}

@@ -1,6 +1,5 @@
 -- What is borrowed at a point is within the limits: syllables that were made without passing one.
 use Rattle.std.proofs.lemmas.Bool.{or_parts}
-use Rattle.gabc_score.proofs.score_events.EventsStayWithinBounds.{is_within}
 use Rattle.std.proofs.Common.{◌≡◌, ℕ, ◌+◌, ◌-◌, ◌≤◌, ◌<◌, ◌^◌, ◌||◌, min, not, nat_lt, Bool, true, false, cond, List, [], ◌∷◌, ◌++◌, map, take, length, Option, Some, None, refl, sym, ap, ◌∙◌, subst, arith, append_assoc, length-take}
 use Rattle.std.proofs.lemmas.Bool.Decides.{nat_tests}
 use Rattle.std.specs.List.{All}
@@ -15,7 +14,7 @@ use Rattle.gabc_notes.specs.declared.stage.NoteEnd.TheVariants as note_end
 use Rattle.gabc_notes.specs.declared.stage.NoteEvent.TheVariants as note
 use Rattle.gabc_score.specs.declared.events.BodyEvent.{BodyEvent}
 use Rattle.gabc_score.specs.declared.events.BodyEvent.TheVariants as event
-use Rattle.gabc_score.specs.Body.{has_text}
+use Rattle.gabc_score.specs.Body.{has_text, fault_at}
 use Rattle.gabc_score.specs.Canonical.{canonical, placed_syllables_by, starts_word}
 use Rattle.gabc_score.specs.NoNotes.{OnlyFirstHasNotes, has_no_notes}
 use Rattle.gabc_score.specs.ScoreEvents.{ScoreOutput, Found, Syllable, outputs_of, syllables_in}
@@ -23,14 +22,13 @@ use Rattle.gabc_score.specs.ScoreStage.{IsWithin, Lends}
 use Rattle.gabc_score.specs.Syllable.{UnplacedSyllable, PlacedSyllable}
 use Rattle.gabc_score.specs.declared.syllable.Position.{Position}
 use Rattle.gabc_score.specs.machine.BodyBuilder.{with_all, code_in, end_fault, end_fault_by}
-use Rattle.gabc_score.specs.Body.{fault_at}
 use Rattle.gabc_places.specs.declared.place.Place.{Place}
 use Rattle.std.specs.Option.{option_map}
 use Rattle.gabc_score.specs.machine.Gatherer.{Gathered, with_event, with_last, with_made, with_no_notes, with_snippet, with_syllable}
 use Rattle.gabc_score.specs.machine.ScoreStage.{placed_after}
 use Rattle.gabc_score.specs.machine.SyllableBuilder.{made_from}
 use Rattle.gabc_score.specs.machine.ScoreMachine.{IsShort}
-use Rattle.gabc_score.proofs.score_events.EventsStayWithinBounds.{limit_stays, limit_with}
+use Rattle.gabc_score.proofs.score_events.EventsStayWithinBounds.{limit_stays, limit_with, is_within}
 use Rattle.gabc_score.proofs.score_events.OutputsOfLentSyllables.{found_syllables}
 use Rattle.gabc_score.proofs.score_events.MemoryIsKept.{limit_last}
 

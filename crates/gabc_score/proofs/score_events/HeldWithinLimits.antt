@@ -1,5 +1,5 @@
 -- What was gathered stays within the limits as it will be written, past a point.
-use Rattle.gabc_score.proofs.score_events.EventsStayWithinBounds.{is_within}
+use Rattle.gabc_score.proofs.score_events.EventsStayWithinBounds.{is_within, limit_stays}
 use Rattle.std.proofs.Common.{◌≡◌, ℕ, zero, suc, ◌-◌, ◌≤◌, ◌<◌, ◌^◌, ◌==◌, ◌||◌, ◌&&◌, not, nat_lt, Bool, true, false, List, [], ◌∷◌, ◌++◌, take, drop, map, length, None, refl, sym, ap, subst, ◌∙◌, arith}
 use Rattle.std.proofs.lemmas.Bool.{true≢false}
 use Rattle.std.proofs.lemmas.Bool.Decides.{nat_tests}
@@ -23,7 +23,6 @@ use Rattle.gabc_score.specs.machine.Gatherer.{Gathered, with_event, with_made, w
 use Rattle.gabc_score.specs.machine.HeldWithin.{AreWritten, HoldsWithin}
 use Rattle.gabc_score.specs.machine.ScoreStage.{placed_after, with_held}
 use Rattle.gabc_score.specs.machine.SyllableBuilder.{made_from}
-use Rattle.gabc_score.proofs.score_events.EventsStayWithinBounds.{limit_stays}
 use Rattle.gabc_score.proofs.score_events.FewAndShortAreLent.{counted, either, not_over}
 use Rattle.gabc_score.proofs.score_events.WhatPrecedes.{each_some, not_some}
 use Rattle.gabc_score.proofs.score_events.HeldSyllables.{none_of}
