@@ -6,7 +6,7 @@ use Rattle.gabc_places.specs.declared.place.Place.{Place}
 use Rattle.gabc_places.specs.declared.place.Char.{Char}
 use Rattle.gabc_places.specs.declared.code.Code.TheVariants.{W12}
 use Rattle.gabc_places.specs.declared.code.Finding.{Finding}
-use Rattle.gabc_places.specs.Findings.{IsUpTo}
+use Rattle.gabc_places.specs.Findings.{ComesBefore, IsUpTo}
 use Rattle.gabc_places.specs.StageLaw.{concat_of}
 use Rattle.gabc_places.specs.Place.{next_place, place_past, placed_characters_from}
 use Rattle.gabc_places.specs.PlacesInOrder.{IsEarlier}
@@ -18,7 +18,7 @@ use Rattle.gabc_score.specs.NoteBeforeClef.{is_first_note, found_first, with_fir
 use Rattle.gabc_score.specs.declared.events.BodyEvent.{BodyEvent}
 use Rattle.gabc_score.specs.Units.{Mark, Opens, Next, Closes, CutPart, whole, events_through, EndsAfter, part_following, Cuts, events_of_cutting}
 use Rattle.gabc_score.proofs.units.BodyHasOneCutting.{text_mark}
-use Rattle.gabc_score.proofs.order.FindingsOneAfterAnother.{AllBelow, from_earlier, from_append, up_to_append, below_before, before_append, order_append, order_then, all_before, no_notes}
+use Rattle.gabc_score.proofs.order.FindingsOneAfterAnother.{AllBelow, from_earlier, below_before, order_append, order_then, all_before, no_notes, all_append}
 use Rattle.gabc_score.proofs.order.FindingsOfParts.{found, TextsLie, SnippetsLie, Lie, LieLast, text_lies, text_codes, text_lies_last, snippet_lies, snippet_codes, snippet_lies_last}
 use Rattle.gabc_score.proofs.order.FirstNotesOfParts.{through_end, to_the_end}
 
@@ -89,8 +89,8 @@ module _ (lines macros : ℕ) (texts : TextsLie) (gabc : SnippetsLie (λ xs. not
       by : (b : Bool) → Lie p q (fs ++ cond b (record { place = q; code = W12 } ∷ []) [])
       by true = record {
         order = order_then fs (record { place = q; code = W12 }) [] l.order (below_before W12 q fs l.up_to h) tt;
-        from = from_append p fs (record { place = q; code = W12 } ∷ []) l.from (u, tt);
-        up_to = up_to_append q fs (record { place = q; code = W12 } ∷ []) l.up_to (up_to_self q, tt);
+        from = all_append (λ f. IsUpTo p f.place) fs (record { place = q; code = W12 } ∷ []) l.from (u, tt);
+        up_to = all_append (λ f. IsUpTo f.place q) fs (record { place = q; code = W12 } ∷ []) l.up_to (up_to_self q, tt);
       }
       by false = subst (Lie p q) (sym (append-nil fs)) l
 
@@ -125,8 +125,8 @@ module _ (lines macros : ℕ) (texts : TextsLie) (gabc : SnippetsLie (λ xs. not
   both_lie : (p q r e : Place) (fs gs : List Finding) → IsUpTo p r → IsEarlier q r → IsUpTo r e → Lie p q fs → LieLast r e gs → LieLast p e (fs ++ gs)
   both_lie p q r e fs gs u l m f g = record {
     order = order_append fs gs q r f.order f.up_to l g.order g.from;
-    from = from_append p fs gs f.from (from_earlier p r gs u g.from);
-    before = before_append (no_notes e) fs gs (all_before q (no_notes e) fs f.up_to (before_then q r e l m)) g.before;
+    from = all_append (λ f. IsUpTo p f.place) fs gs f.from (from_earlier p r gs u g.from);
+    before = all_append (λ f. ComesBefore f (no_notes e)) fs gs (all_before q (no_notes e) fs f.up_to (before_then q r e l m)) g.before;
   }
 
   -- ---- all parts

@@ -1,5 +1,5 @@
 -- What is found in the parts of a body, each through the character that ends it.
-use Rattle.std.proofs.Common.{◌≡◌, ℕ, suc, ◌+◌, ◌==◌, nat_lt, List, [], ◌∷◌, ◌++◌, Bool, true, false, if◌then◌else◌, refl, sym, ap, subst, ◌∙◌, append_assoc, append-nil, length, length-append, take, drop, map, arith, inl, inr, take-append-drop}
+use Rattle.std.proofs.Common.{◌≡◌, ℕ, suc, ◌+◌, ◌<◌, ◌==◌, nat_lt, List, [], ◌∷◌, ◌++◌, Bool, true, false, if◌then◌else◌, refl, sym, ap, subst, ◌∙◌, append_assoc, append-nil, length, length-append, take, drop, map, arith, inl, inr, take-append-drop}
 use Rattle.std.proofs.Math.Seq.{take-length}
 use Rattle.gabc_text.proofs.order.FindingsLieWithin.{found_more}
 use Rattle.gabc_text.proofs.KeptCharacters.{codes_placed}
@@ -7,8 +7,10 @@ use Rattle.gabc_notes.proofs.machine.LoopOverBody.{findings_append}
 use Rattle.gabc_notes.proofs.items_of_text.ItemAtCharacter.{pushed}
 use Rattle.gabc_places.specs.declared.place.Place.{Place}
 use Rattle.gabc_places.specs.declared.place.Char.{Char}
+use Rattle.gabc_places.specs.declared.code.Code.{Code}
 use Rattle.gabc_places.specs.declared.code.Code.TheVariants.{W9, W12}
 use Rattle.gabc_places.specs.declared.code.Finding.{Finding}
+use Rattle.gabc_places.specs.Code.{rank_of}
 use Rattle.gabc_places.specs.Findings.{AreInOrder, LieBetween}
 use Rattle.gabc_places.specs.StageLaw.{concat_of}
 use Rattle.gabc_places.specs.Place.{place_past, placed_characters_from}
@@ -30,7 +32,7 @@ use Rattle.gabc_score.specs.declared.events.BodyEvent.TheVariants as event
 use Rattle.gabc_score.specs.Events.{InText, InNotes, note_event, texts_by_definition, text_from, snippet_from}
 use Rattle.gabc_score.specs.Units.{events_through}
 use Rattle.gabc_score.specs.Body.{events_onto, findings_with, findings_of}
-use Rattle.gabc_score.proofs.order.FindingsOneAfterAnother.{AllFrom, AllUpTo, AllBefore, AllBelow, lie_from, lie_up_to, order_prefix, below_prefix, below_higher, below_before, all_before, no_notes}
+use Rattle.gabc_score.proofs.order.FindingsOneAfterAnother.{AllFrom, AllUpTo, AllBefore, AllBelow, lie_from, lie_up_to, order_prefix, below_higher, below_before, all_before, no_notes, all_prefix}
 
 -- ---- what was found, in the order in which it was emitted
 
@@ -105,28 +107,15 @@ snippet_through line opened (l ∷ lists) (x ∷ xs) =
 
 -- ---- prefixes
 
-joined_split : {X : Type 0} (n : ℕ) (lists : List (List X)) → concat_of lists ≡ concat_of (take n lists) ++ concat_of (drop n lists)
-joined_split n lists = ap concat_of (sym (take-append-drop n lists)) ∙ joined-append (take n lists) (drop n lists)
+module _ {X : Type 0} (found_of : List X → List Finding) (more : (xs ys : List X) → found_of (xs ++ ys) ≡ found_of xs ++ found_of ys) (n : ℕ) (lists : List (List X)) where
+  pub found_split : found_of (concat_of lists) ≡ found_of (concat_of (take n lists)) ++ found_of (concat_of (drop n lists))
+  found_split = ap (λ ls. found_of (concat_of ls)) (sym (take-append-drop n lists)) ∙ ap found_of (joined-append (take n lists) (drop n lists)) ∙ more (concat_of (take n lists)) (concat_of (drop n lists))
 
-text_order : (n : ℕ) (lists : List (List TextEvent)) → AreInOrder (found_in (concat_of lists)) → AreInOrder (found_in (concat_of (take n lists)))
-text_order n lists h =
-    order_prefix (found_in (concat_of (take n lists))) (found_in (concat_of (drop n lists)))
-    (subst AreInOrder (ap found_in (joined_split n lists) ∙ found_more (concat_of (take n lists)) (concat_of (drop n lists))) h)
+  front_in_order : AreInOrder (found_of (concat_of lists)) → AreInOrder (found_of (concat_of (take n lists)))
+  front_in_order h = order_prefix (found_of (concat_of (take n lists))) (found_of (concat_of (drop n lists))) (subst AreInOrder found_split h)
 
-text_below : (n : ℕ) (lists : List (List TextEvent)) → AllBelow W9 (found_in (concat_of lists)) → AllBelow W9 (found_in (concat_of (take n lists)))
-text_below n lists h =
-    below_prefix W9 (found_in (concat_of (take n lists))) (found_in (concat_of (drop n lists)))
-    (subst (AllBelow W9) (ap found_in (joined_split n lists) ∙ found_more (concat_of (take n lists)) (concat_of (drop n lists))) h)
-
-notes_below : (n : ℕ) (lists : List (List NoteEvent)) → AllBelow W12 (notes_found (concat_of lists)) → AllBelow W12 (notes_found (concat_of (take n lists)))
-notes_below n lists h =
-    below_prefix W12 (notes_found (concat_of (take n lists))) (notes_found (concat_of (drop n lists)))
-    (subst (AllBelow W12) (ap notes_found (joined_split n lists) ∙ findings_append (concat_of (take n lists)) (concat_of (drop n lists))) h)
-
-notes_order : (n : ℕ) (lists : List (List NoteEvent)) → AreInOrder (notes_found (concat_of lists)) → AreInOrder (notes_found (concat_of (take n lists)))
-notes_order n lists h =
-    order_prefix (notes_found (concat_of (take n lists))) (notes_found (concat_of (drop n lists)))
-    (subst AreInOrder (ap notes_found (joined_split n lists) ∙ findings_append (concat_of (take n lists)) (concat_of (drop n lists))) h)
+  front_below : (code : Code) → AllBelow code (found_of (concat_of lists)) → AllBelow code (found_of (concat_of (take n lists)))
+  front_below code h = all_prefix (λ f. rank_of f.code < rank_of code) (found_of (concat_of (take n lists))) (found_of (concat_of (drop n lists))) (subst (AllBelow code) found_split h)
 
 -- ---- what the layers below say of their findings
 
@@ -169,17 +158,19 @@ module _ (texts : TextsLie) where
       ∙ ap (λ t. found_in (concat_of (take (suc (length xs)) (events_by_point p t)))) (codes_placed p (prefix ++ rest))
       ∙ ap (λ n. found_in (concat_of (take n (events_by_point p (prefix ++ rest))))) (through_is (length xs) (length prefix) e)))
       (record {
-        order = text_order (length prefix + 1) (events_by_point p (prefix ++ rest)) (texts.order p (prefix ++ rest));
+        order = front_in_order found_in found_more (length prefix + 1) (events_by_point p (prefix ++ rest)) (texts.order p (prefix ++ rest));
         from = lie_from p (place_past p prefix) _ (texts.within p prefix rest);
         up_to = lie_up_to p (place_past p prefix) _ (texts.within p prefix rest);
       })
 
   -- and the codes of what is found through any of its characters
-  pub text_codes : (p : Place) (ys xs : List Char) → AllBelow W12 (found (concat_of (events_through (text_from texts_by_definition p ys) xs)))
-  text_codes p ys xs =
+  low_codes : (p : Place) (ys xs : List Char) → AllBelow W9 (found (concat_of (events_through (text_from texts_by_definition p ys) xs)))
+  low_codes p ys xs =
       let lists = events_by_point p (codes_of ys) in
-      subst (AllBelow W12) (sym (text_through lists xs))
-      (below_higher W9 W12 (found_in (concat_of (take (suc (length xs)) lists))) (omega arith) (text_below (suc (length xs)) lists (texts.below p (codes_of ys))))
+      subst (AllBelow W9) (sym (text_through lists xs)) (front_below found_in found_more (suc (length xs)) lists W9 (texts.below p (codes_of ys)))
+
+  pub text_codes : (p : Place) (ys xs : List Char) → AllBelow W12 (found (concat_of (events_through (text_from texts_by_definition p ys) xs)))
+  text_codes p ys xs = below_higher W9 W12 _ (omega arith) (low_codes p ys xs)
 
   pub text_lies_last : (p : Place) (cs : List ℕ) → LieLast p (place_past p cs) (found (concat_of (events_through (text_from texts_by_definition p (placed_characters_from p cs)) (placed_characters_from p cs))))
   text_lies_last p cs =
@@ -188,15 +179,8 @@ module _ (texts : TextsLie) where
       record {
         order = k.order;
         from = k.from;
-        before = below_before W9 (place_past p cs) _ k.up_to below;
+        before = below_before W9 (place_past p cs) _ k.up_to (low_codes p (placed_characters_from p cs) (placed_characters_from p cs));
       }
-    where
-      below : AllBelow W9 (found (concat_of (events_through (text_from texts_by_definition p (placed_characters_from p cs)) (placed_characters_from p cs))))
-      below =
-          subst (AllBelow W9)
-          (sym (text_through (events_by_point p (codes_of (placed_characters_from p cs))) (placed_characters_from p cs)
-          ∙ ap (λ t. found_in (concat_of (take (suc (length (placed_characters_from p cs))) (events_by_point p t)))) (codes_placed p cs)))
-          (text_below (suc (length (placed_characters_from p cs))) (events_by_point p cs) (texts.below p cs))
 
 -- the lists of a snippet of that line
 abbrev pub snippet_emits : ℕ → ℕ → ℕ → List Char → List (List NoteEvent)
@@ -218,7 +202,7 @@ module _ (lines macros : ℕ) (gabc : SnippetsLie (λ xs. notes.note_events (nat
       (sym (snippet_through line opened (snippet_emits lines macros line (placed_characters_from p (prefix ++ rest))) xs
       ∙ ap (λ n. notes_found (concat_of (take n (snippet_emits lines macros line (placed_characters_from p (prefix ++ rest)))))) (through_is (length xs) (length prefix) e)))
       (record {
-        order = notes_order (length prefix + 1) (snippet_emits lines macros line (placed_characters_from p (prefix ++ rest))) (s.order p (prefix ++ rest));
+        order = front_in_order notes_found findings_append (length prefix + 1) (snippet_emits lines macros line (placed_characters_from p (prefix ++ rest))) (s.order p (prefix ++ rest));
         from = lie_from p (place_past p prefix) _ (s.within p prefix rest);
         up_to = lie_up_to p (place_past p prefix) _ (s.within p prefix rest);
       })
@@ -228,7 +212,7 @@ module _ (lines macros : ℕ) (gabc : SnippetsLie (λ xs. notes.note_events (nat
   snippet_codes line opened ys xs =
       let s = snippets line in
       let lists = snippet_emits lines macros line ys in
-      subst (AllBelow W12) (sym (snippet_through line opened lists xs)) (notes_below (suc (length xs)) lists (s.below ys))
+      subst (AllBelow W12) (sym (snippet_through line opened lists xs)) (front_below notes_found findings_append (suc (length xs)) lists W12 (s.below ys))
 
   -- nothing is found where the characters of a snippet end
   pub snippet_lies_last : (line : ℕ) (opened p : Place) (cs : List ℕ)
@@ -251,7 +235,7 @@ module _ (lines macros : ℕ) (gabc : SnippetsLie (λ xs. notes.note_events (nat
           let n : length (prefix ++ c ∷ []) ≡ length prefix + 1 = length-append prefix (c ∷ []) in
           let k : LieBetween p (place_past p prefix) (notes_found (concat_of (take (length prefix + 1) (snippet_emits lines macros line (placed_characters_from p (prefix ++ c ∷ [])))))) = s.within p prefix (c ∷ []) in
           rw (e, n) (record {
-            order = notes_order (length prefix + 1) (snippet_emits lines macros line (placed_characters_from p (prefix ++ c ∷ []))) (s.order p (prefix ++ c ∷ []));
+            order = front_in_order notes_found findings_append (length prefix + 1) (snippet_emits lines macros line (placed_characters_from p (prefix ++ c ∷ []))) (s.order p (prefix ++ c ∷ []));
             from = lie_from p (place_past p prefix) _ k;
             before = all_before (place_past p prefix) (no_notes (place_past p (prefix ++ c ∷ []))) _ (lie_up_to p (place_past p prefix) _ k)
                 (subst (IsEarlier (place_past p prefix)) (sym (place_append p prefix (c ∷ []))) (before_next (place_past p prefix) c));

@@ -30,7 +30,7 @@ use Rattle.gabc_score.specs.Score.{heads_text, after_heads, score_of, score_by}
 use Rattle.gabc_score.proofs.units.BodyHasOneCutting.{one, body_emits_all}
 use Rattle.gabc_places.proofs.PlacesOfAText.{placed_after, after_joined, place_append}
 use Rattle.gabc_places.proofs.PlacesInOrder.{before_then, before_next, up_to_past}
-use Rattle.gabc_score.proofs.order.FindingsOneAfterAnother.{AllFrom, AllUpTo, AllBefore, from_earlier, from_prefix, before_append, order_append, order_then, order_prefix, all_before, lie_up_to, no_notes}
+use Rattle.gabc_score.proofs.order.FindingsOneAfterAnother.{AllFrom, AllUpTo, AllBefore, from_earlier, order_append, order_then, order_prefix, all_before, lie_up_to, no_notes, all_prefix, all_append}
 use Rattle.gabc_score.proofs.order.FindingsOfParts.{found, found_append, found_onto, TextsLie, SnippetsLie, LieLast}
 use Rattle.gabc_score.proofs.order.FirstNotesOfParts.{after_comment}
 use Rattle.gabc_score.proofs.order.FindingsOfCutParts.{Short, short_past, pieces_lie}
@@ -135,7 +135,7 @@ module _ (limits : Limits) (head : ℕ) (fs : List Finding) (at q p : Place) (ts
   stopped_sorted prefix more before fault e f =
       let same : found ts ≡ found prefix ++ found more = ap found e ∙ found_append prefix more in
       subst (λ gs. AreInOrder (fs ++ gs)) (sym (ap findings_of f ∙ found_onto prefix []))
-      (order_append fs (found prefix) q p order up next (order_prefix (found prefix) (found more) (subst AreInOrder same all.order)) (from_prefix p (found prefix) (found more) (subst (AllFrom p) same all.from)))
+      (order_append fs (found prefix) q p order up next (order_prefix (found prefix) (found more) (subst AreInOrder same all.order)) (all_prefix (λ f. IsUpTo p f.place) (found prefix) (found more) (subst (AllFrom p) same all.from)))
 
   whole_sorted : (emitted : List BodyEvent) → emitted ≡ events_onto ts [] → AreInOrder (result_whole fs at emitted).findings
   whole_sorted emitted e =
@@ -143,7 +143,7 @@ module _ (limits : Limits) (head : ℕ) (fs : List Finding) (at q p : Place) (ts
       subst (λ gs. AreInOrder (fs ++ (gs ++ found_at_end at emitted))) (sym same)
       (subst AreInOrder (append_assoc fs (found ts) (found_at_end at emitted))
       (with_end at (fs ++ found ts) (has_last emitted) _ (order_append fs (found ts) q p order up next all.order all.from)
-      (before_append (no_notes at) fs (found ts) (all_before q (no_notes at) fs up (before_then q p at next end)) all.before)))
+      (all_append (λ f. ComesBefore f (no_notes at)) fs (found ts) (all_before q (no_notes at) fs up (before_then q p at next end)) all.before)))
 
   read_sorted : (ending : InputEnding) (r : EventsToStop) → IsFront [] ts r → AreInOrder (result_by limits head fs at ending r.before r.last r.fault).findings
   read_sorted ending r i = by r.fault i.last

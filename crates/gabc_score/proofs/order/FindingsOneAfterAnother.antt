@@ -12,18 +12,28 @@ use Rattle.gabc_places.specs.PlacesInOrder.{IsEarlier}
 
 -- ---- lists of findings
 
+-- this holds of each
+abbrev pub AllAre : (Finding → Type 0) → List Finding → Type 0
+AllAre P [] = Unit {0}
+AllAre P (f ∷ fs) = P f × AllAre P fs
+
+pub all_append : (P : Finding → Type 0) (fs gs : List Finding) → AllAre P fs → AllAre P gs → AllAre P (fs ++ gs)
+all_append P [] gs h k = k
+all_append P (f ∷ fs) gs h k = (h.0, all_append P fs gs h.1 k)
+
+pub all_prefix : (P : Finding → Type 0) (fs gs : List Finding) → AllAre P (fs ++ gs) → AllAre P fs
+all_prefix P [] gs h = tt
+all_prefix P (f ∷ fs) gs h = (h.0, all_prefix P fs gs h.1)
+
 abbrev pub AllFrom : Place → List Finding → Type 0
-AllFrom p [] = Unit {0}
-AllFrom p (f ∷ fs) = IsUpTo p f.place × AllFrom p fs
+AllFrom p fs = AllAre (λ f. IsUpTo p f.place) fs
 
 abbrev pub AllUpTo : Place → List Finding → Type 0
-AllUpTo q [] = Unit {0}
-AllUpTo q (f ∷ fs) = IsUpTo f.place q × AllUpTo q fs
+AllUpTo q fs = AllAre (λ f. IsUpTo f.place q) fs
 
 -- each stands before this one
 abbrev pub AllBefore : Finding → List Finding → Type 0
-AllBefore g [] = Unit {0}
-AllBefore g (f ∷ fs) = ComesBefore f g × AllBefore g fs
+AllBefore g fs = AllAre (λ f. ComesBefore f g) fs
 
 pub lie_from : (p q : Place) (fs : List Finding) → LieBetween p q fs → AllFrom p fs
 lie_from p q [] h = tt
@@ -36,18 +46,6 @@ lie_up_to p q (f ∷ fs) h = (h.0.1, lie_up_to p q fs h.1)
 pub from_earlier : (p q : Place) (fs : List Finding) → IsUpTo p q → AllFrom q fs → AllFrom p fs
 from_earlier p q [] l h = tt
 from_earlier p q (f ∷ fs) l h = (up_to_then p q f.place l h.0, from_earlier p q fs l h.1)
-
-pub from_append : (p : Place) (fs gs : List Finding) → AllFrom p fs → AllFrom p gs → AllFrom p (fs ++ gs)
-from_append p [] gs h k = k
-from_append p (f ∷ fs) gs h k = (h.0, from_append p fs gs h.1 k)
-
-pub up_to_append : (q : Place) (fs gs : List Finding) → AllUpTo q fs → AllUpTo q gs → AllUpTo q (fs ++ gs)
-up_to_append q [] gs h k = k
-up_to_append q (f ∷ fs) gs h k = (h.0, up_to_append q fs gs h.1 k)
-
-pub before_append : (g : Finding) (fs gs : List Finding) → AllBefore g fs → AllBefore g gs → AllBefore g (fs ++ gs)
-before_append g [] gs h k = k
-before_append g (f ∷ fs) gs h k = (h.0, before_append g fs gs h.1 k)
 
 -- findings up to q stand before one after q
 pub all_before : (q : Place) (g : Finding) (fs : List Finding) → AllUpTo q fs → IsEarlier q g.place → AllBefore g fs
@@ -82,20 +80,11 @@ pub order_prefix : (fs gs : List Finding) → AreInOrder (fs ++ gs) → AreInOrd
 order_prefix [] gs h = tt
 order_prefix (f ∷ fs) gs h = stand_prefix f fs gs h
 
-pub from_prefix : (p : Place) (fs gs : List Finding) → AllFrom p (fs ++ gs) → AllFrom p fs
-from_prefix p [] gs h = tt
-from_prefix p (f ∷ fs) gs h = (h.0, from_prefix p fs gs h.1)
-
 -- ---- codes
 
 -- each has a code below this one
 abbrev pub AllBelow : Code → List Finding → Type 0
-AllBelow code [] = Unit {0}
-AllBelow code (f ∷ fs) = (rank_of f.code < rank_of code) × AllBelow code fs
-
-pub below_prefix : (code : Code) (fs gs : List Finding) → AllBelow code (fs ++ gs) → AllBelow code fs
-below_prefix code [] gs h = tt
-below_prefix code (f ∷ fs) gs h = (h.0, below_prefix code fs gs h.1)
+AllBelow code fs = AllAre (λ f. rank_of f.code < rank_of code) fs
 
 pub below_higher : (low high : Code) (fs : List Finding) → rank_of low < rank_of high → AllBelow low fs → AllBelow high fs
 below_higher low high [] l h = tt

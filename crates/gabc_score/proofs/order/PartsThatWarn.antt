@@ -30,7 +30,7 @@ use Rattle.gabc_score.specs.Score.{score_by, score_of}
 use Rattle.gabc_score.specs.SyllablesOfUnits.{score_unit, with_ends, snippets_in, characters_from, body_characters, IsBodyCut}
 use Rattle.gabc_score.specs.Units.{Closes, CutPart, EndedPart, BodyUnit, JustText, BodyCutting, cut_part, whole, events_through, snippets_with, units_pieces, cutting_of, first_text, events_of_cutting, IsCutFrom, IsCut, events_of_parts}
 use Rattle.gabc_score.proofs.holding.SyllablesHoldParts.{nothing_of}
-use Rattle.gabc_score.proofs.order.FindingsOfParts.{found, found_append, text_through, snippet_through}
+use Rattle.gabc_score.proofs.order.FindingsOfParts.{found, found_append, found_split, text_through, snippet_through}
 use Rattle.gabc_score.proofs.order.FirstNotesOfParts.{all_with_first}
 use Rattle.gabc_score.proofs.order.FindingsOfReading.{all_first, read_finds}
 use Rattle.gabc_score.proofs.order.FindingsOfScore.{reached_prefix}
@@ -48,16 +48,12 @@ joined_found xs ys = ap found (joined-append xs ys) ∙ found_append (concat_of 
 pub text_some : (lists : List (List TextEvent)) (xs : List Char) → Warn (found_in (concat_of lists)) → Warn (found (concat_of (events_through (InText lists) xs)))
 text_some lists xs h =
     let n = suc (length xs) in
-    let parts : found_in (concat_of lists) ≡ found_in (concat_of (take n lists)) ++ found_in (concat_of (drop n lists)) =
-    ap (λ ls. found_in (concat_of ls)) (sym (take-append-drop n lists)) ∙ ap found_in (joined-append (take n lists) (drop n lists)) ∙ found_more (concat_of (take n lists)) (concat_of (drop n lists)) in
-    subst Warn (sym (text_through lists xs)) (all_first IsWarning (found_in (concat_of (take n lists))) (found_in (concat_of (drop n lists))) (subst Warn parts h))
+    subst Warn (sym (text_through lists xs)) (all_first IsWarning (found_in (concat_of (take n lists))) (found_in (concat_of (drop n lists))) (subst Warn (found_split found_in found_more n lists) h))
 
 pub snippet_some : (line : ℕ) (opened : Place) (lists : List (List NoteEvent)) (xs : List Char) → Warn (notes_found (concat_of lists)) → Warn (found (concat_of (events_through (InNotes line opened lists) xs)))
 snippet_some line opened lists xs h =
     let n = suc (length xs) in
-    let parts : notes_found (concat_of lists) ≡ notes_found (concat_of (take n lists)) ++ notes_found (concat_of (drop n lists)) =
-    ap (λ ls. notes_found (concat_of ls)) (sym (take-append-drop n lists)) ∙ ap notes_found (joined-append (take n lists) (drop n lists)) ∙ findings_append (concat_of (take n lists)) (concat_of (drop n lists)) in
-    subst Warn (sym (snippet_through line opened lists xs)) (all_first IsWarning (notes_found (concat_of (take n lists))) (notes_found (concat_of (drop n lists))) (subst Warn parts h))
+    subst Warn (sym (snippet_through line opened lists xs)) (all_first IsWarning (notes_found (concat_of (take n lists))) (notes_found (concat_of (drop n lists))) (subst Warn (found_split notes_found findings_append n lists) h))
 
 module _ (all : (at : Place) (t : List ℕ) → found_in (concat_of (events_by_point at t)) ≡ findings at t) (lines macros : ℕ) where
   text_warns : (at : Place) (t : List ℕ) (xs prefix : List Char) → codes_of xs ≡ t → TextWarns t → Warn (found (concat_of (events_through (text_from texts_by_definition at xs) prefix)))

@@ -13,7 +13,7 @@ use Rattle.gabc_notes.specs.declared.stage.NoteEvent.{NoteEvent}
 use Rattle.gabc_notes.specs.declared.stage.NoteEvent.TheVariants as note
 use Rattle.gabc_notes.specs.SnippetRead.{kept_of, ends_of}
 use Rattle.gabc_notes.specs.Events.{is_in_raw, Point, in_raw, outside_comments, with_comments, kept, is_comment, is_end, is_over, is_fused, is_unpaired, is_missing, item_at, macro_of, opener, finding_event, end_by_mark, bytes_of, warnings, at_end, cut_events, events_at, note_events_after}
-use Rattle.gabc_score.proofs.snippets_of_body.SnippetsEndAlike.{Goes, Stops, Cuts, IsMark, Grammar, lists, run, few_one}
+use Rattle.gabc_score.proofs.snippets_of_body.SnippetsEndAlike.{Goes, Stops, Cuts, IsMark, mark_is, Grammar, lists, run, few_one}
 
 abbrev point : List Char → Char → Point
 point back x = record { back = back; here = x }
@@ -34,16 +34,7 @@ over_on split back x e h = ap (λ b. b || is_over split back) e ∙ h
 -- ---- what is emitted
 
 is_mark_of : (split : Bool) (back : List Char) (x : Char) → is_end split (point back x) ≡ true → IsMark x.c (end_by_mark x.c)
-is_mark_of split back x h = by (x.c == 124) (x.c == 41) refl refl (and_parts (not (is_in_raw (point back x))) ((x.c == 41) || (split && (x.c == 124))) (and_parts (not (is_comment (point back x))) (not (is_in_raw (point back x)) && ((x.c == 41) || (split && (x.c == 124)))) h).1).1
-  where
-    by : (a b : Bool) → (x.c == 124) ≡ a → (x.c == 41) ≡ b → (b || (split && a)) ≡ true → IsMark x.c (if a then note_end.Next else note_end.Close)
-    by true b e f k = eqb-true x.c 124 e
-    by false true e f k = eqb-true x.c 41 f
-    by false false e f k = absurd (none split k)
-      where
-        none : (s : Bool) → (s && false) ≡ true → ⊥
-        none true q = cc
-        none false q = cc
+is_mark_of split back x h = mark_is x.c split (and_parts (not (is_in_raw (point back x))) ((x.c == 41) || (split && (x.c == 124))) (and_parts (not (is_comment (point back x))) (not (is_in_raw (point back x)) && ((x.c == 41) || (split && (x.c == 124)))) h).1).1
 
 -- only findings
 abbrev OnlyFinds : List NoteEvent → Type 0

@@ -15,7 +15,7 @@ use Rattle.gabc_notes.specs.declared.stage.NoteEnd.TheVariants as note_end
 use Rattle.gabc_notes.specs.declared.stage.NoteEvent.{NoteEvent}
 use Rattle.gabc_notes.specs.declared.stage.NoteEvent.TheVariants as note
 use Rattle.gabc_notes.specs.SnippetRead.{kept_of as kept_in, ends_of}
-use Rattle.gabc_score.proofs.snippets_of_body.SnippetsEndAlike.{Goes, Stops, Cuts, IsMark, Grammar, lists, run, few_one}
+use Rattle.gabc_score.proofs.snippets_of_body.SnippetsEndAlike.{Goes, Stops, Cuts, IsMark, mark_is, Grammar, lists, run, few_one}
 
 -- ---- one character more
 
@@ -64,12 +64,7 @@ runs_on : (t : List ℕ) (x : Char) → is_end t x.c ≡ false → Running t →
 runs_on t x e r = end_more [] t x.c ∙ ap (λ b. b || is_end t x.c) r ∙ e
 
 is_mark_of : (t : List ℕ) (c : ℕ) → is_end t c ≡ true → IsMark c (end_by_mark c)
-is_mark_of t c h = by (c == 124) (c == 41) refl refl (and_parts (not (in_comment t)) ((c == 41) || (c == 124)) h).1
-  where
-    by : (a b : Bool) → (c == 124) ≡ a → (c == 41) ≡ b → (b || a) ≡ true → IsMark c (if a then note_end.Next else note_end.Close)
-    by true b e f k = eqb-true c 124 e
-    by false true e f k = eqb-true c 41 f
-    by false false e f k = cc
+is_mark_of t c h = mark_is c true (and_parts (not (in_comment t)) ((c == 41) || (c == 124)) h).1
 
 end_stops : (t : List ℕ) (x : Char) → IsMark x.c (end_by_mark x.c) → Stops (bytes_in (trim nabc (kept_of t))) x.c (end_events (kept_of t) x)
 end_stops t x m = by (is_snippet nabc (kept_of t))

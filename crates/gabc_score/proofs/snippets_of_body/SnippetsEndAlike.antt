@@ -1,8 +1,11 @@
 -- Where a snippet ends, and what it emits through its end: for GABC and NABC alike.
-use Rattle.std.proofs.Common.{◌≡◌, ◌⊎◌, inl, inr, ℕ, ◌+◌, ◌≤◌, Bool, ◌==◌, if◌then◌else◌, List, [], ◌∷◌, ◌++◌, map, Option, Some, None, refl, sym, ap, ◌∙◌, arith, append_assoc, append-nil}
+use Rattle.std.proofs.Common.{◌≡◌, ◌⊎◌, inl, inr, ℕ, ◌+◌, ◌≤◌, Bool, true, false, ◌==◌, ◌&&◌, ◌||◌, eqb-true, if◌then◌else◌, List, [], ◌∷◌, ◌++◌, map, Option, Some, None, refl, sym, ap, ◌∙◌, arith, append_assoc, append-nil}
 use Rattle.std.specs.Char.{len_utf8}
 use Rattle.std.specs.List.{list_any}
 use Rattle.std.proofs.lemmas.List.{map-append}
+use Rattle.std.proofs.lemmas.Bool.{true≢false}
+use Rattle.std.proofs.Math.Bool.{and-false}
+use Rattle.gabc_notes.specs.Events.{end_by_mark}
 use Rattle.gabc_notes.proofs.grammar.LawsOfEventsByPoint.{kept_append}
 use Rattle.gabc_places.specs.StageLaw.{concat_of}
 use Rattle.gabc_places.specs.declared.place.Place.{Place}
@@ -44,6 +47,14 @@ abbrev pub IsMark : ℕ → NoteEnd → Type 0
 IsMark c note_end.Next = c ≡ 124
 IsMark c note_end.Close = c ≡ 41
 IsMark c (note_end.Cut place) = ⊥
+
+pub mark_is : (c : ℕ) (split : Bool) → ((c == 41) || (split && (c == 124))) ≡ true → IsMark c (end_by_mark c)
+mark_is c split h = by (c == 124) (c == 41) refl refl h
+  where
+    by : (a b : Bool) → (c == 124) ≡ a → (c == 41) ≡ b → (b || (split && a)) ≡ true → IsMark c (if a then note_end.Next else note_end.Close)
+    by true b e f k = eqb-true c 124 e
+    by false true e f k = eqb-true c 41 f
+    by false false e f k = absurd (true≢false (sym k ∙ and-false split))
 
 -- What is emitted of a character that ends the snippet: nothing kept, and the end with the bytes of the trimmed text.
 pub record Stops (count c : ℕ) (emitted : List NoteEvent) : Type 0 where

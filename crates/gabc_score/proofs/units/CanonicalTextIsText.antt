@@ -75,23 +75,14 @@ all_plain f each (x ∷ xs) = subst IsText (sym (flat_map-cons f x xs)) (plain_a
 
 -- ---- the parts of a canonical text
 
-closing_low : (s : Style) → IsText (style_closing s)
-closing_low B = low_text (codes "</b>") refl
-closing_low C = low_text (codes "</c>") refl
-closing_low E = low_text (codes "</e>") refl
-closing_low I = low_text (codes "</i>") refl
-closing_low Sc = low_text (codes "</sc>") refl
-closing_low Tt = low_text (codes "</tt>") refl
-closing_low Ul = low_text (codes "</ul>") refl
-
-opening_low : (s : Style) → IsText (style_opening s)
-opening_low B = low_text (codes "<b>") refl
-opening_low C = low_text (codes "<c>") refl
-opening_low E = low_text (codes "<e>") refl
-opening_low I = low_text (codes "<i>") refl
-opening_low Sc = low_text (codes "<sc>") refl
-opening_low Tt = low_text (codes "<tt>") refl
-opening_low Ul = low_text (codes "<ul>") refl
+tags_low : (s : Style) → IsText (style_closing s) × IsText (style_opening s)
+tags_low B = (low_text (codes "</b>") refl, low_text (codes "<b>") refl)
+tags_low C = (low_text (codes "</c>") refl, low_text (codes "<c>") refl)
+tags_low E = (low_text (codes "</e>") refl, low_text (codes "<e>") refl)
+tags_low I = (low_text (codes "</i>") refl, low_text (codes "<i>") refl)
+tags_low Sc = (low_text (codes "</sc>") refl, low_text (codes "<sc>") refl)
+tags_low Tt = (low_text (codes "</tt>") refl, low_text (codes "<tt>") refl)
+tags_low Ul = (low_text (codes "</ul>") refl, low_text (codes "<ul>") refl)
 
 braces_low : (centre : Option Span) (i : ℕ) → IsText (braces centre i)
 braces_low None i = nothing_plain
@@ -105,8 +96,8 @@ braces_low (Some c) i = by (c.from == i) (c.to == i)
 
 boundary_plain : (old new : List Style) (middle : List ℕ) → IsText middle → IsText (boundary old new middle)
 boundary_plain old new middle h =
-    plain_append (flat_map style_closing (reverse (after_common old new).0)) (middle ++ flat_map style_opening (after_common old new).1) (all_plain style_closing closing_low (reverse (after_common old new).0))
-    (plain_append middle (flat_map style_opening (after_common old new).1) h (all_plain style_opening opening_low (after_common old new).1))
+    plain_append (flat_map style_closing (reverse (after_common old new).0)) (middle ++ flat_map style_opening (after_common old new).1) (all_plain style_closing (λ s. (tags_low s).0) (reverse (after_common old new).0))
+    (plain_append middle (flat_map style_opening (after_common old new).1) h (all_plain style_opening (λ s. (tags_low s).1) (after_common old new).1))
 
 dollar_plain : (b : Bool) (t : List ℕ) → IsText t → IsText (cond b (codes "$") [] ++ t)
 dollar_plain true t h = plain_append (codes "$") t (low_text (codes "$") refl) h

@@ -42,24 +42,18 @@ close_read true b l o e = absurd (cc)
 close_read false true l o e = refl
 close_read false false l o e = absurd (cc)
 
-endless_next : (events : List NoteEvent) → ends_of events ≡ [] → list_any is_next events ≡ false
-endless_next [] e = refl
-endless_next (note_out.Kept x ∷ events) e = endless_next events e
-endless_next (note_out.Found f ∷ events) e = endless_next events e
-endless_next (note_out.Ended how n ∷ events) e = absurd (cc)
-
-endless_close : (events : List NoteEvent) → ends_of events ≡ [] → list_any is_close events ≡ false
-endless_close [] e = refl
-endless_close (note_out.Kept x ∷ events) e = endless_close events e
-endless_close (note_out.Found f ∷ events) e = endless_close events e
-endless_close (note_out.Ended how n ∷ events) e = absurd (cc)
+endless : (events : List NoteEvent) → ends_of events ≡ [] → (list_any is_next events ≡ false) × (list_any is_close events ≡ false)
+endless [] e = (refl, refl)
+endless (note_out.Kept x ∷ events) e = endless events e
+endless (note_out.Found f ∷ events) e = endless events e
+endless (note_out.Ended how n ∷ events) e = absurd (cc)
 
 -- where a `|` ends a snippet, and where a `)` does
 next_mark : (split : Bool) (c : ℕ) (events : List NoteEvent) → EndAtMost split c events → list_any is_next events ≡ true → (c ≡ 124) × (split ≡ true)
-next_mark split c events (inl e) h = absurd (true≢false (sym h ∙ endless_next events e))
+next_mark split c events (inl e) h = absurd (true≢false (sym h ∙ (endless events e).0))
 next_mark split c events (inr w) h = by w.how w.mark
     (sym (ap (λ (os : List NoteEvent). list_any is_next os) w.cut
-    ∙ (list_any-append is_next w.before (note_out.Ended w.how w.bytes ∷ []) ∙ ap (λ (b : Bool). b || list_any is_next (note_out.Ended w.how w.bytes ∷ [])) (endless_next w.before w.endless))) ∙ h)
+    ∙ (list_any-append is_next w.before (note_out.Ended w.how w.bytes ∷ []) ∙ ap (λ (b : Bool). b || list_any is_next (note_out.Ended w.how w.bytes ∷ [])) (endless w.before w.endless).0)) ∙ h)
   where
     by : (how : NoteEnd) → IsMarkOf split how c → list_any is_next (note_out.Ended how w.bytes ∷ []) ≡ true → (c ≡ 124) × (split ≡ true)
     by note_end.Next m e = m
@@ -67,10 +61,10 @@ next_mark split c events (inr w) h = by w.how w.mark
     by (note_end.Cut p) m e = elim m [ ]
 
 close_mark : (split : Bool) (c : ℕ) (events : List NoteEvent) → EndAtMost split c events → list_any is_close events ≡ true → c ≡ 41
-close_mark split c events (inl e) h = absurd (true≢false (sym h ∙ endless_close events e))
+close_mark split c events (inl e) h = absurd (true≢false (sym h ∙ (endless events e).1))
 close_mark split c events (inr w) h = by w.how w.mark
     (sym (ap (λ (os : List NoteEvent). list_any is_close os) w.cut
-    ∙ (list_any-append is_close w.before (note_out.Ended w.how w.bytes ∷ []) ∙ ap (λ (b : Bool). b || list_any is_close (note_out.Ended w.how w.bytes ∷ [])) (endless_close w.before w.endless))) ∙ h)
+    ∙ (list_any-append is_close w.before (note_out.Ended w.how w.bytes ∷ []) ∙ ap (λ (b : Bool). b || list_any is_close (note_out.Ended w.how w.bytes ∷ [])) (endless w.before w.endless).1)) ∙ h)
   where
     by : (how : NoteEnd) → IsMarkOf split how c → list_any is_close (note_out.Ended how w.bytes ∷ []) ≡ true → c ≡ 41
     by note_end.Next m e = absurd (true≢false (sym e))

@@ -1,8 +1,10 @@
 -- Where no limit is passed, the syllables are within the limits, and where they are, none is passed.
-use Rattle.std.proofs.Common.{◌≡◌, ℕ, ◌+◌, ◌≤◌, ◌||◌, ◌&&◌, not, nat_lt, List, [], ◌∷◌, ◌++◌, length, Bool, true, false, cond, Some, None, sum_by, refl, sym, ap, subst, ◌∙◌, arith, length-append}
+use Rattle.std.proofs.Common.{◌≡◌, ℕ, ◌+◌, ◌≤◌, ◌||◌, ◌&&◌, not, nat_lt, List, [], ◌∷◌, ◌++◌, length, map, take, Bool, true, false, cond, Some, None, sum_by, refl, sym, ap, subst, ◌∙◌, arith, length-append}
 use Rattle.std.specs.List.{All, list_any, flat_map}
 use Rattle.std.proofs.lemmas.Bool.Decides.{nat_tests}
-use Rattle.std.proofs.lemmas.List.Elements.{All-nil, All-cons, All-head, All-tail}
+use Rattle.std.proofs.lemmas.List.Elements.{All-nil, All-cons, All-head, All-tail, All-map, All-take, All-weaker}
+use Rattle.std.proofs.lemmas.List.Folds.{list_any_none}
+use Rattle.std.proofs.Math.Seq.{take-append_seam}
 use Rattle.std.proofs.lemmas.List.Sums.{sum_by-cons}
 use Rattle.std.proofs.lemmas.Bool.{or_parts}
 use Rattle.gabc_score.proofs.runs.FoundSyllable.{begins_there}
@@ -18,15 +20,10 @@ use Rattle.gabc_score.specs.WithinLimits.{CanonicalWithin, AreWithin}
 module _ {X : Type 0} (P : X → Type 0) (test : X → Bool) (none : (x : X) → test x ≡ false → P x) (holds : (x : X) → P x → test x ≡ false) where
   pub all_by_none : (xs : List X) → list_any test xs ≡ false → All P xs
   all_by_none [] h = All-nil P
-  all_by_none (x ∷ xs) h = by (test x) refl h (λ k. all_by_none xs k)
-    where
-      by : (b : Bool) → test x ≡ b → (b || list_any test xs) ≡ false → (list_any test xs ≡ false → All P xs) → All P (x ∷ xs)
-      by true e k rest = absurd (cc)
-      by false e k rest = All-cons P x xs (none x e) (rest k)
+  all_by_none (x ∷ xs) h = let both = or_parts (test x) (list_any test xs) h in All-cons P x xs (none x both.0) (all_by_none xs both.1)
 
   pub none_by_all : (xs : List X) → All P xs → list_any test xs ≡ false
-  none_by_all [] h = refl
-  none_by_all (x ∷ xs) h = ap (λ b. b || list_any test xs) (holds x (All-head P x xs h)) ∙ none_by_all xs (All-tail P x xs h)
+  none_by_all xs h = list_any_none test xs (All-weaker P (λ x. test x ≡ false) holds xs h)
 
 pub short_is : (limit : ℕ) (bytes : List ℕ) → is_longer limit bytes ≡ false → length bytes ≤ limit
 short_is limit bytes h = grind (arith, nat_tests)
@@ -97,6 +94,15 @@ KeptFit limit ss = All (λ (s : PlacedSyllable). length s.made.kept ≤ limit) s
 abbrev CanonicalFit : ℕ → List PlacedSyllable → Type 0
 CanonicalFit limit ss = All (λ (s : PlacedSyllable). length (canonical_in_place s) ≤ limit) ss
 
+unmapped : {X Y : Type 0} (P : Y → Type 0) (f : X → Y) (xs : List X) → All P (map f xs) → All (λ x. P (f x)) xs
+unmapped P f [] h = All-nil (λ x. P (f x))
+unmapped P f (x ∷ xs) h = All-cons (λ y. P (f y)) x xs (All-head P (f x) (map f xs) h) (unmapped P f xs (All-tail P (f x) (map f xs) h))
+
+-- in their places the syllables have the canonical texts that they have one after the other
+canonicals_placed : (first : Bool) (ms : List UnplacedSyllable) → map canonical_in_place (placed_syllables_by first ms) ≡ canonicals first ms
+canonicals_placed first [] = refl
+canonicals_placed first (m ∷ ms) = rw (begins_there (first || m.text.word_start) (next_starts ms), canonicals_placed false ms) refl
+
 module _ (limit : ℕ) where
   kept_placed : (first : Bool) (ms : List UnplacedSyllable) → AllKeptShort limit ms → KeptFit limit (placed_syllables_by first ms)
   kept_placed first [] h = All-nil (λ (s : PlacedSyllable). length s.made.kept ≤ limit)
@@ -105,23 +111,10 @@ module _ (limit : ℕ) where
       (kept_placed false ms (All-tail (λ (n : UnplacedSyllable). length n.kept ≤ limit) m ms h))
 
   canonical_placed : (first : Bool) (ms : List UnplacedSyllable) → AllShort limit (canonicals first ms) → CanonicalFit limit (placed_syllables_by first ms)
-  canonical_placed first [] h = All-nil (λ (s : PlacedSyllable). length (canonical_in_place s) ≤ limit)
-  canonical_placed first (m ∷ ms) h =
-      let starts : Bool = first || m.text.word_start in
-      let one : length (canonical starts m) ≤ limit = All-head (λ (t : List ℕ). length t ≤ limit) (canonical starts m) (canonicals false ms) h in
-      All-cons (λ (s : PlacedSyllable). length (canonical_in_place s) ≤ limit) _ (placed_syllables_by false ms)
-      (subst (λ b. length (canonical b m) ≤ limit) (sym (begins_there starts (next_starts ms))) one)
-      (canonical_placed false ms (All-tail (λ (t : List ℕ). length t ≤ limit) (canonical starts m) (canonicals false ms) h))
+  canonical_placed first ms h = unmapped (λ (t : List ℕ). length t ≤ limit) canonical_in_place (placed_syllables_by first ms) (subst (AllShort limit) (sym (canonicals_placed first ms)) h)
 
   placed_canonical : (first : Bool) (ms : List UnplacedSyllable) → CanonicalFit limit (placed_syllables_by first ms) → AllShort limit (canonicals first ms)
-  placed_canonical first [] h = All-nil (λ (t : List ℕ). length t ≤ limit)
-  placed_canonical first (m ∷ ms) h =
-      let starts : Bool = first || m.text.word_start in
-      let here : PlacedSyllable = record { made = m; position = position_by starts (next_starts ms) } in
-      let one : length (canonical (starts_word (position_by starts (next_starts ms))) m) ≤ limit = All-head (λ (s : PlacedSyllable). length (canonical_in_place s) ≤ limit) here (placed_syllables_by false ms) h in
-      All-cons (λ (t : List ℕ). length t ≤ limit) (canonical starts m) (canonicals false ms)
-      (subst (λ b. length (canonical b m) ≤ limit) (begins_there starts (next_starts ms)) one)
-      (placed_canonical false ms (All-tail (λ (s : PlacedSyllable). length (canonical_in_place s) ≤ limit) here (placed_syllables_by false ms) h))
+  placed_canonical first ms h = subst (AllShort limit) (canonicals_placed first ms) (All-map (λ (t : List ℕ). length t ≤ limit) canonical_in_place (placed_syllables_by first ms) h)
 
 bytes_placed : (first : Bool) (ms : List UnplacedSyllable) → length (flat_map canonical_in_place (placed_syllables_by first ms)) ≡ sum_by (λ (t : List ℕ). length t) (canonicals first ms)
 bytes_placed first [] = refl
@@ -176,10 +169,7 @@ canonicals_prefix limit first (m ∷ ms) more h =
     (canonicals_prefix limit false ms more (All-tail (λ (t : List ℕ). length t ≤ limit) (canonical starts m) (canonicals false (ms ++ more)) h))
 
 kept_prefix : (limit : ℕ) (ms more : List UnplacedSyllable) → AllKeptShort limit (ms ++ more) → AllKeptShort limit ms
-kept_prefix limit [] more h = All-nil (λ (m : UnplacedSyllable). length m.kept ≤ limit)
-kept_prefix limit (m ∷ ms) more h =
-    All-cons (λ (n : UnplacedSyllable). length n.kept ≤ limit) m ms (All-head (λ (n : UnplacedSyllable). length n.kept ≤ limit) m (ms ++ more) h)
-    (kept_prefix limit ms more (All-tail (λ (n : UnplacedSyllable). length n.kept ≤ limit) m (ms ++ more) h))
+kept_prefix limit ms more h = subst (AllKeptShort limit) (take-append_seam ms more) (All-take (λ (m : UnplacedSyllable). length m.kept ≤ limit) (length ms) (ms ++ more) h)
 
 some_more : (ms more : List UnplacedSyllable) → is_none ms ≡ false → is_none (ms ++ more) ≡ false
 some_more [] more h = absurd (cc)
