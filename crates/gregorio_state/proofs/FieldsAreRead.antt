@@ -38,9 +38,8 @@ format_again format.Dump rest = refl
 pub spans_again : (eu nlba : Bool) (rest : List ℕ) → spans_at (spans_number eu nlba ∷ rest) ≡ Some (record { eu = eu; nlba = nlba }, rest)
 unfolding spans_at
 spans_again true true rest = refl
-spans_again true false rest = refl
 spans_again false true rest = refl
-spans_again false false rest = refl
+spans_again _ _ rest = refl
 
 front_again : (front rest : List ℕ) → front_at (length front) (front ++ rest) ≡ Some (front, rest)
 unfolding front_at
@@ -80,15 +79,12 @@ clef_again (Some c) rest = by_flags c.f c.flat
   where
     by_flags : (f flat : Bool) → clef_at (clef_bytes (Some (record { f = f; flat = flat; line = c.line })) ++ rest) ≡ Some (Some (record { f = f; flat = flat; line = c.line }), rest)
     by_flags true true = refl
-    by_flags true false = refl
     by_flags false true = refl
-    by_flags false false = refl
+    by_flags _ _ = refl
 
 alter_again : (a : Alter) → alter_of (alter_number a) ≡ Some a
 alter_again alter.None = refl
-alter_again alter.Flat = refl
-alter_again alter.Natural = refl
-alter_again alter.Sharp = refl
+alter_again _ = refl
 
 each_again : (alters : List Alter) → alters_of (map alter_number alters) ≡ Some alters
 each_again [] = refl

@@ -32,9 +32,7 @@ text_tested bytes u = (
 
 none_is : (a : Alter) → is_none a ≡ true → a ≡ alter.None
 none_is alter.None e = refl
-none_is alter.Flat e = absurd cc
-none_is alter.Natural e = absurd cc
-none_is alter.Sharp e = absurd cc
+none_is _ e = absurd cc
 
 each_none : (alters : List Alter) → list_all is_none alters ≡ true → alters ≡ replicate (length alters) alter.None
 each_none [] e = refl
@@ -49,5 +47,4 @@ pub alters_tested : (alters : List Alter) (n : ℕ) → length alters ≡ n → 
 alters_tested alters n len = (λ e. rw (← len) (each_none alters e), λ e. rw e (none_tested n))
 
 pub not_both : (b : Bool) → b ≡ true → b ≡ false → ⊥
-not_both true t f = absurd cc
-not_both false t f = absurd cc
+not_both b t f = absurd (cc (t, f))
