@@ -15,14 +15,11 @@ use Rattle.gregorio.specs.machine.HeldHeaders.{after_mark}
 -- where no limit is passed
 one_by : (b : Bool) → b ≡ false
     → progress_by (37 ∷ []) (heads_by (37 ∷ []) (earliest (too_long (37 ∷ []) (cond b (Some 0) None) ++ stop_at 1 (record { line = 1; column = 2 }) F2 ∷ []))) ≡ reading (37 ∷ [])
-one_by true e = absurd (false≢true (sym e))
-one_by false e = refl
+one_by b e = rw e refl
 
 two_by : (b d : Bool) → b ≡ false → d ≡ false
     → progress_by (37 ∷ 37 ∷ []) (heads_by (37 ∷ 37 ∷ []) (earliest (cond b (stop_at 1 (line_place 1) F4 ∷ []) [] ++ cond d (stop_at 1 (line_place 1) F7 ∷ []) []))) ≡ after_headers []
-two_by true d e f = absurd (false≢true (sym e))
-two_by false true e f = absurd (false≢true (sym f))
-two_by false false e f = refl
+two_by b d e f = rw (e, f) refl
 
 one_percent : (limits : Limits) → progress_with limits [] 37 ≡ reading (37 ∷ [])
 one_percent limits = one_by (nat_lt limits.header 1) (le-ltb limits.header 1 (let h = limits.in_range.header_least in omega (arith, h)))
@@ -38,7 +35,5 @@ after_two limits hasher x y one two =
 
 -- wherever its characters are said to stand
 pub mark_ends : (limits : Limits) (hasher : DefaultHasher) (xs : List Char) → text_in xs ≡ 37 ∷ 37 ∷ [] → stage_past (fresh_stage limits hasher) (inputs_of xs) ≡ after_mark limits hasher
-mark_ends limits hasher [] is = absurd (cc is)
-mark_ends limits hasher (x ∷ []) is = absurd (cc is)
-mark_ends limits hasher (x ∷ y ∷ z ∷ xs) is = absurd (cc is)
 mark_ends limits hasher (x ∷ y ∷ []) is = after_two limits hasher x y (cc is) (cc is)
+mark_ends limits hasher _ is = absurd (cc is)

@@ -58,17 +58,13 @@ module _ (s : ScoreStageState) where
 
 pub as_many_emitted : (lent : BorrowedSyllable) (outputs : List ScoreOutput) → length (events_borrowed lent outputs) ≡ length outputs
 as_many_emitted lent [] = refl
-as_many_emitted lent (Found f ∷ outputs) = ap suc (as_many_emitted lent outputs)
-as_many_emitted lent (Stop fault ∷ outputs) = ap suc (as_many_emitted lent outputs)
 as_many_emitted lent (Syllable x ∷ outputs) = ap suc (as_many_emitted Second outputs)
-as_many_emitted lent (End ∷ outputs) = ap suc (as_many_emitted lent outputs)
+as_many_emitted lent (_ ∷ outputs) = ap suc (as_many_emitted lent outputs)
 
 none_emitted : (lent : BorrowedSyllable) (outputs : List ScoreOutput) → events_borrowed lent outputs ≡ [] → outputs ≡ []
 none_emitted lent [] h = refl
 none_emitted lent (Found f ∷ outputs) h = no_item _ _ h
-none_emitted lent (Stop fault ∷ outputs) h = no_item _ _ h
-none_emitted lent (Syllable x ∷ outputs) h = no_item _ _ h
-none_emitted lent (End ∷ outputs) h = no_item _ _ h
+none_emitted lent (_ ∷ outputs) h = no_item _ _ h
 
 -- ---- where they stop
 
@@ -91,9 +87,7 @@ nothing_emitted : (lists : List (List ScoreOutput)) → concat_of (map (λ outpu
 nothing_emitted [] h = refl
 nothing_emitted ([] ∷ lists) h = nothing_emitted lists h
 nothing_emitted ((Found f ∷ outputs) ∷ lists) h = no_item _ _ h
-nothing_emitted ((Stop fault ∷ outputs) ∷ lists) h = no_item _ _ h
-nothing_emitted ((Syllable x ∷ outputs) ∷ lists) h = no_item _ _ h
-nothing_emitted ((End ∷ outputs) ∷ lists) h = no_item _ _ h
+nothing_emitted ((_ ∷ outputs) ∷ lists) h = no_item _ _ h
 
 -- a stage that emits no event has no output left
 pub nothing_left : (s : ScoreStageState) (xs : List HeadEvent) → EmitsNothing (events_left s) → concat_of (left_of s xs) ≡ []

@@ -13,11 +13,8 @@ abbrev before_body : ScoreStageState → ScorePart → ScoreStageState
 before_body s part = record s { part = part }
 
 first_given : (s : ScoreStageState) (x : HeadEvent) → first_list (left_of (before_body s score_part.Heads) (x ∷ [])) ≡ given_in_heads x
-first_given s (head_event.Found f) = refl
-first_given s (head_event.Stop fault) = refl
 first_given s head_event.End = refl
-first_given s (head_event.Body x) = refl
-first_given s (head_event.Heads lines macros canonical) = refl
+first_given s _ = refl
 
 pub passed_in_heads : (s : ScoreStageState) (x : HeadEvent) (outputs : List ScoreOutput) (later : List (List ScoreOutput)) → s.part ≡ score_part.Heads → left_of s (x ∷ []) ≡ outputs ∷ later → outputs ≡ given_in_heads x
 passed_in_heads s x outputs later heads law =

@@ -58,9 +58,8 @@ later_texts_are P format limit (End ∷ outputs) ends none = texts_at_end format
 
 -- without notes a syllable takes no more room
 no_more : (format : Format) (no_notes : Bool) (limit : ℕ) → syllable_len format no_notes (limit + 1) ≤ syllable_room format limit
-no_more Gabc no_notes limit = omega arith
 no_more Dump true limit = omega arith
-no_more Dump false limit = omega arith
+no_more _ _ limit = omega arith
 
 -- how much room n syllables take, of which those after the first have no notes
 abbrev pub texts_of_syllables : Format → ℕ → ℕ → ℕ
@@ -110,23 +109,20 @@ texts_within P limits format (head_event.Heads lines macros canonical) outputs l
 -- ---- the part of the score
 
 pub needed_within : (part : ScorePart) (room : ℕ) → needed_in part room ≤ room
-needed_within score_part.Heads room = omega arith
-needed_within score_part.Body room = omega arith
 needed_within score_part.Over room = omega arith
+needed_within _ room = omega arith
 
 pub needed_more : (part : ScorePart) (a b : ℕ) → a ≤ b → needed_in part a ≤ needed_in part b
-needed_more score_part.Heads a b h = h
-needed_more score_part.Body a b h = h
 needed_more score_part.Over a b h = omega arith
+needed_more _ a b h = h
 
 -- where this is needed, and after the last nothing is given, so much is needed for what was given
 pub needed_for : (format : Format) (limit : ℕ) (part : ScorePart) (room : ℕ) (outputs : List ScoreOutput) → (part ≡ score_part.Over → outputs ≡ []) → texts_room format limit outputs ≤ room
     → texts_room format limit outputs ≤ needed_in part room
-needed_for format limit score_part.Heads room outputs none within = within
-needed_for format limit score_part.Body room outputs none within = within
 needed_for format limit score_part.Over room outputs none within =
     let nothing : texts_room format limit outputs ≡ 0 = ap (texts_room format limit) (none refl) in
     omega (arith, nothing)
+needed_for format limit _ room outputs none within = within
 
 abbrev first_given : List (List ScoreOutput) → List ScoreOutput
 first_given [] = []
@@ -144,16 +140,10 @@ nothing_over s xs outputs later law over =
 -- a stop or the end is the last
 final_is_over : (part : ScorePart) (x : HeadEvent) (outputs : List ScoreOutput) → is_final x ≡ true → ((part ≡ score_part.Over → ⊥) → list_any is_last outputs ≡ true) → part_past part x outputs ≡ score_part.Over
 final_is_over score_part.Over x outputs final last = refl
-final_is_over score_part.Heads (head_event.Stop fault) outputs final last = ap (λ (b : Bool). if b then score_part.Over else score_part.Heads) (last (λ e. absurd (cc e)))
-final_is_over score_part.Heads head_event.End outputs final last = ap (λ (b : Bool). if b then score_part.Over else score_part.Heads) (last (λ e. absurd (cc e)))
-final_is_over score_part.Heads (head_event.Body x) outputs final last = absurd (cc final)
-final_is_over score_part.Heads (head_event.Found f) outputs final last = absurd (cc final)
-final_is_over score_part.Heads (head_event.Heads lines macros canonical) outputs final last = absurd (cc final)
-final_is_over score_part.Body (head_event.Stop fault) outputs final last = ap (λ (b : Bool). if b then score_part.Over else score_part.Body) (last (λ e. absurd (cc e)))
-final_is_over score_part.Body head_event.End outputs final last = ap (λ (b : Bool). if b then score_part.Over else score_part.Body) (last (λ e. absurd (cc e)))
-final_is_over score_part.Body (head_event.Body x) outputs final last = absurd (cc final)
-final_is_over score_part.Body (head_event.Found f) outputs final last = absurd (cc final)
-final_is_over score_part.Body (head_event.Heads lines macros canonical) outputs final last = absurd (cc final)
+final_is_over _ (head_event.Body x) outputs final last = absurd (cc final)
+final_is_over _ (head_event.Found f) outputs final last = absurd (cc final)
+final_is_over _ (head_event.Heads lines macros canonical) outputs final last = absurd (cc final)
+final_is_over _ _ outputs final last = rw (last (λ e. absurd (cc e))) refl
 
 -- after an event no more is needed than was left after it
 needed_after : (old new : ScorePart) (x : HeadEvent) (outputs : List ScoreOutput) (one rest : ℕ) → new ≡ part_past old x outputs
@@ -169,10 +159,8 @@ needed_after old new x outputs one rest is last = by old (is_final x) refl refl
 
     by : (part : ScorePart) (final : Bool) → old ≡ part → is_final x ≡ final → needed_in part one + needed_in new rest ≤ needed_in part (one + (if final then 0 else rest))
     by score_part.Over final e f = omega (arith, over new (is ∙ ap (λ (p : ScorePart). part_past p x outputs) e))
-    by score_part.Heads true e f = omega (arith, ended f)
-    by score_part.Heads false e f = omega (arith, needed_within new rest)
-    by score_part.Body true e f = omega (arith, ended f)
-    by score_part.Body false e f = omega (arith, needed_within new rest)
+    by _ true e f = omega (arith, ended f)
+    by _ false e f = omega (arith, needed_within new rest)
 
 -- ---- an event
 

@@ -28,10 +28,8 @@ use Rattle.gregorio.proofs.pieces.BytesAreJoined.{with_both_after}
 use Rattle.gregorio.proofs.PiecesAreSent.{sent_on, cut_by, cut_longer}
 
 done_by : (job : Job) (limits : Limits) (source out messages : Use) (o : Option Fault) (b e : Bool) → Done job limits source out messages (status_by o b e) → Compiles job limits source out messages (status_by o b e)
-done_by job limits source out messages (Some f) b e d = d
-done_by job limits source out messages None true e d = d
 done_by job limits source out messages None false true d = d
-done_by job limits source out messages None false false d = d
+done_by job limits source out messages _ _ _ d = d
 
 -- what is made of an input, part by part
 pub outcome_by_parts : (limits : Limits) (ending : SourceEnding) (bytes : List ℕ) (ended : Bool) (decoded : Decoded) (how : score.InputEnding) (made : Score) (broken : Bool)
@@ -41,10 +39,8 @@ outcome_by_parts limits ending bytes ended decoded how made broken e d h m b = r
 
 -- a read fault comes of a source that failed
 broken_by : (ending : SourceEnding) (fault : Option Fault) (errors : Bool) → status_by fault (is_cut_short ending fault) errors ≡ ReadFault → ending ≡ Broken
-broken_by Broken fault errors s = refl
-broken_by Ended (Some fault) errors s = cc
 broken_by Ended None true s = cc
-broken_by Ended None false s = cc
+broken_by _ _ _ s = cc
 
 read_fault_broken : (limits : Limits) (ending : SourceEnding) (bytes : List ℕ) → status_of (outcome_of limits ending bytes) ≡ ReadFault → ending ≡ Broken
 read_fault_broken limits ending bytes s =
@@ -53,10 +49,8 @@ read_fault_broken limits ending bytes s =
 
 -- no run that wrote all has the status of a sink's failure
 never_sunk : (fault : Option Fault) (broken errors : Bool) → status_by fault broken errors ≡ WriteFault → ⊥
-never_sunk (Some fault) broken errors s = cc
-never_sunk None true errors s = cc
 never_sunk None false true s = cc
-never_sunk None false false s = cc
+never_sunk _ _ _ s = cc
 
 -- the status of a sink's failure is not that of a source's
 sunk_is_not_broken : WriteFault ≡ ReadFault → ⊥

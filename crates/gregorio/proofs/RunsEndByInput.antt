@@ -12,9 +12,7 @@ use Rattle.gregorio.specs.witness.Engine.{EngineState, Written, after_heads, aft
 
 ended_so : (how : RunEnding) → EndsByInput (status_of_ending how)
 ended_so Whole = tt
-ended_so Errors = tt
-ended_so (Fatal fault) = tt
-ended_so ReadFault = tt
+ended_so _ = tt
 
 ends : (w : Written) (book : List (List ℕ × List ℕ)) (from_heads : List HeadEvent) (lists : List (List ScoreOutput)) → EndsByInput (streams_from w book from_heads lists).status
 ends w book [] lists = ended_so (ceased_ending (after_outputs w (concat_of lists)).ended)

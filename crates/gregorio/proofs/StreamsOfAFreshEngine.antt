@@ -73,31 +73,23 @@ text_is Dump whole book ss h =
 -- a fault that stopped the text is one of the score, or another is
 abbrev StopsAt : InputEnding → Option Fault → Type 0
 StopsAt (score_ending.At fault) None = ⊥
-StopsAt (score_ending.At fault) (Some other) = Unit {0}
-StopsAt score_ending.Whole o = Unit {0}
-StopsAt score_ending.Broken o = Unit {0}
+StopsAt _ _ = Unit {0}
 
 -- whether a score is whole is what the outcome says
 pub whole_is : (ending : SourceEnding) (stop o : Option Fault) → StopsAt (ending_by ending stop) o → is_whole_score (ending_by ending stop) o ≡ not (is_some o || is_cut_short ending o)
-whole_is Ended (Some f) (Some g) h = refl
-whole_is Broken (Some f) (Some g) h = refl
 whole_is Ended (Some f) None h = absurd h
 whole_is Broken (Some f) None h = absurd h
 whole_is Ended None None h = refl
-whole_is Ended None (Some g) h = refl
 whole_is Broken None None h = refl
-whole_is Broken None (Some g) h = refl
+whole_is _ _ _ h = refl
 
 pub status_is : (ending : SourceEnding) (stop o : Option Fault) (errors : Bool) → StopsAt (ending_by ending stop) o
     → status_by o (not (is_whole_score (ending_by ending stop) o)) errors ≡ status_by o (is_cut_short ending o) errors
-status_is Ended (Some f) (Some g) errors h = refl
-status_is Broken (Some f) (Some g) errors h = refl
 status_is Ended (Some f) None errors h = absurd h
 status_is Broken (Some f) None errors h = absurd h
 status_is Ended None None errors h = refl
-status_is Ended None (Some g) errors h = refl
 status_is Broken None None errors h = refl
-status_is Broken None (Some g) errors h = refl
+status_is _ _ _ errors h = refl
 
 -- a score whose text a fault stops has a fault
 stops_by : (limits : Limits) (head : ℕ) (found : List Finding) (at : Place) (fault : Fault) (before last : List BodyEvent) (o : Option Fault)

@@ -24,13 +24,11 @@ begun_writer item headed s = record s { score = begun item headed s.score }
 
 limits_begun : (item : Result Char Fault) (headed : Bool) (s : ScoreStageState) → (begun item headed s).limits ≡ s.limits
 limits_begun (Ok x) true s = refl
-limits_begun (Ok x) false s = refl
-limits_begun (Err fault) headed s = refl
+limits_begun _ _ s = refl
 
 room_begun : (item : Result Char Fault) (headed : Bool) (s : ScoreWriterState) (ends : Bool) (events : List HeadEvent) → FitsEvents s ends events → FitsEvents (begun_writer item headed s) ends events
 room_begun (Ok x) true s ends events r = record { lines = r.lines; texts = r.texts }
-room_begun (Ok x) false s ends events r = record { lines = r.lines; texts = r.texts }
-room_begun (Err fault) headed s ends events r = record { lines = r.lines; texts = r.texts }
+room_begun _ _ s ends events r = record { lines = r.lines; texts = r.texts }
 
 steady_begun : (item : Result Char Fault) (headed : Bool) (old s : ScoreWriterState) → IsSteady old s → IsSteady old (begun_writer item headed s)
 steady_begun item headed old s a = record {
@@ -45,9 +43,7 @@ steady_begun item headed old s a = record {
 -- in front no text has counted a place
 none_counts : (place at : Place) (b : BodyPart) → is_in_front b ≡ true → IsAt place (moved_part at b)
 none_counts place at part.Comment front = tt
-none_counts place at (part.Text stage) front = absurd (cc front)
-none_counts place at (part.Notes opened stage) front = absurd (cc front)
-none_counts place at (part.Nabc line opened stage) front = absurd (cc front)
+none_counts place at _ front = absurd (cc front)
 
 step_begun : (item : Result Char Fault) (headed : Bool) (d : DecoderState) (h : HeaderStageState) (s : ScoreStageState) (w : Written) → (headed ≡ true → IsInFront s) → RunsInStep d h s w
     → RunsInStep d h (begun item headed s) w

@@ -36,23 +36,18 @@ clef_after law Dump force s silent = law force s silent
 silent_on : LeavesClef → (outputs : List ScoreOutput) (w : Written) (p : Preceding) → (p.sounded ≡ false → w.force.clef ≡ None) → (with_placed p (syllables_in outputs)).sounded ≡ false
     → (after_outputs w outputs).force.clef ≡ None
 silent_on law [] w p before silent = before silent
-silent_on law (Found f ∷ outputs) w p before silent = silent_on law outputs (after_output w (Found f)) p before silent
-silent_on law (Stop fault ∷ outputs) w p before silent = silent_on law outputs (after_output w (Stop fault)) p before silent
-silent_on law (End ∷ outputs) w p before silent = silent_on law outputs (after_output w End) p before silent
 silent_on law (Syllable s ∷ outputs) w p before silent = silent_on law outputs (after_output w (Syllable s)) (with_placed p (s ∷ [])) (λ both. by (or_parts p.sounded (sounds s.made) both) w.headed) silent
   where
     by : (p.sounded ≡ false) × (sounds s.made ≡ false) → (headed : Bool) → (if headed then force_after w.format w.force s else w.force).clef ≡ None
     by both true = clef_after law w.format w.force s both.1 ∙ before both.0
     by both false = before both.0
+silent_on law (o ∷ outputs) w p before silent = silent_on law outputs (after_output w o) p before silent
 
 -- ---- an event
 
 same_in_heads : (w : Written) (x : HeadEvent) → (after_outputs w (given_in_heads x)).force.clef ≡ w.force.clef
-same_in_heads w (head_event.Found f) = refl
-same_in_heads w (head_event.Stop fault) = refl
 same_in_heads w head_event.End = refl
-same_in_heads w (head_event.Body x) = refl
-same_in_heads w (head_event.Heads lines macros canonical) = refl
+same_in_heads w _ = refl
 
 no_clef_in : (part : ScorePart) (sounded : Bool) (clef : Option Clef) → clef ≡ None → IsClefIn part sounded clef
 no_clef_in score_part.Heads sounded clef none = none

@@ -1,5 +1,6 @@
 -- What follows for a writer that takes events one after the other.
 use Rattle.std.proofs.Common.{◌≡◌, ℕ, List, [], ◌∷◌, ◌++◌, length, drop, slice_index_or, ◌+◌, ◌<◌, Bool, true, false, ◌||◌, ◌&&◌, refl, ap, sym, subst, ◌∙◌, add-one, drop-cons}
+use Rattle.std.proofs.lemmas.Bool.{or_parts}
 use Rattle.std.proofs.Math.Bool.{or-false}
 use Rattle.gabc_headers.specs.declared.head_event.HeadEvent.{HeadEvent}
 use Rattle.gabc_headers.specs.declared.head_event.HeadEvent.TheVariants as head_event
@@ -26,10 +27,7 @@ takes_other old new x none takes = subst (λ (w : RunWriterState). TakesEvent ol
 
 same_text : (x : HeadEvent) (w : Written) (book read : List (List ℕ × List ℕ)) → IsBookAt x book read → text_of_heads w book (writes_heads w x) ≡ text_of_heads w read (writes_heads w x)
 same_text (head_event.Heads lines macros canonical) w book read same = ap (λ (b : List (List ℕ × List ℕ)). text_of_heads w b (is_before_heads w)) same
-same_text (head_event.Found f) w book read same = refl
-same_text (head_event.Body x) w book read same = refl
-same_text (head_event.Stop fault) w book read same = refl
-same_text head_event.End w book read same = refl
+same_text _ w book read same = refl
 
 module _ (x : HeadEvent) (read : List (List ℕ × List ℕ)) (old new : ScoreWriterState) (t : TakesEvent old.score (heads_at old.writer x read) x new) where
   pub steady_event : IsSteady old new
@@ -101,9 +99,10 @@ writes_all (x ∷ events) read old new all = writes_next x events read old all.0
 
 -- where the headers are not written at an event, and none come after it
 unheaded_later : (headed before heads later now : Bool) → now ≡ (headed || (heads && before)) → (headed || (heads || later)) ≡ false → (now || later) ≡ false
-unheaded_later false before false later now is h = ap (λ (b : Bool). b || later) is ∙ h
-unheaded_later false before true later now is h = absurd (cc h)
-unheaded_later true before heads later now is h = absurd (cc h)
+unheaded_later headed before heads later now is h =
+    let first = or_parts headed (heads || later) h in
+    let second = or_parts heads later first.1 in
+    rw (is, first.0, second.0, second.1) refl
 
 pub unheaded_all : (events : List HeadEvent) (old new : ScoreWriterState) → PassesAll old events new → headed_past old.writer.written.headed events ≡ false → new.writer.written.headed ≡ false
 unheaded_all [] old new all none = ap (λ (s : ScoreWriterState). s.writer.written.headed) (sym all) ∙ (sym (or-false old.writer.written.headed) ∙ none)

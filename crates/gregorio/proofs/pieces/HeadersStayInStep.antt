@@ -247,10 +247,8 @@ module _ (limits : Limits) (old new : ScoreWriterState) (b : HeadsYet limits old
   ends_with (reading t) (Ok x) all some =
       let next = t ++ x.c ∷ [] in
       record { text = t; last = x; was = refl; is = refl; end = ends_by t x (new_findings limits t next) (heads_of limits next) refl all some }
-  ends_with (reading t) (Err fault) all some = absurd (some refl)
   ends_with (after_headers book) (Ok x) all some = absurd (some refl)
-  ends_with (after_headers book) (Err fault) all some = absurd (some refl)
-  ends_with over item all some = absurd (some refl)
+  ends_with _ _ all some = absurd (some refl)
 
 -- if they are whole with an item
 abbrev pub HeadersEndSo : HeaderStageState → Result Char Fault → ScoreWriterState → Type 0

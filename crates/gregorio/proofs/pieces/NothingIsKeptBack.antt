@@ -125,10 +125,7 @@ no_fault w (End ∷ outputs) none end = absurd (cc end)
 no_end_in_both : (xs ys : List HeadEvent) → HasNoEnd xs → HasNoEnd ys → HasNoEnd (xs ++ ys)
 no_end_in_both [] ys h k = k
 no_end_in_both (head_event.End ∷ xs) ys h k = absurd h
-no_end_in_both (head_event.Found f ∷ xs) ys h k = no_end_in_both xs ys h k
-no_end_in_both (head_event.Stop fault ∷ xs) ys h k = no_end_in_both xs ys h k
-no_end_in_both (head_event.Body x ∷ xs) ys h k = no_end_in_both xs ys h k
-no_end_in_both (head_event.Heads lines macros canonical ∷ xs) ys h k = no_end_in_both xs ys h k
+no_end_in_both (_ ∷ xs) ys h k = no_end_in_both xs ys h k
 
 no_end_in_found : (fs : List Finding) → HasNoEnd (map (λ f. head_event.Found f) fs)
 no_end_in_found [] = tt
@@ -144,10 +141,8 @@ no_end_by found (Err stopped) = by stopped.at_end
 
 no_end_of_input : (limits : Limits) (progress : HeadProgress) (x : Result Char Fault) → HasNoEnd (events_of_input limits progress x)
 no_end_of_input limits (reading t) (Ok c) = no_end_by (new_findings limits t (t ++ c.c ∷ [])) (heads_of limits (t ++ c.c ∷ []))
-no_end_of_input limits (reading t) (Err fault) = tt
 no_end_of_input limits (after_headers book) (Ok c) = tt
-no_end_of_input limits (after_headers book) (Err fault) = tt
-no_end_of_input limits over x = tt
+no_end_of_input limits _ _ = tt
 
 no_end_left : (limits : Limits) (progress : HeadProgress) (items : List (Result Char Fault)) → HasNoEnd (concat_of (take (length items) (events_left limits progress items)))
 no_end_left limits progress [] = tt
@@ -161,10 +156,8 @@ EndsAtTheEnd = (s : ScoreStageState) (xs : List HeadEvent) → HasNoEnd xs → h
 
 first_has_end : (outputs rest : List ScoreOutput) → has_end (outputs ++ rest) ≡ (has_end outputs || has_end rest)
 first_has_end [] rest = refl
-first_has_end (Found f ∷ outputs) rest = first_has_end outputs rest
-first_has_end (Stop fault ∷ outputs) rest = first_has_end outputs rest
-first_has_end (Syllable s ∷ outputs) rest = first_has_end outputs rest
 first_has_end (End ∷ outputs) rest = refl
+first_has_end (_ ∷ outputs) rest = first_has_end outputs rest
 
 told : (w : Written) (book : List (List ℕ × List ℕ)) (from_heads : List HeadEvent) (lists : List (List ScoreOutput)) → has_end (concat_of lists) ≡ false → w.ended ≡ None
     → (streams_from w book from_heads lists).messages ≡ [] → (streams_from w book from_heads lists).status ≡ ReadFault

@@ -39,9 +39,8 @@ in_body (after_headers book) part headed is parts = record { after_them = tt; bo
 in_body over part headed is parts = absurd parts
 
 pub one_part : (progress : HeadProgress) (part : ScorePart) (headed : Bool) → headed ≡ true → IsAfterHeaders progress → part ≡ score_part.Body → AreInOnePart progress part headed
-one_part (reading t) part headed is past body = absurd past
 one_part (after_headers book) part headed is past body = record { in_part = body; written_so = is }
-one_part over part headed is past body = absurd past
+one_part _ part headed is past body = absurd past
 
 abbrev place_at : ℕ → ℕ → Place
 place_at line column = record { line = line; column = column }

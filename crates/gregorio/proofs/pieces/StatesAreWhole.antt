@@ -57,10 +57,8 @@ text_bytes (c ∷ t) text =
 
 -- a syllable that is held is whole
 held_is_whole : (part : ScorePart) (made : List UnplacedSyllable) → held_count (held_in_body part made) ≤ length made
-held_is_whole score_part.Body [] = omega arith
 held_is_whole score_part.Body (m ∷ ms) = omega arith
-held_is_whole score_part.Heads made = omega arith
-held_is_whole score_part.Over made = omega arith
+held_is_whole _ _ = omega arith
 
 -- so those before it and it are among the whole ones
 held_among_whole : (s : ScoreStageState) → s.before.syllables + held_count (held_of s) ≤ whole_syllables s

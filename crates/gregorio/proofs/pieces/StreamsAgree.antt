@@ -49,8 +49,7 @@ none_at_end limits (reading t) = by (heads_of limits t)
     by : (r : Result Heads HeadFault) → NoHeads (events_at_end r)
     by (Ok whole) = refl
     by (Err stopped) = refl
-none_at_end limits (after_headers book) = refl
-none_at_end limits over = refl
+none_at_end limits _ = refl
 
 -- ---- the book
 
@@ -65,8 +64,7 @@ any_hasher limits progress book hasher another (x ∷ items) =
 one_book : (limits : Limits) (hasher another : DefaultHasher) (progress : HeadProgress) (old other : List (List ℕ × List ℕ)) (items : List (Result Char Fault)) → IsAfterHeaders progress
     → (stage_past (record { limits = limits; progress = progress; book = book_at progress old; hasher = hasher }) items).book ≡ (stage_past (record { limits = limits; progress = progress; book = book_at progress other; hasher = another }) items).book
 one_book limits hasher another (after_headers book) old other items h = any_hasher limits (after_headers book) book hasher another items
-one_book limits hasher another (reading t) old other items h = absurd h
-one_book limits hasher another over old other items h = absurd h
+one_book limits hasher another _ old other items h = absurd h
 
 -- of two stages that differ in their books alone: both have one book after these, or no headers are whole among what they give
 abbrev OneBookOrNone : Limits → DefaultHasher → DefaultHasher → HeadProgress → List (List ℕ × List ℕ) → List (List ℕ × List ℕ) → List (Result Char Fault) → Type 0

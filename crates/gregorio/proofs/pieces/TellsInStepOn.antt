@@ -115,9 +115,7 @@ nothing_stays_telling h s = λ d e moves ran told running.
 
 front_opens_nothing : (next at : Place) (b : BodyPart) → is_in_front b ≡ true → AreOpenersBefore next (openers_of (moved_part at b))
 front_opens_nothing next at part.Comment front = record { notes = tt; inner = tt; in_order = tt }
-front_opens_nothing next at (part.Text stage) front = absurd (cc front)
-front_opens_nothing next at (part.Notes opened stage) front = absurd (cc front)
-front_opens_nothing next at (part.Nabc line opened stage) front = absurd (cc front)
+front_opens_nothing next at _ front = absurd (cc front)
 
 -- in front the next character may stand anywhere
 told_anywhere : (at : Place) (s : ScoreStageState) → is_in_front s.body.part ≡ true → IsPlace at → ReportsText s → ReportsText (moved_to at s)

@@ -86,48 +86,32 @@ module _ (m n : UnplacedSyllable) (alike : (position : Position) → IsWrittenAl
   same_output (Syllable s) (Syllable t) (inl h) = one_output (Syllable s) (Syllable t) (ap (λ x. Syllable x) h)
   same_output (Syllable s) (Syllable t) (inr h) = one_syllable s t (in_place s t h.0 h.1.0 h.1.1)
   same_output End End h = one_output End End refl
-  same_output (Found f) (Stop g) h = absurd h
-  same_output (Found f) (Syllable t) h = absurd h
-  same_output (Found f) End h = absurd h
-  same_output (Stop f) (Found g) h = absurd h
-  same_output (Stop f) (Syllable t) h = absurd h
-  same_output (Stop f) End h = absurd h
-  same_output (Syllable s) (Found g) h = absurd h
-  same_output (Syllable s) (Stop g) h = absurd h
-  same_output (Syllable s) End h = absurd h
-  same_output End (Found g) h = absurd h
-  same_output End (Stop g) h = absurd h
-  same_output End (Syllable t) h = absurd h
+  same_output _ _ h = absurd h
 
   same_outputs : (os ps : List ScoreOutput) → AreSameOutputs m n os ps → AreOneList os ps
   same_outputs [] [] h = none_more
   same_outputs (o ∷ os) (p ∷ ps) h = one_more o p os ps (same_output o p h.0) (same_outputs os ps h.1)
-  same_outputs [] (p ∷ ps) h = absurd h
-  same_outputs (o ∷ os) [] h = absurd h
+  same_outputs _ _ h = absurd h
 
   same_in_both : (os ps more others : List ScoreOutput) → AreSameOutputs m n os ps → AreSameOutputs m n more others → AreSameOutputs m n (os ++ more) (ps ++ others)
   same_in_both [] [] more others h k = k
   same_in_both (o ∷ os) (p ∷ ps) more others h k = (h.0, same_in_both os ps more others h.1 k)
-  same_in_both [] (p ∷ ps) more others h k = absurd h
-  same_in_both (o ∷ os) [] more others h k = absurd h
+  same_in_both _ _ more others h k = absurd h
 
   same_joined : (lists others : List (List ScoreOutput)) → AreSameLists m n lists others → AreSameOutputs m n (concat_of lists) (concat_of others)
   same_joined [] [] h = tt
   same_joined (os ∷ lists) (ps ∷ others) h = same_in_both os ps (concat_of lists) (concat_of others) h.0 (same_joined lists others h.1)
-  same_joined [] (ps ∷ others) h = absurd h
-  same_joined (os ∷ lists) [] h = absurd h
+  same_joined _ _ h = absurd h
 
   same_first : (lists others : List (List ScoreOutput)) → AreSameLists m n lists others → AreSameOutputs m n (first_list lists) (first_list others)
   same_first [] [] h = tt
   same_first (os ∷ lists) (ps ∷ others) h = h.0
-  same_first [] (ps ∷ others) h = absurd h
-  same_first (os ∷ lists) [] h = absurd h
+  same_first _ _ h = absurd h
 
   same_rest : (lists others : List (List ScoreOutput)) → AreSameLists m n lists others → AreSameLists m n (drop 1 lists) (drop 1 others)
   same_rest [] [] h = tt
   same_rest (os ∷ lists) (ps ∷ others) h = h.1
-  same_rest [] (ps ∷ others) h = absurd h
-  same_rest (os ∷ lists) [] h = absurd h
+  same_rest _ _ h = absurd h
 
   lists_are_written_alike : (w : Written) (book : List (List ℕ × List ℕ)) (from_heads : List HeadEvent) (lists others : List (List ScoreOutput)) → AreSameLists m n lists others
       → streams_from w book from_heads lists ≡ streams_from w book from_heads others
@@ -151,5 +135,4 @@ pub given_is_written_alike : (held other : Option UnplacedSyllable) → AreWritt
     (lists others : List (List ScoreOutput)) → GiveTheSame held other lists others → streams_from w book from_heads lists ≡ streams_from w book from_heads others
 given_is_written_alike (Some m) (Some n) alike w book from_heads lists others h = lists_are_written_alike m n alike w book from_heads lists others h
 given_is_written_alike None None alike w book from_heads lists others h = ap (streams_from w book from_heads) h
-given_is_written_alike (Some m) None alike w book from_heads lists others h = absurd alike
-given_is_written_alike None (Some n) alike w book from_heads lists others h = absurd alike
+given_is_written_alike _ _ alike w book from_heads lists others h = absurd alike

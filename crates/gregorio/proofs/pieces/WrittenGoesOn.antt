@@ -106,10 +106,7 @@ steady_past old new w outputs s e =
 -- where an event is not that of the headers, they are not written
 pub no_heads : (x : HeadEvent) → ((lines macros canonical : ℕ) → x ≡ head_event.Heads lines macros canonical → ⊥) → is_heads x ≡ false
 no_heads (head_event.Heads lines macros canonical) other = absurd (other lines macros canonical refl)
-no_heads (head_event.Found f) other = refl
-no_heads (head_event.Body x) other = refl
-no_heads (head_event.Stop fault) other = refl
-no_heads head_event.End other = refl
+no_heads _ other = refl
 
 pub not_written : (w : RunWriterState) (x : HeadEvent) (book : List (List ℕ × List ℕ)) → is_heads x ≡ false → heads_at w x book ≡ w
 not_written w x book none =
