@@ -1,6 +1,6 @@
 -- The line `%%` alone is whole headers: a fresh stage into which it is pushed stands after them.
-use Rattle.std.proofs.Common.{◌≡◌, ℕ, List, [], ◌∷◌, ◌++◌, Bool, true, false, cond, nat_lt, Some, None, Ok, refl, ap, sym, ◌∙◌, arith}
-use Rattle.std.proofs.lemmas.Bool.{false≢true, le-ltb}
+use Rattle.std.proofs.Common.{◌≡◌, ℕ, List, [], ◌∷◌, ◌++◌, Bool, false, cond, nat_lt, Some, None, Ok, refl, ap, ◌∙◌, arith}
+use Rattle.std.proofs.lemmas.Bool.{le-ltb}
 use Rattle.std.specs.declared.hash.DefaultHasher.{DefaultHasher}
 use Rattle.gabc_places.specs.Findings.{earliest}
 use Rattle.gabc_places.specs.declared.code.Code.TheVariants.{F2, F4, F7}

@@ -14,7 +14,7 @@ use Rattle.gabc_score.specs.declared.score_machine.ScorePart.TheVariants as scor
 use Rattle.gabc_score.specs.witness.ScoreStage.{ScoreStageState, left_of}
 use Rattle.gabc_score.specs.ScoreEvents.{ScoreOutput, Found, Stop, Syllable, End, is_last, syllables_in}
 use Rattle.gregorio_jobs.specs.declared.job.Format.{Format}
-use Rattle.gregorio_jobs.specs.declared.job.Format.TheVariants.{Gabc, Dump}
+use Rattle.gregorio_jobs.specs.declared.job.Format.TheVariants.{Dump}
 use Rattle.gabc_score.specs.ScoreStage.{Lends, is_final, most_borrowed, part_past}
 use Rattle.gregorio.specs.machine.RunWriter.{RunWriterState, IsInRoom, HasRoomFor, heads_room, line_room, lines_room, texts_room, syllable_len, syllable_room, room_without_notes, last_room}
 use Rattle.gregorio.specs.machine.ScoreWriter.{ScoreWriterState, FitsEvents, IsSteady, event_room, events_room, heads_left, needed_in}

@@ -5,7 +5,7 @@ use Rattle.gabc_headers.specs.declared.head_event.HeadEvent.{HeadEvent}
 use Rattle.gabc_score.specs.ScoreEvents.{ScoreOutput}
 use Rattle.gabc_score.specs.witness.ScoreStage.{left_of}
 use Rattle.gregorio.specs.declared.run_ending.RunEnding.{RunEnding}
-use Rattle.gregorio.specs.declared.run_ending.RunEnding.TheVariants.{Whole, Errors, Fatal, ReadFault}
+use Rattle.gregorio.specs.declared.run_ending.RunEnding.TheVariants.{Whole}
 use Rattle.gregorio.specs.declared.source_ending.SourceEnding.{SourceEnding}
 use Rattle.gregorio.specs.Engine.{EndsByInput}
 use Rattle.gregorio.specs.witness.Engine.{EngineState, Written, after_heads, after_outputs, book_after, ceased_ending, first_list, head_events_left, items_left, status_of_ending, streams_from, streams_left, writes_heads}

@@ -9,7 +9,7 @@ use Rattle.gabc_score.specs.declared.before.Preceding.{Preceding}
 use Rattle.gabc_score.specs.declared.score_machine.ScorePart.{ScorePart}
 use Rattle.gabc_score.specs.declared.score_machine.ScorePart.TheVariants as score_part
 use Rattle.gabc_score.specs.Before.{sounds, with_placed}
-use Rattle.gabc_score.specs.ScoreEvents.{ScoreOutput, Found, Stop, Syllable, End, syllables_in}
+use Rattle.gabc_score.specs.ScoreEvents.{ScoreOutput, Syllable, End, syllables_in}
 use Rattle.gabc_score.specs.ScoreStage.{part_past, preceding_past}
 use Rattle.gabc_score.specs.Syllable.{PlacedSyllable}
 use Rattle.gabc_score.specs.witness.ScoreStage.{ScoreStageState}

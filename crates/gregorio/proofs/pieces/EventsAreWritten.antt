@@ -1,5 +1,5 @@
 -- What follows for a writer that takes events one after the other.
-use Rattle.std.proofs.Common.{◌≡◌, ℕ, List, [], ◌∷◌, ◌++◌, length, drop, slice_index_or, ◌+◌, ◌<◌, Bool, true, false, ◌||◌, ◌&&◌, refl, ap, sym, subst, ◌∙◌, add-one, drop-cons}
+use Rattle.std.proofs.Common.{◌≡◌, ℕ, List, [], ◌∷◌, ◌++◌, length, drop, slice_index_or, ◌+◌, ◌<◌, Bool, false, ◌||◌, ◌&&◌, refl, ap, sym, subst, ◌∙◌, add-one, drop-cons}
 use Rattle.std.proofs.lemmas.Bool.{or_parts}
 use Rattle.std.proofs.Math.Bool.{or-false}
 use Rattle.gabc_headers.specs.declared.head_event.HeadEvent.{HeadEvent}

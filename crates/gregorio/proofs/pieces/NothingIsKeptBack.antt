@@ -14,7 +14,7 @@ use Rattle.gabc_headers.specs.declared.head_event.HeadEvent.{HeadEvent}
 use Rattle.gabc_headers.specs.declared.head_event.HeadEvent.TheVariants as head_event
 use Rattle.gabc_headers.specs.Heads.{heads_of}
 use Rattle.gabc_headers.specs.HeadEvents.{event_of_book}
-use Rattle.gabc_headers.specs.witness.HeadEvents.{HeadProgress, reading, after_headers, over, events_by, events_left, events_of_input, new_findings, progress_after}
+use Rattle.gabc_headers.specs.witness.HeadEvents.{HeadProgress, reading, after_headers, events_by, events_left, events_of_input, new_findings, progress_after}
 use Rattle.gabc_score.specs.ScoreEvents.{HasNoEnd, ScoreOutput, Found, Stop, Syllable, End, fault_in, has_end, syllables_in}
 use Rattle.gabc_score.specs.witness.ScoreStage.{ScoreStageState, left_of}
 use Rattle.gabc_places.specs.Message.{message_text}

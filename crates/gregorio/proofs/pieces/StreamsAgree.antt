@@ -13,7 +13,7 @@ use Rattle.gabc_headers.specs.declared.heads.HeadFault.{HeadFault}
 use Rattle.gabc_headers.specs.declared.head_event.HeadEvent.{HeadEvent}
 use Rattle.gabc_headers.specs.Heads.{heads_of}
 use Rattle.gabc_headers.specs.HeadEvents as heads
-use Rattle.gabc_headers.specs.witness.HeadEvents.{HeaderStageState, HeadProgress, reading, after_headers, over, IsAfterHeaders, book_at, events_at_end, events_left, events_of_end, events_of_input, progress_after, stage_past}
+use Rattle.gabc_headers.specs.witness.HeadEvents.{HeaderStageState, HeadProgress, reading, after_headers, IsAfterHeaders, book_at, events_at_end, events_left, events_of_end, events_of_input, progress_after, stage_past}
 use Rattle.gabc_score.specs.ScoreEvents.{ScoreOutput}
 use Rattle.gabc_score.specs.witness.ScoreStage.{left_of}
 use Rattle.gregorio.specs.declared.source_ending.SourceEnding.{SourceEnding}
