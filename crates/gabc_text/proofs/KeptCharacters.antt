@@ -18,9 +18,7 @@ use Rattle.gabc_text.proofs.events.EventsBuildText.{kept_whole}
 kept_append : (a b : List TextEvent) → kept_chars_in (a ++ b) ≡ kept_chars_in a ++ kept_chars_in b
 kept_append [] b = refl
 kept_append (out.Kept c ∷ a) b = ap (λ (v : List Char). c ∷ v) (kept_append a b)
-kept_append (out.Part p ∷ a) b = kept_append a b
-kept_append (out.Found f ∷ a) b = kept_append a b
-kept_append (out.Ended h ∷ a) b = kept_append a b
+kept_append (_ ∷ a) b = kept_append a b
 
 pub one_more : (events : List TextEvent) (i : ℕ) (was : List Char) (d : TextEvent) → i < length events → was ≡ kept_chars_in (take i events)
     → was ++ kept_chars_in (get_or events i d ∷ []) ≡ kept_chars_in (take (i + 1) events)
@@ -39,9 +37,7 @@ events_of at t s fresh_emits fits = ap (events_left s) (codes_placed at t) ∙ f
 codes_kept : (events : List TextEvent) → codes_of (kept_chars_in events) ≡ kept_in events
 codes_kept [] = refl
 codes_kept (out.Kept c ∷ os) = ap (λ (v : List ℕ). c.c ∷ v) (codes_kept os)
-codes_kept (out.Part p ∷ os) = codes_kept os
-codes_kept (out.Found f ∷ os) = codes_kept os
-codes_kept (out.Ended h ∷ os) = codes_kept os
+codes_kept (_ ∷ os) = codes_kept os
 
 pub kept_codes : (at : Place) (t : List ℕ) → codes_of (kept_chars_in (concat_of (events_by_point at t))) ≡ kept t
 kept_codes at t = codes_kept (concat_of (events_by_point at t)) ∙ ap kept_in (points_joined at t) ∙ kept_whole at t

@@ -172,10 +172,8 @@ finish_stops t next old new n = by t.ended
 
 cut_after : (a b : List TextEvent) → Endless a → cut_place (a ++ b) ≡ cut_place b
 cut_after [] b e = refl
-cut_after (out.Kept x ∷ a) b e = cut_after a b (record { none = e.none })
-cut_after (out.Part p ∷ a) b e = cut_after a b (record { none = e.none })
-cut_after (out.Found f ∷ a) b e = cut_after a b (record { none = e.none })
 cut_after (out.Ended h ∷ a) b e = absurd (let f = e.none in cc)
+cut_after (_ ∷ a) b e = cut_after a b (record { none = e.none })
 
 abbrev place_in : TextEnd → Option Place
 place_in (text_ending.Cut p) = Some p
@@ -189,8 +187,7 @@ end_cuts facts progress h =
   where
     go : (h : TextEnd) → cut_place (out.Ended h ∷ []) ≡ place_in h
     go text_ending.Notes = refl
-    go text_ending.Finished = refl
-    go (text_ending.Cut p) = refl
+    go _ = refl
 
 -- the place at which the text of a stage would be cut is that of its opener
 pub opener_told : (t : TextStage) → t.ended ≡ false → opener_of t ≡ opener_in t
@@ -211,9 +208,8 @@ opener_told t r =
     at_state state.Plain facts progress = end_cuts facts progress text_ending.Finished
     at_state state.Dollar facts progress = ended kind.Letter facts progress
     at_state state.Comment facts progress = ended kind.Comment facts progress
-    at_state (state.Tag name) facts progress = ended kind.OpenTag facts progress
-    at_state (state.Raw raw m) facts progress = ended kind.OpenTag facts progress
     at_state state.Translation facts progress = ended kind.OpenTranslation facts progress
+    at_state _ facts progress = ended kind.OpenTag facts progress
 
 -- ---- where a comment is open
 
@@ -231,11 +227,8 @@ running s facts progress = record { state = s; facts = facts; progress = progres
 -- at a `(` nothing is emitted in a comment, and elsewhere something is
 silent_at : (s : TokenState) (facts : TextFacts) (progress : Progress) → Decides (is_comment s) (events_of_push (running s facts progress) 40 ≡ [])
 silent_at state.Plain facts progress = (λ e. absurd (cc), λ e. absurd (none_last (events_of_end facts progress text_ending.Notes) (end_last facts progress text_ending.Notes) e))
-silent_at state.Dollar facts progress = (λ e. absurd (cc), λ e. absurd (cc))
 silent_at state.Comment facts progress = (λ e. refl, λ e. refl)
-silent_at (state.Tag name) facts progress = (λ e. absurd (cc), λ e. absurd (cc))
-silent_at (state.Raw raw m) facts progress = (λ e. absurd (cc), λ e. absurd (cc))
-silent_at state.Translation facts progress = (λ e. absurd (cc), λ e. absurd (cc))
+silent_at _ facts progress = (λ e. absurd (cc), λ e. absurd (cc))
 
 -- what is emitted first is not nothing
 sounds : (events : List TextEvent) (later : List (List TextEvent)) → (events ≡ [] → ⊥) → begins_silently (events ∷ later) ≡ false

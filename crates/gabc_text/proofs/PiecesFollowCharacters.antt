@@ -46,20 +46,13 @@ pub record Pays (before : ℕ) (events : List TextEvent) (after : ℕ) : Type 0 
 
 pieces_more : (xs ys : List TextEvent) → pieces_in (xs ++ ys) ≡ pieces_in xs + pieces_in ys
 pieces_more [] ys = omega arith
-pieces_more (out.Kept c ∷ xs) ys = pieces_more xs ys
 pieces_more (out.Part (part.Piece p) ∷ xs) ys = let e = pieces_more xs ys in omega (arith, e)
-pieces_more (out.Part part.WordStart ∷ xs) ys = pieces_more xs ys
-pieces_more (out.Part (part.Centre s) ∷ xs) ys = pieces_more xs ys
-pieces_more (out.Part (part.Translation s) ∷ xs) ys = pieces_more xs ys
-pieces_more (out.Found f ∷ xs) ys = pieces_more xs ys
-pieces_more (out.Ended h ∷ xs) ys = pieces_more xs ys
+pieces_more (_ ∷ xs) ys = pieces_more xs ys
 
 kept_more : (xs ys : List TextEvent) → length (kept_in (xs ++ ys)) ≡ length (kept_in xs) + length (kept_in ys)
 kept_more [] ys = omega arith
 kept_more (out.Kept c ∷ xs) ys = let e = kept_more xs ys in omega (arith, e)
-kept_more (out.Part p ∷ xs) ys = kept_more xs ys
-kept_more (out.Found f ∷ xs) ys = kept_more xs ys
-kept_more (out.Ended h ∷ xs) ys = kept_more xs ys
+kept_more (_ ∷ xs) ys = kept_more xs ys
 
 both : {a b c : ℕ} (xs ys : List TextEvent) → Pays a xs b → Pays b ys c → Pays a (xs ++ ys) c
 both xs ys h k = record { paid = rw (pieces_more xs ys, kept_more xs ys) (let p = h.paid in let q = k.paid in omega (arith, p, q)) }
@@ -107,9 +100,7 @@ piece_pays facts progress k last q space blank e =
 
 -- one that is none
 none_in : (b d : Bool) (s : Span) → pieces_in (map (λ (p : TextPart). out.Part p) (cond b (part.WordStart ∷ []) (cond d (part.Translation s ∷ []) []))) ≡ 0
-none_in true d s = refl
-none_in false true s = refl
-none_in false false s = refl
+none_in b d s = grind arith
 
 other_pays : (before after : ℕ) (facts : TextFacts) (progress : Progress) (k : TokenKind) (last to : ℕ) → after ≤ before
     → Pays before (map (λ (p : TextPart). out.Part p) (parts_by facts progress k last to None)) after
@@ -122,10 +113,7 @@ no_more false s b = omega arith
 
 blank_waits : (was : Option Piece) (p : Piece) (e : TagEffect) (w b s : Bool)
     → one_if (is_some (waiting_after p was (cond (true && (w && not b)) (Some piece.Blank) (piece_kind kind.Blank e)))) ≤ one_if (is_some was) + one_if (s && not b) + (0 + one_if (not s))
-blank_waits was p e true false true = omega arith
-blank_waits was p e true false false = omega arith
-blank_waits was p e true true s = omega arith
-blank_waits was p e false b s = omega arith
+blank_waits was p e h3 b s = grind arith
 
 module _ (t : TextStage) (e : TagEffect) (place : Place) (last : ℕ) where
   a_piece : (k : TokenKind) (q : PieceKind) → Pays (owed_between t + 1) (map (λ (p : TextPart). out.Part p) (parts_by t.facts t.progress k last t.progress.kept (Some q)) ++ findings_there t.progress.place (codes_by t.facts k e)) 0
@@ -173,17 +161,8 @@ module _ (facts : TextFacts) (c : ℕ) where
       spaces false = omega arith
 
       by : (k : TokenKind) → price facts k tag.Other ≤ 0 + one_if (is_some {T = ℕ} (kept_as (false || leaves_out facts k) facts.space k None (Some 32) (Some c)))
-      by kind.Letter = omega arith
       by kind.Blank = spaces facts.space
-      by kind.Comment = omega arith
-      by kind.Stray = omega arith
-      by kind.Begin = omega arith
-      by kind.End = omega arith
-      by kind.Tag = omega arith
-      by kind.Raw = omega arith
-      by kind.Translation = omega arith
-      by kind.OpenTag = omega arith
-      by kind.OpenTranslation = omega arith
+      by _ = omega arith
 
   first_pays : StepPays facts token_state.Plain c (first_step c)
   first_pays = dollar (c == 36) refl
@@ -206,10 +185,7 @@ module _ (facts : TextFacts) (c : ℕ) where
 
   tag_pays : (name : List ℕ) (e : TagEffect) → StepPays facts (token_state.Tag name) c (step_at_tag_end e)
   tag_pays name (tag.Opens s) = omega arith
-  tag_pays name (tag.Closes s) = omega arith
-  tag_pays name tag.Mark = omega arith
-  tag_pays name (tag.Begins r) = omega arith
-  tag_pays name tag.Other = omega arith
+  tag_pays name _ = omega arith
 
   raw_pays : (raw : RawKind) (m : ℕ) (a b d f : Bool) → StepPays facts (token_state.Raw raw m) c
       (cond a (cond b (Ends kind.Raw tag.Other) (cond d (Stays (token_state.Raw raw (m + 1))) (Stays (token_state.Raw raw 0)))) (cond f (Stays (token_state.Raw raw 1)) (Stays (token_state.Raw raw 0))))
@@ -265,16 +241,11 @@ settled_is_paid token_state.Comment c = by (c == 10)
     by true = λ facts. omega arith
     by false = tt
 settled_is_paid (token_state.Tag name) c = tt
-settled_is_paid (token_state.Raw raw m) c = tt
-settled_is_paid token_state.Translation c = tt
+settled_is_paid _ c = tt
 
 end_is_paid : (m : TokenState) → IsPaid m (kind_at_end m)
 end_is_paid token_state.Plain = tt
-end_is_paid token_state.Dollar = λ facts. omega arith
-end_is_paid token_state.Comment = λ facts. omega arith
-end_is_paid (token_state.Tag name) = λ facts. omega arith
-end_is_paid (token_state.Raw raw m) = λ facts. omega arith
-end_is_paid token_state.Translation = λ facts. omega arith
+end_is_paid _ = λ facts. omega arith
 
 settle_pays : (t : TextStage) (o : Option TokenKind) → IsPaid t.state o → Pays (pieces_owed t) (events_of_settling_by t o) (pieces_owed (settle_stage_by t o))
 settle_pays t None h = record { paid = omega arith }

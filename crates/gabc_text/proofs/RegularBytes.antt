@@ -67,10 +67,7 @@ ascii_spelled (b ∷ t) h =
 
 no_blank_kind : (k : PieceKind) (t : List ℕ) → ((w b : Bool) → Says k t w b) → is_blank_piece k ≡ false
 no_blank_kind piece.Blank t h = absurd (true≢false (h true true).2)
-no_blank_kind piece.Char t h = refl
-no_blank_kind piece.Raw t h = refl
-no_blank_kind piece.Tag t h = refl
-no_blank_kind piece.Mark t h = refl
+no_blank_kind _ t h = refl
 
 abbrev plain_piece : (bytes : List ℕ) → IsWord bytes → PieceFacts
 plain_piece bytes p = record { kind = p.kind; styles = []; text = p.text }
@@ -87,10 +84,7 @@ blank_good = record { test = λ s. false; styles_are = refl; stable = λ u. refl
 -- a word is no mark
 no_mark_in : (k : PieceKind) → is_word_kind (Some k) ≡ true → is_mark k ≡ false
 no_mark_in piece.Mark e = absurd (true≢false (sym e))
-no_mark_in piece.Char e = refl
-no_mark_in piece.Blank e = refl
-no_mark_in piece.Raw e = refl
-no_mark_in piece.Tag e = refl
+no_mark_in _ e = refl
 
 no_mark_with : (bytes : List ℕ) (p : IsWord bytes) → tags_among (plain_piece bytes p ∷ []) ≡ []
 no_mark_with bytes p = rw (no_mark_in p.kind p.word) refl

@@ -28,12 +28,7 @@ use Rattle.gabc_text.proofs.printing.PrintedPiecesAreJoined.{in_styles, good_in,
 -- a style is the one that is kept of all
 listed_alone : (s : Style) → s ∷ [] ≡ filter (is_same s) all_styles
 listed_alone B = refl
-listed_alone C = refl
-listed_alone E = refl
-listed_alone I = refl
-listed_alone Sc = refl
-listed_alone Tt = refl
-listed_alone Ul = refl
+listed_alone _ = refl
 
 -- a style that is not the last one
 pub apart_style : (last : Option Style) (s : Style) → is_style last s ≡ false → AreApart (in_style last) (s ∷ [])
@@ -71,12 +66,7 @@ plain_part bs r some = part_of None (λ s. false) bs bs r some refl (subst (λ (
 -- tags are of ASCII
 name_low : (s : Style) → list_all is_low (name_of s) ≡ true
 name_low B = refl
-name_low C = refl
-name_low E = refl
-name_low I = refl
-name_low Sc = refl
-name_low Tt = refl
-name_low Ul = refl
+name_low _ = refl
 
 opening_spelled : (s : Style) → IsSpelled (spelling (opening_tag s)) (spelling (opening_tag s))
 opening_spelled s = ascii_spelled (spelling (opening_tag s)) (name_low s)

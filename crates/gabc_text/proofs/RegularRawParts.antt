@@ -73,8 +73,7 @@ raw_spelled Alt bytes inner s = bracketed_spelled (codes "<alt>") (codes "</alt>
 begins_so : (raw : RawKind) → beginning_of raw ≡ 60 ∷ raw_name raw
 unfolding raw_name
 begins_so V = refl
-begins_so Sp = refl
-begins_so Alt = refl
+begins_so _ = refl
 
 pub raw_word : (raw : RawKind) (a b bytes : List ℕ) → a ≡ beginning_of raw → b ≡ ending_of raw → IsBracketed a 60 b bytes → IsWord bytes
 raw_word raw a b bytes e f x =
@@ -116,9 +115,7 @@ mark_begun ClosesNlba = begun_by ClosesNlba refl refl (λ u. refl) (refl, refl, 
 -- a mark that bytes begin with
 pub marked : (x : SpanMark) (l : List ℕ) → mark_at (tag_of x ++ l) ≡ Some x
 marked OpensEu l = refl
-marked ClosesEu l = refl
-marked OpensNlba l = refl
-marked ClosesNlba l = refl
+marked _ l = refl
 
 starts_so : (x : SpanMark) (l : List ℕ) → begins_with x l ≡ true → l ≡ tag_of x ++ drop (length (tag_of x)) l
 starts_so x l e = (starts_is Decides-eqb l (tag_of x) (begins_with x l) refl).0 e
@@ -164,9 +161,7 @@ before_bracket (t ∷ tag) (c ∷ text) rest more h e =
 
 no_bracket : (x : SpanMark) → list_all (λ c. not (c == 40)) (tag_of x) ≡ true
 no_bracket OpensEu = refl
-no_bracket ClosesEu = refl
-no_bracket OpensNlba = refl
-no_bracket ClosesNlba = refl
+no_bracket _ = refl
 
 pub mark_before_notes : (t rest : List ℕ) → mark_at (t ++ 40 ∷ rest) ≡ mark_at t
 mark_before_notes t rest = by (mark_at t) (mark_at (t ++ 40 ∷ rest)) refl refl

@@ -120,9 +120,7 @@ module _ (before : List Token) (k : Token) where
   parts_give kind.Raw s = with_piece (piece_at before k piece.Raw) (waiting_blank before)
   parts_give kind.Tag Mark = with_piece (piece_at before k piece.Mark) (waiting_blank before)
   parts_give kind.Tag Other = with_piece (piece_at before k piece.Tag) (waiting_blank before)
-  parts_give kind.Tag (Opens r) = refl
-  parts_give kind.Tag (Closes r) = refl
-  parts_give kind.Tag (Begins r) = refl
+  parts_give kind.Tag _ = refl
   parts_give kind.Blank s = by (has_word before) (starts_word before)
     where
       by : (a b : Bool) → parts_after (record { word_start = b; pieces = events_pieces before; centre = None; translation = translation_of before }) (cond (not a && not b) (part.WordStart ∷ []) [])
@@ -181,20 +179,15 @@ piece_is kind.Letter s q e = let f : piece.Char ≡ q = cc in ap is_blank_piece 
 piece_is kind.Raw s q e = let f : piece.Raw ≡ q = cc in ap is_blank_piece (sym f)
 piece_is kind.Tag Mark q e = let f : piece.Mark ≡ q = cc in ap is_blank_piece (sym f)
 piece_is kind.Tag Other q e = let f : piece.Tag ≡ q = cc in ap is_blank_piece (sym f)
-piece_is kind.Tag (Opens r) q e = absurd (cc)
-piece_is kind.Tag (Closes r) q e = absurd (cc)
-piece_is kind.Tag (Begins r) q e = absurd (cc)
 piece_is _ s q e = absurd (cc)
 
 last_drops : (xs : List Piece) (p : Piece) → is_blank_piece p.kind ≡ true → but_last_blank (xs ++ p ∷ []) ≡ xs
-last_drops [] p e = rw e refl
-last_drops (x ∷ []) p e = rw e refl
 last_drops (x ∷ y ∷ xs) p e = ap (λ (ps : List Piece). x ∷ ps) (last_drops (y ∷ xs) p e)
+last_drops _ p e = rw e refl
 
 last_stays : (xs : List Piece) (p : Piece) → is_blank_piece p.kind ≡ false → but_last_blank (xs ++ p ∷ []) ≡ xs ++ p ∷ []
-last_stays [] p e = rw e refl
-last_stays (x ∷ []) p e = rw e refl
 last_stays (x ∷ y ∷ xs) p e = ap (λ (ps : List Piece). x ∷ ps) (last_stays (y ∷ xs) p e)
+last_stays _ p e = rw e refl
 
 events_stays : (before : List Token) → but_last_blank (events_pieces before) ≡ events_pieces before
 events_stays [] = refl
@@ -226,10 +219,7 @@ all_so [] = refl
 all_so (k ∷ before) = by (kind_of k) (is_space k.kind && (has_word before && not (follows_blank before))) refl (all_so before)
   where
     none : (a b c : Bool) → (a && (b && not c)) ≡ true → c ≡ false
-    none true true false e = refl
-    none true true true e = absurd (cc)
-    none true false c e = absurd (cc)
-    none false b c e = absurd (cc)
+    none a b c e = grind arith
 
     by : (o : Option PieceKind) (b : Bool) → (is_space k.kind && (has_word before && not (follows_blank before))) ≡ b → so_far all_pieces_at before ≡ events_pieces before ++ option_list_of (waiting_blank before)
         → so_far all_pieces_at before ++ all_pieces_by before k o ≡ emitted_by before k o (events_pieces before) ++ option_list_of (waiting_by before k o (waiting_blank before))
@@ -326,9 +316,7 @@ module _ (at : Place) (t : List ℕ) where
 pub kept_more : (xs ys : List TextEvent) → kept_in (xs ++ ys) ≡ kept_in xs ++ kept_in ys
 kept_more [] ys = refl
 kept_more (out.Kept c ∷ xs) ys = ap (λ (x : List ℕ). c.c ∷ x) (kept_more xs ys)
-kept_more (out.Part p ∷ xs) ys = kept_more xs ys
-kept_more (out.Found f ∷ xs) ys = kept_more xs ys
-kept_more (out.Ended e ∷ xs) ys = kept_more xs ys
+kept_more (_ ∷ xs) ys = kept_more xs ys
 
 pub none_kept : {X : Type 0} (f : X → TextEvent) → ((x : X) → kept_in (f x ∷ []) ≡ []) → (xs : List X) → kept_in (map f xs) ≡ []
 none_kept f h [] = refl

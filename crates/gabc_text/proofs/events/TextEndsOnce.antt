@@ -24,10 +24,8 @@ use Rattle.gabc_text.proofs.order.FindingsLieWithin.{many_lists, events_parted}
 
 ends_more : (xs ys : List TextEvent) → ends_in (xs ++ ys) ≡ ends_in xs ++ ends_in ys
 ends_more [] ys = refl
-ends_more (out.Kept c ∷ xs) ys = ends_more xs ys
-ends_more (out.Part p ∷ xs) ys = ends_more xs ys
-ends_more (out.Found f ∷ xs) ys = ends_more xs ys
 ends_more (out.Ended e ∷ xs) ys = ap (λ (x : List TextEnd). e ∷ x) (ends_more xs ys)
+ends_more (_ ∷ xs) ys = ends_more xs ys
 
 -- no end stands in either
 neither : (xs ys : List TextEvent) → ends_in xs ≡ [] → ends_in ys ≡ [] → ends_in (xs ++ ys) ≡ []

@@ -102,8 +102,7 @@ module _ (read : List ℕ) (s : TextStage) where
       by true d g = let same : kind.Comment ≡ d = cc in subst (Closing Comment more k) same (closing_comment more k)
       by false d g = absurd (cc)
   settle_closing (Tag name) held more c k h e f = absurd (cc)
-  settle_closing (Raw raw m) held more c k h e f = absurd (cc)
-  settle_closing Translation held more c k h e f = absurd (cc)
+  settle_closing _ held more c k h e f = absurd (cc)
 
   end_closing : (state : TokenState) (held more : List ℕ) (k : Token) (d : TokenKind) → Holds state held → kind_at_end state ≡ Some d → spelling k ≡ held → Closing state more k d
   end_closing Plain held more k d h e f = absurd (cc)

@@ -23,19 +23,11 @@ use Rattle.gabc_text.proofs.machine.EventsFromAnyState.{emitted_in, stage_in, ru
 
 kept_none : (state : TokenState) → kept_held state [] ≡ []
 kept_none Plain = refl
-kept_none Dollar = refl
-kept_none Comment = refl
-kept_none (Tag name) = refl
-kept_none (Raw raw m) = refl
-kept_none Translation = refl
+kept_none _ = refl
 
 events_none : (read : List ℕ) (s : TextStage) (state : TokenState) → emitted_in read s state [] ≡ []
 events_none read s Plain = refl
-events_none read s Dollar = refl
-events_none read s Comment = refl
-events_none read s (Tag name) = refl
-events_none read s (Raw raw m) = refl
-events_none read s Translation = refl
+events_none read s _ = refl
 
 -- what a stage that goes on gives
 goes_on : (state : TokenState) (facts : TextFacts) (progress : Progress) (t : List ℕ)

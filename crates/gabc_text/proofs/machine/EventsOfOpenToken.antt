@@ -54,10 +54,7 @@ either_emitted a false x y f g = g
 
 tag_emitted : (s : TagEffect) → SameEmitted false (step_at_tag_end s)
 tag_emitted (Begins raw) = refl
-tag_emitted (Opens r) = refl
-tag_emitted (Closes r) = refl
-tag_emitted Mark = refl
-tag_emitted Other = refl
+tag_emitted _ = refl
 
 pub events_goes : (state : TokenState) (c : ℕ) → is_plain state ≡ false → SameEmitted (in_translation state) (next_step state c)
 events_goes Plain c e = absurd (cc)
@@ -220,11 +217,7 @@ module _ (read : List ℕ) (facts : TextFacts) (place next : Place) where
       by m (x ∷ r) more e h = ap (λ (l : List (List TextEvent)). l ++ ks ∷ []) (none_first (each_held m more)) ∙ sym (none_first (each_held m more ++ ks ∷ []))
       by m [] [] e h = let (x, s, f) = held_some m [] h e in absurd (cc)
       by Plain [] (x ∷ more) e h = absurd (cc)
-      by Dollar [] (x ∷ more) e h = refl
-      by Comment [] (x ∷ more) e h = refl
-      by (Tag name) [] (x ∷ more) e h = refl
-      by (Raw raw m) [] (x ∷ more) e h = refl
-      by Translation [] (x ∷ more) e h = refl
+      by _ [] (x ∷ more) e h = refl
 
 module _ (facts : TextFacts) (place next : Place) where
   abbrev ListsBegins : ℕ → Type 0

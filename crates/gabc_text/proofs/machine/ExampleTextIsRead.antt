@@ -32,8 +32,7 @@ within_ending raw m = min m (length (ending_of raw) - 1)
 
 within_is_below : (raw : RawKind) (m : ℕ) → within_ending raw m < length (ending_of raw)
 within_is_below V m = omega arith
-within_is_below Sp m = omega arith
-within_is_below Alt m = omega arith
+within_is_below _ m = omega arith
 
 holds_raw : (raw : RawKind) (m : ℕ) → InRaw raw (within_ending raw m) (stands_for (Raw raw m))
 holds_raw raw m = by raw
@@ -61,12 +60,11 @@ least (Raw raw m) = Raw raw (within_ending raw m)
 least state = state
 
 pub holds_least : (state : TokenState) → Holds (least state) (stands_for state)
-holds_least Plain = refl
-holds_least Dollar = refl
 holds_least Comment = record { s = []; held_is = refl; open_still = refl }
 holds_least (Tag name) = record { s = name_so_far name; held_is = refl; open_still = name_lacks name; named = is_name name }
 holds_least (Raw raw m) = holds_raw raw m
 holds_least Translation = record { s = []; held_is = refl; open_still = refl }
+holds_least _ = refl
 
 -- past its ending a raw part waits for its last character
 wanted_last : (raw : RawKind) (m : ℕ) → length (ending_of raw) - 1 ≤ m → wanted_char raw m ≡ 62
@@ -118,8 +116,4 @@ module _ (facts : TextFacts) (progress : Progress) (raw : RawKind) (m n : ℕ) (
 pub least_emitted : (state : TokenState) (facts : TextFacts) (progress : Progress) (t : List ℕ)
     → (stepwise (staged state facts progress) t ≡ stepwise (staged (least state) facts progress) t) × (stepwise_left (staged state facts progress) t ≡ stepwise_left (staged (least state) facts progress) t)
 least_emitted (Raw raw m) facts progress t = same_emitted facts progress raw m (within_ending raw m) (raw_same raw m) t
-least_emitted Plain facts progress t = (refl, refl)
-least_emitted Dollar facts progress t = (refl, refl)
-least_emitted Comment facts progress t = (refl, refl)
-least_emitted (Tag name) facts progress t = (refl, refl)
-least_emitted Translation facts progress t = (refl, refl)
+least_emitted _ facts progress t = (refl, refl)

@@ -27,12 +27,7 @@ facts_of before = record {
 
 pub has_of : (before : List Token) (s : Style) → has_style (styles_of before) s ≡ is_open s before
 has_of before B = refl
-has_of before C = refl
-has_of before E = refl
-has_of before I = refl
-has_of before Sc = refl
-has_of before Tt = refl
-has_of before Ul = refl
+has_of before _ = refl
 
 -- what is seen after a token of this kind and sort
 abbrev grown : List Token → TokenKind → TagEffect → TextFacts
@@ -57,35 +52,12 @@ grown before k s = record {
 
 after_a_tag : (before : List Token) (s : TagEffect) → after_tag (facts_of before) s ≡ grown before Tag s
 after_a_tag before (Opens B) = refl
-after_a_tag before (Opens C) = refl
-after_a_tag before (Opens E) = refl
-after_a_tag before (Opens I) = refl
-after_a_tag before (Opens Sc) = refl
-after_a_tag before (Opens Tt) = refl
-after_a_tag before (Opens Ul) = refl
 after_a_tag before (Closes B) = refl
-after_a_tag before (Closes C) = refl
-after_a_tag before (Closes E) = refl
-after_a_tag before (Closes I) = refl
-after_a_tag before (Closes Sc) = refl
-after_a_tag before (Closes Tt) = refl
-after_a_tag before (Closes Ul) = refl
-after_a_tag before Mark = refl
-after_a_tag before (Begins r) = refl
-after_a_tag before Other = refl
+after_a_tag before _ = refl
 
 after_kind : (before : List Token) (k : TokenKind) (t : List ℕ) → facts_after (facts_of before) k (effect_as k t) ≡ grown before k (effect_as k t)
-after_kind before Letter t = refl
-after_kind before Blank t = refl
-after_kind before Comment t = refl
-after_kind before Stray t = refl
-after_kind before Begin t = refl
-after_kind before End t = refl
 after_kind before Tag t = after_a_tag before (effect_of t)
-after_kind before Raw t = refl
-after_kind before Translation t = refl
-after_kind before OpenTag t = refl
-after_kind before OpenTranslation t = refl
+after_kind before _ t = refl
 
 -- one token more
 pub facts_more : (before : List Token) (k : Token) → facts_after (facts_of before) k.kind (effect k) ≡ facts_of (k ∷ before)

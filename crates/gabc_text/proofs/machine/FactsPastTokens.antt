@@ -46,35 +46,12 @@ module _ (facts : TextFacts) (before : List Token) where
 
   after_a_tag : (s : TagEffect) → after_tag (facts_past facts before) s ≡ grown kind.Tag s
   after_a_tag (Opens B) = refl
-  after_a_tag (Opens C) = refl
-  after_a_tag (Opens E) = refl
-  after_a_tag (Opens I) = refl
-  after_a_tag (Opens Sc) = refl
-  after_a_tag (Opens Tt) = refl
-  after_a_tag (Opens Ul) = refl
   after_a_tag (Closes B) = refl
-  after_a_tag (Closes C) = refl
-  after_a_tag (Closes E) = refl
-  after_a_tag (Closes I) = refl
-  after_a_tag (Closes Sc) = refl
-  after_a_tag (Closes Tt) = refl
-  after_a_tag (Closes Ul) = refl
-  after_a_tag Mark = refl
-  after_a_tag (Begins r) = refl
-  after_a_tag Other = refl
+  after_a_tag _ = refl
 
   after_kind : (k : TokenKind) (t : List ℕ) → facts_after (facts_past facts before) k (effect_as k t) ≡ grown k (effect_as k t)
-  after_kind kind.Letter t = refl
-  after_kind kind.Blank t = refl
-  after_kind kind.Comment t = refl
-  after_kind kind.Stray t = refl
-  after_kind kind.Begin t = refl
-  after_kind kind.End t = refl
   after_kind kind.Tag t = after_a_tag (effect_of t)
-  after_kind kind.Raw t = refl
-  after_kind kind.Translation t = refl
-  after_kind kind.OpenTag t = refl
-  after_kind kind.OpenTranslation t = refl
+  after_kind _ t = refl
 
 -- one token more
 pub facts_step : (facts : TextFacts) (before : List Token) (k : Token) → facts_past facts (k ∷ before) ≡ facts_after (facts_past facts before) k.kind (effect k)

@@ -155,16 +155,11 @@ module _ (at : Place) (full : List ℕ) (fits : CountsFit at full) where
       by : (o : Option PieceKind) → parts_by (facts_of before) (here before) k.kind (last_at before k) (bytes_of (kept_of (k ∷ before))) o ≡ Outs.parts_by before k o
       by None = rw start refl
       by (Some piece.Char) = refl
-      by (Some piece.Raw) = refl
-      by (Some piece.Tag) = refl
-      by (Some piece.Mark) = refl
-      by (Some piece.Blank) = refl
+      by _ = refl
 
   codes_fresh : (before : List Token) (d : TokenKind) (so : TagEffect) → codes_by (facts_of before) d so ≡ late_codes before d so
   codes_fresh before kind.Tag (Opens r) = rw (has_of before r) refl
   codes_fresh before kind.Tag (Closes r) = rw (has_of before r) refl
-  codes_fresh before kind.Tag Other = refl
-  codes_fresh before kind.Tag _ = refl
   codes_fresh before _ so = refl
 
   kept_after_fresh : (before : List Token) (k : Token) (y : List ℕ) → After before (spelling k ++ y) → kept_after (facts_of before) (here before) k.kind (spelling k) ≡ bytes_of (kept_of (k ∷ before))
@@ -222,11 +217,7 @@ module _ (at : Place) (full : List ℕ) (fits : CountsFit at full) where
   findings_fresh before = by (is_cut before) (list_any (λ r. is_open r before) all_styles) (has_begin before && not (has_end before))
     where
       by : (u x y : Bool) → findings_there (place_of at before) (cond u [] (cond x (W3 ∷ []) [] ++ cond y (W4 ∷ []) [])) ≡ map out.Found (cond u [] (map (found_at (place_of at before)) (cond x (W3 ∷ []) [] ++ cond y (W4 ∷ []) [])))
-      by true x y = refl
-      by false true true = refl
-      by false true false = refl
-      by false false true = refl
-      by false false false = refl
+      by u x y = grind arith
 
   end_fresh : (before : List Token) (rest : List ℕ) → After before rest → lists_last [] (fresh_stage at) before rest ≡ lists_end at before rest
   end_fresh before rest e =

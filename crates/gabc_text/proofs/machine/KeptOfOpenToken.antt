@@ -33,8 +33,7 @@ sort_settled Comment c k e = by (c == 10) k.kind e
     by true d g = let same : kind.Comment ≡ d = cc in subst (λ (x : TokenKind). effect_as x (spelling k) ≡ Other) same refl
     by false d g = absurd (cc)
 sort_settled (Tag name) c k e = absurd (cc)
-sort_settled (Raw raw m) c k e = absurd (cc)
-sort_settled Translation c k e = absurd (cc)
+sort_settled _ c k e = absurd (cc)
 
 pub settled_uncut : (state : TokenState) (c : ℕ) (k : TokenKind) → settled_kind state c ≡ Some k → is_open_kind k ≡ false
 settled_uncut Plain c k e = absurd (cc)
@@ -49,8 +48,7 @@ settled_uncut Comment c k e = by (c == 10) e
     by true g = let same : kind.Comment ≡ k = cc in subst (λ (x : TokenKind). is_open_kind x ≡ false) same refl
     by false g = absurd (cc)
 settled_uncut (Tag name) c k e = absurd (cc)
-settled_uncut (Raw raw m) c k e = absurd (cc)
-settled_uncut Translation c k e = absurd (cc)
+settled_uncut _ c k e = absurd (cc)
 
 -- all of it is kept
 abbrev pub is_kept_whole : TokenKind → Bool
@@ -81,10 +79,7 @@ either_kept false x y f g = g
 
 tag_kept : (s : TagEffect) → IsKept (step_at_tag_end s)
 tag_kept (Begins raw) = refl
-tag_kept (Opens r) = refl
-tag_kept (Closes r) = refl
-tag_kept Mark = refl
-tag_kept Other = refl
+tag_kept _ = refl
 
 pub within_kept : (state : TokenState) (c : ℕ) → is_within state ≡ true → IsKept (next_step state c)
 within_kept Plain c e = absurd (cc)

@@ -45,9 +45,6 @@ module _ (at : Place) (before : List Token) (k : Token) (p : Place) (small : cou
   pieces_emitted kind.Raw s = up_is (count_pieces before) 1 small
   pieces_emitted kind.Tag Mark = up_is (count_pieces before) 1 small
   pieces_emitted kind.Tag Other = up_is (count_pieces before) 1 small
-  pieces_emitted kind.Tag (Opens r) = omega arith
-  pieces_emitted kind.Tag (Closes r) = omega arith
-  pieces_emitted kind.Tag (Begins r) = omega arith
   pieces_emitted kind.Blank s = by (has_word before && not (follows_blank before))
     where
       by : (b : Bool) → count_after (count_pieces before) (cond b (Some piece.Blank) None) ≡ count_pieces before + length {A = PieceFacts} (cond b (record { kind = piece.Blank; styles = open_styles before; text = [] } ∷ []) [])
@@ -60,13 +57,7 @@ module _ (at : Place) (before : List Token) (k : Token) (p : Place) (small : cou
   waiting_here d None was = cond (is_blank_at before d) (Some (piece_at before k piece.Blank)) was
 
   blank_emitted : (d : TokenKind) (s : TagEffect) → waiting_after (piece_there (facts_of before) spot_there piece.Blank spot_there.start spot_there.kept) (waiting_blank before) (piece_by (facts_of before) d s) ≡ waiting_here d (piece_kind d s) (waiting_blank before)
-  blank_emitted kind.Letter s = refl
-  blank_emitted kind.Raw s = refl
   blank_emitted kind.Tag Mark = refl
-  blank_emitted kind.Tag Other = refl
-  blank_emitted kind.Tag (Opens r) = refl
-  blank_emitted kind.Tag (Closes r) = refl
-  blank_emitted kind.Tag (Begins r) = refl
   blank_emitted kind.Blank s = by (has_word before && not (follows_blank before))
     where
       by : (b : Bool) → waiting_after (piece_there (facts_of before) spot_there piece.Blank spot_there.start spot_there.kept) (waiting_blank before) (cond b (Some piece.Blank) None) ≡ cond b (Some (piece_at before k piece.Blank)) (waiting_blank before)

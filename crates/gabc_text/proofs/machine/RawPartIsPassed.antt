@@ -27,8 +27,7 @@ PassesOver s c = (push_stage s c ≡ record s { progress = progress_past s.progr
 
 pass_at : (raw : RawKind) (facts : TextFacts) (progress : Progress) (c : ℕ) → c == 60 ≡ false → PassesOver (record { state = Raw raw 0; facts = facts; progress = progress; ended = false }) c
 pass_at V facts progress c e = (rw (and-false (c == 40), e) refl, rw (and-false (c == 40), e) refl)
-pass_at Sp facts progress c e = (rw (and-false (c == 40), e) refl, rw (and-false (c == 40), e) refl)
-pass_at Alt facts progress c e = (rw (and-false (c == 40), e) refl, rw (and-false (c == 40), e) refl)
+pass_at _ facts progress c e = (rw (and-false (c == 40), e) refl, rw (and-false (c == 40), e) refl)
 
 pub passes : (s : TextStage) (c : ℕ) → is_in_raw s ≡ true → c == 60 ≡ false → PassesOver s c
 passes s c h e = by s.state s.ended h

@@ -154,11 +154,8 @@ is_no_raw (Begins raw) = ⊥
 is_no_raw s = Unit {0}
 
 plain_tag : (name t : List ℕ) (s : TagEffect) → is_no_raw s → token_of_tag name t s ≡ record { kind = kind.Tag; first = 60; more = name }
-plain_tag name t (Opens r) n = refl
-plain_tag name t (Closes r) n = refl
-plain_tag name t Mark n = refl
 plain_tag name t (Begins raw) n = absurd n
-plain_tag name t Other n = refl
+plain_tag name t _ n = refl
 
 tag_token : (s t : List ℕ) → lacks 62 s ≡ true → token_at 60 (s ++ 62 ∷ t) ≡ token_of_tag (s ++ 62 ∷ []) t (effect_of (60 ∷ s ++ 62 ∷ []))
 tag_token s t h =
@@ -180,8 +177,7 @@ tag_completes name held so h e n =
 
 some_ending : (r : RawKind) → 0 < length (ending_of r)
 some_ending V = omega arith
-some_ending Sp = omega arith
-some_ending Alt = omega arith
+some_ending _ = omega arith
 
 tag_goes : (name held : List ℕ) (so : TagEffect) → InTag name held → effect_of (60 ∷ name ++ 62 ∷ []) ≡ so → WentBy (step_at_tag_end so) held 62
 tag_goes name held (Begins raw) h e = record {
@@ -286,8 +282,7 @@ raw_more raw m n held c h b g = record {
 
 some_way : (raw : RawKind) → (1 < length (ending_of raw)) × (take 1 (ending_of raw) ≡ 60 ∷ [])
 some_way V = (omega arith, refl)
-some_way Sp = (omega arith, refl)
-some_way Alt = (omega arith, refl)
+some_way _ = (omega arith, refl)
 
 raw_goes : (raw : RawKind) (m : ℕ) (held : List ℕ) (c : ℕ) → InRaw raw m held → WentBy (step_in_raw raw m c) held c
 raw_goes raw m held c h =
@@ -360,8 +355,7 @@ settles Comment held c k h e = by (c == 10) refl e
     by true f g = let same : kind.Comment ≡ k = cc in subst (Settles held c) same (subst (λ (x : ℕ). Settles held x kind.Comment) (sym (eqb-true c 10 f)) (comment_ends held h))
     by false f g = absurd (cc)
 settles (Tag name) held c k h e = absurd (cc)
-settles (Raw raw m) held c k h e = absurd (cc)
-settles Translation held c k h e = absurd (cc)
+settles _ held c k h e = absurd (cc)
 
 -- ---- the end of the text
 

@@ -43,9 +43,8 @@ with_none (xs ∷ []) = ap (λ (x : List TextEvent). x ∷ []) (append-nil xs)
 with_none (xs ∷ ys ∷ lists) = ap (λ (x : List (List TextEvent)). xs ∷ x) (with_none (ys ∷ lists))
 
 pub with_more : (zs : List TextEvent) (lists : List (List TextEvent)) (xs : List TextEvent) → with_last zs (lists ++ xs ∷ []) ≡ lists ++ (xs ++ zs) ∷ []
-with_more zs [] xs = refl
-with_more zs (ys ∷ []) xs = refl
 with_more zs (ys ∷ ws ∷ lists) xs = ap (λ (x : List (List TextEvent)). ys ∷ x) (with_more zs (ws ∷ lists) xs)
+with_more zs _ xs = refl
 
 -- ---- a token that the end of the text ends
 
@@ -53,6 +52,5 @@ pub end_other : (state : TokenState) (k : Token) (d : TokenKind) → kind_at_end
 end_other Plain k d e f = absurd (cc)
 end_other Dollar k d e f = let same : kind.Letter ≡ k.kind = cc in subst (λ (x : TokenKind). effect_as x (spelling k) ≡ Other) same refl
 end_other Comment k d e f = let same : kind.Comment ≡ k.kind = cc in subst (λ (x : TokenKind). effect_as x (spelling k) ≡ Other) same refl
-end_other (Tag name) k d e f = let same : kind.OpenTag ≡ k.kind = cc in subst (λ (x : TokenKind). effect_as x (spelling k) ≡ Other) same refl
-end_other (Raw raw m) k d e f = let same : kind.OpenTag ≡ k.kind = cc in subst (λ (x : TokenKind). effect_as x (spelling k) ≡ Other) same refl
 end_other Translation k d e f = let same : kind.OpenTranslation ≡ k.kind = cc in subst (λ (x : TokenKind). effect_as x (spelling k) ≡ Other) same refl
+end_other _ k d e f = let same : kind.OpenTag ≡ k.kind = cc in subst (λ (x : TokenKind). effect_as x (spelling k) ≡ Other) same refl

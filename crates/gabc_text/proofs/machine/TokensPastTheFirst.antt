@@ -1,5 +1,5 @@
 -- Past a token that has ended, the tokens ahead are those of the state past it.
-use Rattle.std.proofs.Common.{◌≡◌, ℕ, List, [], ◌∷◌, ◌++◌, Bool, true, false, cond, refl, sym, ap, ◌∙◌, append_assoc, length, drop}
+use Rattle.std.proofs.Common.{◌≡◌, ℕ, List, [], ◌∷◌, ◌++◌, Bool, true, false, cond, refl, sym, ap, ◌∙◌, append_assoc, length, drop, arith}
 use Rattle.gabc_places.specs.declared.place.Place.{Place}
 use Rattle.gabc_text.specs.declared.text_facts.TextFacts.{TextFacts}
 use Rattle.gabc_text.specs.declared.token.TokenKind.{TokenKind}
@@ -32,18 +32,15 @@ some_lists : (facts : TextFacts) (p : Place) (k : TokenKind) (c : ℕ) (cs : Lis
 some_lists facts p k c cs = by (leaves_out facts k) (is_space k) (cond facts.space [] (out.Kept (record { c = 32; place = p }) ∷ []))
   where
     by : (a b : Bool) (blank : List TextEvent) → IsSome (cond a (no_events_each (c ∷ cs)) (cond b (blank ∷ []) (each_kept p (c ∷ cs))))
-    by true b blank = tt
-    by false true blank = tt
-    by false false blank = tt
+    by a b blank = grind arith
 
 first_again : (a b : List TextEvent) (lists : List (List TextEvent)) → with_first (a ++ b) lists ≡ with_first a (with_first b lists)
 first_again a b [] = refl
 first_again a b (xs ∷ lists) = ap (λ (x : List TextEvent). x ∷ lists) (append_assoc a b xs)
 
 first_last : (a n : List TextEvent) (lists : List (List TextEvent)) → with_last n (with_first a lists) ≡ with_first a (with_last n lists)
-first_last a n [] = refl
 first_last a n (xs ∷ []) = ap (λ (x : List TextEvent). x ∷ []) (append_assoc a xs n)
-first_last a n (xs ∷ ys ∷ lists) = refl
+first_last a n _ = refl
 
 first_append : (a : List TextEvent) (lists others : List (List TextEvent)) → IsSome lists → with_first a lists ++ others ≡ with_first a (lists ++ others)
 first_append a [] others h = absurd h

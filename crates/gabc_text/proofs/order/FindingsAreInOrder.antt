@@ -94,8 +94,6 @@ one_code bs kind.End s = neither (has_begin bs && not (has_end bs)) _
 one_code bs kind.Tag (Opens r) = either (is_open r bs) _
 one_code bs kind.Tag (Closes r) = neither (is_open r bs) _
 one_code bs kind.Tag Other = inr (_, refl)
-one_code bs kind.Tag Mark = inl refl
-one_code bs kind.Tag (Begins r) = inl refl
 one_code bs _ s = inl refl
 
 -- ---- the whole

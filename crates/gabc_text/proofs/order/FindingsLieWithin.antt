@@ -111,9 +111,8 @@ module _ (at : Place) where
   many_first xs (ys ∷ ls) = refl
 
   many_last : (xs : List TextEvent) (ls : List (List TextEvent)) → length (with_last xs ls) ≡ length ls
-  many_last xs [] = refl
-  many_last xs (ys ∷ []) = refl
   many_last xs (ys ∷ zs ∷ ls) = ap suc (many_last xs (zs ∷ ls))
+  many_last xs _ = refl
 
   many_nothing : (s : List ℕ) → length (no_events_each s) ≡ length s
   many_nothing [] = refl

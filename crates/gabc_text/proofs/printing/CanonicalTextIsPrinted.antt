@@ -1,5 +1,5 @@
 -- The canonical text of a text's view is the printed form of what the text says.
-use Rattle.std.proofs.Common.{◌≡◌, ℕ, suc, ◌+◌, ◌==◌, ◌||◌, List, [], ◌∷◌, ◌++◌, Bool, true, false, cond, refl, sym, ap, ◌∙◌, append_assoc, map, reverse, length, Option, Some, None, codes, nat_lt}
+use Rattle.std.proofs.Common.{◌≡◌, ℕ, suc, ◌+◌, ◌==◌, ◌||◌, List, [], ◌∷◌, ◌++◌, Bool, true, false, cond, refl, sym, ap, ◌∙◌, append_assoc, map, reverse, length, Option, Some, None, codes, nat_lt, arith}
 use Rattle.std.specs.List.{flat_map}
 use Rattle.std.proofs.lemmas.Str.{encodes-append}
 use Rattle.std.proofs.lemmas.Bool.{lt-ltb}
@@ -33,22 +33,12 @@ bytes_append ks ls = ap encodes (written_append ks ls) ∙ encodes-append (text_
 opening_bytes : (s : Style) → style_opening s ≡ encodes (spelling (opening_tag s))
 unfolding encode
 opening_bytes B = refl
-opening_bytes C = refl
-opening_bytes E = refl
-opening_bytes I = refl
-opening_bytes Sc = refl
-opening_bytes Tt = refl
-opening_bytes Ul = refl
+opening_bytes _ = refl
 
 closing_bytes : (s : Style) → style_closing s ≡ encodes (spelling (closing_tag s))
 unfolding encode
 closing_bytes B = refl
-closing_bytes C = refl
-closing_bytes E = refl
-closing_bytes I = refl
-closing_bytes Sc = refl
-closing_bytes Tt = refl
-closing_bytes Ul = refl
+closing_bytes _ = refl
 
 tags_bytes : (f : Style → List ℕ) (g : Style → Token) → ((s : Style) → f s ≡ encodes (spelling (g s))) → (ss : List Style) → flat_map f ss ≡ encodes (text_of_tokens (map g ss))
 tags_bytes f g h [] = refl
@@ -62,10 +52,7 @@ brace_bytes None i = refl
 brace_bytes (Some c) i = by (c.from == i) (c.to == i)
   where
     by : (a b : Bool) → cond a (cond b (codes "{}") (codes "{")) (cond b (codes "}") []) ≡ encodes (text_of_tokens (cond a (cond b (begin_brace ∷ end_brace ∷ []) (begin_brace ∷ [])) (cond b (end_brace ∷ []) [])))
-    by true true = refl
-    by true false = refl
-    by false true = refl
-    by false false = refl
+    by a b = grind arith
 
 boundary_bytes : (old new : List Style) (m : List ℕ) (ms : List Token) → m ≡ encodes (text_of_tokens ms) → boundary old new m ≡ encodes (text_of_tokens (tokens_between old new ms))
 boundary_bytes old new m ms e =
@@ -125,8 +112,7 @@ piece_bytes K p q w b h g =
     by piece.Char t s = char t s.1
     by piece.Blank t s = blank_bytes
     by piece.Raw t s = spelled kind.Raw t s.1
-    by piece.Tag t s = spelled kind.Tag t s.1
-    by piece.Mark t s = spelled kind.Tag t s.1
+    by _ t s = spelled kind.Tag t s.1
 
 -- ---- the text
 

@@ -149,9 +149,7 @@ spaced [] e = absurd (cc)
 spaced (k ∷ b) e = by (is_space k.kind) (is_left_out b k.kind) refl refl e (λ f. spaced b f)
   where
     word : (s w t : Bool) → s ≡ true → (w || t) ≡ (w || t) → (w || ((s && not w) || t)) ≡ true
-    word true true t e f = refl
-    word true false t e f = refl
-    word false w t e f = absurd (cc)
+    word s w t e f = grind arith
 
     blank_no_word : (d : TokenKind) (so : TagEffect) → is_space d ≡ true → is_word_kind (piece_kind d so) ≡ false
     blank_no_word kind.Blank so f = refl
@@ -162,9 +160,7 @@ spaced (k ∷ b) e = by (is_space k.kind) (is_left_out b k.kind) refl refl e (λ
     left_no_word (Some q) f = absurd (cc)
 
     grows : (s w t : Bool) → (w || t) ≡ true → (w || ((s && not w) || t)) ≡ true
-    grows s true t e = refl
-    grows true false t e = refl
-    grows false false t e = e
+    grows s w t e = grind arith
 
     by : (s o : Bool) → is_space k.kind ≡ s → is_left_out b k.kind ≡ o → (s || (o && follows_space b)) ≡ true → (follows_space b ≡ true → (follows_blank b ≡ true) × ((has_word b || starts_word b) ≡ true))
         → ((is_space k.kind || (not (is_some (kind_of k)) && follows_blank b)) ≡ true) × (((is_word_kind (kind_of k) || has_word b) || ((is_space k.kind && not (has_word b)) || starts_word b)) ≡ true)

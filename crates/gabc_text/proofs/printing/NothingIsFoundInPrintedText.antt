@@ -139,10 +139,7 @@ braces_aside None i before = refl
 braces_aside (Some c) i before = by (c.from == i) (c.to == i)
   where
     by : (a b : Bool) → NoneAside before (cond a (cond b (begin_brace ∷ end_brace ∷ []) (begin_brace ∷ [])) (cond b (end_brace ∷ []) []))
-    by true true = refl
-    by true false = refl
-    by false true = refl
-    by false false = refl
+    by a b = grind arith
 
 silent_translated : (ks before : List Token) → AllSilent ks → has_translation (onto ks before) ≡ has_translation before
 silent_translated [] before h = refl
@@ -222,9 +219,7 @@ kept_short true space d c s = omega arith
 kept_short false space d c s = by (is_space d) space
   where
     by : (x y : Bool) → length (cond x (cond y [] (32 ∷ [])) (c ∷ s)) ≤ length (c ∷ s)
-    by true true = omega arith
-    by true false = omega arith
-    by false y = omega arith
+    by x y = grind arith
 
 all_short : (before ks : List Token) → length (along kept_at before ks) ≤ length (text_of_tokens ks)
 all_short before [] = omega arith
@@ -249,14 +244,7 @@ brace_fine before k h e = by k.kind (effect k) h e
         ends true g = refl
         ends false g = absurd (omega arith)
     by kind.Letter so g f = f
-    by kind.Blank so g f = f
-    by kind.Comment so g f = f
-    by kind.Stray so g f = f
-    by kind.Tag so g f = f
-    by kind.Raw so g f = f
-    by kind.Translation so g f = f
-    by kind.OpenTag so g f = f
-    by kind.OpenTranslation so g f = f
+    by _ so g f = f
 
 pub none_along : (at : Place) (before ks : List Token) → length (along kept_at before ks) ≡ length (text_of_tokens ks) → NoneAside before ks → along (findings_at at) before ks ≡ []
 none_along at before [] h e = refl

@@ -139,10 +139,7 @@ good_after x w b d (p ∷ ps) h f = (
 
     by : (k : PieceKind) → Says k p.text x b → Says k p.text w d
     by piece.Blank g = (g.0, (f g.1).0, (f g.1).1 g.2)
-    by piece.Char g = g
-    by piece.Raw g = g
-    by piece.Tag g = g
-    by piece.Mark g = g
+    by _ g = g
 
 no_space : (d : TokenKind) (so : TagEffect) (p : PieceKind) → piece_kind d so ≡ Some p → (is_space d ≡ false) × (is_blank_piece p ≡ false)
 no_space d so p e = (by d e, piece_is d so p e)

@@ -1,5 +1,5 @@
 -- Printed tags leave open the styles that they should.
-use Rattle.std.proofs.Common.{◌≡◌, List, [], ◌∷◌, ◌++◌, Bool, true, false, ◌||◌, ◌&&◌, not, cond, refl, sym, ap, ◌∙◌, map, reverse, filter, append_assoc}
+use Rattle.std.proofs.Common.{◌≡◌, List, [], ◌∷◌, ◌++◌, Bool, true, false, ◌||◌, ◌&&◌, not, cond, refl, sym, ap, ◌∙◌, map, reverse, filter, append_assoc, arith}
 use Rattle.std.proofs.lemmas.List.{reverse-append}
 use Rattle.std.proofs.lemmas.Bool.{or_parts}
 use Rattle.std.specs.List.{list_any}
@@ -31,21 +31,11 @@ member s xs = list_any (λ r. is_same r s) xs
 
 pub tag_opens : (s : Style) → effect (opening_tag s) ≡ Opens s
 tag_opens B = refl
-tag_opens C = refl
-tag_opens E = refl
-tag_opens I = refl
-tag_opens Sc = refl
-tag_opens Tt = refl
-tag_opens Ul = refl
+tag_opens _ = refl
 
 pub tag_closes : (s : Style) → effect (closing_tag s) ≡ Closes s
 tag_closes B = refl
-tag_closes C = refl
-tag_closes E = refl
-tag_closes I = refl
-tag_closes Sc = refl
-tag_closes Tt = refl
-tag_closes Ul = refl
+tag_closes _ = refl
 
 pub open_one : (r s : Style) (before : List Token) → is_open s (opening_tag r ∷ before) ≡ cond (is_same r s) true (is_open s before)
 open_one r s before = ap (λ (so : TagEffect). is_open_after s so (is_open s before)) (tag_opens r)
@@ -60,18 +50,14 @@ opened s [] before = refl
 opened s (y ∷ ys) before = opened s ys (opening_tag y ∷ before) ∙ ap (λ b. member s ys || b) (open_one y s before) ∙ turn (is_same y s) (member s ys) (is_open s before)
   where
     turn : (a m b : Bool) → (m || cond a true b) ≡ ((a || m) || b)
-    turn true true b = refl
-    turn true false b = refl
-    turn false m b = refl
+    turn a m b = grind arith
 
 pub closed : (s : Style) (ys : List Style) (before : List Token) → is_open s (onto (map closing_tag ys) before) ≡ (not (member s ys) && is_open s before)
 closed s [] before = refl
 closed s (y ∷ ys) before = closed s ys (closing_tag y ∷ before) ∙ ap (λ b. not (member s ys) && b) (close_one y s before) ∙ turn (is_same y s) (member s ys) (is_open s before)
   where
     turn : (a m b : Bool) → (not m && cond a false b) ≡ (not (a || m) && b)
-    turn true true b = refl
-    turn true false b = refl
-    turn false m b = refl
+    turn a m b = grind arith
 
 pub any_reverse : (s : Style) (xs : List Style) → member s (reverse xs) ≡ member s xs
 any_reverse s [] = refl
@@ -163,12 +149,7 @@ member_filter s f (x ∷ xs) = by (f x) (is_same x s) refl refl (member_filter s
 
 all_members : (s : Style) → member s all_styles ≡ true
 all_members B = refl
-all_members C = refl
-all_members E = refl
-all_members I = refl
-all_members Sc = refl
-all_members Tt = refl
-all_members Ul = refl
+all_members _ = refl
 
 -- the open styles after a boundary are the new ones
 pub styles_again : (old : List Style) (f : Style → Bool) (middle before : List Token) → AllOnce old → Quiet middle → ((s : Style) → is_open s before ≡ member s old)

@@ -1,5 +1,5 @@
 -- A printed text is read without an error.
-use Rattle.std.proofs.Common.{◌≡◌, ℕ, ◌+◌, ◌==◌, ◌||◌, ◌&&◌, not, List, [], ◌∷◌, ◌++◌, Bool, true, false, cond, refl, ap, ◌∙◌, map, reverse, Option, Some, None}
+use Rattle.std.proofs.Common.{◌≡◌, ℕ, ◌+◌, ◌==◌, ◌||◌, ◌&&◌, not, List, [], ◌∷◌, ◌++◌, Bool, true, false, cond, refl, ap, ◌∙◌, map, reverse, Option, Some, None, arith}
 use Rattle.std.specs.List.{list_any}
 use Rattle.std.proofs.lemmas.List.Folds.{list_any-append}
 use Rattle.gabc_places.specs.declared.place.Place.{Place}
@@ -107,8 +107,6 @@ late_fine bs kind.Begin s e = either (has_begin bs) _ refl
 late_fine bs kind.End s e = neither (has_begin bs && not (has_end bs)) _ refl
 late_fine bs kind.Tag (Opens r) e = either (is_open r bs) _ refl
 late_fine bs kind.Tag (Closes r) e = neither (is_open r bs) _ refl
-late_fine bs kind.Tag Other e = refl
-late_fine bs kind.Tag _ e = refl
 late_fine bs _ s e = refl
 
 module _ (at : Place) where
@@ -127,11 +125,7 @@ module _ (at : Place) where
   end_fine bs = by (is_cut bs) (list_any (λ s. is_open s bs) all_styles) (has_begin bs && not (has_end bs))
     where
       by : (x y z : Bool) → has_error (cond x [] (map (found_at (place_of at bs)) (cond y (W3 ∷ []) [] ++ cond z (W4 ∷ []) []))) ≡ false
-      by true y z = refl
-      by false true true = refl
-      by false true false = refl
-      by false false true = refl
-      by false false false = refl
+      by x y z = grind arith
 
   pub no_errors : (t rest : List ℕ) → has_error (findings at (print (view_facts t) ++ 40 ∷ rest)) ≡ false
   no_errors t rest =

@@ -148,10 +148,7 @@ token_bracket c t =
 
     tag_by : (name v : List ℕ) (s : TagEffect) → (token_of_tag name v s).kind ≡ kind.Translation → ⊥
     tag_by name v (Begins raw) e = in_raw name v (through (ending_of raw) v) e
-    tag_by name v (Opens r) e = absurd (cc)
-    tag_by name v (Closes r) e = absurd (cc)
-    tag_by name v Mark e = absurd (cc)
-    tag_by name v Other e = absurd (cc)
+    tag_by name v _ e = absurd (cc)
 
     tag : (t : List ℕ) (o : Option (List ℕ)) → (tag_at t o).kind ≡ kind.Translation → ⊥
     tag t None e = absurd (cc)
@@ -163,11 +160,7 @@ token_bracket c t =
     bracket t (Some y) g e = let r = through_ends 93 t y g in record { s = r.0; first_is = refl; more_is = r.1 }
 
     one : (a b d e : Bool) → cond a kind.Blank (cond b kind.Stray (cond d kind.Begin (cond e kind.End kind.Letter))) ≡ kind.Translation → ⊥
-    one true b d e f = absurd (cc)
-    one false true d e f = absurd (cc)
-    one false false true e f = absurd (cc)
-    one false false false true f = absurd (cc)
-    one false false false false f = absurd (cc)
+    one a b d e f = grind arith
 
 but_last : (s : List ℕ) → take (length (s ++ 93 ∷ []) - 1) (s ++ 93 ∷ []) ≡ s
 but_last s =

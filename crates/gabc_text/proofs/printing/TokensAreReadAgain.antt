@@ -32,21 +32,11 @@ written_stable (k ∷ ks) u h =
 
 pub opening_stable : (s : Style) → Stable (opening_tag s)
 opening_stable B u = refl
-opening_stable C u = refl
-opening_stable E u = refl
-opening_stable I u = refl
-opening_stable Sc u = refl
-opening_stable Tt u = refl
-opening_stable Ul u = refl
+opening_stable _ u = refl
 
 pub closing_stable : (s : Style) → Stable (closing_tag s)
 closing_stable B u = refl
-closing_stable C u = refl
-closing_stable E u = refl
-closing_stable I u = refl
-closing_stable Sc u = refl
-closing_stable Tt u = refl
-closing_stable Ul u = refl
+closing_stable _ u = refl
 
 -- ---- what was found is found again
 

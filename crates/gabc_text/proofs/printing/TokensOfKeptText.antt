@@ -111,10 +111,7 @@ tag_read t ne = by (through (62 ∷ []) t) refl
 
     sorted : (name : List ℕ) (so : TagEffect) → through (62 ∷ []) t ≡ Some name → token_at 60 t ≡ token_of_tag name (drop (length name) t) so → IsReadBack (token_at 60 t) (tokens_after (length (token_at 60 t).more) t)
     sorted name (Begins raw) e f = raws name (through (ending_of raw) (drop (length name) t)) e f
-    sorted name (Opens r) e f = stands (inl (ap (λ (k : Token). k.kind) f))
-    sorted name (Closes r) e f = stands (inl (ap (λ (k : Token). k.kind) f))
-    sorted name Mark e f = stands (inl (ap (λ (k : Token). k.kind) f))
-    sorted name Other e f = stands (inl (ap (λ (k : Token). k.kind) f))
+    sorted name _ e f = stands (inl (ap (λ (k : Token). k.kind) f))
 
     by : (o : Option (List ℕ)) → through (62 ∷ []) t ≡ o → IsReadBack (token_at 60 t) (tokens_after (length (token_at 60 t).more) t)
     by None e = last (ap (λ (k : Token). k.first) (here None e)) (ap (λ (k : Token). k.more) (here None e))

@@ -116,14 +116,7 @@ first_translation (k ∷ ks) before h n o = by k.kind k.first k.more refl o (fir
         let last : ks ≡ [] = o.0 (rw e refl) in
         rw (last, e) n
     by kind.Letter c m e o ih one = ih (rw e h) (rw e n) o.1
-    by kind.Blank c m e o ih one = ih (rw e h) (rw e n) o.1
-    by kind.Comment c m e o ih one = ih (rw e h) (rw e n) o.1
-    by kind.Stray c m e o ih one = ih (rw e h) (rw e n) o.1
-    by kind.Begin c m e o ih one = ih (rw e h) (rw e n) o.1
-    by kind.End c m e o ih one = ih (rw e h) (rw e n) o.1
-    by kind.Tag c m e o ih one = ih (rw e h) (rw e n) o.1
-    by kind.Raw c m e o ih one = ih (rw e h) (rw e n) o.1
-    by kind.OpenTag c m e o ih one = ih (rw e h) (rw e n) o.1
+    by _ c m e o ih one = ih (rw e h) (rw e n) o.1
 
 -- a translation that is left open takes the rest of the text
 abbrev TakesAll : List ℕ → ℕ → Type 0

@@ -37,16 +37,12 @@ use Rattle.gabc_text.proofs.resuming.PlacesAside.{said_append, said_found, said_
 pub kept_said : (es : List TextEvent) → kept_in (said es) ≡ kept_in es
 kept_said [] = refl
 kept_said (out.Kept c ∷ es) = ap (λ (t : List ℕ). c.c ∷ t) (kept_said es)
-kept_said (out.Part p ∷ es) = kept_said es
-kept_said (out.Found f ∷ es) = kept_said es
-kept_said (out.Ended h ∷ es) = kept_said es
+kept_said (_ ∷ es) = kept_said es
 
 pub ends_said : (es : List TextEvent) → end_text (said es) ≡ end_text es
 ends_said [] = refl
-ends_said (out.Kept c ∷ es) = ends_said es
-ends_said (out.Part p ∷ es) = ends_said es
-ends_said (out.Found f ∷ es) = ends_said es
 ends_said (out.Ended h ∷ es) = refl
+ends_said (_ ∷ es) = ends_said es
 
 pub no_kept : (ps : List TextPart) → kept_in (map (λ (x : TextPart). out.Part x) ps) ≡ []
 no_kept = none_kept (λ x. out.Part x) (λ x. refl)
@@ -214,12 +210,8 @@ pub ended_at : (s : TextStage) (c : ℕ) → s.ended ≡ false → (push_stage s
 ended_at s c on over = by s.ended on (c == 40 && is_plain (settle_stage s c).state) refl over
   where
     open_comment : (m : TokenState) → is_plain (settle_stage_by s (settled_kind m 40)).state ≡ true → s.state ≡ m → is_comment m ≡ false
-    open_comment Plain e f = refl
-    open_comment Dollar e f = refl
-    open_comment (Tag name) e f = refl
-    open_comment (Raw part m) e f = refl
-    open_comment Translation e f = refl
     open_comment Comment e f = absurd (true≢false (sym e ∙ ap is_plain f))
+    open_comment _ e f = refl
 
     by : (d : Bool) → d ≡ false → (b : Bool) → (c == 40 && is_plain (settle_stage s c).state) ≡ b → (cond d s (cond b (end_stage (settle_stage s c)) (read_stage (settle_stage s c) c))).ended ≡ true → EndsAt s c
     by true e b f g = absurd (true≢false e)

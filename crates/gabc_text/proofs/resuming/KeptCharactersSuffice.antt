@@ -1,7 +1,7 @@
 -- A character that is not kept changes nothing but places and whether a comment is open; one that is kept does what its kept form does.
 use Rattle.std.proofs.Math.Bool.{and-false}
 use Rattle.std.proofs.lemmas.Bool.{eqb-true}
-use Rattle.std.proofs.Common.{◌≡◌, ◌==◌, ◌&&◌, ◌||◌, not, nat_lt, ◌+◌, ℕ, List, [], ◌∷◌, ◌++◌, Bool, true, false, cond, Option, Some, None, refl, sym, ap, ◌∙◌, subst, codes, if◌then◌else◌}
+use Rattle.std.proofs.Common.{◌≡◌, ◌==◌, ◌&&◌, ◌||◌, not, nat_lt, ◌+◌, ℕ, List, [], ◌∷◌, ◌++◌, Bool, true, false, cond, Option, Some, None, refl, sym, ap, ◌∙◌, subst, codes, if◌then◌else◌, arith}
 use Rattle.gabc_places.specs.declared.place.Place.{Place}
 use Rattle.gabc_places.specs.Place.{saturating_next_place}
 use Rattle.gabc_text.specs.declared.progress.Progress.{Progress}
@@ -38,12 +38,8 @@ StepAlike s c r (Some d) = IsAlike (push_stage s c) (push_stage r d) × (said (e
 -- ---- kept as it is
 
 pub stays_outside : (m : TokenState) → is_comment m ≡ false → outside m ≡ m
-stays_outside Plain e = refl
-stays_outside Dollar e = refl
 stays_outside Comment e = absurd (cc)
-stays_outside (Tag name) e = refl
-stays_outside (Raw part m) e = refl
-stays_outside Translation e = refl
+stays_outside _ e = refl
 
 same_alike : (s r : TextStage) → IsPlaced s r → is_comment s.state ≡ false → IsAlike s r
 same_alike s r p e = record { place = p.place; next = p.next; same = p.same ∙ ap (λ (m : TokenState). placed p.place p.next (record s { state = m })) (sym (stays_outside s.state e)) }
@@ -56,10 +52,7 @@ module _ (at next : Place) (s : TextStage) (c : ℕ) where
 
 after_tag : (t : TextStage) (e : TagEffect) → is_comment (stage_after_step t (step_at_tag_end e)).state ≡ false
 after_tag t (tag.Opens x) = refl
-after_tag t (tag.Closes x) = refl
-after_tag t tag.Mark = refl
-after_tag t (tag.Begins x) = refl
-after_tag t tag.Other = refl
+after_tag t _ = refl
 
 module _ (facts : TextFacts) (p : Progress) (c : ℕ) where
   abbrev in_state : TokenState → TextStage
@@ -76,11 +69,7 @@ module _ (facts : TextFacts) (p : Progress) (c : ℕ) where
   raw_on part m = rw (and-false (c == 40)) (by (c == wanted_char part m) (c == 62) (nat_lt m 5) (c == 60))
     where
       by : (a b d e : Bool) → is_comment (stage_after_step (stage_past_char (in_state (Raw part m)) c) (cond a (cond b (Ends kind.Raw tag.Other) (cond d (Stays (Raw part (m + 1))) (Stays (Raw part 0)))) (cond e (Stays (Raw part 1)) (Stays (Raw part 0))))).state ≡ false
-      by true true d e = refl
-      by true false true e = refl
-      by true false false e = refl
-      by false b d true = refl
-      by false b d false = refl
+      by a b d e = grind arith
 
   pub translation_on : is_comment (push_stage (in_state Translation) c).state ≡ false
   translation_on = rw (and-false (c == 40)) (by (c == 93))
@@ -92,29 +81,19 @@ module _ (facts : TextFacts) (p : Progress) (c : ℕ) where
 -- ---- between tokens
 
 spaces_taken : (a b : Bool) → (a || b) ≡ true → (not a && not b) ≡ false
-spaces_taken true b e = refl
-spaces_taken false true e = refl
-spaces_taken false false e = absurd (cc)
+spaces_taken a b e = grind arith
 
 or_starts : (word starts : Bool) → (word || starts) ≡ true → (not word || starts) ≡ starts
-or_starts true starts e = refl
-or_starts false true e = refl
-or_starts false false e = absurd (cc)
+or_starts word starts e = grind arith
 
 ended_still : (begun ended : Bool) → not (begun && not ended) ≡ true → (begun || ended) ≡ ended
-ended_still true true e = refl
-ended_still true false e = absurd (cc)
-ended_still false ended e = refl
+ended_still begun ended e = grind arith
 
 not_new : (begun ended : Bool) → not (begun && not ended) ≡ true → (begun && not ended) ≡ false
-not_new true true e = refl
-not_new true false e = absurd (cc)
-not_new false ended e = refl
+not_new begun ended e = grind arith
 
 no_blank : (e : TagEffect) (word blank : Bool) → blank ≡ true → cond (word && not blank) (Some piece.Blank) (piece_kind kind.Blank e) ≡ None
-no_blank e true true b = refl
-no_blank e false true b = refl
-no_blank e word false b = absurd (cc)
+no_blank e word blank b = grind arith
 
 -- a character between tokens that is a blank
 record IsBlankBetween (facts : TextFacts) (w : ℕ) : Type 0 where
@@ -304,15 +283,7 @@ no_stray : (c : ℕ) → is_special c ≡ false → is_one_of (codes ")]>") c �
 no_stray c e = by (40 == c) (41 == c) (91 == c) (93 == c) (123 == c) (125 == c) (60 == c) (62 == c) _ e
   where
     by : (a b d f g h i j r : Bool) → (a || (b || (d || (f || (g || (h || (i || (j || r)))))))) ≡ false → (b || (f || (j || false))) ≡ false
-    by false false d false g h i false r e = refl
-    by true b d f g h i j r e = absurd (cc)
-    by false true d f g h i j r e = absurd (cc)
-    by false false true f g h i j r e = absurd (cc)
-    by false false false true g h i j r e = absurd (cc)
-    by false false false false true h i j r e = absurd (cc)
-    by false false false false false true i j r e = absurd (cc)
-    by false false false false false false true j r e = absurd (cc)
-    by false false false false false false false true r e = absurd (cc)
+    by a b d f g h i j r e = grind arith
 
 ordinary : (c : ℕ) → is_blank c ≡ false → is_special c ≡ false → IsOrdinary c
 ordinary c no_blank e = record {

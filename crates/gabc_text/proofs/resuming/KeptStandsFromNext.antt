@@ -77,9 +77,7 @@ StandAt p es = All (λ (x : Char). x.place ≡ p) (kept_chars_in es)
 no_chars : (es : List TextEvent) → kept_in es ≡ [] → kept_chars_in es ≡ []
 no_chars [] e = refl
 no_chars (out.Kept c ∷ es) e = cc
-no_chars (out.Part p ∷ es) e = no_chars es e
-no_chars (out.Found f ∷ es) e = no_chars es e
-no_chars (out.Ended h ∷ es) e = no_chars es e
+no_chars (_ ∷ es) e = no_chars es e
 
 none_stand : (p : Place) (es : List TextEvent) → kept_in es ≡ [] → StandAt p es
 none_stand p es e = subst (λ (xs : List Char). All (λ (x : Char). x.place ≡ p) xs) (sym (no_chars es e)) (All-nil (λ (x : Char). x.place ≡ p))
@@ -87,9 +85,7 @@ none_stand p es e = subst (λ (xs : List Char). All (λ (x : Char). x.place ≡ 
 stand_after : (p : Place) (a b : List TextEvent) → kept_in a ≡ [] → StandAt p b → StandAt p (a ++ b)
 stand_after p [] b e stand = stand
 stand_after p (out.Kept c ∷ a) b e stand = cc
-stand_after p (out.Part q ∷ a) b e stand = stand_after p a b e stand
-stand_after p (out.Found f ∷ a) b e stand = stand_after p a b e stand
-stand_after p (out.Ended h ∷ a) b e stand = stand_after p a b e stand
+stand_after p (_ ∷ a) b e stand = stand_after p a b e stand
 
 char_stands : (p : Place) (o : Option ℕ) (es : List TextEvent) → kept_in es ≡ [] → StandAt p (option_list_of (char_event p o) ++ es)
 char_stands p None es e = none_stand p es e

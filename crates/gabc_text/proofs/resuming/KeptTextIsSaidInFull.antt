@@ -58,10 +58,8 @@ pushes_keep s (c ∷ k) e =
 
 silent_by : (es : List TextEvent) → end_text es ≡ false → ends_in es ≡ []
 silent_by [] e = refl
-silent_by (out.Kept c ∷ es) e = silent_by es e
-silent_by (out.Part p ∷ es) e = silent_by es e
-silent_by (out.Found f ∷ es) e = silent_by es e
 silent_by (out.Ended h ∷ es) e = absurd (true≢false e)
+silent_by (_ ∷ es) e = silent_by es e
 
 -- findings and places do not change the view
 view_said : (b d : BuiltText) (es : List TextEvent) → b.view ≡ d.view → (with_events b (said es)).view ≡ (with_events d es).view

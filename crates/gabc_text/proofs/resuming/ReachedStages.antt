@@ -32,21 +32,13 @@ one_starts true starts = refl
 one_starts false starts = refl
 
 facts_reached : (facts : TextFacts) (k : TokenKind) (e : TagEffect) → AreReached facts → AreReached (facts_after facts k e)
-facts_reached facts kind.Letter e h = record { blank = λ x. absurd (cc); starts = λ x. absurd (cc) }
-facts_reached facts kind.Raw e h = record { blank = λ x. absurd (cc); starts = λ x. absurd (cc) }
 facts_reached facts kind.Blank e h = record { blank = λ x. refl; starts = λ x. one_starts facts.word facts.starts }
 facts_reached facts kind.Comment e h = h
 facts_reached facts kind.Stray e h = h
 facts_reached facts kind.Begin e h = record { blank = λ x. h.blank (and_parts (leaves_out facts kind.Begin) facts.space x).1; starts = λ x. h.starts (and_parts (leaves_out facts kind.Begin) facts.space x).1 }
 facts_reached facts kind.End e h = record { blank = λ x. h.blank (and_parts (leaves_out facts kind.End) facts.space x).1; starts = λ x. h.starts (and_parts (leaves_out facts kind.End) facts.space x).1 }
 facts_reached facts kind.Tag (tag.Opens s) h = record { blank = λ x. absurd (cc); starts = λ x. absurd (cc) }
-facts_reached facts kind.Tag (tag.Closes s) h = record { blank = λ x. absurd (cc); starts = λ x. absurd (cc) }
-facts_reached facts kind.Tag tag.Mark h = record { blank = λ x. absurd (cc); starts = λ x. absurd (cc) }
-facts_reached facts kind.Tag (tag.Begins r) h = record { blank = λ x. absurd (cc); starts = λ x. absurd (cc) }
-facts_reached facts kind.Tag tag.Other h = record { blank = λ x. absurd (cc); starts = λ x. absurd (cc) }
-facts_reached facts kind.Translation e h = record { blank = λ x. absurd (cc); starts = λ x. absurd (cc) }
-facts_reached facts kind.OpenTag e h = record { blank = λ x. absurd (cc); starts = λ x. absurd (cc) }
-facts_reached facts kind.OpenTranslation e h = record { blank = λ x. absurd (cc); starts = λ x. absurd (cc) }
+facts_reached facts _ e h = record { blank = λ x. absurd (cc); starts = λ x. absurd (cc) }
 
 token_reached : (s : TextStage) (k : TokenKind) (e : TagEffect) → AreReached s.facts → IsReached (token_stage s k e s.progress.next)
 token_reached s k e h = let g = facts_reached s.facts k e h in record { between = λ _. refl; start = λ _. refl; blank = g.blank; starts = g.starts }
@@ -129,12 +121,10 @@ pub moved_reached : (at : Place) (s : TextStage) → IsReached s → IsReached (
 moved_reached at s reached = record { between = at_plain s.state; start = reached.start; blank = reached.blank; starts = reached.starts }
   where
     at_plain : (m : TokenState) → is_plain m ≡ true → (if is_open m then s.progress.place else at) ≡ at
-    at_plain Plain e = refl
-    at_plain Dollar e = refl
-    at_plain Comment e = refl
     at_plain (Tag name) e = absurd (false≢true e)
     at_plain (Raw part m) e = absurd (false≢true e)
     at_plain Translation e = absurd (false≢true e)
+    at_plain _ e = refl
 
 -- ---- many characters
 

@@ -223,10 +223,7 @@ kept_only false space k c = by (is_space k) space
 keep_only : (facts : TextFacts) (m : TokenState) (c : ℕ) → All (IsKeptOf c) (option_to_list (keep facts m c))
 keep_only facts Plain c = kept_only (c == 37 || leaves_out facts (single c)) facts.space (single c) c
 keep_only facts Comment c = All-nil (IsKeptOf c)
-keep_only facts Dollar c = All-cons (IsKeptOf c) c [] (inl refl) (All-nil (IsKeptOf c))
-keep_only facts (Tag name) c = All-cons (IsKeptOf c) c [] (inl refl) (All-nil (IsKeptOf c))
-keep_only facts (Raw part m) c = All-cons (IsKeptOf c) c [] (inl refl) (All-nil (IsKeptOf c))
-keep_only facts Translation c = All-cons (IsKeptOf c) c [] (inl refl) (All-nil (IsKeptOf c))
+keep_only facts _ c = All-cons (IsKeptOf c) c [] (inl refl) (All-nil (IsKeptOf c))
 
 only_kept : (s : TextStage) (c : ℕ) → s.ended ≡ false → All (IsKeptOf c) (kept_in (events_of_push s c))
 only_kept s c on = by (push_stage s c).ended refl
@@ -262,19 +259,11 @@ opener_open s k h = ap (λ (o : Option Place). is_some o) (opener_told s h.goes_
 
     still : (m : TokenState) → is_open (outside m) ≡ is_open m
     still Plain = refl
-    still Dollar = refl
-    still Comment = refl
-    still (Tag name) = refl
-    still (Raw part m) = refl
-    still Translation = refl
+    still _ = refl
 
 pub comment_is : (m : TokenState) → is_comment m ≡ true → m ≡ Comment
-comment_is Plain e = absurd (false≢true e)
-comment_is Dollar e = absurd (false≢true e)
 comment_is Comment e = refl
-comment_is (Tag name) e = absurd (false≢true e)
-comment_is (Raw part m) e = absurd (false≢true e)
-comment_is Translation e = absurd (false≢true e)
+comment_is _ e = absurd (false≢true e)
 
 pub comment_open : (s : TextStage) (k : List ℕ) → Keeps s k → is_in_comment s ≡ true → begins_comment k ≡ true
 comment_open s k h e = begins_is k ∙ ap is_plain (state_alike s k h ∙ ap outside (comment_is s.state (sym (comment_told s h.goes_on) ∙ e)))
@@ -283,12 +272,10 @@ pub comment_alone : (k : List ℕ) → begins_comment k ≡ true → is_open_aft
 comment_alone k e = open_is k ∙ by (stage_after k).state (sym (begins_is k) ∙ e)
   where
     by : (m : TokenState) → is_plain m ≡ true → is_open m ≡ false
-    by Plain h = refl
-    by Dollar h = refl
-    by Comment h = refl
     by (Tag name) h = absurd (false≢true h)
     by (Raw part m) h = absurd (false≢true h)
     by Translation h = absurd (false≢true h)
+    by _ h = refl
 
 -- ---- a kept character is kept again
 
@@ -330,11 +317,7 @@ comment_not_kept k e = kept_with_is k 37 ∙ by (stage_after k).state (stage_aft
     by : (m : TokenState) (d : Bool) → is_plain m ≡ true → kept_in (events_of_push (record { state = m; facts = (stage_after k).facts; progress = (stage_after k).progress; ended = d }) 37) ≡ []
     by Plain true h = refl
     by Plain false h = read_kept (record { state = Plain; facts = (stage_after k).facts; progress = (stage_after k).progress; ended = false }) 37
-    by Dollar d h = absurd (false≢true h)
-    by Comment d h = absurd (false≢true h)
-    by (Tag name) d h = absurd (false≢true h)
-    by (Raw part m) d h = absurd (false≢true h)
-    by Translation d h = absurd (false≢true h)
+    by _ d h = absurd (false≢true h)
 
 pub end_not_kept : (k : List ℕ) → ends_after_it k ≡ true → kept_with k 40 ≡ []
 end_not_kept k e = kept_with_is k 40 ∙ by (stage_after k).ended refl
@@ -358,9 +341,7 @@ place_same : (m : TokenState) (p q n : Place) → (is_plain m ≡ true → p ≡
 place_same Plain p q n a b e = a refl ∙ sym (b refl)
 place_same Dollar p q n a b e = refl
 place_same Comment p q n a b e = refl
-place_same (Tag name) p q n a b e = some_same p q e
-place_same (Raw part m) p q n a b e = some_same p q e
-place_same Translation p q n a b e = some_same p q e
+place_same _ p q n a b e = some_same p q e
 
 -- a stage by the one alike
 abbrev with_places : TokenState → TextStage → Place → Place → TextStage

@@ -36,11 +36,7 @@ one_kept s c on = by (push_stage s c).ended refl
 
 never_comment : (m : TokenState) → outside m ≡ Comment → ⊥
 never_comment Plain e = cc
-never_comment Dollar e = cc
-never_comment Comment e = cc
-never_comment (Tag name) e = cc
-never_comment (Raw part m) e = cc
-never_comment Translation e = cc
+never_comment _ e = cc
 
 -- another character than a `(` ends no text
 goes_past : (r : TextStage) (c : ℕ) → r.ended ≡ false → (c ≡ 40 → ⊥) → (push_stage r c).ended ≡ false
@@ -53,11 +49,8 @@ goes_past r c on apart = by (push_stage r c).ended refl
 -- a `%` is kept but between tokens
 percent_at : (facts : TextFacts) (p : Progress) (done : Bool) (m : TokenState) → (m ≡ Comment → ⊥) → kept_at (record { state = m; facts = facts; progress = p; ended = done }) 37 ≡ None → is_plain m ≡ true
 percent_at facts p done Plain apart e = refl
-percent_at facts p done Dollar apart e = cc
 percent_at facts p done Comment apart e = absurd (apart refl)
-percent_at facts p done (Tag name) apart e = cc
-percent_at facts p done (Raw part m) apart e = cc
-percent_at facts p done Translation apart e = cc
+percent_at facts p done _ apart e = cc
 
 none_at : (o : Option ℕ) → option_to_list o ≡ [] → o ≡ None
 none_at None e = refl
@@ -152,9 +145,7 @@ opens_there s k at h opened = record {
         by false e = absurd (false≢true e)
 
     apart : (m : TokenState) → is_open m ≡ true → is_plain m ≡ true → ⊥
-    apart Plain e f = false≢true e
-    apart Dollar e f = false≢true e
-    apart Comment e f = false≢true e
     apart (Tag name) e f = false≢true f
     apart (Raw part m) e f = false≢true f
     apart Translation e f = false≢true f
+    apart _ e f = false≢true e

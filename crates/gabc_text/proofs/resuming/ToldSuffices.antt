@@ -17,11 +17,6 @@ step_told s c = by s.state s.ended
   where
     by : (m : TokenState) (d : Bool) → let x : TextStage = record { state = m; facts = s.facts; progress = s.progress; ended = d } in
         (events_of_push x c ≡ events_of_push (told x) c) × (told (push_stage x c) ≡ told (push_stage (told x) c))
-    by Plain d = (refl, refl)
-    by (Tag name) d = (refl, refl)
-    by (Raw part m) d = (refl, refl)
-    by Translation d = (refl, refl)
-    by m true = (refl, refl)
     by Dollar false = dollar (is_special c) refl
       where
         dollar : (b : Bool) → is_special c ≡ b → let x : TextStage = record { state = Dollar; facts = s.facts; progress = s.progress; ended = false } in
@@ -34,17 +29,14 @@ step_told s c = by s.state s.ended
             (events_of_push x c ≡ events_of_push (told x) c) × (told (push_stage x c) ≡ told (push_stage (told x) c))
         comment true e = (rw e refl, rw e refl)
         comment false e = (rw (e, and-false (c == 40)) refl, rw (e, and-false (c == 40)) refl)
+    by m d = (refl, refl)
 
 end_told : (s : TextStage) → events_of_finish s ≡ events_of_finish (told s)
 end_told s = by s.state
   where
     by : (m : TokenState) → let x : TextStage = record { state = m; facts = s.facts; progress = s.progress; ended = s.ended } in events_of_finish x ≡ events_of_finish (told x)
     by Plain = refl
-    by Dollar = refl
-    by Comment = refl
-    by (Tag name) = refl
-    by (Raw part m) = refl
-    by Translation = refl
+    by _ = refl
 
 steps_told : (s : TextStage) (t : List ℕ) → stepwise s t ≡ stepwise (told s) t
 steps_told s [] = ap (λ (os : List TextEvent). os ∷ []) (end_told s)

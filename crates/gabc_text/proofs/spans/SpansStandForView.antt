@@ -1,5 +1,5 @@
 -- The spans of a text's view stand for what the view says.
-use Rattle.std.proofs.Common.{◌≡◌, ℕ, ◌||◌, ◌&&◌, not, is_some, List, [], ◌∷◌, ◌++◌, Bool, true, false, cond, refl, sym, ap, ◌∙◌, append_assoc, Option, Some, None}
+use Rattle.std.proofs.Common.{◌≡◌, ℕ, ◌||◌, ◌&&◌, not, is_some, List, [], ◌∷◌, ◌++◌, Bool, true, false, cond, refl, sym, ap, ◌∙◌, append_assoc, Option, Some, None, arith}
 use Rattle.std.proofs.lemmas.Bool.{or_parts}
 use Rattle.gabc_text.specs.declared.token.TokenKind.{TokenKind}
 use Rattle.gabc_text.specs.declared.token.TokenKind.TheVariants as kind
@@ -30,10 +30,7 @@ last_facts K (p ∷ ps) [] h = absurd h
 last_facts K (p ∷ []) (q ∷ []) h = by (is_blank_piece p.kind) (is_blank_piece q.kind) (ap is_blank_piece h.0.kind_is)
   where
     by : (a b : Bool) → a ≡ b → ArePiecesOf K (cond a [] (p ∷ [])) (cond b [] (q ∷ []))
-    by true true e = tt
-    by false false e = h
-    by true false e = absurd (cc)
-    by false true e = absurd (cc)
+    by a b e = grind arith
 last_facts K (p ∷ []) (q ∷ r ∷ qs) h = absurd h.1
 last_facts K (p ∷ o ∷ ps) (q ∷ []) h = absurd h.1
 last_facts K (p ∷ o ∷ ps) (q ∷ r ∷ qs) h = (h.0, last_facts K (o ∷ ps) (r ∷ qs) h.1)
@@ -101,10 +98,8 @@ module _ (K : List ℕ) (before : List Token) (k : Token) (rest : List ℕ) (who
 
   piece_stands : (q : PieceKind) → is_blank_piece q ≡ false → kept_at before k ≡ spelling k → IsPieceOf K (piece_at before k q) (record { kind = q; styles = open_styles before; text = text_of_piece q k })
   piece_stands piece.Char b e = record { kind_is = refl; styles_are = styles_facts before; stands = last_of_it e }
-  piece_stands piece.Raw b e = record { kind_is = refl; styles_are = styles_facts before; stands = all_of_it e }
-  piece_stands piece.Tag b e = record { kind_is = refl; styles_are = styles_facts before; stands = all_of_it e }
-  piece_stands piece.Mark b e = record { kind_is = refl; styles_are = styles_facts before; stands = all_of_it e }
   piece_stands piece.Blank b e = absurd (cc)
+  piece_stands _ b e = record { kind_is = refl; styles_are = styles_facts before; stands = all_of_it e }
 
   blank_kept : is_space k.kind ≡ true → follows_blank before ≡ false → kept_at before k ≡ 32 ∷ []
   blank_kept e f = by k.kind e (no_space before f)

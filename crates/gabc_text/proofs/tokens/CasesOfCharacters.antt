@@ -38,10 +38,7 @@ tag_kind P tag raw cut t (Some name) = by (effect_of (60 ∷ name))
 
     by : (s : TagEffect) → P (token_of_tag name (drop (length name) t) s).kind
     by (Begins r) = raws (through (ending_of r) (drop (length name) t))
-    by (Opens r) = tag
-    by (Closes r) = tag
-    by Mark = tag
-    by Other = tag
+    by _ = tag
 
 -- a translation begins with `[`
 pub translation_first : (c : ℕ) (t : List ℕ) → is_translation (token_at c t).kind ≡ true → c ≡ 91

@@ -20,10 +20,7 @@ pub some_bytes : (c : ℕ) → 0 < len_utf8 c
 some_bytes c = by (nat_lt c 128) (nat_lt c 2048) (nat_lt c 65536)
   where
     by : (x y z : Bool) → 0 < cond x 1 (cond y 2 (cond z 3 4))
-    by true y z = omega arith
-    by false true z = omega arith
-    by false false true = omega arith
-    by false false false = omega arith
+    by x y z = grind arith
 
 -- a count that does not reach its last value
 pub up_is : (n m : ℕ) → n + m < 2 ^ 64 → count_plus n m ≡ n + m

@@ -14,12 +14,8 @@ never true = refl
 never false = refl
 
 other : (s : TokenState) → (s ≡ Comment → ⊥) → is_comment s ≡ false
-other Plain e = refl
-other Dollar e = refl
 other Comment e = absurd (e refl)
-other (Tag name) e = refl
-other (Raw part m) e = refl
-other Translation e = refl
+other _ e = refl
 
 pub returns-in-Comment : goal.returns-in-Comment
 returns-in-Comment c =
