@@ -1,5 +1,5 @@
 -- Whether a value wants lines of its own, from left to right.
-use Rattle.std.proofs.Common.{rules, ◌≢◌, ◌≡◌, ◌⊎◌, inl, inr, ℕ, List, [], ◌∷◌, ◌++◌, Bool, true, false, cond, ◌||◌, ◌&&◌, ◌==◌, refl, sym, ap, ◌∙◌, append_assoc, append-nil}
+use Rattle.std.proofs.Common.{rules, ◌≢◌, ◌≡◌, ◌⊎◌, inl, inr, ℕ, List, [], ◌∷◌, ◌++◌, Bool, true, false, cond, ◌||◌, ◌&&◌, ◌==◌, refl, sym, ap, ◌∙◌, append_assoc, append-nil, arith}
 use Rattle.std.proofs.Math.Bool.{or-true, and-false, or-false, and-true, or_assoc, or_self}
 use Rattle.std.proofs.lemmas.Bool.{or_parts}
 use Rattle.gabc_headers.specs.Lines.{lines, on_first, is_bare, is_mark, has_mark}
@@ -15,14 +15,12 @@ wants_from marked v = has_lf v || ((marked && is_bare v) || has_mark 1 v)
 
 -- there are several lines
 abbrev several : List (List ℕ) → Bool
-several [] = false
-several (l ∷ []) = false
 several (l ∷ m ∷ ls) = true
+several _ = false
 
 several_wants : (ls : List (List ℕ)) → several ls ≡ true → wants_lines ls ≡ true
-several_wants [] h = absurd (cc)
-several_wants (l ∷ []) h = absurd (cc)
 several_wants (l ∷ m ∷ ls) h = refl
+several_wants _ h = absurd (cc)
 
 abbrev is_some_line : List (List ℕ) → Bool
 is_some_line [] = false
@@ -45,9 +43,8 @@ one_more [] h = absurd (cc)
 one_more (l ∷ ls) h = refl
 
 on_several : (c : ℕ) (ls : List (List ℕ)) → several ls ≡ true → several (on_first c ls) ≡ true
-on_several c [] h = absurd (cc)
-on_several c (l ∷ []) h = absurd (cc)
 on_several c (l ∷ m ∷ ls) h = refl
+on_several c _ h = absurd (cc)
 
 -- an LF makes several lines
 lf_several : (v : List ℕ) → has_lf v ≡ true → several (lines v) ≡ true
@@ -81,11 +78,7 @@ pub step_semicolon : (m : Bool) (v : List ℕ) → wants_from m (59 ∷ v) ≡ w
 step_semicolon m v = by m (has_lf v) (is_bare v) (is_mark 0 v) (has_mark 1 v) (twice v)
   where
     by : (m f b x y : Bool) → (x || y) ≡ y → (f || ((m && false) || ((b || x) || y))) ≡ (f || (b || y))
-    by m true b x y h = refl
-    by true false true x y h = refl
-    by true false false x y h = h
-    by false false true x y h = refl
-    by false false false x y h = h
+    by m f b x y h = grind arith
 
 pub step_percent : (w m : Bool) (v : List ℕ) → (w || wants_from m (37 ∷ v)) ≡ ((w || m) || wants_from m v)
 step_percent true m v = refl

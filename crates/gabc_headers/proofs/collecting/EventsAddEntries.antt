@@ -77,12 +77,9 @@ good_events t [] [] u h g = tt
 good_events t [] (q ∷ ps) u h g = absurd h
 good_events t (e ∷ es) [] u h g = absurd h
 good_events t (LeftOut k p ∷ es) (left_out j q ∷ ps) u h g = (tt, good_events t es ps u h.1 g)
-good_events t (LeftOut k p ∷ es) (unended j ∷ ps) u h g = absurd h.0
-good_events t (LeftOut k p ∷ es) (header j n v q ∷ ps) u h g = absurd h.0
-good_events t (Header k a b p ∷ es) (left_out j q ∷ ps) u h g = absurd h.0
-good_events t (Header k a b p ∷ es) (unended j ∷ ps) u h g = absurd h.0
 good_events t (Header k a b p ∷ es) (header j n v q ∷ ps) u h g =
     ((holds_within t n a u h.0.1, holds_within t v b u h.0.2, (let l = holds_len t n a h.0.1 in let m : bytes_len n ≤ 64 = g.0 in omega arith)), good_events t es ps u h.1 g.1)
+good_events t (e ∷ es) (q ∷ ps) u h g = absurd h.0
 
 -- the headers after some entries, and what is found after these names
 pub spelled-put : (text : List ℕ) (es : List (List ℕ × Span)) (name : List ℕ) (s : Span) → spelled_entries text (put_entry es name s) ≡ put_entry (spelled_entries text es) name (text_at text s)

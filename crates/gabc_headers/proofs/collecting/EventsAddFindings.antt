@@ -65,10 +65,6 @@ follow t (LeftOut k p ∷ es) (left_out j q ∷ ps) seen c u h s w =
       findings = f.findings ∙ between c.findings (c.findings ++ finding_at k E4 ∷ []) (finding_at j E4 ∷ []) (all_known (findings_after seen ps)) (ap (λ (n : ℕ). c.findings ++ finding_at n E4 ∷ []) h.0.0);
       within = f.within;
     }
-follow t (LeftOut k p ∷ es) (unended j ∷ ps) seen c u h s w = absurd h.0
-follow t (LeftOut k p ∷ es) (header j n v q ∷ ps) seen c u h s w = absurd h.0
-follow t (Header k a b p ∷ es) (left_out j q ∷ ps) seen c u h s w = absurd h.0
-follow t (Header k a b p ∷ es) (unended j ∷ ps) seen c u h s w = absurd h.0
 follow t (Header k a b p ∷ es) (header j n v q ∷ ps) seen c u h s w =
     rw (h.0.0, holds_shown t n a u h.0.1, holds_shown t v b u h.0.2) (by (is_kept n v) refl (λ d. follow t es ps d))
   where
@@ -95,3 +91,4 @@ follow t (Header k a b p ∷ es) (header j n v q ∷ ps) seen c u h s w =
           findings = rw e (f.findings ∙ append_assoc c.findings (finding_at j E5 ∷ []) (all_known (findings_after seen ps)));
           within = f.within;
         }
+follow t (e ∷ es) (q ∷ ps) seen c u h s w = absurd h.0

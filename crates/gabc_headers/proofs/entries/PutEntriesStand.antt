@@ -1,5 +1,5 @@
 -- Putting the entries in turn gives those that stand.
-use Rattle.std.proofs.Common.{◌≡◌, ℕ, List, [], ◌∷◌, ◌++◌, Bool, true, false, cond, not, ◌&&◌, ◌||◌, refl, sym, ap, ◌∙◌, subst, append_assoc, append-nil, bytes_eq}
+use Rattle.std.proofs.Common.{◌≡◌, ℕ, List, [], ◌∷◌, ◌++◌, Bool, true, false, cond, not, ◌&&◌, ◌||◌, refl, sym, ap, ◌∙◌, subst, append_assoc, append-nil, bytes_eq, arith}
 use Rattle.std.proofs.lemmas.Bool.{or_parts, false_from_ne_true}
 use Rattle.std.specs.Cmp.Lexicographic.{same_text}
 use Rattle.gabc_headers.specs.Book.{is_one_of, repeats, unless, last_value, value_of, standing_entries}
@@ -18,9 +18,7 @@ Distinct [] = Unit {0}
 Distinct (d ∷ ds) = (is_annotation d.0 ≡ false → is_one_of d.0 (names ds) ≡ false) × Distinct ds
 
 or_swap : (a b c : Bool) → (a || (b || c)) ≡ (b || (a || c))
-or_swap true true c = refl
-or_swap true false c = refl
-or_swap false b c = refl
+or_swap a b c = grind arith
 
 pub is_one_of-push : (n m : List ℕ) (ns : List (List ℕ)) → is_one_of n (ns ++ m ∷ []) ≡ is_one_of n (m ∷ ns)
 is_one_of-push n m [] = refl

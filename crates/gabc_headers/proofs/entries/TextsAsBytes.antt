@@ -86,13 +86,9 @@ bytes_len-chars bs u = sym (length-encodes (chars bs)) ∙ ap length (encodes-ch
 
 -- the name of a macro's header is ASCII
 macro_ascii : (d : ℕ) → d < 10 → IsAscii (macro_name d)
-macro_ascii d h zero = lit< tt
 macro_ascii d h (suc zero) = lit< tt
-macro_ascii d h (suc (suc zero)) = lit< tt
-macro_ascii d h (suc (suc (suc zero))) = lit< tt
-macro_ascii d h (suc (suc (suc (suc zero)))) = lit< tt
 macro_ascii d h (suc (suc (suc (suc (suc zero))))) = omega arith
-macro_ascii d h (suc (suc (suc (suc (suc (suc i)))))) = lit< tt
+macro_ascii d h _ = lit< tt
 
 pub chars-macro : (d : ℕ) → d < 10 → chars (macro_name d) ≡ macro_name d
 chars-macro d h = chars-IsAscii (macro_name d) (macro_ascii d h)

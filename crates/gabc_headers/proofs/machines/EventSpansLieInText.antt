@@ -112,8 +112,7 @@ module _ (rd : PartMachine) (i : ℕ) (h : Near i rd) where
       by true = (span_order rd.trim, (let x = span_to i rd.trim h.from h.to in omega arith))
       by false = tt
   near_name Blank good = (near_trim rd.state rd.line true true, tt)
-  near_name Semicolon good = (near_trim rd.state rd.line false false, tt)
-  near_name Other good = (near_trim rd.state rd.line false false, tt)
+  near_name _ good = (near_trim rd.state rd.line false false, tt)
 
   -- a step in a value
   near_value : (long : Bool) (run : Run) (k : HeaderChar) → NearAt i (value_step rd long run k i (i + 1))
@@ -123,17 +122,12 @@ module _ (rd : PartMachine) (i : ℕ) (h : Near i rd) where
       (near_same Skip, finish_at) (near_trim (Value long Text) rd.line false false, tt)
   near_value long run Blank = (near_trim _ rd.line true true, tt)
   near_value long run Semicolon = (near_trim _ rd.line false true, tt)
-  near_value long run Colon = (near_trim _ rd.line false false, tt)
-  near_value long run Other = (near_trim _ rd.line false false, tt)
+  near_value long run _ = (near_trim _ rd.line false false, tt)
 
   -- a step in a line that is skipped
   near_skip : (k : HeaderChar) → NearAt i (skip_step rd k (i + 1))
   near_skip LineEnd = (near_fresh (rd.line + 1) (i + 1), tt)
-  near_skip Semicolon = (near_same rd.state, tt)
-  near_skip Percent = (near_same rd.state, tt)
-  near_skip Blank = (near_same rd.state, tt)
-  near_skip Colon = (near_same rd.state, tt)
-  near_skip Other = (near_same rd.state, tt)
+  near_skip _ = (near_same rd.state, tt)
 
   -- each step
   pub near_step : (k : HeaderChar) (good : Bool) → NearAt i (next_part_machine rd k i (i + 1) good)
@@ -161,9 +155,8 @@ module _ (rd : PartMachine) (i : ℕ) (h : Near i rd) where
 
 -- a part that is late for i + 1 is late for i
 late_weak : (i : ℕ) (p : HeaderPart) → IsLate (i + 1) p → IsLate i p
-late_weak i (left_out k q) h = omega arith
-late_weak i (header k name value q) h = omega arith
 late_weak i (unended k) h = tt
+late_weak i _ h = omega arith
 
 -- so are many
 pub lates_weak : (i : ℕ) (ps : List HeaderPart) → AreLate (i + 1) ps → AreLate i ps

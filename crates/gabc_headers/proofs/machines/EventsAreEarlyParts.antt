@@ -26,9 +26,8 @@ emit_step t head back i es events (Some (Header k n v p)) b a h = emit_push t es
 
 -- a part that is early for i is early for i + 1
 early_weak : (i : ℕ) (p : HeaderPart) → IsEarly i p → IsEarly (i + 1) p
-early_weak i (left_out k q) h = omega arith
-early_weak i (header k name value q) h = omega arith
 early_weak i (unended k) h = h
+early_weak i _ h = omega arith
 
 -- so are many
 pub earlies_weak : (i : ℕ) (ps : List HeaderPart) → AreEarly i ps → AreEarly (i + 1) ps
@@ -55,9 +54,7 @@ open_emitted i (unended k ∷ events) rest h = absurd h.0
 
 -- the open value is after what the end emits
 pub open_rest : (head : List ℕ) (e : Option HeaderEvent) (o : Option ℕ) → open_line (seen head e ++ open_part o) ≡ o
-open_rest head None None = refl
-open_rest head None (Some k) = refl
 open_rest head (Some (LeftOut k p)) None = refl
 open_rest head (Some (LeftOut k p)) (Some j) = refl
-open_rest head (Some (Header k n v p)) None = refl
-open_rest head (Some (Header k n v p)) (Some j) = refl
+open_rest head _ None = refl
+open_rest head _ (Some j) = refl

@@ -69,9 +69,7 @@ reheld t limit done rest r es b h = record {
 
 -- what is no `%` at the start of a line begins no line `%%`
 no_score : (s p q : Bool) → (p && s) ≡ false → (s && (p && q)) ≡ false
-no_score true true q h = absurd (cc)
-no_score true false q h = refl
-no_score false p q h = refl
+no_score s p q h = grind arith
 
 module _ (t : List ℕ) (limit : ℕ) (rest : List ℕ) where
   -- a character that is read at once

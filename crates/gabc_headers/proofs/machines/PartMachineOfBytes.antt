@@ -100,8 +100,7 @@ module _ (f : ℕ → ℕ) (mono : (a b : ℕ) → a ≤ b → f a ≤ f b) wher
     in_name Colon good = ap (λ (x : Option Span). (record (value_begun_at (moved f r) (f next) good) { name = x }, cond good None (Some (LeftOut r.line at)))) (name_moved good r.trim)
         ∙ ap (λ (x : Option HeaderEvent). (moved f (value_begun_at r next good), x)) (events_moved good r.line at)
     in_name Blank good = quiet (with_trim (moved f r) (f next) true true) (with_trim r next true true) (with true true)
-    in_name Semicolon good = quiet (with_trim (moved f r) (f next) false false) (with_trim r next false false) (with false false)
-    in_name Other good = quiet (with_trim (moved f r) (f next) false false) (with_trim r next false false) (with false false)
+    in_name _ good = quiet (with_trim (moved f r) (f next) false false) (with_trim r next false false) (with false false)
 
     two : (b : Bool) (s t : PartMachine × Option HeaderEvent) (s' t' : PartMachine × Option HeaderEvent) → s' ≡ moved_both f s → t' ≡ moved_both f t → cond b s' t' ≡ moved_both f (cond b s t)
     two true s t s' t' e g = e
@@ -116,8 +115,7 @@ module _ (f : ℕ → ℕ) (mono : (a b : ℕ) → a ≤ b → f a ≤ f b) wher
         (quiet _ _ (within_value long Text false false))
     in_line long run Blank = quiet _ _ (within_value long (next_run run long Blank) true true)
     in_line long run Semicolon = quiet _ _ (within_value long (next_run run long Semicolon) false true)
-    in_line long run Colon = quiet _ _ (within_value long Text false false)
-    in_line long run Other = quiet _ _ (within_value long Text false false)
+    in_line long run _ = quiet _ _ (within_value long Text false false)
 
     -- a step over moved places is the step, moved
     pub step_moved : (k : HeaderChar) (good : Bool) → next_part_machine (moved f r) k at (f next) good ≡ moved_both f (next_part_machine r k at next good)
@@ -126,9 +124,5 @@ module _ (f : ℕ → ℕ) (mono : (a b : ℕ) → a ≤ b → f a ≤ f b) wher
         by : (st : PartState) (k : HeaderChar) → step_in st (moved f r) k at (f next) good ≡ moved_both f (step_in st r k at next good)
         by Name k = in_name k good
         by Skip Semicolon = refl
-        by Skip Percent = refl
-        by Skip Blank = refl
-        by Skip LineEnd = refl
-        by Skip Colon = refl
-        by Skip Other = refl
+        by Skip _ = refl
         by (Value long run) k = in_line long run k

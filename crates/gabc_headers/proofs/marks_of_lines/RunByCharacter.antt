@@ -229,10 +229,9 @@ close long run p l h i j a b =
 
 -- so is the run that the machine takes for one
 pub run_closes : (long : Bool) (run : Run) (p l : List ℕ) → RunOf long run p → is_mark_run run ≡ true → is_bare l ≡ true → Closed long p l
-run_closes long Text p l h e b = absurd (cc)
-run_closes long Short p l h e b = absurd (cc)
 run_closes long Enough p l h e b = let s = h.shape in close long Enough p l h s.0 s.1 (ap all_blank s.2) b
 run_closes long Spaced p l h e b = let s = h.shape in close long Spaced p l h s.0 s.1 s.2 b
+run_closes long _ p l h e b = absurd (cc)
 
 -- at the end, the run that it takes for none is none
 pub run_open : (long : Bool) (run : Run) (p : List ℕ) → RunOf long run p → is_mark_run run ≡ false → has_mark (wanted long) p ≡ false

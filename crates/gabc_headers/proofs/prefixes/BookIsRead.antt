@@ -42,8 +42,7 @@ fault_keeps s (Some fault) = by s.progress
   where
     by : (p : HeadProgress) → (stage_at s (progress_after s.limits p (Err fault))).book ≡ s.book
     by (after_headers book) = refl
-    by (reading t) = refl
-    by over = refl
+    by _ = refl
 
 pub book_is_read : (limits : Limits) (hasher : DefaultHasher) (t : List ℕ) (heads : Heads) (fault : Option Fault) → scalars t ≡ true → heads_of limits t ≡ Ok heads
     → (stage_past (fresh_stage limits hasher) (inputs_after [] t ++ fault_items fault)).book ≡ heads.book

@@ -110,10 +110,9 @@ ends_body place body book found false false true = whole _ [] refl (sym (append-
 ends_body place body book found false false false = whole _ _ refl refl
 
 pub ends_with : (limits : Limits) (t : List ℕ) (c : Collected) (end : HeaderEnding) → IsNoText (Ended end) → EndsWith c.findings (heads_at limits t c end)
-ends_with limits t c (Limit place) h = stopped _ refl refl refl
-ends_with limits t c (Score place body (Some k)) h = stopped _ refl refl refl
 ends_with limits t c (Score place body None) h = ends_body place body (spelled_entries (encodes t) c.headers) c.findings _ _ _
 ends_with limits t c (Text place line) h = absurd h
+ends_with limits t c _ h = stopped _ refl refl refl
 
 -- ---- the text with the second `%`
 

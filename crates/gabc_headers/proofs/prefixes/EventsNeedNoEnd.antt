@@ -114,8 +114,7 @@ past_one_more limits progress (x ∷ xs) last = past_one_more limits (progress_a
 -- after a fault nothing is given at the end
 silent_after_fault : (limits : Limits) (progress : HeadProgress) (fault : Fault) → events_of_end limits (progress_after limits progress (Err fault)) ≡ []
 silent_after_fault limits (reading t) fault = refl
-silent_after_fault limits (after_headers book) fault = refl
-silent_after_fault limits over fault = refl
+silent_after_fault limits _ fault = refl
 
 -- ---- by the headers of the text
 

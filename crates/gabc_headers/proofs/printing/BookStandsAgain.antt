@@ -125,23 +125,16 @@ AreHeaders _ _ = ⊥
 
 pub headers_entries : (ps : List HeaderPart) (es : List (List ℕ × List ℕ)) → AreHeaders ps es → AreEntries es → entries ps ≡ es
 headers_entries [] [] h g = refl
-headers_entries [] (e ∷ es) h g = absurd h
-headers_entries (left_out k p ∷ ps) es h g = absurd h
-headers_entries (unended k ∷ ps) es h g = absurd h
-headers_entries (header k name v p ∷ ps) [] h g = absurd h
 headers_entries (header k name v p ∷ ps) (e ∷ es) h g =
     let kept : is_kept name v ≡ true = ap (λ (x : List ℕ). is_kept x v) h.0.0 ∙ ap (is_kept e.0) h.0.1 ∙ g.0.kept in
     ap (λ (b : Bool). unless (not b) (name, v) (entries ps)) kept
     ∙ ap (λ (x : List (List ℕ × List ℕ)). (name, v) ∷ x) (headers_entries ps es h.1 g.1)
     ∙ ap (λ (x : List ℕ). (x, v) ∷ es) h.0.0 ∙ ap (λ (x : List ℕ). (e.0, x) ∷ es) h.0.1
+headers_entries _ _ h g = absurd h
 
 -- nothing is found at them
 pub headers_found : (seen : List (List ℕ)) (ps : List HeaderPart) (es : List (List ℕ × List ℕ)) → AreHeaders ps es → AreEntries es → NoneAgain seen es → findings_after seen ps ≡ []
 headers_found seen [] [] h g n = refl
-headers_found seen [] (e ∷ es) h g n = absurd h
-headers_found seen (left_out k p ∷ ps) es h g n = absurd h
-headers_found seen (unended k ∷ ps) es h g n = absurd h
-headers_found seen (header k name v p ∷ ps) [] h g n = absurd h
 headers_found seen (header k name v p ∷ ps) (e ∷ es) h g n =
     let kept : is_kept name v ≡ true = ap (λ (x : List ℕ). is_kept x v) h.0.0 ∙ ap (is_kept e.0) h.0.1 ∙ g.0.kept in
     let once : repeats seen name ≡ false = ap (repeats seen) h.0.0 ∙ n.0 in
@@ -150,11 +143,10 @@ headers_found seen (header k name v p ∷ ps) (e ∷ es) h g n =
     ap (λ (x : List Known). x ++ findings_after (names_after seen (header k name v p)) ps) none
     ∙ ap (λ (x : List (List ℕ)). findings_after x ps) next
     ∙ headers_found (e.0 ∷ seen) ps es h.1 g.1 n.1
+headers_found seen _ _ h g n = absurd h
 
 -- each of them is ended
 pub headers_closed : (ps : List HeaderPart) (es : List (List ℕ × List ℕ)) → AreHeaders ps es → open_line ps ≡ None
 headers_closed [] es h = refl
-headers_closed (left_out k p ∷ ps) es h = absurd h
-headers_closed (unended k ∷ ps) es h = absurd h
-headers_closed (header k name v p ∷ ps) [] h = absurd h
 headers_closed (header k name v p ∷ ps) (e ∷ es) h = headers_closed ps es h.1
+headers_closed _ _ h = absurd h

@@ -40,9 +40,7 @@ stands limits part text space machine headers view e r i = by part (subst (λ (v
   where
     by : (part : HeadPart) → IsInHeaders (progress_in part text (book_in part text headers.items)) → IsStageIn part limits text space machine headers → StandsInHeaders limits part text space machine headers
     by InHeaders r i = record { part_is = refl; reads = i }
-    by After r i = absurd r
-    by Stopped r i = absurd r
-    by Over r i = absurd r
+    by _ r i = absurd r
 
 -- the events of a character are those at the text
 pub events_in : (limits : Limits) (part : HeadPart) (text : List ℕ) (headers : EntryMapState) (view : HeaderStageState) (c : ℕ) → part ≡ InHeaders → view_of limits part text headers ≡ view
@@ -101,9 +99,7 @@ shows_over limits part text headers view e = by part ∙ ap (λ (v : HeaderStage
   where
     by : (part : HeadPart) → view_of limits (part_over part) text headers ≡ stage_at (view_of limits part text headers) over
     by InHeaders = refl
-    by After = refl
-    by Stopped = refl
-    by Over = refl
+    by _ = refl
 
 -- ---- few events
 
@@ -124,16 +120,12 @@ few_heads place book event = by (has_header (codes "name") book)
 pub keeps : (limits : Limits) (part : HeadPart) (text : List ℕ) (space : ℕ) (machine : HeaderMachine) (headers : EntryMapState) → IsUtf8 text → IsStageIn part limits text space machine headers
     → KeepsHeaders limits text space headers
 keeps limits InHeaders text space machine headers u i = record { text_fits = i.fits; headers_fit = i.limit; within = values_lie_within limits text space machine headers u i }
-keeps limits After text space machine headers u i = i
-keeps limits Stopped text space machine headers u i = i
-keeps limits Over text space machine headers u i = i
+keeps limits _ text space machine headers u i = i
 
 pub stands_over : (limits : Limits) (part : HeadPart) (text : List ℕ) (space : ℕ) (machine : HeaderMachine) (headers : EntryMapState) → KeepsHeaders limits text space headers
     → IsStageIn (part_over part) limits text space machine headers
 stands_over limits InHeaders text space machine headers k = k
-stands_over limits After text space machine headers k = k
-stands_over limits Stopped text space machine headers k = k
-stands_over limits Over text space machine headers k = k
+stands_over limits _ text space machine headers k = k
 
 pub nothing_added : {T : Type 0} (out : BoundedList T) → out ≡ extended_by out []
 nothing_added out = ap (λ (x : List _). record out { items = x }) (sym (append-nil out.items))

@@ -62,9 +62,8 @@ headers_alone text (Header k n v p) c = by (is_kept (text_at text n) (text_at te
     by false = refl
 
 found_alone : (text : List ℕ) (e : Option HeaderEvent) (c : Collected) → found_at text e c ≡ found_at text e (of_headers c.headers)
-found_alone text None c = refl
 found_alone text (Some (LeftOut k p)) c = refl
-found_alone text (Some (Header k n v p)) c = refl
+found_alone text _ c = refl
 
 -- the headers with an event, if there is one
 abbrev pub put_at : List ℕ → Option HeaderEvent → List (List ℕ × Span) → List (List ℕ × Span)

@@ -28,9 +28,8 @@ use Rattle.gabc_headers.proofs.stages.MachineTakesText.{along, ReadBy, holds, st
 
 -- the headers among events
 abbrev header_count : Option HeaderEvent → ℕ
-header_count None = 0
-header_count (Some (LeftOut k p)) = 0
 header_count (Some (Header k n v p)) = 1
+header_count _ = 0
 
 abbrev headers_in : List HeaderEvent → ℕ
 headers_in [] = 0
@@ -40,9 +39,7 @@ headers_in (e ∷ es) = header_count (Some e) + headers_in es
 abbrev IsSpentIn : ℕ → ℕ → Run → Option Span → Type 0
 IsSpentIn k bytes run None = 3 * k ≤ bytes
 IsSpentIn k bytes Text (Some n) = 3 * k + 2 ≤ bytes
-IsSpentIn k bytes Short (Some n) = 3 * k + 3 ≤ bytes
-IsSpentIn k bytes Enough (Some n) = 3 * k + 3 ≤ bytes
-IsSpentIn k bytes Spaced (Some n) = 3 * k + 3 ≤ bytes
+IsSpentIn k bytes _ (Some n) = 3 * k + 3 ≤ bytes
 
 abbrev IsSpentAt : ℕ → ℕ → PartState → PartMachine → Type 0
 IsSpentAt k bytes Name r = (3 * k ≤ r.trim.from) × (r.trim.from ≤ bytes) × (r.trim.to ≤ bytes)
@@ -56,9 +53,7 @@ IsSpent k bytes r = IsSpentAt k bytes r.state r
 in_any : (k bytes : ℕ) (run : Run) (name : Option Span) → IsSpentIn k bytes run name → 3 * k ≤ bytes
 in_any k bytes run None h = h
 in_any k bytes Text (Some n) h = omega arith
-in_any k bytes Short (Some n) h = omega arith
-in_any k bytes Enough (Some n) h = omega arith
-in_any k bytes Spaced (Some n) h = omega arith
+in_any k bytes _ (Some n) h = omega arith
 
 pub three_each : (k bytes : ℕ) (r : PartMachine) → IsSpent k bytes r → 3 * k ≤ bytes
 three_each k bytes r = by r.state
@@ -72,8 +67,7 @@ three_each k bytes r = by r.state
 in_mark : (k bytes : ℕ) (run : Run) (n : Span) → is_mark_run run ≡ true → IsSpentIn k bytes run (Some n) → 3 * k + 3 ≤ bytes
 in_mark k bytes Text n q h = absurd (cc)
 in_mark k bytes Short n q h = absurd (cc)
-in_mark k bytes Enough n q h = h
-in_mark k bytes Spaced n q h = h
+in_mark k bytes _ n q h = h
 
 -- after the end of a value
 ended : (k bytes at : ℕ) (long : Bool) (run : Run) (r : PartMachine) → is_mark_run run ≡ true → IsSpentIn k bytes run r.name → 3 * (k + header_count (event_at_end r at)) ≤ bytes
@@ -87,31 +81,21 @@ ended k bytes at long run r q = by r.name
 to_text : (k bytes next : ℕ) (run : Run) (name : Option Span) → bytes ≤ next → IsSpentIn k bytes run name → IsSpentIn k next Text name
 to_text k bytes next run None l h = omega arith
 to_text k bytes next Text (Some n) l h = omega arith
-to_text k bytes next Short (Some n) l h = omega arith
-to_text k bytes next Enough (Some n) l h = omega arith
-to_text k bytes next Spaced (Some n) l h = omega arith
+to_text k bytes next _ (Some n) l h = omega arith
 
 to_blank : (k bytes next : ℕ) (long : Bool) (run : Run) (name : Option Span) → bytes ≤ next → IsSpentIn k bytes run name → IsSpentIn k next (next_run run long Blank) name
 to_blank k bytes next long Text name l h = to_text k bytes next Text name l h
 to_blank k bytes next long Short name l h = to_text k bytes next Short name l h
-to_blank k bytes next long Enough None l h = omega arith
-to_blank k bytes next long Spaced None l h = omega arith
-to_blank k bytes next long Enough (Some n) l h = omega arith
-to_blank k bytes next long Spaced (Some n) l h = omega arith
+to_blank k bytes next long _ None l h = omega arith
+to_blank k bytes next long _ (Some n) l h = omega arith
 
 to_semicolon : (k bytes next : ℕ) (long : Bool) (run : Run) (name : Option Span) → bytes + 1 ≤ next → IsSpentIn k bytes run name → IsSpentIn k next (next_run run long Semicolon) name
-to_semicolon k bytes next long Short None l h = omega arith
-to_semicolon k bytes next long Enough None l h = omega arith
-to_semicolon k bytes next long Short (Some n) l h = omega arith
-to_semicolon k bytes next long Enough (Some n) l h = omega arith
 to_semicolon k bytes next true Text None l h = omega arith
 to_semicolon k bytes next false Text None l h = omega arith
 to_semicolon k bytes next true Text (Some n) l h = omega arith
 to_semicolon k bytes next false Text (Some n) l h = omega arith
-to_semicolon k bytes next true Spaced None l h = omega arith
-to_semicolon k bytes next false Spaced None l h = omega arith
-to_semicolon k bytes next true Spaced (Some n) l h = omega arith
-to_semicolon k bytes next false Spaced (Some n) l h = omega arith
+to_semicolon k bytes next long _ None l h = omega arith
+to_semicolon k bytes next long _ (Some n) l h = omega arith
 
 -- a trim goes on within the bytes
 trimmed : (k bytes next : ℕ) (t : Trim) (lead last : Bool) → bytes ≤ next → (3 * k ≤ t.from) × (t.from ≤ bytes) × (t.to ≤ bytes)
@@ -163,19 +147,14 @@ module _ (k bytes next at : ℕ) (r : PartMachine) (l : bytes + 1 ≤ next) wher
       by true q = let n : 3 * k + 2 ≤ next = named k bytes next r l h true q in omega (arith, n)
       by false q = let n : 3 * k ≤ next = named k bytes next r l h false q in omega (arith, n)
   in_name Blank h s = rw s (subst (λ (n : ℕ). (3 * n ≤ (next_trim r.trim next true true).from) × ((next_trim r.trim next true true).from ≤ next) × ((next_trim r.trim next true true).to ≤ next)) (let e : k ≡ k + 0 = omega arith in e) (trimmed k bytes next r.trim true true weaker h))
-  in_name Semicolon h s = rw s (subst (λ (n : ℕ). (3 * n ≤ (next_trim r.trim next false false).from) × ((next_trim r.trim next false false).from ≤ next) × ((next_trim r.trim next false false).to ≤ next)) (let e : k ≡ k + 0 = omega arith in e) (trimmed k bytes next r.trim false false weaker h))
-  in_name Other h s = rw s (subst (λ (n : ℕ). (3 * n ≤ (next_trim r.trim next false false).from) × ((next_trim r.trim next false false).from ≤ next) × ((next_trim r.trim next false false).to ≤ next)) (let e : k ≡ k + 0 = omega arith in e) (trimmed k bytes next r.trim false false weaker h))
+  in_name _ h s = rw s (subst (λ (n : ℕ). (3 * n ≤ (next_trim r.trim next false false).from) × ((next_trim r.trim next false false).from ≤ next) × ((next_trim r.trim next false false).to ≤ next)) (let e : k ≡ k + 0 = omega arith in e) (trimmed k bytes next r.trim false false weaker h))
 
   same : 3 * k ≤ bytes → r.state ≡ Skip → IsSpent (k + 0) next r
   same h s = rw s (omega (arith, h, l))
 
   in_skip : (kind : HeaderChar) → 3 * k ≤ bytes → r.state ≡ Skip → IsSpentBy k next (skip_step r kind next)
   in_skip LineEnd h s = (omega arith, omega arith, omega arith)
-  in_skip Percent h s = same h s
-  in_skip Colon h s = same h s
-  in_skip Blank h s = same h s
-  in_skip Semicolon h s = same h s
-  in_skip Other h s = same h s
+  in_skip _ h s = same h s
 
   none_more : (run : Run) (name : Option Span) → IsSpentIn k next run name → IsSpentIn (k + 0) next run name
   none_more run name h = subst (λ (n : ℕ). IsSpentIn n next run name) (let e : k ≡ k + 0 = omega arith in e) h
@@ -193,8 +172,7 @@ module _ (k bytes next at : ℕ) (r : PartMachine) (l : bytes + 1 ≤ next) wher
       by false q = none_more Text r.name (to_text k bytes next run r.name weaker h)
   in_value long run Blank h = none_more _ r.name (to_blank k bytes next long run r.name weaker h)
   in_value long run Semicolon h = none_more _ r.name (to_semicolon k bytes next long run r.name l h)
-  in_value long run Colon h = none_more Text r.name (to_text k bytes next run r.name weaker h)
-  in_value long run Other h = none_more Text r.name (to_text k bytes next run r.name weaker h)
+  in_value long run _ h = none_more Text r.name (to_text k bytes next run r.name weaker h)
 
   -- one character
   spent_more : (kind : HeaderChar) → IsSpent k bytes r → IsSpentBy k next (next_part_machine r kind at next (is_good_span (span_of r.trim)))
@@ -210,9 +188,7 @@ module _ (k bytes next at : ℕ) (r : PartMachine) (l : bytes + 1 ≤ next) wher
 fewer_in : (j k bytes : ℕ) (run : Run) (name : Option Span) → j ≤ k → IsSpentIn k bytes run name → IsSpentIn j bytes run name
 fewer_in j k bytes run None l h = omega arith
 fewer_in j k bytes Text (Some n) l h = omega arith
-fewer_in j k bytes Short (Some n) l h = omega arith
-fewer_in j k bytes Enough (Some n) l h = omega arith
-fewer_in j k bytes Spaced (Some n) l h = omega arith
+fewer_in j k bytes _ (Some n) l h = omega arith
 
 fewer : (j k bytes : ℕ) (r : PartMachine) → j ≤ k → IsSpent k bytes r → IsSpent j bytes r
 fewer j k bytes r l = by r.state

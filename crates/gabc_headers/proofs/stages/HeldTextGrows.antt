@@ -54,10 +54,7 @@ more_found limits t x h = ap (events_by (new_findings limits t (t ++ x.c ∷ [])
 abbrev found_in : List HeadEvent → List Finding
 found_in [] = []
 found_in (Found f ∷ events) = f ∷ found_in events
-found_in (Stop fault ∷ events) = found_in events
-found_in (Body x ∷ events) = found_in events
-found_in (Heads lines macros canonical ∷ events) = found_in events
-found_in (End ∷ events) = found_in events
+found_in (_ ∷ events) = found_in events
 
 found_back : (fs : List Finding) → found_in (found fs) ≡ fs
 found_back [] = refl
