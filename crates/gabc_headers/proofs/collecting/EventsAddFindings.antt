@@ -7,7 +7,7 @@ use Rattle.gabc_places.specs.declared.code.Code.TheVariants.{E4, E5, W2}
 use Rattle.gabc_headers.specs.machine.Collected.{Collected}
 use Rattle.gabc_headers.specs.declared.events.HeaderEvent.{HeaderEvent}
 use Rattle.gabc_headers.specs.declared.events.HeaderEvent.TheVariants.{LeftOut, Header}
-use Rattle.gabc_headers.specs.Parts.{HeaderPart, left_out, header, unended}
+use Rattle.gabc_headers.specs.Parts.{HeaderPart, left_out, header}
 use Rattle.gabc_headers.specs.Book.{is_kept, repeats, entries, is_one_of}
 use Rattle.gabc_headers.specs.Heads.{findings_after, known_at, line_place}
 use Rattle.gabc_headers.specs.EntryMap.{is_annotation, put_entry, put_all, with_value}

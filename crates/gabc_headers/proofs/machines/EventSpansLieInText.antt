@@ -2,11 +2,11 @@
 -- and what it has not emitted yet becomes known later.
 use Rattle.std.proofs.Common.{◌≡◌, ℕ, ◌+◌, ◌≤◌, List, [], ◌∷◌, ◌++◌, drop, Bool, true, false, cond, Option, Some, None, refl, sym, ap, ◌∙◌, arith, append_assoc, slice_range, drop-drop, nat_lt, not, le_refl}
 use Rattle.gabc_places.specs.declared.place.Span.{Span}
-use Rattle.gabc_headers.specs.Parts.{HeaderPart, left_out, header, unended, is_good_name}
+use Rattle.gabc_headers.specs.Parts.{HeaderPart, header, unended, is_good_name}
 use Rattle.gabc_headers.specs.declared.characters.Run.{Run}
 use Rattle.gabc_headers.specs.declared.characters.Run.TheVariants.{Text}
 use Rattle.gabc_headers.specs.declared.characters.HeaderChar.{HeaderChar}
-use Rattle.gabc_headers.specs.declared.characters.HeaderChar.TheVariants.{Semicolon, Percent, Blank, LineEnd, Colon, Other}
+use Rattle.gabc_headers.specs.declared.characters.HeaderChar.TheVariants.{Semicolon, Percent, Blank, LineEnd, Colon}
 use Rattle.gabc_headers.specs.declared.part_machine.PartState.{PartState}
 use Rattle.gabc_headers.specs.declared.part_machine.PartState.TheVariants.{Name, Skip, Value}
 use Rattle.gabc_headers.specs.declared.part_machine.PartMachine.{PartMachine}

@@ -5,7 +5,7 @@ use Rattle.gabc_places.specs.declared.place.Span.{Span}
 use Rattle.gabc_headers.specs.declared.characters.Run.{Run}
 use Rattle.gabc_headers.specs.declared.characters.Run.TheVariants.{Text}
 use Rattle.gabc_headers.specs.declared.characters.HeaderChar.{HeaderChar}
-use Rattle.gabc_headers.specs.declared.characters.HeaderChar.TheVariants.{Semicolon, Percent, Blank, LineEnd, Colon, Other}
+use Rattle.gabc_headers.specs.declared.characters.HeaderChar.TheVariants.{Semicolon, Percent, Blank, LineEnd, Colon}
 use Rattle.gabc_headers.specs.declared.part_machine.Trim.{Trim}
 use Rattle.gabc_headers.specs.declared.part_machine.PartState.{PartState}
 use Rattle.gabc_headers.specs.declared.part_machine.PartState.TheVariants.{Name, Skip, Value}

@@ -6,9 +6,9 @@ use Rattle.std.proofs.lemmas.Str.{len_utf8_bounds}
 use Rattle.std.proofs.lemmas.Bool.{and_parts}
 use Rattle.gabc_places.specs.declared.place.Span.{Span}
 use Rattle.gabc_headers.specs.declared.characters.HeaderChar.{HeaderChar}
-use Rattle.gabc_headers.specs.declared.characters.HeaderChar.TheVariants.{Semicolon, Percent, Blank, LineEnd, Colon, Other}
+use Rattle.gabc_headers.specs.declared.characters.HeaderChar.TheVariants.{Semicolon, Percent, Blank, LineEnd, Colon}
 use Rattle.gabc_headers.specs.declared.characters.Run.{Run}
-use Rattle.gabc_headers.specs.declared.characters.Run.TheVariants.{Text, Short, Enough, Spaced}
+use Rattle.gabc_headers.specs.declared.characters.Run.TheVariants.{Text, Short}
 use Rattle.gabc_headers.specs.declared.events.HeaderEvent.{HeaderEvent}
 use Rattle.gabc_headers.specs.declared.events.HeaderEvent.TheVariants.{LeftOut, Header}
 use Rattle.gabc_headers.specs.declared.part_machine.Trim.{Trim}

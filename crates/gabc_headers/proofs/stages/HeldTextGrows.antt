@@ -12,7 +12,7 @@ use Rattle.gabc_places.specs.Place.{place_after}
 use Rattle.gabc_places.proofs.texts.PlacesOfCharacters.{placed-append}
 use Rattle.gabc_places.proofs.decoding.PlainTextsAreReadAgain.{all_scalars}
 use Rattle.gabc_headers.specs.declared.head_event.HeadEvent.{HeadEvent}
-use Rattle.gabc_headers.specs.declared.head_event.HeadEvent.TheVariants.{Found, Stop, Body, Heads, End}
+use Rattle.gabc_headers.specs.declared.head_event.HeadEvent.TheVariants.{Found}
 use Rattle.gabc_headers.specs.declared.heads.Heads.{Heads as ReadHeads}
 use Rattle.gabc_headers.specs.declared.heads.HeadFault.{HeadFault}
 use Rattle.gabc_headers.specs.Heads.{findings_of}

@@ -4,7 +4,7 @@ use Rattle.gabc_places.specs.BoundedList.{BoundedList, extended_by}
 use Rattle.gabc_places.specs.StageLaw.{Pushes, Finishes}
 use Rattle.gabc_places.specs.declared.place.Char.{Char}
 use Rattle.gabc_text.specs.declared.token_state.TokenState.{TokenState}
-use Rattle.gabc_text.specs.declared.token_state.TokenState.TheVariants.{Plain, Dollar, Comment, Tag, Raw, Translation}
+use Rattle.gabc_text.specs.declared.token_state.TokenState.TheVariants.{Plain}
 use Rattle.gabc_text.specs.declared.text_facts.TextFacts.{TextFacts}
 use Rattle.gabc_text.specs.declared.progress.Progress.{Progress}
 use Rattle.gabc_text.specs.declared.stage.TextStage.{TextStage}

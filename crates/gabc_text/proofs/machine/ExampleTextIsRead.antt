@@ -5,7 +5,7 @@ use Rattle.std.proofs.Math.Bool.{and-false}
 use Rattle.gabc_text.specs.declared.token.RawKind.{RawKind}
 use Rattle.gabc_text.specs.declared.token.RawKind.TheVariants.{V, Sp, Alt}
 use Rattle.gabc_text.specs.declared.token_state.TokenState.{TokenState}
-use Rattle.gabc_text.specs.declared.token_state.TokenState.TheVariants.{Plain, Dollar, Comment, Tag, Raw, Translation}
+use Rattle.gabc_text.specs.declared.token_state.TokenState.TheVariants.{Comment, Tag, Raw, Translation}
 use Rattle.gabc_text.specs.declared.token_state.Step.{Step}
 use Rattle.gabc_text.specs.declared.token_state.Step.TheVariants.{Stays, Ends}
 use Rattle.gabc_text.specs.declared.text_facts.TextFacts.{TextFacts}

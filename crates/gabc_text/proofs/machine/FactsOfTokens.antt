@@ -4,9 +4,9 @@ use Rattle.gabc_text.specs.declared.styles.Style.{Style}
 use Rattle.gabc_text.specs.declared.styles.Style.TheVariants.{B, C, E, I, Sc, Tt, Ul}
 use Rattle.gabc_text.specs.declared.text_facts.TextFacts.{TextFacts}
 use Rattle.gabc_text.specs.declared.token.TokenKind.{TokenKind}
-use Rattle.gabc_text.specs.declared.token.TokenKind.TheVariants.{Letter, Blank, Comment, Stray, Begin, End, Tag, Raw, Translation, OpenTag, OpenTranslation}
+use Rattle.gabc_text.specs.declared.token.TokenKind.TheVariants.{Tag}
 use Rattle.gabc_text.specs.declared.token.TagEffect.{TagEffect}
-use Rattle.gabc_text.specs.declared.token.TagEffect.TheVariants.{Opens, Closes, Mark, Begins, Other}
+use Rattle.gabc_text.specs.declared.token.TagEffect.TheVariants.{Opens, Closes}
 use Rattle.gabc_text.specs.Events.{styles_of}
 use Rattle.gabc_text.specs.Token.{Token, spelling, effect_of}
 use Rattle.gabc_text.specs.View.{effect, effect_as, is_open, is_open_after, has_word, follows_blank, follows_space, has_begin, has_end, has_translation, starts_word, is_left_out, piece_kind, is_word_kind, is_space, is_begin, is_end, is_translation}

@@ -11,7 +11,7 @@ use Rattle.gabc_places.specs.declared.code.Code.TheVariants.{W3, W4, W5}
 use Rattle.gabc_text.specs.declared.token.TokenKind.{TokenKind}
 use Rattle.gabc_text.specs.declared.token.TokenKind.TheVariants as kind
 use Rattle.gabc_text.specs.declared.token.TagEffect.{TagEffect}
-use Rattle.gabc_text.specs.declared.token.TagEffect.TheVariants.{Opens, Closes, Other}
+use Rattle.gabc_text.specs.declared.token.TagEffect.TheVariants.{Opens, Closes}
 use Rattle.gabc_text.specs.declared.view.PieceKind.{PieceKind}
 use Rattle.gabc_text.specs.declared.view.PieceKind.TheVariants as piece
 use Rattle.gabc_text.specs.declared.text_facts.TextFacts.{TextFacts}
@@ -25,7 +25,7 @@ use Rattle.gabc_text.specs.declared.text_event.TextEvent.TheVariants as out
 use Rattle.gabc_text.specs.Token.{Token, spelling, tokens, is_text}
 use Rattle.gabc_text.specs.View.{along, effect, kind_of, late_codes, is_open, all_styles, has_begin, has_end, found_at, findings_at_end, text_of, place_of, bytes_of, kept_at, count_pieces, early_codes, is_cut, is_open_kind, follows_space, has_translation, is_left_out}
 use Rattle.gabc_text.specs.Events as Outs
-use Rattle.gabc_text.specs.Events.{parts_at, centre_of, kept_lists_as, option_list_of, CountsFit, events_by_point, end_events, token_events, lists_at, lists_end, owed_events, is_lone, with_first, with_last, no_events_each, kept_each, kept_lists_by, finding_events, kept_of, last_at, but_last, end_after, end_by_rest, after_tokens}
+use Rattle.gabc_text.specs.Events.{parts_at, centre_of, kept_lists_as, option_list_of, CountsFit, events_by_point, token_events, lists_at, lists_end, owed_events, is_lone, with_first, with_last, no_events_each, kept_each, kept_lists_by, finding_events, kept_of, last_at, but_last, end_after, end_by_rest, after_tokens}
 use Rattle.gabc_text.specs.machine.TextFacts.{facts_after}
 use Rattle.gabc_text.specs.TextFacts.{no_facts}
 use Rattle.gabc_text.specs.TextStage.{fresh_stage, count_plus}

@@ -7,7 +7,7 @@ use Rattle.std.proofs.Math.Bool.{and-false}
 use Rattle.gabc_text.specs.declared.token_state.TokenState.{TokenState}
 use Rattle.gabc_text.specs.declared.token_state.TokenState.TheVariants.{Raw}
 use Rattle.gabc_text.specs.declared.token.RawKind.{RawKind}
-use Rattle.gabc_text.specs.declared.token.RawKind.TheVariants.{V, Sp, Alt}
+use Rattle.gabc_text.specs.declared.token.RawKind.TheVariants.{V}
 use Rattle.gabc_text.specs.declared.text_facts.TextFacts.{TextFacts}
 use Rattle.gabc_text.specs.declared.progress.Progress.{Progress}
 use Rattle.gabc_text.specs.declared.stage.TextStage.{TextStage}

@@ -1,5 +1,5 @@
 -- Past a token that has ended, the tokens ahead are those of the state past it.
-use Rattle.std.proofs.Common.{◌≡◌, ℕ, List, [], ◌∷◌, ◌++◌, Bool, true, false, cond, refl, sym, ap, ◌∙◌, append_assoc, length, drop, arith}
+use Rattle.std.proofs.Common.{◌≡◌, ℕ, List, [], ◌∷◌, ◌++◌, Bool, false, cond, refl, sym, ap, ◌∙◌, append_assoc, length, drop, arith}
 use Rattle.gabc_places.specs.declared.place.Place.{Place}
 use Rattle.gabc_text.specs.declared.text_facts.TextFacts.{TextFacts}
 use Rattle.gabc_text.specs.declared.token.TokenKind.{TokenKind}

@@ -10,7 +10,7 @@ use Rattle.gabc_places.specs.declared.code.Finding.{Finding}
 use Rattle.gabc_text.specs.declared.token.TokenKind.{TokenKind}
 use Rattle.gabc_text.specs.declared.token.TokenKind.TheVariants as kind
 use Rattle.gabc_text.specs.declared.token.TagEffect.{TagEffect}
-use Rattle.gabc_text.specs.declared.token.TagEffect.TheVariants.{Opens, Closes, Mark, Begins, Other}
+use Rattle.gabc_text.specs.declared.token.TagEffect.TheVariants.{Opens, Closes, Other}
 use Rattle.gabc_text.specs.Token.{Token, spelling, tokens}
 use Rattle.gabc_text.specs.View.{along, effect, is_open, all_styles, has_begin, has_end, has_translation, is_cut, early_codes, late_codes, found_at, findings_at, findings_at_end, findings, place_of, text_of}
 use Rattle.gabc_places.proofs.PlacesOfAText.{place_append}

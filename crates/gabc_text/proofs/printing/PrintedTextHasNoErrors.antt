@@ -11,7 +11,7 @@ use Rattle.gabc_text.specs.declared.styles.Style.{Style}
 use Rattle.gabc_text.specs.declared.token.TokenKind.{TokenKind}
 use Rattle.gabc_text.specs.declared.token.TokenKind.TheVariants as kind
 use Rattle.gabc_text.specs.declared.token.TagEffect.{TagEffect}
-use Rattle.gabc_text.specs.declared.token.TagEffect.TheVariants.{Opens, Closes, Other}
+use Rattle.gabc_text.specs.declared.token.TagEffect.TheVariants.{Opens, Closes}
 use Rattle.gabc_text.specs.Token.{Token}
 use Rattle.gabc_text.specs.View.{along, effect, PieceFacts, is_open, all_styles, has_begin, has_end, has_translation, is_cut, early_codes, late_codes, found_at, findings_at, findings_at_end, findings, place_of, is_word_kind, is_blank_piece}
 use Rattle.gabc_text.specs.Canonical.{after_common}

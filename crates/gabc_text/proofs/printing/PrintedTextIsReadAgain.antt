@@ -14,7 +14,7 @@ use Rattle.gabc_text.proofs.printing.ViewFromFirstToken.{pieces_of, view, view_b
 use Rattle.gabc_text.specs.ViewFacts.{ViewFacts, but_blank, LiesAmong}
 use Rattle.gabc_text.specs.Printed.{print_tokens, print_from, text_tokens, translation_tokens, word_break, printed_piece, tokens_between, brace_tokens, print}
 use Rattle.gabc_text.specs.declared.token.TagEffect.{TagEffect}
-use Rattle.gabc_text.specs.declared.token.TagEffect.TheVariants.{Opens, Closes, Mark, Begins, Other}
+use Rattle.gabc_text.specs.declared.token.TagEffect.TheVariants.{Begins}
 use Rattle.gabc_text.proofs.tokens.CasesOfCharacters.{by_case}
 use Rattle.gabc_text.proofs.printing.PrintedBracesGiveCentre.{at_start, centre_from, no_centre, gap_silent}
 use Rattle.gabc_text.proofs.printing.TokensAreReadAgain.{AllStable, written_stable, IsReadAgain, token_again}

@@ -11,7 +11,7 @@ use Rattle.gabc_text.specs.declared.token.TagEffect.TheVariants.{Opens, Closes, 
 use Rattle.gabc_text.specs.declared.token.RawKind.{RawKind}
 use Rattle.gabc_text.specs.declared.token.RawKind.TheVariants.{V, Sp, Alt}
 use Rattle.gabc_text.specs.declared.styles.Style.{Style}
-use Rattle.gabc_text.specs.declared.styles.Style.TheVariants.{B, C, E, I, Sc, Tt, Ul}
+use Rattle.gabc_text.specs.declared.styles.Style.TheVariants.{B}
 use Rattle.gabc_text.specs.Token.{Token, spelling, tokens, token_at, through, begins_with, ended_token, tag_at, token_of_tag, single, is_special, is_blank, effect_of, ending_of}
 use Rattle.gabc_text.specs.machine.PrintedPieces.{Stable}
 use Rattle.gabc_text.specs.Printed.{text_of_tokens, opening_tag, closing_tag, letter}

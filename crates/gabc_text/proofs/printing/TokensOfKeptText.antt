@@ -4,7 +4,7 @@ use Rattle.std.proofs.Math.Seq.{drop-append_seam}
 use Rattle.gabc_text.specs.declared.text_facts.TextFacts.{TextFacts}
 use Rattle.gabc_text.specs.declared.token.TokenKind.TheVariants as kind
 use Rattle.gabc_text.specs.declared.token.TagEffect.{TagEffect}
-use Rattle.gabc_text.specs.declared.token.TagEffect.TheVariants.{Opens, Closes, Mark, Begins, Other}
+use Rattle.gabc_text.specs.declared.token.TagEffect.TheVariants.{Begins}
 use Rattle.gabc_text.specs.Token.{Token, spelling, tokens, tokens_after, token_at, tag_at, token_of_tag, ended_token, through, ending_of, effect_of, single, is_special, is_blank}
 use Rattle.gabc_text.specs.View.{along, PieceFacts, is_space, is_left_out, follows_space, kept, kept_at, pieces_at, starts_word, begin_of, end_of, centre_by}
 use Rattle.gabc_text.specs.ViewFacts.{ViewFacts, view_facts, but_blank, translation_text}

@@ -11,7 +11,7 @@ use Rattle.gabc_text.specs.ViewFacts.{ViewFacts, view_facts, translation_text, b
 use Rattle.gabc_text.specs.Printed.{print}
 use Rattle.gabc_text.proofs.tokens.CasesOfCharacters.{translation_first}
 use Rattle.gabc_text.proofs.machine.TokensOneAfterAnother.{onto}
-use Rattle.gabc_text.proofs.printing.ViewFromFirstToken.{begin_at, end_at, translation_from, view, view_by, pieces_of}
+use Rattle.gabc_text.proofs.printing.ViewFromFirstToken.{begin_at, end_at, translation_from, view, pieces_of}
 use Rattle.gabc_text.proofs.printing.ViewFromFirstToken as forward
 use Rattle.gabc_text.proofs.printing.PrintedTextIsReadAgain.{forward_again}
 use Rattle.gabc_text.proofs.printing.TokensOfKeptText.{none_after}

@@ -5,7 +5,7 @@ use Rattle.gabc_text.specs.declared.token.TokenKind.{TokenKind}
 use Rattle.gabc_text.specs.declared.token.TokenKind.TheVariants as kind
 use Rattle.gabc_text.specs.Token.{single, is_blank, is_one_of, token_at, ended_token, token_of_tag, tag_at, through, ending_of, effect_of, is_special}
 use Rattle.gabc_places.proofs.NumbersByTests.{below_eqb}
-use Rattle.gabc_text.specs.declared.token.TagEffect.TheVariants.{Opens, Closes, Mark, Begins, Other}
+use Rattle.gabc_text.specs.declared.token.TagEffect.TheVariants.{Begins}
 use Rattle.gabc_text.specs.declared.token.TagEffect.{TagEffect}
 use Rattle.gabc_text.specs.View.{is_translation}
 
