@@ -33,14 +33,8 @@ IsNoneFirst k t later = (clef_of (AnItem k t) ≡ None) × (later ≡ None)
 
 none_first : (k : ItemKind) (t : List ℕ) (later : Option ItemKind) → cond (is_note_or_clef k) (Some k) later ≡ None → IsNoneFirst k t later
 none_first kind.Note t later e = absurd (cc e)
-none_first kind.Alteration t later e = (refl, e)
 none_first kind.Clef t later e = absurd (cc e)
-none_first kind.Bar t later e = (refl, e)
-none_first kind.Spacing t later e = (refl, e)
-none_first kind.Custos t later e = (refl, e)
-none_first kind.Break t later e = (refl, e)
-none_first kind.Attribute t later e = (refl, e)
-none_first kind.Fusion t later e = (refl, e)
+none_first _ t later e = (refl, e)
 
 of_items : (kept : List ℕ) (items : List Item) → first_note_or_clef items ≡ None → AreNoClefs (map (step_of kept) items)
 of_items kept [] e = tt

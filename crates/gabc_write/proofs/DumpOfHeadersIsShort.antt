@@ -12,9 +12,7 @@ escaped_two : (c : ℕ) → length (escaped_byte c) ≤ 2
 escaped_two c = by (c == 92) (c == 10)
   where
     by : (a b : Bool) → length (if a then codes "\\\\" else if b then codes "\\n" else c ∷ []) ≤ 2
-    by true b = omega arith
-    by false true = omega arith
-    by false false = omega arith
+    by a b = grind arith
 
 pub escaped_short : (text : List ℕ) → length (escaped text) ≤ 2 * length text
 escaped_short [] = omega arith

@@ -19,22 +19,7 @@ use Rattle.gabc_write.proofs.DumpOfHeadersIsShort.{escaped_short}
 
 word_short : (s : Shape) → length (shape_word s) ≤ 18
 word_short shape.Punctum = omega arith
-word_short shape.Inclinatum = omega arith
-word_short shape.Virga = omega arith
-word_short shape.Bivirga = omega arith
-word_short shape.Trivirga = omega arith
-word_short shape.VirgaReversa = omega arith
-word_short shape.Stropha = omega arith
-word_short shape.Distropha = omega arith
-word_short shape.Tristropha = omega arith
-word_short shape.Oriscus = omega arith
-word_short shape.OriscusScapus = omega arith
-word_short shape.Quilisma = omega arith
-word_short shape.QuilismaQuadratum = omega arith
-word_short shape.Quadratum = omega arith
-word_short shape.Cavum = omega arith
-word_short shape.Lined = omega arith
-word_short shape.Linea = omega arith
+word_short _ = omega arith
 
 -- a note of one character is a punctum or an inclinatum
 one_character : (c : ℕ) → length (shape_word (shape_at (from_pitch (c ∷ [])))) ≤ 10
@@ -61,22 +46,14 @@ last_short t = omega (arith, length-append (escaped t) (codes "\n"), escaped_sho
 
 alter_short : (a : Alter) → length (alter_word a) ≤ 7
 alter_short alter.None = omega arith
-alter_short alter.Flat = omega arith
-alter_short alter.Natural = omega arith
-alter_short alter.Sharp = omega arith
+alter_short _ = omega arith
 
 degree_short : (degree : Option ℕ) → length (degree_word degree) ≤ 3
 degree_short None = omega arith
 degree_short (Some degree) = by (degree == 0) (degree == 1) (degree == 2) (degree == 3) (degree == 4) (degree == 5)
   where
     by : (a b c d e f : Bool) → length (if a then codes "ut" else if b then codes "re" else if c then codes "mi" else if d then codes "fa" else if e then codes "sol" else if f then codes "la" else codes "si") ≤ 3
-    by true b c d e f = omega arith
-    by false true c d e f = omega arith
-    by false false true d e f = omega arith
-    by false false false true e f = omega arith
-    by false false false false true f = omega arith
-    by false false false false false true = omega arith
-    by false false false false false false = omega arith
+    by a b c d e f = grind arith
 
 sound_short : (s : Sound) → length (sound_words s) ≤ 12
 sound_short s = omega (arith, length-append (degree_word s.degree) (codes " " ++ alter_word s.alter), degree_short s.degree, alter_short s.alter)
@@ -97,12 +74,7 @@ bar_short : (t : List ℕ) → length (bar_word t) ≤ 7
 bar_short t = by (is_virgula t) (begins_with (codes "^") t) (begins_with (codes ",") t) (begins_with (codes ";") t) (begins_with (codes "::") t)
   where
     by : (a b c d e : Bool) → length (if a then codes "virgula" else if b then codes "minimis" else if c then codes "minima" else if d then codes "minor" else if e then codes "finalis" else codes "maior") ≤ 7
-    by true b c d e = omega arith
-    by false true c d e = omega arith
-    by false false true d e = omega arith
-    by false false false true e = omega arith
-    by false false false false true = omega arith
-    by false false false false false = omega arith
+    by a b c d e = grind arith
 
 spacing_short : (t : List ℕ) → length (line_of_spacing t) ≤ 2 * length t + 12
 spacing_short t = by (is_blank_run t)
@@ -125,10 +97,8 @@ raw_short t = omega (arith, length-take (length t - 1 - 1) (drop 1 t), length-dr
 pub line_short : (f : InForce) (k : ItemKind) (t : List ℕ) (b : ℕ) → length t ≤ b → 1 ≤ b → length (line_by f k t) ≤ 33 * b
 line_short f kind.Note t b l m = note_short (sound_of f (height_at (from_pitch t))) t b l m
 line_short f kind.Alteration t b l m = omega (arith, length-append (alter_word (sign_of t)) (codes " " ++ last_text t), alter_short (sign_of t), last_short t)
-line_short f kind.Clef t b l m = omega (arith, last_short t)
 line_short f kind.Bar t b l m = omega (arith, length-append (bar_word t) (codes " " ++ last_text t), bar_short t, last_short t)
 line_short f kind.Spacing t b l m = omega (arith, spacing_short t)
 line_short f kind.Custos t b l m = omega (arith, custos_short t)
-line_short f kind.Break t b l m = omega (arith, last_short t)
 line_short f kind.Attribute t b l m = omega (arith, last_short (raw_of t), raw_short t)
-line_short f kind.Fusion t b l m = omega (arith, last_short t)
+line_short f _ t b l m = omega (arith, last_short t)

@@ -43,14 +43,9 @@ pub data Kinds (k : ItemKind) (s : Span) (t : List ℕ) : Type 0 where
 
 pub kinds : (k : ItemKind) (s : Span) (t : List ℕ) → Kinds k s t
 kinds kind.Note s t = a_note _ refl refl refl refl (λ l m. shape_short t (s.to - s.from) l m)
-kinds kind.Alteration s t = outside refl refl refl
-kinds kind.Clef s t = outside refl refl refl
-kinds kind.Bar s t = outside refl refl refl
-kinds kind.Spacing s t = outside refl refl refl
-kinds kind.Custos s t = outside refl refl refl
-kinds kind.Break s t = outside refl refl refl
 kinds kind.Attribute s t = inside refl refl refl
 kinds kind.Fusion s t = inside refl refl refl
+kinds _ s t = outside refl refl refl
 
 module _ (outset : InForce) (kept : List ℕ) where
   in_none : (i : Item) (is : List Item) → note_in kept i ≡ None → notes_in kept (i ∷ is) ≡ notes_in kept is

@@ -43,9 +43,7 @@ text_short span bytes u = by (nat_le span.from span.to && (nat_le span.to (lengt
 
 position_short : (p : Position) → length (position_word p) ≤ 9
 position_short One = omega arith
-position_short Beginning = omega arith
-position_short Middle = omega arith
-position_short End = omega arith
+position_short _ = omega arith
 
 flag_short : (b : Bool) (word : List ℕ) → length (if b then word else []) ≤ length word
 flag_short true word = omega arith

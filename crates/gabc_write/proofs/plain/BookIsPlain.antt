@@ -88,9 +88,8 @@ value_trimmed v h = trim_start_plain is_blank_or_lf (trim_end ends_no_value v) (
 -- ---- header parts
 
 abbrev plain_part : HeaderPart → Bool
-plain_part (left_out k p) = true
-plain_part (unended k) = true
 plain_part (header k name value p) = plain name && plain value
+plain_part _ = true
 
 abbrev plain_parts : List HeaderPart → Bool
 plain_parts ps = list_all plain_part ps

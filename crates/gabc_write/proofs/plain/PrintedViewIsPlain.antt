@@ -1,5 +1,5 @@
 -- What a plain text says is printed as plain text.
-use Rattle.std.proofs.Common.{◌≡◌, ℕ, ◌+◌, List, [], ◌∷◌, ◌++◌, Bool, true, false, ◌&&◌, not, cond, ◌==◌, refl, sym, ap, ◌∙◌, reverse, map, Option, Some, None}
+use Rattle.std.proofs.Common.{◌≡◌, ℕ, ◌+◌, List, [], ◌∷◌, ◌++◌, Bool, true, false, ◌&&◌, not, cond, ◌==◌, refl, sym, ap, ◌∙◌, reverse, map, Option, Some, None, arith}
 use Rattle.std.proofs.lemmas.Bool.{and_parts, and_from}
 use Rattle.std.specs.List.{list_all}
 use Rattle.gabc_places.specs.declared.place.Span.{Span}
@@ -57,10 +57,7 @@ last_plain c (d ∷ s) h = last_plain d s (and_parts (is_plain c) (plain (d ∷ 
 
 piece_text : (kind : PieceKind) (k : Token) → is_plain_token k ≡ true → plain (text_of_piece kind k) ≡ true
 piece_text piece.Char k h = last_plain k.first k.more h
-piece_text piece.Blank k h = h
-piece_text piece.Raw k h = h
-piece_text piece.Tag k h = h
-piece_text piece.Mark k h = h
+piece_text _ k h = h
 
 piece_plain : (before : List Token) (k : Token) → is_plain_token k ≡ true → plain_pieces (pieces_at before k) ≡ true
 piece_plain before k h = by (kind_of k)
@@ -117,32 +114,19 @@ translation_plain (k ∷ before) h =
 closing_plain : (styles : List Style) → plain_tokens (map closing_tag styles) ≡ true
 closing_plain [] = refl
 closing_plain (B ∷ styles) = closing_plain styles
-closing_plain (C ∷ styles) = closing_plain styles
-closing_plain (E ∷ styles) = closing_plain styles
-closing_plain (I ∷ styles) = closing_plain styles
-closing_plain (Sc ∷ styles) = closing_plain styles
-closing_plain (Tt ∷ styles) = closing_plain styles
-closing_plain (Ul ∷ styles) = closing_plain styles
+closing_plain (_ ∷ styles) = closing_plain styles
 
 opening_plain : (styles : List Style) → plain_tokens (map opening_tag styles) ≡ true
 opening_plain [] = refl
 opening_plain (B ∷ styles) = opening_plain styles
-opening_plain (C ∷ styles) = opening_plain styles
-opening_plain (E ∷ styles) = opening_plain styles
-opening_plain (I ∷ styles) = opening_plain styles
-opening_plain (Sc ∷ styles) = opening_plain styles
-opening_plain (Tt ∷ styles) = opening_plain styles
-opening_plain (Ul ∷ styles) = opening_plain styles
+opening_plain (_ ∷ styles) = opening_plain styles
 
 braces_plain : (centre : Option Span) (i : ℕ) → plain_tokens (brace_tokens centre i) ≡ true
 braces_plain None i = refl
 braces_plain (Some c) i = by (c.from == i) (c.to == i)
   where
     by : (a b : Bool) → plain_tokens (cond a (cond b (record { kind = kind.Begin; first = 123; more = [] } ∷ record { kind = kind.End; first = 125; more = [] } ∷ []) (record { kind = kind.Begin; first = 123; more = [] } ∷ [])) (cond b (record { kind = kind.End; first = 125; more = [] } ∷ []) [])) ≡ true
-    by true true = refl
-    by true false = refl
-    by false true = refl
-    by false false = refl
+    by a b = grind arith
 
 between_plain : (old new : List Style) (middle : List Token) → plain_tokens middle ≡ true → plain_tokens (tokens_between old new middle) ≡ true
 between_plain old new middle h =
@@ -168,8 +152,7 @@ printed_plain : (kind : PieceKind) (t : List ℕ) → plain t ≡ true → is_pl
 printed_plain piece.Char t h = letter_plain t h
 printed_plain piece.Blank t h = refl
 printed_plain piece.Raw t h = spelled_plain kind.Raw t h
-printed_plain piece.Tag t h = spelled_plain kind.Tag t h
-printed_plain piece.Mark t h = spelled_plain kind.Tag t h
+printed_plain _ t h = spelled_plain kind.Tag t h
 
 print_plain : (centre : Option Span) (i : ℕ) (old : List Style) (ps : List PieceFacts) → plain_pieces ps ≡ true → plain_tokens (print_from centre i old ps) ≡ true
 print_plain centre i old [] h = between_plain old [] (brace_tokens centre i) (braces_plain centre i)

@@ -101,11 +101,8 @@ module _ (lines : ℕ) (one : (u : ScoreUnit) (m : UnplacedSyllable) → HoldsUn
 
   first_is : (units : List ScoreUnit) (ss : List PlacedSyllable) (facts : List SyllableFacts) → FirstTextBeginsWord units → AreFactsOf units ss facts → FirstBeginsWord facts
   first_is [] [] [] h g = tt
-  first_is [] [] (f ∷ facts) h g = absurd g
-  first_is [] (s ∷ ss) facts h g = absurd g
-  first_is (u ∷ units) [] facts h g = absurd g
-  first_is (u ∷ units) (s ∷ ss) [] h g = absurd g
   first_is (u ∷ units) (s ∷ ss) (f ∷ facts) h g = ap (λ (v : ViewFacts). v.word_start) g.0.0 ∙ h
+  first_is _ _ _ h g = absurd g
 
   pub are_printed : (lines ≡ 0 → All IsSingle all) → ArePrinted lines all made
   are_printed single =

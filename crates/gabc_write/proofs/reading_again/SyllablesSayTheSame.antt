@@ -149,11 +149,8 @@ module _ (starts : (t : List ℕ) → (view_in t).word_start ≡ (view_facts t).
 
   next_is : (units : List ScoreUnit) (ss : List PlacedSyllable) (facts : List SyllableFacts) → AreFactsOf units ss facts → next_begins_word units ≡ next_begins facts
   next_is [] [] [] h = refl
-  next_is [] [] (f ∷ facts) h = absurd h
-  next_is [] (s ∷ ss) facts h = absurd h
-  next_is (u ∷ units) [] facts h = absurd h
-  next_is (u ∷ units) (s ∷ ss) [] h = absurd h
   next_is (u ∷ units) (s ∷ ss) (f ∷ facts) h = starts u.text ∙ sym (ap (λ (v : ViewFacts). v.word_start) h.0.0)
+  next_is _ _ _ h = absurd h
 
   module _ (all : List ScoreUnit) (made : List PlacedSyllable) (syllables : AreSyllablesOf lines all made) (first : FirstTextBeginsWord all) where
     begins_as : (before after : List ScoreUnit) (u : ScoreUnit) → all ≡ before ++ u ∷ after → begins_word before u ≡ (view_facts u.text).word_start
@@ -163,10 +160,6 @@ module _ (starts : (t : List ℕ) → (view_in t).word_start ≡ (view_facts t).
     are_said : (before units : List ScoreUnit) (earlier ss : List PlacedSyllable) (seen facts : List SyllableFacts) → all ≡ before ++ units → made ≡ earlier ++ ss → length earlier ≡ length before
         → tags_in before ≡ all_tags seen → AreFactsOf units ss facts → AreSaid seen facts ss
     are_said before [] earlier [] seen [] e f n t h = tt
-    are_said before [] earlier [] seen (g ∷ facts) e f n t h = absurd h
-    are_said before [] earlier (s ∷ ss) seen facts e f n t h = absurd h
-    are_said before (u ∷ units) earlier [] seen facts e f n t h = absurd h
-    are_said before (u ∷ units) earlier (s ∷ ss) seen [] e f n t h = absurd h
     are_said before (u ∷ units) earlier (s ∷ ss) seen (g ∷ facts) e f n t h =
         let k = syllables.each before units u earlier ss s e f n in
         let tags : tags_in (before ++ u ∷ []) ≡ all_tags (seen ++ g ∷ []) =
@@ -183,6 +176,7 @@ module _ (starts : (t : List ℕ) → (view_in t).word_start ≡ (view_facts t).
           are_said (before ++ u ∷ []) units (earlier ++ s ∷ []) ss (seen ++ g ∷ []) facts (e ∙ sym (append_assoc before (u ∷ []) units)) (f ∙ sym (append_assoc earlier (s ∷ []) ss))
               (omega (arith, length-append before (u ∷ []), length-append earlier (s ∷ []), n)) tags h.1,
         )
+    are_said before _ earlier _ seen _ e f n t h = absurd h
 
   -- ---- two readings
 
