@@ -155,15 +155,17 @@ fn is_written(
     well
 }
 
-/// Appends the canonical texts of the syllables that are lent, each with the byte from which on it
-/// is what is kept.
-fn show_lent(
+/// Pushes one input, and appends the canonical texts of the syllables that are lent, each with the
+/// byte from which on it is what is kept.
+fn push_lent(
     alloc: Global,
-    stage: &ScoreStage,
-    events: &[ScoreEvent],
+    stage: &mut ScoreStage,
+    input: HeadEvent,
     lines: &mut String,
 ) -> Result<(), AllocError> {
-    for event in events {
+    let mut out = Room::with_limit(alloc, 16)?;
+    stage.push(input, &mut out);
+    for event in out.slice() {
         if let ScoreEvent::Syllable(lent) = *event {
             let given = stage.lent(lent);
             let mut room = Room::with_limit(alloc, 64)?;
@@ -183,22 +185,17 @@ fn lends(
     wanted: &str,
 ) -> Result<bool, AllocError> {
     let mut lines = String::new(alloc);
-    let mut out = Room::with_limit(alloc, 16)?;
     let heads = HeadEvent::Heads {
         nabc_lines: 0,
         macros: 0,
         canonical: 3,
     };
-    stage.push(heads, &mut out);
+    push_lent(alloc, stage, heads, &mut lines)?;
     let place = Place { line: 2, column: 1 };
     for c in body.chars() {
-        out.clear();
-        stage.push(HeadEvent::Body(Char { c, place }), &mut out);
-        show_lent(alloc, stage, out.slice(), &mut lines)?;
+        push_lent(alloc, stage, HeadEvent::Body(Char { c, place }), &mut lines)?;
     }
-    out.clear();
-    stage.push(HeadEvent::End, &mut out);
-    show_lent(alloc, stage, out.slice(), &mut lines)?;
+    push_lent(alloc, stage, HeadEvent::End, &mut lines)?;
     Ok(lines.as_str() == wanted)
 }
 
