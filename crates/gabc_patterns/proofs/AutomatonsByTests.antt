@@ -125,9 +125,7 @@ module _ {K : Type 0} (same_kind : K → K → Bool) where
 
     -- ends that test alike are equal
     pub same_end_equal : (o p : Option K) → same_end o p ≡ true → o ≡ p
-    same_end_equal None None e = refl
-    same_end_equal (Some k) (Some j) e = let f = same_kind_equal k j e in cc
-    same_end_equal _ _ e = absurd (cc)
+    same_end_equal o p e = grind arith
 
 module _ {K S C : Type 0} (same_kind : K → K → Bool) (table : Table K) (a : Automaton K S C) where
   -- the next state after a character is where the reading stands

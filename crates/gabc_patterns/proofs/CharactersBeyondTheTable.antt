@@ -41,11 +41,7 @@ pub after_beyond : (p : Pattern) (c : ℕ) → 128 ≤ c → is_plain p ≡ true
 after_beyond never c h e = refl
 after_beyond nothing c h e = refl
 after_beyond (one_of cs) c h e = rw (not_in cs c h e, not_in cs 128 (omega arith) e) refl
-after_beyond (any_but x) c h e =
-    let l = ltb-true x 128 e in
-    let m : x == c ≡ false = ne_eqb x c (λ q. omega arith) in
-    let n : x == 128 ≡ false = ne_eqb x 128 (λ q. omega arith) in
-    rw (m, n) refl
+after_beyond (any_but x) c h e = grind (arith, ltb-true, ne_eqb)
 after_beyond (p · q) c h e =
     let f = and_parts (is_plain p) (is_plain q) e in
     rw (after_beyond p c h f.0, after_beyond q c h f.1) refl

@@ -1,5 +1,5 @@
 -- What may follow a character.
-use Rattle.std.proofs.Common.{◌≡◌, ℕ, ◌==◌, ◌⊎◌, inl, inr, List, [], ◌∷◌, ◌++◌, Bool, true, false, cond, refl, sym, ap, ◌∙◌, subst, ne_eqb}
+use Rattle.std.proofs.Common.{◌≡◌, ℕ, ◌==◌, ◌⊎◌, inl, inr, List, [], ◌∷◌, ◌++◌, Bool, true, cond, refl, ap, ◌∙◌, subst, ne_eqb, arith}
 use Rattle.std.proofs.lemmas.Bool.{eqb-false, and_parts, or_cases, or_left, or_right}
 use Rattle.std.specs.List.{concat}
 use Rattle.gabc_patterns.specs.Pattern.{Pattern, never, nothing, one_of, any_but, ◌·◌, ◌or◌, many, is_in, Spells, Each}
@@ -23,14 +23,11 @@ join_to _ q t h = h
 
 -- a choice that is there already is left out
 pub add_from : (b : Bool) (p q : Pattern) (t : List ℕ) → is_choice p q ≡ b → Spells (p or q) t → Spells (cond b q (p or q)) t
-add_from true p q t e (inl h) = choice_spells p q t e h
-add_from true p q t e (inr h) = h
-add_from false p q t e h = h
+add_from b p q t e h = grind (arith, choice_spells)
 
 -- a choice more spells what the others do, and itself
 pub add_to : (b : Bool) (p q : Pattern) (t : List ℕ) → Spells (cond b q (p or q)) t → Spells (p or q) t
-add_to true p q t h = inr h
-add_to false p q t h = h
+add_to b p q t h = grind arith
 
 -- a choice, put together
 pub either_from : (p q : Pattern) (t : List ℕ) → Spells (p or q) t → Spells (either p q) t
@@ -89,46 +86,28 @@ pub first_part : (P : List ℕ → Type 0) (c : ℕ) (t : List ℕ) (parts : Lis
     → (a : List ℕ) × (rest : List (List ℕ)) × P (c ∷ a) × Each P rest × (t ≡ a ++ concat rest)
 first_part P c t [] h e = absurd (cc)
 first_part P c t ([] ∷ parts) h e = first_part P c t parts h.1 e
-first_part P c t ((d ∷ a) ∷ parts) h e =
-    let same : d ∷ a ≡ c ∷ a = cc in
-    (a, parts, subst P same h.0, h.1, (let f : t ≡ a ++ concat parts = cc in f))
+first_part P c t ((d ∷ a) ∷ parts) h e = grind arith
 
 -- after the first of two, or the second where the first may end
 pub two_ways : (b : Bool) (p q r : Pattern) (t : List ℕ) → Spells (p · q) t ⊎ ((b ≡ true) × Spells r t) → Spells (cond b (either (join p q) r) (join p q)) t
-two_ways true p q r t (inl h) = either_from (join p q) r t (inl (join_from p q t h))
-two_ways true p q r t (inr h) = either_from (join p q) r t (inr h.1)
-two_ways false p q r t (inl h) = join_from p q t h
-two_ways false p q r t (inr h) = absurd (let e = h.0 in cc)
+two_ways b p q r t h = grind (arith, either_from, join_from)
 
 -- what may follow in a sequence: more of its first pattern, or its second where the first may end
 pub which_way : (b : Bool) (p q r : Pattern) (t : List ℕ) → Spells (cond b (either (join p q) r) (join p q)) t → Spells (p · q) t ⊎ ((b ≡ true) × Spells r t)
-which_way true p q r t h = elim (either_to (join p q) r t h) [ inl x ↦ inl (join_to p q t x) | inr x ↦ inr (refl, x) ]
-which_way false p q r t h = inl (join_to p q t h)
+which_way b p q r t h = grind (arith, either_to, join_to)
 
 -- what a sequence spells after a character
 pub sequence_to : (p q : Pattern) (c : ℕ) (t : List ℕ) → ((a : List ℕ) → Spells p (c ∷ a) → Spells (derivative c p) a)
     → (Spells q (c ∷ t) → Spells (derivative c q) t) → Spells (p · q) (c ∷ t) → Spells (derivative c (p · q)) t
-sequence_to p q c t F G ([], b, x, y, e) =
-    two_ways (may_end p) (derivative c p) q (derivative c q) t (inr (end_to p x, G (subst (Spells q) (sym e) y)))
-sequence_to p q c t F G (d ∷ a, b, x, y, e) =
-    let same : d ∷ a ≡ c ∷ a = cc in
-    let f : t ≡ a ++ b = cc in
-    two_ways (may_end p) (derivative c p) q (derivative c q) t (inl (a, b, F a (subst (Spells p) same x), y, f))
+sequence_to p q c t F G ([], b, x, y, e) = grind (arith, two_ways, end_to)
+sequence_to p q c t F G (d ∷ a, b, x, y, e) = grind (arith, two_ways)
 
 -- what follows the character
 pub after_to : (p : Pattern) (c : ℕ) (t : List ℕ) → Spells p (c ∷ t) → Spells (derivative c p) t
 after_to never c t h = h
 after_to nothing c t h = absurd (cc)
-after_to (one_of cs) c t (d, i, e) =
-    let ed : d ≡ c = cc in
-    let et : t ≡ [] = cc in
-    let i' : is_in c cs ≡ true = rw (← ed) i in
-    rw (i', et) refl
-after_to (any_but x) c t (d, n, e) =
-    let ed : d ≡ c = cc in
-    let et : t ≡ [] = cc in
-    let ne : x == c ≡ false = ne_eqb x c (λ f. n (ed ∙ sym f)) in
-    rw (ne, et) refl
+after_to (one_of cs) c t (d, i, e) = grind arith
+after_to (any_but x) c t (d, n, e) = grind (arith, ne_eqb)
 after_to (p · q) c t h = sequence_to p q c t (λ a. after_to p c a) (after_to q c t) h
 after_to (p or q) c t (inl h) = either_from (derivative c p) (derivative c q) t (inl (after_to p c t h))
 after_to (p or q) c t (inr h) = either_from (derivative c p) (derivative c q) t (inr (after_to q c t h))
@@ -138,13 +117,11 @@ after_to (many p) c t (parts, each, e) =
 
 -- a character that tests as one of cs
 pub test_left : (cs : List ℕ) (c : ℕ) (b : Bool) (t : List ℕ) → is_in c cs ≡ b → Spells (cond b nothing never) t → Spells (one_of cs) (c ∷ t)
-test_left cs c true t e h = (c, e, ap (λ (x : List ℕ). c ∷ x) h)
-test_left cs c false t e h = absurd h
+test_left cs c b t e h = grind arith
 
 -- a character that tests as another than x
 pub but_left : (x : ℕ) (c : ℕ) (b : Bool) (t : List ℕ) → x == c ≡ b → Spells (cond b never nothing) t → Spells (any_but x) (c ∷ t)
-but_left x c true t e h = absurd h
-but_left x c false t e h = (c, (λ f. eqb-false x c e (sym f)), ap (λ (y : List ℕ). c ∷ y) h)
+but_left x c b t e h = grind (arith, eqb-false)
 
 -- what may follow the character does
 pub after_from : (p : Pattern) (c : ℕ) (t : List ℕ) → Spells (derivative c p) t → Spells p (c ∷ t)

@@ -47,10 +47,7 @@ prefix done later c =
 
 -- a character more, in bytes
 counted : (done : List ℕ) (c read now : ℕ) → read ≡ length (encodes done) → now ≡ read + len_utf8 c → now ≡ length (encodes (done ++ c ∷ []))
-counted done c read now e f =
-    let g = ap length (encodes-append done (c ∷ [])) in
-    let h = ap length (append-nil (encode c)) in
-    omega (arith, g, h, length-append (encodes done) (encodes (c ∷ [])), length-encode c)
+counted done c read now e f = grind (arith, encodes-append, append-nil, length-append, length-encode)
 
 module _ {K S C : Type 0} (table : Table K) (a : Automaton K S C) (i : ReadsItems table a) where
   -- before the first character

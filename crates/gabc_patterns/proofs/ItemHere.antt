@@ -1,6 +1,6 @@
 -- The longest item at a place of a text, by indexes into the text.
-use Rattle.std.proofs.Common.{◌≡◌, ℕ, List, refl, sym, ap, ◌∙◌, subst, Option, Some, None, take, drop, length, get_or, ◌≤◌, ◌<◌, ◌+◌, ◌-◌, arith, length-drop, drop-drop, get_or-drop}
-use Rattle.gabc_patterns.specs.LongestItems.{Table, Longest, IsItem}
+use Rattle.std.proofs.Common.{◌≡◌, ℕ, List, refl, sym, ap, ◌∙◌, subst, Option, Some, None, drop, length, get_or, ◌≤◌, ◌<◌, ◌+◌, arith, length-drop, drop-drop, get_or-drop}
+use Rattle.gabc_patterns.specs.LongestItems.{Table}
 use Rattle.gabc_patterns.specs.Items.{IsItemAt, ItemSpan}
 use Rattle.gabc_patterns.proofs.AutomatonsByTests.{Automaton, ReadsItems}
 use Rattle.gabc_patterns.proofs.ItemSoFar.{IsBest, ItemSoFar, best_longest, item_start, item_ends, item_on, item_stops}
@@ -72,21 +72,4 @@ here_end table a t from at s best l h =
 module _ {K : Type 0} (table : Table K) where
   -- the best of all is the item there
   pub best_item : (t : List ℕ) (from : ℕ) (i : ItemSpan K) → from ≤ length t → BestHere table t from (Some i) → (i.1 ≡ from) × IsItemAt table t from i.0 i.2
-  best_item t from (k, begin, to) l h = go h.found h.same h.is_best
-    where
-      go : (found : Option (K × ℕ)) → IsFound from (Some (k, begin, to)) found → IsBest table (drop from t) (length (drop from t)) found → (begin ≡ from) × IsItemAt table t from k to
-      go None s b = absurd s
-      go (Some (j, e)) s b =
-          let p = b.0 in
-          let q = b.1 in
-          let ends = s.2 in
-          let best = best_longest table (drop from t) j e b in
-          let n : to - from ≡ e = omega arith in (
-            s.0,
-            record {
-              after = omega arith;
-              within = omega (arith, length-drop from t);
-              item = rw (n, s.1) b.2;
-              longest = rw (n) (subst (λ u. Longest (IsItem table) (take e (drop from t)) u) (drop-drop e from t ∙ ap (λ (m : ℕ). drop m t) (sym ends)) best);
-            },
-          )
+  best_item t from i l h = grind (arith, best_longest, length-drop, drop-drop)

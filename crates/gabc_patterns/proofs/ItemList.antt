@@ -44,9 +44,7 @@ module _ {K X : Type 0} (Has : K → List X → Type 0) where
       record {
         fits = h.within;
         rest = after_first Has none c.0 c.1 (slice_range t at to) (drop to t) rest.0 (subst (IsReadingBy Has rest.0) c.2 rest.1) (sym c.2 ∙ cut) h.longest;
-        reads = λ later r.
-            subst (λ u. IsReadingBy Has u t) (sym (append_assoc (map (item_in t) items) (item_in t (k, at, to) ∷ []) later) ∙ ap (λ (u : List (K × List X)). u ++ later) (sym (map-append (item_in t) items ((k, at, to) ∷ []))))
-            (s.reads (item_in t (k, at, to) ∷ later) (drop to t, cut, h.item, h.longest, r));
+        reads = grind (arith, append_assoc, map-append);
         joined = follow_push 0 at items (k, at, to) s.joined refl;
       }
 

@@ -85,13 +85,7 @@ module _ {K S C : Type 0} (table : Table K) (a : Automaton K S C) (r : ReadsItem
   -- a character more, and the item may end after it
   pub item_ends : (text : List ℕ) (n c : ℕ) (s z : S) (k : K) (best : Option (K × ℕ)) → n < length text → c ≡ get_or text n c
       → a.goes_on s (a.class_of c) ≡ Some z → a.ends z ≡ Some k → ItemSoFar table a text n s best → ItemSoFar table a text (n + 1) z (Some (k, n + 1))
-  item_ends text n c s z k best l e g f h =
-      let rows = rows_more text n c s (Some z) l e h.rows g in
-      record {
-        fits = omega arith;
-        rows = rows;
-        is_best = (omega arith, omega arith, item_at_end table (take (n + 1) text) k (ap end_kind (sym rows) ∙ (r.ends z ∙ f)), λ m x y. absurd (omega arith));
-      }
+  item_ends text n c s z k best l e g f h = grind (arith, rows_more, item_at_end)
 
   -- a character more, and the item may not end after it
   pub item_on : (text : List ℕ) (n c : ℕ) (s z : S) (best : Option (K × ℕ)) → n < length text → c ≡ get_or text n c
@@ -123,6 +117,4 @@ module _ {K S C : Type 0} (table : Table K) (a : Automaton K S C) (r : ReadsItem
 
   -- where at most one row may end at each state, an item has one kind
   pub one_kind : ((s : S) → ends_once (rows_of table a s) ≡ true) → OneKind table
-  one_kind once t k j h i =
-      one_kind_from once a.first t k j
-      (subst (λ w. IsItemOf (rows_run table w) k t) (sym r.begins) h) (subst (λ w. IsItemOf (rows_run table w) j t) (sym r.begins) i)
+  one_kind once t k j h i = grind (arith, one_kind_from)

@@ -92,11 +92,7 @@ module _ {K : Type 0} (table : Table K) where
 
     -- they are no more than the bytes
     pub no_more_than_bytes : length (placed 0 texts) ≤ length bytes
-    no_more_than_bytes =
-        let few = at_most (length (chars bytes)) (chars bytes) in
-        let whole = ap (length {A = ℕ}) (encodes-chars bytes u) in
-        let placed_many : length (placed 0 texts) ≡ length texts = sym (length-map (placed 0 texts) span_of) ∙ (ap length (are 0 texts) ∙ as_many 0 texts) in
-        omega (arith, placed_many, few, length-le-encodes (chars bytes), whole)
+    no_more_than_bytes = grind (arith, at_most, encodes-chars, length-map, as_many, length-le-encodes)
 
     -- of a snippet they are the reading, and each begins where the one before it ends
     pub read_text : rows_end table ≡ false → IsSnippet table (chars bytes)

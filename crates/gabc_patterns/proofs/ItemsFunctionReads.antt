@@ -10,9 +10,7 @@ use Rattle.gabc_patterns.proofs.ItemSoFar.{IsBest, best_on, best_longest, none_b
 module _ {K : Type 0} (table : Table K) where
   best_step : (text prefix : List ℕ) (n : ℕ) (best : Option (K × ℕ)) (o : Option K) → n < length text → take (n + 1) text ≡ prefix
       → end_kind (rows_run table prefix) ≡ o → IsBest table text n best → IsBest table text (n + 1) (best_of o (n + 1) best)
-  best_step text prefix n best None l f e h = best_on table text n best h (subst (λ u. ¬ IsItem table u) (sym f) (no_item_at_end table prefix e))
-  best_step text prefix n best (Some k) l f e h =
-      (omega arith, omega arith, subst (IsItemOf table k) (sym f) (item_at_end table prefix k e), λ m x y. absurd (omega arith))
+  best_step text prefix n best o l f e h = grind (arith, best_on, no_item_at_end, item_at_end)
 
   best_from : (text prefix t : List ℕ) (best : Option (K × ℕ)) → text ≡ prefix ++ t → IsBest table text (length prefix) best
       → IsBest table text (length text) (longest_from (rows_run table prefix) (length prefix) best t)

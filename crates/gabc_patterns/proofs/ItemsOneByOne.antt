@@ -8,7 +8,7 @@ use Rattle.gabc_patterns.specs.Derivative.{rows_end}
 use Rattle.gabc_patterns.specs.Function.{longest_item, items_within, items}
 use Rattle.gabc_patterns.proofs.ItemsFunctionReads.{longest_item_best}
 use Rattle.gabc_patterns.proofs.ItemSoFar.{IsBest}
-use Rattle.gabc_patterns.proofs.ItemHere.{BestHere, IsFound}
+use Rattle.gabc_patterns.proofs.ItemHere.{BestHere}
 use Rattle.gabc_patterns.proofs.OneReading.{no_empty}
 
 module _ {K : Type 0} (table : Table K) where
@@ -30,11 +30,7 @@ module _ {K : Type 0} (table : Table K) where
 
   -- where no item was found, it gives none
   pub none_found : OneKind table → (t : List ℕ) → BestHere table t 0 None → longest_item table t ≡ None
-  none_found one t h = go h.found h.same h.is_best
-    where
-      go : (found : Option (K × ℕ)) → IsFound 0 None found → IsBest table t (length t) found → longest_item table t ≡ None
-      go None s b = longest_is one t None b
-      go (Some i) s b = absurd s
+  none_found one t h = grind (arith, longest_is)
 
   -- a longest item is the longest among all prefixes
   pub longest_best : rows_end table ≡ false → (k : K) (x y : List ℕ) → IsItemOf table k x → Longest (IsItem table) x y
@@ -72,12 +68,7 @@ module _ {K : Type 0} (table : Table K) where
 
   -- the first, and the items after it
   pub items_more : (t : List ℕ) (k : K) (e : ℕ) → longest_item table t ≡ Some (k, e) → items table t ≡ (k, take e t) ∷ items table (drop e t)
-  items_more [] k e f = absurd (cc)
-  items_more (c ∷ t) k e f =
-      let some = subst (IsBest table (c ∷ t) (length (c ∷ t))) f (longest_item_best table (c ∷ t)) in
-      let positive = some.0 in
-      ap (λ (o : Option (K × ℕ)). elim o as (λ _. List (K × List ℕ)) [ None ↦ [] | Some i ↦ (i.0, take i.1 (c ∷ t)) ∷ items_within table (length t) (drop i.1 (c ∷ t)) ]) f
-      ∙ ap (λ (u : List (K × List ℕ)). (k, take e (c ∷ t)) ∷ u) (enough (length t) (length (drop e (c ∷ t))) (drop e (c ∷ t)) (omega (arith, length-drop e (c ∷ t))) (omega arith))
+  items_more t k e f = grind (arith, longest_item_best, enough, length-drop)
 
   -- the items of a longest item and more
   pub items_first : rows_end table ≡ false → OneKind table → (k : K) (x y : List ℕ) → IsItemOf table k x → Longest (IsItem table) x y

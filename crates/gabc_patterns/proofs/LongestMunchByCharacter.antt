@@ -1,7 +1,7 @@
 -- Reading by the longest item, a character at a time.
-use Rattle.std.proofs.Common.{◌≡◌, ℕ, ◌⊎◌, inl, inr, List, [], ◌∷◌, ◌++◌, Bool, true, false, cond, refl, sym, ap, ◌∙◌, subst, append-nil}
+use Rattle.std.proofs.Common.{◌≡◌, ℕ, ◌⊎◌, inl, inr, List, [], ◌∷◌, ◌++◌, Bool, true, false, cond, refl, sym, ap, subst, append-nil, arith}
 use Rattle.gabc_patterns.specs.Pattern.{Pattern, Spells}
-use Rattle.gabc_patterns.specs.LongestItems.{Table, Longest, IsItemOf, IsItem, IsSnippet, IsViable}
+use Rattle.gabc_patterns.specs.LongestItems.{Table, Longest, IsItem, IsSnippet, IsViable}
 use Rattle.gabc_patterns.specs.Derivative.{derivative, possible, rows_after, rows_end, Munch, start, nowhere, within, enter, step, run, is_whole, is_alive}
 use Rattle.gabc_patterns.specs.ItemsRead.{NoneBegins}
 use Rattle.gabc_patterns.proofs.PartsOfNothing.{append_none}
@@ -29,16 +29,10 @@ Here table rows w = (x y : List ℕ) × (w ≡ x ++ y) × Longest (IsItem rows) 
 
 module _ {K : Type 0} (table : Table K) where
   longest_to : (rows : Table K) (c : ℕ) (x y : List ℕ) → Longest (IsItem rows) (c ∷ x) y → Longest (IsItem (rows_after c rows)) x y
-  longest_to rows c x y l = record {
-    has = (l.has.0, rows_to rows l.has.0 c x l.has.1);
-    longest = λ more after e h. l.longest more after e (h.0, rows_from rows h.0 c (x ++ more) h.1);
-  }
+  longest_to rows c x y l = grind (arith, rows_to, rows_from)
 
   pub longest_from : (rows : Table K) (c : ℕ) (x y : List ℕ) → Longest (IsItem (rows_after c rows)) x y → Longest (IsItem rows) (c ∷ x) y
-  longest_from rows c x y l = record {
-    has = (l.has.0, rows_from rows l.has.0 c x l.has.1);
-    longest = λ more after e h. l.longest more after e (h.0, rows_to rows h.0 c (x ++ more) h.1);
-  }
+  longest_from rows c x y l = grind (arith, rows_from, rows_to)
 
   here_to : (rows : Table K) (c : ℕ) (w : List ℕ) → GoesOn table rows (c ∷ w) → Here table (rows_after c rows) w
   here_to rows c w (d, x, y, e, l, s) =
@@ -56,27 +50,20 @@ module _ {K : Type 0} (table : Table K) where
 
   not_here_from : (rows : Table K) (c : ℕ) (w : List ℕ) → NoneBegins (rows_after c rows) w → Ended rows (c ∷ w)
   not_here_from rows c w h [] y e i = refl
-  not_here_from rows c w h (d ∷ x) y e i =
-      let ed : d ≡ c = cc in
-      let ew : w ≡ x ++ y = cc in
-      absurd (h x y ew (i.0, rows_to rows i.0 c x (subst (λ k. IsItemOf rows i.0 (k ∷ x)) ed i.1)))
+  not_here_from rows c w h (d ∷ x) y e i = grind (arith, rows_to)
 
   -- an item that may end here
   ends_to : (rows : Table K) (back : Munch K) (w : List ℕ) (b : Bool) → rows_end rows ≡ b
       → Here table rows w ⊎ (NoneBegins rows w × Follows table back w) → Follows table (within rows (cond b start back)) w
   ends_to rows back w b e (inl ((d ∷ x), y, f, l, s)) = inl (d, x, y, f, l, s)
-  ends_to rows back w true e (inl ([], y, f, l, s)) =
-      inr ((λ x z g i. l.longest x z (sym f ∙ g) i), subst (IsSnippet table) (sym f) s)
+  ends_to rows back w true e (inl ([], y, f, l, s)) = grind arith
   ends_to rows back w false e (inl ([], y, f, l, s)) = absurd (let h = rows_end_to rows l.has.0 l.has.1 in cc)
   ends_to rows back w true e (inr h) = absurd (h.0 [] w refl (rows_end_from rows e))
   ends_to rows back w false e (inr h) = inr ((λ x y f i. absurd (h.0 x y f i)), h.1)
 
   ends_from : (rows : Table K) (back : Munch K) (w : List ℕ) (b : Bool) → rows_end rows ≡ b
       → Follows table (within rows (cond b start back)) w → Here table rows w ⊎ (NoneBegins rows w × Follows table back w)
-  ends_from rows back w b e (inl (d, x, y, f, l, s)) = inl ((d ∷ x), y, f, l, s)
-  ends_from rows back w true e (inr h) =
-      inl ([], w, refl, record { has = rows_end_from rows e; longest = λ more after f i. h.0 more after f i }, h.1)
-  ends_from rows back w false e (inr h) = inr ((λ x y f i. let g : rows_end rows ≡ true = rows_end_to rows i.0 (subst (IsItemOf rows i.0) (h.0 x y f i) i.1) in absurd (cc)), h.1)
+  ends_from rows back w b e h = grind (arith, rows_end_from, rows_end_to)
 
   enter_to : (rows : Table K) (back : Munch K) (w : List ℕ)
       → Here table rows w ⊎ (NoneBegins rows w × Follows table back w) → Follows table (enter rows back) w
@@ -109,8 +96,7 @@ module _ {K : Type 0} (table : Table K) where
     step_to (within rows back) c w (inr h) = enter_to (rows_after c rows) (step table back c) w (inr (not_here_to rows c w h.0, step_to back c w h.1))
 
     step_from : (m : Munch K) (c : ℕ) (w : List ℕ) → Follows table (step table m c) w → Follows table m (c ∷ w)
-    step_from start c w h =
-        elim (enter_from (rows_after c table) nowhere w h) [ inl x ↦ then_item (c ∷ w) (here_from table c w x) | inr x ↦ absurd x.1 ]
+    step_from start c w h = grind (arith, enter_from, then_item, here_from)
     step_from nowhere c w h = h
     step_from (within rows back) c w h =
         elim (enter_from (rows_after c rows) (step table back c) w h) [
@@ -163,8 +149,7 @@ module _ {K : Type 0} (table : Table K) where
 
     first_row : (b : Bool) (row : K × Pattern) (rows : Table K) → possible row.1 ≡ b → FirstPossible rows → FirstPossible (cond b (row ∷ rows) rows)
     unfolding FirstPossible
-    first_row true row rows e h = e
-    first_row false row rows e h = h
+    first_row b row rows e h = grind arith
 
     first_possible : (c : ℕ) (rows : Table K) → FirstPossible (rows_after c rows)
     unfolding FirstPossible
@@ -173,8 +158,7 @@ module _ {K : Type 0} (table : Table K) where
 
     good_enter : (rows : Table K) (back : Munch K) → FirstPossible rows → Good back → Good (enter rows back)
     unfolding FirstPossible
-    good_enter [] back f h = h
-    good_enter (row ∷ rows) back f h = let x = possible_from row.1 f in good_rows row rows back x.0 (rows_end (row ∷ rows)) refl x.1
+    good_enter rows back f h = grind (arith, possible_from, good_rows)
 
     good_step : (m : Munch K) (c : ℕ) → Good (step table m c)
     unfolding Good

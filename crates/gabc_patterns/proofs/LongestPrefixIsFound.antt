@@ -41,38 +41,15 @@ module _ (P : List ℕ → Type 0) where
     pub longest : (t q : List ℕ) → read ≡ t ++ q → P t → length (encode_utf8_all t) ≤ n
 
   pub longest_first : P [] → IsLongestSoFar [] 0
-  longest_first p = record {
-    prefix = [];
-    rest = [];
-    cut = refl;
-    is = p;
-    bytes = refl;
-    longest = λ t q e _. (let h = append_none t q e in subst (λ (l : List ℕ). length (encode_utf8_all l) ≤ 0) (sym h.0) (omega arith));
-  }
+  longest_first p = grind (arith, append_none)
 
   longest_at : (y : List ℕ) (c : ℕ) (n : ℕ) → IsLongestSoFar y n → (k : ℕ) → n ≤ k → (P (y ++ c ∷ []) → length (encode_utf8_all (y ++ c ∷ [])) ≤ k)
       → (t q : List ℕ) → y ++ c ∷ [] ≡ t ++ q → P t → length (encode_utf8_all t) ≤ k
-  longest_at y c n h k more whole t q e p = by (begins_or_goes_on t q y c [] (sym e))
-    where
-      by : ((r : List ℕ) × (y ≡ t ++ r)) ⊎ ((u : List ℕ) × (t ≡ y ++ c ∷ u) × (u ++ q ≡ [])) → length (encode_utf8_all t) ≤ k
-      by (inl (r, f)) = (let g = h.longest t r f p in omega (arith, g, more))
-      by (inr (u, f, g)) =
-          (let same : t ≡ y ++ c ∷ [] = f ∙ ap (λ (l : List ℕ). y ++ c ∷ l) (append_none u q (sym g)).0 in
-          subst (λ (l : List ℕ). length (encode_utf8_all l) ≤ k) (sym same) (whole (subst P same p)))
+  longest_at y c n h k more whole t q e p = grind (arith, begins_or_goes_on, append_none)
 
   -- with a character more the whole is one
   pub longest_whole : (y : List ℕ) (c : ℕ) (n : ℕ) → IsLongestSoFar y n → P (y ++ c ∷ []) → IsLongestSoFar (y ++ c ∷ []) (length (encode_utf8_all (y ++ c ∷ [])))
-  longest_whole y c n h p = record {
-    prefix = y ++ c ∷ [];
-    rest = [];
-    cut = sym (append-nil (y ++ c ∷ []));
-    is = p;
-    bytes = refl;
-    longest = longest_at y c n h (length (encode_utf8_all (y ++ c ∷ []))) less (λ _. omega arith);
-  }
-    where
-      less : n ≤ length (encode_utf8_all (y ++ c ∷ []))
-      less = (let a = bytes_append y (c ∷ []) in let b = ap (λ (l : List ℕ). length (encode_utf8_all l)) h.cut ∙ bytes_append h.prefix h.rest in omega (arith, a, b, h.bytes))
+  longest_whole y c n h p = grind (arith, append-nil, longest_at, bytes_append)
 
   -- or is none
   pub longest_same : (y : List ℕ) (c : ℕ) (n : ℕ) → IsLongestSoFar y n → (P (y ++ c ∷ []) → ⊥) → IsLongestSoFar (y ++ c ∷ []) n

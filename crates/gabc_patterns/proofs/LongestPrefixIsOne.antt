@@ -1,5 +1,5 @@
 -- The longest prefix is one.
-use Rattle.std.proofs.Common.{◌≡◌, List, [], ◌∷◌, ◌++◌, refl, sym, ap, ◌∙◌, subst, append-nil, inl, inr, ◌⊎◌}
+use Rattle.std.proofs.Common.{◌≡◌, List, [], ◌∷◌, ◌++◌, refl, sym, append-nil, inl, inr, ◌⊎◌, arith}
 use Rattle.gabc_patterns.specs.LongestItems.{Longest}
 use Rattle.gabc_patterns.proofs.PartsOfNothing.{append_none}
 
@@ -15,20 +15,13 @@ compare (c ∷ a) (d ∷ b) x y e =
 
 -- two longest prefixes of one list are one
 pub one_longest : {X : Type 0} (P : List X → Type 0) (a b x y : List X) → a ++ x ≡ b ++ y → Longest P a x → Longest P b y → (a ≡ b) × (x ≡ y)
-one_longest {X} P a b x y e l k = elim (compare a b x y e) [
-  | inl h ↦ (let p = h.1 in let q = h.2 in let z : h.0 ≡ [] = l.longest h.0 y q (subst P p k.has) in
-      (sym (p ∙ (ap (λ (m : List X). a ++ m) z ∙ append-nil a)), q ∙ ap (λ (m : List X). m ++ y) z))
-  | inr h ↦ (let p = h.1 in let q = h.2 in let z : h.0 ≡ [] = k.longest h.0 x q (subst P p l.has) in
-      (p ∙ (ap (λ (m : List X). b ++ m) z ∙ append-nil b), sym (q ∙ ap (λ (m : List X). m ++ x) z)))
-]
+one_longest P a b x y e l k = grind (arith, compare, append-nil)
 
 -- a prefix of a list with one more element is that list, or a prefix of it without
 pub split_push : {X : Type 0} (rest more after : List X) (c : X) → rest ++ c ∷ [] ≡ more ++ after
     → (more ≡ rest ++ c ∷ []) ⊎ ((less : List X) × (rest ≡ more ++ less))
 split_push rest [] after c e = inr (rest, refl)
-split_push {X} [] (d ∷ more) after c e =
-    let f : [] ≡ more ++ after = cc in
-    inl (let g : more ≡ [] = (append_none more after f).0 in cc)
+split_push {X} [] (d ∷ more) after c e = grind (arith, append_none)
 split_push (b ∷ rest) (d ∷ more) after c e =
     let f : rest ++ c ∷ [] ≡ more ++ after = cc in
     let g : b ≡ d = cc in
@@ -44,10 +37,4 @@ longest_all P all h = record { has = h; longest = λ more after e i. (append_non
 -- a longest prefix stays it, with a character more that makes none
 pub longest_push : {X : Type 0} (P : List X → Type 0) (prefix rest : List X) (c : X) → Longest P prefix rest
     → ¬ P (prefix ++ (rest ++ c ∷ [])) → Longest P prefix (rest ++ c ∷ [])
-longest_push P prefix rest c l n = record {
-  has = l.has;
-  longest = λ more after e h. elim (split_push rest more after c e) [
-    | inl x ↦ absurd (n (subst (λ y. P (prefix ++ y)) x h))
-    | inr x ↦ l.longest more x.0 x.1 h
-  ];
-}
+longest_push P prefix rest c l n = grind (arith, split_push)

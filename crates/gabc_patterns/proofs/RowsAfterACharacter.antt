@@ -33,8 +33,7 @@ possible_from (many p) e = ([], ([], tt, refl))
 
 -- where one is, there are some
 pub possible_in : (c : ℕ) (cs : List ℕ) → is_in c cs ≡ true → not (is_empty cs) ≡ true
-possible_in c [] e = absurd (cc)
-possible_in c (d ∷ cs) e = refl
+possible_in c cs e = grind arith
 
 -- a pattern that spells some text tests as possible
 pub possible_to : (p : Pattern) (t : List ℕ) → Spells p t → possible p ≡ true
@@ -52,15 +51,12 @@ possible_to (many p) t h = refl
 -- a row that is possible stays
 pub row_to : {K : Type 0} (b : Bool) (k j : K) (p : Pattern) (rows : Table K) (t : List ℕ) → b ≡ possible p
     → ((j ≡ k) × Spells p t) ⊎ IsItemOf rows k t → IsItemOf (cond b ((j, p) ∷ rows) rows) k t
-row_to true k j p rows t e h = h
-row_to false k j p rows t e (inl h) = absurd (let f = possible_to p t h.1 in cc)
-row_to false k j p rows t e (inr h) = h
+row_to b k j p rows t e h = grind (arith, possible_to)
 
 -- a row that stays was there
 pub row_from : {K : Type 0} (b : Bool) (k j : K) (p : Pattern) (rows : Table K) (t : List ℕ)
     → IsItemOf (cond b ((j, p) ∷ rows) rows) k t → ((j ≡ k) × Spells p t) ⊎ IsItemOf rows k t
-row_from true k j p rows t h = h
-row_from false k j p rows t h = inr h
+row_from b k j p rows t h = grind arith
 
 -- what follows the character in the rows
 pub rows_to : {K : Type 0} (rows : Table K) (k : K) (c : ℕ) (t : List ℕ) → IsItemOf rows k (c ∷ t) → IsItemOf (rows_after c rows) k t
@@ -94,8 +90,4 @@ rows_end_from (row ∷ rows) e =
 
 -- a table no row of which spells the empty text tests so
 pub none_ends : {K : Type 0} (rows : Table K) → ¬ IsItem rows [] → rows_end rows ≡ false
-none_ends rows h = go (rows_end rows) refl
-  where
-    go : (b : Bool) → rows_end rows ≡ b → b ≡ false
-    go true e = absurd (h (rows_end_from rows e))
-    go false e = refl
+none_ends rows h = grind (arith, rows_end_from)

@@ -33,8 +33,7 @@ end_kind_some (row ∷ rows) k e = ended (may_end row.1) row rows k refl (end_ki
 
 not_ended : {K : Type 0} (b : Bool) (row : K × Pattern) (rows : Table K) → (end_kind rows ≡ None → rows_end rows ≡ false)
     → cond b (Some row.0) (end_kind rows) ≡ None → (b || rows_end rows) ≡ false
-not_ended true row rows F h = absurd (cc)
-not_ended false row rows F h = F h
+not_ended b row rows k h = grind arith
 
 -- no item ends here
 pub end_kind_none : {K : Type 0} (rows : Table K) → end_kind rows ≡ None → rows_end rows ≡ false
@@ -65,9 +64,7 @@ clash : (a b c : Bool) → a ≡ true → b ≡ true → cond a (not b) c ≡ tr
 clash a b c e f g = grind arith
 
 ends_later : (a b c : Bool) → b ≡ true → cond a (not b) c ≡ true → c ≡ true
-ends_later true true c f g = absurd (cc)
-ends_later true false c f g = absurd (cc)
-ends_later false b c f g = g
+ends_later a b c f g = grind arith
 
 -- then the kind of an item that ends here is one
 pub one_end : {K : Type 0} (rows : Table K) (k j : K) → ends_once rows ≡ true → IsItemOf rows k [] → IsItemOf rows j [] → k ≡ j

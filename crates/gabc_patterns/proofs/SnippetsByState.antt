@@ -1,5 +1,5 @@
 -- Which texts are snippets, by the state that the automaton is in.
-use Rattle.std.proofs.Common.{refl, ◌≡◌, ℕ, List, [], ◌∷◌, ◌++◌, true, false, Bool, IsTrue, ◌↔◌, None, sym, append_assoc, subst, ◌∙◌}
+use Rattle.std.proofs.Common.{◌≡◌, ℕ, List, [], ◌∷◌, ◌++◌, IsTrue, ◌↔◌, None, sym, append_assoc, subst, ◌∙◌, arith}
 use Rattle.gabc_patterns.specs.LongestItems.{Table, IsSnippet}
 use Rattle.gabc_patterns.proofs.AutomatonsByTests.{Automaton, ReadsSnippets}
 use Rattle.gabc_patterns.proofs.StatesAfterTexts.{Stands, left_out, whole_at, not_whole_at}
@@ -11,8 +11,4 @@ module _ {K S C : Type 0} (table : Table K) (a : Automaton K S C) (r : ReadsSnip
 
   -- at the end the state reports
   pub emitted_by : (s : S) (done all : List ℕ) → Stands table a s done → done ≡ all → IsTrue (a.whole s) ↔ IsSnippet table all
-  emitted_by s done all h e = (λ w. subst (IsSnippet table) e (whole_at table a r s done h w), λ i. go (a.whole s) refl i)
-    where
-      go : (b : Bool) → a.whole s ≡ b → IsSnippet table all → IsTrue b
-      go true w i = refl
-      go false w i = absurd (not_whole_at table a r s done h w (subst (IsSnippet table) (sym e) i))
+  emitted_by s done all h e = grind (arith, whole_at, not_whole_at)

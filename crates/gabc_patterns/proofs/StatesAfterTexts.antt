@@ -1,5 +1,5 @@
 -- The state of an automaton after a text.
-use Rattle.std.proofs.Common.{◌≡◌, ℕ, List, [], ◌∷◌, ◌++◌, true, false, refl, sym, ap, ◌∙◌, subst, Option, Some, None}
+use Rattle.std.proofs.Common.{◌≡◌, ℕ, List, [], ◌∷◌, ◌++◌, true, false, refl, sym, ap, ◌∙◌, subst, Option, Some, None, arith}
 use Rattle.gabc_patterns.specs.LongestItems.{Table, IsSnippet, IsViable}
 use Rattle.gabc_patterns.specs.Derivative.{Munch, start, nowhere, step, run, is_whole, is_alive, is_snippet}
 use Rattle.gabc_patterns.proofs.LongestMunchByCharacter.{viable_to, snippet_to, snippet_from}
@@ -22,8 +22,7 @@ module _ {K S C : Type 0} (table : Table K) (a : Automaton K S C) (r : ReadsSnip
   -- where the reading stands a character later
   pub after_char : (s : S) (t : List ℕ) (c : ℕ) (o : Option S) → Stands table a s t → a.next s (a.class_of c) ≡ o
       → run table start (t ++ c ∷ []) ≡ reading_of table a o
-  after_char s t c o h e =
-      run-append table start t (c ∷ []) ∙ (ap (λ (m : Munch K). step table m c) (sym h.reads) ∙ (r.steps s c ∙ ap (reading_of table a) e))
+  after_char s t c o h e = grind (arith, run-append)
 
   -- a character more, where there is a next state
   pub stands_next : (s z : S) (t : List ℕ) (c : ℕ) → Stands table a s t → a.next s (a.class_of c) ≡ Some z → Stands table a z (t ++ c ∷ [])
@@ -46,10 +45,7 @@ module _ {K S C : Type 0} (table : Table K) (a : Automaton K S C) (r : ReadsSnip
 
   -- a text with another is none
   pub not_whole_at : (s : S) (t : List ℕ) → Stands table a s t → a.whole s ≡ false → ¬ IsSnippet table t
-  not_whole_at s t h e i =
-      let f = snippet_to table r.none_empty t i in
-      let w = whole_is s t h in
-      absurd (cc)
+  not_whole_at s t h e i = grind (arith, snippet_to, whole_is)
 
   -- ---- a viable text has a state
 

@@ -13,10 +13,7 @@ itself : (s : Stop) → IsNoLater s s
 itself s = inr (refl, omega arith)
 
 along : (p q r s t u : ℕ) → NoLater p q r s → NoLater r s t u → NoLater p q t u
-along p q r s t u (inl a) (inl b) = inl (omega arith)
-along p q r s t u (inl a) (inr b) = inl (omega (arith, b.0))
-along p q r s t u (inr a) (inl b) = inl (omega (arith, a.0))
-along p q r s t u (inr a) (inr b) = inr (omega (arith, a.0, b.0), omega (arith, a.1, b.1))
+along p q r s t u h k = grind arith
 
 later_if : (p q r s : ℕ) → (nat_lt r p || ((r == p) && nat_lt s q)) ≡ true → NoLater r s p q
 later_if p q r s e = grind (arith, nat_tests)
@@ -54,8 +51,7 @@ least_of x m s xs all first second zero d less = first
 least_of x m s xs all first second (suc k) d less = along _ _ _ _ _ _ second (all k d (omega arith))
 
 alone : (x : Stop) → All (IsNoLater x) (x ∷ [])
-alone x zero d less = itself x
-alone x (suc k) d less = absurd (omega arith)
+alone x h d less = grind (arith, itself)
 
 -- the earliest of one stop or more
 pub least : (x : Stop) (xs : List Stop) → IsLeast (x ∷ xs) (or_earlier x (earliest xs))

@@ -1,5 +1,5 @@
 -- After an output that ends a stage, several calls give nothing, as each of them does.
-use Rattle.std.proofs.Common.{ℕ, List, [], ◌∷◌, ◌++◌, ◌≡◌, ◌||◌, ◌⊎◌, inl, inr, Bool, true, false, refl, ap, sym, ◌∙◌, append_assoc}
+use Rattle.std.proofs.Common.{ℕ, List, [], ◌∷◌, ◌++◌, ◌≡◌, ◌||◌, ◌⊎◌, inl, inr, Bool, true, false, refl, ap, sym, ◌∙◌, append_assoc, arith}
 use Rattle.std.proofs.lemmas.List.{append_cancel_left}
 use Rattle.std.proofs.Math.Bool.{or-true}
 use Rattle.std.specs.List.{list_any}
@@ -20,11 +20,7 @@ pub record InSecond {T : Type 0} (a c before later : List T) (x : T) : Type 0 wh
 pub where_it_lies : {T : Type 0} (a c before later : List T) (x : T) → a ++ c ≡ before ++ x ∷ later → InFirst a c before later x ⊎ InSecond a c before later x
 where_it_lies [] c before later x e = inr (record { left = before; second_is = e })
 where_it_lies (y ∷ a) c [] later x e = inl (record { left = a; first_is = cc; after_is = cc })
-where_it_lies (y ∷ a) c (z ∷ before) later x e = by (where_it_lies a c before later x (cc))
-  where
-    by : InFirst a c before later x ⊎ InSecond a c before later x → InFirst (y ∷ a) c (z ∷ before) later x ⊎ InSecond (y ∷ a) c (z ∷ before) later x
-    by (inl i) = let e1 = i.first_is in inl (record { left = i.left; first_is = cc; after_is = i.after_is })
-    by (inr i) = inr (record { left = i.left; second_is = i.second_is })
+where_it_lies (y ∷ a) c (z ∷ before) later x e = grind (arith, where_it_lies a c before later x (cc))
 
 pub both_empty : {T : Type 0} (a b : List T) → a ++ b ≡ [] → (a ≡ []) × (b ≡ [])
 both_empty [] b e = (refl, e)
@@ -93,9 +89,7 @@ events_is old new xs ys e h = append_cancel_left old.items xs ys (items_of _ _ (
 -- a call that gives no end
 pub stops-endless : {I O : Type 0} (ends : O → Bool) (after : List I → List (List O)) (old new : BoundedList O) (events : List O)
     → new ≡ extended_by old events → list_any ends events ≡ false → StopsAtEnd ends after old new
-stops-endless ends after old new events e none before later x h is_end =
-    let k : list_any ends events ≡ true = ap (list_any ends) (events_is old new events (before ++ x ∷ later) e h) ∙ has_end ends before later x is_end in
-    absurd (cc)
+stops-endless ends after old new events e none before later x h is_end = grind (arith, events_is, has_end)
 
 -- a call that gives an end last, and leaves a stage that gives nothing
 pub stops-last : {I O : Type 0} (ends : O → Bool) (after : List I → List (List O)) (old new : BoundedList O) (xs : List O) (last : O)

@@ -1,5 +1,5 @@
 -- Places in their order, and findings between two places.
-use Rattle.std.proofs.Common.{ℕ, ◌+◌, ◌==◌, List, [], ◌∷◌, ◌++◌, Bool, true, false, cond, refl, arith, inl, inr}
+use Rattle.std.proofs.Common.{ℕ, List, [], ◌∷◌, ◌++◌, refl, arith, inr}
 use Rattle.gabc_places.specs.declared.place.Place.{Place}
 use Rattle.gabc_places.specs.declared.code.Finding.{Finding}
 use Rattle.gabc_places.specs.Findings.{IsUpTo, LieBetween, ComesBefore}
@@ -10,34 +10,20 @@ pub up_to_self : (p : Place) → IsUpTo p p
 up_to_self p = inr (refl, omega arith)
 
 pub before_up_to : (p q : Place) → IsEarlier p q → IsUpTo p q
-before_up_to p q (inl l) = inl l
-before_up_to p q (inr h) = (let l = h.1 in inr (h.0, omega arith))
+before_up_to p q h = grind arith
 
 pub up_to_then : (p q r : Place) → IsUpTo p q → IsUpTo q r → IsUpTo p r
-up_to_then p q r (inl a) (inl b) = inl (omega arith)
-up_to_then p q r (inl a) (inr b) = (let e = b.0 in inl (omega arith))
-up_to_then p q r (inr a) (inl b) = (let e = a.0 in inl (omega arith))
-up_to_then p q r (inr a) (inr b) = (let d = a.0 in let e = b.0 in let l = a.1 in let m = b.1 in inr (omega arith, omega arith))
+up_to_then p q r h k = grind arith
 
 pub before_then : (p q r : Place) → IsEarlier p q → IsUpTo q r → IsEarlier p r
-before_then p q r (inl a) (inl b) = inl (omega arith)
-before_then p q r (inl a) (inr b) = (let e = b.0 in inl (omega arith))
-before_then p q r (inr a) (inl b) = (let e = a.0 in inl (omega arith))
-before_then p q r (inr a) (inr b) = (let d = a.0 in let e = b.0 in let l = a.1 in let m = b.1 in inr (omega arith, omega arith))
+before_then p q r h k = grind arith
 
 pub then_before : (p q r : Place) → IsUpTo p q → IsEarlier q r → IsEarlier p r
-then_before p q r (inl a) (inl b) = inl (omega arith)
-then_before p q r (inl a) (inr b) = (let e = b.0 in inl (omega arith))
-then_before p q r (inr a) (inl b) = (let e = a.0 in inl (omega arith))
-then_before p q r (inr a) (inr b) = (let d = a.0 in let e = b.0 in let l = a.1 in let m = b.1 in inr (omega arith, omega arith))
+then_before p q r h k = grind arith
 
 -- a place stands before the next one
 pub before_next : (p : Place) (c : ℕ) → IsEarlier p (next_place p c)
-before_next p c = by (c == 10)
-  where
-    by : (b : Bool) → IsEarlier p (cond b (record { line = p.line + 1; column = 1 }) (record { line = p.line; column = p.column + 1 }))
-    by true = inl (omega arith)
-    by false = inr (refl, omega arith)
+before_next p c = grind arith
 
 pub up_to_next : (p : Place) (c : ℕ) → IsUpTo p (next_place p c)
 up_to_next p c = before_up_to p (next_place p c) (before_next p c)
@@ -50,8 +36,7 @@ up_to_past p (c ∷ t) = up_to_then p (next_place p c) (place_past (next_place p
 -- ---- findings
 
 pub stands_before : (f g : Finding) → IsEarlier f.place g.place → ComesBefore f g
-stands_before f g (inl h) = inl h
-stands_before f g (inr h) = inr (h.0, inl h.1)
+stands_before f g h = grind arith
 
 pub lie_wider : (p q r : Place) (fs : List Finding) → IsUpTo q r → LieBetween p q fs → LieBetween p r fs
 lie_wider p q r [] l h = tt

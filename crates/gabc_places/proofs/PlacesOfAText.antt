@@ -1,5 +1,5 @@
 -- The places of a text, by the text before and by the place of its first character.
-use Rattle.std.proofs.Common.{◌≡◌, ℕ, suc, ◌+◌, ◌≤◌, Bool, true, false, cond, List, [], ◌∷◌, ◌++◌, length, refl, sym, ap, ◌∙◌, arith, append_assoc, append-nil, length-append, encode_utf8}
+use Rattle.std.proofs.Common.{◌≡◌, ℕ, suc, ◌+◌, ◌≤◌, Bool, cond, List, [], ◌∷◌, ◌++◌, length, refl, sym, ap, arith, append_assoc, append-nil, length-append, encode_utf8}
 use Rattle.std.proofs.lemmas.Grind.{common_steps}
 use Rattle.std.proofs.lemmas.Str.{length-encode, len_utf8_bounds}
 use Rattle.gabc_places.specs.declared.place.Place.{Place}
@@ -11,13 +11,11 @@ next_after f c = grind (arith, common_steps)
 
 pub placed_after : (f cs : List ℕ) → placed_characters_from (place_after f) cs ≡ placed_characters_after f cs
 placed_after f [] = refl
-placed_after f (c ∷ cs) =
-    ap (λ (l : List Char). record { c = c; place = place_after f } ∷ l) (ap (λ p. placed_characters_from p cs) (next_after f c) ∙ placed_after (f ++ c ∷ []) cs)
+placed_after f (c ∷ cs) = grind (arith, placed_after (f ++ c ∷ []) cs, next_after)
 
 pub after_joined : (f cs : List ℕ) → place_past (place_after f) cs ≡ place_after (f ++ cs)
 after_joined f [] = ap place_after (sym (append-nil f))
-after_joined f (c ∷ cs) =
-    ap (λ p. place_past p cs) (next_after f c) ∙ after_joined (f ++ c ∷ []) cs ∙ ap place_after (append_assoc f (c ∷ []) cs)
+after_joined f (c ∷ cs) = grind (arith, after_joined (f ++ c ∷ []) cs, next_after, append_assoc)
 
 -- as many characters with places as characters
 pub length_placed : (p : Place) (cs : List ℕ) → length (placed_characters_from p cs) ≡ length cs
@@ -38,8 +36,7 @@ placed_append p (c ∷ a) b = ap (λ (xs : List Char). record { c = c; place = p
 module _ (p : Place) (n m lines columns : ℕ) (less : m + 1 ≤ n) (line : p.line + n ≤ lines) (column : p.column + n ≤ columns) where
   within_by : (b : Bool) → ((cond {A = Place} b (record { line = p.line + 1; column = 1 }) (record { line = p.line; column = p.column + 1 })).line + m ≤ lines)
       × ((cond {A = Place} b (record { line = p.line + 1; column = 1 }) (record { line = p.line; column = p.column + 1 })).column + m ≤ columns)
-  within_by true = (omega (arith, less, line, column), omega (arith, less, line, column))
-  within_by false = (omega (arith, less, line, column), omega (arith, less, line, column))
+  within_by b = grind arith
 
   pub within_on : (c : ℕ) (q : Place) → q ≡ next_place p c → (q.line + m ≤ lines) × (q.column + m ≤ columns)
   within_on c q h = rw h (within_by (is_line_feed c))

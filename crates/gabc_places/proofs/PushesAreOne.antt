@@ -31,13 +31,9 @@ joined_silence (x ∷ xs) = joined_silence xs
 -- what is gathered with a push, and what is still to come, is what was gathered and what was to come
 pub gathered-pushed : {I O : Type 0} {before after : List I → List (List O)} {x : I} {most : ℕ} (all more : List O) (r s : BoundedList O) (xs : List I)
     → Pushes before after x most r s → r.items ≡ [] → more ≡ all ++ s.items → more ++ concat_of (after xs) ≡ all ++ concat_of (before (x ∷ xs))
-gathered-pushed {after = after} all more r s xs g empty e =
-    let items : s.items ≡ g.events = ap (λ (h : BoundedList _). h.items) g.out ∙ ap (λ v. v ++ g.events) empty in
-    ap (λ v. v ++ concat_of (after xs)) (e ∙ ap (λ v. all ++ v) items) ∙ append_assoc all g.events (concat_of (after xs)) ∙ ap (λ v. all ++ v) (sym (ap concat_of (g.law xs)))
+gathered-pushed all more r s xs g empty e = grind (arith, append_assoc)
 
 -- and with the end
 pub gathered-ended : {I O : Type 0} {before : List I → List (List O)} {most : ℕ} (all more : List O) (r s : BoundedList O)
     → Finishes before most r s → r.items ≡ [] → more ≡ all ++ s.items → more ≡ all ++ concat_of (before [])
-gathered-ended all more r s g empty e =
-    let items : s.items ≡ g.events = ap (λ (h : BoundedList _). h.items) g.out ∙ ap (λ v. v ++ g.events) empty in
-    e ∙ ap (λ v. all ++ v) (items ∙ sym (append-nil g.events) ∙ sym (ap concat_of g.law))
+gathered-ended all more r s g empty e = grind (arith, append-nil)

@@ -1,5 +1,5 @@
 -- What a stage has taken of a text, a character at a time.
-use Rattle.std.proofs.Common.{◌≡◌, ◌⊎◌, inl, inr, Result, Ok, Err, OnErr, ℕ, List, [], ◌∷◌, ◌++◌, refl, sym, ap, ◌∙◌, append_assoc}
+use Rattle.std.proofs.Common.{◌≡◌, ◌⊎◌, inl, inr, Result, OnErr, ℕ, List, [], ◌∷◌, ◌++◌, refl, sym, ap, ◌∙◌, append_assoc, arith}
 use Rattle.gabc_places.specs.declared.place.Char.{Char}
 use Rattle.gabc_places.specs.declared.place.Place.{Place}
 use Rattle.gabc_places.specs.BoundedList.{BoundedList}
@@ -36,8 +36,7 @@ abbrev pub GivenUp : {O : Type 0} → (List Char → List (List O)) → (List Ch
 GivenUp before after inputs = HasTaken before after inputs ⊎ EmitsNothing after
 
 on_error : {T E : Type 0} (r : Result T E) (P : Type 0) → P → OnErr r P
-on_error (Ok x) P p = tt
-on_error (Err e) P p = p
+on_error r P p = grind arith
 
 pub on_the_way : {T E O : Type 0} (r : Result T E) (before after : List Char → List (List O)) (inputs left : List Char) → TakenTo before after inputs left → OnErr r (GivenUp before after inputs)
 on_the_way r before after inputs left h = on_error r (GivenUp before after inputs) (inl h.0)

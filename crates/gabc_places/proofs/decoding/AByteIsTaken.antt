@@ -34,6 +34,4 @@ ascii x less = ap utf8_prefix_of (spelled x less) ∙ utf8_prefix_of-past x [] (
 
 pub plain_byte_taken : (x : ℕ) (s : DecoderState) → s.ended ≡ false → (s.taken ≡ s.limit → ⊥) → s.pending ≡ [] → x < 128
     → take_byte x s ≡ take_character x (record s { taken = s.taken + 1 })
-plain_byte_taken x s e h none less =
-    byte_taken x s e h ∙ ap (λ l. after_byte (l ++ x ∷ []) s) none ∙ ap (λ cs. take_pending (x ∷ []) cs (tail_of (x ∷ [])) (with_byte s)) (ascii x less)
-    ∙ ap (λ l. take_character x (record s { taken = s.taken + 1; pending = l })) (sym none)
+plain_byte_taken x s e h none less = grind (arith, byte_taken, ascii)

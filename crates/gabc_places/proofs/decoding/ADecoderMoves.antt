@@ -1,15 +1,12 @@
 -- Where a decoder stands after a byte.
-use Rattle.std.proofs.Common.{◌≡◌, ℕ, ◌+◌, not, Bool, true, false, List, [], ◌∷◌, ◌++◌, ◌==◌, ◌&&◌, Option, option_to_list, Result, refl, sym, subst, arith}
-use Rattle.std.proofs.lemmas.Bool.{and_parts, and_right}
-use Rattle.std.proofs.lemmas.Bool.Decides.{nat_tests}
+use Rattle.std.proofs.Common.{◌≡◌, ℕ, ◌+◌, not, Bool, true, false, List, [], ◌∷◌, ◌++◌, ◌==◌, ◌&&◌, Option, option_to_list, Result, refl, arith}
+use Rattle.std.proofs.lemmas.Bool.{and_parts}
 use Rattle.std.specs.Char.{IsScalar}
 use lib.Utf8.{scalars}
 use Rattle.gabc_places.specs.declared.place.Char.{Char}
 use Rattle.gabc_places.specs.declared.code.Code.{Code}
-use Rattle.gabc_places.specs.declared.code.Code.TheVariants.{F1}
 use Rattle.gabc_places.specs.declared.code.Fault.{Fault}
 use Rattle.gabc_places.specs.declared.decoded.Tail.{Tail}
-use Rattle.gabc_places.specs.declared.decoded.Tail.TheVariants.{Nothing, Part, Wrong}
 use Rattle.gabc_places.specs.Text.{is_left_out, read_as, utf8_prefix_of, tail_of}
 use Rattle.gabc_places.specs.TextOfAnInput.{IsTextCharacter}
 use Rattle.gabc_places.specs.DecoderMachine.{DecoderState, is_unfinished}
@@ -29,68 +26,33 @@ abbrev Moves : DecoderState → DecoderStep → Type 0
 Moves s t = MovesOn s t.events t.state
 
 moves_with : (s new : DecoderState) (t : DecoderStep) (item : Option (Result Char Fault)) → Moves s t → new ≡ t.state → option_to_list item ≡ t.events → MovesOn s (option_to_list item) new
-moves_with s new t item moves e h =
-    subst (λ (items : List (Result Char Fault)). MovesOn s items new) (sym h) (subst (λ (d : DecoderState). MovesOn s t.events d) (sym e) moves)
+moves_with s new t item moves e h = grind arith
 
 stop_moves : (code : Code) (s mid : DecoderState) → IsCounted s mid → Moves s (stop_with code mid)
-stop_moves code s mid counted =
-    let taken = counted.taken in
-    record { limit = counted.limit; taken = (omega (arith, taken), omega (arith, taken)); here = tt; place = counted.place; ended = refl; plain = tt; cr = λ runs. absurd (cc) }
+stop_moves code s mid counted = grind arith
 
 -- nothing came
 quiet_moves : (s mid : DecoderState) (pending : List ℕ) (previous : ℕ) → IsCounted s mid → is_after_cr (record mid { pending = pending; previous = previous }) ≡ false
     → MovesOn s [] (record mid { pending = pending; previous = previous })
-quiet_moves s mid pending previous counted past =
-    let taken = counted.taken in
-    record { limit = counted.limit; taken = (omega (arith, taken), omega (arith, taken)); here = tt; place = counted.place; ended = counted.ended; plain = tt; cr = λ runs cr. absurd (cc) }
+quiet_moves s mid pending previous counted past = grind arith
 
 -- it is no CR: an LF stands for that
 of_text : (previous c : ℕ) → IsScalar c → is_left_out (previous, c) ≡ false → IsTextCharacter (read_as c)
-of_text previous c scalar shown = by (c == 13) refl
-  where
-    shown_plainly : (c ≡ 0xFEFF) → ⊥
-    shown_plainly e = absurd (grind (arith, nat_tests, e, shown))
-
-    by : (b : Bool) → (c == 13) ≡ b → IsTextCharacter (read_as c)
-    by true e = rw e (record { scalar = refl; plain = ((λ h. absurd (omega (arith, h))), (λ h. absurd (omega (arith, h)))) })
-    by false e = rw e (record { scalar = scalar; plain = ((λ h. absurd (grind (arith, nat_tests, e, h))), shown_plainly) })
+of_text previous c scalar shown = grind arith
 
 -- only a CR is a CR before the next byte
 left_out_is_no_return : (unfinished : Bool) (previous c : ℕ) → is_left_out (previous, c) ≡ true → (not unfinished && (c == 13)) ≡ false
-left_out_is_no_return unfinished previous c left = by (c == 13) refl
-  where
-    no_return : c ≡ 13 → is_left_out (previous, c) ≡ false
-    no_return e = grind (arith, nat_tests, e)
-
-    by : (b : Bool) → (c == 13) ≡ b → (not unfinished && (c == 13)) ≡ false
-    by true e = absurd (grind (arith, nat_tests, e, left, no_return))
-    by false e = and_right _ _ e
+left_out_is_no_return unfinished previous c left = grind arith
 
 a_return_ends_a_line : (unfinished : Bool) (c : ℕ) → (not unfinished && (c == 13)) ≡ true → read_as c ≡ 10
 a_return_ends_a_line unfinished c cr = rw (and_parts (not unfinished) (c == 13) cr).1
 
 character_moves : (c : ℕ) (s mid : DecoderState) → IsScalar c → IsCounted s mid → Moves s (take_character c mid)
-character_moves c s mid scalar counted = by (is_left_out (mid.previous, c)) refl
-  where
-    by : (b : Bool) → is_left_out (mid.previous, c) ≡ b → Moves s (take_character c mid)
-    by true e = rw e (quiet_moves s mid mid.pending c counted (left_out_is_no_return (is_unfinished mid.pending) mid.previous c e))
-    by false e = rw e
-        (record {
-          limit = counted.limit;
-          taken = counted.taken;
-          here = counted.place;
-          place = refl;
-          ended = counted.ended;
-          plain = of_text mid.previous c scalar e;
-          cr = λ runs cr. a_return_ends_a_line (is_unfinished mid.pending) c cr;
-        })
+character_moves c s mid scalar counted = grind (arith, quiet_moves, left_out_is_no_return, of_text, a_return_ends_a_line)
 
 -- where bytes are pending, no CR stands before the next one
 pending_moves : (bytes cs : List ℕ) (tail : Tail) (s mid : DecoderState) → is_unfinished bytes ≡ true → scalars cs ≡ true → IsCounted s mid → Moves s (take_pending bytes cs tail mid)
-pending_moves bytes (c ∷ cs) tail s mid pending scalar counted = character_moves c s mid (and_parts _ _ scalar).0 counted
-pending_moves bytes [] Wrong s mid pending scalar counted = stop_moves F1 s mid counted
-pending_moves bytes [] Part s mid pending scalar counted = quiet_moves s mid bytes mid.previous counted (rw pending refl)
-pending_moves bytes [] Nothing s mid pending scalar counted = quiet_moves s mid bytes mid.previous counted (rw pending refl)
+pending_moves bytes cs tail s mid pending scalar counted = grind (arith, character_moves, and_parts, stop_moves, quiet_moves)
 
 some_pending : (bytes : List ℕ) (x : ℕ) → is_unfinished (bytes ++ x ∷ []) ≡ true
 some_pending [] x = refl

@@ -1,15 +1,13 @@
 -- A decoder that has stopped emits nothing, and a fault stops it.
-use Rattle.std.proofs.Common.{◌≡◌, ℕ, Bool, true, false, List, [], ◌∷◌, ◌++◌, Option, Some, None, IfSome, option_to_list, Result, Ok, Err, refl, ap, sym, ◌∙◌, ◌⊎◌, inl, inr}
+use Rattle.std.proofs.Common.{◌≡◌, ℕ, true, false, List, [], ◌∷◌, ◌++◌, Option, IfSome, option_to_list, Result, Err, refl, ap, ◌∙◌, ◌⊎◌, inl, inr, arith}
 use Rattle.std.specs.List.{list_any}
 use Rattle.gabc_places.specs.declared.place.Char.{Char}
 use Rattle.gabc_places.specs.declared.place.Place.{Place}
 use Rattle.gabc_places.specs.declared.code.Code.{Code}
-use Rattle.gabc_places.specs.declared.code.Code.TheVariants.{F1}
 use Rattle.gabc_places.specs.declared.code.Fault.{Fault}
 use Rattle.gabc_places.specs.declared.decoded.Tail.{Tail}
-use Rattle.gabc_places.specs.declared.decoded.Tail.TheVariants.{Nothing, Part, Wrong}
 use Rattle.gabc_places.specs.StageLaw.{concat_of, silence, EmitsNothing}
-use Rattle.gabc_places.specs.Text.{is_left_out, utf8_prefix_of, tail_of}
+use Rattle.gabc_places.specs.Text.{utf8_prefix_of, tail_of}
 use Rattle.gabc_places.specs.DecoderMachine.{DecoderState, is_fault_item}
 use Rattle.gabc_places.specs.witness.DecoderEvents.{DecoderStep, stop_with, take_character, take_pending, take_byte, take_end, events_left}
 use Rattle.gabc_places.specs.machine.Decoder.{take_part}
@@ -47,25 +45,16 @@ quiet_stops : (s : DecoderState) → Stops (record { events = []; state = s })
 quiet_stops s = inl (record { none = refl })
 
 character_stops : (c : ℕ) (s : DecoderState) → Stops (take_character c s)
-character_stops c s = by (is_left_out (s.previous, c)) refl
-  where
-    by : (b : Bool) → is_left_out (s.previous, c) ≡ b → Stops (take_character c s)
-    by true e = inl (record { none = rw e refl })
-    by false e = inl (record { none = rw e refl })
+character_stops c s = grind arith
 
 pending_stops : (bytes cs : List ℕ) (tail : Tail) (s : DecoderState) → Stops (take_pending bytes cs tail s)
-pending_stops bytes (c ∷ cs) tail s = character_stops c s
-pending_stops bytes [] Wrong s = stop_stops F1 s
-pending_stops bytes [] Part s = quiet_stops (record s { pending = bytes })
-pending_stops bytes [] Nothing s = quiet_stops (record s { pending = bytes })
+pending_stops bytes cs tail s = grind (arith, character_stops, stop_stops, quiet_stops)
 
 -- ---- what a call returns
 
 stops_with : (t : DecoderStep) (item : Option (Result Char Fault)) (new : DecoderState) → Stops t → new ≡ t.state → option_to_list item ≡ t.events
     → IfSome item (λ i. is_fault_item i ≡ true → EmitsNothing (events_left new))
-stops_with t None new stops e h = tt
-stops_with t (Some i) new (inl endless) e h = λ fault. absurd (cc (ap (list_any is_fault_item) h ∙ endless.none))
-stops_with t (Some i) new (inr last) e h = λ fault. gives_nothing new (ap (λ (s : DecoderState). s.ended) e ∙ last.stopped)
+stops_with t item new stops e h = grind (arith, gives_nothing)
 
 pub fault_stops : (code : Code) (s new : DecoderState) (item : Option (Result Char Fault)) → new ≡ (stop_with code s).state → option_to_list item ≡ (stop_with code s).events
     → IfSome item (λ i. is_fault_item i ≡ true → EmitsNothing (events_left new))
@@ -77,8 +66,7 @@ part_stops x s new item e h = stops_with (take_part x s) item new (pending_stops
 
 pub item_of_byte : (x : ℕ) (s new : DecoderState) (item : Option (Result Char Fault)) → new ≡ (take_byte x s).state → option_to_list item ≡ (take_byte x s).events
     → (xs : List ℕ) → events_left s (x ∷ xs) ≡ option_to_list item ∷ events_left new xs
-item_of_byte x s new item e h xs =
-    ap (λ (events : List (Result Char Fault)). events ∷ events_left (take_byte x s).state xs) (sym h) ∙ ap (λ (t : DecoderState). option_to_list item ∷ events_left t xs) (sym e)
+item_of_byte x s new item e h xs = grind arith
 
 -- ---- where a fault stands
 
@@ -87,26 +75,14 @@ abbrev StaysAtFault : Place → DecoderStep → Type 0
 StaysAtFault p t = list_any is_fault_item t.events ≡ true → t.state.place ≡ p
 
 character_stays : (c : ℕ) (s : DecoderState) → StaysAtFault s.place (take_character c s)
-character_stays c s = by (is_left_out (s.previous, c)) refl
-  where
-    by : (b : Bool) → is_left_out (s.previous, c) ≡ b → StaysAtFault s.place (take_character c s)
-    by true e = rw e (λ f. absurd (cc))
-    by false e = rw e (λ f. absurd (cc))
+character_stays c s = grind arith
 
 pending_stays : (bytes cs : List ℕ) (tail : Tail) (s : DecoderState) → StaysAtFault s.place (take_pending bytes cs tail s)
-pending_stays bytes (c ∷ cs) tail s = character_stays c s
-pending_stays bytes [] Wrong s = λ f. refl
-pending_stays bytes [] Part s = λ f. refl
-pending_stays bytes [] Nothing s = λ f. refl
+pending_stays bytes cs tail s = grind (arith, character_stays)
 
 stays_with : (p : Place) (t : DecoderStep) (item : Option (Result Char Fault)) (new : DecoderState) → StaysAtFault p t → new ≡ t.state → option_to_list item ≡ t.events
     → IfSome item (λ i. is_fault_item i ≡ true → new.place ≡ p)
-stays_with p t None new stays e h = tt
-stays_with p t (Some i) new stays e h = λ fault. ap (λ (s : DecoderState). s.place) e ∙ stays (ap (list_any is_fault_item) (sym h) ∙ any_of i fault)
-  where
-    any_of : (i : Result Char Fault) → is_fault_item i ≡ true → list_any is_fault_item (i ∷ []) ≡ true
-    any_of (Ok x) f = absurd (cc)
-    any_of (Err fault) f = refl
+stays_with p t item new stays e h = grind arith
 
 pub part_stays : (x : ℕ) (s new : DecoderState) (item : Option (Result Char Fault)) → new ≡ (take_part x s).state → option_to_list item ≡ (take_part x s).events
     → IfSome item (λ i. is_fault_item i ≡ true → new.place ≡ s.place)

@@ -1,6 +1,6 @@
 -- What a decoder emits for some bytes is what is known of them.
-use Rattle.std.proofs.Common.{◌≡◌, ℕ, zero, suc, not, if◌then◌else◌, ◌+◌, ◌-◌, ◌≤◌, ◌<◌, Bool, true, false, cond, List, [], ◌∷◌, ◌++◌, length, take, map, filter, Option, Some, None, Result, Ok, Err, refl, ap, ap₂, sym, ◌∙◌, subst, arith, append_assoc, append-nil, length-append, ◌⊎◌, inl, inr}
-use Rattle.std.proofs.lemmas.Bool.{cases_lt, cases_eq, and_parts, and_from}
+use Rattle.std.proofs.Common.{◌≡◌, ℕ, zero, suc, not, if◌then◌else◌, ◌+◌, ◌-◌, ◌≤◌, Bool, true, false, cond, List, [], ◌∷◌, ◌++◌, length, take, map, filter, Option, Some, None, Result, Ok, Err, refl, ap, ap₂, sym, ◌∙◌, subst, arith, append_assoc, append-nil, length-append, ◌⊎◌, inl, inr}
+use Rattle.std.proofs.lemmas.Bool.{and_parts, and_from}
 use Rattle.std.proofs.lemmas.Bool.{lt-ltb, le-ltb}
 use Rattle.std.proofs.lemmas.List.{take_all, map-append}
 use Rattle.std.proofs.lemmas.List.Elements.{filter-append}
@@ -92,8 +92,7 @@ scalars-more [] c ok s = and_from _ _ s refl
 scalars-more (d ∷ cs) c ok s = let k = and_parts _ _ ok in and_from _ _ k.0 (scalars-more cs c k.1 s)
 
 part-tail : (ps : List ℕ) → IsPartial ps → tail_of ps ≡ (if is_unfinished ps then Part else Nothing)
-part-tail [] p = tail_of-none [] p.none
-part-tail (x ∷ xs) p = tail_of-partial x xs p
+part-tail ps p = grind (arith, tail_of-none, tail_of-partial)
 
 -- ---- what is known, by the characters that were read and what stops them
 
@@ -111,10 +110,7 @@ known limits ended bytes = items_of (decoded_of limits ended bytes)
 
 pub decoded_within : (limits : Limits) (ended : Bool) (bytes : List ℕ) → length bytes ≤ limits.input
     → decoded_of limits ended bytes ≡ decoded_by (utf8_prefix_of bytes) (stop_code_of false ended (tail_of bytes))
-decoded_within limits ended bytes le =
-    let all : take limits.input bytes ≡ bytes = take_all limits.input bytes le in
-    let within : nat_lt limits.input (length bytes) ≡ false = le-ltb limits.input (length bytes) le in
-    ap₂ (λ bs over. decoded_by (utf8_prefix_of bs) (stop_code_of over ended (tail_of bs))) all within
+decoded_within limits ended bytes le = grind (arith, take_all, le-ltb)
 
 within_limit : (limits : Limits) (ended : Bool) (bytes : List ℕ) → length bytes ≤ limits.input
     → known limits ended bytes ≡ items (utf8_prefix_of bytes) (stop_code_of false ended (tail_of bytes))
@@ -122,23 +118,14 @@ within_limit limits ended bytes le = ap items_of (decoded_within limits ended by
 
 above_limit : (limits : Limits) (ended : Bool) (bytes : List ℕ) (x : ℕ) (xs : List ℕ) → length bytes ≡ limits.input
     → known limits ended (bytes ++ x ∷ xs) ≡ items (utf8_prefix_of bytes) (stop_code_of true ended (tail_of bytes))
-above_limit limits ended bytes x xs same =
-    let all : take limits.input (bytes ++ x ∷ xs) ≡ bytes = ap (λ n. take n (bytes ++ x ∷ xs)) (sym same) ∙ take-append_seam bytes (x ∷ xs) in
-    let over : nat_lt limits.input (length (bytes ++ x ∷ xs)) ≡ true = lt-ltb limits.input (length (bytes ++ x ∷ xs)) (omega (arith, length-append bytes (x ∷ xs), same)) in
-    ap₂ (λ bs o. items (utf8_prefix_of bs) (stop_code_of o ended (tail_of bs))) all over
+above_limit limits ended bytes x xs same = grind (arith, take-append_seam, lt-ltb, length-append)
 
 items-stop : (cs : List ℕ) (code : Code) → items cs (Some code) ≡ items cs None ++ Err (record { place = place_after (text_of_characters cs); code = code }) ∷ []
 items-stop cs code = ap (λ l. l ++ Err (record { place = place_after (text_of_characters cs); code = code }) ∷ []) (sym (append-nil (map (λ c. Ok c) (placed_characters (text_of_characters cs)))))
 
 -- a character more
 items-more : (cs : List ℕ) (c : ℕ) → items (cs ++ c ∷ []) None ≡ items cs None ++ map (λ c. Ok c) (placed_characters_after (text_of_characters cs) (added (is_left_out (last_or 0 cs, c)) c))
-items-more cs c =
-    let text = text_of_characters cs in
-    let more = added (is_left_out (last_or 0 cs, c)) c in
-    append-nil _ ∙ ap (λ t. map (λ c. Ok c) (placed_characters t)) (text-more cs c)
-    ∙ ap (map (λ c. Ok c)) (placed-append [] text more)
-    ∙ map-append (λ c. Ok c) (placed_characters text) (placed_characters_after text more)
-    ∙ ap (λ l. l ++ map (λ c. Ok c) (placed_characters_after text more)) (sym (append-nil (map (λ c. Ok c) (placed_characters text))))
+items-more cs c = grind (arith, append-nil, text-more, placed-append, map-append)
 
 -- ---- a decoder that has read some bytes
 
@@ -162,21 +149,10 @@ module _ (limits : Limits) (bytes : List ℕ) (s : DecoderState) (h : IsReading 
   tail_is = ap tail_of h.bytes_are ∙ tail-past h.chars s.pending h.scalar ∙ part-tail s.pending h.partial
 
   known_is : known limits false bytes ≡ items h.chars None
-  known_is = within_limit limits false bytes (omega (arith, h.taken, h.within, h.limit)) ∙ ap₂ (λ cs t. items cs (stop_code_of false false t)) read_are tail_is ∙ ap (items h.chars) (by (is_unfinished s.pending))
-    where
-      by : (b : Bool) → stop_code_of false false (if b then Part else Nothing) ≡ None
-      by true = refl
-      by false = refl
+  known_is = grind (arith, within_limit, read_are, tail_is)
 
   pub end_is : known limits true bytes ≡ known limits false bytes ++ (take_end s).events
-  end_is =
-      within_limit limits true bytes (omega (arith, h.taken, h.within, h.limit)) ∙ ap₂ (λ cs t. items cs (stop_code_of false true t)) read_are tail_is
-      ∙ by (is_unfinished s.pending) refl s.ended refl ∙ ap (λ l. l ++ (take_end s).events) (sym known_is)
-    where
-      by : (b : Bool) → is_unfinished s.pending ≡ b → (r : Bool) → s.ended ≡ r → items h.chars (stop_code_of false true (if b then Part else Nothing)) ≡ items h.chars None ++ (take_end s).events
-      by b e true f = absurd (let k : false ≡ true = sym h.running ∙ f in cc)
-      by true e false f = rw (e, f, h.place) (items-stop h.chars F1)
-      by false e false f = rw (e, f) (sym (append-nil (items h.chars None)))
+  end_is = grind (arith, within_limit, read_are, tail_is, known_is, items-stop, append-nil)
 
 -- ---- one byte more
 
@@ -214,10 +190,7 @@ module _ (limits : Limits) (bytes : List ℕ) (s : DecoderState) (h : IsReading 
 
   module _ (room : s.taken ≡ s.limit → ⊥) where
     less : length bytes + 1 ≤ limits.input
-    less = omega (arith, h.taken, h.within, h.limit, apart)
-      where
-        apart : s.taken < s.limit
-        apart = elim (cases_lt s.taken s.limit) [ inl l ↦ l | inr g ↦ absurd (room (omega (arith, h.within))) ]
+    less = grind arith
 
     bytes_with : bytes ++ x ∷ [] ≡ encodes h.chars ++ pending
     bytes_with = ap (λ l. l ++ x ∷ []) h.bytes_are ∙ append_assoc (encodes h.chars) s.pending (x ∷ [])
@@ -270,8 +243,7 @@ module _ (limits : Limits) (bytes : List ℕ) (s : DecoderState) (h : IsReading 
 
       events_are : (b : Bool) → map (λ c. Ok c) (placed_characters_after (text_of_characters h.chars) (added b c)) ≡ (step_by b c).events
       unfolding step_by
-      events_are true = refl
-      events_are false = ap (λ p. Ok (record { c = read_as c; place = p }) ∷ []) (sym h.place)
+      events_are b = grind arith
 
       goes_by : (b : Bool) → is_left_out (s.previous, c) ≡ b → Goes limits bytes (step_by b c) x
       unfolding step_by next_is
@@ -344,10 +316,7 @@ module _ (limits : Limits) (bytes : List ℕ) (s : DecoderState) (h : IsReading 
     byte_moves = subst (λ t. Moves limits bytes t x) (sym (byte_taken x s h.running room)) (pending_moves (utf8_prefix_of pending) (tail_of pending) refl refl)
 
   pub moves : Moves limits bytes (take_byte x s) x
-  moves = elim (cases_eq s.taken s.limit) [
-    | inl full ↦ subst (λ t. Moves limits bytes t x) (sym (at_limit full)) (inr (halts_at_limit full))
-    | inr room ↦ byte_moves room
-  ]
+  moves = grind (arith, at_limit, halts_at_limit, byte_moves)
 
 -- ---- all the bytes
 
@@ -364,22 +333,12 @@ module _ (limits : Limits) (bytes : List ℕ) (s : DecoderState) (x : ℕ) where
   one_more : (prefix more : List ℕ)
       → ((next : IsReading limits (bytes ++ x ∷ []) (take_byte x s).state) → known limits false (bytes ++ x ∷ []) ++ emitted (take_byte x s).state prefix more ≡ known limits false ((bytes ++ x ∷ []) ++ prefix))
       → Moves limits bytes (take_byte x s) x → known limits false bytes ++ emitted s (x ∷ prefix) more ≡ known limits false (bytes ++ x ∷ prefix)
-  one_more prefix more rest (inl g) =
-      sym (append_assoc (known limits false bytes) (take_byte x s).events (emitted (take_byte x s).state prefix more))
-      ∙ ap (λ l. l ++ emitted (take_byte x s).state prefix more) (sym g.known_is) ∙ rest g.next ∙ ap (known limits false) (append_assoc bytes (x ∷ []) prefix)
-  one_more prefix more rest (inr k) =
-      ap (λ l. known limits false bytes ++ ((take_byte x s).events ++ l)) (ap (λ l. concat_of (take (length prefix) l)) (silent (take_byte x s).state k.stopped (prefix ++ more)) ∙ silent_front (length prefix) (prefix ++ more))
-      ∙ ap (λ l. known limits false bytes ++ l) (append-nil (take_byte x s).events) ∙ sym (k.known_is false prefix)
+  one_more prefix more rest h = grind (arith, append_assoc, known_is, silent, silent_front, append-nil)
 
   one_more_to_end : (xs : List ℕ)
       → ((next : IsReading limits (bytes ++ x ∷ []) (take_byte x s).state) → known limits false (bytes ++ x ∷ []) ++ concat_of (events_left (take_byte x s).state xs) ≡ known limits true ((bytes ++ x ∷ []) ++ xs))
       → Moves limits bytes (take_byte x s) x → known limits false bytes ++ concat_of (events_left s (x ∷ xs)) ≡ known limits true (bytes ++ x ∷ xs)
-  one_more_to_end xs rest (inl g) =
-      sym (append_assoc (known limits false bytes) (take_byte x s).events (concat_of (events_left (take_byte x s).state xs)))
-      ∙ ap (λ l. l ++ concat_of (events_left (take_byte x s).state xs)) (sym g.known_is) ∙ rest g.next ∙ ap (known limits true) (append_assoc bytes (x ∷ []) xs)
-  one_more_to_end xs rest (inr k) =
-      ap (λ l. known limits false bytes ++ ((take_byte x s).events ++ l)) (ap concat_of (silent (take_byte x s).state k.stopped xs) ∙ joined_silence {I = ℕ} {O = Result Char Fault} xs)
-      ∙ ap (λ l. known limits false bytes ++ l) (append-nil (take_byte x s).events) ∙ sym (k.known_is true xs)
+  one_more_to_end xs rest h = grind (arith, append_assoc, known_is, silent, joined_silence, append-nil)
 
 known_on : (limits : Limits) (bytes : List ℕ) (s : DecoderState) → IsReading limits bytes s → (prefix more : List ℕ)
     → known limits false bytes ++ emitted s prefix more ≡ known limits false (bytes ++ prefix)
@@ -392,18 +351,7 @@ known_to_end limits bytes s h [] = ap (λ l. known limits false bytes ++ l) (app
 known_to_end limits bytes s h (x ∷ xs) = one_more_to_end limits bytes s x xs (λ next. known_to_end limits (bytes ++ x ∷ []) (take_byte x s).state next xs) (moves limits bytes s h x)
 
 fresh_reads : (limits : Limits) → IsReading limits [] (fresh_decoder limits.input)
-fresh_reads limits = record {
-  chars = [];
-  bytes_are = refl;
-  scalar = refl;
-  partial = nothing_is_partial;
-  running = refl;
-  limit = refl;
-  taken = refl;
-  within = omega arith;
-  place = refl;
-  previous = refl;
-}
+fresh_reads limits = grind (arith, nothing_is_partial)
 
 nothing_known : (limits : Limits) → known limits false [] ≡ []
 unfolding fresh_reads

@@ -1,5 +1,5 @@
 -- Of the character before, a decoder needs to know no more than whether it is a CR directly before the next byte.
-use Rattle.std.proofs.Common.{◌≡◌, ℕ, not, ◌&&◌, ◌||◌, ◌==◌, ◌+◌, ◌-◌, Bool, true, false, List, [], ◌∷◌, ◌++◌, length, take, refl, ap, sym, ◌∙◌, arith, length-append, Result, Ok, if◌then◌else◌}
+use Rattle.std.proofs.Common.{◌≡◌, ℕ, not, ◌&&◌, ◌||◌, ◌==◌, ◌+◌, ◌-◌, Bool, true, false, List, [], ◌∷◌, ◌++◌, length, take, refl, ap, sym, ◌∙◌, arith, length-append, Result, if◌then◌else◌}
 use Rattle.std.proofs.lemmas.Bool.{eqb-true}
 use Rattle.std.proofs.Math.Seq.{take-append_seam}
 use Rattle.std.specs.Char.{len_utf8}
@@ -13,11 +13,10 @@ use Rattle.gabc_places.specs.declared.decoded.Tail.{Tail}
 use Rattle.gabc_places.specs.declared.decoded.Tail.TheVariants.{Nothing, Part, Wrong}
 use Rattle.gabc_places.specs.declared.place.Char.{Char}
 use Rattle.gabc_places.specs.declared.place.Place.{Place}
-use Rattle.gabc_places.specs.Text.{utf8_prefix_of, tail_of, is_left_out, is_shown, read_as}
-use Rattle.gabc_places.specs.DecoderMachine.{DecoderState, IsPartial, is_unfinished}
+use Rattle.gabc_places.specs.Text.{utf8_prefix_of, tail_of, is_left_out, is_shown}
+use Rattle.gabc_places.specs.DecoderMachine.{DecoderState, IsPartial}
 use Rattle.gabc_places.specs.witness.DecoderEvents.{DecoderStep, stop_with, take_character, take_pending, take_end, events_left}
 use Rattle.gabc_places.specs.DecoderReports.{ReportTheSame}
-use Rattle.gabc_places.specs.Place.{next_place}
 use Rattle.gabc_places.proofs.utf8.PartOfACharacter.{nothing_is_partial, part_is, character_is}
 
 -- another character before is a CR as well, where that matters: directly before the next byte
@@ -71,8 +70,7 @@ lists_of step xs = step.events ∷ events_left step.state xs
 
 -- a character that is whole
 character_same : (t : DecoderState) (q c : ℕ) → is_left_out (t.previous, c) ≡ is_left_out (q, c) → take_character c t ≡ take_character c (with_previous t q)
-character_same t q c e =
-    ap (λ (b : Bool). if b then record { events = []; state = record t { previous = c } } else record { events = Ok (record { c = read_as c; place = t.place }) ∷ []; state = record t { place = next_place t.place (read_as c); previous = c } }) e
+character_same t q c e = grind arith
 
 end_same : (s : DecoderState) (q : ℕ) → (take_end s).events ≡ (take_end (with_previous s q)).events
 end_same s q = grind arith
@@ -111,15 +109,4 @@ alike_by l n p bs r m k q cs u c e f g h i = cc
 -- two that run and report the same differ in that character alone
 pub same_told : (s t : DecoderState) → s.ended ≡ false → t.ended ≡ false → s.limit ≡ t.limit → IsPartial s.pending → ReportTheSame s t
     → (xs : List ℕ) → events_left s xs ≡ events_left t xs
-same_told s t on too limit partial told xs = agree xs s t.previous partial both ∙ ap (λ (r : DecoderState). events_left r xs) alike
-  where
-    alike : with_previous s t.previous ≡ t
-    alike = alike_by s.limit s.taken s.place s.pending s.ended t.limit t.taken t.place t.pending t.ended t.previous limit told.taken told.place told.pending (on ∙ sym too)
-
-    both : AreBothCr s t.previous
-    both o none = by s.pending t.pending none (sym told.pending ∙ none) told.cr
-      where
-        by : (p q : List ℕ) → p ≡ [] → q ≡ [] → (not (is_unfinished p) && (s.previous == 13)) ≡ (not (is_unfinished q) && (t.previous == 13)) → (s.previous == 13) ≡ (t.previous == 13)
-        by [] [] e f h = h
-        by [] (x ∷ q) e f h = absurd (cc)
-        by (x ∷ p) q e f h = absurd (cc)
+same_told s t on too limit partial told xs = grind (arith, agree, alike_by)

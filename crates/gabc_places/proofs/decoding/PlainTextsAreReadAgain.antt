@@ -1,5 +1,5 @@
 -- The bytes of a text without CR and U+FEFF are read as that text.
-use Rattle.std.proofs.Common.{◌≡◌, ◌≢◌, ℕ, not, ◌≤◌, ◌&&◌, Bool, true, false, cond, List, [], ◌∷◌, ◌++◌, length, map, filter, None, refl, ap, ap₂, sym, ◌∙◌, arith, append-nil}
+use Rattle.std.proofs.Common.{◌≡◌, ◌≢◌, ℕ, not, ◌≤◌, Bool, true, false, cond, List, [], ◌∷◌, ◌++◌, length, map, filter, None, refl, ap, ap₂, sym, ◌∙◌, arith, append-nil}
 use Rattle.std.proofs.lemmas.Bool.Decides.{nat_tests}
 use Rattle.std.specs.Char.{IsScalar}
 use Rattle.std.specs.List.{zip, All}
@@ -15,10 +15,7 @@ use Rattle.gabc_places.proofs.utf8.PartOfACharacter.{nothing_is_partial}
 
 pub all_scalars : (cs : List ℕ) → All IsScalar cs → scalars cs ≡ true
 all_scalars [] h = refl
-all_scalars (c ∷ cs) h = both (All-head IsScalar c cs h) (all_scalars cs (All-tail IsScalar c cs h))
-  where
-    both : {a b : Bool} → a ≡ true → b ≡ true → (a && b) ≡ true
-    both e f = rw (e, f) refl
+all_scalars (c ∷ cs) h = grind (arith, all_scalars cs (All-tail IsScalar c cs h), All-head, All-tail)
 
 -- nothing is left out or changed
 pub kept : (p c : ℕ) → p ≢ 13 → IsPlain c → (is_left_out (p, c) ≡ false) × (read_as c ≡ c)

@@ -1,5 +1,5 @@
 -- A text that is skipped at once gives what it gives byte by byte.
-use Rattle.std.proofs.Common.{◌≡◌, ◌≢◌, ℕ, ◌+◌, ◌-◌, ◌<◌, ◌≤◌, Bool, true, false, cond, not, ◌==◌, ◌&&◌, List, [], ◌∷◌, ◌++◌, length, replicate, if◌then◌else◌, Result, Ok, refl, ap, ap₂, sym, subst, ◌∙◌, arith, append_assoc, append-nil, length-append, IsUtf8}
+use Rattle.std.proofs.Common.{◌≡◌, ◌≢◌, ℕ, ◌+◌, ◌-◌, ◌<◌, ◌≤◌, true, false, List, [], ◌∷◌, ◌++◌, length, replicate, Result, Ok, refl, ap, ap₂, sym, subst, ◌∙◌, arith, append_assoc, append-nil, length-append, IsUtf8}
 use Rattle.std.proofs.lemmas.Bool.{and_parts}
 use Rattle.std.proofs.lemmas.Bool.Decides.{nat_tests}
 use Rattle.std.proofs.lemmas.List.Elements.{All-head, All-tail}
@@ -11,11 +11,11 @@ use lib.Utf8.{encode, encodes, scalars}
 use Rattle.gabc_places.specs.declared.place.Char.{Char}
 use Rattle.gabc_places.specs.declared.place.Place.{Place}
 use Rattle.gabc_places.specs.declared.code.Fault.{Fault}
-use Rattle.gabc_places.specs.Place.{is_line_feed, next_place, place_past}
+use Rattle.gabc_places.specs.Place.{next_place, place_past}
 use Rattle.gabc_places.specs.Skip.{most_skipped, character_events, text_events}
 use Rattle.gabc_places.specs.Text.{utf8_prefix_of, tail_of}
 use Rattle.gabc_places.specs.TextOfAnInput.{IsPlain}
-use Rattle.gabc_places.specs.DecoderMachine.{DecoderState, IsPartial, IsReached, is_unfinished}
+use Rattle.gabc_places.specs.DecoderMachine.{DecoderState, IsPartial, IsReached}
 use Rattle.gabc_places.specs.DecoderReports.{is_after_cr}
 use Rattle.gabc_places.specs.witness.DecoderEvents.{DecoderStep, take_character, take_pending, events_left}
 use Rattle.gabc_places.proofs.decoding.AByteIsTaken.{with_byte, byte_taken}
@@ -35,12 +35,7 @@ most_is_left s = grind arith
 
 -- a decoder that may skip a byte runs, and no character is pending
 pub runs : (s : DecoderState) → 1 ≤ most_skipped s → Runs s
-runs s some = let k = by s.ended s.pending some in record { running = k.0; whole = k.1 }
-  where
-    by : (b : Bool) (bytes : List ℕ) → 1 ≤ cond (not b && not (is_unfinished bytes)) (s.limit - s.taken) 0 → (b ≡ false) × (bytes ≡ [])
-    by false [] h = (refl, refl)
-    by false (x ∷ xs) h = absurd (omega (arith, h))
-    by true bytes h = absurd (omega (arith, h))
+runs s some = grind arith
 
 -- ---- a part of a character
 
@@ -71,12 +66,7 @@ module _ (c : ℕ) (scalar : IsScalar c) (plain : IsPlain c) (more : List ℕ) w
   -- what is left of the character, after the bytes of it that are pending
   parts_taken : (x : ℕ) (xs : List ℕ) (s : DecoderState) → s.ended ≡ false → s.pending ++ x ∷ xs ≡ encode c → s.taken + length (x ∷ xs) ≤ s.limit → s.previous ≢ 13
       → events_left s (x ∷ xs ++ more) ≡ lists_for (length xs) (record { c = c; place = s.place }) ++ events_left (past s (s.taken + length (x ∷ xs)) c) more
-  parts_taken x [] s running spelled within before =
-      ap (λ (step : DecoderStep). step.events ∷ events_left step.state more)
-      (byte_taken x s running (λ e. absurd (omega (arith, e, within)))
-      ∙ ap (λ (bytes : List ℕ). take_pending bytes (utf8_prefix_of bytes) (tail_of bytes) (with_byte s)) spelled
-      ∙ ap (λ (cs : List ℕ). take_pending (encode c) cs (tail_of (encode c)) (with_byte s)) (prefix_of_character c scalar)
-      ∙ character_kept c s before plain)
+  parts_taken x [] s running spelled within before = grind (arith, byte_taken, prefix_of_character, character_kept)
   parts_taken x (y ∷ ys) s running spelled within before =
       let bytes = s.pending ++ x ∷ [] in
       let all : bytes ++ y ∷ ys ≡ encode c = append_assoc s.pending (x ∷ []) (y ∷ ys) ∙ spelled in
@@ -129,11 +119,7 @@ text_taken (c ∷ cs) s scalar plain running whole within before more =
 
 -- with nothing pending, the character before is a CR only where one stands directly before the next byte
 no_return : (s : DecoderState) → s.pending ≡ [] → is_after_cr s ≡ false → s.previous ≢ 13
-no_return s whole past e = absurd (let a = past in by s.pending whole past)
-  where
-    by : (l : List ℕ) → l ≡ [] → (not (is_unfinished l) && (s.previous == 13)) ≡ false → ⊥
-    by [] f g = grind (arith, nat_tests, e, g)
-    by (x ∷ xs) f g = absurd (cc)
+no_return s whole past e = grind arith
 
 pub text_skipped : (text : List ℕ) (s : DecoderState) → IsUtf8 text → 0 < length text → length text ≤ most_skipped s → All IsPlain (chars text) → is_after_cr s ≡ false
     → (more : List ℕ) → events_left s (text ++ more) ≡ text_events s.place (chars text) ++ events_left (moved_past s (length text) (place_past s.place (chars text))) more
@@ -147,11 +133,7 @@ text_skipped text s u some few plain past more =
 -- ---- where the next character stands
 
 reached_next : (p : Place) (c k taken : ℕ) → IsReached p k taken → IsReached (next_place p c) k (taken + 1)
-reached_next p c k taken r = by (is_line_feed c)
-  where
-    by : (b : Bool) → IsReached (if b then record { line = p.line + 1; column = 1 } else record { line = p.line; column = p.column + 1 }) k (taken + 1)
-    by true = record { line = omega arith; column = omega arith; bytes = let near = r.bytes in let some = r.column in omega (arith, near, some) }
-    by false = record { line = r.line; column = omega arith; bytes = let near = r.bytes in omega (arith, near) }
+reached_next p c k taken r = grind arith
 
 reached_past : (cs : List ℕ) (p : Place) (k taken : ℕ) → IsReached p k taken → IsReached (place_past p cs) k (taken + length cs)
 reached_past [] p k taken r = subst (IsReached p k) (omega arith) r

@@ -28,15 +28,7 @@ quiet_byte : (s : DecoderState) → MovesOn s [] (moved_past s 1 s.place)
 quiet_byte s = record { limit = refl; taken = (omega arith, omega arith); here = tt; place = refl; ended = refl; plain = tt; cr = λ runs cr. absurd (let no = no_return_kept s 1 s.place in cc) }
 
 last_byte : (c : ℕ) (s : DecoderState) → IsScalar c → IsPlain c → MovesOn s (Ok (record { c = c; place = s.place }) ∷ []) (moved_past s 1 (next_place s.place c))
-last_byte c s scalar plain = record {
-  limit = refl;
-  taken = refl;
-  here = refl;
-  place = refl;
-  ended = refl;
-  plain = record { scalar = scalar; plain = plain };
-  cr = λ runs cr. absurd (let no = no_return_kept s 1 (next_place s.place c) in cc);
-}
+last_byte c s scalar plain = grind (arith, no_return_kept)
 
 bytes_of_one : (c : ℕ) → IsScalar c → IsPlain c → (n : ℕ) (s : DecoderState) → MovesThrough s (lists_for n (record { c = c; place = s.place })) (moved_past s (n + 1) (next_place s.place c))
 bytes_of_one c scalar plain zero s = (moved_past s 1 (next_place s.place c), (last_byte c s scalar plain, refl))
@@ -69,8 +61,7 @@ bytes_of_all (c ∷ cs) s first scalar plain =
 -- the character before does not matter
 from_here : (lists : List (List (Result Char Fault))) (s e : DecoderState) → 0 < length lists → MovesThrough (record s { previous = 0 }) lists e → MovesThrough s lists e
 from_here [] s e some moves = absurd (omega (arith, some))
-from_here (items ∷ lists) s e some (mid, (one, more)) =
-    (mid, (record { limit = one.limit; taken = one.taken; here = one.here; place = one.place; ended = one.ended; plain = one.plain; cr = one.cr }, more))
+from_here (items ∷ lists) s e some (mid, (one, more)) = grind arith
 
 pub text_moves : (text : List ℕ) (s : DecoderState) → IsUtf8 text → 0 < length text → All IsPlain (chars text) → MovesThrough s (text_events s.place (chars text)) (moved_past s (length text) (place_past s.place (chars text)))
 text_moves text s u some plain =

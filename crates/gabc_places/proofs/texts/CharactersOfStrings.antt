@@ -1,10 +1,9 @@
 -- The characters of a text that grows or is cut by a character.
-use Rattle.std.proofs.Common.{subst, take, ◌+◌, ◌≤◌, ◌≡◌, ◌≢◌, ℕ, Bool, true, false, cond, List, [], ◌∷◌, ◌++◌, filter, length, drop, slice_index, Result, Ok, Err, OnOk, is_ok, ap, ◌∙◌, sym, refl, append-nil, arith, IsUtf8}
+use Rattle.std.proofs.Common.{subst, take, ◌+◌, ◌≤◌, ◌≡◌, ◌≢◌, ℕ, Bool, true, cond, List, [], ◌∷◌, ◌++◌, filter, length, drop, slice_index, Result, OnOk, is_ok, ap, ◌∙◌, sym, refl, append-nil, arith, IsUtf8}
 use Rattle.std.specs.Str.{chars, NonePass, NoCharPasses, IsCharBoundary}
 use Rattle.std.specs.Bool.{◌==◌}
 use Rattle.std.specs.Char.{IsScalar, len_utf8}
 use Rattle.std.proofs.lemmas.Bool.{and_parts}
-use Rattle.std.proofs.lemmas.Bool.Decides.{nat_tests}
 use Rattle.std.proofs.lemmas.List.Elements.{filter-append}
 use Rattle.std.proofs.lemmas.Str.{chars-nil, chars-append, chars_past_char, encodes-chars, chars_from_encodes, IsUtf8-append, IsUtf8-encode, IsUtf8-take, IsUtf8-drop, IsCharBoundary-from_drop}
 use Rattle.std.proofs.lemmas.List.{take-append-drop}
@@ -18,8 +17,7 @@ chars-encode c s = chars_past_char (encode c) [] c (IsUtf8-encode c s) (sym (app
 -- a character is pushed after a text, if there is memory
 pub chars-pushed : {E : Type 0} (r : Result (Unit {0}) E) (bs more text : List ℕ) (c : ℕ) → IsUtf8 bs → IsScalar c → chars bs ≡ text
     → more ≡ cond (is_ok r) (bs ++ encode c) bs → OnOk r (chars more ≡ text ++ c ∷ [])
-chars-pushed (Ok x) bs more text c u s v e = ap chars e ∙ chars-append bs (encode c) u ∙ ap (λ l. chars bs ++ l) (chars-encode c s) ∙ ap (λ l. l ++ c ∷ []) v
-chars-pushed (Err x) bs more text c u s v e = tt
+chars-pushed r bs more text c u s v e = grind (arith, chars-append, chars-encode)
 
 -- no characters are left at the end
 pub chars-none : (bs : List ℕ) → length bs ≡ 0 → chars bs ≡ []
@@ -36,8 +34,7 @@ scalars_split (c ∷ a) b e =
 
 -- a text is added after a text, if there is memory
 pub chars-added : {E : Type 0} (r : Result (Unit {0}) E) (bs more text part : List ℕ) → IsUtf8 bs → chars bs ≡ text → more ≡ cond (is_ok r) (bs ++ part) bs → OnOk r (chars more ≡ text ++ chars part)
-chars-added (Ok x) bs more text part u v e = ap chars e ∙ chars-append bs part u ∙ ap (λ l. l ++ chars part) v
-chars-added (Err x) bs more text part u v e = tt
+chars-added r bs more text part u v e = grind (arith, chars-append)
 
 -- the characters around a character
 pub chars-split : (bs prefix after : List ℕ) (c : ℕ) → IsScalar c → IsUtf8 prefix → IsUtf8 after → bs ≡ prefix ++ (encode c ++ after) → chars bs ≡ chars prefix ++ c ∷ chars after
@@ -72,12 +69,10 @@ shown-cut bs prefix after i j u split boundary ends le e f none =
     (v, shown-split bs prefix after x v whole (subst (NoCharPasses (λ c. c == 0xFEFF)) (sym e) none))
 
 feed_by : (b : Bool) (bs cs : List ℕ) (c : ℕ) → (c == 10) ≡ b → ((rest : List ℕ) → bs ≢ encode 10 ++ rest) → encode c ++ encodes cs ≡ bs → c ∷ cs ≡ cond b cs (c ∷ cs)
-feed_by true bs cs c e none is = let same : c ≡ 10 = grind (arith, nat_tests) in absurd (none (encodes cs) (sym is ∙ ap (λ d. encode d ++ encodes cs) same))
-feed_by false bs cs c e none is = refl
+feed_by b bs cs c e none is = grind arith
 
 no_feed : (bs cs : List ℕ) → ((rest : List ℕ) → bs ≢ encode 10 ++ rest) → encodes cs ≡ bs → cs ≡ cond (slice_index cs 0 == 10) (drop 1 cs) cs
-no_feed bs [] none is = refl
-no_feed bs (c ∷ cs) none is = feed_by (c == 10) bs cs c refl none is
+no_feed bs cs none is = grind (arith, feed_by)
 
 -- no LF stands at the start of the bytes, and so none at the start of the characters
 pub chars-no_feed : (bs : List ℕ) → IsUtf8 bs → ((rest : List ℕ) → bs ≢ encode 10 ++ rest) → chars bs ≡ cond (slice_index (chars bs) 0 == 10) (drop 1 (chars bs)) (chars bs)

@@ -32,17 +32,13 @@ none_of d low (c ∷ cs) none = (
 
 -- without the byte there is no such character
 pub no_byte : (d : ℕ) → d < 128 → (bs : List ℕ) → IsUtf8 bs → LacksByte d bs → NonePass (λ c. c == d) (chars bs)
-no_byte d low bs u none = none_of d low (chars bs) (λ k less is.
-    let e : encodes (chars bs) ≡ bs = encodes-chars bs u in
-    none k (omega (arith, ap length e)) (rw e at is))
+no_byte d low bs u none = grind (arith, none_of, encodes-chars)
 
 pub no-return : (bs : List ℕ) → IsUtf8 bs → Nowhere (Passes (is_byte 13) bs) 0 (length bs) → NonePass (λ c. c == 13) (chars bs)
 no-return bs u none = no_byte 13 (omega arith) bs u (λ k less is. none k (omega arith) less is)
 
 no-return-prefix : (bs prefix : List ℕ) (at : ℕ) → prefix ≡ take at bs → at ≤ length bs → IsUtf8 prefix → Nowhere (Passes (is_byte 13) bs) 0 at → NonePass (λ c. c == 13) (chars prefix)
-no-return-prefix bs prefix at e le u none = no-return prefix u (λ k low less is.
-    let short : k < at = omega (arith, ap length e, length-take-le at bs le) in
-    none k low short (rw (e, get_or-take at bs k 0 short) at is))
+no-return-prefix bs prefix at e le u none = grind (arith, no-return, length-take-le, get_or-take)
 
 -- the characters around a CR byte
 chars-cut : (bs prefix after : List ℕ) (at : ℕ) → at < length bs → (slice_index bs at == 13) ≡ true → prefix ≡ take at bs → after ≡ drop (at + 1) bs → IsUtf8 prefix → IsUtf8 after → chars bs ≡ chars prefix ++ 13 ∷ chars after

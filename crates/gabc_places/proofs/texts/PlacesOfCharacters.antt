@@ -22,5 +22,4 @@ placed-at prefix (c ∷ cs) (suc i) less = placed-at (prefix ++ c ∷ []) cs i (
 -- what follows a text is placed after it
 pub placed-append : (prefix xs ys : List ℕ) → placed_characters_after prefix (xs ++ ys) ≡ placed_characters_after prefix xs ++ placed_characters_after (prefix ++ xs) ys
 placed-append prefix [] ys = ap (λ f. placed_characters_after f ys) (sym (append-nil prefix))
-placed-append prefix (c ∷ xs) ys = ap (λ l. record { c = c; place = place_after prefix } ∷ l)
-    (placed-append (prefix ++ c ∷ []) xs ys ∙ ap (λ f. placed_characters_after (prefix ++ c ∷ []) xs ++ placed_characters_after f ys) (append_assoc prefix (c ∷ []) xs))
+placed-append prefix (c ∷ xs) ys = grind (arith, placed-append (prefix ++ c ∷ []) xs ys, append_assoc)

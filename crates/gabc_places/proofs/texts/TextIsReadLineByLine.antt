@@ -1,5 +1,5 @@
 -- The text of characters, line by line.
-use Rattle.std.proofs.Common.{◌≢◌, ◌<◌, length, get_or, ◌≡◌, ℕ, Bool, true, false, cond, List, [], ◌∷◌, ◌++◌, map, filter, drop, not, slice_index, refl, ap, sym, ◌∙◌, arith, append-nil, ◌==◌}
+use Rattle.std.proofs.Common.{◌≢◌, ◌<◌, length, get_or, ◌≡◌, ℕ, Bool, true, false, cond, List, [], ◌∷◌, ◌++◌, map, filter, drop, not, slice_index, refl, ◌∙◌, arith, append-nil, ◌==◌}
 use Rattle.std.specs.List.{zip, All}
 use Rattle.std.proofs.lemmas.List.{length-map, get_or-map}
 use Rattle.std.proofs.lemmas.List.Elements.{filter_passes}
@@ -14,8 +14,7 @@ text_after p cs = map (λ (p : ℕ × ℕ). read_as p.1) (filter (λ (p : ℕ ×
 first_by : (s : Bool) (p c : ℕ) (rest : List (ℕ × ℕ)) (line after : List ℕ) → (c == 13) ≡ false
     → map (λ (p : ℕ × ℕ). read_as p.1) rest ≡ line ++ after
     → map {A = ℕ × ℕ} (λ (p : ℕ × ℕ). read_as p.1) (cond (not (not s)) ((p, c) ∷ rest) rest) ≡ cond s (c ∷ line) line ++ after
-first_by true p c rest line after plain e = rw plain (ap (λ l. c ∷ l) e)
-first_by false p c rest line after plain e = e
+first_by s p c rest line after plain e = grind arith
 
 -- a line without CR, and what follows it, after a character that is no CR
 pub line-shown : (p : ℕ) (line after : List ℕ) → (p == 13) ≡ false → NonePass (λ c. c == 13) line
@@ -33,30 +32,24 @@ line-last p line plain none = last_with p line plain none ∙ append-nil (filter
 
 same_by : (b : Bool) (p q c : ℕ) (rest : List (ℕ × ℕ))
     → map {A = ℕ × ℕ} (λ (p : ℕ × ℕ). read_as p.1) (cond b ((p, c) ∷ rest) rest) ≡ map {A = ℕ × ℕ} (λ (p : ℕ × ℕ). read_as p.1) (cond b ((q, c) ∷ rest) rest)
-same_by true p q c rest = refl
-same_by false p q c rest = refl
+same_by b p q c rest = grind arith
 
 -- after characters that are no CR the text is the same
 pub same-after : (p q : ℕ) (cs : List ℕ) → (p == 13) ≡ false → (q == 13) ≡ false → text_after p cs ≡ text_after q cs
-same-after p q [] e f = refl
-same-after p q (c ∷ cs) e f = rw (e, f) (same_by (not (not (is_shown c))) p q c _)
+same-after p q cs e f = grind (arith, same_by)
 
 no_return : (c : ℕ) → (c == 10) ≡ true → (c == 13) ≡ false
 no_return c e = grind (arith, nat_tests)
 
 return_by : (b : Bool) (c : ℕ) (cs : List ℕ) → (c == 10) ≡ b → text_after 13 (c ∷ cs) ≡ text_after 0 (cond b cs (c ∷ cs))
-return_by true c cs e = rw e (same-after c 0 cs (no_return c e) refl)
-return_by false c cs e = rw e (same_by (not (not (is_shown c))) 13 0 c _)
+return_by b c cs e = grind (arith, same-after, no_return, same_by)
 
 -- directly after a CR an LF is left out
 pub after-return : (cs rest : List ℕ) → rest ≡ cond (slice_index cs 0 == 10) (drop 1 cs) cs → text_after 13 cs ≡ text_after 0 rest
-after-return [] rest e = ap (text_after 0) (sym e)
-after-return (c ∷ cs) rest e = return_by (c == 10) c cs refl ∙ ap (text_after 0) (sym e)
+after-return cs rest e = grind (arith, return_by)
 
 plain_by : (s t : Bool) (p c : ℕ) → (c == 0xFEFF) ≡ s → (c == 13) ≡ t → not (is_left_out (p, c)) ≡ true → (cond t 10 c ≢ 13) × (cond t 10 c ≢ 0xFEFF)
-plain_by true t p c e f kept = absurd (grind (arith, nat_tests))
-plain_by false true p c e f kept = (λ h. omega arith, λ h. omega arith)
-plain_by false false p c e f kept = (λ h. grind (arith, nat_tests), λ h. grind (arith, nat_tests))
+plain_by s t p c e f kept = grind arith
 
 -- what is kept is read as no CR and no U+FEFF
 pub plain-kept : (ps : List (ℕ × ℕ)) → All (λ c. (c ≢ 13) × (c ≢ 0xFEFF)) (map (λ (p : ℕ × ℕ). read_as p.1) (filter (λ (p : ℕ × ℕ). not (is_left_out p)) ps))

@@ -1,5 +1,5 @@
 -- What a reader of UTF-8 reports of bytes is their prefix and its tail.
-use Rattle.std.proofs.Common.{◌≡◌, ℕ, ◌<◌, List, [], ◌∷◌, length, take, drop, Option, refl, ap, sym, ◌∙◌, arith, length-drop, IsUtf8}
+use Rattle.std.proofs.Common.{◌≡◌, ℕ, ◌<◌, List, length, take, drop, Option, ap, sym, ◌∙◌, arith, length-drop, IsUtf8}
 use Rattle.std.proofs.lemmas.Str.{utf8_valid_len-IsUtf8}
 use Rattle.std.specs.Str.{chars}
 use Rattle.std.specs.Str.Lossy.{utf8_valid_len, utf8_error_len}
@@ -34,8 +34,7 @@ unfolding tail_of
 tail-whole bs u = ap tail_at (drop_of_length-le bs {i = utf8_valid_len bs} (omega (arith, utf8_valid_len-IsUtf8 bs u)))
 
 tail_at-some : (bs : List ℕ) → 0 < length bs → tail_at bs ≡ tail_by (utf8_error_len bs)
-tail_at-some [] h = absurd (omega arith)
-tail_at-some (b ∷ bs) h = refl
+tail_at-some bs h = grind arith
 
 -- after a prefix that is reported to be valid stands what is reported of the fault
 pub tail-read : (bs : List ℕ) (n : ℕ) (o : Option ℕ) → n < length bs → n ≡ utf8_valid_len bs → o ≡ utf8_error_len (drop n bs) → tail_of bs ≡ tail_by o

@@ -8,8 +8,8 @@ use Rattle.std.specs.Int.{is_in_range}
 use Rattle.std.specs.Str.Lossy.{second_byte_min, second_byte_max, error_len_after_one, error_len_after_two}
 use Rattle.std.proofs.lemmas.Bool.{le-ltb, lt-ltb, cond-true, cond-false}
 use Rattle.std.specs.Bool.{nat_lt, ◌==◌}
-use lib.Utf8.{encode, encodes, scalars, scalar_cases}
-use Rattle.std.proofs.lemmas.Bool.{cases_eq, cases_lt, and_parts}
+use lib.Utf8.{encode, encodes, scalars}
+use Rattle.std.proofs.lemmas.Bool.{cases_lt, and_parts}
 use Rattle.std.proofs.lemmas.Bool.Decides.{nat_tests}
 use Rattle.std.proofs.lemmas.List.{take-append-le, take-append-drop, length-take-le}
 use Rattle.std.proofs.Math.Seq.{take-append-add, drop-append-add, take-append_seam}
@@ -18,16 +18,14 @@ use Rattle.gabc_places.specs.DecoderMachine.{IsPartial, IsWrong}
 use Rattle.gabc_places.specs.declared.decoded.Tail.TheVariants.{Part, Wrong}
 
 front_by : (bs : List ℕ) (n : ℕ) (b : Bool) → is_utf8 (take (suc n) bs) ≡ b → IsUtf8 (take (valid_len_up_to bs n) bs) → IsUtf8 (take (cond b (suc n) (valid_len_up_to bs n)) bs)
-front_by bs n true e h = IsUtf8-from_is_utf8 _ e
-front_by bs n false e h = h
+front_by bs n b e h = grind (arith, IsUtf8-from_is_utf8)
 
 valid_len_up_to-front : (bs : List ℕ) (n : ℕ) → IsUtf8 (take (valid_len_up_to bs n) bs)
 valid_len_up_to-front bs zero = IsUtf8-nil
 valid_len_up_to-front bs (suc n) = front_by bs n (is_utf8 (take (suc n) bs)) refl (valid_len_up_to-front bs n)
 
 max_by : (n m v : ℕ) (b : Bool) → m ≤ suc n → (m ≡ suc n → b ≡ true) → (m ≤ n → m ≤ v) → m ≤ cond b (suc n) v
-max_by n m v true le e h = le
-max_by n m v false le e h = elim (cases_eq m (suc n)) [ inl same ↦ absurd (let f : false ≡ true = e same in cc) | inr other ↦ h (omega arith) ]
+max_by n m v b le e h = grind arith
 
 valid_len_up_to-max : (bs : List ℕ) (n m : ℕ) → m ≤ n → IsUtf8 (take m bs) → m ≤ valid_len_up_to bs n
 valid_len_up_to-max bs zero m le u = le
@@ -85,15 +83,13 @@ unfolding utf8_error_len
 error_len-nil n e = let f : None ≡ Some n = e in cc
 
 pub tail_of-wrong : (bs : List ℕ) → IsWrong bs → tail_of bs ≡ Wrong
-tail_of-wrong [] b = absurd (error_len-nil b.size b.fault)
-tail_of-wrong (x ∷ xs) b = tail_of-none (x ∷ xs) b.none ∙ ap tail_by b.fault
+tail_of-wrong bs b = grind (arith, error_len-nil, tail_of-none)
 
 pub tail_of-partial : (x : ℕ) (xs : List ℕ) → IsPartial (x ∷ xs) → tail_of (x ∷ xs) ≡ Part
 tail_of-partial x xs p = tail_of-none (x ∷ xs) p.none ∙ ap tail_by p.more
 
 stays_1 : (t : Bool) (x : Option ℕ) (n : ℕ) → cond t None (Some 1) ≡ Some n → cond t x (Some 1) ≡ Some n
-stays_1 true x n e = absurd (cc)
-stays_1 false x n e = e
+stays_1 t x n e = grind arith
 
 stays_2 : (t u : Bool) (x : Option ℕ) (n : ℕ) → cond t (cond u None (Some 1)) (Some 1) ≡ Some n → cond t (cond u x (Some 1)) (Some 1) ≡ Some n
 stays_2 t u x n e = grind arith
@@ -118,10 +114,8 @@ after_4 a b c d xs = cond-false _ _ _ (le-ltb (length (a ∷ b ∷ c ∷ d ∷ x
 fault_stays : (bs xs : List ℕ) (n : ℕ) → utf8_error_len bs ≡ Some n → utf8_error_len (bs ++ xs) ≡ Some n
 fault_stays [] xs n e = absurd (error_len-nil n e)
 fault_stays (a ∷ []) xs n e = rw (after_1 a xs) (stays_1 (is_in_range 0xC2 0xF4 a) (error_len_after_one (a ∷ xs)) n (rw (after_1 a []) at e))
-fault_stays (a ∷ b ∷ []) xs n e = rw (after_1 a (b ∷ xs), after_2 a b xs)
-    (stays_2 (is_in_range 0xC2 0xF4 a) (is_in_range (second_byte_min a) (second_byte_max a) b) (error_len_after_two (a ∷ b ∷ xs)) n (rw (after_1 a (b ∷ []), after_2 a b []) at e))
-fault_stays (a ∷ b ∷ c ∷ []) xs n e = rw (after_1 a (b ∷ c ∷ xs), after_2 a b (c ∷ xs), after_3 a b c xs)
-    (stays_3 (is_in_range 0xC2 0xF4 a) (is_in_range (second_byte_min a) (second_byte_max a) b) (is_in_range 0x80 0xBF c) (cond (nat_lt (length (a ∷ b ∷ c ∷ xs)) 4) None (Some 3)) n (rw (after_1 a (b ∷ c ∷ []), after_2 a b (c ∷ []), after_3 a b c []) at e))
+fault_stays (a ∷ b ∷ []) xs n e = grind (arith, after_1, after_2, stays_2)
+fault_stays (a ∷ b ∷ c ∷ []) xs n e = grind (arith, after_1, after_2, after_3, stays_3)
 fault_stays (a ∷ b ∷ c ∷ d ∷ bs) xs n e = rw (after_1 a (b ∷ c ∷ d ∷ (bs ++ xs)), after_2 a b (c ∷ d ∷ (bs ++ xs)), after_3 a b c (d ∷ (bs ++ xs)), after_4 a b c d (bs ++ xs))
     (rw (after_1 a (b ∷ c ∷ d ∷ bs), after_2 a b (c ∷ d ∷ bs), after_3 a b c (d ∷ bs), after_4 a b c d bs) at e)
 
@@ -134,8 +128,7 @@ partial_short [] p = omega arith
 partial_short (a ∷ []) p = omega arith
 partial_short (a ∷ b ∷ []) p = omega arith
 partial_short (a ∷ b ∷ c ∷ []) p = omega arith
-partial_short (a ∷ b ∷ c ∷ d ∷ bs) p = absurd (not_none (is_in_range 0xC2 0xF4 a) (is_in_range (second_byte_min a) (second_byte_max a) b) (is_in_range 0x80 0xBF c)
-    (rw (after_1 a (b ∷ c ∷ d ∷ bs), after_2 a b (c ∷ d ∷ bs), after_3 a b c (d ∷ bs), after_4 a b c d bs) at p.more))
+partial_short (a ∷ b ∷ c ∷ d ∷ bs) p = grind (arith, not_none, after_1, after_2, after_3, after_4)
 
 wrong_some : (bs : List ℕ) → IsWrong bs → 0 < length bs
 wrong_some [] b = absurd (error_len-nil b.size b.fault)
@@ -180,9 +173,7 @@ unfolding utf8_error_len
 part_3 a b d t u v = cond-true _ _ _ t ∙ cond-true _ _ _ u ∙ cond-true _ _ _ v
 
 part_of_2 : (a b k : ℕ) → is_in_range 0xC2 0xF4 a ≡ true → 0 < k → k < 2 → utf8_error_len (take k (a ∷ b ∷ [])) ≡ None
-part_of_2 a b zero t more less = absurd (omega arith)
-part_of_2 a b (suc zero) t more less = part_1 a t
-part_of_2 a b (suc (suc k)) t more less = absurd (omega arith)
+part_of_2 a b k t more less = grind (arith, part_1)
 
 part_of_3 : (a b d k : ℕ) → is_in_range 0xC2 0xF4 a ≡ true → is_in_range (second_byte_min a) (second_byte_max a) b ≡ true → 0 < k → k < 3 → utf8_error_len (take k (a ∷ b ∷ d ∷ [])) ≡ None
 part_of_3 a b d zero t u more less = absurd (omega arith)
@@ -198,23 +189,10 @@ part_of_4 a b d e (suc (suc (suc zero))) t u v more less = part_3 a b d t u v
 part_of_4 a b d e (suc (suc (suc (suc k)))) t u v more less = absurd (omega arith)
 
 part_three : (c k : ℕ) → IsScalar c → 2048 ≤ c → c < 65536 → 0 < k → k < length (encode c) → utf8_error_len (take k (encode c)) ≡ None
-part_three c k s b d more less =
-    let t : is_in_range 0xC2 0xF4 (224 + c / 4096) ≡ true = lead_fits (224 + c / 4096) (omega arith) (omega arith) in
-    let u : is_in_range (second_byte_min (224 + c / 4096)) (second_byte_max (224 + c / 4096)) (128 + c / 64 % 64) ≡ true =
-    second_fits (224 + c / 4096) (128 + c / 64 % 64) (omega arith) (omega arith) (λ e. omega arith)
-    (λ e. elim (scalar_cases c s) [ inl f ↦ omega arith | inr f ↦ omega arith ]) (λ e. omega arith) (λ e. omega arith) in
-    let k3 : k < 3 = omega (arith, ap length (three c b d)) in
-    rw (three c b d) (part_of_3 _ _ _ k t u more k3)
+part_three c k s b d more less = grind (arith, lead_fits, second_fits, three, part_of_3)
 
 part_four : (c k : ℕ) → IsScalar c → 65536 ≤ c → 0 < k → k < length (encode c) → utf8_error_len (take k (encode c)) ≡ None
-part_four c k s d more less =
-    let high : c < 0x110000 = elim (scalar_cases c s) [ inl f ↦ omega arith | inr f ↦ f.1 ] in
-    let t : is_in_range 0xC2 0xF4 (240 + c / 262144) ≡ true = lead_fits (240 + c / 262144) (omega arith) (omega arith) in
-    let u : is_in_range (second_byte_min (240 + c / 262144)) (second_byte_max (240 + c / 262144)) (128 + c / 4096 % 64) ≡ true =
-    second_fits (240 + c / 262144) (128 + c / 4096 % 64) (omega arith) (omega arith) (λ e. omega arith) (λ e. omega arith) (λ e. omega arith) (λ e. omega arith) in
-    let v : is_in_range 0x80 0xBF (128 + c / 64 % 64) ≡ true = third_fits (128 + c / 64 % 64) (omega arith) (omega arith) in
-    let k4 : k < 4 = omega (arith, ap length (four c d)) in
-    rw (four c d) (part_of_4 _ _ _ _ k t u v more k4)
+part_four c k s d more less = grind (arith, lead_fits, second_fits, third_fits, four, part_of_4)
 
 -- the beginning of a character is no fault
 pub part_of_char : (c k : ℕ) → IsScalar c → 0 < k → k < length (encode c) → utf8_error_len (take k (encode c)) ≡ None

@@ -1,5 +1,5 @@
 -- A part of a character with one byte more: it is a character, a longer part, or begins none.
-use Rattle.std.proofs.Common.{◌≡◌, ℕ, ◌-◌, ◌+◌, ◌<◌, ◌≤◌, true, List, [], ◌∷◌, ◌++◌, length, take, drop, Option, Some, None, refl, ap, sym, ◌∙◌, subst, arith, append_assoc, append-nil, length-append, IsUtf8, length-take, inl, inr}
+use Rattle.std.proofs.Common.{◌≡◌, ℕ, ◌-◌, ◌+◌, ◌<◌, ◌≤◌, true, List, [], ◌∷◌, ◌++◌, length, take, drop, None, refl, ap, sym, ◌∙◌, subst, arith, append_assoc, append-nil, length-append, IsUtf8, length-take, inl, inr}
 use Rattle.std.proofs.lemmas.Bool.{and_parts, cases_lt}
 use Rattle.std.proofs.lemmas.List.{take_all, take-append-drop, length-take-le}
 use Rattle.std.proofs.lemmas.Str.{IsUtf8-nil, IsUtf8-encode, utf8_valid_len-IsUtf8, utf8_valid_len_le, length-encode, len_utf8_bounds, chars_from_encodes, chars_past_char}
@@ -11,7 +11,7 @@ use lib.Utf8.{encode, encodes, scalars}
 use Rattle.gabc_places.specs.Text.{tail_by, utf8_prefix_of, tail_of}
 use Rattle.gabc_places.specs.DecoderMachine.{IsPartial, IsWrong}
 use Rattle.gabc_places.specs.declared.decoded.Tail.{Tail}
-use Rattle.gabc_places.specs.declared.decoded.Tail.TheVariants.{Nothing, Wrong}
+use Rattle.gabc_places.specs.declared.decoded.Tail.TheVariants.{Wrong}
 use Rattle.gabc_places.proofs.texts.CharactersOfStrings.{chars-encode}
 use Rattle.gabc_places.proofs.utf8.CharacterByCharacter.{valid_len-max, valid_len-front, part_of_char, tail_of-none}
 
@@ -43,32 +43,17 @@ error_of b bs none = tail_of-none (b ∷ bs) none
 -- no character, and the bytes are not wrong: they are a part of one
 pub part_is : (bs : List ℕ) (t : Tail) → utf8_prefix_of bs ≡ [] → tail_of bs ≡ t → (t ≡ Wrong → ⊥) → IsPartial bs
 part_is [] t e h not_wrong = nothing_is_partial
-part_is (b ∷ bs) t e h not_wrong =
-    let none = no_character (b ∷ bs) e in
-    record { none = none; more = by (utf8_error_len (b ∷ bs)) (sym h ∙ error_of b bs none) }
-  where
-    by : (o : Option ℕ) → t ≡ tail_by o → o ≡ None
-    by None k = refl
-    by (Some n) k = absurd (not_wrong k)
+part_is (b ∷ bs) t e h not_wrong = grind (arith, no_character, error_of)
 
 -- no character, and the bytes are wrong
 pub wrong_is : (bs : List ℕ) → utf8_prefix_of bs ≡ [] → tail_of bs ≡ Wrong → IsWrong bs
-wrong_is [] e h =
-    let k : Nothing ≡ Wrong = sym (tail_of-none [] nothing_is_partial.none) ∙ h in absurd (cc)
-wrong_is (b ∷ bs) e h =
-    let none = no_character (b ∷ bs) e in
-    by none (utf8_error_len (b ∷ bs)) refl (sym (error_of b bs none) ∙ h)
-  where
-    by : utf8_valid_len (b ∷ bs) ≡ 0 → (o : Option ℕ) → utf8_error_len (b ∷ bs) ≡ o → tail_by o ≡ Wrong → IsWrong (b ∷ bs)
-    by none None f k = absurd (cc)
-    by none (Some n) f k = record { none = none; size = n; fault = f }
+wrong_is [] e h = grind (arith, tail_of-none, nothing_is_partial)
+wrong_is (b ∷ bs) e h = grind (arith, no_character, error_of)
 
 -- where no character ends before the last byte
 module _ (bs : List ℕ) (before : utf8_valid_len (take (length bs - 1) bs) ≡ 0) where
   nothing_shorter : (m : ℕ) → m < length bs → IsUtf8 (take m bs) → m ≡ 0
-  nothing_shorter m less u =
-      let v : IsUtf8 (take m (take (length bs - 1) bs)) = subst IsUtf8 (sym (take-take m (length bs - 1) bs (omega arith))) u in
-      omega (arith, before, valid_len-max (take (length bs - 1) bs) m (omega (arith, length-take (length bs - 1) bs)) v)
+  nothing_shorter m less u = grind (arith, take-take, valid_len-max, length-take)
 
   is_all : (c : ℕ) (rest : List ℕ) → IsScalar c → bs ≡ encode c ++ rest → bs ≡ encode c
   is_all c [] s e = e ∙ append-nil (encode c)

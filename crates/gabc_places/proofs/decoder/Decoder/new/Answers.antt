@@ -4,12 +4,7 @@ use Rattle.gabc_places.proofs.decoding.BytesAreDecoded.{fresh_known, fresh_at_en
 use Rattle.gabc_places.proofs.decoder.Decoder.new.Goals as goal
 
 pub invariant_of-result : goal.invariant_of-result
-invariant_of-result c = record {
-  partial = rw c.new.ensures nothing_is_partial;
-  taken = omega arith;
-  reached = record { line = omega arith; column = omega arith; bytes = rw c.new.ensures (omega arith) };
-  cr = λ e. absurd (cc);
-}
+invariant_of-result c = grind (arith, nothing_is_partial)
 
 pub returns-clause-known : goal.returns-clause-known
 returns-clause-known c bytes more = rw c.new.ensures (fresh_known c.args.limits bytes more)

@@ -1,18 +1,16 @@
-use Rattle.std.proofs.Common.{◌≡◌, ℕ, ◌+◌, ◌<◌, ◌≤◌, List, [], ◌++◌, length, sym, subst, ap, ◌∙◌, refl, arith}
+use Rattle.std.proofs.Common.{◌≡◌, ℕ, ◌+◌, ◌<◌, ◌≤◌, List, [], length, sym, subst, ap, ◌∙◌, refl, arith}
 use Rattle.std.proofs.lemmas.Bool.Decides.{nat_tests}
 use Rattle.std.proofs.lemmas.List.{nil_from_length}
 use Rattle.std.proofs.lemmas.Str.{chars-nil}
 use Rattle.std.specs.Str.{chars}
 use Rattle.gabc_places.specs.declared.place.Place.{Place}
 use Rattle.gabc_places.specs.Place.{place_past}
-use Rattle.gabc_places.specs.Skip.{most_skipped, text_events}
+use Rattle.gabc_places.specs.Skip.{most_skipped}
 use Rattle.gabc_places.specs.DecoderMachine.{DecoderState, IsReached}
-use Rattle.gabc_places.specs.DecoderReports.{MovesThrough, is_after_cr}
-use Rattle.gabc_places.specs.witness.DecoderEvents.{events_left}
 use Rattle.gabc_places.specs.contracts.decoder.Decoder.{the_view}
 use Rattle.gabc_places.proofs.decoding.TextsAreEmitted.{one_each, all_emitted}
 use Rattle.gabc_places.proofs.decoding.TextsMoveADecoder.{text_moves}
-use Rattle.gabc_places.proofs.decoding.TextsAreSkipped.{most_is_left, moved_past, text_skipped, reached_past_text}
+use Rattle.gabc_places.proofs.decoding.TextsAreSkipped.{most_is_left, text_skipped, reached_past_text}
 use Rattle.gabc_places.proofs.decoder.Decoder.skip_text.Goals as goal
 
 next_is : (c : goal.After-self-then-not-is_empty-1) → place_past c.self.inside.place (chars c.args.text.now) ≡ c.args.next
@@ -29,21 +27,10 @@ few : (c : goal.After-self-then-not-is_empty-1) → length c.args.text.now ≤ m
 few c = subst (λ (s : DecoderState). length c.args.text.now ≤ most_skipped s) (sym c.self.view_is) c.requires.few
 
 pub invariant_of-self : goal.invariant_of-self
-invariant_of-self c = record {
-  partial = c.self.invariant.partial;
-  taken = let within = c.self.invariant.taken in let some = few c in let most = most_is_left (the_view c.self.inside) in omega (arith, within, some, most);
-  reached = reached c;
-  cr = λ e. absurd (omega (arith, e));
-}
+invariant_of-self c = grind (arith, some, few, most_is_left, reached)
 
 pub returns-then-not-is_empty-clause-joined : goal.returns-then-not-is_empty-clause-joined
-returns-then-not-is_empty-clause-joined c = λ more.
-    let text = c.args.text.now in
-    let s = the_view c.self.inside in
-    ap (λ (d : DecoderState). events_left d (text ++ more)) (sym c.self.view_is)
-    ∙ text_skipped text s c.utf8.text (some c) (few c) c.requires.plain (ap is_after_cr c.self.view_is ∙ c.requires.after_cr) more
-    ∙ ap (λ (p : Place). text_events s.place (chars text) ++ events_left (moved_past s (length text) p) more) (next_is c)
-    ∙ ap (λ (d : DecoderState). text_events d.place (chars text) ++ events_left (moved_past s (length text) c.args.next) more) c.self.view_is
+returns-then-not-is_empty-clause-joined c = grind (arith, text_skipped, some, few, next_is)
 
 pub returns-then-not-is_empty-clause-one_each : goal.returns-then-not-is_empty-clause-one_each
 returns-then-not-is_empty-clause-one_each c = one_each c.args.self.now.place c.args.text.now c.utf8.text
@@ -52,11 +39,7 @@ pub returns-then-not-is_empty-clause-all : goal.returns-then-not-is_empty-clause
 returns-then-not-is_empty-clause-all c = all_emitted c.args.self.now.place (chars c.args.text.now)
 
 pub returns-then-not-is_empty-clause-moves : goal.returns-then-not-is_empty-clause-moves
-returns-then-not-is_empty-clause-moves c =
-    let text = c.args.text.now in
-    subst (λ (d : DecoderState). MovesThrough d (text_events d.place (chars text)) (moved_past (the_view c.self.inside) (length text) c.args.next)) c.self.view_is
-    (subst (λ (p : Place). MovesThrough (the_view c.self.inside) (text_events c.self.inside.place (chars text)) (moved_past (the_view c.self.inside) (length text) p)) (next_is c)
-    (text_moves text (the_view c.self.inside) c.utf8.text (some c) c.requires.plain))
+returns-then-not-is_empty-clause-moves c = grind (arith, next_is, text_moves, some)
 
 pub returns-then-not-is_empty-clause-reached : goal.returns-then-not-is_empty-clause-reached
 returns-then-not-is_empty-clause-reached c = reached c

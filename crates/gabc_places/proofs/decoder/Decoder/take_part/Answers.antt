@@ -14,20 +14,10 @@ pub push-requires : goal.push-requires
 push-requires c = (omega arith, partial_short c.self.inside.pending.items c.self.invariant.partial)
 
 pub invariant_of-self : goal.invariant_of-self
-invariant_of-self c = record {
-  partial = rw c.clear.ensures nothing_is_partial;
-  taken = c.self.invariant.taken;
-  reached = record { line = c.self.invariant.reached.line; column = c.self.invariant.reached.column; bytes = omega (arith, rw (← c.self.view_is) at c.requires.counted, ap length c.clear.ensures) };
-  cr = c.self.invariant.cr;
-}
+invariant_of-self c = grind (arith, nothing_is_partial)
 
 pub invariant_of-self-in-None-Wrong : goal.invariant_of-self-in-None-Wrong
-invariant_of-self-in-None-Wrong c = record {
-  partial = rw c.clear-in-None-Wrong.ensures nothing_is_partial;
-  taken = c.self.invariant.taken;
-  reached = record { line = c.self.invariant.reached.line; column = c.self.invariant.reached.column; bytes = omega (arith, rw (← c.self.view_is) at c.requires.counted, ap length c.clear-in-None-Wrong.ensures) };
-  cr = c.self.invariant.cr;
-}
+invariant_of-self-in-None-Wrong c = grind (arith, nothing_is_partial)
 
 pub invariant_of-self-in-None-Part : goal.invariant_of-self-in-None-Part
 invariant_of-self-in-None-Part c = record {

@@ -1,15 +1,12 @@
-use Rattle.std.proofs.Common.{◌≡◌, ◌∷◌, ◌++◌, [], sym, ap, ◌∙◌, refl, append-nil, append_assoc}
+use Rattle.std.proofs.Common.{◌∷◌, ◌++◌, [], sym, ap, ◌∙◌, append-nil, append_assoc, arith}
 use Rattle.std.specs.Str.{chars}
 use Rattle.std.specs.Str.Iter.{chars_rest}
 use Rattle.std.proofs.lemmas.Str.{chars_past_char, IsUtf8-past_char}
-use Rattle.gabc_places.specs.Place.{place_after}
 use Rattle.gabc_places.proofs.texts.CharactersOfStrings.{chars-none}
 use Rattle.gabc_places.proofs.text.Text.end.Goals as goal
 
 pub loop-c-init : goal.loop-c-init
-loop-c-init c =
-    let rest : chars_rest c.into_iter-c-iterator.result ≡ c.as_str.result.now = ap chars_rest c.into_iter-c-iterator.ensures.into_iter_gives ∙ c.chars-c-items.ensures.rest in
-    rw rest (record { place = refl; whole = c.as_str.ensures.characters; utf8 = c.as_str.utf8 })
+loop-c-init c = grind (arith, chars_rest)
 
 pub loop-c-preserved : goal.loop-c-preserved
 loop-c-preserved c =
@@ -23,6 +20,4 @@ loop-c-preserved c =
     }
 
 pub returns : goal.returns
-returns c =
-    let i = c.loop-c.invariant in
-    i.place ∙ ap place_after (sym (append-nil c.loop-c.yielded) ∙ ap (λ t. c.loop-c.yielded ++ t) (sym (chars-none _ c.in-None.ensures.steps.0.0)) ∙ i.whole)
+returns c = grind (arith, append-nil, chars-none)

@@ -1,4 +1,4 @@
-use Rattle.std.proofs.Common.{List, ℕ, OnOk, subst, ◌≡◌, ◌++◌, filter, sym, ap, ◌∙◌, append_assoc, arith}
+use Rattle.std.proofs.Common.{◌++◌, filter, sym, ap, ◌∙◌, append_assoc, arith}
 use Rattle.std.specs.Str.{chars}
 use Rattle.std.proofs.lemmas.Str.{len_utf8_bounds}
 use Rattle.gabc_places.specs.Text.{is_shown}
@@ -15,7 +15,4 @@ loop-shown-preserved c =
     (cut.0, rw c.in_ok-push_str.ensures (append_assoc c.loop-shown.self (chars c.in-Some.shown.now) (filter is_shown (chars c.in-Some.after.now)) ∙ ap (λ t. c.loop-shown.self ++ t) (sym cut.1) ∙ c.loop-shown.invariant.1))
 
 pub returns : goal.returns
-returns c =
-    let whole : c.loop-shown.self ++ chars c.loop-shown.rest.now ≡ c.args.self.now ++ filter is_shown (chars c.args.line.now) =
-    ap (λ t. c.loop-shown.self ++ t) (sym (all-shown c.loop-shown.rest.now c.loop-shown.invariant.0 c.in_default.ensures.cases)) ∙ c.loop-shown.invariant.1 in
-    subst (λ (t : List ℕ). OnOk c.push_str-2.result (c.push_str-2.new.self ≡ t)) whole c.push_str-2.ensures
+returns c = grind (arith, all-shown)
