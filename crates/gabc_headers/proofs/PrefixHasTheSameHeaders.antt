@@ -1,20 +1,17 @@
 -- What stands after the line `%%` is no matter to the headers.
 use Rattle.std.proofs.Common.{◌≡◌, ℕ, ◌+◌, ◌<◌, ◌≤◌, ◌==◌, ◌||◌, ◌&&◌, nat_lt, List, [], ◌∷◌, ◌++◌, Bool, true, false, cond, refl, sym, ap, ◌∙◌, arith, length, take, append_assoc, Option, Some, None, Ok}
 use Rattle.std.proofs.lemmas.Bool.{eqb-true, and_parts}
-use Rattle.std.proofs.lemmas.Bool.Decides.{nat_tests}
 use Rattle.std.proofs.Math.Seq.{take-append-add}
 use Rattle.gabc_places.proofs.NothingAfterAnEnd.{both_empty}
 use Rattle.gabc_places.specs.declared.limits.Limits.{Limits}
-use Rattle.gabc_places.specs.declared.code.Code.TheVariants.{F4, F7}
+use Rattle.gabc_places.specs.declared.code.Code.TheVariants.{F4}
 use Rattle.gabc_places.specs.Findings.{Stop, earliest}
 use Rattle.gabc_places.specs.Place.{place_after}
 use Rattle.gabc_headers.specs.declared.heads.Heads.{Heads}
 use Rattle.gabc_headers.specs.Book.{book_of}
-use Rattle.gabc_headers.specs.Canonical.{header_lines}
-use Rattle.gabc_headers.specs.Lines.{bytes_len, lines, has_score, is_percent, is_score_line}
-use Rattle.gabc_headers.specs.Parts.{HeaderPart}
+use Rattle.gabc_headers.specs.Lines.{lines, has_score, is_percent, is_score_line}
 use Rattle.gabc_headers.specs.witness.Parts.{outside, parts, head_parts}
-use Rattle.gabc_headers.specs.Heads.{head_len, open_line, stop_at, first_above, is_line_percent, too_long, text_stops, open_stops, missing_score, heads_of}
+use Rattle.gabc_headers.specs.Heads.{head_len, open_line, stop_at, first_above, is_line_percent, too_long, text_stops, open_stops, heads_of}
 use Rattle.gabc_headers.specs.witness.Heads.{score_stops, head_stops, heads_by}
 use Rattle.gabc_headers.proofs.groups.TextBeforeScore.{head_text, is_scored, score_lines, head_length, parts_head}
 use Rattle.gabc_headers.proofs.stops.PointsOfStops.{above_within}
@@ -42,20 +39,14 @@ module _ (more : List ℕ) where
   prefix s r = head_text s r ++ 37 ∷ 37 ∷ more
 
   percent_same : (s : Bool) (r : List ℕ) → is_scored s r ≡ true → is_percent (prefix s r) ≡ is_percent r
-  percent_same s [] h = absurd (cc)
-  percent_same s (c ∷ r) h = by (s && is_score_line (c ∷ r)) refl
-    where
-      by : (b : Bool) → (s && is_score_line (c ∷ r)) ≡ b → is_percent (cond b [] (c ∷ head_text (c == 10) r) ++ 37 ∷ 37 ∷ more) ≡ (c == 37)
-      by true e = sym (and_parts (c == 37) (is_percent r) (and_parts s (is_score_line (c ∷ r)) e).1).0
-      by false e = refl
+  percent_same s r h = grind (arith, and_parts)
 
   record Same (s : Bool) (r : List ℕ) : Type 0 where
     scored : is_scored s (prefix s r) ≡ true
     text : head_text s (prefix s r) ≡ head_text s r
 
   marked : (s : Bool) → s ≡ true → (is_scored s (37 ∷ 37 ∷ more) ≡ true) × (head_text s (37 ∷ 37 ∷ more) ≡ [])
-  marked true e = (refl, refl)
-  marked false e = absurd (cc)
+  marked s e = grind arith
 
   same_text : (s : Bool) (r : List ℕ) → is_scored s r ≡ true → Same s r
   same_text s [] h = absurd (cc)
@@ -82,8 +73,7 @@ module _ (more : List ℕ) where
 -- ---- what stops the headers
 
 never_empty : {X : Type 0} (x : X) (b : Bool) (i : ℕ) (n : ℕ) → i < n → (y : X) → cond b (cond (nat_lt i n) (x ∷ []) []) (y ∷ []) ≡ [] → ⊥
-never_empty x true i n h y e = let l : nat_lt i n ≡ true = grind (arith, nat_tests) in let f = ap (λ b. cond b (x ∷ []) []) (sym l) ∙ e in cc
-never_empty x false i n h y e = cc
+never_empty x b i n h y e = grind arith
 
 module _ (limits : Limits) (t more : List ℕ) (heads : Heads) (ok : heads_of limits t ≡ Ok heads) where
   abbrev again : List ℕ
@@ -93,12 +83,7 @@ module _ (limits : Limits) (t more : List ℕ) (heads : Heads) (ok : heads_of li
   has_line = sym (score_lines t) ∙ has_score_line limits t heads ok
 
   again_is : again ≡ prefix more true t
-  again_is =
-      let m = marked_at true t has_line in
-      ap (λ n. take (n + 2) t ++ more) (head_length t)
-      ∙ ap (λ x. take (length (head_text true t) + 2) x ++ more) m.1
-      ∙ ap (λ x. x ++ more) (take-append-add (head_text true t) (37 ∷ 37 ∷ m.0) 2)
-      ∙ append_assoc (head_text true t) (37 ∷ 37 ∷ []) more
+  again_is = grind (arith, marked_at, has_line, head_length, take-append-add, append_assoc)
 
   text_is : head_text true again ≡ head_text true t
   text_is = ap (head_text true) again_is ∙ (same_text more true t has_line).text
@@ -113,19 +98,13 @@ module _ (limits : Limits) (t more : List ℕ) (heads : Heads) (ok : heads_of li
   parts_again = sym (parts_head again) ∙ ap (λ x. parts outside 1 0 (lines x)) text_is ∙ parts_head t
 
   none_stops : head_stops limits t ≡ []
-  none_stops = by (head_stops limits t) ok
-    where
-      by : (stops : List Stop) → heads_by t (earliest stops) ≡ Ok heads → stops ≡ []
-      by [] e = refl
-      by (s ∷ stops) e = absurd (cc)
+  none_stops = grind arith
 
   abbrev after_line : List ℕ → List Stop
   after_line u = open_stops (head_len u + 1) (open_line (head_parts u)) ++ score_stops limits u
 
   pub none_apart : (text_stops limits.header t ≡ []) × (after_line t ≡ [])
-  none_apart =
-      let all = ap (λ b. text_stops limits.header t ++ cond b (after_line t) (open_stops (length t) (open_line (head_parts t)) ++ missing_score (open_line (head_parts t)) t)) (sym (has_score_line limits t heads ok)) ∙ none_stops in
-      both_empty (text_stops limits.header t) (after_line t) all
+  none_apart = grind (arith, has_score_line, none_stops, both_empty)
 
   not_long : (o : Option ℕ) → first_above limits.header (head_text true t) ≡ o → too_long t o ≡ [] → o ≡ None
   not_long None e h = refl
@@ -137,28 +116,13 @@ module _ (limits : Limits) (t more : List ℕ) (heads : Heads) (ok : heads_of li
       absurd (never_empty (stop_at (i + 1) (place_after (take i t)) F4) (is_line_percent t i) (i + 1) (length t) inside (stop_at i (place_after (take i t)) F4) h)
 
   text_again : text_stops limits.header again ≡ []
-  text_again =
-      let none = not_long (first_above limits.header (head_text true t)) refl (ap (λ x. too_long t (first_above limits.header x)) (sym (take_head t)) ∙ none_apart.0) in
-      ap (λ x. too_long again (first_above limits.header x)) (take_head again ∙ text_is) ∙ ap (too_long again) none
-
-  -- by the text before the line and its parts
-  abbrev after_by : ℕ → List ℕ → List HeaderPart → List Stop
-  after_by n before ps =
-      open_stops (n + 1) (open_line ps)
-      ++ (cond (nat_lt limits.header (bytes_len (header_lines (book_of ps)))) (stop_at (n + 1) (place_after before) F4 ∷ []) []
-      ++ cond (nat_lt limits.input (bytes_len (header_lines (book_of ps)) + 3)) (stop_at (n + 1) (place_after before) F7 ∷ []) [])
+  text_again = grind (arith, not_long, take_head, none_apart, text_is)
 
   after_again : after_line again ≡ []
-  after_again =
-      ap (λ n. after_by n (take (head_len again) again) (head_parts again)) len_again
-      ∙ ap (λ x. after_by (head_len t) x (head_parts again)) (take_head again ∙ text_is ∙ sym (take_head t))
-      ∙ ap (after_by (head_len t) (take (head_len t) t)) parts_again
-      ∙ none_apart.1
+  after_again = grind (arith, len_again, take_head, text_is, parts_again, none_apart)
 
   none_again : head_stops limits again ≡ []
-  none_again =
-      ap (λ b. text_stops limits.header again ++ cond b (after_line again) (open_stops (length again) (open_line (head_parts again)) ++ missing_score (open_line (head_parts again)) again)) line_again
-      ∙ ap (λ xs. xs ++ after_line again) text_again ∙ after_again
+  none_again = grind (arith, line_again, text_again, after_again)
 
   -- the headers of the prefix are read whole, with the same book
   pub heads_again : (other : Heads) × (heads_of limits again ≡ Ok other) × (other.book ≡ heads.book)

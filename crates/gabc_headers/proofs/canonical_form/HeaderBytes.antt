@@ -1,10 +1,10 @@
 -- The bytes of canonical header lines.
-use Rattle.std.proofs.Common.{◌≡◌, ℕ, List, [], ◌∷◌, ◌++◌, length, Bool, true, false, cond, codes, refl, sym, ap, ◌∙◌, append_assoc, IsUtf8, arith}
+use Rattle.std.proofs.Common.{◌≡◌, ℕ, List, [], ◌∷◌, ◌++◌, length, Bool, true, false, cond, codes, refl, sym, ap, append_assoc, IsUtf8, arith}
 use Rattle.std.proofs.lemmas.Str.{encodes-append, encodes-chars, chars-nil}
 use Rattle.std.specs.Str.{chars}
 use lib.Utf8.{encode, encodes}
 use Rattle.gabc_headers.specs.Lines.{lines}
-use Rattle.gabc_headers.specs.Canonical.{header_line, header_lines, canonical_heads, printed_value, wants_lines}
+use Rattle.gabc_headers.specs.Canonical.{header_line, canonical_heads, printed_value, wants_lines}
 use Rattle.gabc_headers.specs.machine.HeaderText.{before_value, after_value}
 
 pieces : (name a b w d : List ℕ) → encodes ((name ++ a) ++ ((b ++ w) ++ d)) ≡ encodes name ++ ((encodes a ++ encodes b) ++ (encodes w ++ encodes d))
@@ -52,6 +52,4 @@ header_text_is name value un uv = by_chars (wants_lines (lines (chars value))) n
 
 -- the bytes of headers begin with those of the lines of the first
 pub heads_left : (e : List ℕ × List ℕ) (es : List (List ℕ × List ℕ)) → encodes (header_line e) ++ encodes (canonical_heads es) ≡ encodes (canonical_heads (e ∷ es))
-heads_left e es =
-    sym (ap encodes (append_assoc (header_line e) (header_lines es) (codes "%%"))
-    ∙ encodes-append (header_line e) (canonical_heads es))
+heads_left e es = grind (arith, append_assoc, encodes-append)

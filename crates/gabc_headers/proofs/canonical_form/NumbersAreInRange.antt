@@ -1,41 +1,27 @@
 -- The numbers that the headers of a book give are in range.
-use Rattle.std.proofs.Common.{◌≡◌, ℕ, zero, suc, ◌*◌, ◌^◌, ◌<◌, ◌≤◌, Bool, true, false, List, [], bytes_eq, codes, Option, Some, None, refl, sym, subst, arith, if◌then◌else◌}
+use Rattle.std.proofs.Common.{◌≡◌, ℕ, zero, suc, ◌^◌, ◌<◌, ◌≤◌, Bool, List, codes, Option, arith}
 use Rattle.std.specs.List.{position}
 use Rattle.std.specs.Option.{unwrap_or}
 use Rattle.std.proofs.lemmas.List.Quantifiers.{position-Some}
 use Rattle.std.proofs.Math.Nat.{pow-suc}
-use Rattle.gabc_headers.specs.Book.{has_header, lines_by, macro_name, macros_below, macros_of, nabc_lines_of, nabc_values, value_named}
+use Rattle.gabc_headers.specs.Book.{lines_by, macros_below, macros_of, nabc_lines_of, nabc_values, value_named}
 use Rattle.gabc_headers.specs.Canonical.{canonical_heads}
 use Rattle.gabc_headers.specs.Lines.{bytes_len}
 use Rattle.gabc_headers.specs.NabcLines.{values_in_range}
 use Rattle.gabc_headers.proofs.canonical_form.HeadersEndInTwoPercents.{heads_len}
 
 in_table : (f : List ℕ → Bool) → unwrap_or (position f values_in_range) 0 ≤ 4
-in_table f = by (position f values_in_range) refl
-  where
-    by : (o : Option ℕ) → position f values_in_range ≡ o → unwrap_or o 0 ≤ 4
-    by None e = omega arith
-    by (Some i) e = let h = (position-Some f values_in_range i [] e).0 in omega (arith, h)
+in_table f = grind (arith, position-Some)
 
 few_lines : nabc_values ≡ values_in_range → (o : Option (List ℕ)) → lines_by o ≤ 4
-few_lines table None = omega arith
-few_lines table (Some value) =
-    subst (λ (values : List (List ℕ)). unwrap_or (position (λ known. bytes_eq known value) values) 0 ≤ 4) (sym table) (in_table (λ known. bytes_eq known value))
+few_lines table o = grind (arith, in_table)
 
 pub lines_in_range : nabc_values ≡ values_in_range → (book : List (List ℕ × List ℕ)) → nabc_lines_of book ≤ 4
 lines_in_range table book = few_lines table (value_named (codes "nabc-lines") book)
 
 below : (book : List (List ℕ × List ℕ)) (n : ℕ) → macros_below book n < 2 ^ n
 below book zero = omega arith
-below book (suc n) =
-    let h = below book n in
-    let bit = one (has_header (macro_name n) book) in
-    let double : 2 ^ suc n ≡ 2 ^ n * 2 = pow-suc 2 n in
-    omega (arith, h, bit, double)
-  where
-    one : (b : Bool) → (if b then 2 ^ n else 0) ≤ 2 ^ n
-    one true = omega arith
-    one false = omega arith
+below book (suc n) = grind (arith, below book n, pow-suc)
 
 pub macros_in_range : (book : List (List ℕ × List ℕ)) → macros_of book < 1024
 macros_in_range book = below book 10

@@ -1,5 +1,5 @@
 -- Whether a value wants lines of its own, from left to right.
-use Rattle.std.proofs.Common.{rules, ◌≢◌, ◌≡◌, ◌⊎◌, inl, inr, ℕ, List, [], ◌∷◌, ◌++◌, Bool, true, false, cond, ◌||◌, ◌&&◌, ◌==◌, refl, sym, ap, ◌∙◌, append_assoc, append-nil, arith}
+use Rattle.std.proofs.Common.{rules, ◌≢◌, ◌≡◌, ◌⊎◌, ℕ, List, [], ◌∷◌, ◌++◌, Bool, true, false, ◌||◌, ◌&&◌, ◌==◌, refl, sym, ap, ◌∙◌, append_assoc, append-nil, arith}
 use Rattle.std.proofs.Math.Bool.{or-true, and-false, or-false, and-true, or_assoc, or_self}
 use Rattle.std.proofs.lemmas.Bool.{or_parts}
 use Rattle.gabc_headers.specs.Lines.{lines, on_first, is_bare, is_mark, has_mark}
@@ -19,8 +19,7 @@ several (l ∷ m ∷ ls) = true
 several _ = false
 
 several_wants : (ls : List (List ℕ)) → several ls ≡ true → wants_lines ls ≡ true
-several_wants (l ∷ m ∷ ls) h = refl
-several_wants _ h = absurd (cc)
+several_wants ls h = grind arith
 
 abbrev is_some_line : List (List ℕ) → Bool
 is_some_line [] = false
@@ -28,32 +27,18 @@ is_some_line (l ∷ ls) = true
 
 lines_some : (v : List ℕ) → is_some_line (lines v) ≡ true
 lines_some [] = refl
-lines_some (c ∷ v) = by (c == 10)
-  where
-    of : (ls : List (List ℕ)) → is_some_line (on_first c ls) ≡ true
-    of [] = refl
-    of (l ∷ ls) = refl
-
-    by : (b : Bool) → is_some_line (cond b ([] ∷ lines v) (on_first c (lines v))) ≡ true
-    by true = refl
-    by false = of (lines v)
+lines_some (c ∷ v) = grind arith
 
 one_more : (ls : List (List ℕ)) → is_some_line ls ≡ true → several ([] ∷ ls) ≡ true
-one_more [] h = absurd (cc)
-one_more (l ∷ ls) h = refl
+one_more ls h = grind arith
 
 on_several : (c : ℕ) (ls : List (List ℕ)) → several ls ≡ true → several (on_first c ls) ≡ true
-on_several c (l ∷ m ∷ ls) h = refl
-on_several c _ h = absurd (cc)
+on_several c ls h = grind arith
 
 -- an LF makes several lines
 lf_several : (v : List ℕ) → has_lf v ≡ true → several (lines v) ≡ true
 lf_several [] h = absurd (cc)
-lf_several (c ∷ v) h = by (c == 10) h (lf_several v)
-  where
-    by : (b : Bool) → (b || has_lf v) ≡ true → (has_lf v ≡ true → several (lines v) ≡ true) → several (cond b ([] ∷ lines v) (on_first c (lines v))) ≡ true
-    by true h r = one_more (lines v) (lines_some v)
-    by false h r = on_several c (lines v) (r h)
+lf_several (c ∷ v) h = grind (arith, lf_several v, one_more, lines_some, on_several)
 
 -- without an LF there is one line
 one_line : (v : List ℕ) → has_lf v ≡ false → lines v ≡ v ∷ []
@@ -61,11 +46,7 @@ one_line [] h = refl
 one_line (c ∷ v) h = let o = or_parts (c == 10) (has_lf v) h in rw (o.0, one_line v o.1) refl
 
 pub wants_start : (v : List ℕ) → wants_lines (lines v) ≡ wants_from false v
-wants_start v = by (has_lf v) refl
-  where
-    by : (b : Bool) → has_lf v ≡ b → wants_lines (lines v) ≡ (b || has_mark 1 v)
-    by true h = several_wants (lines v) (lf_several v h)
-    by false h = rw (one_line v h) refl
+wants_start v = grind (arith, several_wants, lf_several, one_line)
 
 pub step_lf : (w m : Bool) (v : List ℕ) → (w || wants_from m (10 ∷ v)) ≡ true
 step_lf w m v = or-true w
@@ -75,23 +56,16 @@ twice [] = refl
 twice (c ∷ v) = sym (or_assoc (is_mark 1 (c ∷ v)) (is_mark 1 (c ∷ v)) (has_mark 1 v)) ∙ ap (λ (b : Bool). b || has_mark 1 v) (or_self (is_mark 1 (c ∷ v)))
 
 pub step_semicolon : (m : Bool) (v : List ℕ) → wants_from m (59 ∷ v) ≡ wants_from true v
-step_semicolon m v = by m (has_lf v) (is_bare v) (is_mark 0 v) (has_mark 1 v) (twice v)
-  where
-    by : (m f b x y : Bool) → (x || y) ≡ y → (f || ((m && false) || ((b || x) || y))) ≡ (f || (b || y))
-    by m f b x y h = grind arith
+step_semicolon m v = grind (arith, twice)
 
 pub step_percent : (w m : Bool) (v : List ℕ) → (w || wants_from m (37 ∷ v)) ≡ ((w || m) || wants_from m v)
-step_percent true m v = refl
-step_percent false true v = or-true (has_lf v)
-step_percent false false v = refl
+step_percent w m v = grind (arith, or-true)
 
 pub step_space : (m : Bool) (v : List ℕ) → wants_from m (32 ∷ v) ≡ wants_from m v
-step_space true v = refl
-step_space false v = refl
+step_space m v = grind arith
 
 pub step_tab : (m : Bool) (v : List ℕ) → wants_from m (9 ∷ v) ≡ wants_from m v
-step_tab true v = refl
-step_tab false v = refl
+step_tab m v = grind arith
 
 pub step_other : (m : Bool) (c : ℕ) (v : List ℕ) → (c == 10) ≡ false → (c == 59) ≡ false → (c == 37) ≡ false → (c == 32) ≡ false → (c == 9) ≡ false → wants_from m (c ∷ v) ≡ wants_from false v
 step_other m c v a b d e f = rw (a, b, d, e, f, and-false m) refl
@@ -99,31 +73,19 @@ step_other m c v a b d e f = rw (a, b, d, e, f, and-false m) refl
 -- the same as steps of what is known
 pub after_semicolon : (ys rest : List ℕ) (c : ℕ) (w m : Bool) → c ≡ 59 → ((r : List ℕ) → wants_lines (lines (ys ++ r)) ≡ (w || wants_from m r))
     → wants_lines (lines ((ys ++ c ∷ []) ++ rest)) ≡ (w || wants_from true rest)
-after_semicolon ys rest c w m e h =
-    ap (λ (x : List ℕ). wants_lines (lines x)) (append_assoc ys (c ∷ []) rest)
-    ∙ (h (c ∷ rest) ∙ (ap (λ (x : ℕ). w || wants_from m (x ∷ rest)) e ∙ ap (λ (x : Bool). w || x) (step_semicolon m rest)))
+after_semicolon ys rest c w m e h = grind (arith, append_assoc, step_semicolon)
 
 pub after_blank : (ys rest : List ℕ) (c : ℕ) (w m : Bool) → (c ≡ 9) ⊎ (c ≡ 32) → ((r : List ℕ) → wants_lines (lines (ys ++ r)) ≡ (w || wants_from m r))
     → wants_lines (lines ((ys ++ c ∷ []) ++ rest)) ≡ (w || wants_from m rest)
-after_blank ys rest c w m e h =
-    ap (λ (x : List ℕ). wants_lines (lines x)) (append_assoc ys (c ∷ []) rest)
-    ∙ (h (c ∷ rest) ∙ ap (λ (x : Bool). w || x) (by e))
-  where
-    by : (c ≡ 9) ⊎ (c ≡ 32) → wants_from m (c ∷ rest) ≡ wants_from m rest
-    by (inl tab) = ap (λ (x : ℕ). wants_from m (x ∷ rest)) tab ∙ step_tab m rest
-    by (inr space) = ap (λ (x : ℕ). wants_from m (x ∷ rest)) space ∙ step_space m rest
+after_blank ys rest c w m e h = grind (arith, append_assoc, step_tab, step_space)
 
 pub after_percent : (ys rest : List ℕ) (c : ℕ) (w m : Bool) → c ≡ 37 → ((r : List ℕ) → wants_lines (lines (ys ++ r)) ≡ (w || wants_from m r))
     → wants_lines (lines ((ys ++ c ∷ []) ++ rest)) ≡ ((w || m) || wants_from m rest)
-after_percent ys rest c w m e h =
-    ap (λ (x : List ℕ). wants_lines (lines x)) (append_assoc ys (c ∷ []) rest)
-    ∙ (h (c ∷ rest) ∙ (ap (λ (x : ℕ). w || wants_from m (x ∷ rest)) e ∙ step_percent w m rest))
+after_percent ys rest c w m e h = grind (arith, append_assoc, step_percent)
 
 pub after_lf : (ys rest : List ℕ) (c : ℕ) (w m : Bool) → c ≡ 10 → ((r : List ℕ) → wants_lines (lines (ys ++ r)) ≡ (w || wants_from m r))
     → wants_lines (lines ((ys ++ c ∷ []) ++ rest)) ≡ true
-after_lf ys rest c w m e h =
-    ap (λ (x : List ℕ). wants_lines (lines x)) (append_assoc ys (c ∷ []) rest)
-    ∙ (h (c ∷ rest) ∙ (ap (λ (x : ℕ). w || wants_from m (x ∷ rest)) e ∙ step_lf w m rest))
+after_lf ys rest c w m e h = grind (arith, append_assoc, step_lf)
 
 pub after_other : (ys rest : List ℕ) (c : ℕ) (w m : Bool) → c ≢ 10 → c ≢ 59 → c ≢ 37 → c ≢ 32 → c ≢ 9
     → ((r : List ℕ) → wants_lines (lines (ys ++ r)) ≡ (w || wants_from m r))

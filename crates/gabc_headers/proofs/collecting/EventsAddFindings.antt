@@ -1,5 +1,5 @@
 -- The headers and the findings of a text's events are those of its parts.
-use Rattle.std.proofs.Common.{◌≡◌, ℕ, ◌||◌, ◌&&◌, not, List, [], ◌∷◌, ◌++◌, Bool, true, false, cond, refl, sym, ap, ◌∙◌, append_assoc, append-nil, bytes_eq}
+use Rattle.std.proofs.Common.{◌≡◌, ℕ, ◌||◌, ◌&&◌, not, List, [], ◌∷◌, ◌++◌, Bool, true, false, cond, refl, sym, ap, ◌∙◌, append_assoc, append-nil, bytes_eq, arith}
 use lib.Utf8.{encodes, scalars}
 use Rattle.gabc_places.specs.declared.code.Finding.{Finding}
 use Rattle.gabc_places.specs.Findings.{Known}
@@ -10,7 +10,7 @@ use Rattle.gabc_headers.specs.declared.events.HeaderEvent.TheVariants.{LeftOut, 
 use Rattle.gabc_headers.specs.Parts.{HeaderPart, left_out, header}
 use Rattle.gabc_headers.specs.Book.{is_kept, repeats, entries, is_one_of}
 use Rattle.gabc_headers.specs.Heads.{findings_after, known_at, line_place}
-use Rattle.gabc_headers.specs.EntryMap.{is_annotation, put_entry, put_all, with_value}
+use Rattle.gabc_headers.specs.EntryMap.{is_annotation, put_entry, put_all}
 use Rattle.gabc_headers.specs.Entries.{spelled_entries}
 use Rattle.gabc_headers.specs.machine.EntryMap.{names, comes_again, AreWithin}
 use Rattle.gabc_headers.specs.machine.Collected.{collected_with, collected_with_all, finding_at}
@@ -28,15 +28,7 @@ repeats-same s t n h = ap (λ (b : Bool). not (is_annotation n) && b) (h n)
 
 -- the names after a header is put, and before it the name
 names-put : {X : Type 0} (es : List (List ℕ × X)) (name : List ℕ) (v : X) → SameNames (names (put_entry es name v)) (name ∷ names es)
-names-put {X} es name v n = by (is_annotation name) (is_one_of name (names es)) refl
-  where
-    pushed : is_one_of n (names (es ++ (name, v) ∷ [])) ≡ is_one_of n (name ∷ names es)
-    pushed = ap (is_one_of n) (names-push es (name, v)) ∙ is_one_of-push n name (names es)
-
-    by : (a b : Bool) → is_one_of name (names es) ≡ b → is_one_of n (names (cond a (es ++ (name, v) ∷ []) (with_value es name v))) ≡ is_one_of n (name ∷ names es)
-    by true b h = pushed
-    by false true h = ap (is_one_of n) (names-with_value es name v h) ∙ sym (seen_again name (names es) h n)
-    by false false h = ap (λ (x : List (List ℕ × X)). is_one_of n (names x)) (with_value-new es name v h) ∙ pushed
+names-put es name v n = grind (arith, names-push, is_one_of-push, names-with_value, seen_again, with_value-new)
 
 -- what a list of events makes of what is there
 pub record Follows (text : List ℕ) (seen : List (List ℕ)) (ps : List HeaderPart) (c d : Collected) : Type 0 where
@@ -50,8 +42,7 @@ between fs gs hs rest e = ap (λ (x : List Finding). x ++ rest) e ∙ append_ass
 
 again : (x : Bool) (j q : ℕ) (rest fs : List Finding) (ks : List Known) → rest ≡ all_known ks
     → cond x (fs ++ finding_at j W2 ∷ []) fs ++ rest ≡ fs ++ all_known (cond x (known_at q (line_place j) W2 ∷ []) [] ++ ks)
-again true j q rest fs ks e = append_assoc fs (finding_at j W2 ∷ []) rest ∙ ap (λ (x : List Finding). fs ++ finding_at j W2 ∷ x) e
-again false j q rest fs ks e = ap (λ (x : List Finding). fs ++ x) e
+again x j q rest fs ks e = grind (arith, append_assoc)
 
 pub follow : (t : List ℕ) (es : List HeaderEvent) (ps : List HeaderPart) (seen : List (List ℕ)) (c : Collected) → scalars t ≡ true → AreEventsOf t es ps → SameNames seen (names c.headers) → AreWithin (encodes t) c.headers
     → Follows (encodes t) seen ps c (collected_with_all (encodes t) es c)

@@ -1,25 +1,22 @@
 -- What a machine emits of a text, and the headers that follow from it.
-use Rattle.std.proofs.Common.{◌≡◌, ℕ, List, [], ◌++◌, true, false, refl, ap, ◌∙◌, subst, take, Option, Some, None, Err, append-nil, IsUtf8}
+use Rattle.std.proofs.Common.{◌≡◌, ℕ, List, [], true, false, refl, ◌∙◌, subst, Option, Some, None, Err, append-nil, IsUtf8, arith}
 use Rattle.std.proofs.lemmas.Str.{encodes_same}
 use lib.Utf8.{encodes, scalars}
 use Rattle.gabc_places.specs.declared.place.Place.{Place}
 use Rattle.gabc_places.specs.declared.limits.Limits.{Limits}
-use Rattle.gabc_places.specs.declared.code.Finding.{Finding}
 use Rattle.gabc_places.specs.declared.code.Code.TheVariants.{F2, F3, F4}
-use Rattle.gabc_places.specs.Place.{place_after}
 use Rattle.gabc_headers.specs.machine.Collected.{Collected}
 use Rattle.gabc_headers.specs.declared.events.HeaderEvent.{HeaderEvent}
 use Rattle.gabc_headers.specs.declared.events.HeaderEnding.{HeaderEnding}
 use Rattle.gabc_headers.specs.declared.events.HeaderEnding.TheVariants.{Score, Limit, Text}
 use Rattle.gabc_headers.specs.Lines.{lines, head_of}
-use Rattle.gabc_headers.specs.Parts.{HeaderPart}
-use Rattle.gabc_headers.specs.witness.Parts.{outside, head_parts}
+use Rattle.gabc_headers.specs.witness.Parts.{outside}
 use Rattle.gabc_headers.specs.Book.{book_of, entries}
 use Rattle.gabc_headers.specs.Entries.{spelled_entries}
 use Rattle.gabc_headers.specs.machine.EntryMap.{AreWithin}
-use Rattle.gabc_headers.specs.Heads.{head_len, findings_after, line_place, heads_of}
+use Rattle.gabc_headers.specs.Heads.{findings_after, line_place, heads_of}
 use Rattle.gabc_headers.specs.machine.Collected.{AreGoodEvents, collected_with_all, none, heads_at_body, heads_at_score, fault_at_end}
-use Rattle.gabc_headers.specs.machine.Events.{AreHeaderEvents, EndsAs, AreEarly, AreLate}
+use Rattle.gabc_headers.specs.machine.Events.{AreHeaderEvents, EndsAs}
 use Rattle.gabc_headers.proofs.order.FoundBeforeAPoint.{all_known}
 use Rattle.gabc_headers.proofs.groups.NamesAreShort.{parts_short, names-prefix}
 use Rattle.gabc_headers.proofs.entries.PutEntriesStand.{put-book}
@@ -53,50 +50,29 @@ module _ (limits : Limits) (t : List ℕ) (events : List HeaderEvent) (end : Hea
 
   pub case_limit : (place : Place) → end ≡ Limit place
       → Err (record { fault = record { place = place; code = F4 }; findings = (collected_of t events).findings; at_end = false }) ≡ heads_of limits t
-  case_limit place q =
-      ap (λ (x : List Finding). Err (record { fault = record { place = place; code = F4 }; findings = x; at_end = false })) read_found
-      ∙ text_limit limits t emitted.emitted emitted.rest emitted.stop place emitted.all emitted.early emitted.late (ends_as (Limit place) q)
+  case_limit place q = grind (arith, read_found, text_limit, ends_as)
 
   pub case_text_open : (place : Place) (k : ℕ) → end ≡ Text place (Some k)
       → Err (record { fault = record { place = line_place k; code = F3 }; findings = (collected_of t events).findings; at_end = true }) ≡ heads_of limits t
-  case_text_open place k q =
-      let e = ends_as (Text place (Some k)) q in
-      ap (λ (x : List Finding). Err (record { fault = record { place = line_place k; code = F3 }; findings = x; at_end = true })) read_found
-      ∙ text_open limits t emitted.emitted emitted.rest k emitted.all (subst (λ (p : ℕ). AreEarly p emitted.emitted) e.2 emitted.early) (subst (λ (p : ℕ). AreLate p emitted.rest) e.2 emitted.late) e.0 e.1 e.4
+  case_text_open place k q = grind (arith, ends_as, read_found, text_open)
 
   pub case_text_ended : (place : Place) → end ≡ Text place None
       → Err (record { fault = record { place = place; code = F2 }; findings = (collected_of t events).findings; at_end = true }) ≡ heads_of limits t
-  case_text_ended place q =
-      let e = ends_as (Text place None) q in
-      ap (λ (x : List Finding). Err (record { fault = record { place = place; code = F2 }; findings = x; at_end = true })) read_found
-      ∙ (ap (λ (p : Place). Err (record { fault = record { place = p; code = F2 }; findings = all_known (findings_after [] emitted.emitted); at_end = true })) e.3
-      ∙ text_ended limits t emitted.emitted emitted.rest emitted.all (subst (λ (p : ℕ). AreEarly p emitted.emitted) e.2 emitted.early) (subst (λ (p : ℕ). AreLate p emitted.rest) e.2 emitted.late) e.0 e.1 e.4)
+  case_text_ended place q = grind (arith, ends_as, read_found, text_ended)
 
   pub case_score_open : (place : Place) (body : ℕ) (k : ℕ) → end ≡ Score place body (Some k)
       → Err (record { fault = record { place = line_place k; code = F3 }; findings = (collected_of t events).findings; at_end = false }) ≡ heads_of limits t
-  case_score_open place body k q =
-      let e = ends_as (Score place body (Some k)) q in
-      ap (λ (x : List Finding). Err (record { fault = record { place = line_place k; code = F3 }; findings = x; at_end = false })) read_found
-      ∙ score_open limits t emitted.emitted emitted.rest k emitted.all (subst (λ (p : ℕ). AreEarly p emitted.emitted) e.2 emitted.early) (subst (λ (p : ℕ). AreLate p emitted.rest) e.2 emitted.late) e.0 e.1 e.5
+  case_score_open place body k q = grind (arith, ends_as, read_found, score_open)
 
   pub case_score_ended : (place : Place) (body : ℕ) → end ≡ Score place body None
       → heads_at_body limits place body (spelled_entries (encodes t) (collected_of t events).headers) (collected_of t events).findings ≡ heads_of limits t
-  case_score_ended place body q =
-      let e = ends_as (Score place body None) q in
-      let h : head_parts t ≡ emitted.emitted = emitted.all ∙ (ap (λ (x : List HeaderPart). emitted.emitted ++ x) e.6 ∙ append-nil emitted.emitted) in
-      ap (λ (x : List (List ℕ × List ℕ)). heads_at_body limits place body x (collected_of t events).findings) read_book
-      ∙ (ap (λ (x : List Finding). heads_at_body limits place body (book_of emitted.emitted) x) read_found
-      ∙ (ap (λ (p : Place). heads_at_body limits p body (book_of emitted.emitted) (all_known (findings_after [] emitted.emitted))) e.3
-      ∙ (ap (λ (b : ℕ). heads_at_body limits (place_after (take (head_len t) t)) b (book_of emitted.emitted) (all_known (findings_after [] emitted.emitted))) e.4
-      ∙ score_ended limits t emitted.emitted h (subst (λ (p : ℕ). AreEarly p emitted.emitted) e.2 emitted.early) e.0 e.1 e.5)))
+  case_score_ended place body q = grind (arith, ends_as, append-nil, read_book, read_found, score_ended)
 
   -- at the line `%%`
   pub case_score : (place : Place) (body : ℕ) (line : Option ℕ) → end ≡ Score place body line
       → heads_at_score limits place body line (spelled_entries (encodes t) (collected_of t events).headers) (collected_of t events).findings ≡ heads_of limits t
-  case_score place body None q = case_score_ended place body q
-  case_score place body (Some k) q = case_score_open place body k q
+  case_score place body line q = grind (arith, case_score_ended, case_score_open)
 
   -- at the end of the text
   pub case_text : (place : Place) (line : Option ℕ) → end ≡ Text place line → Err (fault_at_end place line (collected_of t events).findings) ≡ heads_of limits t
-  case_text place None q = case_text_ended place q
-  case_text place (Some k) q = case_text_open place k q
+  case_text place line q = grind (arith, case_text_ended, case_text_open)

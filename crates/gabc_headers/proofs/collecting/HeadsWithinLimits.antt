@@ -1,16 +1,14 @@
 -- The headers that are not too long.
-use Rattle.std.proofs.Common.{◌≡◌, ℕ, ◌+◌, List, [], ◌∷◌, ◌++◌, Bool, true, false, cond, codes, refl, sym, ap, nat_lt, Result, Ok, Err, Option, None, Some, MatchOption, is_some, Bor}
+use Rattle.std.proofs.Common.{◌≡◌, ℕ, List, [], ◌∷◌, ◌++◌, true, false, cond, codes, Result, Ok, Err, Option, None, Some, MatchOption, is_some, Bor, arith}
 use Rattle.std.specs.Str.{chars}
 use Rattle.gabc_places.specs.declared.place.Place.{Place}
 use Rattle.gabc_places.specs.declared.limits.Limits.{Limits}
-use Rattle.gabc_places.specs.declared.code.Code.TheVariants.{W1, F4, F7}
+use Rattle.gabc_places.specs.declared.code.Code.TheVariants.{W1}
 use Rattle.gabc_places.specs.declared.code.Fault.{Fault}
 use Rattle.gabc_places.specs.declared.code.Finding.{Finding}
 use Rattle.gabc_headers.specs.declared.heads.Heads.{Heads}
 use Rattle.gabc_headers.specs.declared.heads.HeadFault.{HeadFault}
 use Rattle.gabc_headers.specs.Book.{has_header}
-use Rattle.gabc_headers.specs.Canonical.{header_lines}
-use Rattle.gabc_headers.specs.Lines.{bytes_len}
 use Rattle.gabc_headers.specs.machine.Collected.{heads_at_score, len_at_score, fault_at_end, end_fault}
 
 -- the headers at their line `%%`, by what stops them there or by the length of their canonical lines
@@ -20,23 +18,12 @@ heads_by_len place body book found (Ok size) = Ok (record { book = book; body = 
 
 pub by_len : (limits : Limits) (place : Place) (body : ℕ) (line : Option ℕ) (book : List (List ℕ × List ℕ)) (found : List Finding)
     → heads_at_score limits place body line book found ≡ heads_by_len place body book found (len_at_score limits place line book)
-by_len limits place body (Some k) book found = refl
-by_len limits place body None book found = by (nat_lt limits.header (bytes_len (header_lines book))) (nat_lt limits.input (bytes_len (header_lines book) + 3))
-  where
-    by : (x y : Bool) → cond x (Err (record { fault = record { place = place; code = F4 }; findings = found; at_end = false }))
-        (cond y (Err (record { fault = record { place = place; code = F7 }; findings = found; at_end = false }))
-        (Ok (record { book = book; body = body; findings = cond (has_header (codes "name") book) found (found ++ record { place = place; code = W1 } ∷ []) })))
-        ≡ heads_by_len place body book found (cond x (Err (record { place = place; code = F4 })) (cond y (Err (record { place = place; code = F7 })) (Ok (bytes_len (header_lines book)))))
-    by true y = refl
-    by false true = refl
-    by false false = refl
+by_len limits place body line book found = grind arith
 
 -- at the end of the text
 pub at_text_end : (place : Place) (line : Option ℕ) (found : List Finding) → fault_at_end place line found ≡ record { fault = end_fault place line; findings = found; at_end = true }
-at_text_end place None found = refl
-at_text_end place (Some k) found = refl
+at_text_end place line found = grind arith
 
 -- whether a header is found
 pub found_same : (o : Option (Bor (List ℕ))) (p : Option (List ℕ)) → MatchOption o (p ≡ None) (λ v. p ≡ Some (chars v.now)) → is_some o ≡ is_some p
-found_same None p h = sym (ap (λ (x : Option (List ℕ)). is_some x) h)
-found_same (Some v) p h = sym (ap (λ (x : Option (List ℕ)). is_some x) h)
+found_same o p h = grind arith

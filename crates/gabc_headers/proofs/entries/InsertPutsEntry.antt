@@ -1,6 +1,5 @@
 -- What `insert` does to the names and values.
-use Rattle.std.proofs.Common.{◌≡◌, ℕ, ◌<◌, ◌≤◌, suc, List, [], ◌∷◌, ◌++◌, length, Bool, true, false, cond, nat_eq, refl, sym, ap, ◌∙◌, subst, arith, le_refl, bytes_eq, length-append, IsUtf8, ◌||◌, is_some, Option, Some, position, codes}
-use Rattle.std.proofs.lemmas.Bool.Decides.{nat_tests}
+use Rattle.std.proofs.Common.{◌≡◌, ℕ, ◌<◌, ◌≤◌, List, [], ◌∷◌, ◌++◌, length, Bool, true, false, cond, nat_eq, refl, sym, ap, ◌∙◌, subst, arith, bytes_eq, length-append, IsUtf8, ◌||◌, is_some, Option, Some, position, codes}
 use Rattle.std.specs.Str.{chars}
 use Rattle.std.specs.Cmp.Lexicographic.{same_text}
 use Rattle.std.specs.Map.{keys_of, lookup}
@@ -35,17 +34,13 @@ module _ {X : Type 0} (eq : Key → Key → Bool)
     (number_name : (s : ArrayString) (i : ℕ) → eq (Annotation i) (Name s) ≡ false) where
   step : (b : Bool) (k : Key) (e : Key × X) (v : X) (es : List (Key × X)) → eq k e.0 ≡ b
       → insert_entry eq (e ∷ es) k v ≡ cond b ((e.0, v) ∷ es) (e ∷ insert_entry eq es k v)
-  step true k e v es h = rw h refl
-  step false k e v es h = rw h refl
+  step b k e v es h = grind arith
 
   -- the number of the entries is a key that isn't there yet
   pub insert_number : (n : ℕ) (v : X) (es : List (Key × X)) → AreKeysBelow n es → insert_entry eq es (Annotation n) v ≡ es ++ (Annotation n, v) ∷ []
   insert_number n v [] b = refl
   insert_number n v ((Name s, w) ∷ es) b = step false (Annotation n) (Name s, w) v es (number_name s n) ∙ ap (λ (l : List (Key × X)). (Name s, w) ∷ l) (insert_number n v es b.1)
-  insert_number n v ((Annotation i, w) ∷ es) b =
-      let l : i < n = b.0 in
-      let f : nat_eq n i ≡ false = grind (arith, nat_tests) in
-      step false (Annotation n) (Annotation i, w) v es (numbers n i ∙ f) ∙ ap (λ (l : List (Key × X)). (Annotation i, w) ∷ l) (insert_number n v es b.1)
+  insert_number n v ((Annotation i, w) ∷ es) b = grind (arith, insert_number n v es b.1, step)
 
   pub put_number : (n : ℕ) (name : List ℕ) (v : X) (es : List (Key × X)) → AreKeysBelow n es → is_annotation name ≡ true → name ≡ key_name (Annotation n)
       → named_entries (insert_entry eq es (Annotation n) v) ≡ put_entry (named_entries es) name v
@@ -53,86 +48,57 @@ module _ {X : Type 0} (eq : Key → Key → Bool)
 
   branch : (b : Bool) (a : List ℕ) (k : Key) (v w : X) (es r : List (Key × X)) (s : List (List ℕ × X)) → a ≡ key_name k → named_entries r ≡ s
       → named_entries (cond b ((k, v) ∷ es) ((k, w) ∷ r)) ≡ cond b ((a, v) ∷ named_entries es) ((a, w) ∷ s)
-  branch true a k v w es r s e h = rw e refl
-  branch false a k v w es r s e h = rw (e, h) refl
+  branch b a k v w es r s e h = grind arith
 
   pub insert_name : (n : ℕ) (s : ArrayString) (v : X) (es : List (Key × X)) → is_annotation (chars s.bytes) ≡ false → IsUtf8 s.bytes → AreKeysBelow n es
       → named_entries (insert_entry eq es (Name s) v) ≡ with_value (named_entries es) (chars s.bytes) v
   insert_name n s v [] a u b = refl
-  insert_name n s v ((Name t, w) ∷ es) a u b =
-      let e = chars t.bytes in
-      ap named_entries (step (bytes_eq (chars s.bytes) e) (Name s) (Name t, w) v es (same s t u b.0.1))
-      ∙ branch (bytes_eq (chars s.bytes) e) e (Name t) v w es (insert_entry eq es (Name s) v) (with_value (named_entries es) (chars s.bytes) v) refl (insert_name n s v es a u b.1)
-  insert_name n s v ((Annotation i, w) ∷ es) a u b =
-      ap named_entries (step false (Name s) (Annotation i, w) v es (name_number s i))
-      ∙ rw (a) (ap (λ (l : List (List ℕ × X)). (key_name (Annotation i), w) ∷ l) (insert_name n s v es a u b.1))
+  insert_name n s v ((Name t, w) ∷ es) a u b = grind (arith, insert_name n s v es a u b.1, step, branch)
+  insert_name n s v ((Annotation i, w) ∷ es) a u b = grind (arith, insert_name n s v es a u b.1, step)
 
   pub put_name : (n : ℕ) (s : ArrayString) (name : List ℕ) (v : X) (es : List (Key × X)) → s.bytes ≡ name → is_annotation (chars name) ≡ false → IsUtf8 name → AreKeysBelow n es
       → named_entries (insert_entry eq es (Name s) v) ≡ put_entry (named_entries es) (chars name) v
-  put_name n s name v es e a u b = rw (a)
-      (subst (λ (x : List ℕ). named_entries (insert_entry eq es (Name s) v) ≡ with_value (named_entries es) (chars x) v) e
-      (insert_name n s v es (ap (λ (x : List ℕ). is_annotation (chars x)) e ∙ a) (subst IsUtf8 (sym e) u) b))
+  put_name n s name v es e a u b = grind (arith, insert_name)
 
   -- the number of the entries finds none
   pub number_new : (n : ℕ) (es : List (Key × X)) → AreKeysBelow n es → is_some (lookup (eq (Annotation n)) es) ≡ false
   number_new n [] b = refl
   number_new n ((Name s, w) ∷ es) b = rw (number_name s n) (number_new n es b.1)
-  number_new n ((Annotation i, w) ∷ es) b =
-      let l : i < n = b.0 in
-      let f : nat_eq n i ≡ false = grind (arith, nat_tests) in
-      rw (numbers n i ∙ f) (number_new n es b.1)
+  number_new n ((Annotation i, w) ∷ es) b = grind (arith, number_new n es b.1)
 
   some_branch : (b : Bool) (w : X) (o : Option X) (c : Bool) → is_some o ≡ c → is_some (cond b (Some w) o) ≡ (b || c)
-  some_branch true w o c h = refl
-  some_branch false w o c h = h
+  some_branch b w o c h = grind arith
 
   found_name : (n : ℕ) (s : ArrayString) (es : List (Key × X)) → is_annotation (chars s.bytes) ≡ false → IsUtf8 s.bytes → AreKeysBelow n es
       → is_some (lookup (eq (Name s)) es) ≡ is_one_of (chars s.bytes) (names (named_entries es))
   found_name n s [] a u b = refl
-  found_name n s ((Name t, w) ∷ es) a u b = rw (same s t u b.0.1)
-      (some_branch (bytes_eq (chars s.bytes) (chars t.bytes)) w (lookup (eq (Name s)) es) (is_one_of (chars s.bytes) (names (named_entries es))) (found_name n s es a u b.1))
+  found_name n s ((Name t, w) ∷ es) a u b = grind (arith, found_name n s es a u b.1, some_branch)
   found_name n s ((Annotation i, w) ∷ es) a u b = rw (name_number s i, a) (found_name n s es a u b.1)
 
   -- a name is found exactly if it comes again
   pub name_again : (n : ℕ) (s : ArrayString) (name : List ℕ) (es : List (Key × X)) → s.bytes ≡ name → is_annotation (chars name) ≡ false → IsUtf8 name → AreKeysBelow n es
       → is_some (lookup (eq (Name s)) es) ≡ comes_again (named_entries es) (chars name)
-  name_again n s name es e a u b = rw (a)
-      (subst (λ (x : List ℕ). is_some (lookup (eq (Name s)) es) ≡ is_one_of (chars x) (names (named_entries es))) e
-      (found_name n s es (ap (λ (x : List ℕ). is_annotation (chars x)) e ∙ a) (subst IsUtf8 (sym e) u) b))
+  name_again n s name es e a u b = grind (arith, found_name)
 
   below_branch : (b : Bool) (n : ℕ) (k : Key) (v w : X) (es r : List (Key × X)) → IsKeyBelow n k → AreKeysBelow n es → AreKeysBelow n r
       → AreKeysBelow n (cond b ((k, v) ∷ es) ((k, w) ∷ r))
-  below_branch true n k v w es r h b c = (h, b)
-  below_branch false n k v w es r h b c = (h, c)
+  below_branch e n k v w es r h b c = grind arith
 
   below_name : (n : ℕ) (s : ArrayString) (v : X) (es : List (Key × X)) → is_annotation (chars s.bytes) ≡ false → IsUtf8 s.bytes → AreKeysBelow n es → AreKeysBelow n (insert_entry eq es (Name s) v)
   below_name n s v [] a u b = ((a, u), tt)
-  below_name n s v (e ∷ es) a u b =
-      subst (AreKeysBelow n) (sym (step (eq (Name s) e.0) (Name s) e v es refl))
-      (below_branch (eq (Name s) e.0) n e.0 v e.1 es (insert_entry eq es (Name s) v) b.0 b.1 (below_name n s v es a u b.1))
-
-  longer : (b : Bool) (e f : Key × X) (es r : List (Key × X)) → length es ≤ length r → length (e ∷ es) ≤ length (cond b (f ∷ es) (e ∷ r))
-  longer true e f es r h = le_refl (suc (length es))
-  longer false e f es r h = omega (arith)
+  below_name n s v (e ∷ es) a u b = grind (arith, below_name n s v es a u b.1, step, below_branch)
 
   length_insert : (k : Key) (v : X) (es : List (Key × X)) → length es ≤ length (insert_entry eq es k v)
   length_insert k v [] = omega arith
-  length_insert k v (e ∷ es) = subst (λ (l : List (Key × X)). length (e ∷ es) ≤ length l) (sym (step (eq k e.0) k e v es refl))
-      (longer (eq k e.0) e (e.0, v) es (insert_entry eq es k v) (length_insert k v es))
+  length_insert k v (e ∷ es) = grind (arith, length_insert k v es, step)
 
   pub name_below : (s : ArrayString) (name : List ℕ) (v : X) (es : List (Key × X)) → s.bytes ≡ name → is_annotation (chars name) ≡ false → IsUtf8 name → AreKeysBelow (length es) es
       → AreKeysBelow (length (insert_entry eq es (Name s) v)) (insert_entry eq es (Name s) v)
-  name_below s name v es e a u b = more_below (length es) (length (insert_entry eq es (Name s) v)) (insert_entry eq es (Name s) v)
-      (length_insert (Name s) v es) (below_name (length es) s v es (ap (λ (x : List ℕ). is_annotation (chars x)) e ∙ a) (subst IsUtf8 (sym e) u) b)
+  name_below s name v es e a u b = grind (arith, more_below, length_insert, below_name)
 
   pub number_below : (v : X) (es : List (Key × X)) → AreKeysBelow (length es) es
       → AreKeysBelow (length (insert_entry eq es (Annotation (length es)) v)) (insert_entry eq es (Annotation (length es)) v)
-  number_below v es b =
-      let m : length es ≤ length (es ++ (Annotation (length es), v) ∷ []) = omega (arith, length-append es ((Annotation (length es), v) ∷ [])) in
-      let l : length es < length (es ++ (Annotation (length es), v) ∷ []) = omega (arith, length-append es ((Annotation (length es), v) ∷ [])) in
-      subst (λ (x : List (Key × X)). AreKeysBelow (length x) x) (sym (insert_number (length es) v es b))
-      (below_push (length (es ++ (Annotation (length es), v) ∷ [])) es (Annotation (length es)) v
-      (more_below (length es) (length (es ++ (Annotation (length es), v) ∷ [])) es m b) l)
+  number_below v es b = grind (arith, length-append, insert_number, below_push, more_below)
 
   -- what putting a key does
   pub record Puts (name : List ℕ) (v : X) (es : List (Key × X)) (k : Key) : Type 0 where
@@ -141,11 +107,7 @@ module _ {X : Type 0} (eq : Key → Key → Bool)
     pub below : AreKeysBelow (length (insert_entry eq es k v)) (insert_entry eq es k v)
 
   pub puts : (name : List ℕ) (v : X) (es : List (Key × X)) (k : Key) → IsUtf8 name → IsKeyOf name (length es) k → AreKeysBelow (length es) es → Puts name v es k
-  puts name v es (Name s) u h b = record {
-    entries = put_name (length es) s name v es h.0 h.1 u b;
-    again = name_again (length es) s name es h.0 h.1 u b;
-    below = name_below s name v es h.0 h.1 u b;
-  }
+  puts name v es (Name s) u h b = grind (arith, put_name, name_again, name_below)
   puts name v es (Annotation i) u h b = subst (λ (j : ℕ). Puts name v es (Annotation j)) (sym h.0) (record {
     entries = put_number (length es) (chars name) v es b h.1 (same_text (chars name) (codes "annotation") (sym h.1));
     again = rw (h.1) (number_new (length es) es b);

@@ -64,8 +64,4 @@ get_none (e ∷ es) (suc i) h l = get_none es i h (omega arith)
 -- the room that is left
 pub fits_inside : (es : List (Key × Span)) (limit : ℕ) (hasher : DefaultHasher) (view : EntryMapState) → record { items = named_entries es; limit = limit; hasher = hasher } ≡ view → HasPlace view
     → length es + 1 ≤ limit
-fits_inside es limit hasher view e f =
-    let n = ap (λ (v : EntryMapState). length v.items) e in
-    let m = ap (λ (v : EntryMapState). v.limit) e in
-    let l = length-named es in
-    omega arith
+fits_inside es limit hasher view e f = grind (arith, length-named)

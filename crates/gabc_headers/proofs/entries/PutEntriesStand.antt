@@ -43,12 +43,7 @@ module _ {X : Type 0} where
 
   pub names-with_value : (ds : List (List ℕ × X)) (name : List ℕ) (v : X) → is_one_of name (names ds) ≡ true → names (with_value ds name v) ≡ names ds
   names-with_value [] name v h = absurd (cc)
-  names-with_value (d ∷ ds) name v h = by (bytes_eq name d.0) h (names-with_value ds name v)
-    where
-      by : (b : Bool) → (b || is_one_of name (names ds)) ≡ true → (is_one_of name (names ds) ≡ true → names (with_value ds name v) ≡ names ds)
-          → names (cond b ((d.0, v) ∷ ds) (d ∷ with_value ds name v)) ≡ d.0 ∷ names ds
-      by true h r = refl
-      by false h r = ap (λ (x : List (List ℕ)). d.0 ∷ x) (r h)
+  names-with_value (d ∷ ds) name v h = grind (arith, names-with_value ds name v)
 
   pub names-push : (ds : List (List ℕ × X)) (e : List ℕ × X) → names (ds ++ e ∷ []) ≡ names ds ++ e.0 ∷ []
   names-push [] e = refl
@@ -60,11 +55,7 @@ module _ {X : Type 0} where
 
   -- an entry of another name changes nothing
   value-other : (name : List ℕ) (v : X) (e : List ℕ × X) (es : List (List ℕ × X)) → (is_annotation name ≡ false → bytes_eq name e.0 ≡ false) → value_of name v (e ∷ es) ≡ value_of name v es
-  value-other name v e es h = by (is_annotation name) h
-    where
-      by : (b : Bool) → (b ≡ false → bytes_eq name e.0 ≡ false) → cond b v (last_value name (cond (bytes_eq name e.0) e.1 v) es) ≡ cond b v (last_value name v es)
-      by true h = refl
-      by false h = ap (λ (b : Bool). last_value name (cond b e.1 v) es) (h refl)
+  value-other name v e es h = grind arith
 
   standing-same : (s t : List (List ℕ)) → ((n : List ℕ) → is_one_of n s ≡ is_one_of n t) → (es : List (List ℕ × X)) → standing_entries s es ≡ standing_entries t es
   standing-same s t h [] = refl
@@ -82,9 +73,7 @@ module _ {X : Type 0} where
 
   merged-annotation : (ds : List (List ℕ × X)) (e : List ℕ × X) (es : List (List ℕ × X)) → is_annotation e.0 ≡ true → merged ds (e ∷ es) ≡ merged ds es
   merged-annotation [] e es h = refl
-  merged-annotation (d ∷ ds) e es h =
-      ap (λ (v : X). (d.0, v) ∷ merged ds (e ∷ es)) (value-other d.0 d.1 e es (λ a. apart d.0 e.0 a h))
-      ∙ ap (λ (x : List (List ℕ × X)). (d.0, value_of d.0 d.1 es) ∷ x) (merged-annotation ds e es h)
+  merged-annotation (d ∷ ds) e es h = grind (arith, merged-annotation ds e es h, value-other, apart)
 
   merged-with_value : (ds : List (List ℕ × X)) (e : List ℕ × X) (es : List (List ℕ × X)) → Distinct ds → is_annotation e.0 ≡ false
       → merged (with_value ds e.0 e.1) es ≡ cond (is_one_of e.0 (names ds)) (merged ds (e ∷ es)) (merged ds es ++ (e.0, value_of e.0 e.1 es) ∷ [])
@@ -124,11 +113,7 @@ module _ {X : Type 0} where
 
   Distinct-with_value : (ds : List (List ℕ × X)) (name : List ℕ) (v : X) → Distinct ds → is_one_of name (names ds) ≡ true → Distinct (with_value ds name v)
   Distinct-with_value [] name v u h = absurd (cc)
-  Distinct-with_value (d ∷ ds) name v u h = by (bytes_eq name d.0) h (Distinct-with_value ds name v u.1)
-    where
-      by : (b : Bool) → (b || is_one_of name (names ds)) ≡ true → (is_one_of name (names ds) ≡ true → Distinct (with_value ds name v)) → Distinct (cond b ((d.0, v) ∷ ds) (d ∷ with_value ds name v))
-      by true h r = u
-      by false h r = ((λ a. ap (is_one_of d.0) (names-with_value ds name v h) ∙ u.0 a), r h)
+  Distinct-with_value (d ∷ ds) name v u h = grind (arith, Distinct-with_value ds name v u.1, names-with_value)
 
   -- ---- all of them
 

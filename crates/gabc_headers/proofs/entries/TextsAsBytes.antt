@@ -1,5 +1,5 @@
 -- Texts as bytes and as characters.
-use Rattle.std.proofs.Common.{◌≡◌, ℕ, List, [], ◌∷◌, ◌++◌, ◌+◌, length, length-append, arith, ◌<◌, zero, suc, zero-add, lit<, Bool, true, false, refl, sym, ap, ◌∙◌, subst, bytes_eq, codes, eq-eqb, IsUtf8}
+use Rattle.std.proofs.Common.{◌≡◌, ℕ, List, [], ◌∷◌, ◌++◌, ◌+◌, length, length-append, arith, ◌<◌, zero-add, Bool, true, false, refl, sym, ap, ◌∙◌, subst, bytes_eq, codes, eq-eqb, IsUtf8}
 use Rattle.std.specs.Cmp.Lexicographic.{same_text}
 use Rattle.std.specs.Str.{chars, is_utf8, IsAscii}
 use Rattle.std.proofs.lemmas.Str.{encodes-chars, length-encode, chars-IsAscii, IsUtf8-from_is_utf8}
@@ -19,12 +19,7 @@ eq_flip a b e = subst (λ (x : List ℕ). bytes_eq x a ≡ true) (same_text a b 
 
 -- two texts are the same either way
 pub bytes_eq_sym : (a b : List ℕ) → bytes_eq a b ≡ bytes_eq b a
-bytes_eq_sym a b = by (bytes_eq a b) (bytes_eq b a) refl refl
-  where
-    by : (x y : Bool) → bytes_eq a b ≡ x → bytes_eq b a ≡ y → x ≡ y
-    by true y e f = sym (sym f ∙ eq_flip a b e)
-    by false true e f = sym e ∙ eq_flip b a f
-    by false false e f = refl
+bytes_eq_sym a b = grind (arith, eq_flip)
 
 -- two texts have the same bytes exactly if they have the same characters
 pub bytes_eq-chars : (a b : List ℕ) → IsUtf8 a → IsUtf8 b → bytes_eq (chars a) (chars b) ≡ bytes_eq a b
@@ -86,9 +81,7 @@ bytes_len-chars bs u = sym (length-encodes (chars bs)) ∙ ap length (encodes-ch
 
 -- the name of a macro's header is ASCII
 macro_ascii : (d : ℕ) → d < 10 → IsAscii (macro_name d)
-macro_ascii d h (suc zero) = lit< tt
-macro_ascii d h (suc (suc (suc (suc (suc zero))))) = omega arith
-macro_ascii d h _ = lit< tt
+macro_ascii d h k = grind arith
 
 pub chars-macro : (d : ℕ) → d < 10 → chars (macro_name d) ≡ macro_name d
 chars-macro d h = chars-IsAscii (macro_name d) (macro_ascii d h)

@@ -1,8 +1,6 @@
 -- Spans in the beginning of a text.
-use Rattle.std.proofs.Common.{◌≡◌, ℕ, ◌<◌, ◌≤◌, ◌-◌, zero, suc, List, [], ◌∷◌, ◌++◌, length, take, drop, arith, refl, sym, ap, ◌∙◌, length-take, length-drop, slice_get, IsSomeAnd, IsCharBoundary, Bool, true, false, cond, nat_lt, max, ◌==◌, Less, Equal, Greater}
-use Rattle.std.specs.Ordering.{is_lt, nat_cmp, ord_max}
-use Rattle.std.specs.Str.{chars}
-use Rattle.std.proofs.lemmas.Bool.Decides.{nat_tests}
+use Rattle.std.proofs.Common.{◌≡◌, ℕ, ◌≤◌, zero, suc, List, [], ◌∷◌, ◌++◌, length, take, drop, arith, refl, sym, ◌∙◌, length-take, length-drop, slice_get, IsSomeAnd, IsCharBoundary, max}
+use Rattle.std.specs.Ordering.{nat_cmp, ord_max}
 use Rattle.std.proofs.lemmas.List.{get_or-take, take-append-drop, take-append-le, drop-append-le}
 use Rattle.gabc_places.specs.declared.place.Span.{Span}
 use Rattle.gabc_headers.specs.Entries.{spelled_entries, text_at}
@@ -12,13 +10,7 @@ use Rattle.gabc_headers.proofs.entries.MapIsReadByEntry.{within_get}
 
 -- more text changes no span
 pub shown_at-append : (text more : List ℕ) (s : Span) → IsWithin text s → text_at (text ++ more) s ≡ text_at text s
-shown_at-append text more s w =
-    let o : s.from ≤ s.to = w.order in
-    let l : s.to ≤ length text = w.last.0 in
-    let f : s.from ≤ length text = omega arith in
-    let k : s.to - s.from ≤ length (drop s.from text) = omega (arith, length-drop s.from text) in
-    ap (λ (x : List ℕ). chars (take (s.to - s.from) x)) (drop-append-le s.from text more f)
-    ∙ ap chars (take-append-le (s.to - s.from) (drop s.from text) more k)
+shown_at-append text more s w = grind (arith, length-drop, drop-append-le, take-append-le)
 
 pub spelled_longer : (text more : List ℕ) (es : List (List ℕ × Span)) → AreWithin text es → spelled_entries (text ++ more) es ≡ spelled_entries text es
 spelled_longer text more [] h = refl
@@ -30,13 +22,7 @@ spelled_shorter text n es h = rw (take-append-drop n text) at (sym (spelled_long
 -- ---- up to a byte
 
 boundary-take : (text : List ℕ) (n i : ℕ) → i ≤ n → IsCharBoundary text i → IsCharBoundary (take n text) i
-boundary-take text n i l b =
-    let m = length-take n text in
-    let f : i ≤ length text = b.0 in (
-      omega (arith, m, l, f),
-      λ p q. let r : i < n = omega (arith, m, p) in let s : i < length text = omega (arith, m, p) in
-          rw (get_or-take n text i 0 r) (b.1 s (rw (get_or-take n text i 0 r) at q)),
-    )
+boundary-take text n i l b = grind (arith, length-take, get_or-take)
 
 within-take : (text : List ℕ) (n : ℕ) (s : Span) → s.to ≤ n → IsWithin text s → IsWithin (take n text) s
 within-take text n s l w = record {
@@ -65,28 +51,14 @@ within_end text [] i n l w e = tt
 within_end text (d ∷ es) zero n l w e = absurd (omega arith)
 within_end text (d ∷ es) (suc i) n l w e = (within-take text n d.1 e.0 w.0, within_end text es i n (omega arith) w.1 e.1)
 
--- what `m.max(n)` is
-abbrev later : ℕ → ℕ → Bool → Bool → ℕ
-later m n x y = cond (is_lt (cond x Less (cond y Equal Greater))) m n
-
 -- the later of two ends
 pub later_end : (text : List ℕ) (m n : ℕ) → IsCharBoundary text m → IsCharBoundary text n
     → (m ≤ ord_max nat_cmp m n) × (n ≤ ord_max nat_cmp m n) × IsCharBoundary text (ord_max nat_cmp m n)
-later_end text m n b c = by (nat_lt n m) (n == m) refl
-  where
-    by : (x y : Bool) → nat_lt n m ≡ x → (m ≤ later m n x y) × (n ≤ later m n x y) × IsCharBoundary text (later m n x y)
-    by true y q = let l : n < m = grind (arith, nat_tests) in (omega arith, omega (arith, l), b)
-    by false true q = let l : m ≤ n = grind (arith, nat_tests) in (l, omega arith, c)
-    by false false q = let l : m ≤ n = grind (arith, nat_tests) in (l, omega arith, c)
+later_end text m n b c = grind arith
 
 -- the later of two numbers
 is_later : (m n : ℕ) → ord_max nat_cmp m n ≡ max m n
-is_later m n = by (nat_lt n m) (n == m) refl
-  where
-    by : (x y : Bool) → nat_lt n m ≡ x → later m n x y ≡ max m n
-    by true y q = let l : n < m = grind (arith, nat_tests) in omega (arith, l)
-    by false true q = let l : m ≤ n = grind (arith, nat_tests) in omega (arith, l)
-    by false false q = let l : m ≤ n = grind (arith, nat_tests) in omega (arith, l)
+is_later m n = grind arith
 
 -- of the ends that are still to come, the next one counts now
 pub far_on : (es : List (List ℕ × Span)) (i n m : ℕ) (s : Span) → IsSomeAnd (slice_get es i) (λ e. e.1 ≡ s) → m ≡ ord_max nat_cmp n s.to

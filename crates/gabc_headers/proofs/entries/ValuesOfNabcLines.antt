@@ -1,5 +1,5 @@
 -- A value of `nabc-lines` is found among those in range by its bytes and by its characters alike.
-use Rattle.std.proofs.Common.{◌≡◌, ℕ, List, [], ◌∷◌, Bool, true, ◌&&◌, cond, length, Some, None, refl, sym, ap, ◌∙◌, bytes_eq, IsUtf8}
+use Rattle.std.proofs.Common.{◌≡◌, ℕ, List, [], ◌∷◌, Bool, true, ◌&&◌, cond, length, Some, None, refl, sym, ap, ◌∙◌, bytes_eq, IsUtf8, arith}
 use lib.Dec.{ltb}
 use lib.Utf8.{encode}
 use Rattle.std.specs.List.{list_all, list_any, position, position_or_len}
@@ -28,14 +28,12 @@ same_row v row u p =
 place_same : (v : List ℕ) (rows : List (List ℕ)) → IsUtf8 v → list_all is_plain rows ≡ true
     → position_or_len (λ row. bytes_eq row (chars v)) rows ≡ position_or_len (λ row. bytes_eq row v) rows
 place_same v [] u p = refl
-place_same v (row ∷ rows) u p =
-    rw (same_row v row u (and_parts (is_plain row) _ p).0, place_same v rows u (and_parts (is_plain row) _ p).1) refl
+place_same v (row ∷ rows) u p = grind (arith, place_same v rows u (and_parts (is_plain row) _ p).1, same_row, and_parts)
 
 among_same : (v : List ℕ) (rows : List (List ℕ)) → IsUtf8 v → list_all is_plain rows ≡ true
     → is_one_of (chars v) rows ≡ list_any (λ row. bytes_eq row v) rows
 among_same v [] u p = refl
-among_same v (row ∷ rows) u p =
-    rw (bytes_eq_sym (chars v) row, same_row v row u (and_parts (is_plain row) _ p).0, among_same v rows u (and_parts (is_plain row) _ p).1) refl
+among_same v (row ∷ rows) u p = grind (arith, among_same v rows u (and_parts (is_plain row) _ p).1, bytes_eq_sym, same_row, and_parts)
 
 -- the number of lines that a value says
 pub lines-chars : (v : List ℕ) → IsUtf8 v → lines_by (Some (chars v)) ≡ unwrap_or (position (λ row. bytes_eq row v) nabc_values) 0

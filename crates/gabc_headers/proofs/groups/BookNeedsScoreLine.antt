@@ -1,13 +1,10 @@
 -- Headers without a fault have a line `%%`.
-use Rattle.std.proofs.Common.{◌≡◌, ℕ, ◌+◌, ◌≤◌, List, [], ◌∷◌, ◌++◌, Bool, true, false, cond, refl, ap, ◌∙◌, length, Option, Some, None, Result, Ok, Err}
+use Rattle.std.proofs.Common.{◌≡◌, ℕ, ◌+◌, ◌≤◌, List, [], ◌∷◌, ◌++◌, true, refl, length, Option, Some, None, Ok, arith}
 use Rattle.gabc_places.specs.declared.limits.Limits.{Limits}
 use Rattle.gabc_places.specs.Findings.{Stop, earliest, or_earlier}
 use Rattle.gabc_headers.specs.declared.heads.Heads.{Heads}
-use Rattle.gabc_headers.specs.declared.heads.HeadFault.{HeadFault}
 use Rattle.gabc_headers.specs.Lines.{lines, has_score}
-use Rattle.gabc_headers.specs.Heads.{head_len, open_line, open_stops, missing_score, text_stops, heads_of}
-use Rattle.gabc_headers.specs.witness.Heads.{score_stops, head_stops, heads_by}
-use Rattle.gabc_headers.specs.witness.Parts.{head_parts}
+use Rattle.gabc_headers.specs.Heads.{head_len, open_stops, missing_score, text_stops, heads_of}
 use Rattle.gabc_headers.proofs.stops.PointsOfStops.{score_within}
 
 some_earliest : (xs ys : List Stop) (s : Stop) → (first : Stop) × (earliest (xs ++ s ∷ ys) ≡ Some first)
@@ -20,18 +17,7 @@ stopped limits t None = some_earliest (text_stops limits.header t) [] _
 stopped limits t (Some k) = some_earliest (text_stops limits.header t) [] _
 
 pub has_score_line : (limits : Limits) (t : List ℕ) (heads : Heads) → heads_of limits t ≡ Ok heads → has_score (lines t) ≡ true
-has_score_line limits t heads e = by (has_score (lines t)) refl
-  where
-    by : (b : Bool) → has_score (lines t) ≡ b → has_score (lines t) ≡ true
-    by true f = f
-    by false f =
-        let s = stopped limits t (open_line (head_parts t)) in
-        let all : head_stops limits t ≡ text_stops limits.header t ++ (open_stops (length t) (open_line (head_parts t)) ++ missing_score (open_line (head_parts t)) t) =
-        ap (λ (b : Bool). text_stops limits.header t ++ cond b (open_stops (head_len t + 1) (open_line (head_parts t)) ++ score_stops limits t) (open_stops (length t) (open_line (head_parts t)) ++ missing_score (open_line (head_parts t)) t)) f in
-        absurd (none (ap (heads_by t) (ap (λ (xs : List Stop). earliest xs) all ∙ s.1)) e)
-      where
-        none : {r : Result Heads HeadFault} → {h : HeadFault} → r ≡ Err h → r ≡ Ok heads → ⊥
-        none f g = cc
+has_score_line limits t heads e = grind (arith, stopped)
 
 pub score_after : (limits : Limits) (t : List ℕ) (heads : Heads) → heads_of limits t ≡ Ok heads → head_len t + 2 ≤ length t
 score_after limits t heads e = score_within t (has_score_line limits t heads e)

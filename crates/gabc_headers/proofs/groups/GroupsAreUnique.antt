@@ -1,5 +1,5 @@
 -- Lines are cut into groups in one way, and the groups report the parts.
-use Rattle.std.proofs.Common.{◌≡◌, ℕ, List, [], ◌∷◌, ◌++◌, Bool, true, false, cond, Option, Some, None, refl, sym, ap, ◌∙◌, subst, append_assoc, append-nil}
+use Rattle.std.proofs.Common.{◌≡◌, ℕ, List, [], ◌∷◌, ◌++◌, Bool, true, false, cond, Option, Some, None, refl, sym, ap, ◌∙◌, append_assoc, append-nil, arith}
 use Rattle.gabc_headers.specs.Lines.{is_bare, has_mark, has_colon, after_colon}
 use Rattle.gabc_headers.specs.Groups.{Group, skipped, colonless, valued, unfinished, EndAtMark, HaveNoMark, BeginsHeader, EndsValue, AreGroups}
 
@@ -21,8 +21,7 @@ end_at-push (l ∷ []) m h e = (h.0, e)
 end_at-push (l ∷ k ∷ b) m h e = (h.0, end_at-push (k ∷ b) m h.1 e)
 
 pub ends_value : (l : List ℕ) (b : List (List ℕ)) → has_mark 1 (after_colon l) ≡ false → EndAtMark b → EndsValue l b
-ends_value l [] e h = absurd h
-ends_value l (m ∷ ms) e h = (e, h)
+ends_value l b e h = grind arith
 
 -- a header's first line whose value goes on
 pub record Opens (l : List ℕ) : Type 0 where
@@ -35,23 +34,18 @@ Cuts ls = AreGroups ls (cut None ls) × ((l : List ℕ) (b : List (List ℕ)) �
 
 module _ (m : List ℕ) (ms : List (List ℕ)) (ih : Cuts ms) where
   by_value : (b : Bool) → has_mark 1 (after_colon m) ≡ b → BeginsHeader m → AreGroups (m ∷ ms) (cond b (valued m [] ∷ cut None ms) (cut (Some (m, [])) ms))
-  by_value true e g = ((g, e), (ms, refl, ih.0))
-  by_value false e g = ih.1 m [] (record { begins = g; onward = e }) tt
+  by_value b e g = grind arith
 
   by_colon : (b : Bool) → has_colon m ≡ b → is_bare m ≡ false → AreGroups (m ∷ ms) (cond b (cond (has_mark 1 (after_colon m)) (valued m [] ∷ cut None ms) (cut (Some (m, [])) ms)) (colonless m ∷ cut None ms))
-  by_colon true e s = by_value (has_mark 1 (after_colon m)) refl (record { seen = s; colon = e })
-  by_colon false e s = ((s, e), (ms, refl, ih.0))
+  by_colon b e s = grind (arith, by_value)
 
   by_bare : (b : Bool) → is_bare m ≡ b → AreGroups (m ∷ ms) (cond b (skipped m ∷ cut None ms)
       (cond (has_colon m) (cond (has_mark 1 (after_colon m)) (valued m [] ∷ cut None ms) (cut (Some (m, [])) ms)) (colonless m ∷ cut None ms)))
-  by_bare true e = (e, (ms, refl, ih.0))
-  by_bare false e = by_colon (has_colon m) refl e
+  by_bare b e = grind (arith, by_colon)
 
   by_mark : (l : List ℕ) (b : List (List ℕ)) → Opens l → HaveNoMark b → (t : Bool) → has_mark 2 m ≡ t
       → AreGroups (l ∷ (b ++ m ∷ ms)) (cond t (valued l (b ++ m ∷ []) ∷ cut None ms) (cut (Some (l, b ++ m ∷ [])) ms))
-  by_mark l b o h true e = ((o.begins, ends_value l (b ++ m ∷ []) o.onward (end_at-push b m h e)), (ms, ap (λ (x : List (List ℕ)). l ∷ x) (sym (append_assoc b (m ∷ []) ms)), ih.0))
-  by_mark l b o h false e = subst (λ (x : List (List ℕ)). AreGroups (l ∷ x) (cut (Some (l, b ++ m ∷ [])) ms)) (append_assoc b (m ∷ []) ms)
-      (ih.1 l (b ++ m ∷ []) o (no_mark-push b m h e))
+  by_mark l b o h t e = grind (arith, ends_value, end_at-push, append_assoc, no_mark-push)
 
   cut_more : Cuts (m ∷ ms)
   unfolding cut
@@ -72,17 +66,13 @@ value_cut : (l : List ℕ) (acc b rest : List (List ℕ)) → EndAtMark b → cu
 unfolding cut
 value_cut l acc [] rest h = absurd h
 value_cut l acc (m ∷ []) rest h = ap (λ (x : Bool). cond x (valued l (acc ++ m ∷ []) ∷ cut None rest) (cut (Some (l, acc ++ m ∷ [])) rest)) h
-value_cut l acc (m ∷ n ∷ b) rest h =
-    ap (λ (x : Bool). cond x (valued l (acc ++ m ∷ []) ∷ cut None (n ∷ b ++ rest)) (cut (Some (l, acc ++ m ∷ [])) (n ∷ b ++ rest))) h.0
-    ∙ (value_cut l (acc ++ m ∷ []) (n ∷ b) rest h.1 ∙ ap (λ (x : List (List ℕ)). valued l x ∷ cut None rest) (append_assoc acc (m ∷ []) (n ∷ b)))
+value_cut l acc (m ∷ n ∷ b) rest h = grind (arith, value_cut l (acc ++ m ∷ []) (n ∷ b) rest h.1, append_assoc)
 
 -- a value that does not end takes all
 open_cut : (l : List ℕ) (acc b : List (List ℕ)) → HaveNoMark b → cut (Some (l, acc)) b ≡ unfinished l (acc ++ b) ∷ []
 unfolding cut
 open_cut l acc [] h = ap (λ (x : List (List ℕ)). unfinished l x ∷ []) (sym (append-nil acc))
-open_cut l acc (m ∷ b) h =
-    ap (λ (x : Bool). cond x (valued l (acc ++ m ∷ []) ∷ cut None b) (cut (Some (l, acc ++ m ∷ [])) b)) h.0
-    ∙ (open_cut l (acc ++ m ∷ []) b h.1 ∙ ap (λ (x : List (List ℕ)). unfinished l x ∷ []) (append_assoc acc (m ∷ []) b))
+open_cut l acc (m ∷ b) h = grind (arith, open_cut l (acc ++ m ∷ []) b h.1, append_assoc)
 
 -- the cutting of lines that begin with a header
 header_cut : (l : List ℕ) (ls : List (List ℕ)) → BeginsHeader l → cut None (l ∷ ls) ≡ cond (has_mark 1 (after_colon l)) (valued l [] ∷ cut None ls) (cut (Some (l, [])) ls)
@@ -90,9 +80,7 @@ unfolding cut
 header_cut l ls g = rw (g.seen, g.colon) refl
 
 valued_cut : (l : List ℕ) (b rest : List (List ℕ)) → BeginsHeader l → EndsValue l b → cut None (l ∷ (b ++ rest)) ≡ valued l b ∷ cut None rest
-valued_cut l [] rest g e = header_cut l rest g ∙ ap (λ (x : Bool). cond x (valued l [] ∷ cut None rest) (cut (Some (l, [])) rest)) e
-valued_cut l (m ∷ b) rest g e = header_cut l (m ∷ b ++ rest) g
-    ∙ (ap (λ (x : Bool). cond x (valued l [] ∷ cut None (m ∷ b ++ rest)) (cut (Some (l, [])) (m ∷ b ++ rest))) e.0 ∙ value_cut l [] (m ∷ b) rest e.1)
+valued_cut l b rest g e = grind (arith, header_cut, value_cut)
 
 unfinished_cut : (l : List ℕ) (b : List (List ℕ)) → BeginsHeader l → has_mark 1 (after_colon l) ≡ false → HaveNoMark b → cut None (l ∷ b) ≡ unfinished l b ∷ []
 unfinished_cut l b g e h = header_cut l b g ∙ (ap (λ (x : Bool). cond x (valued l [] ∷ cut None b) (cut (Some (l, [])) b)) e ∙ open_cut l [] b h)

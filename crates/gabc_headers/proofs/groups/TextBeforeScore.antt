@@ -26,21 +26,11 @@ not_percent c e = grind (arith, nat_tests)
 
 -- a text begins with `%` as its first line does
 percent_first : (r : List ℕ) → is_percent (first_line r) ≡ is_percent r
-percent_first [] = refl
-percent_first (d ∷ r) = by (d == 10) refl
-  where
-    by : (b : Bool) → (d == 10) ≡ b → is_percent (cond b [] (d ∷ first_line r)) ≡ (d == 37)
-    by true e = sym (not_percent d e)
-    by false e = refl
+percent_first r = grind (arith, not_percent)
 
 -- a text begins with `%%` as its first line does
 pub score_first : (r : List ℕ) → is_score_line (first_line r) ≡ is_score_line r
-score_first [] = refl
-score_first (c ∷ r) = by (c == 10) refl
-  where
-    by : (b : Bool) → (c == 10) ≡ b → is_score_line (cond b [] (c ∷ first_line r)) ≡ ((c == 37) && is_percent r)
-    by true e = ap (λ (x : Bool). x && is_percent r) (sym (not_percent c e))
-    by false e = ap (λ (x : Bool). (c == 37) && x) (percent_first r)
+score_first r = grind (arith, not_percent, percent_first)
 
 -- ---- the lines' score line is the text's
 
@@ -51,14 +41,7 @@ pub record Scored (r : List ℕ) : Type 0 where
 
 -- with a character more in front
 scored_more : (c : ℕ) (r : List ℕ) → Scored r → Scored (c ∷ r)
-scored_more c r h = record {
-  lines = ap has_score (lines_split (c ∷ r)) ∙ (ap (λ (x : Bool). x || has_score (later_lines (c ∷ r))) (score_first (c ∷ r)) ∙ ap (λ (x : Bool). is_score_line (c ∷ r) || x) (by (c == 10)));
-  later = by (c == 10);
-}
-  where
-    by : (b : Bool) → has_score (cond b (lines r) (later_lines r)) ≡ is_scored b r
-    by true = h.lines
-    by false = h.later
+scored_more c r h = grind (arith, lines_split, score_first)
 
 -- each text
 scored : (r : List ℕ) → Scored r
@@ -175,11 +158,7 @@ head_next starts c r h = ap (λ (b : Bool). cond b [] (c ∷ head_text (c == 10)
 
 -- over one character more
 pub scan_more : (t done r : List ℕ) (c : ℕ) (starts : Bool) → (starts && is_score_line (c ∷ r)) ≡ false → Scan t done (c ∷ r) starts → Scan t (done ++ c ∷ []) r (c == 10)
-scan_more t done r c starts h s = record {
-  text = s.text ∙ sym (append_assoc done (c ∷ []) r);
-  head = s.head ∙ (ap (λ (x : List ℕ). done ++ x) (head_next starts c r h) ∙ sym (append_assoc done (c ∷ []) (head_text (c == 10) r)));
-  score = s.score ∙ ap (λ (b : Bool). b || is_scored (c == 10) r) h;
-}
+scan_more t done r c starts h s = grind (arith, append_assoc, head_next)
 
 -- the headers' own text is a prefix of the text
 pub head_prefix : (s : Bool) (r : List ℕ) → (back : List ℕ) × (r ≡ head_text s r ++ back)

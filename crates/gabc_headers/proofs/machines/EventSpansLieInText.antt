@@ -1,12 +1,11 @@
 -- The part machine over the headers' own text: its spans lie in what is read, its events are known where they are given,
 -- and what it has not emitted yet becomes known later.
-use Rattle.std.proofs.Common.{◌≡◌, ℕ, ◌+◌, ◌≤◌, List, [], ◌∷◌, ◌++◌, drop, Bool, true, false, cond, Option, Some, None, refl, sym, ap, ◌∙◌, arith, append_assoc, slice_range, drop-drop, nat_lt, not, le_refl}
+use Rattle.std.proofs.Common.{◌≡◌, ℕ, ◌+◌, ◌≤◌, List, [], ◌∷◌, ◌++◌, drop, Bool, true, false, cond, Option, Some, None, refl, sym, ap, ◌∙◌, arith, append_assoc, slice_range, drop-drop, not, le_refl}
 use Rattle.gabc_places.specs.declared.place.Span.{Span}
-use Rattle.gabc_headers.specs.Parts.{HeaderPart, header, unended, is_good_name}
+use Rattle.gabc_headers.specs.Parts.{HeaderPart, is_good_name}
 use Rattle.gabc_headers.specs.declared.characters.Run.{Run}
-use Rattle.gabc_headers.specs.declared.characters.Run.TheVariants.{Text}
 use Rattle.gabc_headers.specs.declared.characters.HeaderChar.{HeaderChar}
-use Rattle.gabc_headers.specs.declared.characters.HeaderChar.TheVariants.{Semicolon, Percent, Blank, LineEnd, Colon}
+use Rattle.gabc_headers.specs.declared.characters.HeaderChar.TheVariants.{Percent, LineEnd}
 use Rattle.gabc_headers.specs.declared.part_machine.PartState.{PartState}
 use Rattle.gabc_headers.specs.declared.part_machine.PartState.TheVariants.{Name, Skip, Value}
 use Rattle.gabc_headers.specs.declared.part_machine.PartMachine.{PartMachine}
@@ -14,7 +13,7 @@ use Rattle.gabc_headers.specs.declared.part_machine.Trim.{Trim}
 use Rattle.gabc_headers.specs.declared.events.HeaderEvent.{HeaderEvent}
 use Rattle.gabc_headers.specs.declared.events.HeaderEvent.TheVariants.{LeftOut, Header}
 use Rattle.gabc_headers.specs.machine.Characters.{header_char_of, is_mark_run}
-use Rattle.gabc_headers.specs.machine.PartMachine.{next_trim, span_of, at_line_start, header_of, event_at_end, with_trim, in_value, next_line, name_step, skip_step, value_step, step_in, next_part_machine, open_in}
+use Rattle.gabc_headers.specs.machine.PartMachine.{next_trim, span_of, at_line_start, event_at_end, name_step, skip_step, value_step, next_part_machine, open_in}
 use Rattle.gabc_headers.specs.machine.Events.{IsLate, AreLate, open_part}
 use Rattle.gabc_headers.proofs.machines.EventsAreParts.{seen, last_in}
 use Rattle.gabc_headers.proofs.machines.SpansOfBytes.{span_order}
@@ -46,16 +45,11 @@ NearAt i s = Near (i + 1) s.0 × EventAt i s.1
 
 -- what ends at i or before ends at i + 1 or before
 span_next : (i : ℕ) (o : Option Span) → SpanIn i o → SpanIn (i + 1) o
-span_next i None h = tt
-span_next i (Some s) h = let a = h.1 in (h.0, omega arith)
+span_next i o h = grind arith
 
 -- the span of a trim ends no later than both of its ends
 span_to : (i : ℕ) (t : Trim) → t.from ≤ i → t.to ≤ i → (span_of t).to ≤ i
-span_to i t a b = by (nat_lt t.to t.from)
-  where
-    by : (x : Bool) → cond x t.from t.to ≤ i
-    by true = a
-    by false = b
+span_to i t a b = grind arith
 
 -- a machine at the start of a line is near
 pub near_fresh : (line i : ℕ) → Near i (at_line_start line i)
@@ -64,13 +58,11 @@ near_fresh line i = record { from = le_refl i; to = le_refl i; name = tt }
 module _ (rd : PartMachine) (i : ℕ) (h : Near i rd) where
   -- a trim begins at the next character or before
   from_after : (b : Bool) → cond b (i + 1) rd.trim.from ≤ i + 1
-  from_after true = le_refl (i + 1)
-  from_after false = let x = h.from in omega arith
+  from_after b = grind arith
 
   -- a trim ends at the next character or before
   to_after : (last : Bool) → cond last rd.trim.to (i + 1) ≤ i + 1
-  to_after true = let x = h.to in omega arith
-  to_after false = le_refl (i + 1)
+  to_after last = grind arith
 
   -- a machine whose trim grows stays near
   near_trim : (st : PartState) (line : ℕ) (a b : Bool) → Near (i + 1) (record rd { state = st; line = line; trim = next_trim rd.trim (i + 1) a b })
@@ -82,81 +74,37 @@ module _ (rd : PartMachine) (i : ℕ) (h : Near i rd) where
 
   -- a header that ends at i is known at i
   finish_at : EventAt i (event_at_end rd i)
-  finish_at = by rd.name h.name
-    where
-      by : (o : Option Span) → SpanIn i o → EventAt i (header_of rd.header rd.trim i o)
-      by None n = tt
-      by (Some s) n = (n.0, n.1, span_order rd.trim, span_to i rd.trim h.from h.to, refl)
+  finish_at = grind (arith, span_order, span_to)
 
   -- a line that is left out at i is known at i
   left_at : (b : Bool) → EventAt i (cond b None (Some (LeftOut rd.line i)))
-  left_at true = tt
-  left_at false = refl
-
-  -- of two steps the one that is taken
-  two : (b : Bool) (s t : PartMachine × Option HeaderEvent) → NearAt i s → NearAt i t → NearAt i (cond b s t)
-  two true s t x y = x
-  two false s t x y = y
+  left_at b = grind arith
 
   -- a step in a name
   near_name : (k : HeaderChar) (good : Bool) → NearAt i (name_step rd k i (i + 1) good)
-  near_name LineEnd good = (near_fresh (rd.line + 1) (i + 1), left_at rd.trim.leading)
-  near_name Percent good = by rd.trim.leading
-    where
-      by : (b : Bool) → NearAt i (cond b (record rd { state = Skip }) (with_trim rd (i + 1) false false), None)
-      by true = (near_same Skip, tt)
-      by false = (near_trim rd.state rd.line false false, tt)
-  near_name Colon good = (record { from = le_refl (i + 1); to = le_refl (i + 1); name = by good }, left_at good)
-    where
-      by : (b : Bool) → SpanIn (i + 1) (cond b (Some (span_of rd.trim)) None)
-      by true = (span_order rd.trim, (let x = span_to i rd.trim h.from h.to in omega arith))
-      by false = tt
-  near_name Blank good = (near_trim rd.state rd.line true true, tt)
-  near_name _ good = (near_trim rd.state rd.line false false, tt)
+  near_name k good = grind (arith, near_fresh, left_at, near_same, near_trim, span_order, span_to)
 
   -- a step in a value
   near_value : (long : Bool) (run : Run) (k : HeaderChar) → NearAt i (value_step rd long run k i (i + 1))
-  near_value long run LineEnd = two (is_mark_run run) (at_line_start (rd.line + 1) (i + 1), event_at_end rd i) (next_line rd (i + 1), None)
-      (near_fresh (rd.line + 1) (i + 1), finish_at) (near_trim (Value true Text) (rd.line + 1) true true, tt)
-  near_value long run Percent = two (is_mark_run run) (record rd { state = Skip }, event_at_end rd i) (in_value rd long Text (i + 1) false false, None)
-      (near_same Skip, finish_at) (near_trim (Value long Text) rd.line false false, tt)
-  near_value long run Blank = (near_trim _ rd.line true true, tt)
-  near_value long run Semicolon = (near_trim _ rd.line false true, tt)
-  near_value long run _ = (near_trim _ rd.line false false, tt)
+  near_value long run k = grind (arith, near_fresh, finish_at, near_trim, near_same)
 
   -- a step in a line that is skipped
   near_skip : (k : HeaderChar) → NearAt i (skip_step rd k (i + 1))
-  near_skip LineEnd = (near_fresh (rd.line + 1) (i + 1), tt)
-  near_skip _ = (near_same rd.state, tt)
+  near_skip k = grind (arith, near_fresh, near_same)
 
   -- each step
   pub near_step : (k : HeaderChar) (good : Bool) → NearAt i (next_part_machine rd k i (i + 1) good)
-  near_step k good = by rd.state
-    where
-      by : (st : PartState) → NearAt i (step_in st rd k i (i + 1) good)
-      by Name = near_name k good
-      by Skip = near_skip k
-      by (Value long run) = near_value long run k
+  near_step k good = grind (arith, near_name, near_skip, near_value)
 
   -- what the end emits is known there
   pub near_last : EventAt i (last_in rd.state rd i)
-  near_last = by rd.state
-    where
-      by : (st : PartState) → EventAt i (last_in st rd i)
-      by Name = left_at rd.trim.leading
-      by Skip = tt
-      by (Value long run) = of (is_mark_run run)
-        where
-          of : (b : Bool) → EventAt i (cond b (event_at_end rd i) None)
-          of true = finish_at
-          of false = tt
+  near_last = grind (arith, left_at, finish_at)
 
 -- ---- what is not emitted yet becomes known later
 
 -- a part that is late for i + 1 is late for i
 late_weak : (i : ℕ) (p : HeaderPart) → IsLate (i + 1) p → IsLate i p
-late_weak i (unended k) h = tt
-late_weak i _ h = omega arith
+late_weak i p h = grind arith
 
 -- so are many
 pub lates_weak : (i : ℕ) (ps : List HeaderPart) → AreLate (i + 1) ps → AreLate i ps
@@ -165,14 +113,11 @@ lates_weak i (p ∷ ps) h = (late_weak i p h.0, lates_weak i ps h.1)
 
 -- what is emitted at i is late for i
 pub late_seen : (text : List ℕ) (i : ℕ) (e : Option HeaderEvent) (rest : List HeaderPart) → EventAt i e → AreLate i rest → AreLate i (seen text e ++ rest)
-late_seen text i None rest a h = h
-late_seen text i (Some (LeftOut k p)) rest a h = (omega arith, h)
-late_seen text i (Some (Header k name value p)) rest a h = (let x = a.4 in omega arith, h)
+late_seen text i e rest a h = grind arith
 
 -- an open value is late for all points
 pub open_late : (i : ℕ) (o : Option ℕ) → AreLate i (open_part o)
-open_late i None = tt
-open_late i (Some k) = (tt, tt)
+open_late i o = grind arith
 
 -- what is left to emit from i on
 pub record Later (all : List HeaderPart) (i : ℕ) (done : List HeaderPart) : Type 0 where
@@ -186,11 +131,7 @@ drop_next text r i c e = sym (drop-drop 1 i text) ∙ ap (drop 1) e
 
 -- the parts that are not emitted before i become known at i or later
 pub later : (all : List HeaderPart) (text r : List ℕ) (i : ℕ) (rd : PartMachine) (done : List HeaderPart) → drop i text ≡ r → StandsIn all text rd.state r i rd done → Near i rd → Later all i done
-later all text [] i rd done d h n = record {
-  rest = seen text (last_in rd.state rd i) ++ open_part (open_in rd.state rd.header);
-  whole = the_end all text i rd done h ∙ append_assoc done (seen text (last_in rd.state rd i)) (open_part (open_in rd.state rd.header));
-  late = late_seen text i (last_in rd.state rd i) (open_part (open_in rd.state rd.header)) (near_last rd i n) (open_late i (open_in rd.state rd.header));
-}
+later all text [] i rd done d h n = grind (arith, the_end, append_assoc, late_seen, near_last, open_late)
 later all text (c ∷ r) i rd done d h n =
     let good : Bool = is_good_name (slice_range text rd.trim.from rd.trim.to) in
     let s : PartMachine × Option HeaderEvent = next_part_machine rd (header_char_of c) i (i + 1) good in
@@ -216,54 +157,17 @@ is_quiet rd = quiet_in rd.state rd.trim.leading
 
 -- after an LF the machine is quiet
 pub quiet_line : (rd : PartMachine) (i next : ℕ) (good : Bool) → is_quiet (next_part_machine rd LineEnd i next good).0 ≡ true
-quiet_line rd i next good = by rd.state
-  where
-    by : (st : PartState) → is_quiet (step_in st rd LineEnd i next good).0 ≡ true
-    by Name = refl
-    by Skip = refl
-    by (Value long run) = of (is_mark_run run)
-      where
-        of : (b : Bool) → is_quiet (cond {A = PartMachine × Option HeaderEvent} b (at_line_start (rd.line + 1) next, event_at_end rd i) (next_line rd next, None)).0 ≡ true
-        of true = refl
-        of false = refl
+quiet_line rd i next good = grind arith
 
 module _ (rd : PartMachine) (i : ℕ) where
   -- a `%` there makes nothing known
   pub quiet_event : (next : ℕ) (good : Bool) → is_quiet rd ≡ true → (next_part_machine rd Percent i next good).1 ≡ None
-  quiet_event next good h = by rd.state h
-    where
-      by : (st : PartState) → quiet_in st rd.trim.leading ≡ true → (step_in st rd Percent i next good).1 ≡ None
-      by Name h = refl
-      by Skip h = refl
-      by (Value long run) h = of (is_mark_run run) h
-        where
-          of : (b : Bool) → not b ≡ true → (cond {A = PartMachine × Option HeaderEvent} b (record rd { state = Skip }, event_at_end rd i) (in_value rd long Text next false false, None)).1 ≡ None
-          of true h = absurd (cc)
-          of false h = refl
+  quiet_event next good h = grind arith
 
   -- and opens and closes no value
   pub quiet_open : (next : ℕ) (good : Bool) → is_quiet rd ≡ true → open_in rd.state rd.header ≡ open_in (next_part_machine rd Percent i next good).0.state (next_part_machine rd Percent i next good).0.header
-  quiet_open next good h = by rd.state h
-    where
-      by : (st : PartState) → quiet_in st rd.trim.leading ≡ true → open_in st rd.header ≡ open_in (step_in st rd Percent i next good).0.state (step_in st rd Percent i next good).0.header
-      by Name h = ap (λ (b : Bool). open_in (cond b (record rd { state = Skip }) (with_trim rd next false false)).state (cond b (record rd { state = Skip }) (with_trim rd next false false)).header) (sym h)
-      by Skip h = absurd (cc)
-      by (Value long run) h = of (is_mark_run run) h
-        where
-          of : (b : Bool) → not b ≡ true → cond b None (Some rd.header) ≡ open_in (cond {A = PartMachine × Option HeaderEvent} b (record rd { state = Skip }, event_at_end rd i) (in_value rd long Text next false false, None)).0.state
-              (cond {A = PartMachine × Option HeaderEvent} b (record rd { state = Skip }, event_at_end rd i) (in_value rd long Text next false false, None)).0.header
-          of true h = absurd (cc)
-          of false h = refl
+  quiet_open next good h = grind arith
 
   -- and the end emits nothing there
   pub quiet_last : is_quiet rd ≡ true → last_in rd.state rd i ≡ None
-  quiet_last h = by rd.state h
-    where
-      by : (st : PartState) → quiet_in st rd.trim.leading ≡ true → last_in st rd i ≡ None
-      by Name h = ap (λ (b : Bool). cond b None (Some (LeftOut rd.line i))) h
-      by Skip h = refl
-      by (Value long run) h = of (is_mark_run run) h
-        where
-          of : (b : Bool) → not b ≡ true → cond b (event_at_end rd i) None ≡ None
-          of true h = absurd (cc)
-          of false h = refl
+  quiet_last h = grind arith

@@ -1,9 +1,8 @@
 -- The events emitted so far, and the parts that they are.
-use Rattle.std.proofs.Common.{◌≡◌, ℕ, ◌+◌, List, [], ◌∷◌, ◌++◌, Option, Some, None, refl, sym, subst, arith, append-nil}
+use Rattle.std.proofs.Common.{◌≡◌, ℕ, ◌+◌, List, [], ◌∷◌, ◌++◌, Option, refl, arith, append-nil}
 use Rattle.gabc_headers.specs.Parts.{HeaderPart, left_out, header, unended}
 use Rattle.gabc_headers.specs.Heads.{open_line}
 use Rattle.gabc_headers.specs.declared.events.HeaderEvent.{HeaderEvent}
-use Rattle.gabc_headers.specs.declared.events.HeaderEvent.TheVariants.{LeftOut, Header}
 use Rattle.gabc_headers.specs.machine.Events.{IsEventOf, AreEventsOf, IsEarly, AreEarly, open_part, with_event}
 use Rattle.gabc_headers.proofs.machines.EventsAreParts.{seen}
 use Rattle.gabc_headers.proofs.machines.SpansOfBytes.{bytes_at, holds_at}
@@ -20,14 +19,11 @@ emit_push t (d ∷ es) [] e p h x = absurd h
 -- a step emits what is seen of it
 pub emit_step : (t head back : List ℕ) (i : ℕ) (es : List HeaderEvent) (events : List HeaderPart) (e : Option HeaderEvent) → t ≡ head ++ back → EventAt i e → AreEventsOf t es events
     → AreEventsOf t (with_event es (moved_event (bytes_at head) e)) (events ++ seen head e)
-emit_step t head back i es events None b a h = subst (λ (x : List HeaderPart). AreEventsOf t es x) (sym (append-nil events)) h
-emit_step t head back i es events (Some (LeftOut k p)) b a h = emit_push t es events (LeftOut k p) (left_out k p) h (refl, refl)
-emit_step t head back i es events (Some (Header k n v p)) b a h = emit_push t es events _ _ h (refl, holds_at t head back n b a.0, holds_at t head back v b a.2, refl)
+emit_step t head back i es events e b a h = grind (arith, append-nil, emit_push, holds_at)
 
 -- a part that is early for i is early for i + 1
 early_weak : (i : ℕ) (p : HeaderPart) → IsEarly i p → IsEarly (i + 1) p
-early_weak i (unended k) h = h
-early_weak i _ h = omega arith
+early_weak i p h = grind arith
 
 -- so are many
 pub earlies_weak : (i : ℕ) (ps : List HeaderPart) → AreEarly i ps → AreEarly (i + 1) ps
@@ -41,9 +37,7 @@ early_push i (q ∷ ps) p h x = (h.0, early_push i ps p h.1 x)
 
 -- what is emitted at i becomes known before i + 1
 pub early_step : (head : List ℕ) (i : ℕ) (events : List HeaderPart) (e : Option HeaderEvent) → EventAt i e → AreEarly i events → AreEarly (i + 1) (events ++ seen head e)
-early_step head i events None a h = subst (λ (x : List HeaderPart). AreEarly (i + 1) x) (sym (append-nil events)) (earlies_weak i events h)
-early_step head i events (Some (LeftOut k p)) a h = early_push (i + 1) events (left_out k p) (earlies_weak i events h) (omega arith)
-early_step head i events (Some (Header k n v p)) a h = early_push (i + 1) events _ (earlies_weak i events h) (let x = a.4 in omega arith)
+early_step head i events e a h = grind (arith, append-nil, earlies_weak, early_push)
 
 -- no part that is emitted leaves a value open
 pub open_emitted : (i : ℕ) (events rest : List HeaderPart) → AreEarly i events → open_line (events ++ rest) ≡ open_line rest
@@ -54,7 +48,4 @@ open_emitted i (unended k ∷ events) rest h = absurd h.0
 
 -- the open value is after what the end emits
 pub open_rest : (head : List ℕ) (e : Option HeaderEvent) (o : Option ℕ) → open_line (seen head e ++ open_part o) ≡ o
-open_rest head (Some (LeftOut k p)) None = refl
-open_rest head (Some (LeftOut k p)) (Some j) = refl
-open_rest head _ None = refl
-open_rest head _ (Some j) = refl
+open_rest head e o = grind arith

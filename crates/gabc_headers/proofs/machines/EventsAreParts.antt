@@ -1,6 +1,5 @@
 -- What the part machine's events are parts of, where its spans count characters.
-use Rattle.std.proofs.Common.{◌≡◌, ℕ, ◌-◌, List, [], ◌∷◌, Bool, true, false, cond, nat_lt, Option, Some, None, refl, ap, arith, take, drop, slice_range, ◌<◌}
-use Rattle.std.proofs.lemmas.Bool.Decides.{nat_tests}
+use Rattle.std.proofs.Common.{◌≡◌, ℕ, List, [], ◌∷◌, cond, Option, Some, None, arith, slice_range}
 use Rattle.gabc_places.specs.declared.place.Span.{Span}
 use Rattle.gabc_headers.specs.declared.part_machine.PartMachine.{PartMachine}
 use Rattle.gabc_headers.specs.declared.part_machine.PartState.{PartState}
@@ -30,11 +29,4 @@ last_in (Value long run) r at = cond (is_mark_run run) (event_at_end r at) None
 
 -- the span of a trim, which is never the wrong way round, holds the same text
 pub span_slice : (text : List ℕ) (t : Trim) → text_at text (span_of t) ≡ slice_range text t.from t.to
-span_slice text t = by (nat_lt t.to t.from) refl
-  where
-    by : (b : Bool) → nat_lt t.to t.from ≡ b → slice_range text t.from (cond b t.from t.to) ≡ slice_range text t.from t.to
-    by true e =
-        let l : t.to < t.from = grind (arith, nat_tests) in
-        let n : t.from - t.from ≡ t.to - t.from = omega arith in
-        ap (λ (x : ℕ). take x (drop t.from text)) n
-    by false e = refl
+span_slice text t = grind arith

@@ -6,7 +6,6 @@ use Rattle.std.specs.Char.{len_utf8}
 use Rattle.gabc_places.proofs.PlacesOfAText.{next_after}
 use Rattle.gabc_places.specs.declared.place.Place.{Place}
 use Rattle.gabc_places.specs.Place.{place_after, next_place}
-use Rattle.gabc_headers.specs.declared.characters.HeaderChar.{HeaderChar}
 use Rattle.gabc_headers.specs.declared.characters.HeaderChar.TheVariants.{LineEnd}
 use Rattle.gabc_headers.specs.declared.part_machine.PartMachine.{PartMachine}
 use Rattle.gabc_headers.specs.declared.header_machine.HeaderMachine.{HeaderMachine}
@@ -115,8 +114,7 @@ module _ (t : List ℕ) (limit : ℕ) (done rest : List ℕ) (r : HeaderMachine)
 
   -- after an LF it is quiet
   quiet_next : (c == 10) ≡ true → is_quiet char_step.0 ≡ true
-  quiet_next q = ap (λ (k : HeaderChar). is_quiet (next_part_machine h.rd k (length done) (length done + 1) (is_good_span (span_of r.parts.trim))).0) (kind_line c q)
-      ∙ quiet_line h.rd (length done) (length done + 1) (is_good_span (span_of r.parts.trim))
+  quiet_next q = grind (arith, kind_line, quiet_line)
 
   -- a character more
   pub reads_more : bytes_len done + len_utf8 c ≤ limit → MachineReads t limit (done ++ c ∷ []) rest (machine_with r c (part_step r c).0) (with_event es (part_step r c).1)

@@ -49,23 +49,7 @@ AfterPush t limit rest es r (Ended end) = AreHeaderEvents limit t es end
 
 -- another `held` changes nothing of what the machine has read
 reheld : (t : List ℕ) (limit : ℕ) (done rest : List ℕ) (r : HeaderMachine) (es : List HeaderEvent) (b : Bool) → MachineReads t limit done rest r es → MachineReads t limit done rest (record r { held = b }) es
-reheld t limit done rest r es b h = record {
-  scan = h.scan;
-  rd = h.rd;
-  parts = h.parts;
-  near = h.near;
-  emitted = h.emitted;
-  stands = h.stands;
-  are_events_of = h.are_events_of;
-  early = h.early;
-  quiet = h.quiet;
-  begins = h.begins;
-  most = h.most;
-  point = h.point;
-  bytes = h.bytes;
-  fits = h.fits;
-  place = h.place;
-}
+reheld t limit done rest r es b h = grind arith
 
 -- what is no `%` at the start of a line begins no line `%%`
 no_score : (s p q : Bool) → (p && s) ≡ false → (s && (p && q)) ≡ false

@@ -1,5 +1,5 @@
 -- One step of the machine, by the kind of the character; and the end of the text.
-use Rattle.std.proofs.Common.{◌≡◌, ℕ, ◌+◌, List, [], ◌∷◌, ◌++◌, drop, Bool, true, false, cond, ◌&&◌, ◌==◌, ◌≢◌, Option, Some, None, refl, sym, ap, ◌∙◌, subst, arith, append-nil, slice_range}
+use Rattle.std.proofs.Common.{◌≡◌, ℕ, ◌+◌, List, [], ◌∷◌, ◌++◌, drop, Bool, true, false, cond, ◌&&◌, ◌==◌, ◌≢◌, Option, None, refl, sym, ap, ◌∙◌, subst, arith, append-nil, slice_range}
 use Rattle.std.proofs.lemmas.Bool.Decides.{nat_tests}
 use Rattle.std.proofs.lemmas.Bool.{eqb-true}
 use Rattle.gabc_headers.specs.Lines.{is_blank, is_bare}
@@ -74,13 +74,11 @@ module _ (all : List HeaderPart) (text : List ℕ) where
 
   -- nothing is bare after another character
   false_both : (a : Bool) (y : Bool) → (a && false) ≡ ((a && false) && y)
-  false_both true y = refl
-  false_both false y = refl
+  false_both a y = grind arith
 
   -- a blank changes nothing of what is bare
   true_both : (a y z : Bool) → y ≡ z → (a && y) ≡ ((a && true) && z)
-  true_both true y z e = e
-  true_both false y z e = refl
+  true_both a y z e = grind arith
 
   -- a step in a name
   in_name : (k : HeaderChar) (c : ℕ) (r : List ℕ) (i : ℕ) (rd : PartMachine) (done : List HeaderPart) (good : Bool) → IsKind c k → rd.state ≡ Name → drop (i + 1) text ≡ r
@@ -169,13 +167,4 @@ module _ (all : List HeaderPart) (text : List ℕ) where
   -- all parts are those emitted, what the end emits, and the open value
   pub the_end : (i : ℕ) (rd : PartMachine) (done : List HeaderPart) → StandsIn all text rd.state [] i rd done
       → all ≡ (done ++ seen text (last_in rd.state rd i)) ++ open_part (open_in rd.state rd.header)
-  the_end i rd done h = by rd.state h
-    where
-      by : (st : PartState) → StandsIn all text st [] i rd done → all ≡ (done ++ seen text (last_in st rd i)) ++ open_part (open_in st rd.header)
-      by Name h = end_name all text i rd done h
-      by Skip h = h.left ∙ sym (append-nil (done ++ []))
-      by (Value long run) h = of (is_mark_run run) refl
-        where
-          of : (b : Bool) → is_mark_run run ≡ b → all ≡ (done ++ seen text (cond b (event_at_end rd i) None)) ++ open_part (cond b None (Some rd.header))
-          of true e = end_marked all text long run i rd done e h
-          of false e = end_open all text long run i rd done e h
+  the_end i rd done h = grind (arith, end_name, append-nil, end_marked, end_open)

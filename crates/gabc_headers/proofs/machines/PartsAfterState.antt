@@ -1,8 +1,8 @@
 -- Where the machine stands: the parts of the text are those emitted so far, and those of what is left.
-use Rattle.std.proofs.Common.{◌≡◌, ℕ, ◌+◌, suc, List, [], ◌∷◌, ◌++◌, length, drop, Bool, true, false, cond, ◌&&◌, ◌==◌, Option, Some, None, refl, sym, ap, ◌∙◌, subst, arith, append_assoc, append-nil, length-append, slice_range}
+use Rattle.std.proofs.Common.{◌≡◌, ℕ, ◌+◌, List, [], ◌∷◌, ◌++◌, length, drop, Bool, true, false, cond, ◌&&◌, ◌==◌, Option, Some, None, refl, sym, ap, ◌∙◌, subst, arith, append_assoc, append-nil, length-append, slice_range}
 use Rattle.std.proofs.Math.Bool.{and-false}
-use Rattle.gabc_headers.specs.Lines.{mark_end, run_len, lines, on_first, is_blank, is_blank_or_lf, ends_no_value, is_bare, has_mark, before_mark, has_colon, before_colon, after_colon, trim_value, trim_name}
-use Rattle.gabc_headers.specs.Parts.{HeaderPart, left_out, header, unended, ended_parts, bad_name_parts, name_of, good_name, is_good_name}
+use Rattle.gabc_headers.specs.Lines.{mark_end, run_len, lines, is_blank, is_blank_or_lf, ends_no_value, is_bare, has_mark, before_mark, has_colon, before_colon, after_colon, trim_value, trim_name}
+use Rattle.gabc_headers.specs.Parts.{HeaderPart, unended, ended_parts, bad_name_parts, name_of, good_name, is_good_name}
 use Rattle.gabc_headers.specs.witness.Parts.{outside, within, parts}
 use Rattle.gabc_places.specs.declared.place.Span.{Span}
 use Rattle.gabc_headers.specs.declared.characters.Run.{Run}
@@ -34,11 +34,7 @@ later_lines (c ∷ r) = cond (c == 10) (lines r) (later_lines r)
 -- the lines are the first and those below it
 pub lines_split : (r : List ℕ) → lines r ≡ first_line r ∷ later_lines r
 lines_split [] = refl
-lines_split (c ∷ r) = by (c == 10) (lines_split r)
-  where
-    by : (b : Bool) → lines r ≡ first_line r ∷ later_lines r → cond b ([] ∷ lines r) (on_first c (lines r)) ≡ cond b [] (c ∷ first_line r) ∷ cond b (lines r) (later_lines r)
-    by true h = refl
-    by false h = ap (on_first c) h
+lines_split (c ∷ r) = grind (arith, lines_split r)
 
 -- ---- what the code's events stand for
 
@@ -100,24 +96,13 @@ module _ (all : List HeaderPart) (text : List ℕ) where
 
   -- the parts of what is left are those of the lines from here on
   pub begin_line : (r : List ℕ) (i k : ℕ) (done : List HeaderPart) → drop i text ≡ r → all ≡ done ++ parts outside k i (lines r) → InName r i (at_line_start k i) done
-  begin_line r i k done e h = record {
-    start = i;
-    prefix = [];
-    place = omega arith;
-    at = e;
-    trim = begin_trim is_blank is_blank i;
-    so = record { bare = λ x. refl; has = λ x. refl; before = λ x. refl; after = λ x. refl };
-    left = h ∙ ap (λ (x : List (List ℕ)). done ++ parts outside k i x) (lines_split r);
-  }
+  begin_line r i k done e h = grind (arith, begin_trim, lines_split)
 
   -- ---- the rest of a line that is skipped
 
   -- a character of a line that is skipped
   pub skip_more : (c : ℕ) (r : List ℕ) (i : ℕ) (rd : PartMachine) (done : List HeaderPart) → (c == 10) ≡ false → InSkip (c ∷ r) i rd done → InSkip r (i + 1) rd done
-  skip_more c r i rd done e h = record {
-    left = h.left ∙ (ap (λ (b : Bool). done ++ parts outside (rd.line + 1) (i + (length (cond b [] (c ∷ first_line r)) + 1)) (cond b (lines r) (later_lines r))) e
-        ∙ ap (λ (n : ℕ). done ++ parts outside (rd.line + 1) n (later_lines r)) (let x : i + (suc (length (first_line r)) + 1) ≡ (i + 1) + (length (first_line r) + 1) = omega arith in x));
-  }
+  skip_more c r i rd done e h = grind arith
 
   -- its LF
   pub skip_line : (r : List ℕ) (i : ℕ) (rd : PartMachine) (done : List HeaderPart) → drop (i + 1) text ≡ r → InSkip (10 ∷ r) i rd done → InName r (i + 1) (at_line_start (rd.line + 1) (i + 1)) done
@@ -163,45 +148,21 @@ module _ (all : List HeaderPart) (text : List ℕ) where
   -- the LF of a line without `:`
   pub name_line : (r : List ℕ) (i : ℕ) (rd : PartMachine) (done : List HeaderPart) → drop (i + 1) text ≡ r → InName (10 ∷ r) i rd done
       → InName r (i + 1) (at_line_start (rd.line + 1) (i + 1)) (done ++ seen text (cond rd.trim.leading None (Some (LeftOut rd.line i))))
-  name_line r i rd done e h = by rd.trim.leading refl
-    where
-      nil : h.prefix ++ [] ≡ h.prefix
-      nil = append-nil h.prefix
-
-      next : h.start + (length (h.prefix ++ []) + 1) ≡ i + 1
-      next = let a = h.place in let b = ap length nil in omega arith
-
-      by : (b : Bool) → rd.trim.leading ≡ b → InName r (i + 1) (at_line_start (rd.line + 1) (i + 1)) (done ++ seen text (cond b None (Some (LeftOut rd.line i))))
-      by true g = begin_line r (i + 1) (rd.line + 1) (done ++ []) e (h.left
-          ∙ (ap (λ (x : List HeaderPart). done ++ x) (skipped_parts (h.prefix ++ []) rd.line h.start (lines r) (h.so.bare [] ∙ ap (λ (x : Bool). x && true) g))
-          ∙ (ap (λ (n : ℕ). done ++ parts outside (rd.line + 1) n (lines r)) next ∙ ap (λ (x : List HeaderPart). x ++ parts outside (rd.line + 1) (i + 1) (lines r)) (sym (append-nil done)))))
-      by false g = begin_line r (i + 1) (rd.line + 1) (done ++ left_out rd.line i ∷ []) e (h.left
-          ∙ (ap (λ (x : List HeaderPart). done ++ x) (colonless_parts (h.prefix ++ []) rd.line h.start (lines r) (h.so.bare [] ∙ ap (λ (x : Bool). x && true) g) (h.so.has []))
-          ∙ (ap (λ (n : ℕ). done ++ left_out rd.line (h.start + length (h.prefix ++ [])) ∷ parts outside (rd.line + 1) n (lines r)) next
-          ∙ (ap (λ (n : ℕ). done ++ left_out rd.line n ∷ parts outside (rd.line + 1) (i + 1) (lines r)) (let a = h.place in let b = ap length nil in let x : h.start + length (h.prefix ++ []) ≡ i = omega arith in x)
-          ∙ sym (append_assoc done (left_out rd.line i ∷ []) (parts outside (rd.line + 1) (i + 1) (lines r)))))))
+  name_line r i rd done e h = grind (arith, append-nil, begin_line, skipped_parts, colonless_parts, append_assoc)
 
   -- the `%` of a line of comment
   pub name_percent : (r : List ℕ) (i : ℕ) (rd : PartMachine) (done : List HeaderPart) → rd.trim.leading ≡ true → InName (37 ∷ r) i rd done → InSkip r (i + 1) (record rd { state = Skip }) done
-  name_percent r i rd done g h = record {
-    left = h.left ∙ (ap (λ (x : List HeaderPart). done ++ x) (skipped_parts (h.prefix ++ 37 ∷ first_line r) rd.line h.start (later_lines r) (h.so.bare (37 ∷ first_line r) ∙ ap (λ (x : Bool). x && true) g))
-        ∙ ap (λ (n : ℕ). done ++ parts outside (rd.line + 1) n (later_lines r)) next);
-  }
-    where
-      next : h.start + (length (h.prefix ++ 37 ∷ first_line r) + 1) ≡ (i + 1) + (length (first_line r) + 1)
-      next = let a = h.place in let b = length-append h.prefix (37 ∷ first_line r) in omega arith
+  name_percent r i rd done g h = grind (arith, skipped_parts, length-append)
 
   -- ---- the `:` after a name
 
   -- a name that is left out is emitted at the `:`
   events_name : (good : Bool) (nm : List ℕ) (k i : ℕ) → good ≡ is_good_name nm → bad_name_parts k (good_name nm) i ≡ seen text (cond good None (Some (LeftOut k i)))
-  events_name true nm k i e = rw (← e) refl
-  events_name false nm k i e = rw (← e) refl
+  events_name good nm k i e = grind arith
 
   -- a name that is kept is what its span holds
   kept_name : (good : Bool) (nm : List ℕ) (s : Span) → good ≡ is_good_name nm → text_at text s ≡ nm → good_name nm ≡ named_as text (cond good (Some s) None)
-  kept_name true nm s e f = rw (← e) (ap (λ (x : List ℕ). Some x) (sym f))
-  kept_name false nm s e f = rw (← e) refl
+  kept_name good nm s e f = grind arith
 
   -- the `:` after a name
   pub name_colon : (r : List ℕ) (i : ℕ) (rd : PartMachine) (done : List HeaderPart) (good : Bool) → drop (i + 1) text ≡ r → good ≡ is_good_name (slice_range text rd.trim.from rd.trim.to)
@@ -279,14 +240,12 @@ module _ (all : List HeaderPart) (text : List ℕ) where
   -- a line of a value without a mark
   unmarked : (long : Bool) (j : ℕ) (o : Option (List ℕ)) (s : List ℕ) (k n : ℕ) (l : List ℕ) (ls : List (List ℕ)) → has_mark (wanted long) l ≡ false
       → value_left long j o s k n l ls ≡ parts (within j o (s ++ l)) (k + 1) (n + (length l + 1)) ls
-  unmarked long j o s k n l ls h = ap (λ (b : Bool). cond b (ended_parts j o (s ++ before_mark (wanted long) l) (n + mark_end (wanted long) l)) []
-      ++ parts (cond b outside (within j o (s ++ l))) (k + 1) (n + (length l + 1)) ls) h
+  unmarked long j o s k n l ls h = grind arith
 
   -- a line of a value with a mark
   marked : (long : Bool) (j : ℕ) (o : Option (List ℕ)) (s : List ℕ) (k n : ℕ) (l : List ℕ) (ls : List (List ℕ)) → has_mark (wanted long) l ≡ true
       → value_left long j o s k n l ls ≡ ended_parts j o (s ++ before_mark (wanted long) l) (n + mark_end (wanted long) l) ++ parts outside (k + 1) (n + (length l + 1)) ls
-  marked long j o s k n l ls h = ap (λ (b : Bool). cond b (ended_parts j o (s ++ before_mark (wanted long) l) (n + mark_end (wanted long) l)) []
-      ++ parts (cond b outside (within j o (s ++ l))) (k + 1) (n + (length l + 1)) ls) h
+  marked long j o s k n l ls h = grind arith
 
   -- the LF of a line of a value without a mark
   pub value_line : (long : Bool) (run : Run) (r : List ℕ) (i : ℕ) (rd : PartMachine) (done : List HeaderPart) → is_mark_run run ≡ false
@@ -319,15 +278,12 @@ module _ (all : List HeaderPart) (text : List ℕ) where
   -- a header that ends is emitted with what its spans hold
   emitted_end : (o : Option Span) (j i p : ℕ) (t : Trim) (v w : List ℕ) → p ≡ i → trim_value v ≡ w → w ≡ slice_range text t.from t.to
       → ended_parts j (named_as text o) v p ≡ seen text (header_of j t i o)
-  emitted_end None j i p t v w e f g = refl
-  emitted_end (Some s) j i p t v w e f g = rw (e, f, g) (ap (λ (x : List ℕ). header j (text_at text s) x i ∷ []) (sym (span_slice text t)))
+  emitted_end o j i p t v w e f g = grind (arith, span_slice)
 
   -- the header that ends at the mark is the one that is emitted
   closed : (long : Bool) (run : Run) (c r l : List ℕ) (i : ℕ) (rd : PartMachine) (done : List HeaderPart) (h : InValue long run c i rd done) → Closed long h.prefix l → run_len l ≡ 0
       → ended_parts rd.header (named_as text rd.name) (h.above ++ before_mark (wanted long) (h.prefix ++ l)) (h.line_start + mark_end (wanted long) (h.prefix ++ l)) ≡ seen text (event_at_end rd i)
-  closed long run c r l i rd done h z q = emitted_end rd.name rd.header i (h.line_start + mark_end (wanted long) (h.prefix ++ l)) rd.trim (h.above ++ before_mark (wanted long) (h.prefix ++ l)) (trim_value (h.above ++ h.prefix))
-      (let a = z.end in let b = h.place in omega arith) (z.value h.above)
-      (sym (trim_slice is_blank_or_lf ends_no_value h.start (h.above ++ h.prefix) c text rd.trim h.trim h.at))
+  closed long run c r l i rd done h z q = grind (arith, emitted_end, trim_slice)
 
   -- the LF after a mark
   pub value_ends : (long : Bool) (run : Run) (r : List ℕ) (i : ℕ) (rd : PartMachine) (done : List HeaderPart) → drop (i + 1) text ≡ r → is_mark_run run ≡ true
@@ -359,13 +315,7 @@ module _ (all : List HeaderPart) (text : List ℕ) where
 
   -- the text ends in a line without `:`
   pub end_name : (i : ℕ) (rd : PartMachine) (done : List HeaderPart) → InName [] i rd done → all ≡ (done ++ seen text (cond rd.trim.leading None (Some (LeftOut rd.line i)))) ++ []
-  end_name i rd done h = by rd.trim.leading refl
-    where
-      by : (b : Bool) → rd.trim.leading ≡ b → all ≡ (done ++ seen text (cond b None (Some (LeftOut rd.line i)))) ++ []
-      by true g = h.left ∙ (ap (λ (x : List HeaderPart). done ++ x) (skipped_parts (h.prefix ++ []) rd.line h.start [] (h.so.bare [] ∙ ap (λ (x : Bool). x && true) g)) ∙ sym (append-nil (done ++ [])))
-      by false g = h.left ∙ (ap (λ (x : List HeaderPart). done ++ x) (colonless_parts (h.prefix ++ []) rd.line h.start [] (h.so.bare [] ∙ ap (λ (x : Bool). x && true) g) (h.so.has []))
-          ∙ (ap (λ (n : ℕ). done ++ left_out rd.line n ∷ []) (let a = h.place in let b = length-append h.prefix [] in let x : h.start + length (h.prefix ++ []) ≡ i = omega arith in x)
-          ∙ sym (append-nil (done ++ left_out rd.line i ∷ []))))
+  end_name i rd done h = grind (arith, skipped_parts, append-nil, colonless_parts, length-append)
 
   -- the text ends after a mark
   pub end_marked : (long : Bool) (run : Run) (i : ℕ) (rd : PartMachine) (done : List HeaderPart) → is_mark_run run ≡ true → InValue long run [] i rd done → all ≡ (done ++ seen text (event_at_end rd i)) ++ []

@@ -1,5 +1,5 @@
 -- Spans in bytes, over spans in characters of a prefix of the text.
-use Rattle.std.proofs.Common.{◌≡◌, ℕ, ◌+◌, ◌-◌, ◌<◌, ◌≤◌, suc, zero, zero-le, take_all, List, [], ◌∷◌, ◌++◌, take, drop, Bool, true, false, cond, ◌&&◌, nat_lt, nat_le, refl, sym, ap, ◌∙◌, arith, append_assoc, slice_range}
+use Rattle.std.proofs.Common.{◌≡◌, ℕ, ◌+◌, ◌-◌, ◌<◌, ◌≤◌, suc, zero, zero-le, take_all, List, [], ◌∷◌, ◌++◌, take, drop, Bool, true, false, ◌&&◌, nat_lt, nat_le, refl, sym, ap, ◌∙◌, arith, append_assoc, slice_range}
 use Rattle.std.proofs.lemmas.Bool.Decides.{nat_tests}
 use Rattle.std.proofs.lemmas.List.{take-append-drop}
 use Rattle.std.proofs.lemmas.List.Sums.{sum_by-cons}
@@ -24,9 +24,7 @@ pub take_split : (text : List ℕ) (a b : ℕ) → a ≤ b → take b text ≡ t
 take_split text zero b l = let e : b ≡ b - 0 = omega arith in ap (λ (x : ℕ). take x text) e
 take_split text (suc a) zero l = absurd (omega arith)
 take_split [] (suc a) (suc b) l = sym (take_all (suc b - suc a) [] zero-le)
-take_split (c ∷ text) (suc a) (suc b) l =
-    let e : b - a ≡ suc b - suc a = omega arith in
-    ap (λ (x : List ℕ). c ∷ x) (take_split text a b (omega arith) ∙ ap (λ (x : ℕ). take a text ++ take x (drop a text)) e)
+take_split (c ∷ text) (suc a) (suc b) l = grind (arith, take_split text a b (omega arith))
 
 -- the bytes up to b are those up to a and those between
 pub bytes_between : (text : List ℕ) (a b : ℕ) → a ≤ b → bytes_at text b ≡ bytes_at text a + bytes_len (slice_range text a b)
@@ -49,11 +47,7 @@ holds_at t head back s e l = record {
 
 -- the span of a trim is in order
 pub span_order : (t : Trim) → (span_of t).from ≤ (span_of t).to
-span_order t = by (nat_lt t.to t.from) refl
-  where
-    by : (b : Bool) → nat_lt t.to t.from ≡ b → t.from ≤ cond b t.from t.to
-    by true e = omega arith
-    by false e = grind (arith, nat_tests)
+span_order t = grind arith
 
 -- whether a name is good, by the bytes of its span
 pub good_span : (head : List ℕ) (s : Span) → s.from ≤ s.to → is_good_span (moved_span (bytes_at head) s) ≡ is_good_name (text_at head s)

@@ -20,13 +20,7 @@ module _ (out : ℕ → Bool) where
   -- a list trimmed at its end is a prefix
   pub trim_end-take : (l : List ℕ) → trim_end out l ≡ take (kept_len out l) l
   trim_end-take [] = refl
-  trim_end-take (c ∷ l) = by (out c) (trim_end out l) refl (trim_end-take l)
-    where
-      by : (b : Bool) (r : List ℕ) → r ≡ trim_end out l → trim_end out l ≡ take (kept_len out l) l → unless_last b c r ≡ take (length (unless_last b c r)) (c ∷ l)
-      by true [] e h = refl
-      by false [] e h = refl
-      by true (d ∷ r) e h = ap (λ (x : List ℕ). c ∷ x) (e ∙ (h ∙ ap (λ (x : List ℕ). take (length x) l) (sym e)))
-      by false (d ∷ r) e h = ap (λ (x : List ℕ). c ∷ x) (e ∙ (h ∙ ap (λ (x : List ℕ). take (length x) l) (sym e)))
+  trim_end-take (c ∷ l) = grind (arith, trim_end-take l)
 
   -- a character more: left out, it changes nothing; else all is kept
   pub trim_end-out : (l : List ℕ) (c : ℕ) → out c ≡ true → trim_end out (l ++ c ∷ []) ≡ trim_end out l
@@ -50,12 +44,7 @@ module _ (out : ℕ → Bool) where
   -- one more after one that is kept
   pub lead_len-more : (l : List ℕ) (c : ℕ) → all_out out l ≡ false → lead_len out (l ++ c ∷ []) ≡ lead_len out l
   lead_len-more [] c h = absurd (cc)
-  lead_len-more (d ∷ l) c h = by (out d) h (lead_len-more l c)
-    where
-      by : (b : Bool) → (b && all_out out l) ≡ false → (all_out out l ≡ false → lead_len out (l ++ c ∷ []) ≡ lead_len out l)
-          → cond b (suc (lead_len out (l ++ c ∷ []))) 0 ≡ cond b (suc (lead_len out l)) 0
-      by true h r = ap suc (r h)
-      by false h r = refl
+  lead_len-more (d ∷ l) c h = grind (arith, lead_len-more l c)
 
   -- where all pass
   pub lead_len-all : (l : List ℕ) → all_out out l ≡ true → lead_len out l ≡ length l

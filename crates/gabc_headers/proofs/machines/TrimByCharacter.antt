@@ -1,9 +1,9 @@
 -- The machine's trim, one character after the other.
-use Rattle.std.proofs.Common.{◌≡◌, ℕ, ◌+◌, ◌-◌, ◌≤◌, suc, List, [], ◌∷◌, ◌++◌, length, take, drop, Bool, true, false, cond, ◌&&◌, refl, sym, ap, ◌∙◌, arith, length-append, length-drop, slice_range, drop-drop}
+use Rattle.std.proofs.Common.{◌≡◌, ℕ, ◌+◌, ◌-◌, ◌≤◌, List, [], ◌∷◌, ◌++◌, length, take, drop, Bool, true, false, cond, ◌&&◌, refl, sym, ap, ◌∙◌, arith, length-append, length-drop, slice_range, drop-drop}
 use Rattle.std.proofs.lemmas.List.{drop-append-le, take-append-le}
 use Rattle.std.proofs.lemmas.Bool.{and_parts}
 use Rattle.std.proofs.Math.Bool.{and-true, and_assoc}
-use Rattle.gabc_headers.specs.Lines.{trim_start, trim_end, unless_last}
+use Rattle.gabc_headers.specs.Lines.{trim_start, trim_end}
 use Rattle.gabc_headers.specs.declared.part_machine.Trim.{Trim}
 use Rattle.gabc_headers.specs.machine.PartMachine.{next_trim}
 use Rattle.gabc_headers.proofs.machines.TrimAsLoop.{all_out, lead_len, kept_len, trim_end-out, trim_end-kept, lead_len-more, lead_len-all, trim_both}
@@ -25,11 +25,7 @@ all_out-push out (d ∷ u) c = ap (λ (b : Bool). out d && b) (all_out-push out 
 
 -- one more after what is all left out
 lead_len-stop : (out : ℕ → Bool) (u : List ℕ) (c : ℕ) → all_out out u ≡ true → lead_len out (u ++ c ∷ []) ≡ length u + cond (out c) 1 0
-lead_len-stop out [] c h = by (out c)
-  where
-    by : (b : Bool) → cond b (suc 0) 0 ≡ 0 + cond b 1 0
-    by true = refl
-    by false = refl
+lead_len-stop out [] c h = grind arith
 lead_len-stop out (d ∷ u) c h =
     let f = and_parts (out d) (all_out out u) h in
     let e = lead_len-stop out u c f.1 in
@@ -56,21 +52,12 @@ trim_push lead last start u t c at a b h f g e = record {
 -- no more is kept than there is
 kept_le : (last : ℕ → Bool) (u : List ℕ) → kept_len last u ≤ length u
 kept_le last [] = omega arith
-kept_le last (c ∷ u) = by (last c) (trim_end last u) (kept_le last u)
-  where
-    by : (b : Bool) (r : List ℕ) → length r ≤ length u → length (unless_last b c r) ≤ suc (length u)
-    by true [] h = omega arith
-    by false [] h = omega arith
-    by b (d ∷ r) h = omega arith
+kept_le last (c ∷ u) = grind (arith, kept_le last u)
 
 -- no more is left out than there is
 lead_le : (lead : ℕ → Bool) (u : List ℕ) → lead_len lead u ≤ length u
 lead_le lead [] = omega arith
-lead_le lead (c ∷ u) = by (lead c) (lead_le lead u)
-  where
-    by : (b : Bool) → lead_len lead u ≤ length u → cond b (suc (lead_len lead u)) 0 ≤ suc (length u)
-    by true h = omega arith
-    by false h = omega arith
+lead_le lead (c ∷ u) = grind (arith, lead_le lead u)
 
 -- what is trimmed is that part of the text
 pub trim_slice : (lead last : ℕ → Bool) (start : ℕ) (u r text : List ℕ) (t : Trim) → TrimOf lead last start u t → drop start text ≡ u ++ r

@@ -1,5 +1,5 @@
 -- What a line's start says of its first mark, whatever follows.
-use Rattle.std.proofs.Common.{◌≡◌, ℕ, ◌+◌, ◌-◌, ◌≤◌, suc, zero, List, [], ◌∷◌, ◌++◌, length, Bool, true, false, ◌||◌, ◌&&◌, ◌==◌, ◌≢◌, nat_le, refl, sym, ap, ◌∙◌, arith, append_assoc, append-nil, length-append}
+use Rattle.std.proofs.Common.{◌≡◌, ℕ, ◌+◌, ◌-◌, ◌≤◌, suc, zero, List, [], ◌∷◌, ◌++◌, length, Bool, true, false, ◌||◌, ◌&&◌, ◌==◌, ◌≢◌, nat_le, refl, ap, arith, append_assoc, append-nil, length-append}
 use Rattle.std.proofs.lemmas.Bool.Decides.{nat_tests}
 use Rattle.std.proofs.lemmas.Bool.{and_parts}
 use Rattle.std.proofs.Math.Bool.{and-false, or-true}
@@ -37,20 +37,12 @@ pass_one m c l h = record { has = rw (h) refl; before = rw (h) refl; end = rw (h
 
 -- two prefixes passed after each other
 pub pass_more : (m : ℕ) (p q l : List ℕ) → Passed m p (q ++ l) → Passed m q l → Passed m (p ++ q) l
-pass_more m p q l a b = record {
-  has = rw (append_assoc) (a.has ∙ b.has);
-  before = rw (append_assoc p q l) (a.before ∙ (ap (λ (x : List ℕ). p ++ x) b.before ∙ sym (append_assoc p q (before_mark m l))));
-  end = ap (mark_end m) (append_assoc p q l) ∙ (let e = a.end in let f = b.end in let g = length-append p q in omega arith);
-}
+pass_more m p q l a b = grind (arith, append_assoc, length-append)
 
 -- a mark that begins after what is passed
 pub mark_here : (m : ℕ) (p l : List ℕ) → Passed m p l → is_mark m l ≡ true → Marked m p l
 mark_here m p [] a h = absurd (cc)
-mark_here m p (c ∷ l) a h = record {
-  has = a.has ∙ (rw (h) refl);
-  before = a.before ∙ (rw (h) (append-nil p));
-  end = a.end ∙ (rw (h) refl);
-}
+mark_here m p (c ∷ l) a h = grind (arith, append-nil)
 
 -- ---- runs and blanks
 
@@ -61,9 +53,7 @@ semis_more (suc n) l = ap (λ (x : List ℕ). 59 ∷ x) (semis_more n l)
 
 -- a blank is no `%` and no `;`
 by_blank : (x y : Bool) (c d : ℕ) → (c == 32) ≡ x → (c == 9) ≡ y → (x || y) ≡ true → d ≢ 32 → d ≢ 9 → (c == d) ≡ false
-by_blank true y c d e f h n m = grind (arith, nat_tests)
-by_blank false true c d e f h n m = grind (arith, nat_tests)
-by_blank false false c d e f h n m = absurd (cc)
+by_blank x y c d e f h n m = grind arith
 
 -- a blank is no other character
 pub blank_not : (c d : ℕ) → is_blank c ≡ true → d ≢ 32 → d ≢ 9 → (c == d) ≡ false

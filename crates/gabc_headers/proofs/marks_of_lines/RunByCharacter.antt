@@ -71,27 +71,11 @@ module _ (long : Bool) (p : List ℕ) where
 
   -- a `;` after a run that is too short
   short_semis : (h : RunOf long Short p) → RunOf long Enough (p ++ 59 ∷ [])
-  short_semis h =
-      let s = h.shape in
-      record {
-        prefix = h.prefix;
-        count = 2;
-        blanks = [];
-        split = tail p h.prefix (semis h.count ++ h.blanks) (59 ∷ []) h.split
-            ∙ ap (λ (x : List ℕ). h.prefix ++ x) (append_assoc (semis h.count) h.blanks (59 ∷ []) ∙ (ap (λ (x : List ℕ). semis h.count ++ (x ++ 59 ∷ [])) s.2 ∙ ap (λ (n : ℕ). semis n ++ 59 ∷ []) s.1));
-        shape = (two long, omega arith, refl);
-        passed = λ l. subst (λ (x : List ℕ). Passed (wanted long) h.prefix x)
-            (ap (λ (x : List ℕ). semis h.count ++ (x ++ 59 ∷ l)) s.2 ∙ ap (λ (n : ℕ). semis n ++ 59 ∷ l) s.1) (h.passed (59 ∷ l));
-      }
-    where
-      two : (b : Bool) → wanted b ≤ 2
-      two true = omega arith
-      two false = omega arith
+  short_semis h = grind (arith, tail, append_assoc)
 
   -- all of p, if no mark can begin in it
   all_passed : (run : Run) (h : RunOf long run p) (l : List ℕ) → Passed (wanted long) (semis h.count ++ h.blanks) l → Passed (wanted long) p l
-  all_passed run h l a = subst (λ (x : List ℕ). Passed (wanted long) x l) (sym h.split)
-      (pass_more (wanted long) h.prefix (semis h.count ++ h.blanks) l (subst (λ (x : List ℕ). Passed (wanted long) h.prefix x) (sym (append_assoc (semis h.count) h.blanks l)) (h.passed l)) a)
+  all_passed run h l a = grind (arith, pass_more, append_assoc)
 
   -- without a run all is passed
   text_passed : (h : RunOf long Text p) (l : List ℕ) → Passed (wanted long) p l
@@ -129,8 +113,7 @@ module _ (long : Bool) (p : List ℕ) where
 
   -- a character that is passed
   passed_on : (c : ℕ) → ((l : List ℕ) → Passed (wanted long) p (c ∷ l)) → (c == 59) ≡ false → RunOf long Text (p ++ c ∷ [])
-  passed_on c h e = text_run long (p ++ c ∷ [])
-      (λ l. pass_more (wanted long) p (c ∷ []) l (h l) (pass_one (wanted long) c l (rw (e) refl)))
+  passed_on c h e = grind (arith, text_run, pass_more, pass_one)
 
   -- a `;` that begins a run
   first_semi : (run : Run) → Shape long run 1 [] → ((l : List ℕ) → Passed (wanted long) p (59 ∷ l)) → RunOf long run (p ++ 59 ∷ [])
@@ -151,16 +134,7 @@ module _ (long : Bool) (p : List ℕ) where
 
   -- a blank after blanks
   spaced_blank : (h : RunOf long Spaced p) (c : ℕ) → is_blank c ≡ true → RunOf long Spaced (p ++ c ∷ [])
-  spaced_blank h c e =
-      let s = h.shape in
-      record {
-        prefix = h.prefix;
-        count = h.count;
-        blanks = h.blanks ++ c ∷ [];
-        split = tail2 p h.prefix (semis h.count) h.blanks (c ∷ []) h.split;
-        shape = (s.0, s.1, blanks_push h.blanks c s.2 e, s.3, s.4 ++ c ∷ [], ap (λ (x : List ℕ). x ++ c ∷ []) s.5);
-        passed = λ l. subst (λ (x : List ℕ). Passed (wanted long) h.prefix (semis h.count ++ x)) (sym (append_assoc h.blanks (c ∷ []) l)) (h.passed (c ∷ l));
-      }
+  spaced_blank h c e = grind (arith, tail2, blanks_push, append_assoc)
 
 -- ---- the table
 
@@ -183,10 +157,7 @@ run_other long Spaced p c e b h = passed_on long p c (λ l. spaced_passed long p
 
 -- a blank
 pub run_blank : (long : Bool) (run : Run) (p : List ℕ) (c : ℕ) → is_blank c ≡ true → RunOf long run p → RunOf long (next_run run long Blank) (p ++ c ∷ [])
-run_blank long Text p c e h = run_other long Text p c (blank_not c 59 e (omega arith) (omega arith)) (λ f. absurd (cc)) h
-run_blank long Short p c e h = run_other long Short p c (blank_not c 59 e (omega arith) (omega arith)) (λ f. absurd (cc)) h
-run_blank long Enough p c e h = enough_blank long p h c e
-run_blank long Spaced p c e h = spaced_blank long p h c e
+run_blank long run p c e h = grind (arith, run_other, blank_not, enough_blank, spaced_blank)
 
 -- ---- the line's end, or a `%`
 
@@ -235,13 +206,4 @@ run_closes long _ p l h e b = absurd (cc)
 
 -- at the end, the run that it takes for none is none
 pub run_open : (long : Bool) (run : Run) (p : List ℕ) → RunOf long run p → is_mark_run run ≡ false → has_mark (wanted long) p ≡ false
-run_open long Text p h e = ap (has_mark (wanted long)) (sym (append-nil p)) ∙ (text_passed long p h []).has
-run_open long Short p h e =
-    let s = h.shape in
-    let t : p ≡ h.prefix ++ (59 ∷ []) = h.split ∙ ap (λ (x : List ℕ). h.prefix ++ x) (ap (λ (n : ℕ). semis n ++ h.blanks) s.1 ∙ ap (λ (b : List ℕ). 59 ∷ b) s.2) in
-    let a = h.passed [] in
-    ap (has_mark (wanted long)) (h.split ∙ ap (λ (x : List ℕ). h.prefix ++ (semis h.count ++ x)) (sym (append-nil h.blanks)))
-    ∙ (a.has ∙ (ap (λ (x : List ℕ). has_mark (wanted long) (semis h.count ++ (x ++ []))) s.2
-    ∙ (ap (λ (n : ℕ). has_mark (wanted long) (semis n ++ [])) s.1 ∙ ap (λ (b : Bool). has_mark (wanted b) (59 ∷ [])) s.0)))
-run_open long Enough p h e = absurd (cc)
-run_open long Spaced p h e = absurd (cc)
+run_open long run p h e = grind (arith, append-nil, text_passed)

@@ -1,16 +1,16 @@
 -- The findings of a text's headers stand in order.
-use Rattle.std.proofs.Common.{◌≡◌, ℕ, ◌+◌, ◌<◌, ◌≤◌, ◌==◌, ◌||◌, ◌&&◌, not, suc, List, [], ◌∷◌, ◌++◌, Bool, true, false, cond, refl, sym, ap, ◌∙◌, arith, length, take, nat_lt, filter, map, Option, Some, None, inl, count_by, codes, zero, zero-add, lit<}
+use Rattle.std.proofs.Common.{◌≡◌, ℕ, ◌+◌, ◌<◌, ◌≤◌, ◌==◌, ◌||◌, ◌&&◌, not, suc, List, [], ◌∷◌, ◌++◌, Bool, true, false, cond, refl, sym, ap, ◌∙◌, arith, length, take, Option, Some, None, inl, count_by, codes, zero, zero-add, lit<}
 use Rattle.gabc_places.specs.declared.limits.Limits.{Limits}
-use Rattle.gabc_places.specs.declared.code.Code.TheVariants.{E5, W1, W2}
+use Rattle.gabc_places.specs.declared.code.Code.TheVariants.{W1}
 use Rattle.std.proofs.lemmas.List.Sums.{sum_by-append}
 use Rattle.gabc_places.specs.declared.code.Finding.{Finding}
 use Rattle.gabc_places.specs.Place.{place_after, is_line_feed}
 use Rattle.gabc_places.specs.Findings.{Known, findings_before, AreInOrder, ComeAfter, Stop, earliest}
-use Rattle.gabc_headers.specs.Lines.{lines, on_first, lines_len, head_of, has_score, is_score_line, is_bare, has_mark, before_mark, mark_end, has_colon, before_colon, after_colon, trim_value}
-use Rattle.gabc_headers.specs.Parts.{HeaderPart, left_out, header, name_of, ended_parts, bad_name_parts}
+use Rattle.gabc_headers.specs.Lines.{lines, on_first, lines_len, head_of, has_score, is_bare, has_mark, before_mark, mark_end, has_colon, before_colon, after_colon}
+use Rattle.gabc_headers.specs.Parts.{HeaderPart, left_out, name_of, ended_parts, bad_name_parts}
 use Rattle.gabc_headers.specs.witness.Parts.{LineContext, outside, within, parts, head_parts}
-use Rattle.gabc_headers.specs.Book.{is_kept, repeats, has_header, book_of}
-use Rattle.gabc_headers.specs.Heads.{head_len, findings_after, names_after, heads_of, findings_of, known_at, line_place}
+use Rattle.gabc_headers.specs.Book.{has_header, book_of}
+use Rattle.gabc_headers.specs.Heads.{head_len, findings_after, heads_of, findings_of, known_at}
 use Rattle.gabc_headers.specs.witness.Heads.{head_findings, name_findings, heads_by, head_stops}
 
 -- findings on rising lines, all after line k and before line m
@@ -42,12 +42,7 @@ lines_from j k (f ∷ fs) l h = ((let x : k < f.place.line = h.0 in omega arith)
 
 rise_known : (k m p : ℕ) (fs : List Known) → Rise k m fs → Lines k (findings_before p fs)
 rise_known k m p [] h = tt
-rise_known k m p (f ∷ fs) h = by (nat_lt f.point p) (rise_known f.finding.place.line m p fs h.1)
-  where
-    by : (b : Bool) → Lines f.finding.place.line (findings_before p fs)
-        → Lines k (map (λ (x : Known). x.finding) (cond b (f ∷ filter (λ (x : Known). nat_lt x.point p) fs) (filter (λ (x : Known). nat_lt x.point p) fs)))
-    by true r = (h.0, r)
-    by false r = lines_from k f.finding.place.line (findings_before p fs) (let x : k < f.finding.place.line = h.0 in omega arith) r
+rise_known k m p (f ∷ fs) h = grind (arith, rise_known f.finding.place.line m p fs h.1, lines_from)
 
 lines_order : (k : ℕ) (fs : List Finding) → Lines k fs → AreInOrder fs
 lines_order k [] h = tt
@@ -67,15 +62,7 @@ Fits (Some name) j i = j < i
 -- the header at line i, and parts after it
 header_rise : (s : List (List ℕ)) (i m : ℕ) (o : Option (List ℕ)) (v : List ℕ) (p : ℕ) (qs : List HeaderPart) (j : ℕ) → Fits o j i
     → ((t : List (List ℕ)) (h : ℕ) → h ≤ i → Rise h m (findings_after t qs)) → Rise j m (findings_after s (ended_parts i o v p ++ qs))
-header_rise s i m None v p qs j l r = r s j l
-header_rise s i m (Some name) v p qs j l r =
-    by (is_kept name (trim_value v)) (repeats s name) (known_at p (line_place i) W2) (known_at p (line_place i) E5) (findings_after (names_after s (header i name (trim_value v) p)) qs) refl refl
-    (r (names_after s (header i name (trim_value v) p)) i (omega arith))
-  where
-    by : (a b : Bool) (f g : Known) (ks : List Known) → f.finding.place.line ≡ i → g.finding.place.line ≡ i → Rise i m ks → Rise j m (cond a (cond b (f ∷ []) []) (g ∷ []) ++ ks)
-    by true true f g ks e d h = rw (e) (l, h)
-    by true false f g ks e d h = rise_from j i m ks (let x : j < i = l in omega arith) h
-    by false b f g ks e d h = rw (d) (l, h)
+header_rise s i m o v p qs j l r = grind (arith, rise_from)
 
 -- where the parts of a header's first line or of a line within a value lead
 module _ (m : ℕ) (qs : LineContext → List HeaderPart) where
@@ -83,28 +70,21 @@ module _ (m : ℕ) (qs : LineContext → List HeaderPart) where
   within_rise : (b : Bool) (s : List (List ℕ)) (i : ℕ) (o : Option (List ℕ)) (u v : List ℕ) (p j : ℕ) → Fits o j i
       → ((t : List (List ℕ)) (h : ℕ) → h ≤ i → Rise h m (findings_after t (qs outside))) → Rise j m (findings_after s (qs (within i o u)))
       → Rise j m (findings_after s (cond b (ended_parts i o v p) [] ++ qs (cond b outside (within i o u))))
-  within_rise true s i o u v p j l r w = header_rise s i m o v p (qs outside) j l r
-  within_rise false s i o u v p j l r w = w
+  within_rise b s i o u v p j l r w = grind (arith, header_rise)
 
   -- a line outside: skipped, without `:`, or a header's first line
   outside_rise : (bare colon mark : Bool) (s : List (List ℕ)) (k : ℕ) (o : Option (List ℕ)) (u v : List ℕ) (a p e j : ℕ) → j < k
       → ((t : List (List ℕ)) (h : ℕ) → h ≤ k → Rise h m (findings_after t (qs outside)))
       → ((t : List (List ℕ)) (h : ℕ) → Fits o h k → Rise h m (findings_after t (qs (within k o u))))
       → Rise j m (findings_after s (cond bare [] (cond colon (bad_name_parts k o a ++ cond mark (ended_parts k o v p) []) (left_out k e ∷ [])) ++ qs (cond (bare || (not colon || mark)) outside (within k o u))))
-  outside_rise true colon mark s k o u v a p e j l r w = r s j (omega arith)
-  outside_rise false false mark s k o u v a p e j l r w = (l, r s k (omega arith))
-  outside_rise false true true s k None u v a p e j l r w = (l, r s k (omega arith))
-  outside_rise false true true s k (Some n) u v a p e j l r w = header_rise s k m (Some n) v p (qs outside) j l r
-  outside_rise false true false s k None u v a p e j l r w = (l, w s k (omega arith))
-  outside_rise false true false s k (Some n) u v a p e j l r w = w s j l
+  outside_rise bare colon mark s k o u v a p e j l r w = grind (arith, header_rise)
 
 abbrev Starts : LineContext → ℕ → ℕ → Type 0
 Starts outside k j = j < k
 Starts (within i o v) k j = (i < k) × Fits o j i
 
 fits_below : (o : Option (List ℕ)) (i k j : ℕ) → i < k → Fits o j i → j < k
-fits_below None i k j l h = omega arith
-fits_below (Some n) i k j l h = let x : j < i = h in omega arith
+fits_below o i k j l h = grind arith
 
 -- the findings of the parts from line k on are after line j, and on lines before the one after them
 pub rises : (ls : List (List ℕ)) (w : LineContext) (k n : ℕ) (s : List (List ℕ)) (j : ℕ) → Starts w k j → Rise j (k + length ls) (findings_after s (parts w k n ls))
@@ -153,19 +133,11 @@ lf_before (c ∷ t) (suc i) h = by (c == 10) refl h (lf_before t)
 
 head_take : (ls : List (List ℕ)) → take (length (head_of ls)) ls ≡ head_of ls
 head_take [] = refl
-head_take (l ∷ ls) = by (is_score_line l) (head_take ls)
-  where
-    by : (b : Bool) → take (length (head_of ls)) ls ≡ head_of ls → take (length (cond b [] (l ∷ head_of ls))) (l ∷ ls) ≡ cond b [] (l ∷ head_of ls)
-    by true r = refl
-    by false r = ap (λ (x : List (List ℕ)). l ∷ x) r
+head_take (l ∷ ls) = grind (arith, head_take ls)
 
 head_below : (ls : List (List ℕ)) → has_score ls ≡ true → length (head_of ls) < length ls
 head_below [] h = absurd (cc)
-head_below (l ∷ ls) h = by (is_score_line l) h (head_below ls)
-  where
-    by : (b : Bool) → (b || has_score ls) ≡ true → (has_score ls ≡ true → length (head_of ls) < length ls) → length (cond b [] (l ∷ head_of ls)) < suc (length ls)
-    by true h r = omega arith
-    by false h r = let x = r h in omega arith
+head_below (l ∷ ls) h = grind (arith, head_below ls)
 
 pub score_line : (t : List ℕ) → has_score (lines t) ≡ true → (place_after (take (head_len t) t)).line ≡ 1 + length (head_of (lines t))
 score_line t s =

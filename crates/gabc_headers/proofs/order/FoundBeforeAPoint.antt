@@ -1,11 +1,10 @@
 -- What is found before a point.
-use Rattle.std.proofs.Common.{◌≡◌, ℕ, ◌<◌, ◌≤◌, List, [], ◌∷◌, ◌++◌, Bool, true, false, cond, refl, sym, ap, ◌∙◌, arith, map, filter, nat_lt}
+use Rattle.std.proofs.Common.{◌≡◌, ℕ, ◌<◌, ◌≤◌, List, [], ◌∷◌, ◌++◌, Bool, true, cond, refl, ap, ◌∙◌, arith, nat_lt}
 use Rattle.std.proofs.lemmas.Bool.Decides.{nat_tests}
 use Rattle.std.proofs.lemmas.Bool.{le-ltb}
 use Rattle.gabc_places.specs.declared.code.Finding.{Finding}
 use Rattle.gabc_places.specs.Findings.{Known, findings_before}
 use Rattle.gabc_headers.specs.Parts.{HeaderPart, left_out, header, unended}
-use Rattle.gabc_headers.specs.Book.{is_kept, repeats}
 use Rattle.gabc_headers.specs.Heads.{findings_after, findings_at, names_after}
 use Rattle.gabc_headers.specs.machine.Events.{AreEarly, IsEarly, AreLate, IsLate}
 
@@ -19,12 +18,7 @@ lt_true a b h = grind (arith, nat_tests)
 
 pub known-append : (p : ℕ) (ks bs : List Known) → findings_before p (ks ++ bs) ≡ findings_before p ks ++ findings_before p bs
 known-append p [] bs = refl
-known-append p (a ∷ ks) bs = by (nat_lt a.point p) (known-append p ks bs)
-  where
-    by : (b : Bool) → findings_before p (ks ++ bs) ≡ findings_before p ks ++ findings_before p bs → map (λ (k : Known). k.finding) (cond b (a ∷ filter (λ (k : Known). nat_lt k.point p) (ks ++ bs)) (filter (λ (k : Known). nat_lt k.point p) (ks ++ bs)))
-        ≡ map (λ (k : Known). k.finding) (cond b (a ∷ filter (λ (k : Known). nat_lt k.point p) ks) (filter (λ (k : Known). nat_lt k.point p) ks)) ++ findings_before p bs
-    by true r = ap (λ (l : List Finding). a.finding ∷ l) r
-    by false r = r
+known-append p (a ∷ ks) bs = grind (arith, known-append p ks bs)
 
 pub known_one : (p q : ℕ) (f : Finding) → q < p → findings_before p ((record { point = q; finding = f }) ∷ []) ≡ f ∷ []
 known_one p q f h = rw (lt_true q p h) refl
@@ -35,25 +29,17 @@ known_none p q f h = rw (le-ltb q p h) refl
 early_cases : (a b : Bool) (p m : ℕ) (f g : Finding) → m < p
     → findings_before p (cond a (cond b (record { point = m; finding = f } ∷ []) []) (record { point = m; finding = g } ∷ []))
     ≡ all_known (cond a (cond b (record { point = m; finding = f } ∷ []) []) (record { point = m; finding = g } ∷ []))
-early_cases true true p m f g h = known_one p m f h
-early_cases true false p m f g h = refl
-early_cases false b p m f g h = known_one p m g h
+early_cases a b p m f g h = grind (arith, known_one)
 
 late_cases : (a b : Bool) (p m : ℕ) (f g : Finding) → p ≤ m
     → findings_before p (cond a (cond b (record { point = m; finding = f } ∷ []) []) (record { point = m; finding = g } ∷ [])) ≡ []
-late_cases true true p m f g h = known_none p m f h
-late_cases true false p m f g h = refl
-late_cases false b p m f g h = known_none p m g h
+late_cases a b p m f g h = grind (arith, known_none)
 
 early_at : (s : List (List ℕ)) (p : ℕ) (q : HeaderPart) → IsEarly p q → findings_before p (findings_at s q) ≡ all_known (findings_at s q)
-early_at s p (left_out k n) h = known_one p n _ h
-early_at s p (unended k) h = absurd h
-early_at s p (header k n v m) h = early_cases (is_kept n v) (repeats s n) p m _ _ h
+early_at s p q h = grind (arith, known_one, early_cases)
 
 late_at : (s : List (List ℕ)) (p : ℕ) (q : HeaderPart) → IsLate p q → findings_before p (findings_at s q) ≡ []
-late_at s p (left_out k n) h = known_none p n _ h
-late_at s p (unended k) h = refl
-late_at s p (header k n v m) h = late_cases (is_kept n v) (repeats s n) p m _ _ h
+late_at s p q h = grind (arith, known_none, late_cases)
 
 pub all_known-append : (ks bs : List Known) → all_known (ks ++ bs) ≡ all_known ks ++ all_known bs
 all_known-append [] bs = refl
@@ -66,10 +52,7 @@ late_all s p (q ∷ rest) h = known-append p (findings_at s q) (findings_after (
 -- what is known before a point is what is found at the parts emitted before it
 pub early_all : (s : List (List ℕ)) (p : ℕ) (events rest : List HeaderPart) → AreEarly p events → AreLate p rest → findings_before p (findings_after s (events ++ rest)) ≡ all_known (findings_after s events)
 early_all s p [] rest e l = late_all s p rest l
-early_all s p (q ∷ events) rest e l =
-    known-append p (findings_at s q) (findings_after (names_after s q) (events ++ rest))
-    ∙ (ap (λ (x : List Finding). x ++ findings_before p (findings_after (names_after s q) (events ++ rest))) (early_at s p q e.0)
-    ∙ (ap (λ (x : List Finding). all_known (findings_at s q) ++ x) (early_all (names_after s q) p events rest e.1 l) ∙ sym (all_known-append (findings_at s q) (findings_after (names_after s q) events))))
+early_all s p (q ∷ events) rest e l = grind (arith, early_all (names_after s q) p events rest e.1 l, known-append, early_at, all_known-append)
 
 -- a later point leaves early parts early
 pub still_early : (p q : ℕ) (events : List HeaderPart) → p ≤ q → AreEarly p events → AreEarly q events

@@ -1,5 +1,5 @@
 -- Once a stage has read a text whose headers are whole, its book has them, whatever follows.
-use Rattle.std.proofs.Common.{◌≡◌, ℕ, List, [], ◌∷◌, ◌++◌, true, refl, ap, ◌∙◌, subst, Option, Some, None, Result, Ok, Err}
+use Rattle.std.proofs.Common.{◌≡◌, ℕ, List, [], ◌∷◌, ◌++◌, true, refl, ap, ◌∙◌, subst, Option, Result, Ok, arith}
 use lib.Utf8.{scalars}
 use Rattle.std.specs.declared.hash.DefaultHasher.{DefaultHasher}
 use Rattle.gabc_places.specs.declared.place.Char.{Char}
@@ -37,12 +37,7 @@ past_both s (x ∷ xs) ys = past_both (stage_after s x) xs ys
 
 -- a fault changes no book
 fault_keeps : (s : HeaderStageState) (fault : Option Fault) → (stage_past s (fault_items fault)).book ≡ s.book
-fault_keeps s None = refl
-fault_keeps s (Some fault) = by s.progress
-  where
-    by : (p : HeadProgress) → (stage_at s (progress_after s.limits p (Err fault))).book ≡ s.book
-    by (after_headers book) = refl
-    by _ = refl
+fault_keeps s fault = grind arith
 
 pub book_is_read : (limits : Limits) (hasher : DefaultHasher) (t : List ℕ) (heads : Heads) (fault : Option Fault) → scalars t ≡ true → heads_of limits t ≡ Ok heads
     → (stage_past (fresh_stage limits hasher) (inputs_after [] t ++ fault_items fault)).book ≡ heads.book

@@ -1,17 +1,13 @@
 -- What is collected of a text stays what it is as the text grows.
-use Rattle.std.proofs.Common.{◌≡◌, ℕ, List, [], ◌∷◌, ◌++◌, Bool, true, false, cond, refl, sym, ap, ◌∙◌, append-nil}
+use Rattle.std.proofs.Common.{◌≡◌, ℕ, List, [], ◌∷◌, ◌++◌, true, refl, ap, ◌∙◌, append-nil, arith}
 use lib.Utf8.{encodes, scalars}
 use Rattle.gabc_places.specs.declared.place.Span.{Span}
 use Rattle.gabc_headers.specs.machine.Collected.{Collected}
 use Rattle.gabc_headers.specs.declared.events.HeaderEvent.{HeaderEvent}
 use Rattle.gabc_headers.specs.declared.events.HeaderEvent.TheVariants.{LeftOut, Header}
 use Rattle.gabc_headers.specs.Parts.{HeaderPart, left_out, header, unended}
-use Rattle.gabc_places.specs.declared.code.Code.TheVariants.{W2, E5}
-use Rattle.gabc_headers.specs.Book.{is_kept}
-use Rattle.gabc_headers.specs.EntryMap.{put_entry}
 use Rattle.gabc_headers.specs.Entries.{text_at}
-use Rattle.gabc_headers.specs.machine.EntryMap.{comes_again}
-use Rattle.gabc_headers.specs.machine.Collected.{collected_with, collected_with_all, found_with, finding_at}
+use Rattle.gabc_headers.specs.machine.Collected.{collected_with, collected_with_all, found_with}
 use Rattle.gabc_headers.specs.machine.Events.{SpanHolds, IsEventOf, AreEventsOf}
 use Rattle.gabc_places.proofs.texts.CharactersOfStrings.{scalars_split}
 use Rattle.gabc_headers.proofs.collecting.EventsAddEntries.{holds_within}
@@ -33,8 +29,7 @@ pub grown : (t xs : List ℕ) (es : List HeaderEvent) (ps : List HeaderPart) (c 
     → collected_with_all (encodes (t ++ xs)) es c ≡ collected_with_all (encodes t) es c
 grown t xs [] ps c u h = refl
 grown t xs (e ∷ es) [] c u h = absurd h
-grown t xs (e ∷ es) (p ∷ ps) c u h =
-    ap (λ (x : Collected). collected_with_all (encodes (t ++ xs)) es x) (grown_with t xs e p c u h.0) ∙ grown t xs es ps (collected_with (encodes t) e c) u h.1
+grown t xs (e ∷ es) (p ∷ ps) c u h = grind (arith, grown t xs es ps (collected_with (encodes t) e c) u h.1, grown_with)
 
 -- the last event
 pub with_last : (text : List ℕ) (es : List HeaderEvent) (e : HeaderEvent) (c : Collected) → collected_with_all text (es ++ e ∷ []) c ≡ collected_with text e (collected_with_all text es c)
@@ -43,13 +38,4 @@ with_last text (d ∷ es) e c = with_last text es e (collected_with text d c)
 
 -- what is found at an event stands after what was found
 pub found_after : (text : List ℕ) (e : HeaderEvent) (c : Collected) → (collected_with text e c).findings ≡ c.findings ++ found_with text e c
-found_after text (LeftOut k p) c = refl
-found_after text (Header k n v p) c = by (is_kept (text_at text n) (text_at text v)) (comes_again c.headers (text_at text n))
-  where
-    by : (a b : Bool) → (cond {A = Collected} a (record {
-      headers = put_entry c.headers (text_at text n) v;
-      findings = cond b (c.findings ++ finding_at k W2 ∷ []) c.findings;
-    }) (record { headers = c.headers; findings = c.findings ++ finding_at k E5 ∷ [] })).findings ≡ c.findings ++ cond a (cond b (finding_at k W2 ∷ []) []) (finding_at k E5 ∷ [])
-    by true true = refl
-    by true false = sym (append-nil c.findings)
-    by false b = refl
+found_after text e c = grind (arith, append-nil)

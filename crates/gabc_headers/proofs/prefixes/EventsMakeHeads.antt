@@ -1,5 +1,5 @@
 -- The events of a text's characters, one after the other, are those of its headers.
-use Rattle.std.proofs.Common.{◌≡◌, ℕ, ◌+◌, ◌≤◌, ◌<◌, ◌==◌, ◌&&◌, List, [], ◌∷◌, ◌++◌, length, take, drop, map, Bool, true, false, cond, nat_le, refl, sym, ap, ◌∙◌, subst, arith, Option, None, Result, Ok, Err, append_assoc, append-nil, length-append}
+use Rattle.std.proofs.Common.{◌≡◌, ℕ, ◌+◌, ◌≤◌, ◌<◌, List, [], ◌∷◌, ◌++◌, length, take, drop, map, Bool, true, false, cond, nat_le, refl, sym, ap, ◌∙◌, subst, arith, Option, None, Result, Ok, Err, append_assoc, append-nil, length-append}
 use Rattle.std.proofs.lemmas.Bool.Decides.{nat_tests}
 use Rattle.std.proofs.lemmas.List.{map-append, take-append-le, take-append-drop}
 use Rattle.std.proofs.lemmas.List.Concat.{flat_map-cons}
@@ -28,11 +28,11 @@ use Rattle.gabc_headers.specs.declared.header_machine.HeaderStep.{HeaderStep}
 use Rattle.gabc_headers.specs.declared.header_machine.HeaderStep.TheVariants.{Read, Ended}
 use Rattle.gabc_headers.specs.Heads.{heads_of, findings_of, head_len}
 use Rattle.gabc_headers.specs.HeadEvents.{event_of_book, inputs_after, body_characters, events_of_heads}
-use Rattle.gabc_headers.specs.witness.HeadEvents.{HeadProgress, reading, after_headers, over, events_by, events_at, progress_by, events_left, events_at_end, new_findings}
+use Rattle.gabc_headers.specs.witness.HeadEvents.{HeadProgress, reading, after_headers, over, events_by, events_at, progress_by, events_left, new_findings}
 use Rattle.gabc_headers.specs.Entries.{spelled_entries}
 use Rattle.gabc_headers.specs.machine.EntryMap.{AreWithin}
 use Rattle.gabc_headers.specs.machine.Collected.{heads_at_score}
-use Rattle.gabc_headers.specs.machine.HeaderMachine.{push_one, take_one, then_take, held_push, fresh_machine}
+use Rattle.gabc_headers.specs.machine.HeaderMachine.{push_one, take_one, then_take, fresh_machine}
 use Rattle.gabc_headers.specs.machine.Events.{with_event}
 use Rattle.gabc_headers.proofs.collecting.HeadsFollowFromEvents.{collected_of, read_within}
 use Rattle.gabc_places.proofs.texts.CharactersOfStrings.{scalars_split}
@@ -48,25 +48,19 @@ IsNoText (Ended (Text place line)) = ⊥
 IsNoText step = Unit {0}
 
 no_text_by : (b : Bool) (r s : HeaderMachine) (place : Place) (e : Option HeaderEvent) → IsNoText (cond {A = HeaderMachine × HeaderStep} b (r, Ended (Limit place)) (s, Read e)).1
-no_text_by true r s place e = tt
-no_text_by false r s place e = tt
+no_text_by b r s place e = grind arith
 
 no_text_take : (r : HeaderMachine) (c : ℕ) → IsNoText (take_one r c).1
 no_text_take r c = no_text_by _ r _ r.place _
 
 no_text_then : (r : HeaderMachine) (step : HeaderStep) (c : ℕ) → IsNoText step → IsNoText (then_take r step c).1
-no_text_then r (Ended end) c h = h
-no_text_then r (Read e) c h = no_text_take r c
+no_text_then r step c h = grind (arith, no_text_take)
 
 no_text_if : (b : Bool) (x y : HeaderMachine × HeaderStep) → IsNoText x.1 → IsNoText y.1 → IsNoText (cond b x y).1
-no_text_if true x y h k = h
-no_text_if false x y h k = k
+no_text_if b x y h k = grind arith
 
 pub no_text_push : (r : HeaderMachine) (c : ℕ) → IsNoText (push_one r c).1
-no_text_push r c =
-    let freed : HeaderMachine = record r { held = false } in
-    no_text_if r.held (held_push r c) _ (no_text_if (c == 37) _ _ tt (no_text_then (take_one freed 37).0 (take_one freed 37).1 c (no_text_take freed 37)))
-    (no_text_if (r.at_line && (c == 37)) _ (take_one r c) tt (no_text_take r c))
+no_text_push r c = grind (arith, no_text_if, no_text_then, no_text_take)
 
 -- ---- lists
 
@@ -80,8 +74,7 @@ nothing_left limits (x ∷ xs) = nothing_left limits xs
 
 -- a prefix with more, and then what follows
 moved : (a new more : List Finding) (rest : List HeadEvent) → a ++ new ≡ more → map (λ f. Found f) a ++ (map (λ f. Found f) new ++ rest) ≡ map (λ f. Found f) more ++ rest
-moved a new more rest e = sym (append_assoc (map (λ f. Found f) a) (map (λ f. Found f) new) rest)
-    ∙ ap (λ (x : List HeadEvent). x ++ rest) (sym (map-append (λ f. Found f) a new) ∙ ap (λ (x : List Finding). map (λ f. Found f) x) e)
+moved a new more rest e = grind (arith, append_assoc, map-append)
 
 -- the characters after the headers
 body_given : (limits : Limits) (book : List (List ℕ × List ℕ)) (cs : List Char) → concat_of (events_left limits (after_headers book) (map (λ c. Ok c) cs)) ≡ map (λ c. Body c) cs ++ End ∷ []
@@ -89,9 +82,7 @@ body_given limits book [] = concat-cons (End ∷ []) []
 body_given limits book (c ∷ cs) = concat-cons (Body c ∷ []) (events_left limits (after_headers book) (map (λ c. Ok c) cs)) ∙ ap (λ (x : List HeadEvent). Body c ∷ x) (body_given limits book cs)
 
 placed_drop : (t xs : List ℕ) (n : ℕ) → n ≡ length t → drop n (placed_characters (t ++ xs)) ≡ placed_characters_after t xs
-placed_drop t xs n e =
-    ap (λ (m : ℕ). drop m (placed_characters (t ++ xs))) (e ∙ sym (length-placed [] t))
-    ∙ (ap (λ (x : List Char). drop (length (placed_characters_after [] t)) x) (placed-append [] t xs) ∙ drop-append_seam (placed_characters_after [] t) (placed_characters_after t xs))
+placed_drop t xs n e = grind (arith, length-placed, placed-append, drop-append_seam)
 
 -- ---- the headers' end
 
@@ -255,27 +246,15 @@ module _ (limits : Limits) (held xs : List ℕ) (c : ℕ) (r new : HeaderMachine
 
   -- what a character emits with which they are stopped
   pub stopped_emits : (f : HeadFault) → heads_of limits longer ≡ Err f → f.at_end ≡ false → (events_at limits held c ≡ Stop f.fault ∷ []) × (progress_by longer (heads_of limits longer) ≡ over)
-  stopped_emits f now e = (
-    ap (λ (x : Result Heads HeadFault). events_by (new_findings limits held longer) x) now ∙ closed_events (new_findings limits held longer) f e,
-    ap (λ (x : Result Heads HeadFault). progress_by longer x) now ∙ closed_progress longer f e,
-  )
+  stopped_emits f now e = grind (arith, closed_events, closed_progress)
 
   stopped_makes : (f : HeadFault) → heads_of limits longer ≡ Err f → heads_of limits (held ++ c ∷ xs) ≡ Err f → f.at_end ≡ false → f.findings ≡ (collected_of held es).findings → Makes limits held es (c ∷ xs)
-  stopped_makes f now all e g =
-      let emits = stopped_emits f now e in
-      ap (λ (x : List HeadEvent). map (λ f. Found f) (collected_of held es).findings ++ x)
-      (split ∙ (ap (λ (x : List HeadEvent). x ++ rest (progress_by longer (heads_of limits longer))) emits.0
-      ∙ (ap (λ (x : HeadProgress). Stop f.fault ∷ rest x) emits.1 ∙ ap (λ (x : List HeadEvent). Stop f.fault ∷ x) (nothing_left limits (inputs_after longer xs)))))
-      ∙ (ap (λ (x : List Finding). map (λ f. Found f) x ++ Stop f.fault ∷ []) (sym g) ∙ ap (λ (x : Result Heads HeadFault). events_of_heads (held ++ c ∷ xs) x) (sym all))
+  stopped_makes f now all e g = grind (arith, stopped_emits, nothing_left)
 
   -- what the second `%` emits of whole headers
   pub whole_emits : (heads : Heads) (more : List Finding) → heads_of limits longer ≡ Ok heads → heads.findings ≡ (collected_of held es).findings ++ more
       → (events_at limits held c ≡ map (λ f. Found f) more ++ event_of_book heads.book ∷ []) × (progress_by longer (heads_of limits longer) ≡ after_headers heads.book)
-  whole_emits heads more now g = (
-    ap (λ (x : Result Heads HeadFault). events_by (new_findings limits held longer) x) now
-        ∙ ap (λ (x : List Finding). map (λ f. Found f) x ++ event_of_book heads.book ∷ []) (new_is more (Ok heads) now g),
-    ap (λ (x : Result Heads HeadFault). progress_by longer x) now,
-  )
+  whole_emits heads more now g = grind (arith, new_is)
 
   whole_makes : (heads : Heads) (more : List Finding) → heads_of limits longer ≡ Ok heads → heads_of limits (held ++ c ∷ xs) ≡ Ok heads → heads.findings ≡ (collected_of held es).findings ++ more → Makes limits held es (c ∷ xs)
   whole_makes heads more now all g =
@@ -308,12 +287,7 @@ module _ (limits : Limits) (held xs : List ℕ) (c : ℕ) (r new : HeaderMachine
 
 -- at the end of the text
 makes_end : (limits : Limits) (held : List ℕ) (r : HeaderMachine) (es : List HeaderEvent) → scalars held ≡ true → HasRead limits.header held r es → Makes limits held es []
-makes_end limits held r es u h =
-    let o = open_so_far limits held r es u h in
-    ap (λ (x : List HeadEvent). map (λ f. Found f) (collected_of held es).findings ++ x)
-    (concat-cons (events_at_end (heads_of limits held)) [] ∙ (append-nil (events_at_end (heads_of limits held)) ∙ ap (λ (x : Result Heads HeadFault). events_at_end x) o.heads))
-    ∙ (ap (λ (x : List Finding). map (λ f. Found f) x ++ Stop o.fault.fault ∷ []) (sym o.findings)
-    ∙ (ap (λ (x : Result Heads HeadFault). events_of_heads held x) (sym o.heads) ∙ ap (events_of_text limits) (sym (append-nil held))))
+makes_end limits held r es u h = grind (arith, open_so_far, concat-cons, append-nil)
 
 -- at a character, if what follows makes the whole
 makes_step : (limits : Limits) (held xs : List ℕ) (c : ℕ) (r : HeaderMachine) (es : List HeaderEvent) → scalars (held ++ c ∷ xs) ≡ true → HasRead limits.header held r es

@@ -1,5 +1,5 @@
 -- What a stage of headers gives of the characters of a text does not wait for their end.
-use Rattle.std.proofs.Common.{◌≡◌, ℕ, List, [], ◌∷◌, ◌++◌, length, take, map, Bool, true, false, if◌then◌else◌, refl, sym, ap, ◌∙◌, subst, Result, Ok, Err, append_assoc, append-nil}
+use Rattle.std.proofs.Common.{◌≡◌, ℕ, List, [], ◌∷◌, ◌++◌, length, take, map, Bool, true, false, refl, sym, ap, ◌∙◌, subst, Result, Ok, Err, append_assoc, append-nil, arith}
 use Rattle.std.proofs.lemmas.List.{append_cancel_right}
 use lib.Utf8.{scalars}
 use Rattle.gabc_places.specs.declared.place.Char.{Char}
@@ -9,7 +9,7 @@ use Rattle.gabc_places.specs.Place.{placed_characters_after}
 use Rattle.gabc_places.specs.StageLaw.{concat_of}
 use Rattle.gabc_headers.specs.declared.events.HeaderEvent.{HeaderEvent}
 use Rattle.gabc_headers.specs.declared.head_event.HeadEvent.{HeadEvent}
-use Rattle.gabc_headers.specs.declared.head_event.HeadEvent.TheVariants.{Found, Stop, Body, End}
+use Rattle.gabc_headers.specs.declared.head_event.HeadEvent.TheVariants.{Found, Body, End}
 use Rattle.gabc_headers.specs.declared.header_machine.HeaderMachine.{HeaderMachine}
 use Rattle.gabc_headers.specs.declared.header_machine.HeaderStep.{HeaderStep}
 use Rattle.gabc_headers.specs.declared.header_machine.HeaderStep.TheVariants.{Read, Ended}
@@ -17,7 +17,7 @@ use Rattle.gabc_headers.specs.declared.heads.Heads.{Heads}
 use Rattle.gabc_headers.specs.declared.heads.HeadFault.{HeadFault}
 use Rattle.gabc_headers.specs.Heads.{heads_of}
 use Rattle.gabc_headers.specs.HeadEvents.{event_of_book, inputs_after, body_characters, events_of_heads, events_of_broken, events_of_stopped, emitted_by}
-use Rattle.gabc_headers.specs.witness.HeadEvents.{HeadProgress, reading, after_headers, over, progress_by, progress_after, events_of_input, events_of_end, events_at_end, events_left}
+use Rattle.gabc_headers.specs.witness.HeadEvents.{HeadProgress, reading, after_headers, over, progress_by, progress_after, events_of_input, events_of_end, events_left}
 use Rattle.gabc_headers.specs.machine.HeaderMachine.{push_one, fresh_machine}
 use Rattle.gabc_headers.specs.machine.Events.{with_event}
 use Rattle.gabc_headers.proofs.collecting.HeadsFollowFromEvents.{collected_of}
@@ -43,9 +43,7 @@ abbrev StandsPast : Limits → List ℕ → List ℕ → Type 0
 StandsPast limits held xs = progress_past limits (reading held) (inputs_after held xs) ≡ progress_by (held ++ xs) (heads_of limits (held ++ xs))
 
 stands_at_end : (limits : Limits) (held : List ℕ) (r : HeaderMachine) (es : List HeaderEvent) → scalars held ≡ true → HasRead limits.header held r es → StandsPast limits held []
-stands_at_end limits held r es u h =
-    let o = open_so_far limits held r es u h in
-    sym (ap (λ (t : List ℕ). progress_by t (heads_of limits t)) (append-nil held) ∙ (ap (progress_by held) o.heads ∙ open_progress held o.fault o.at_end))
+stands_at_end limits held r es u h = grind (arith, open_so_far, append-nil, open_progress)
 
 stands_step : (limits : Limits) (held xs : List ℕ) (c : ℕ) (r : HeaderMachine) (es : List HeaderEvent) → scalars (held ++ c ∷ xs) ≡ true → HasRead limits.header held r es
     → ((new : HeaderMachine) (more : List HeaderEvent) → HasRead limits.header (held ++ c ∷ []) new more → StandsPast limits (held ++ c ∷ []) xs) → StandsPast limits held (c ∷ xs)
@@ -113,8 +111,7 @@ past_one_more limits progress (x ∷ xs) last = past_one_more limits (progress_a
 
 -- after a fault nothing is given at the end
 silent_after_fault : (limits : Limits) (progress : HeadProgress) (fault : Fault) → events_of_end limits (progress_after limits progress (Err fault)) ≡ []
-silent_after_fault limits (reading t) fault = refl
-silent_after_fault limits _ fault = refl
+silent_after_fault limits progress fault = grind arith
 
 -- ---- by the headers of the text
 
@@ -124,23 +121,10 @@ broken_by limits t head_items (Ok heads) e h =
     let found = map (λ f. Found f) heads.findings in
     append_cancel_right head_items (found ++ event_of_book heads.book ∷ map (λ c. Body c) (body_characters t)) (End ∷ [])
     (h ∙ sym (append_assoc found (event_of_book heads.book ∷ map (λ c. Body c) (body_characters t)) (End ∷ [])))
-broken_by limits t head_items (Err stop) e h = by stop.at_end h
-  where
-    by : (at_end : Bool) → head_items ++ events_of_end limits (if at_end then reading t else over) ≡ map (λ f. Found f) stop.findings ++ Stop stop.fault ∷ []
-        → head_items ≡ map (λ f. Found f) stop.findings ++ (if at_end then [] else Stop stop.fault ∷ [])
-    by true k =
-        append_cancel_right head_items (map (λ f. Found f) stop.findings) (Stop stop.fault ∷ []) (ap (λ (l : List HeadEvent). head_items ++ l) (sym (ap events_at_end e)) ∙ k)
-        ∙ sym (append-nil (map (λ f. Found f) stop.findings))
-    by false k = sym (append-nil head_items) ∙ k
+broken_by limits t head_items (Err stop) e h = grind (arith, append_cancel_right, append-nil)
 
 stopped_by : (limits : Limits) (t : List ℕ) (fault : Fault) (r : Result Heads HeadFault) → events_of_broken t r ++ events_of_input limits (progress_by t r) (Err fault) ≡ events_of_stopped fault t r
-stopped_by limits t fault (Ok heads) = append_assoc (map (λ f. Found f) heads.findings) (event_of_book heads.book ∷ map (λ c. Body c) (body_characters t)) (Stop fault ∷ [])
-stopped_by limits t fault (Err stop) = by stop.at_end
-  where
-    by : (at_end : Bool) → (map (λ f. Found f) stop.findings ++ (if at_end then [] else Stop stop.fault ∷ [])) ++ events_of_input limits (if at_end then reading t else over) (Err fault)
-        ≡ map (λ f. Found f) stop.findings ++ Stop (if at_end then fault else stop.fault) ∷ []
-    by true = append_assoc (map (λ f. Found f) stop.findings) [] (Stop fault ∷ [])
-    by false = append-nil (map (λ f. Found f) stop.findings ++ Stop stop.fault ∷ [])
+stopped_by limits t fault r = grind (arith, append_assoc, append-nil)
 
 module _ (limits : Limits) (t : List ℕ) (u : scalars t ≡ true) where
   abbrev head_items : List (Result Char Fault)
@@ -155,16 +139,7 @@ module _ (limits : Limits) (t : List ℕ) (u : scalars t ≡ true) where
       ∙ (sym (with_end limits (reading []) head_items) ∙ events_make_heads limits t u))
 
   stopped_so_far : (fault : Fault) → given_so_far limits (reading []) (head_items ++ Err fault ∷ []) ≡ events_of_stopped fault t (heads_of limits t)
-  stopped_so_far fault =
-      with_input limits (reading []) head_items (Err fault)
-      ∙ (ap (λ (l : List HeadEvent). l ++ events_of_input limits (progress_past limits (reading []) head_items) (Err fault)) broken_gives
-      ∙ (ap (λ (p : HeadProgress). events_of_broken t (heads_of limits t) ++ events_of_input limits p (Err fault)) standing
-      ∙ stopped_by limits t fault (heads_of limits t)))
+  stopped_so_far fault = grind (arith, with_input, broken_gives, standing, stopped_by)
 
   pub stopped_gives : (ended : Bool) (fault : Fault) → emitted_by ended (head_items ++ Err fault ∷ []) (events_left limits (reading []) (head_items ++ Err fault ∷ [])) ≡ events_of_stopped fault t (heads_of limits t)
-  stopped_gives false fault = stopped_so_far fault
-  stopped_gives true fault =
-      with_end limits (reading []) (head_items ++ Err fault ∷ [])
-      ∙ (ap (λ (p : HeadProgress). given_so_far limits (reading []) (head_items ++ Err fault ∷ []) ++ events_of_end limits p) (past_one_more limits (reading []) head_items (Err fault))
-      ∙ (ap (λ (l : List HeadEvent). given_so_far limits (reading []) (head_items ++ Err fault ∷ []) ++ l) (silent_after_fault limits (progress_past limits (reading []) head_items) fault)
-      ∙ (append-nil (given_so_far limits (reading []) (head_items ++ Err fault ∷ [])) ∙ stopped_so_far fault)))
+  stopped_gives ended fault = grind (arith, stopped_so_far, with_end, past_one_more, silent_after_fault, append-nil)

@@ -1,5 +1,5 @@
 -- The headers of the text that is read so far.
-use Rattle.std.proofs.Common.{◌≡◌, ℕ, List, [], ◌∷◌, ◌++◌, true, false, cond, refl, sym, ap, ◌∙◌, subst, Option, Some, None, Result, Err, append_assoc, append-nil}
+use Rattle.std.proofs.Common.{◌≡◌, ℕ, List, [], ◌∷◌, ◌++◌, true, false, cond, refl, sym, ap, ◌∙◌, subst, Option, Some, None, Result, Err, append_assoc, append-nil, arith}
 use lib.Utf8.{encodes, scalars}
 use Rattle.gabc_places.specs.declared.place.Place.{Place}
 use Rattle.gabc_places.specs.declared.limits.Limits.{Limits}
@@ -13,7 +13,6 @@ use Rattle.gabc_headers.specs.declared.events.HeaderEnding.TheVariants.{Score, L
 use Rattle.gabc_places.specs.declared.code.Code.TheVariants.{F4}
 use Rattle.gabc_places.specs.Place.{next_place}
 use Rattle.gabc_headers.specs.declared.header_machine.HeaderMachine.{HeaderMachine}
-use Rattle.gabc_headers.specs.declared.header_machine.HeaderStep.{HeaderStep}
 use Rattle.gabc_headers.specs.declared.header_machine.HeaderStep.TheVariants.{Read, Ended}
 use Rattle.gabc_headers.specs.machine.Collected.{fault_at_end, heads_at_score, collected_with_all, found_with, none}
 use Rattle.gabc_headers.specs.Entries.{spelled_entries}
@@ -21,7 +20,7 @@ use Rattle.gabc_headers.specs.machine.PartMachine.{open_in}
 use Rattle.gabc_headers.specs.machine.HeaderMachine.{push_one, end_here, fresh_machine}
 use Rattle.gabc_headers.specs.machine.Events.{AreHeaderEvents, with_event}
 use Rattle.gabc_headers.specs.Heads.{heads_of}
-use Rattle.gabc_headers.proofs.machines.OnePush.{Following, AfterPush, begin_following, pushes, ends}
+use Rattle.gabc_headers.proofs.machines.OnePush.{Following, begin_following, pushes, ends}
 use Rattle.gabc_headers.proofs.collecting.HeadsFollowFromEvents.{collected_of, case_limit, case_score, case_text}
 use Rattle.gabc_headers.proofs.prefixes.EventsGrow.{grown, with_last, found_after}
 
@@ -35,16 +34,12 @@ begin_read limit = record { before = λ xs. begin_following xs limit }
 -- one character more
 pub read_more : (limit : ℕ) (t : List ℕ) (r new : HeaderMachine) (es : List HeaderEvent) (c : ℕ) (e : Option HeaderEvent) → HasRead limit t r es → push_one r c ≡ (new, Read e)
     → HasRead limit (t ++ c ∷ []) new (with_event es e)
-read_more limit t r new es c e h p = record {
-  before = λ xs. subst (λ (x : List ℕ). Following x limit xs new (with_event es e)) (sym (append_assoc t (c ∷ []) xs))
-      (subst (λ (x : HeaderMachine × HeaderStep). AfterPush (t ++ c ∷ xs) limit xs es x.0 x.1) p (pushes (t ++ c ∷ xs) limit xs r es c (h.before (c ∷ xs))));
-}
+read_more limit t r new es c e h p = grind (arith, append_assoc, pushes)
 
 -- the headers' end, whatever follows
 pub read_ended : (limit : ℕ) (t : List ℕ) (r new : HeaderMachine) (es : List HeaderEvent) (c : ℕ) (end : HeaderEnding) → HasRead limit t r es → push_one r c ≡ (new, Ended end)
     → (xs : List ℕ) → AreHeaderEvents limit (t ++ c ∷ xs) es end
-read_ended limit t r new es c end h p xs =
-    subst (λ (x : HeaderMachine × HeaderStep). AfterPush (t ++ c ∷ xs) limit xs es x.0 x.1) p (pushes (t ++ c ∷ xs) limit xs r es c (h.before (c ∷ xs)))
+read_ended limit t r new es c end h p xs = grind (arith, pushes)
 
 -- the text alone
 pub read_all : (limit : ℕ) (t : List ℕ) (r : HeaderMachine) (es : List HeaderEvent) → HasRead limit t r es → AreHeaderEvents limit t es (end_here r)

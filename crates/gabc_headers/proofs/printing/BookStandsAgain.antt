@@ -1,11 +1,10 @@
 -- The entries of a book are trimmed and count, no name comes twice in it, and it is the book of its own entries.
-use Rattle.std.proofs.Common.{◌≡◌, ℕ, List, [], ◌∷◌, ◌++◌, Bool, true, false, cond, not, ◌||◌, ◌&&◌, bytes_eq, codes, refl, sym, ap, subst, ◌∙◌, None}
+use Rattle.std.proofs.Common.{◌≡◌, ℕ, List, [], ◌∷◌, Bool, true, false, cond, not, ◌||◌, bytes_eq, codes, refl, sym, ap, subst, ◌∙◌, None, arith}
 use Rattle.std.proofs.lemmas.Bool.{or_parts, or_right}
 use Rattle.std.specs.Cmp.Lexicographic.{same_text}
-use Rattle.gabc_places.specs.Findings.{Known}
 use Rattle.gabc_headers.specs.Parts.{HeaderPart, left_out, header, unended}
 use Rattle.gabc_headers.specs.Book.{is_kept, is_one_of, repeats, unless, entries, last_value, value_of, standing_entries}
-use Rattle.gabc_headers.specs.Heads.{findings_at, names_after, findings_after, open_line}
+use Rattle.gabc_headers.specs.Heads.{findings_after, open_line}
 use Rattle.gabc_headers.proofs.entries.TextsAsBytes.{bytes_eq_self}
 use Rattle.gabc_headers.proofs.printing.EntriesAreTrimmed.{IsName, IsValue, HaveGoodHeaders}
 
@@ -40,19 +39,11 @@ last_good name v (e ∷ es) h g = by (bytes_eq name e.0) refl (λ w k. last_good
     by false f r = r v h
 
 value_good : (name v : List ℕ) (es : List (List ℕ × List ℕ)) → IsEntry (name, v) → AreEntries es → IsEntry (name, value_of name v es)
-value_good name v es h g = by (bytes_eq name (codes "annotation"))
-  where
-    by : (b : Bool) → IsEntry (name, cond b v (last_value name v es))
-    by true = h
-    by false = last_good name v es h g
+value_good name v es h g = grind (arith, last_good)
 
 pub standing_good : (seen : List (List ℕ)) (es : List (List ℕ × List ℕ)) → AreEntries es → AreEntries (standing_entries seen es)
 standing_good seen [] h = tt
-standing_good seen (e ∷ es) h = by (repeats seen e.0) (standing_good (e.0 ∷ seen) es h.1)
-  where
-    by : (b : Bool) → AreEntries (standing_entries (e.0 ∷ seen) es) → AreEntries (unless b (e.0, value_of e.0 e.1 es) (standing_entries (e.0 ∷ seen) es))
-    by true g = g
-    by false g = (value_good e.0 e.1 es h.0 h.1, g)
+standing_good seen (e ∷ es) h = grind (arith, standing_good (e.0 ∷ seen) es h.1, value_good)
 
 -- ---- no name comes again
 
@@ -66,17 +57,10 @@ abbrev Among : List (List ℕ) → List (List ℕ) → Type 0
 Among few many = (name : List ℕ) → is_one_of name many ≡ false → is_one_of name few ≡ false
 
 repeats_less : (few many : List (List ℕ)) (name : List ℕ) → Among few many → repeats many name ≡ false → repeats few name ≡ false
-repeats_less few many name h e = by (bytes_eq name (codes "annotation")) (is_one_of name many) refl e
-  where
-    by : (a b : Bool) → is_one_of name many ≡ b → (not a && b) ≡ false → (not a && is_one_of name few) ≡ false
-    by true b f e = refl
-    by false true f e = absurd (cc)
-    by false false f e = h name f
+repeats_less few many name h e = grind arith
 
 among_more : (few many : List (List ℕ)) (n : List ℕ) → Among few many → Among (n ∷ few) (n ∷ many)
-among_more few many n h name e =
-    let o = or_parts (bytes_eq name n) (is_one_of name many) e in
-    ap (λ (b : Bool). b || is_one_of name few) o.0 ∙ h name o.1
+among_more few many n h name e = grind (arith, or_parts)
 
 among_later : (few many : List (List ℕ)) (n : List ℕ) → Among few many → Among few (n ∷ many)
 among_later few many n h name e = h name (or_parts (bytes_eq name n) (is_one_of name many) e).1
@@ -125,24 +109,13 @@ AreHeaders _ _ = ⊥
 
 pub headers_entries : (ps : List HeaderPart) (es : List (List ℕ × List ℕ)) → AreHeaders ps es → AreEntries es → entries ps ≡ es
 headers_entries [] [] h g = refl
-headers_entries (header k name v p ∷ ps) (e ∷ es) h g =
-    let kept : is_kept name v ≡ true = ap (λ (x : List ℕ). is_kept x v) h.0.0 ∙ ap (is_kept e.0) h.0.1 ∙ g.0.kept in
-    ap (λ (b : Bool). unless (not b) (name, v) (entries ps)) kept
-    ∙ ap (λ (x : List (List ℕ × List ℕ)). (name, v) ∷ x) (headers_entries ps es h.1 g.1)
-    ∙ ap (λ (x : List ℕ). (x, v) ∷ es) h.0.0 ∙ ap (λ (x : List ℕ). (e.0, x) ∷ es) h.0.1
+headers_entries (header k name v p ∷ ps) (e ∷ es) h g = grind (arith, headers_entries ps es h.1 g.1)
 headers_entries _ _ h g = absurd h
 
 -- nothing is found at them
 pub headers_found : (seen : List (List ℕ)) (ps : List HeaderPart) (es : List (List ℕ × List ℕ)) → AreHeaders ps es → AreEntries es → NoneAgain seen es → findings_after seen ps ≡ []
 headers_found seen [] [] h g n = refl
-headers_found seen (header k name v p ∷ ps) (e ∷ es) h g n =
-    let kept : is_kept name v ≡ true = ap (λ (x : List ℕ). is_kept x v) h.0.0 ∙ ap (is_kept e.0) h.0.1 ∙ g.0.kept in
-    let once : repeats seen name ≡ false = ap (repeats seen) h.0.0 ∙ n.0 in
-    let none : findings_at seen (header k name v p) ≡ [] = rw (kept, once) refl in
-    let next : names_after seen (header k name v p) ≡ e.0 ∷ seen = ap (λ (b : Bool). cond b (name ∷ seen) seen) kept ∙ ap (λ (x : List ℕ). x ∷ seen) h.0.0 in
-    ap (λ (x : List Known). x ++ findings_after (names_after seen (header k name v p)) ps) none
-    ∙ ap (λ (x : List (List ℕ)). findings_after x ps) next
-    ∙ headers_found (e.0 ∷ seen) ps es h.1 g.1 n.1
+headers_found seen (header k name v p ∷ ps) (e ∷ es) h g n = grind (arith, headers_found (e.0 ∷ seen) ps es h.1 g.1 n.1)
 headers_found seen _ _ h g n = absurd h
 
 -- each of them is ended

@@ -1,10 +1,10 @@
 -- What each header has that lines make known: a trimmed name, and a trimmed value in which no mark of two or more `;` begins.
-use Rattle.std.proofs.Common.{◌≡◌, ℕ, ◌+◌, ◌==◌, List, [], ◌∷◌, ◌++◌, Bool, true, false, cond, ◌||◌, length, refl, sym, ap, subst, ◌∙◌, append-nil, Option, Some, None}
+use Rattle.std.proofs.Common.{◌≡◌, ℕ, ◌+◌, List, [], ◌∷◌, ◌++◌, Bool, true, false, cond, length, refl, sym, ap, subst, ◌∙◌, append-nil, Option, Some, None, arith}
 use Rattle.std.proofs.lemmas.Bool.{eqb-true}
-use Rattle.gabc_headers.specs.Lines.{lines, on_first, lines_len, head_of, is_blank, is_bare, has_colon, before_colon, after_colon, before_mark, is_blank_or_lf, ends_no_value, trim_start, trim_end, trim_name, trim_value, is_score_line}
+use Rattle.gabc_headers.specs.Lines.{lines, lines_len, head_of, is_blank, is_bare, has_colon, before_colon, after_colon, before_mark, is_blank_or_lf, ends_no_value, trim_start, trim_end, trim_name, trim_value, is_score_line}
 use Rattle.gabc_headers.specs.Parts.{HeaderPart, left_out, header, unended, is_good_name, good_name, name_of, bad_name_parts, ended_parts}
 use Rattle.gabc_headers.specs.Groups.{Group, skipped, colonless, valued, unfinished, EndAtMark, BeginsHeader, EndsValue, AreGroups, value_below, value_text, mark_point, parts_of_groups}
-use Rattle.gabc_headers.proofs.machines.PartsAfterState.{first_line, later_lines, lines_split}
+use Rattle.gabc_headers.proofs.machines.PartsAfterState.{lines_split}
 use Rattle.gabc_headers.proofs.printing.LinesOfTexts.{has}
 use Rattle.gabc_headers.proofs.printing.TrimmedTexts.{StartsWell, EndsWell, start_kept, end_kept, starts_well, ends_well, end_of_suffix, start_suffix, end_prefix, has_front, has_back, has_no_start, has_no_end, not_bare}
 use Rattle.gabc_headers.proofs.printing.MarksInTexts.{Free, free_back, free_front, free_append, free_alone, free_line, free_before, mark_of_one, no_mark_of_one, NoScore, score_front, no_score_front, no_score_back, no_score_line}
@@ -35,22 +35,11 @@ AreLines (l ∷ ls) = (has 10 l ≡ false) × AreLines ls
 
 lines_are : (t : List ℕ) → AreLines (lines t)
 lines_are [] = (refl, tt)
-lines_are (c ∷ t) = by (c == 10) refl (lines_are t) (lines_split t)
-  where
-    more : (l : List ℕ) (ls : List (List ℕ)) → (c == 10) ≡ false → AreLines (l ∷ ls) → AreLines ((c ∷ l) ∷ ls)
-    more l ls e h = (ap (λ (b : Bool). b || has 10 l) e ∙ h.0, h.1)
-
-    by : (b : Bool) → (c == 10) ≡ b → AreLines (lines t) → lines t ≡ first_line t ∷ later_lines t → AreLines (cond b ([] ∷ lines t) (on_first c (lines t)))
-    by true e h s = (refl, h)
-    by false e h s = subst (λ (x : List (List ℕ)). AreLines (on_first c x)) (sym s) (more (first_line t) (later_lines t) e (subst AreLines s h))
+lines_are (c ∷ t) = grind (arith, lines_are t, lines_split)
 
 head_are : (ls : List (List ℕ)) → AreLines ls → AreHeadLines (head_of ls)
 head_are [] h = tt
-head_are (l ∷ ls) h = by (is_score_line l) refl (head_are ls h.1)
-  where
-    by : (b : Bool) → is_score_line l ≡ b → AreHeadLines (head_of ls) → AreHeadLines (cond b [] (l ∷ head_of ls))
-    by true e g = tt
-    by false e g = ((h.0, e), g)
+head_are (l ∷ ls) h = grind (arith, head_are ls h.1)
 
 pub head_lines : (t : List ℕ) → AreHeadLines (head_of (lines t))
 head_lines t = head_are (lines t) (lines_are t)
@@ -67,20 +56,11 @@ heads_front (l ∷ ls) ms h = (h.0, heads_front ls ms h.1)
 
 colon_parts : (l : List ℕ) → has_colon l ≡ true → l ≡ before_colon l ++ 58 ∷ after_colon l
 colon_parts [] h = absurd (cc)
-colon_parts (c ∷ l) h = by (c == 58) refl h (colon_parts l)
-  where
-    by : (b : Bool) → (c == 58) ≡ b → (b || has_colon l) ≡ true → (has_colon l ≡ true → l ≡ before_colon l ++ 58 ∷ after_colon l)
-        → c ∷ l ≡ cond b [] (c ∷ before_colon l) ++ 58 ∷ cond b l (after_colon l)
-    by true e h r = ap (λ (x : ℕ). x ∷ l) (eqb-true c 58 e)
-    by false e h r = ap (λ (x : List ℕ). c ∷ x) (r h)
+colon_parts (c ∷ l) h = grind (arith, colon_parts l, eqb-true)
 
 no_colon_before : (l : List ℕ) → has 58 (before_colon l) ≡ false
 no_colon_before [] = refl
-no_colon_before (c ∷ l) = by (c == 58) refl (no_colon_before l)
-  where
-    by : (b : Bool) → (c == 58) ≡ b → has 58 (before_colon l) ≡ false → has 58 (cond b [] (c ∷ before_colon l)) ≡ false
-    by true e h = refl
-    by false e h = ap (λ (b : Bool). b || has 58 (before_colon l)) e ∙ h
+no_colon_before (c ∷ l) = grind (arith, no_colon_before l)
 
 name_is : (l : List ℕ) → BeginsHeader l → has 10 l ≡ false → (m : List ℕ) → trim_name (before_colon l) ≡ m → is_good_name m ≡ true → IsName m
 name_is l g h [] e good = absurd (cc)
@@ -119,9 +99,7 @@ no_feed a h = subst NoScore (append-nil a) (no_score_line a [] h tt)
 
 -- an LF ends the line
 score_feed : (l y : List ℕ) → is_score_line l ≡ false → is_score_line (l ++ 10 ∷ y) ≡ false
-score_feed [] y h = refl
-score_feed (c ∷ []) y h = h
-score_feed (c ∷ d ∷ l) y h = h
+score_feed l y h = grind arith
 
 -- the lines of a value below its first
 record Below (ms : List (List ℕ)) : Type 0 where
@@ -181,8 +159,7 @@ good_append (unended k ∷ ps) qs h g = good_append ps qs h g
 good_append (header k name v p ∷ ps) qs h g = (h.0, good_append ps qs h.1 g)
 
 bad_good : (k : ℕ) (o : Option (List ℕ)) (p : ℕ) → HaveGoodHeaders (bad_name_parts k o p)
-bad_good k None p = tt
-bad_good k (Some n) p = tt
+bad_good k o p = grind arith
 
 ended_good : (k : ℕ) (l : List ℕ) (w : List ℕ) (p : ℕ) → BeginsHeader l → has 10 l ≡ false → IsValue (trim_value w) → HaveGoodHeaders (ended_parts k (name_of l) w p)
 ended_good k l w p g h v = by (trim_name (before_colon l)) refl
@@ -196,11 +173,7 @@ ended_good k l w p g h v = by (trim_name (before_colon l)) refl
 
 pub good_parts : (gs : List Group) (ls : List (List ℕ)) (k n : ℕ) → AreGroups ls gs → AreHeadLines ls → HaveGoodHeaders (parts_of_groups k n gs)
 good_parts [] ls k n h g = tt
-good_parts (unfinished l b ∷ gs) ls k n h g =
-    let first : List HeaderPart = bad_name_parts k (name_of l) (n + length (before_colon l)) in
-    good_append (first ++ unended k ∷ []) (parts_of_groups (k + length (l ∷ b)) (n + lines_len (l ∷ b)) gs)
-    (good_append first (unended k ∷ []) (bad_good k (name_of l) (n + length (before_colon l))) tt)
-    (subst (λ (x : List Group). HaveGoodHeaders (parts_of_groups (k + length (l ∷ b)) (n + lines_len (l ∷ b)) x)) (sym h.2) tt)
+good_parts (unfinished l b ∷ gs) ls k n h g = grind (arith, good_append, bad_good)
 good_parts (skipped l ∷ gs) ls k n h g =
     good_parts gs h.1.0 (k + 1) (n + lines_len (l ∷ [])) h.1.2 (heads_back (l ∷ []) h.1.0 (subst AreHeadLines h.1.1 g))
 good_parts (colonless l ∷ gs) ls k n h g =

@@ -1,8 +1,8 @@
 -- The lines of texts that are put together.
-use Rattle.std.proofs.Common.{◌≡◌, ℕ, ◌==◌, List, [], ◌∷◌, ◌++◌, Bool, true, false, cond, ◌||◌, refl, sym, ap, ◌∙◌}
+use Rattle.std.proofs.Common.{◌≡◌, ℕ, ◌==◌, List, [], ◌∷◌, ◌++◌, Bool, false, ◌||◌, refl, ap, arith}
 use Rattle.std.proofs.lemmas.Bool.{eqb-true, or_parts}
 use Rattle.gabc_headers.specs.Lines.{lines, on_first}
-use Rattle.gabc_headers.proofs.machines.PartsAfterState.{first_line, later_lines, lines_split}
+use Rattle.gabc_headers.proofs.machines.PartsAfterState.{lines_split}
 
 -- whether the character stands in the text
 abbrev pub has : ℕ → List ℕ → Bool
@@ -16,13 +16,7 @@ has-append x (c ∷ a) b h g = let o = or_parts (c == x) (has x a) h in rw o.0 (
 -- after an LF the lines of what follows begin
 pub lines_after : (u t : List ℕ) → lines (u ++ 10 ∷ t) ≡ lines u ++ lines t
 lines_after [] t = refl
-lines_after (c ∷ u) t = by (c == 10) (lines_after u t) (lines_split u)
-  where
-    by : (b : Bool) → lines (u ++ 10 ∷ t) ≡ lines u ++ lines t → lines u ≡ first_line u ∷ later_lines u
-        → cond b ([] ∷ lines (u ++ 10 ∷ t)) (on_first c (lines (u ++ 10 ∷ t))) ≡ cond b ([] ∷ lines u) (on_first c (lines u)) ++ lines t
-    by true h s = ap (λ (x : List (List ℕ)). [] ∷ x) h
-    by false h s = ap (on_first c) (h ∙ ap (λ (x : List (List ℕ)). x ++ lines t) s)
-        ∙ sym (ap (λ (x : List (List ℕ)). on_first c x ++ lines t) s)
+lines_after (c ∷ u) t = grind (arith, lines_after u t, lines_split)
 
 -- a text without LF is one line
 pub one_line : (u : List ℕ) → has 10 u ≡ false → lines u ≡ u ∷ []
@@ -38,16 +32,7 @@ with_last s (l ∷ m ∷ ls) = l ∷ with_last s (m ∷ ls)
 -- a text without LF after another stands after its last line
 pub lines_with : (u s : List ℕ) → has 10 s ≡ false → lines (u ++ s) ≡ with_last s (lines u)
 lines_with [] s h = one_line s h
-lines_with (c ∷ u) s h = by (c == 10) (lines_with u s h) (lines_split u)
-  where
-    first : (l : List ℕ) (ls : List (List ℕ)) → on_first c (with_last s (l ∷ ls)) ≡ with_last s (on_first c (l ∷ ls))
-    first l [] = refl
-    first l (m ∷ ls) = refl
-
-    by : (b : Bool) → lines (u ++ s) ≡ with_last s (lines u) → lines u ≡ first_line u ∷ later_lines u
-        → cond b ([] ∷ lines (u ++ s)) (on_first c (lines (u ++ s))) ≡ with_last s (cond b ([] ∷ lines u) (on_first c (lines u)))
-    by true e f = ap (λ (x : List (List ℕ)). [] ∷ x) (e ∙ ap (with_last s) f) ∙ sym (ap (λ (x : List (List ℕ)). with_last s ([] ∷ x)) f)
-    by false e f = ap (on_first c) (e ∙ ap (with_last s) f) ∙ first (first_line u) (later_lines u) ∙ sym (ap (λ (x : List (List ℕ)). with_last s (on_first c x)) f)
+lines_with (c ∷ u) s h = grind (arith, lines_with u s h, lines_split)
 
 -- lines as a text, each after an LF
 abbrev pub below_text : List (List ℕ) → List ℕ
@@ -57,10 +42,4 @@ below_text (l ∷ ls) = 10 ∷ l ++ below_text ls
 -- the lines of a text are that text
 pub lines_joined : (u : List ℕ) → below_text (lines u) ≡ 10 ∷ u
 lines_joined [] = refl
-lines_joined (c ∷ u) = by (c == 10) refl (lines_joined u) (lines_split u)
-  where
-    by : (b : Bool) → (c == 10) ≡ b → below_text (lines u) ≡ 10 ∷ u → lines u ≡ first_line u ∷ later_lines u → below_text (cond b ([] ∷ lines u) (on_first c (lines u))) ≡ 10 ∷ c ∷ u
-    by true e h s = ap (λ (x : List ℕ). 10 ∷ x) (h ∙ ap (λ (x : ℕ). x ∷ u) (sym (eqb-true c 10 e)))
-    by false e h s =
-        let g : first_line u ++ below_text (later_lines u) ≡ u = cc (sym (ap below_text s) ∙ h) in
-        ap (λ (x : List (List ℕ)). below_text (on_first c x)) s ∙ ap (λ (x : List ℕ). 10 ∷ c ∷ x) g
+lines_joined (c ∷ u) = grind (arith, lines_joined u, lines_split, eqb-true)

@@ -1,8 +1,8 @@
 -- Texts of several lines in which no mark of two or more `;` begins, and none of whose later lines begins with `%%`.
-use Rattle.std.proofs.Common.{◌≡◌, ℕ, ◌-◌, ◌==◌, List, [], ◌∷◌, ◌++◌, Bool, true, false, cond, ◌||◌, ◌&&◌, ◌⊎◌, inl, inr, nat_le, refl, sym, ap, subst, ◌∙◌, append_assoc, append-nil}
+use Rattle.std.proofs.Common.{◌≡◌, ℕ, ◌-◌, ◌==◌, List, [], ◌∷◌, ◌++◌, Bool, true, false, cond, ◌||◌, ◌&&◌, ◌⊎◌, inl, inr, refl, sym, ap, subst, ◌∙◌, append_assoc, append-nil, arith}
 use Rattle.std.proofs.lemmas.Bool.{or_parts}
 use Rattle.std.proofs.Math.Bool.{and-false}
-use Rattle.gabc_headers.specs.Lines.{lines, on_first, is_blank, is_bare, is_mark, has_mark, before_mark, is_blank_or_lf, ends_no_value, is_score_line}
+use Rattle.gabc_headers.specs.Lines.{lines, is_blank, is_bare, is_mark, has_mark, before_mark, ends_no_value, is_score_line}
 use Rattle.gabc_headers.specs.Groups.{HaveNoMark}
 use Rattle.gabc_headers.proofs.machines.PartsAfterState.{first_line, later_lines, lines_split}
 use Rattle.gabc_headers.proofs.marks_of_lines.PrefixOfMark.{Passed, pass_none, pass_one, pass_more}
@@ -17,16 +17,12 @@ pub record IsEnd (c : ℕ) : Type 0 where
   pub semi : (c == 59) ≡ false
 
 pub end_is : (c : ℕ) → ends_no_value c ≡ false → IsEnd c
-end_is c h =
-    let a = or_parts (is_blank_or_lf c) (c == 59) h in
-    let b = or_parts (is_blank c) (c == 10) a.0 in
-    record { blank = b.0; feed = b.1; semi = a.1 }
+end_is c h = grind (arith, or_parts)
 
 -- ---- a mark after what ends well
 
 ends_onward : (c : ℕ) (w : List ℕ) → EndsWell ends_no_value (c ∷ w) → EndsWell ends_no_value w
-ends_onward c [] h = tt
-ends_onward c (d ∷ w) h = h
+ends_onward c w h = grind arith
 
 module _ (s : List ℕ) where
   bare_more : (c : ℕ) (w : List ℕ) → EndsWell ends_no_value (c ∷ w) → is_bare (c ∷ (w ++ s)) ≡ is_bare (c ∷ w)
@@ -34,10 +30,8 @@ module _ (s : List ℕ) where
   bare_more c (d ∷ w) h = ap (λ (b : Bool). (c == 37) || (is_blank c && b)) (bare_more d w h)
 
   pub mark_more : (n c : ℕ) (w : List ℕ) → EndsWell ends_no_value (c ∷ w) → is_mark n (c ∷ (w ++ s)) ≡ is_mark n (c ∷ w)
-  mark_more n c [] h = ap (λ (b : Bool). b && ((nat_le n 1 && is_bare s) || is_mark (n - 1) s)) (end_is c h).semi
-      ∙ sym (ap (λ (b : Bool). b && ((nat_le n 1 && true) || false)) (end_is c h).semi)
-  mark_more n c (d ∷ w) h = ap (λ (b : Bool). (c == 59) && ((nat_le n 1 && b) || is_mark (n - 1) (d ∷ (w ++ s)))) (bare_more d w h)
-      ∙ ap (λ (b : Bool). (c == 59) && ((nat_le n 1 && is_bare (d ∷ w)) || b)) (mark_more (n - 1) d w h)
+  mark_more n c [] h = grind (arith, end_is)
+  mark_more n c (d ∷ w) h = grind (arith, mark_more (n - 1) d w h, bare_more)
 
   -- no mark begins in such a text that has none by itself
   pub marks_passed : (n : ℕ) (w : List ℕ) → EndsWell ends_no_value w → has_mark n w ≡ false → Passed n w s
@@ -51,13 +45,7 @@ module _ (s : List ℕ) where
 -- it ends in the first text, or goes on with the second
 first_with : (w y : List ℕ) → (first_line (w ++ y) ≡ first_line w) ⊎ ((first_line (w ++ y) ≡ w ++ first_line y) × (first_line w ≡ w))
 first_with [] y = inr (refl, refl)
-first_with (c ∷ w) y = by (c == 10) (first_with w y)
-  where
-    by : (b : Bool) → (first_line (w ++ y) ≡ first_line w) ⊎ ((first_line (w ++ y) ≡ w ++ first_line y) × (first_line w ≡ w))
-        → (cond b [] (c ∷ first_line (w ++ y)) ≡ cond b [] (c ∷ first_line w)) ⊎ ((cond b [] (c ∷ first_line (w ++ y)) ≡ c ∷ (w ++ first_line y)) × (cond b [] (c ∷ first_line w) ≡ c ∷ w))
-    by true h = inl refl
-    by false (inl e) = inl (ap (λ (x : List ℕ). c ∷ x) e)
-    by false (inr (e, f)) = inr (ap (λ (x : List ℕ). c ∷ x) e, ap (λ (x : List ℕ). c ∷ x) f)
+first_with (c ∷ w) y = grind (arith, first_with w y)
 
 pub first_all : (u : List ℕ) → has 10 u ≡ false → first_line u ≡ u
 first_all [] h = refl
@@ -101,15 +89,7 @@ free_alone (c ∷ w) y h f = (alone (first_with (c ∷ w) y), free_alone w y (en
 -- its lines have no mark
 pub free_lines : (v : List ℕ) → Free v [] → HaveNoMark (lines v)
 free_lines [] h = (refl, tt)
-free_lines (c ∷ v) h = by (c == 10) (free_lines v h.1) (lines_split v) (ap (λ (x : List ℕ). is_mark 2 (first_line (c ∷ x))) (sym (append-nil v)) ∙ h.0)
-  where
-    more : (l : List ℕ) (ls : List (List ℕ)) → is_mark 2 (c ∷ l) ≡ false → HaveNoMark (l ∷ ls) → HaveNoMark ((c ∷ l) ∷ ls)
-    more l ls e g = (ap (λ (b : Bool). b || has_mark 2 l) e ∙ g.0, g.1)
-
-    by : (b : Bool) → HaveNoMark (lines v) → lines v ≡ first_line v ∷ later_lines v → is_mark 2 (cond b [] (c ∷ first_line v)) ≡ false
-        → HaveNoMark (cond b ([] ∷ lines v) (on_first c (lines v)))
-    by true g s e = (refl, g)
-    by false g s e = subst (λ (x : List (List ℕ)). HaveNoMark (on_first c x)) (sym s) (more (first_line v) (later_lines v) e (subst HaveNoMark s g))
+free_lines (c ∷ v) h = grind (arith, free_lines v h.1, lines_split, append-nil)
 
 -- a line without a mark, with its LF
 pub free_line : (a y : List ℕ) → has 10 a ≡ false → has_mark 2 a ≡ false → Free a (10 ∷ y)
@@ -170,9 +150,7 @@ NoScore [] = Unit {0}
 NoScore (c ∷ w) = ((c == 10) ≡ true → is_score_line w ≡ false) × NoScore w
 
 pub score_front : (a b : List ℕ) → is_score_line (a ++ b) ≡ false → is_score_line a ≡ false
-score_front [] b h = refl
-score_front (c ∷ []) b h = and-false (c == 37)
-score_front (c ∷ d ∷ a) b h = h
+score_front a b h = grind (arith, and-false)
 
 pub no_score_front : (a b : List ℕ) → NoScore (a ++ b) → NoScore a
 no_score_front [] b h = tt
@@ -196,8 +174,4 @@ AreNoScore (l ∷ ls) = (is_score_line l ≡ false) × AreNoScore ls
 
 pub later_no_score : (v : List ℕ) → NoScore v → AreNoScore (later_lines v)
 later_no_score [] h = tt
-later_no_score (c ∷ v) h = by (c == 10) h.0 (later_no_score v h.1) (lines_split v)
-  where
-    by : (b : Bool) → (b ≡ true → is_score_line v ≡ false) → AreNoScore (later_lines v) → lines v ≡ first_line v ∷ later_lines v → AreNoScore (cond b (lines v) (later_lines v))
-    by true f g s = subst AreNoScore (sym s) (score_first v ∙ f refl, g)
-    by false f g s = g
+later_no_score (c ∷ v) h = grind (arith, later_no_score v h.1, lines_split, score_first)

@@ -1,27 +1,23 @@
 -- The canonical lines of a book are read again as the book.
-use Rattle.std.proofs.Common.{◌≡◌, ℕ, ◌+◌, ◌<◌, ◌≤◌, List, [], ◌∷◌, ◌++◌, Bool, true, false, cond, not, ◌||◌, ◌&&◌, codes, length, length-append, take, nat_lt, map, refl, sym, ap, subst, ◌∙◌, append_assoc, append-nil, arith, Option, None, Ok}
-use Rattle.std.proofs.lemmas.Bool.Decides.{nat_tests}
+use Rattle.std.proofs.Common.{◌≡◌, ℕ, ◌+◌, ◌<◌, ◌≤◌, List, [], ◌∷◌, ◌++◌, Bool, true, false, cond, not, codes, length, length-append, take, nat_lt, refl, sym, ap, subst, ◌∙◌, append_assoc, append-nil, arith, Option, None, Ok}
 use Rattle.std.proofs.Math.Seq.{take-append_seam, take-append-add}
 use Rattle.gabc_places.proofs.NothingAfterAnEnd.{both_empty}
 use Rattle.gabc_places.specs.declared.limits.Limits.{Limits}
 use Rattle.gabc_places.specs.LargerLimits.{AreNoLess}
-use Rattle.gabc_places.specs.declared.place.Place.{Place}
-use Rattle.gabc_places.specs.declared.code.Code.TheVariants.{W1, F4, F7}
 use Rattle.gabc_places.specs.declared.code.Finding.{Finding}
-use Rattle.gabc_places.specs.Findings.{Known, Stop, findings_before, earliest}
-use Rattle.gabc_places.specs.Place.{place_after}
+use Rattle.gabc_places.specs.Findings.{Stop, findings_before}
 use Rattle.gabc_headers.specs.declared.heads.Heads.{Heads}
-use Rattle.gabc_headers.specs.Lines.{bytes_len, lines, on_first, lines_len, head_of, has_score, before_colon}
+use Rattle.gabc_headers.specs.Lines.{bytes_len, lines, lines_len, head_of, has_score, before_colon}
 use Rattle.gabc_headers.specs.Parts.{HeaderPart, bad_name_parts, ended_parts}
 use Rattle.gabc_headers.specs.witness.Parts.{outside, parts, head_parts}
 use Rattle.gabc_headers.specs.Book.{entries, standing_entries, book_of, has_header}
 use Rattle.gabc_headers.specs.Groups.{Group, valued, AreGroups, value_text, mark_point, parts_of_groups}
 use Rattle.gabc_headers.specs.Canonical.{header_line, header_lines, canonical_heads}
-use Rattle.gabc_headers.specs.Heads.{head_len, open_line, findings_after, known_at, stop_at, text_stops, open_stops, missing_score, body_byte, heads_of}
-use Rattle.gabc_headers.specs.witness.Heads.{name_findings, head_findings, score_stops, head_stops, heads_by}
+use Rattle.gabc_headers.specs.Heads.{head_len, open_line, text_stops, open_stops, body_byte, heads_of}
+use Rattle.gabc_headers.specs.witness.Heads.{head_findings, score_stops, head_stops}
 use Rattle.gabc_headers.specs.HeadsAgain.{nameless, heads_again}
 use Rattle.gabc_headers.proofs.canonical_form.HeadersEndInTwoPercents.{heads_len}
-use Rattle.gabc_headers.proofs.machines.PartsAfterState.{first_line, later_lines, lines_split}
+use Rattle.gabc_headers.proofs.machines.PartsAfterState.{lines_split}
 use Rattle.gabc_headers.proofs.groups.GroupsAreUnique.{some_groups}
 use Rattle.gabc_headers.proofs.groups.GroupsTellParts.{groups_tell}
 use Rattle.gabc_headers.proofs.stops.PointsOfStops.{lines_all}
@@ -67,16 +63,10 @@ printed_book (e ∷ es) h more =
 -- lines in front of the line `%%`
 head_after : (ls ms : List (List ℕ)) → AreNoScore ls → (head_of (ls ++ ms) ≡ ls ++ head_of ms) × (has_score (ls ++ ms) ≡ has_score ms)
 head_after [] ms h = (refl, refl)
-head_after (l ∷ ls) ms h =
-    let r = head_after ls ms h.1 in (
-      ap (λ (b : Bool). cond b [] (l ∷ head_of (ls ++ ms))) h.0 ∙ ap (λ (x : List (List ℕ)). l ∷ x) r.0,
-      ap (λ (b : Bool). b || has_score (ls ++ ms)) h.0 ∙ r.1,
-    )
+head_after (l ∷ ls) ms h = grind (arith, head_after ls ms h.1)
 
 score_first_line : (more : List ℕ) → (head_of (lines (37 ∷ 37 ∷ more)) ≡ []) × (has_score (lines (37 ∷ 37 ∷ more)) ≡ true)
-score_first_line more =
-    let s : lines (37 ∷ 37 ∷ more) ≡ (37 ∷ 37 ∷ first_line more) ∷ later_lines more = ap (λ (x : List (List ℕ)). on_first 37 (on_first 37 x)) (lines_split more) in
-    (ap head_of s, ap has_score s)
+score_first_line more = grind (arith, lines_split)
 
 lines_len-append : (ls ms : List (List ℕ)) → lines_len (ls ++ ms) ≡ lines_len ls + lines_len ms
 lines_len-append [] ms = omega arith
@@ -86,22 +76,14 @@ lines_len-append (l ∷ ls) ms = let h = lines_len-append ls ms in omega arith
 
 -- no limit is passed by the lines
 within : (limit n : ℕ) (s : Stop) → cond (nat_lt limit n) (s ∷ []) [] ≡ [] → nat_lt limit n ≡ false
-within limit n s h = by (nat_lt limit n) h
-  where
-    by : (b : Bool) → cond b (s ∷ []) [] ≡ [] → b ≡ false
-    by true e = absurd (cc)
-    by false e = refl
+within limit n s h = grind arith
 
 -- one finding at most, and its point is early
 one_found : (b : Bool) (f : Finding) (p stop : ℕ) → p < stop → findings_before stop (cond b (record { point = p; finding = f } ∷ []) []) ≡ cond b (f ∷ []) []
-one_found true f p stop h =
-    let e : nat_lt p stop ≡ true = grind (arith, nat_tests) in
-    ap (λ (b : Bool). map (λ (k : Known). k.finding) (cond b (record { point = p; finding = f } ∷ []) [])) e
-one_found false f p stop h = refl
+one_found b f p stop h = grind arith
 
 not_cond : {X : Type 0} (b : Bool) (x : X) → cond (not b) (x ∷ []) [] ≡ cond b [] (x ∷ [])
-not_cond true x = refl
-not_cond false x = refl
+not_cond b x = grind arith
 
 -- ---- the book is read again
 
@@ -126,8 +108,7 @@ module _ (limits : Limits) (book : List (List ℕ × List ℕ)) (w : IsWithinLim
   lines_are = ap lines again_is ∙ printed.text
 
   head_is : head_of (lines again) ≡ printed.heads
-  head_is = ap head_of lines_are ∙ (head_after printed.heads (lines (37 ∷ 37 ∷ more)) printed.no_score).0
-      ∙ ap (λ (x : List (List ℕ)). printed.heads ++ x) (score_first_line more).0 ∙ append-nil printed.heads
+  head_is = grind (arith, lines_are, head_after, score_first_line, append-nil)
 
   score_is : has_score (lines again) ≡ true
   score_is = ap has_score lines_are ∙ (head_after printed.heads (lines (37 ∷ 37 ∷ more)) printed.no_score).1 ∙ (score_first_line more).1
@@ -153,65 +134,33 @@ module _ (limits : Limits) (book : List (List ℕ × List ℕ)) (w : IsWithinLim
   book_is = ap book_of parts_are ∙ ap (standing_entries []) (headers_entries parts_at_end book (printed.headers_are 1 0) w.entries) ∙ stands_again [] book w.once
 
   none_long : text_stops limits.header again ≡ []
-  none_long =
-      let small : bytes_len (header_lines book) ≤ limits.header = let h = w.header in grind (arith, nat_tests) in
-      stops_none limits.header again (subst (λ (x : List ℕ). bytes_len x ≤ limits.header) (sym (sym (take_head again) ∙ text_is)) small)
+  none_long = grind (arith, stops_none, take_head, text_is)
 
   none_open : open_line (head_parts again) ≡ None
   none_open = ap open_line parts_are ∙ headers_closed parts_at_end book (printed.headers_are 1 0)
 
   none_above : score_stops limits again ≡ []
-  none_above =
-      let place : Place = place_after (take (head_len again) again) in
-      ap (λ (b : List (List ℕ × List ℕ)). cond (nat_lt limits.header (bytes_len (header_lines b))) (stop_at (head_len again + 1) place F4 ∷ []) []
-      ++ cond (nat_lt limits.input (bytes_len (header_lines b) + 3)) (stop_at (head_len again + 1) place F7 ∷ []) []) book_is
-      ∙ ap (λ (b : Bool). cond b (stop_at (head_len again + 1) place F4 ∷ []) [] ++ cond (nat_lt limits.input (bytes_len (header_lines book) + 3)) (stop_at (head_len again + 1) place F7 ∷ []) []) w.header
-      ∙ ap (λ (b : Bool). cond b (stop_at (head_len again + 1) place F7 ∷ []) []) w.input
+  none_above = grind (arith, book_is)
 
   none_stops : head_stops limits again ≡ []
-  none_stops =
-      ap (λ (x : List Stop). x ++ cond (has_score (lines again)) (open_stops (head_len again + 1) (open_line (head_parts again)) ++ score_stops limits again)
-      (open_stops (length again) (open_line (head_parts again)) ++ missing_score (open_line (head_parts again)) again)) none_long
-      ∙ ap (λ (b : Bool). cond b (open_stops (head_len again + 1) (open_line (head_parts again)) ++ score_stops limits again)
-      (open_stops (length again) (open_line (head_parts again)) ++ missing_score (open_line (head_parts again)) again)) score_is
-      ∙ ap (λ (o : Option ℕ). open_stops (head_len again + 1) o ++ score_stops limits again) none_open
-      ∙ none_above
+  none_stops = grind (arith, none_long, score_is, none_open, none_above)
 
   body_is : body_byte again ≡ bytes_len (canonical_heads book)
-  body_is = ap (λ (n : ℕ). bytes_len (take (n + 2) again)) len_is ∙ ap (λ (x : List ℕ). bytes_len (take (length (header_lines book) + 2) x)) again_is
-      ∙ ap bytes_len (take-append-add (header_lines book) (37 ∷ 37 ∷ more) 2)
+  body_is = grind (arith, len_is, again_is, take-append-add)
 
   found_is : head_findings again ≡ cond (not (has_header (codes "name") book)) (record { point = head_len again + 1; finding = nameless book } ∷ []) []
-  found_is =
-      ap (λ (x : List HeaderPart). findings_after [] x ++ name_findings again) parts_are
-      ∙ ap (λ (x : List Known). x ++ name_findings again) (headers_found [] parts_at_end book (printed.headers_are 1 0) w.entries w.once)
-      ∙ ap (λ (b : Bool). cond (b && not (has_header (codes "name") (book_of (head_parts again)))) (known_at (head_len again + 1) (place_after (take (head_len again) again)) W1 ∷ []) []) score_is
-      ∙ ap (λ (b : List (List ℕ × List ℕ)). cond (not (has_header (codes "name") b)) (known_at (head_len again + 1) (place_after (take (head_len again) again)) W1 ∷ []) []) book_is
-      ∙ ap (λ (x : List ℕ). cond (not (has_header (codes "name") book)) (known_at (head_len again + 1) (place_after x) W1 ∷ []) []) text_is
+  found_is = grind (arith, parts_are, headers_found, score_is, book_is, text_is)
 
   findings_are : findings_before (length again + 1) (head_findings again) ≡ cond (has_header (codes "name") book) [] (nameless book ∷ [])
-  findings_are =
-      let both : length again ≡ length (header_lines book) + length (37 ∷ 37 ∷ more) = ap (length {A = ℕ}) again_is ∙ length-append (header_lines book) (37 ∷ 37 ∷ more) in
-      let early : head_len again + 1 < length again + 1 = omega (arith, len_is, both) in
-      ap (findings_before (length again + 1)) found_is
-      ∙ one_found (not (has_header (codes "name") book)) (nameless book) (head_len again + 1) (length again + 1) early
-      ∙ not_cond (has_header (codes "name") book) (nameless book)
+  findings_are = grind (arith, again_is, length-append, len_is, found_is, one_found, not_cond)
 
   heads_are : heads_of limits again ≡ Ok (heads_again book)
-  heads_are =
-      ap (λ (x : List Stop). heads_by again (earliest x)) none_stops
-      ∙ ap (λ (b : List (List ℕ × List ℕ)). Ok (record { book = b; body = body_byte again; findings = findings_before (length again + 1) (head_findings again) })) book_is
-      ∙ ap (λ (n : ℕ). Ok (record { book = book; body = n; findings = findings_before (length again + 1) (head_findings again) })) body_is
-      ∙ ap (λ (x : List Finding). Ok (record { book = book; body = bytes_len (canonical_heads book); findings = x })) findings_are
+  heads_are = grind (arith, none_stops, book_is, body_is, findings_are)
 
 -- ---- the book of a text
 
 pub own_book : (limits : Limits) (t : List ℕ) (heads : Heads) → heads_of limits t ≡ Ok heads → heads.book ≡ book_of (head_parts t)
-own_book limits t heads ok = by (head_stops limits t) ok
-  where
-    by : (stops : List Stop) → heads_by t (earliest stops) ≡ Ok heads → heads.book ≡ book_of (head_parts t)
-    by [] e = cc
-    by (s ∷ stops) e = absurd (cc)
+own_book limits t heads ok = grind arith
 
 -- headers that are read whole have a book within the limits
 within_limits : (limits : Limits) (t : List ℕ) (heads : Heads) → heads_of limits t ≡ Ok heads → IsWithinLimits limits heads.book
@@ -229,12 +178,7 @@ within_limits limits t heads ok =
     })
 
 within_larger : (limits larger : Limits) (book : List (List ℕ × List ℕ)) → AreNoLess limits larger → IsWithinLimits limits book → IsWithinLimits larger book
-within_larger limits larger book no_less w =
-    let h = w.header in
-    let i = w.input in
-    let more = no_less.header in
-    let most = no_less.input in
-    record { entries = w.entries; once = w.once; header = grind (arith, nat_tests); input = grind (arith, nat_tests) }
+within_larger limits larger book no_less w = grind arith
 
 pub book_read : (limits larger : Limits) (t more : List ℕ) (heads : Heads) → AreNoLess limits larger → heads_of limits t ≡ Ok heads → heads_of larger (canonical_heads heads.book ++ more) ≡ Ok (heads_again heads.book)
 book_read limits larger t more heads no_less ok = heads_are larger heads.book (within_larger limits larger heads.book no_less (within_limits limits t heads ok)) more
@@ -244,9 +188,4 @@ book_ends limits t more heads ok = len_is limits heads.book (within_limits limit
 
 -- the canonical lines of the book are within the limits, and so is its canonical file without syllables
 pub book_is_short : (limits : Limits) (t : List ℕ) (heads : Heads) → heads_of limits t ≡ Ok heads → (bytes_len (header_lines heads.book) ≤ limits.header) × (bytes_len (canonical_heads heads.book) + 1 ≤ limits.input)
-book_is_short limits t heads ok =
-    let w = within_limits limits t heads ok in
-    let h = w.header in
-    let i = w.input in
-    let size : 2 + bytes_len (header_lines heads.book) ≡ bytes_len (canonical_heads heads.book) = heads_len heads.book in
-    (grind (arith, nat_tests), grind (arith, nat_tests))
+book_is_short limits t heads ok = grind (arith, within_limits, heads_len)

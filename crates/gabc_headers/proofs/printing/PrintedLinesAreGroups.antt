@@ -1,5 +1,5 @@
 -- The printed lines of an entry are one group, which reports the entry.
-use Rattle.std.proofs.Common.{◌≡◌, ℕ, ◌==◌, List, [], ◌∷◌, ◌++◌, Bool, true, false, cond, ◌||◌, codes, refl, sym, ap, subst, ◌∙◌, append_assoc, append-nil, Some, None}
+use Rattle.std.proofs.Common.{◌≡◌, ℕ, List, [], ◌∷◌, ◌++◌, Bool, true, false, cond, codes, refl, sym, ap, subst, ◌∙◌, append_assoc, append-nil, Some, None, arith}
 use Rattle.std.proofs.lemmas.Bool.{or_parts}
 use Rattle.gabc_headers.specs.Lines.{lines, on_first, is_bare, has_mark, before_mark, has_colon, before_colon, after_colon, is_blank_or_lf, ends_no_value, trim_start, unless_last, trim_name, trim_value, is_score_line}
 use Rattle.gabc_headers.specs.Parts.{good_name, name_of}
@@ -29,18 +29,11 @@ pub record PrintedEntry (e : List ℕ × List ℕ) : Type 0 where
 colon_after : (name x : List ℕ) → has 58 name ≡ false
     → (has_colon (name ++ 58 ∷ x) ≡ true) × (before_colon (name ++ 58 ∷ x) ≡ name) × (after_colon (name ++ 58 ∷ x) ≡ x)
 colon_after [] x h = (refl, refl, refl)
-colon_after (c ∷ name) x h = by (c == 58) h (colon_after name x)
-  where
-    by : (b : Bool) → (b || has 58 name) ≡ false
-        → (has 58 name ≡ false → (has_colon (name ++ 58 ∷ x) ≡ true) × (before_colon (name ++ 58 ∷ x) ≡ name) × (after_colon (name ++ 58 ∷ x) ≡ x))
-        → ((b || has_colon (name ++ 58 ∷ x)) ≡ true) × (cond b [] (c ∷ before_colon (name ++ 58 ∷ x)) ≡ c ∷ name) × (cond b (name ++ 58 ∷ x) (after_colon (name ++ 58 ∷ x)) ≡ x)
-    by true h r = absurd (cc)
-    by false h r = let g = r h in (g.0, ap (λ (y : List ℕ). c ∷ y) g.1, g.2)
+colon_after (c ∷ name) x h = grind (arith, colon_after name x)
 
 -- what is not bare does not begin with `%`
 bare_score : (l : List ℕ) → is_bare l ≡ false → is_score_line l ≡ false
-bare_score [] h = refl
-bare_score (c ∷ l) h = rw (or_parts (c == 37) _ h).0 refl
+bare_score l h = grind (arith, or_parts)
 
 record FirstLine (name x : List ℕ) : Type 0 where
   begins : BeginsHeader (name ++ 58 ∷ x)
@@ -69,8 +62,7 @@ feed_first c v w = ap (λ (y : List ℕ). trim_start is_blank_or_lf (unless_last
 
 -- a text of one line with its LF
 one_printed : (u l t : List ℕ) → u ≡ l ++ 10 ∷ [] → has 10 l ≡ false → lines (u ++ t) ≡ (l ∷ []) ++ lines t
-one_printed u l t e h =
-    ap (λ (x : List ℕ). lines (x ++ t)) e ∙ ap lines (append_assoc l (10 ∷ []) t) ∙ lines_after l t ∙ ap (λ (x : List (List ℕ)). x ++ lines t) (one_line l h)
+one_printed u l t e h = grind (arith, append_assoc, lines_after, one_line)
 
 -- the empty value
 printed_empty : (name : List ℕ) → IsName name → PrintedEntry (name, [])
@@ -117,20 +109,11 @@ LastEnds ((c ∷ l) ∷ []) = EndsWell ends_no_value (c ∷ l)
 LastEnds (l ∷ m ∷ ls) = LastEnds (m ∷ ls)
 
 last_more : (c : ℕ) (l : List ℕ) (ls : List (List ℕ)) → LastEnds (l ∷ ls) → LastEnds ((c ∷ l) ∷ ls)
-last_more c [] [] h = absurd h
-last_more c (d ∷ l) [] h = h
-last_more c l (m ∷ ls) h = h
+last_more c l ls h = grind arith
 
 last_ends : (c : ℕ) (v : List ℕ) → EndsWell ends_no_value (c ∷ v) → LastEnds (lines (c ∷ v))
 last_ends c [] h = subst (λ (b : Bool). LastEnds (cond b ([] ∷ [] ∷ []) ((c ∷ []) ∷ []))) (sym (end_is c h).feed) h
-last_ends c (d ∷ v) h = by (c == 10) (last_ends d v h) (lines_split (d ∷ v))
-  where
-    lower : (l : List ℕ) (ls : List (List ℕ)) → LastEnds (l ∷ ls) → LastEnds ([] ∷ l ∷ ls)
-    lower l ls h = h
-
-    by : (b : Bool) → LastEnds (lines (d ∷ v)) → lines (d ∷ v) ≡ first_line (d ∷ v) ∷ later_lines (d ∷ v) → LastEnds (cond b ([] ∷ lines (d ∷ v)) (on_first c (lines (d ∷ v))))
-    by true e s = subst (λ (x : List (List ℕ)). LastEnds ([] ∷ x)) (sym s) (lower (first_line (d ∷ v)) (later_lines (d ∷ v)) (subst LastEnds s e))
-    by false e s = subst (λ (x : List (List ℕ)). LastEnds (on_first c x)) (sym s) (last_more c (first_line (d ∷ v)) (later_lines (d ∷ v)) (subst LastEnds s e))
+last_ends c (d ∷ v) h = grind (arith, last_ends d v h, lines_split, last_more)
 
 -- lines without a mark, with `;;` after the last
 record Closed (ls : List (List ℕ)) : Type 0 where
@@ -142,17 +125,11 @@ closed_lines [] [] h e = absurd e
 closed_lines (c ∷ l) [] h e =
     let m = mark_here 2 (c ∷ l) (59 ∷ 59 ∷ []) (marks_passed (59 ∷ 59 ∷ []) 2 (c ∷ l) e h.0) refl in
     record { ends = m.has; text = ap (λ (x : List ℕ). 10 ∷ x) (m.before ∙ sym (append-nil (c ∷ l))) }
-closed_lines l (m ∷ ls) h e = by ls (closed_lines m ls h.1 e)
-  where
-    by : (ls : List (List ℕ)) → Closed (m ∷ ls) → Closed (l ∷ m ∷ ls)
-    by [] r = record { ends = (h.0, r.ends); text = ap (λ (x : List ℕ). 10 ∷ l ++ x) r.text }
-    by (k ∷ ls) r = record { ends = (h.0, r.ends); text = ap (λ (x : List ℕ). 10 ∷ l ++ x) r.text }
+closed_lines l (m ∷ ls) h e = grind (arith, closed_lines m ls h.1 e)
 
 -- none of them begins with `%%` for the `;;`
 score_semis : (l : List ℕ) → is_score_line l ≡ false → is_score_line (l ++ 59 ∷ 59 ∷ []) ≡ false
-score_semis [] h = refl
-score_semis (c ∷ []) h = h
-score_semis (c ∷ d ∷ l) h = h
+score_semis l h = grind arith
 
 last_no_score : (ls : List (List ℕ)) → AreNoScore ls → AreNoScore (with_last (59 ∷ 59 ∷ []) ls)
 last_no_score [] h = tt
@@ -160,8 +137,7 @@ last_no_score (l ∷ []) h = (score_semis l h.0, tt)
 last_no_score (l ∷ m ∷ ls) h = (h.0, last_no_score (m ∷ ls) h.1)
 
 below_value : (l : List ℕ) (ls : List (List ℕ)) → EndAtMark ls → value_text l ls ≡ after_colon l ++ value_below ls
-below_value l [] e = absurd e
-below_value l (m ∷ ms) e = refl
+below_value l ls e = grind arith
 
 printed_lined : (name v : List ℕ) (c : ℕ) → IsName name → IsValue (c ∷ v) → wants_lines (lines (c ∷ v)) ≡ true → PrintedEntry (name, c ∷ v)
 printed_lined name v c g w wants =
@@ -198,14 +174,7 @@ printed_lined name v c g w wants =
 -- one line that is the text has no LF
 single_line : (v : List ℕ) → lines v ≡ v ∷ [] → has 10 v ≡ false
 single_line [] h = refl
-single_line (c ∷ v) h = by (c == 10) refl h (lines_split v) (single_line v)
-  where
-    tails : (l : List ℕ) (ls : List (List ℕ)) → (c ∷ l) ∷ ls ≡ (c ∷ v) ∷ [] → l ∷ ls ≡ v ∷ []
-    tails l ls e = cc
-
-    by : (b : Bool) → (c == 10) ≡ b → cond b ([] ∷ lines v) (on_first c (lines v)) ≡ (c ∷ v) ∷ [] → lines v ≡ first_line v ∷ later_lines v → (lines v ≡ v ∷ [] → has 10 v ≡ false) → (b || has 10 v) ≡ false
-    by true f e s r = absurd (cc)
-    by false f e s r = r (s ∙ tails (first_line v) (later_lines v) (sym (ap (on_first c) s) ∙ e))
+single_line (c ∷ v) h = grind (arith, single_line v, lines_split)
 
 -- a value that wants no lines of its own is one line without a mark
 record OneLine (v : List ℕ) : Type 0 where

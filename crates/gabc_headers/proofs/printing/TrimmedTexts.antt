@@ -1,5 +1,5 @@
 -- Trimmed texts, and what trimming leaves of a text.
-use Rattle.std.proofs.Common.{◌≡◌, ℕ, ◌==◌, List, [], ◌∷◌, ◌++◌, Bool, true, false, cond, ◌||◌, ◌&&◌, refl, sym, ap, ◌∙◌}
+use Rattle.std.proofs.Common.{◌≡◌, ℕ, ◌==◌, List, [], ◌∷◌, ◌++◌, Bool, true, false, cond, ◌||◌, ◌&&◌, refl, sym, ap, ◌∙◌, arith}
 use Rattle.std.proofs.lemmas.Bool.{or_parts}
 use Rattle.gabc_headers.specs.Lines.{trim_start, trim_end, unless_last, is_blank, is_bare}
 use Rattle.gabc_headers.proofs.printing.LinesOfTexts.{has}
@@ -16,8 +16,7 @@ module _ (out : ℕ → Bool) where
   EndsWell (c ∷ d ∷ l) = EndsWell (d ∷ l)
 
   pub start_kept : (l : List ℕ) → StartsWell l → trim_start out l ≡ l
-  start_kept [] h = refl
-  start_kept (c ∷ l) h = ap (λ (b : Bool). cond b (trim_start out l) (c ∷ l)) h
+  start_kept l h = grind arith
 
   pub end_kept : (l : List ℕ) → EndsWell l → trim_end out l ≡ l
   end_kept [] h = refl
@@ -26,34 +25,17 @@ module _ (out : ℕ → Bool) where
 
   pub starts_well : (l : List ℕ) → StartsWell (trim_start out l)
   starts_well [] = tt
-  starts_well (c ∷ l) = by (out c) refl (starts_well l)
-    where
-      by : (b : Bool) → out c ≡ b → StartsWell (trim_start out l) → StartsWell (cond b (trim_start out l) (c ∷ l))
-      by true e h = h
-      by false e h = e
+  starts_well (c ∷ l) = grind (arith, starts_well l)
 
   pub ends_well : (l : List ℕ) → EndsWell (trim_end out l)
   ends_well [] = tt
-  ends_well (c ∷ l) = by (out c) (trim_end out l) refl (ends_well l)
-    where
-      by : (b : Bool) (r : List ℕ) → out c ≡ b → EndsWell r → EndsWell (unless_last b c r)
-      by true [] e h = tt
-      by false [] e h = e
-      by b (d ∷ r) e h = h
+  ends_well (c ∷ l) = grind (arith, ends_well l)
 
 -- a suffix ends as the text does
 pub end_of_suffix : (out at : ℕ → Bool) (l : List ℕ) → EndsWell out l → EndsWell out (trim_start at l)
 end_of_suffix out at [] h = tt
-end_of_suffix out at (c ∷ []) h = by (at c)
-  where
-    by : (b : Bool) → EndsWell out (cond b [] (c ∷ []))
-    by true = tt
-    by false = h
-end_of_suffix out at (c ∷ d ∷ l) h = by (at c) (end_of_suffix out at (d ∷ l) h)
-  where
-    by : (b : Bool) → EndsWell out (trim_start at (d ∷ l)) → EndsWell out (cond b (trim_start at (d ∷ l)) (c ∷ d ∷ l))
-    by true r = r
-    by false r = h
+end_of_suffix out at (c ∷ []) h = grind arith
+end_of_suffix out at (c ∷ d ∷ l) h = grind (arith, end_of_suffix out at (d ∷ l) h)
 
 -- ---- the parts of a text
 

@@ -1,5 +1,5 @@
 -- A stop, or the end, comes alone, and after it a stage of headers gives nothing.
-use Rattle.std.proofs.Common.{◌≡◌, ℕ, List, [], ◌∷◌, ◌++◌, map, Bool, true, false, cond, refl, ap, ◌∙◌, Result, Ok, Err, ◌⊎◌, inl, inr}
+use Rattle.std.proofs.Common.{◌≡◌, ℕ, List, [], ◌∷◌, ◌++◌, map, false, refl, ap, ◌∙◌, Result, Ok, Err, ◌⊎◌, inl, inr, arith}
 use Rattle.std.specs.List.{list_any}
 use Rattle.gabc_places.specs.BoundedList.{BoundedList, extended_by}
 use Rattle.gabc_places.specs.StageLaw.{EmitsNothing, StopsAtEnd}
@@ -50,12 +50,7 @@ heads_are_none [] book = refl
 heads_are_none (f ∷ fs) book = heads_are_none fs book
 
 character_stops : (t : List ℕ) (found : List Finding) (now : Result Heads HeadFault) → Stops (events_by found now) (progress_by t now)
-character_stops t found (Ok heads) = inl (heads_are_none found heads.book)
-character_stops t found (Err stopped) = by stopped.at_end
-  where
-    by : (b : Bool) → Stops (cond b (map (λ f. Found f) found) (Stop stopped.fault ∷ [])) (cond b (reading t) over)
-    by true = inl (found_are_none found)
-    by false = inr (Stop stopped.fault, refl, refl)
+character_stops t found now = grind (arith, heads_are_none, found_are_none)
 
 input_stops : (limits : Limits) (progress : HeadProgress) (x : Result Char Fault) → Stops (events_of_input limits progress x) (progress_after limits progress x)
 input_stops limits (reading t) (Ok c) = character_stops (t ++ c.c ∷ []) (new_findings limits t (t ++ c.c ∷ [])) (heads_of limits (t ++ c.c ∷ []))

@@ -1,14 +1,13 @@
 -- What a decoder and a stage of headers give in a row.
-use Rattle.std.proofs.Common.{◌≡◌, ℕ, List, [], ◌∷◌, ◌++◌, map, length, true, refl, sym, ap, ◌∙◌, append-nil, Option, None, Result, Ok}
+use Rattle.std.proofs.Common.{◌≡◌, ℕ, List, [], ◌∷◌, true, refl, sym, ap, ◌∙◌, append-nil, None, Result, Ok, arith}
 use Rattle.gabc_places.specs.declared.code.Fault.{Fault}
 use Rattle.gabc_places.specs.declared.limits.Limits.{Limits}
 use Rattle.gabc_places.specs.declared.place.Char.{Char}
 use Rattle.gabc_places.specs.Chain.{chain_events}
-use Rattle.gabc_places.specs.Decoder.{known_at_end, fault_items}
-use Rattle.gabc_places.specs.Place.{placed_characters}
+use Rattle.gabc_places.specs.Decoder.{known_at_end}
 use Rattle.gabc_places.specs.StageLaw.{concat_of, Pushes}
 use Rattle.gabc_places.specs.BoundedList.{BoundedList, extended_by}
-use Rattle.gabc_places.specs.Text.{decoded_of, text_of_bytes}
+use Rattle.gabc_places.specs.Text.{decoded_of}
 use Rattle.gabc_places.proofs.ChainKeepsEvents.{joined-regrouped}
 use Rattle.gabc_places.proofs.texts.TextsAreScalars.{text_scalars}
 use Rattle.gabc_places.proofs.decoding.PlainTextsAreReadAgain.{all_scalars}
@@ -24,17 +23,12 @@ use Rattle.gabc_headers.proofs.prefixes.EventsMakeHeads.{events_make_heads}
 -- what the headers give of what a decoder gives
 pub chained : (limits : Limits) (first : List ℕ → List (List (Result Char Fault))) (bytes : List ℕ) (known : List (Result Char Fault)) → concat_of (first bytes) ≡ known
     → concat_of (chain_events first (events_left limits (reading [])) bytes) ≡ concat_of (events_left limits (reading []) known)
-chained limits first bytes known e =
-    joined-regrouped bytes (map (λ events. length events) (first bytes)) (events_left limits (reading []) (concat_of (first bytes)))
-    ∙ ap (λ (x : List (Result Char Fault)). concat_of (events_left limits (reading []) x)) e
+chained limits first bytes known e = grind (arith, joined-regrouped)
 
 -- without a fault these are the headers of the text
 pub known_text : (limits : Limits) (bytes : List ℕ) → (decoded_of limits true bytes).fault ≡ None → let t = (decoded_of limits true bytes).text in
     concat_of (events_left limits (reading []) (known_at_end limits bytes)) ≡ events_of_heads t (heads_of limits t)
-known_text limits bytes e =
-    ap (λ (x : List (Result Char Fault)). concat_of (events_left limits (reading []) x))
-    (ap (λ (f : Option Fault). map (λ c. Ok c) (placed_characters (text_of_bytes limits.input bytes)) ++ fault_items f) e ∙ append-nil (map (λ c. Ok c) (placed_characters (text_of_bytes limits.input bytes))))
-    ∙ events_make_heads limits (text_of_bytes limits.input bytes) (all_scalars (text_of_bytes limits.input bytes) (text_scalars limits.input bytes))
+known_text limits bytes e = grind (arith, append-nil, events_make_heads, all_scalars, text_scalars)
 
 -- ---- one input
 

@@ -1,17 +1,15 @@
 -- What a stage in the headers is after a character, over its fields.
-use Rattle.std.proofs.Common.{◌≡◌, ℕ, ◌≤◌, List, [], ◌∷◌, ◌++◌, length, map, Bool, true, false, cond, codes, refl, sym, ap, ◌∙◌, subst, arith, Option, Some, None, append-nil, IsUtf8}
+use Rattle.std.proofs.Common.{◌≡◌, ℕ, ◌≤◌, List, [], ◌∷◌, ◌++◌, length, map, refl, sym, ap, ◌∙◌, subst, arith, Option, append-nil, IsUtf8}
 use Rattle.std.specs.Str.{chars}
 use Rattle.gabc_places.specs.BoundedList.{BoundedList, extended_by}
 use Rattle.gabc_places.specs.declared.place.Place.{Place}
 use Rattle.gabc_places.specs.declared.limits.Limits.{Limits}
-use Rattle.gabc_places.specs.declared.code.Code.TheVariants.{W1}
 use Rattle.gabc_places.specs.declared.code.Finding.{Finding}
 use Rattle.gabc_headers.specs.declared.head_event.HeadEvent.{HeadEvent}
 use Rattle.gabc_headers.specs.declared.head_event.HeadEvent.TheVariants.{Found, End}
 use Rattle.gabc_headers.specs.declared.header_machine.HeaderMachine.{HeaderMachine}
 use Rattle.gabc_headers.specs.declared.header_stage.HeadPart.{HeadPart}
 use Rattle.gabc_headers.specs.declared.header_stage.HeadPart.TheVariants.{InHeaders, After, Stopped, Over}
-use Rattle.gabc_headers.specs.Book.{has_header}
 use Rattle.gabc_headers.specs.Heads.{heads_of}
 use Rattle.gabc_headers.specs.witness.HeadEvents.{IsInHeaders, reading, after_headers, over, HeaderStageState, stage_at, events_at, events_at_end, events_of_end, text_held, progress_with}
 use Rattle.gabc_headers.specs.machine.Collected.{found_list, name_found}
@@ -36,11 +34,7 @@ pub record StandsInHeaders (limits : Limits) (part : HeadPart) (text : List ℕ)
 
 pub stands : (limits : Limits) (part : HeadPart) (text : List ℕ) (space : ℕ) (machine : HeaderMachine) (headers : EntryMapState) (view : HeaderStageState)
     → view_of limits part text headers ≡ view → IsInHeaders view.progress → IsStageIn part limits text space machine headers → StandsInHeaders limits part text space machine headers
-stands limits part text space machine headers view e r i = by part (subst (λ (v : HeaderStageState). IsInHeaders v.progress) (sym e) r) i
-  where
-    by : (part : HeadPart) → IsInHeaders (progress_in part text (book_in part text headers.items)) → IsStageIn part limits text space machine headers → StandsInHeaders limits part text space machine headers
-    by InHeaders r i = record { part_is = refl; reads = i }
-    by _ r i = absurd r
+stands limits part text space machine headers view e r i = grind arith
 
 -- the events of a character are those at the text
 pub events_in : (limits : Limits) (part : HeadPart) (text : List ℕ) (headers : EntryMapState) (view : HeaderStageState) (c : ℕ) → part ≡ InHeaders → view_of limits part text headers ≡ view
@@ -95,37 +89,26 @@ end_stopped limits part text headers view p e = sym (ap (λ (v : HeaderStageStat
 
 pub shows_over : (limits : Limits) (part : HeadPart) (text : List ℕ) (headers : EntryMapState) (view : HeaderStageState) → view_of limits part text headers ≡ view
     → view_of limits (part_over part) text headers ≡ stage_at view over
-shows_over limits part text headers view e = by part ∙ ap (λ (v : HeaderStageState). stage_at v over) e
-  where
-    by : (part : HeadPart) → view_of limits (part_over part) text headers ≡ stage_at (view_of limits part text headers) over
-    by InHeaders = refl
-    by _ = refl
+shows_over limits part text headers view e = grind arith
 
 -- ---- few events
 
 pub few_found : (found : Option Finding) → length (map (λ f. Found f) (found_list found)) ≤ 2
-few_found None = omega arith
-few_found (Some f) = omega arith
+few_found found = grind arith
 
 pub few_heads : (place : Place) (book : List (List ℕ × List ℕ)) (event : HeadEvent) → length (map (λ f. Found f) (name_found place book) ++ event ∷ []) ≤ 2
-few_heads place book event = by (has_header (codes "name") book)
-  where
-    by : (b : Bool) → length (map (λ f. Found f) (cond b [] (record { place = place; code = W1 } ∷ [])) ++ event ∷ []) ≤ 2
-    by true = omega arith
-    by false = omega arith
+few_heads place book event = grind arith
 
 -- ---- wherever a stage stands
 
 -- it keeps its memory, and the values lie in its text
 pub keeps : (limits : Limits) (part : HeadPart) (text : List ℕ) (space : ℕ) (machine : HeaderMachine) (headers : EntryMapState) → IsUtf8 text → IsStageIn part limits text space machine headers
     → KeepsHeaders limits text space headers
-keeps limits InHeaders text space machine headers u i = record { text_fits = i.fits; headers_fit = i.limit; within = values_lie_within limits text space machine headers u i }
-keeps limits _ text space machine headers u i = i
+keeps limits part text space machine headers u i = grind (arith, values_lie_within)
 
 pub stands_over : (limits : Limits) (part : HeadPart) (text : List ℕ) (space : ℕ) (machine : HeaderMachine) (headers : EntryMapState) → KeepsHeaders limits text space headers
     → IsStageIn (part_over part) limits text space machine headers
-stands_over limits InHeaders text space machine headers k = k
-stands_over limits _ text space machine headers k = k
+stands_over limits part text space machine headers k = grind arith
 
 pub nothing_added : {T : Type 0} (out : BoundedList T) → out ≡ extended_by out []
 nothing_added out = ap (λ (x : List _). record out { items = x }) (sym (append-nil out.items))

@@ -12,7 +12,6 @@ use Rattle.gabc_places.specs.declared.code.Fault.{Fault}
 use Rattle.gabc_places.specs.declared.code.Finding.{Finding}
 use Rattle.gabc_places.proofs.texts.CharactersOfStrings.{chars-encode}
 use Rattle.gabc_headers.specs.declared.events.HeaderEvent.{HeaderEvent}
-use Rattle.gabc_headers.specs.declared.events.HeaderEvent.TheVariants.{LeftOut, Header}
 use Rattle.gabc_headers.specs.declared.events.HeaderEnding.{HeaderEnding}
 use Rattle.gabc_headers.specs.declared.events.HeaderEnding.TheVariants.{Score, Limit, Text}
 use Rattle.gabc_headers.specs.declared.head_event.HeadEvent.{HeadEvent}
@@ -22,15 +21,14 @@ use Rattle.gabc_headers.specs.declared.header_machine.HeaderStep.{HeaderStep}
 use Rattle.gabc_headers.specs.declared.header_machine.HeaderStep.TheVariants.{Read, Ended}
 use Rattle.gabc_headers.specs.declared.heads.Heads.{Heads}
 use Rattle.gabc_headers.specs.declared.heads.HeadFault.{HeadFault}
-use Rattle.gabc_headers.specs.Book.{has_header, is_kept}
-use Rattle.gabc_headers.specs.Entries.{EntryMapState, text_at, spelled_entries}
-use Rattle.gabc_headers.specs.EntryMap.{put_entry}
+use Rattle.gabc_headers.specs.Book.{has_header}
+use Rattle.gabc_headers.specs.Entries.{EntryMapState, spelled_entries}
 use Rattle.gabc_headers.specs.Heads.{heads_of}
 use Rattle.gabc_headers.specs.HeadEvents.{event_of_book}
 use Rattle.gabc_headers.specs.witness.HeadEvents.{HeadProgress, reading, after_headers, over, events_at, events_at_end, progress_with}
 use Rattle.gabc_headers.specs.Lines.{bytes_len}
-use Rattle.gabc_headers.specs.machine.Collected.{Collected, IsGoodEvent, AreGoodEvents, collected_with, collected_with_all, of_headers, none, name_found, len_at_score, end_fault, finding_at}
-use Rattle.gabc_headers.specs.machine.EntryMap.{AreWithin, comes_again, HasPlace}
+use Rattle.gabc_headers.specs.machine.Collected.{Collected, IsGoodEvent, AreGoodEvents, collected_with, collected_with_all, of_headers, none, name_found, len_at_score, end_fault}
+use Rattle.gabc_headers.specs.machine.EntryMap.{AreWithin, HasPlace}
 use Rattle.gabc_headers.specs.machine.Events.{with_event}
 use Rattle.gabc_headers.specs.machine.HeaderMachine.{IsBounded, fresh_machine, push_one, end_here}
 use Rattle.gabc_headers.specs.machine.HeaderStage.{Takes, IsReading}
@@ -47,23 +45,10 @@ use Rattle.gabc_headers.proofs.stages.MachineTakesText.{takes_more, has_read, co
 -- ---- what an event adds depends on the headers alone
 
 headers_alone : (text : List ℕ) (e : HeaderEvent) (c : Collected) → (collected_with text e c).headers ≡ (collected_with text e (of_headers c.headers)).headers
-headers_alone text (LeftOut k p) c = refl
-headers_alone text (Header k n v p) c = by (is_kept (text_at text n) (text_at text v))
-  where
-    by : (b : Bool) → (cond {A = Collected} b (record {
-      headers = put_entry c.headers (text_at text n) v;
-      findings = cond (comes_again c.headers (text_at text n)) (c.findings ++ finding_at k Rattle.gabc_places.specs.declared.code.Code.TheVariants.W2 ∷ []) c.findings;
-    }) (record { headers = c.headers; findings = c.findings ++ finding_at k Rattle.gabc_places.specs.declared.code.Code.TheVariants.E5 ∷ [] })).headers
-        ≡ (cond {A = Collected} b (record {
-          headers = put_entry c.headers (text_at text n) v;
-          findings = cond (comes_again c.headers (text_at text n)) (finding_at k Rattle.gabc_places.specs.declared.code.Code.TheVariants.W2 ∷ []) [];
-        }) (record { headers = c.headers; findings = finding_at k Rattle.gabc_places.specs.declared.code.Code.TheVariants.E5 ∷ [] })).headers
-    by true = refl
-    by false = refl
+headers_alone text e c = grind arith
 
 found_alone : (text : List ℕ) (e : Option HeaderEvent) (c : Collected) → found_at text e c ≡ found_at text e (of_headers c.headers)
-found_alone text (Some (LeftOut k p)) c = refl
-found_alone text _ c = refl
+found_alone text e c = grind arith
 
 -- the headers with an event, if there is one
 abbrev pub put_at : List ℕ → Option HeaderEvent → List (List ℕ × Span) → List (List ℕ × Span)
@@ -144,8 +129,7 @@ module _ (limits : Limits) (text : List ℕ) (space : ℕ) (machine new : Header
   items_are = h.put ∙ ap (λ (x : List ℕ). (collected_with_all x h.events none).headers) (sym bytes_are)
 
   items_more : headers.items ≡ (collected_with_all more h.events none).headers
-  items_more = items_are ∙ (ap (λ (x : Collected). x.headers) (sym (kept_so_far limits.header t (c ∷ []) machine h.events scalars_more read))
-      ∙ ap (λ (x : List ℕ). (collected_with_all x h.events none).headers) bytes_more)
+  items_more = grind (arith, items_are, kept_so_far, scalars_more, read, bytes_more)
 
   pub reads_on : (e : Option HeaderEvent) → IsBounded new → push_one machine c ≡ (new, Read e) → ReadsOn limits text space new headers c e
   reads_on e bounded p =

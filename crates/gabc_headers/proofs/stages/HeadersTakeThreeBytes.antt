@@ -1,28 +1,27 @@
 -- A header that counts takes at least three bytes of the text: one of its name, the `:` and a `;`.
-use Rattle.std.proofs.Common.{◌≡◌, ℕ, ◌+◌, ◌*◌, ◌/◌, ◌<◌, ◌≤◌, ◌&&◌, nat_lt, List, [], ◌∷◌, ◌++◌, length, Bool, true, false, cond, refl, subst, arith, Option, Some, None}
-use Rattle.std.proofs.lemmas.Bool.Decides.{nat_tests}
+use Rattle.std.proofs.Common.{◌≡◌, ℕ, ◌+◌, ◌*◌, ◌/◌, ◌≤◌, List, [], ◌∷◌, ◌++◌, length, Bool, cond, subst, arith, Option, Some, None}
 use Rattle.std.specs.Char.{len_utf8}
 use Rattle.std.proofs.lemmas.Str.{len_utf8_bounds}
 use Rattle.std.proofs.lemmas.Bool.{and_parts}
 use Rattle.gabc_places.specs.declared.place.Span.{Span}
 use Rattle.gabc_headers.specs.declared.characters.HeaderChar.{HeaderChar}
-use Rattle.gabc_headers.specs.declared.characters.HeaderChar.TheVariants.{Semicolon, Percent, Blank, LineEnd, Colon}
+use Rattle.gabc_headers.specs.declared.characters.HeaderChar.TheVariants.{Semicolon, Blank}
 use Rattle.gabc_headers.specs.declared.characters.Run.{Run}
-use Rattle.gabc_headers.specs.declared.characters.Run.TheVariants.{Text, Short}
+use Rattle.gabc_headers.specs.declared.characters.Run.TheVariants.{Text}
 use Rattle.gabc_headers.specs.declared.events.HeaderEvent.{HeaderEvent}
-use Rattle.gabc_headers.specs.declared.events.HeaderEvent.TheVariants.{LeftOut, Header}
+use Rattle.gabc_headers.specs.declared.events.HeaderEvent.TheVariants.{Header}
 use Rattle.gabc_headers.specs.declared.part_machine.Trim.{Trim}
 use Rattle.gabc_headers.specs.declared.part_machine.PartState.{PartState}
 use Rattle.gabc_headers.specs.declared.part_machine.PartState.TheVariants.{Name, Skip, Value}
 use Rattle.gabc_headers.specs.declared.part_machine.PartMachine.{PartMachine}
 use Rattle.gabc_headers.specs.declared.header_machine.HeaderMachine.{HeaderMachine}
 use Rattle.gabc_headers.specs.declared.header_machine.HeaderStep.TheVariants.{Read}
-use Rattle.gabc_headers.specs.machine.Characters.{next_run, is_mark_run, header_char_of}
+use Rattle.gabc_headers.specs.machine.Characters.{next_run, header_char_of}
 use Rattle.gabc_headers.specs.machine.Collected.{Collected, collected_with, collected_with_all, none}
 use Rattle.gabc_headers.specs.machine.Events.{with_event}
 use Rattle.gabc_headers.specs.machine.HeaderMachine.{fresh_machine, part_step, push_one}
 use Rattle.gabc_headers.specs.machine.HeaderStage.{Takes}
-use Rattle.gabc_headers.specs.machine.PartMachine.{next_part_machine, name_step, skip_step, value_step, next_trim, span_of, is_good_span, event_at_end, at_line_start, next_line, step_in, in_value as value_on}
+use Rattle.gabc_headers.specs.machine.PartMachine.{next_part_machine, name_step, skip_step, value_step, next_trim, span_of, is_good_span}
 use Rattle.gabc_headers.proofs.collecting.EventsAddEntries.{length-collected}
 use Rattle.gabc_headers.proofs.stages.MachineTakesText.{along, ReadBy, holds, steps, frees, read_by, freed, stepped}
 
@@ -51,77 +50,30 @@ abbrev IsSpent : ℕ → ℕ → PartMachine → Type 0
 IsSpent k bytes r = IsSpentAt k bytes r.state r
 
 in_any : (k bytes : ℕ) (run : Run) (name : Option Span) → IsSpentIn k bytes run name → 3 * k ≤ bytes
-in_any k bytes run None h = h
-in_any k bytes Text (Some n) h = omega arith
-in_any k bytes _ (Some n) h = omega arith
+in_any k bytes run name h = grind arith
 
 pub three_each : (k bytes : ℕ) (r : PartMachine) → IsSpent k bytes r → 3 * k ≤ bytes
-three_each k bytes r = by r.state
-  where
-    by : (s : PartState) → IsSpentAt k bytes s r → 3 * k ≤ bytes
-    by Name h = let a = h.0 in let b = h.1 in omega (arith, a, b)
-    by Skip h = h
-    by (Value long run) h = in_any k bytes run r.name h
-
--- a run that is a mark has a `;`
-in_mark : (k bytes : ℕ) (run : Run) (n : Span) → is_mark_run run ≡ true → IsSpentIn k bytes run (Some n) → 3 * k + 3 ≤ bytes
-in_mark k bytes Text n q h = absurd (cc)
-in_mark k bytes Short n q h = absurd (cc)
-in_mark k bytes _ n q h = h
-
--- after the end of a value
-ended : (k bytes at : ℕ) (long : Bool) (run : Run) (r : PartMachine) → is_mark_run run ≡ true → IsSpentIn k bytes run r.name → 3 * (k + header_count (event_at_end r at)) ≤ bytes
-ended k bytes at long run r q = by r.name
-  where
-    by : (n : Option Span) → IsSpentIn k bytes run n → 3 * (k + header_count (event_at_end (record r { name = n }) at)) ≤ bytes
-    by None h = omega arith
-    by (Some n) h = let m = in_mark k bytes run n q h in omega (arith, m)
+three_each k bytes r = grind (arith, in_any)
 
 -- what a `Text` run needs is no more than any does
 to_text : (k bytes next : ℕ) (run : Run) (name : Option Span) → bytes ≤ next → IsSpentIn k bytes run name → IsSpentIn k next Text name
-to_text k bytes next run None l h = omega arith
-to_text k bytes next Text (Some n) l h = omega arith
-to_text k bytes next _ (Some n) l h = omega arith
+to_text k bytes next run name l h = grind arith
 
 to_blank : (k bytes next : ℕ) (long : Bool) (run : Run) (name : Option Span) → bytes ≤ next → IsSpentIn k bytes run name → IsSpentIn k next (next_run run long Blank) name
-to_blank k bytes next long Text name l h = to_text k bytes next Text name l h
-to_blank k bytes next long Short name l h = to_text k bytes next Short name l h
-to_blank k bytes next long _ None l h = omega arith
-to_blank k bytes next long _ (Some n) l h = omega arith
+to_blank k bytes next long run name l h = grind (arith, to_text)
 
 to_semicolon : (k bytes next : ℕ) (long : Bool) (run : Run) (name : Option Span) → bytes + 1 ≤ next → IsSpentIn k bytes run name → IsSpentIn k next (next_run run long Semicolon) name
-to_semicolon k bytes next true Text None l h = omega arith
-to_semicolon k bytes next false Text None l h = omega arith
-to_semicolon k bytes next true Text (Some n) l h = omega arith
-to_semicolon k bytes next false Text (Some n) l h = omega arith
-to_semicolon k bytes next long _ None l h = omega arith
-to_semicolon k bytes next long _ (Some n) l h = omega arith
+to_semicolon k bytes next long run name l h = grind arith
 
 -- a trim goes on within the bytes
 trimmed : (k bytes next : ℕ) (t : Trim) (lead last : Bool) → bytes ≤ next → (3 * k ≤ t.from) × (t.from ≤ bytes) × (t.to ≤ bytes)
     → (3 * k ≤ (next_trim t next lead last).from) × ((next_trim t next lead last).from ≤ next) × ((next_trim t next lead last).to ≤ next)
-trimmed k bytes next t lead last l h = by (t.leading && lead) last (h.0) (h.1) (h.2)
-  where
-    by : (a b : Bool) → 3 * k ≤ t.from → t.from ≤ bytes → t.to ≤ bytes → (3 * k ≤ cond a next t.from) × (cond a next t.from ≤ next) × (cond b t.to next ≤ next)
-    by true true x y z = (omega arith, omega arith, omega arith)
-    by true false x y z = (omega arith, omega arith, omega arith)
-    by false true x y z = (omega arith, omega arith, omega arith)
-    by false false x y z = (omega arith, omega arith, omega arith)
+trimmed k bytes next t lead last l h = grind arith
 
 -- at a `:`
 named : (k bytes next : ℕ) (r : PartMachine) → bytes + 1 ≤ next → (3 * k ≤ r.trim.from) × (r.trim.from ≤ bytes) × (r.trim.to ≤ bytes)
     → (b : Bool) → is_good_span (span_of r.trim) ≡ b → IsSpentIn k next Text (cond b (Some (span_of r.trim)) None)
-named k bytes next r l h false q = let a = h.0 in let b = h.1 in omega (arith, a, b, l)
-named k bytes next r l h true q = by (nat_lt r.trim.to r.trim.from) refl
-  where
-    filled : nat_lt r.trim.from (span_of r.trim).to ≡ true
-    filled = (and_parts _ _ q).0
-
-    by : (b : Bool) → nat_lt r.trim.to r.trim.from ≡ b → 3 * k + 2 ≤ next
-    by true e = absurd (let f : nat_lt r.trim.from r.trim.from ≡ true = subst (λ (b : Bool). nat_lt r.trim.from (cond b r.trim.from r.trim.to) ≡ true) e filled in let g : r.trim.from < r.trim.from = grind (arith, nat_tests) in omega (arith, g))
-    by false e = let f : nat_lt r.trim.from r.trim.to ≡ true = subst (λ (b : Bool). nat_lt r.trim.from (cond b r.trim.from r.trim.to) ≡ true) e filled in
-        let g : r.trim.from < r.trim.to = grind (arith, nat_tests) in
-        let a = h.0 in let b = h.2 in omega (arith, a, b, g, l)
+named k bytes next r l h b q = grind (arith, and_parts)
 
 abbrev IsSpentBy : ℕ → ℕ → PartMachine × Option HeaderEvent → Type 0
 IsSpentBy k bytes x = IsSpent (k + header_count x.1) bytes x.0
@@ -131,72 +83,28 @@ module _ (k bytes next at : ℕ) (r : PartMachine) (l : bytes + 1 ≤ next) wher
   weaker = omega arith
 
   in_name : (kind : HeaderChar) → IsSpentAt k bytes Name r → r.state ≡ Name → IsSpentBy k next (name_step r kind at next (is_good_span (span_of r.trim)))
-  in_name LineEnd h s = by r.trim.leading
-    where
-      by : (b : Bool) → (3 * (k + header_count (cond b None (Some (LeftOut r.line at)))) ≤ next) × (next ≤ next) × (next ≤ next)
-      by true = let a = h.0 in let b = h.1 in (omega (arith, a, b, l), omega arith, omega arith)
-      by false = let a = h.0 in let b = h.1 in (omega (arith, a, b, l), omega arith, omega arith)
-  in_name Percent h s = by r.trim.leading
-    where
-      by : (b : Bool) → IsSpent (k + 0) next (cond b (record r { state = Skip }) (record r { trim = next_trim r.trim next false false }))
-      by true = let a = h.0 in let b = h.1 in omega (arith, a, b, l)
-      by false = rw s (subst (λ (n : ℕ). (3 * n ≤ (next_trim r.trim next false false).from) × ((next_trim r.trim next false false).from ≤ next) × ((next_trim r.trim next false false).to ≤ next)) (let e : k ≡ k + 0 = omega arith in e) (trimmed k bytes next r.trim false false weaker h))
-  in_name Colon h s = by (is_good_span (span_of r.trim)) refl
-    where
-      by : (b : Bool) → is_good_span (span_of r.trim) ≡ b → IsSpentIn (k + header_count (cond b None (Some (LeftOut r.line at)))) next Text (cond b (Some (span_of r.trim)) None)
-      by true q = let n : 3 * k + 2 ≤ next = named k bytes next r l h true q in omega (arith, n)
-      by false q = let n : 3 * k ≤ next = named k bytes next r l h false q in omega (arith, n)
-  in_name Blank h s = rw s (subst (λ (n : ℕ). (3 * n ≤ (next_trim r.trim next true true).from) × ((next_trim r.trim next true true).from ≤ next) × ((next_trim r.trim next true true).to ≤ next)) (let e : k ≡ k + 0 = omega arith in e) (trimmed k bytes next r.trim true true weaker h))
-  in_name _ h s = rw s (subst (λ (n : ℕ). (3 * n ≤ (next_trim r.trim next false false).from) × ((next_trim r.trim next false false).from ≤ next) × ((next_trim r.trim next false false).to ≤ next)) (let e : k ≡ k + 0 = omega arith in e) (trimmed k bytes next r.trim false false weaker h))
-
-  same : 3 * k ≤ bytes → r.state ≡ Skip → IsSpent (k + 0) next r
-  same h s = rw s (omega (arith, h, l))
+  in_name kind h s = grind (arith, trimmed, weaker, named)
 
   in_skip : (kind : HeaderChar) → 3 * k ≤ bytes → r.state ≡ Skip → IsSpentBy k next (skip_step r kind next)
-  in_skip LineEnd h s = (omega arith, omega arith, omega arith)
-  in_skip _ h s = same h s
+  in_skip kind h s = grind arith
 
   none_more : (run : Run) (name : Option Span) → IsSpentIn k next run name → IsSpentIn (k + 0) next run name
   none_more run name h = subst (λ (n : ℕ). IsSpentIn n next run name) (let e : k ≡ k + 0 = omega arith in e) h
 
   in_value : (long : Bool) (run : Run) (kind : HeaderChar) → IsSpentIn k bytes run r.name → IsSpentBy k next (value_step r long run kind at next)
-  in_value long run LineEnd h = by (is_mark_run run) refl
-    where
-      by : (b : Bool) → is_mark_run run ≡ b → IsSpentBy k next (cond {A = PartMachine × Option HeaderEvent} b (at_line_start (r.line + 1) next, event_at_end r at) (next_line r next, None))
-      by true q = let e = ended k bytes at long run r q h in (omega (arith, e, l), omega arith, omega arith)
-      by false q = none_more Text r.name (to_text k bytes next run r.name weaker h)
-  in_value long run Percent h = by (is_mark_run run) refl
-    where
-      by : (b : Bool) → is_mark_run run ≡ b → IsSpentBy k next (cond {A = PartMachine × Option HeaderEvent} b (record r { state = Skip }, event_at_end r at) (value_on r long Text next false false, None))
-      by true q = let e = ended k bytes at long run r q h in omega (arith, e, l)
-      by false q = none_more Text r.name (to_text k bytes next run r.name weaker h)
-  in_value long run Blank h = none_more _ r.name (to_blank k bytes next long run r.name weaker h)
-  in_value long run Semicolon h = none_more _ r.name (to_semicolon k bytes next long run r.name l h)
-  in_value long run _ h = none_more Text r.name (to_text k bytes next run r.name weaker h)
+  in_value long run kind h = grind (arith, none_more, to_text, weaker, to_blank, to_semicolon)
 
   -- one character
   spent_more : (kind : HeaderChar) → IsSpent k bytes r → IsSpentBy k next (next_part_machine r kind at next (is_good_span (span_of r.trim)))
-  spent_more kind = by r.state refl
-    where
-      by : (s : PartState) → r.state ≡ s → IsSpentAt k bytes s r → IsSpentBy k next (step_in s r kind at next (is_good_span (span_of r.trim)))
-      by Name e h = in_name kind h e
-      by Skip e h = in_skip kind h e
-      by (Value long run) e h = in_value long run kind h
+  spent_more kind = grind (arith, in_name, in_skip, in_value)
 
 -- ---- all characters of a text
 
 fewer_in : (j k bytes : ℕ) (run : Run) (name : Option Span) → j ≤ k → IsSpentIn k bytes run name → IsSpentIn j bytes run name
-fewer_in j k bytes run None l h = omega arith
-fewer_in j k bytes Text (Some n) l h = omega arith
-fewer_in j k bytes _ (Some n) l h = omega arith
+fewer_in j k bytes run name l h = grind arith
 
 fewer : (j k bytes : ℕ) (r : PartMachine) → j ≤ k → IsSpent k bytes r → IsSpent j bytes r
-fewer j k bytes r l = by r.state
-  where
-    by : (s : PartState) → IsSpentAt k bytes s r → IsSpentAt j bytes s r
-    by Name h = (let a = h.0 in omega (arith, a, l), h.1, h.2)
-    by Skip h = omega (arith, h, l)
-    by (Value long run) h = fewer_in j k bytes run r.name l h
+fewer j k bytes r l = grind (arith, fewer_in)
 
 -- a step of the machine
 spent_step : (k : ℕ) (r : HeaderMachine) (c : ℕ) → IsSpent k r.bytes r.parts → IsSpent (k + header_count (part_step r c).1) (stepped r c).bytes (stepped r c).parts
@@ -224,11 +132,7 @@ paid_more t r next es c e h p = by (read_by r next c e p)
 -- what counts is no more than what is emitted
 collected_few : (text : List ℕ) (es : List HeaderEvent) (c : Collected) → length (collected_with_all text es c).headers ≤ length c.headers + headers_in es
 collected_few text [] c = omega arith
-collected_few text (e ∷ es) c = let a = one e in let b = collected_few text es (collected_with text e c) in omega (arith, a, b)
-  where
-    one : (e : HeaderEvent) → length (collected_with text e c).headers ≤ length c.headers + header_count (Some e)
-    one (LeftOut k p) = omega arith
-    one (Header k n v p) = length-collected text (Header k n v p) c
+collected_few text (e ∷ es) c = grind (arith, collected_few text es (collected_with text e c), length-collected)
 
 -- there is room for one header more
 pub room_for_one : (limit : ℕ) (t text : List ℕ) (last : HeaderMachine) (all : List HeaderEvent) → Takes (fresh_machine limit) [] t last all → last.bytes ≤ limit

@@ -1,5 +1,5 @@
 -- The text that a stage of headers holds, from the first character on.
-use Rattle.std.proofs.Common.{◌≡◌, ℕ, List, [], ◌∷◌, ◌++◌, map, true, false, refl, sym, ap, ◌∙◌, append-nil, Result, Ok, Err}
+use Rattle.std.proofs.Common.{◌≡◌, ℕ, List, [], ◌∷◌, ◌++◌, map, false, refl, sym, ap, ◌∙◌, append-nil, Result, Ok, arith}
 use Rattle.std.specs.Char.{IsScalar}
 use Rattle.std.specs.List.{All}
 use Rattle.std.proofs.lemmas.List.{map-append}
@@ -13,12 +13,9 @@ use Rattle.gabc_places.proofs.texts.PlacesOfCharacters.{placed-append}
 use Rattle.gabc_places.proofs.decoding.PlainTextsAreReadAgain.{all_scalars}
 use Rattle.gabc_headers.specs.declared.head_event.HeadEvent.{HeadEvent}
 use Rattle.gabc_headers.specs.declared.head_event.HeadEvent.TheVariants.{Found}
-use Rattle.gabc_headers.specs.declared.heads.Heads.{Heads as ReadHeads}
-use Rattle.gabc_headers.specs.declared.heads.HeadFault.{HeadFault}
-use Rattle.gabc_headers.specs.Heads.{findings_of}
-use Rattle.gabc_headers.specs.HeadEvents.{emitted_by, events_of_broken, inputs_after}
+use Rattle.gabc_headers.specs.HeadEvents.{emitted_by, inputs_after}
 use Rattle.gabc_headers.specs.HeldText.{IsHeld, findings_held}
-use Rattle.gabc_headers.specs.witness.HeadEvents.{HeadProgress, reading, events_by, events_left, events_of_input, new_findings, progress_by}
+use Rattle.gabc_headers.specs.witness.HeadEvents.{HeadProgress, reading, events_left, events_of_input, new_findings, progress_by}
 use Rattle.gabc_headers.proofs.prefixes.EventsMakeHeads.{open_progress}
 use Rattle.gabc_headers.proofs.prefixes.EventsNeedNoEnd.{broken_gives, progress_past, standing, with_input}
 
@@ -33,22 +30,14 @@ found fs = map (λ f. Found f) fs
 
 -- what a held text has emitted are its findings
 found_alone : (limits : Limits) (t : List ℕ) → All IsScalar t → IsHeld limits t → so_far limits t ≡ found (findings_held limits t)
-found_alone limits t scalars h =
-    broken_gives limits t (all_scalars t scalars)
-    ∙ ap (events_of_broken t) h.heads ∙ alone h.stopped h.at_end ∙ sym (ap (λ (r : Result ReadHeads HeadFault). found (findings_of r)) h.heads)
-  where
-    alone : (f : HeadFault) → f.at_end ≡ true → events_of_broken t (Err f) ≡ found f.findings
-    alone f e = rw e (append-nil (found f.findings))
+found_alone limits t scalars h = grind (arith, broken_gives, all_scalars, append-nil)
 
 stands_held : (limits : Limits) (t : List ℕ) → All IsScalar t → IsHeld limits t → progress_past limits (reading []) (inputs_after [] t) ≡ reading t
 stands_held limits t scalars h = standing limits t (all_scalars t scalars) ∙ ap (progress_by t) h.heads ∙ open_progress t h.stopped h.at_end
 
 -- at a character after which the text is held what is found more is emitted
 more_found : (limits : Limits) (t : List ℕ) (x : Char) → IsHeld limits (t ++ x.c ∷ []) → events_of_input limits (reading t) (Ok x) ≡ found (new_findings limits t (t ++ x.c ∷ []))
-more_found limits t x h = ap (events_by (new_findings limits t (t ++ x.c ∷ []))) h.heads ∙ alone h.stopped h.at_end
-  where
-    alone : (f : HeadFault) → f.at_end ≡ true → events_by (new_findings limits t (t ++ x.c ∷ [])) (Err f) ≡ found (new_findings limits t (t ++ x.c ∷ []))
-    alone f e = rw e refl
+more_found limits t x h = grind arith
 
 -- the findings among events
 abbrev found_in : List HeadEvent → List Finding

@@ -1,5 +1,5 @@
 -- The text that a stage of headers holds: its end alone stops it, and pushed into a fresh stage it is held again.
-use Rattle.std.proofs.Common.{◌≡◌, ℕ, List, [], ◌∷◌, ◌++◌, length, take, map, Bool, true, false, refl, sym, ap, ◌∙◌, subst, append-nil, Result, Err}
+use Rattle.std.proofs.Common.{◌≡◌, ℕ, List, [], ◌∷◌, ◌++◌, length, take, map, Bool, true, false, refl, sym, ap, ◌∙◌, subst, append-nil, Result, Err, arith}
 use Rattle.std.specs.Str.{chars}
 use Rattle.std.specs.Hash.DefaultHasher.{initial}
 use Rattle.std.proofs.lemmas.Str.{scalars-chars}
@@ -29,9 +29,7 @@ use Rattle.gabc_headers.proofs.stages.MachineTakesText.{has_read}
 
 -- a stage that has read a text holds it
 pub is_held : (limits : Limits) (text : List ℕ) (space : ℕ) (machine : HeaderMachine) (headers : EntryMapState) → IsUtf8 text → IsReading limits text space machine headers → IsHeld limits (chars text)
-is_held limits text space machine headers u h =
-    let here = open_so_far limits (chars text) machine h.events (scalars-chars text u) (has_read limits.header (chars text) machine h.events h.taken) in
-    record { stopped = here.fault; heads = here.heads; at_end = here.at_end }
+is_held limits text space machine headers u h = grind (arith, open_so_far, scalars-chars, has_read)
 
 -- ---- wherever its characters stand
 

@@ -4,7 +4,7 @@ use Rattle.std.specs.Option.{option_map}
 use Rattle.std.specs.Char.{len_utf8}
 use Rattle.std.specs.List.{All, Contains}
 use Rattle.std.proofs.Math.Seq.{take-suc, take-length, drop-append_seam}
-use Rattle.std.proofs.lemmas.Bool.{and_parts, ltb-true, ltb-false, eqb-true, false_from_ne_true}
+use Rattle.std.proofs.lemmas.Bool.{and_parts, ltb-true, ltb-false, eqb-true}
 use Rattle.std.proofs.lemmas.Bool.Decides.{nat_tests}
 use Rattle.std.proofs.lemmas.List.{get_or_append_left}
 use Rattle.std.proofs.lemmas.List.Elements.{All-append, All-contains, All-cons, All-nil, All-head}
@@ -94,10 +94,7 @@ ends_above limit u e =
 
 -- where the last character is a `%` that begins a line and is above the limit
 percent_above : (limit : ℕ) (t : List ℕ) (i : ℕ) → 1 ≤ limit → i + 1 ≡ length t → is_line_percent t i ≡ true → IsAbove limit t i → drop (limit - 1) (encode_utf8_all t) ≡ codes "\n%"
-percent_above limit t zero some e line above =
-    let percent = eqb-true (get_or t 0 0) 37 (and_parts (get_or t 0 0 == 37) _ line).0 in
-    let most = above.above in
-    absurd (let one : len_utf8 (get_or t 0 0) ≡ 1 = ap len_utf8 percent in omega (arith, some, most, one))
+percent_above limit t zero some e line above = grind (arith, eqb-true, and_parts)
 percent_above limit t (suc j) some e line above =
     let parts = and_parts (get_or t (suc j) 0 == 37) ((suc j == 0) || (get_or t (suc j - 1) 0 == 10)) line in
     let percent = eqb-true (get_or t (suc j) 0) 37 parts.0 in
@@ -122,8 +119,7 @@ one_before : (n p : ℕ) (place : Place) (code : Code) → p < n → AreBefore n
 one_before n p place code less = All-cons (StopsBefore n) (stop_at p place code) [] less (All-nil (StopsBefore n))
 
 if_before : (n p : ℕ) (place : Place) (code : Code) (b : Bool) → p < n → AreBefore n (cond b (stop_at p place code ∷ []) [])
-if_before n p place code true less = one_before n p place code less
-if_before n p place code false less = All-nil (StopsBefore n)
+if_before n p place code b less = grind (arith, one_before, All-nil)
 
 sizes_before : (n p : ℕ) (place : Place) (x y : Bool) → p < n → AreBefore n (cond x (stop_at p place F4 ∷ []) [] ++ cond y (stop_at p place F7 ∷ []) [])
 sizes_before n p place x y less = All-append (StopsBefore n) (cond x (stop_at p place F4 ∷ []) []) (cond y (stop_at p place F7 ∷ []) []) (if_before n p place F4 x less) (if_before n p place F7 y less)
@@ -175,13 +171,11 @@ score_before limits t score = All-append (StopsBefore n) (text_stops limits.head
 
 module _ (limits : Limits) (t : List ℕ) (some : 1 ≤ limits.header) (r : Stop) (contains : Contains (head_stops limits t) r) (least : All (IsNoLater r) (head_stops limits t)) (at_end : r.point ≡ length t) where
   unscored : has_score (lines t) ≡ false
-  unscored = false_from_ne_true (has_score (lines t)) (λ e.
-      let before = All-contains (StopsBefore (length t)) (head_stops limits t) r (score_before limits t e) contains in omega (arith, before, at_end))
+  unscored = grind (arith, All-contains, score_before)
 
   -- so the text does not stop earlier
   past : (p : ℕ) (place : Place) → IsNoLater r (stop_at p place F4) → p < length t → ⊥
-  past p place (inl before) less = absurd (omega (arith, before, less, at_end))
-  past p place (inr same) less = absurd (omega (arith, same.0, less, at_end))
+  past p place h less = grind arith
 
   text_is_whole : text_stops limits.header t ≡ too_long t (first_above limits.header t)
   text_is_whole = ap (λ (n : ℕ). too_long t (first_above limits.header (take n t))) (rw unscored refl) ∙ ap (λ (x : List ℕ). too_long t (first_above limits.header x)) (take-length t)

@@ -28,8 +28,7 @@ along P on before (c ∷ t) r last es all p h =
 -- one character more
 pub takes_more : (r last next : HeaderMachine) (es all : List HeaderEvent) (t : List ℕ) (c : ℕ) (e : Option HeaderEvent) → Takes r es t last all → push_one last c ≡ (next, Read e)
     → Takes r es (t ++ c ∷ []) next (with_event all e)
-takes_more r last next es all [] c e h p =
-    (next, (e, subst (λ (x : HeaderMachine). push_one x c ≡ (next, Read e)) (sym h.0) p, (refl, ap (λ (x : List HeaderEvent). with_event x e) h.1)))
+takes_more r last next es all [] c e h p = grind arith
 takes_more r last next es all (d ∷ t) c e h p = (h.0, (h.1.0, h.1.1, takes_more h.0 last next (with_event es h.1.0) all t c e h.1.2 p))
 
 -- the machine stands after the text
@@ -63,11 +62,7 @@ pub data ReadBy (r : HeaderMachine) (c : ℕ) (next : HeaderMachine) (e : Option
   frees : r.held ≡ true → next ≡ stepped (stepped (freed r) 37) c → e ≡ (part_step (stepped (freed r) 37) c).1 → ReadBy r c next e
 
 taken : (r next : HeaderMachine) (c : ℕ) (e : Option HeaderEvent) → take_one r c ≡ (next, Read e) → (next ≡ stepped r c) × (e ≡ (part_step r c).1)
-taken r next c e p = by (nat_lt r.limit (r.bytes + len_utf8 c)) p
-  where
-    by : (b : Bool) → cond {A = HeaderMachine × HeaderStep} b (r, Ended (Limit r.place)) (stepped r c, Read (part_step r c).1) ≡ (next, Read e) → (next ≡ stepped r c) × (e ≡ (part_step r c).1)
-    by true q = absurd (let f : false ≡ true = ap is_read q in cc)
-    by false q = (sym (ap machine_of q), sym (ap event_of q))
+taken r next c e p = grind arith
 
 pub read_by : (r next : HeaderMachine) (c : ℕ) (e : Option HeaderEvent) → push_one r c ≡ (next, Read e) → ReadBy r c next e
 read_by r next c e p = by r.held refl p

@@ -24,17 +24,11 @@ use Rattle.gabc_headers.proofs.stops.PointsOfStops.{AllAfter, after-append, limi
 
 -- the warning of a book without a name is not known before the second `%`
 nameless_none : (t : List ℕ) (p : ℕ) → p ≤ head_len t + 1 → findings_before p (name_findings t) ≡ []
-nameless_none t p h = by (has_score (lines t) && not (has_header (codes "name") (book_of (head_parts t))))
-  where
-    by : (b : Bool) → findings_before p (cond b (known_at (head_len t + 1) (place_after (take (head_len t) t)) W1 ∷ []) []) ≡ []
-    by true = known_none p (head_len t + 1) _ h
-    by false = refl
+nameless_none t p h = grind (arith, known_none)
 
 found_emitted : (t : List ℕ) (p : ℕ) (events rest : List HeaderPart) → head_parts t ≡ events ++ rest → AreEarly p events → AreLate p rest
     → findings_before p (head_findings t) ≡ all_known (findings_after [] events) ++ findings_before p (name_findings t)
-found_emitted t p events rest e a b =
-    known-append p (findings_after [] (head_parts t)) (name_findings t)
-    ∙ ap (λ (x : List Finding). x ++ findings_before p (name_findings t)) (ap (λ (x : List HeaderPart). findings_before p (findings_after [] x)) e ∙ early_all [] p events rest a b)
+found_emitted t p events rest e a b = grind (arith, known-append, early_all)
 
 before : (t : List ℕ) (p : ℕ) (events rest : List HeaderPart) → head_parts t ≡ events ++ rest → AreEarly p events → AreLate p rest → p ≤ head_len t + 1
     → findings_before p (head_findings t) ≡ all_known (findings_after [] events)
@@ -52,17 +46,11 @@ head_text t h = rw h refl
 -- the stops of a text with a line `%%`, or without
 stops_score : (limits : Limits) (t : List ℕ) (o : Option ℕ) → has_score (lines t) ≡ true → text_stops limits.header t ≡ [] → o ≡ open_line (head_parts t)
     → head_stops limits t ≡ open_stops (head_len t + 1) o ++ score_stops limits t
-stops_score limits t o s n e =
-    ap (λ (x : List Stop). x ++ cond (has_score (lines t)) (open_stops (head_len t + 1) (open_line (head_parts t)) ++ score_stops limits t) (open_stops (length t) (open_line (head_parts t)) ++ missing_score (open_line (head_parts t)) t)) n
-    ∙ (ap (λ (b : Bool). cond b (open_stops (head_len t + 1) (open_line (head_parts t)) ++ score_stops limits t) (open_stops (length t) (open_line (head_parts t)) ++ missing_score (open_line (head_parts t)) t)) s
-    ∙ ap (λ (x : Option ℕ). open_stops (head_len t + 1) x ++ score_stops limits t) (sym e))
+stops_score limits t o s n e = grind arith
 
 stops_text : (limits : Limits) (t : List ℕ) (o : Option ℕ) → has_score (lines t) ≡ false → text_stops limits.header t ≡ [] → o ≡ open_line (head_parts t)
     → head_stops limits t ≡ open_stops (length t) o ++ missing_score o t
-stops_text limits t o s n e =
-    ap (λ (x : List Stop). x ++ cond (has_score (lines t)) (open_stops (head_len t + 1) (open_line (head_parts t)) ++ score_stops limits t) (open_stops (length t) (open_line (head_parts t)) ++ missing_score (open_line (head_parts t)) t)) n
-    ∙ (ap (λ (b : Bool). cond b (open_stops (head_len t + 1) (open_line (head_parts t)) ++ score_stops limits t) (open_stops (length t) (open_line (head_parts t)) ++ missing_score (open_line (head_parts t)) t)) s
-    ∙ ap (λ (x : Option ℕ). open_stops (length t) x ++ missing_score x t) (sym e))
+stops_text limits t o s n e = grind arith
 
 -- an open value at the line `%%`
 pub score_open : (limits : Limits) (t : List ℕ) (events rest : List HeaderPart) (k : ℕ) → head_parts t ≡ events ++ rest → AreEarly (head_len t + 1) events → AreLate (head_len t + 1) rest
@@ -93,29 +81,11 @@ text_ended limits t events rest e a b s n o =
     (ap (λ (x : List Stop). earliest x) (stops_text limits t None s n o)) (before t (length t) events rest e a b (omega arith)) (same_eqb (length t))
 
 open_after : (p q : ℕ) (o : Option ℕ) → p < q → AllAfter p (open_stops q o)
-open_after p q None h = tt
-open_after p q (Some k) h = (h, tt)
+open_after p q o h = grind arith
 
 pub others_after : (limits : Limits) (t : List ℕ) (p : ℕ) → p < length t → p ≤ head_len t
     → AllAfter p (cond (has_score (lines t)) (open_stops (head_len t + 1) (open_line (head_parts t)) ++ score_stops limits t) (open_stops (length t) (open_line (head_parts t)) ++ missing_score (open_line (head_parts t)) t))
-others_after limits t p h l = by (has_score (lines t))
-  where
-    m : p < head_len t + 1
-    m = omega arith
-
-    sizes : (x y : Bool) (place : Place) → AllAfter p (cond x (stop_at (head_len t + 1) place F4 ∷ []) [] ++ cond y (stop_at (head_len t + 1) place F7 ∷ []) [])
-    sizes true true place = (m, (m, tt))
-    sizes true false place = (m, tt)
-    sizes false true place = (m, tt)
-    sizes false false place = tt
-
-    missing : (o : Option ℕ) → AllAfter p (missing_score o t)
-    missing None = (h, tt)
-    missing (Some k) = tt
-
-    by : (b : Bool) → AllAfter p (cond b (open_stops (head_len t + 1) (open_line (head_parts t)) ++ score_stops limits t) (open_stops (length t) (open_line (head_parts t)) ++ missing_score (open_line (head_parts t)) t))
-    by true = after-append p (open_stops (head_len t + 1) (open_line (head_parts t))) (score_stops limits t) (open_after p (head_len t + 1) (open_line (head_parts t)) m) (sizes _ _ _)
-    by false = after-append p (open_stops (length t) (open_line (head_parts t))) (missing_score (open_line (head_parts t)) t) (open_after p (length t) (open_line (head_parts t)) h) (missing (open_line (head_parts t)))
+others_after limits t p h l = grind (arith, after-append, open_after)
 
 -- the text is too long
 pub text_limit : (limits : Limits) (t : List ℕ) (events rest : List HeaderPart) (p : ℕ) (place : Place) → head_parts t ≡ events ++ rest → AreEarly p events → AreLate p rest
@@ -130,9 +100,7 @@ text_limit limits t events rest p place e a b n =
     (before t p events rest e a b (omega arith)) (below_eqb p (length t) l)
 
 pub sizes_first : (p : ℕ) (b : Place) (x y : Bool) → earliest (cond x (stop_at p b F4 ∷ []) [] ++ cond y (stop_at p b F7 ∷ []) []) ≡ cond x (Some (stop_at p b F4)) (cond y (Some (stop_at p b F7)) None)
-sizes_first p b true y = size_first p b y
-sizes_first p b false true = refl
-sizes_first p b false false = refl
+sizes_first p b x y = grind (arith, size_first)
 
 -- what is found in the end
 found_all : (t : List ℕ) (events : List HeaderPart) → head_parts t ≡ events → AreEarly (head_len t + 1) events → has_score (lines t) ≡ true

@@ -16,7 +16,7 @@ use Rattle.gabc_headers.specs.Lines.{bytes_len, lines, has_score}
 use Rattle.gabc_headers.specs.Book.{book_of}
 use Rattle.gabc_headers.specs.Canonical.{header_lines}
 use Rattle.gabc_headers.specs.TooLong.{is_too_long}
-use Rattle.gabc_headers.specs.Heads.{head_len, open_line, line_place, stop_at, first_above, is_line_percent, too_long, text_stops, open_stops, missing_score, heads_of}
+use Rattle.gabc_headers.specs.Heads.{head_len, open_line, line_place, stop_at, first_above, too_long, text_stops, open_stops, missing_score, heads_of}
 use Rattle.gabc_headers.specs.witness.Heads.{score_stops, head_stops, heads_by}
 use Rattle.gabc_headers.specs.witness.Parts.{head_parts}
 use Rattle.gabc_headers.proofs.stops.PointsOfStops.{above_within, limit_within, first_earliest, open_first, score_within}
@@ -51,22 +51,11 @@ IsOneStop stops = (stops ≡ []) ⊎ ((p : ℕ) × (place : Place) × (stops ≡
 
 -- a text is too long at one point at most
 one_stop : (t : List ℕ) (o : Option ℕ) → IsOneStop (too_long t o)
-one_stop t None = inl refl
-one_stop t (Some i) = by (is_line_percent t i) (nat_lt (i + 1) (length t))
-  where
-    by : (a b : Bool) → IsOneStop (cond a (cond b (stop_at (i + 1) (place_after (take i t)) F4 ∷ []) []) (stop_at i (place_after (take i t)) F4 ∷ []))
-    by true true = inr (i + 1, place_after (take i t), refl)
-    by true false = inl refl
-    by false b = inr (i, place_after (take i t), refl)
+one_stop t o = grind arith
 
 -- only the last character of a text can pass the limit without a stop
 last_alone : (t : List ℕ) (i : ℕ) → too_long t (Some i) ≡ [] → length t ≤ i + 1
-last_alone t i e = by (is_line_percent t i) (nat_lt (i + 1) (length t)) refl e
-  where
-    by : (a b : Bool) → nat_lt (i + 1) (length t) ≡ b → cond a (cond b (stop_at (i + 1) (place_after (take i t)) F4 ∷ []) []) (stop_at i (place_after (take i t)) F4 ∷ []) ≡ [] → length t ≤ i + 1
-    by true true x k = absurd (cc)
-    by true false x k = grind (arith, nat_tests)
-    by false b x k = absurd (cc)
+last_alone t i e = grind arith
 
 -- a text that is not too long is not too long under a larger limit
 text_not_long : (limit larger : ℕ) (t : List ℕ) → limit ≤ larger → text_stops limit t ≡ [] → text_stops larger t ≡ []
@@ -103,19 +92,7 @@ stop_of limits t = earliest_of t (has_score (lines t)) (open_line (head_parts t)
 
 -- which it is
 earliest_is : (limits : Limits) (t : List ℕ) → text_stops limits.header t ≡ [] → earliest (head_stops limits t) ≡ stop_of limits t
-earliest_is limits t e =
-    ap (λ (x : List Stop). earliest (x ++ cond (has_score (lines t)) (open_stops (head_len t + 1) (open_line (head_parts t)) ++ score_stops limits t) (open_stops (length t) (open_line (head_parts t)) ++ missing_score (open_line (head_parts t)) t))) e
-    ∙ by (has_score (lines t)) (open_line (head_parts t)) (nat_lt limits.header (size_of t)) (nat_lt limits.input (size_of t + 3))
-  where
-    by : (s : Bool) (o : Option ℕ) (x y : Bool)
-        → earliest (cond s (open_stops (head_len t + 1) o
-        ++ (cond x (stop_at (head_len t + 1) (place_after (take (head_len t) t)) F4 ∷ []) [] ++ cond y (stop_at (head_len t + 1) (place_after (take (head_len t) t)) F7 ∷ []) []))
-        (open_stops (length t) o ++ missing_score o t))
-        ≡ earliest_of t s o x y
-    by true (Some k) x y = open_first (head_len t + 1) (line_place k) (place_after (take (head_len t) t)) x y
-    by true None x y = sizes_first (head_len t + 1) (place_after (take (head_len t) t)) x y
-    by false (Some k) x y = refl
-    by false None x y = refl
+earliest_is limits t e = grind (arith, open_first, sizes_first)
 
 -- the headers of a text that is not too long
 pub heads_are : (limits : Limits) (t : List ℕ) → text_stops limits.header t ≡ [] → heads_of limits t ≡ heads_by t (stop_of limits t)

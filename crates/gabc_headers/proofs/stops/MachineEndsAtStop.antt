@@ -145,30 +145,7 @@ module _ (t : List ℕ) (limit : ℕ) (done : List ℕ) (r : HeaderMachine) (es 
 
   -- the text ends, and nothing is held back
   pub text_here : (h : MachineReads t limit done [] r es) → AreHeaderEvents limit t es (Text r.place (open_in r.parts.state r.parts.header))
-  text_here h =
-      let line : Option ℕ = open_in r.parts.state r.parts.header in
-      let event : Option HeaderEvent = last_in h.rd.state h.rd (length done) in
-      let own : head_text true t ≡ done = h.scan.head ∙ append-nil done in
-      let text : t ≡ done = h.scan.text ∙ append-nil done in
-      let whole : head_parts t ≡ h.emitted ++ (seen (head_text true t) event ++ open_part line) =
-      the_end (head_parts t) (head_text true t) (length done) h.rd h.emitted h.stands
-      ∙ (ap (λ (x : Option ℕ). (h.emitted ++ seen (head_text true t) event) ++ open_part x) (sym (open_is [] h)) ∙ append_assoc h.emitted (seen (head_text true t) event) (open_part line)) in
-      record {
-        emitted = h.emitted;
-        rest = seen (head_text true t) event ++ open_part line;
-        stop = length done;
-        all = whole;
-        are_events_of = h.are_events_of;
-        early = h.early;
-        late = late_seen (head_text true t) (length done) event (open_part line) (near_last h.rd (length done) h.near) (open_late (length done) line);
-        ends = (
-          h.scan.score,
-          stops_none limit t (let f = h.fits in let o = ap bytes_len own in omega arith),
-          ap length (sym text),
-          h.place ∙ ap place_after (sym text),
-          sym (ap open_line whole ∙ (open_emitted (length done) h.emitted (seen (head_text true t) event ++ open_part line) h.early ∙ open_rest (head_text true t) event line)),
-        );
-      }
+  text_here h = grind (arith, append-nil, the_end, open_is, append_assoc, late_seen, near_last, open_late, stops_none, open_emitted, open_rest)
 
   -- the text ends after a `%` that is held back
   pub text_held : (h : MachineReads t limit done (37 ∷ []) r es) → r.at_line ≡ true → AreHeaderEvents limit t es (Text (next_place r.place 37) (open_in r.parts.state r.parts.header))

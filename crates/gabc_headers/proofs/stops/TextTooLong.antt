@@ -17,9 +17,7 @@ use Rattle.gabc_headers.proofs.stops.HeldAlike.{none_above}
 
 -- the first character above the limit
 above_at : (limit : ℕ) (done r : List ℕ) (c : ℕ) → bytes_len done ≤ limit → limit < bytes_len done + len_utf8 c → first_above limit (done ++ c ∷ r) ≡ Some (length done)
-above_at limit [] r c h l =
-    let e : nat_lt limit (len_utf8 c) ≡ true = grind (arith, nat_tests) in
-    ap (λ (b : Bool). cond b (Some 0) (option_map (λ (n : ℕ). n + 1) (first_above (limit - len_utf8 c) r))) e
+above_at limit [] r c h l = grind arith
 above_at limit (d ∷ done) r c h l =
     let q : bytes_len (d ∷ done) ≡ len_utf8 d + bytes_len done = sum_by-cons len_utf8 d done in
     let e : nat_lt limit (len_utf8 d) ≡ false = grind (arith, nat_tests) in
@@ -62,10 +60,7 @@ begins_push done c x =
 
 -- whether a `%` that begins a line stands here
 line_percent : (t done r : List ℕ) (c : ℕ) (starts : Bool) → t ≡ done ++ c ∷ r → Begins done starts → is_line_percent t (length done) ≡ ((c == 37) && starts)
-line_percent t done r c starts e b =
-    ap (λ (y : List ℕ). is_line_percent y (length done)) e
-    ∙ (ap (λ (k : ℕ). (k == 37) && ((length done == 0) || (get_or (done ++ c ∷ r) (length done - 1) 0 == 10))) (get_or-append_seam done c r 0)
-    ∙ ap (λ (x : Bool). (c == 37) && x) (b (c ∷ r)))
+line_percent t done r c starts e b = grind (arith, get_or-append_seam)
 
 module _ (limit : ℕ) (t done r : List ℕ) (c : ℕ) (starts : Bool) (e : t ≡ done ++ c ∷ r) (b : Begins done starts) where
   -- the text before the character

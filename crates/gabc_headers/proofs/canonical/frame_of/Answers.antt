@@ -1,4 +1,4 @@
-use Rattle.std.proofs.Common.{ap, sym, ◌∙◌, arith, Bool, cond, codes}
+use Rattle.std.proofs.Common.{sym, arith}
 use Rattle.std.proofs.lemmas.Bool.Decides.{nat_tests}
 use Rattle.gabc_headers.proofs.canonical_form.HeaderBytes.{empty_before, empty_after, some_before, some_after}
 use Rattle.gabc_headers.proofs.canonical.frame_of.Goals as goal
@@ -10,17 +10,13 @@ pub returns-then-is_empty-clause-after : goal.returns-then-is_empty-clause-after
 returns-then-is_empty-clause-after c = sym (empty_after _ c.args.value.now (grind (arith, nat_tests, c.is_empty.ensures, c.if-is_empty.true)))
 
 pub returns-then-wants_own_lines-clause-before : goal.returns-then-wants_own_lines-clause-before
-returns-then-wants_own_lines-clause-before c = sym (some_before _ c.args.value.now c.utf8.value (grind (arith, nat_tests, c.is_empty.ensures, c.if-is_empty.false))
-    ∙ ap (λ (x : Bool). cond x (codes ":\n ") (codes ": ")) (sym c.wants_own_lines.ensures ∙ c.if-wants_own_lines.true))
+returns-then-wants_own_lines-clause-before c = grind (arith, some_before)
 
 pub returns-then-wants_own_lines-clause-after : goal.returns-then-wants_own_lines-clause-after
-returns-then-wants_own_lines-clause-after c = sym (some_after _ c.args.value.now c.utf8.value (grind (arith, nat_tests, c.is_empty.ensures, c.if-is_empty.false))
-    ∙ ap (λ (x : Bool). cond x (codes ";;\n") (codes ";\n")) (sym c.wants_own_lines.ensures ∙ c.if-wants_own_lines.true))
+returns-then-wants_own_lines-clause-after c = grind (arith, some_after)
 
 pub returns-else-wants_own_lines-clause-before : goal.returns-else-wants_own_lines-clause-before
-returns-else-wants_own_lines-clause-before c = sym (some_before _ c.args.value.now c.utf8.value (grind (arith, nat_tests, c.is_empty.ensures, c.if-is_empty.false))
-    ∙ ap (λ (x : Bool). cond x (codes ":\n ") (codes ": ")) (sym c.wants_own_lines.ensures ∙ c.if-wants_own_lines.false))
+returns-else-wants_own_lines-clause-before c = grind (arith, some_before)
 
 pub returns-else-wants_own_lines-clause-after : goal.returns-else-wants_own_lines-clause-after
-returns-else-wants_own_lines-clause-after c = sym (some_after _ c.args.value.now c.utf8.value (grind (arith, nat_tests, c.is_empty.ensures, c.if-is_empty.false))
-    ∙ ap (λ (x : Bool). cond x (codes ";;\n") (codes ";\n")) (sym c.wants_own_lines.ensures ∙ c.if-wants_own_lines.false))
+returns-else-wants_own_lines-clause-after c = grind (arith, some_after)

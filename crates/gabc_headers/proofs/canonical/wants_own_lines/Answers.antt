@@ -1,4 +1,4 @@
-use Rattle.std.proofs.Common.{rules, sym, ap, ◌∙◌, map-id, Bool, ◌||◌}
+use Rattle.std.proofs.Common.{rules, sym, ap, ◌∙◌, map-id, Bool, ◌||◌, arith}
 use Rattle.std.specs.Str.{chars}
 use Rattle.std.proofs.lemmas.Iterator.{YieldsList-from_chars}
 use Rattle.std.proofs.lemmas.Iterator.Consumers.{YieldsList-end}
@@ -15,9 +15,7 @@ pub loop-c-preserved-in-59 : goal.loop-c-preserved-in-59
 loop-c-preserved-in-59 c = λ rest. after_semicolon c.loop-c.yielded rest c.in-Some.c c.loop-c.wants c.loop-c.at_mark c.in-59.is c.loop-c.invariant
 
 pub loop-c-preserved-else-wants : goal.loop-c-preserved-else-wants
-loop-c-preserved-else-wants c = λ rest.
-    let e = after_percent c.loop-c.yielded rest c.in-Some.c c.loop-c.wants c.loop-c.at_mark c.in-37.is c.loop-c.invariant in
-    e ∙ ap (λ (b : Bool). (b || c.loop-c.at_mark) || wants_from c.loop-c.at_mark rest) c.if-wants.false
+loop-c-preserved-else-wants c = grind (arith, after_percent)
 
 pub returns-then-wants-2 : goal.returns-then-wants-2
 returns-then-wants-2 c =

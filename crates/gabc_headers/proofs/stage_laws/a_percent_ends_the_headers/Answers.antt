@@ -1,16 +1,15 @@
 use denote.Bor.{Bor}
-use Rattle.std.proofs.Common.{◌≡◌, ℕ, List, Option, Some, None, IfSome, IsSome, ap, sym, ◌∙◌, subst}
+use Rattle.std.proofs.Common.{◌≡◌, ℕ, List, Option, IfSome, IsSome, sym, subst, arith}
 use Rattle.std.specs.Str.{chars}
 use Rattle.gabc_places.specs.declared.limits.Limits.{Limits}
 use Rattle.gabc_headers.specs.HeldText.{IsHeld}
-use Rattle.gabc_headers.specs.witness.HeadEvents.{HeadProgress, IsInHeaders, reading, text_held}
+use Rattle.gabc_headers.specs.witness.HeadEvents.{HeadProgress, IsInHeaders, reading}
 use Rattle.gabc_headers.proofs.prefixes.LastPercent.{last_percent}
 use Rattle.gabc_headers.proofs.stage_laws.a_percent_ends_the_headers.Goals as goal
 
 text_is_held : (limits : Limits) (progress : HeadProgress) (text : Option (Bor (List ℕ))) → IsSome text → IfSome text (λ b. progress ≡ reading (chars b.now)) → IfSome text (λ b. IsHeld limits (chars b.now))
     → (t : List ℕ) → progress ≡ reading t → IsHeld limits t
-text_is_held limits progress (Some b) some is held t here = subst (IsHeld limits) (ap text_held (sym is ∙ here)) held
-text_is_held limits progress None some is held t here = absurd (cc some)
+text_is_held limits progress text some is held t here = grind arith
 
 pub returns : goal.returns
 returns c t x heads here whole =

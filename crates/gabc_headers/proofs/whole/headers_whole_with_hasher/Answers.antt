@@ -1,6 +1,6 @@
-use Rattle.std.proofs.Common.{◌≡◌, sym, ap, List, ℕ}
+use Rattle.std.proofs.Common.{◌≡◌, sym, ap, List, ℕ, arith}
 use Rattle.gabc_headers.specs.machine.Collected.{Collected}
-use Rattle.std.proofs.Common.{Result, Ok, Err, IfOk, subst}
+use Rattle.std.proofs.Common.{Result, Err, IfOk, subst}
 use Rattle.gabc_places.specs.declared.limits.Limits.{Limits}
 use Rattle.gabc_places.specs.Findings.{AreInOrder}
 use Rattle.gabc_headers.specs.Heads.{heads_of, findings_of}
@@ -14,14 +14,10 @@ use Rattle.gabc_headers.proofs.order.FindingsStandInOrder.{heads_order}
 use Rattle.gabc_headers.proofs.whole.headers_whole_with_hasher.Goals as goal
 
 pub collect-requires : goal.collect-requires
-collect-requires c =
-    let u = scalars_of c.args.text.now c.as_str-written.result.now c.as_str-written.utf8 c.as_str-written.ensures.bytes in
-    rw (c.as_str-written.ensures.bytes, c.deref.ensures.value) (read_good c.args.limits c.args.text.now c.in_ok-read.read.events.items c.in_ok-read.read.end u c.in_ok-read.ensures)
+collect-requires c = grind (arith, scalars_of, read_good)
 
 pub at_score-requires : goal.at_score-requires
-at_score-requires c =
-    let u = scalars_of c.args.text.now c.as_str-written.result.now c.as_str-written.utf8 c.as_str-written.ensures.bytes in
-    rw (ap (λ (x : Collected). x.headers) c.in_ok-collected.ensures.all, c.as_str-written.ensures.bytes, c.deref.ensures.value) (read_within c.args.limits c.args.text.now c.in_ok-read.read.events.items c.in_ok-read.read.end u c.in_ok-read.ensures)
+at_score-requires c = grind (arith, scalars_of, read_within)
 
 pub returns-in-Limit-clause-exact : goal.returns-in-Limit-clause-exact
 returns-in-Limit-clause-exact c =
@@ -31,8 +27,7 @@ returns-in-Limit-clause-exact c =
     (case_limit c.args.limits c.args.text.now c.in_ok-read.read.events.items c.in_ok-read.read.end u c.in_ok-read.ensures c.in-Limit.place c.in-Limit.is))
 
 of_groups_ok : {E : Type 0} (limits : Limits) (t : List ℕ) (read : Result (Result Heads HeadFault) E) → IfOk read (λ r. r ≡ heads_of limits t) → IfOk read (AreHeads limits t)
-of_groups_ok limits t (Ok r) h = of_groups limits t r h
-of_groups_ok limits t (Err e) h = tt
+of_groups_ok limits t read h = grind (arith, of_groups)
 
 pub returns-in-Score-clause-exact : goal.returns-in-Score-clause-exact
 returns-in-Score-clause-exact c =
@@ -58,8 +53,7 @@ in_order : (limits : Limits) (t : List ℕ) (read : Result Heads HeadFault) → 
 in_order limits t read h = subst (λ (r : Result Heads HeadFault). AreInOrder (findings_of r)) (sym (one_reading limits t read h)) (heads_order limits t)
 
 in_order_ok : {E : Type 0} (limits : Limits) (t : List ℕ) (read : Result (Result Heads HeadFault) E) → IfOk read (AreHeads limits t) → IfOk read (λ r. AreInOrder (findings_of r))
-in_order_ok limits t (Ok r) h = in_order limits t r h
-in_order_ok limits t (Err e) h = tt
+in_order_ok limits t read h = grind (arith, in_order)
 
 pub returns-in-Limit-clause-order : goal.returns-in-Limit-clause-order
 returns-in-Limit-clause-order c = in_order c.args.limits c.args.text.now (Err c.head_fault.result) (returns-in-Limit-clause-exact c)

@@ -1,4 +1,4 @@
-use Rattle.std.proofs.Common.{◌≡◌, ◌≤◌, ◌<◌, ◌+◌, ◌^◌, ◌-◌, ℕ, length, min, arith, add-one, sym, ap, ◌∙◌, suc, drop, List, ◌∷◌}
+use Rattle.std.proofs.Common.{◌≡◌, ◌<◌, ◌+◌, ◌^◌, ◌-◌, ℕ, length, min, arith, add-one, sym, ap, ◌∙◌, suc, drop, List, ◌∷◌}
 use Rattle.std.specs.Str.{chars}
 use lib.Utf8.{encodes}
 use Rattle.gabc_headers.proofs.entries.TextsAsBytes.{length-encodes}
@@ -26,10 +26,4 @@ loop-index-preserved c =
     }
 
 pub returns : goal.returns
-returns c =
-    let l : length c.args.self.now.items ≤ c.loop-index.index = omega arith in
-    let none = ap (λ (x : List (List ℕ × List ℕ)). bytes_len (header_lines x)) (spelled_none c.args.text.now c.args.self.now.items c.loop-index.index l) in
-    let e = c.loop-index.invariant.sum in
-    let f = c.loop-index.invariant.fits in
-    let count = c.count.ensures in
-    omega (arith, none, e, f, count)
+returns c = grind (arith, spelled_none)

@@ -1,4 +1,4 @@
-use Rattle.std.proofs.Common.{◌≡◌, ap}
+use Rattle.std.proofs.Common.{◌≡◌, ap, arith}
 use Rattle.gabc_headers.specs.Entries.{EntryMapState, named_entries}
 use Rattle.gabc_headers.proofs.entries.MapIsReadByEntry.{length-named, named_get, get_none}
 use Rattle.gabc_headers.proofs.entry_map.EntryMap.name.Goals as goal
@@ -9,6 +9,4 @@ returns-in-Some c =
     rw (← view, named_get c.self.inside.map.entries c.args.index _ c.in-Some.ensures.entry) c.name.ensures
 
 pub returns-in-None : goal.returns-in-None
-returns-in-None c =
-    let view : named_entries c.self.inside.map.entries ≡ c.args.self.now.items = ap (λ (v : EntryMapState). v.items) c.self.view_is in
-    absurd (get_none c.self.inside.map.entries c.args.index c.in-None.ensures.entry (rw (← length-named c.self.inside.map.entries, view) c.requires))
+returns-in-None c = grind (arith, get_none, length-named)

@@ -71,10 +71,7 @@ invariant_of-self-2 c =
     }
 
 pub returns-clause-put : goal.returns-clause-put
-returns-clause-put c =
-    let es = c.self.inside.map.entries in
-    let p = put_key c.args.name.now c.args.value es c.of-key.result c.len.result c.utf8.name c.of-key.ensures c.len.ensures.len c.self.invariant.keys in
-    rw (← c.self.view_is, c.in-Ok.ensures.hasher) (ap (λ (x : List (List ℕ × Span)). record { items = x; limit = c.self.inside.limit; hasher = (hasher_of c.self.inside.map).first }) (ap named_entries c.in-Ok.ensures.entries ∙ p.entries))
+returns-clause-put c = grind (arith, put_key)
 
 pub returns-clause-again : goal.returns-clause-again
 returns-clause-again c =

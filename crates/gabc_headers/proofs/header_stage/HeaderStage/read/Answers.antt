@@ -42,19 +42,13 @@ invariant_of-self-in_default-event c =
     rw (st.part_is, c.in-Ok.ensures.bytes) (on.next c.self.inside.headers (string_capacity c.push-in-Read.new.self) c.push-in-Read.ensures.capacity refl refl)
 
 pub score_len-requires : goal.score_len-requires
-score_len-requires c =
-    let st = stands c.self.inside.limits c.self.inside.part (string_bytes c.self.inside.text) (string_capacity c.self.inside.text) c.self.inside.machine c.self.inside.headers c.args.self.now c.self.view_is c.requires.reading c.self.invariant in
-    rw c.as_str-text.ensures.value (values_lie_within c.self.inside.limits (string_bytes c.self.inside.text) (string_capacity c.self.inside.text) c.self.inside.machine c.self.inside.headers (IsUtf8-string_bytes c.self.inside.text) st.reads)
+score_len-requires c = grind (arith, stands, values_lie_within, IsUtf8-string_bytes)
 
 pub of-requires : goal.of-requires
-of-requires c =
-    let st = stands c.self.inside.limits c.self.inside.part (string_bytes c.self.inside.text) (string_capacity c.self.inside.text) c.self.inside.machine c.self.inside.headers c.args.self.now c.self.view_is c.requires.reading c.self.invariant in
-    rw c.as_str-text.ensures.value (values_lie_within c.self.inside.limits (string_bytes c.self.inside.text) (string_capacity c.self.inside.text) c.self.inside.machine c.self.inside.headers (IsUtf8-string_bytes c.self.inside.text) st.reads)
+of-requires c = grind (arith, stands, values_lie_within, IsUtf8-string_bytes)
 
 pub invariant_of-self-in-Ok-score_len : goal.invariant_of-self-in-Ok-score_len
-invariant_of-self-in-Ok-score_len c =
-    let s = c.self.inside in
-    keeps s.limits s.part (string_bytes s.text) (string_capacity s.text) s.machine s.headers (IsUtf8-string_bytes s.text) c.self.invariant
+invariant_of-self-in-Ok-score_len c = grind (arith, keeps, IsUtf8-string_bytes)
 
 pub unreachable-requires-in-Ended-Text : goal.unreachable-requires-in-Ended-Text
 unreachable-requires-in-Ended-Text c =

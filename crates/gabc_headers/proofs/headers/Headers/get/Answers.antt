@@ -1,4 +1,4 @@
-use Rattle.std.proofs.Common.{◌≤◌, ◌∙◌, sym, ap, add-one, arith, length, List, ℕ}
+use Rattle.std.proofs.Common.{◌∙◌, sym, ap, add-one, arith, List, ℕ}
 use Rattle.std.proofs.Math.ListN.{drop_of_length-le}
 use Rattle.std.specs.Str.{chars}
 use Rattle.gabc_headers.specs.Book.{value_named}
@@ -26,8 +26,4 @@ loop-index-preserved c =
     ∙ named_later c.args.name.now c.name.result.now (spelled_entries text headers) c.loop-index.index c.utf8.name c.name.utf8 (name_spelled text headers c.loop-index.index c.name.result.now c.name.ensures) (sym c.if-eq.ensures))
 
 pub returns : goal.returns
-returns c =
-    let text = c.self.inside.text.now in
-    let headers = c.self.inside.headers.now.items in
-    let l : length (spelled_entries text headers) ≤ c.loop-index.index = omega (arith, length-spelled text headers) in
-    c.loop-index.invariant ∙ ap (λ (es : List (List ℕ × List ℕ)). value_named (chars c.args.name.now) es) (drop_of_length-le (spelled_entries text headers) l)
+returns c = grind (arith, length-spelled, drop_of_length-le)
