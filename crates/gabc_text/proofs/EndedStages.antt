@@ -1,6 +1,6 @@
 -- A stage that has ended reports no opener and no comment, and the place at which it stood. One that
 -- goes on has counted the character.
-use Rattle.std.proofs.Common.{◌≡◌, ◌==◌, ◌&&◌, ◌||◌, ℕ, List, [], ◌∷◌, Bool, true, false, cond, Option, Some, None, refl, ap, sym, ◌∙◌, subst}
+use Rattle.std.proofs.Common.{arith, ◌≡◌, ◌==◌, ◌&&◌, ◌||◌, ℕ, List, Bool, true, false, cond, Option, Some, None, refl, ap, sym, ◌∙◌, subst}
 use Rattle.std.specs.List.{list_any}
 use Rattle.gabc_places.specs.Place.{saturating_next_place}
 use Rattle.gabc_text.specs.End.{is_end}
@@ -8,7 +8,6 @@ use Rattle.gabc_text.specs.declared.text_event.TextEvent.{TextEvent}
 use Rattle.gabc_text.specs.declared.stage.TextStage.{TextStage}
 use Rattle.gabc_text.specs.declared.token.TokenKind.{TokenKind}
 use Rattle.gabc_text.specs.declared.token_state.Step.{Step}
-use Rattle.gabc_text.specs.declared.token_state.Step.TheVariants.{Stays, Ends}
 use Rattle.gabc_text.specs.StageReports.{EndedInPlace}
 use Rattle.gabc_text.specs.declared.token.TagEffect.TheVariants.{Other}
 use Rattle.gabc_text.specs.machine.TextStage.{token_stage, settle_stage, settle_stage_by, end_stage, stage_past_char, stage_after_step, read_stage, settled_push_stage, push_stage, events_of_push, finish_stage, finish_stage_by}
@@ -25,13 +24,11 @@ ends_there t u n = record { opener = opener_over (end_stage u) refl; comment = c
 
 -- a token that ends leaves a stage running, and where it stood
 settled_runs : (t : TextStage) (o : Option TokenKind) → ((settle_stage_by t o).ended ≡ t.ended) × ((settle_stage_by t o).progress.next ≡ t.progress.next)
-settled_runs t None = (refl, refl)
-settled_runs t (Some k) = (refl, refl)
+settled_runs t o = grind arith
 
 -- so does a step
 step_runs : (t : TextStage) (s : Step) → (stage_after_step t s).ended ≡ t.ended
-step_runs t (Stays state) = refl
-step_runs t (Ends k s) = refl
+step_runs t s = grind arith
 
 -- at a character, after the token that ended before it
 settled_ends : (t u next : TextStage) (c : ℕ) → u.ended ≡ false → u.progress.next ≡ t.progress.next → next ≡ settled_push_stage u c → next.ended ≡ true → EndedInPlace t next
@@ -70,8 +67,7 @@ finish_stays t next n d = n ∙ ap (λ (b : Bool). cond b t (finish_stage_by t (
 -- ---- a stage ends with the event that ends its text
 
 push_ends_by : (t : TextStage) (c : ℕ) (d : Bool) → t.ended ≡ d → (push_stage t c).ended ≡ (d || list_any is_end (events_of_push t c))
-push_ends_by t c true e = ap (λ (s : TextStage). s.ended) (push_stays t (push_stage t c) c refl e) ∙ e
-push_ends_by t c false e = done_is t c e
+push_ends_by t c d e = grind (arith, push_stays, done_is)
 
 pub push_ends : (t next : TextStage) (c : ℕ) (events : List TextEvent) → next ≡ push_stage t c → events ≡ events_of_push t c → next.ended ≡ (t.ended || list_any is_end events)
 push_ends t next c events n e = rw (n, e) (push_ends_by t c t.ended refl)
@@ -79,6 +75,4 @@ push_ends t next c events n e = rw (n, e) (push_ends_by t c t.ended refl)
 -- ---- the place of the next character, after one that does not end the text
 
 pub push_next : (t next : TextStage) (c : ℕ) → next ≡ push_stage t c → next.ended ≡ false → next_of next ≡ saturating_next_place (next_of t) c
-push_next t next c n goes =
-    let on : (push_stage t c).ended ≡ false = ap (λ (s : TextStage). s.ended) (sym n) ∙ goes in
-    ap next_of n ∙ next_goes t c (goes_on t (c ∷ []) on) on
+push_next t next c n goes = grind (arith, next_goes, goes_on)

@@ -1,41 +1,32 @@
 -- After the event that ends a text its stage gives nothing.
-use Rattle.std.proofs.Common.{◌≡◌, ◌==◌, ◌&&◌, ◌||◌, ℕ, List, [], ◌∷◌, ◌++◌, Bool, true, false, cond, Option, Some, None, refl, ap, sym, ◌∙◌, append_assoc, append-nil, map, Decides}
+use Rattle.std.proofs.Common.{arith, ◌≡◌, ◌==◌, ◌&&◌, ◌||◌, ℕ, List, [], ◌∷◌, ◌++◌, Bool, true, false, cond, Option, Some, None, refl, ap, sym, ◌∙◌, append_assoc, append-nil, map, Decides}
 use Rattle.std.specs.List.{list_any}
 use Rattle.std.proofs.lemmas.List.Folds.{list_any-append}
 use Rattle.gabc_places.specs.declared.code.Code.{Code}
 use Rattle.gabc_places.specs.declared.place.Char.{Char}
 use Rattle.gabc_places.specs.declared.place.Place.{Place}
-use Rattle.gabc_places.specs.declared.place.Span.{Span}
 use Rattle.gabc_places.specs.BoundedList.{BoundedList, extended_by}
 use Rattle.gabc_places.specs.StageLaw.{concat_of, EmitsNothing, StopsAtEnd}
 use Rattle.gabc_places.proofs.NothingAfterAnEnd.{stops-endless, stops-last}
 use Rattle.gabc_text.specs.declared.token_state.Step.{Step}
-use Rattle.gabc_text.specs.declared.token_state.Step.TheVariants.{Stays, Ends}
 use Rattle.gabc_text.specs.declared.text_facts.TextFacts.{TextFacts}
 use Rattle.gabc_text.specs.declared.progress.Progress.{Progress}
 use Rattle.gabc_text.specs.declared.text_event.TextEnd.{TextEnd}
 use Rattle.gabc_text.specs.declared.text_event.TextEnd.TheVariants as text_ending
 use Rattle.gabc_text.specs.declared.text_event.TextEvent.{TextEvent}
 use Rattle.gabc_text.specs.declared.text_event.TextEvent.TheVariants as out
-use Rattle.gabc_text.specs.declared.text_event.TextPart.{TextPart}
-use Rattle.gabc_text.specs.declared.text_event.TextPart.TheVariants as part
 use Rattle.gabc_text.specs.declared.stage.TextStage.{TextStage}
 use Rattle.gabc_text.specs.declared.token.TokenKind.{TokenKind}
-use Rattle.gabc_text.specs.declared.token.TokenKind.TheVariants as kind
 use Rattle.gabc_text.specs.declared.token_state.TokenState.{TokenState}
-use Rattle.gabc_text.specs.declared.token_state.TokenState.TheVariants as state
 use Rattle.gabc_text.specs.StageReports.{opener_of, begins_silently, is_in_comment, cut_place}
-use Rattle.gabc_text.specs.machine.StageReports.{is_open, is_comment, opener_in, comment_in}
+use Rattle.gabc_text.specs.machine.StageReports.{is_comment, opener_in, comment_in}
 use Rattle.gabc_text.specs.declared.token.TagEffect.{TagEffect}
 use Rattle.gabc_text.specs.declared.token.TagEffect.TheVariants.{Other}
-use Rattle.gabc_text.specs.ExampleTexts.{stands_for}
 use Rattle.gabc_text.specs.End.{is_end}
-use Rattle.gabc_text.specs.machine.TextFacts.{early_at}
-use Rattle.gabc_text.specs.machine.TokenState.{settled_kind, next_step, keep, kind_at_end, is_plain}
-use Rattle.gabc_text.specs.View.{centre_by, piece_kind}
-use Rattle.gabc_text.specs.Events.{codes_of, no_events_each, option_list_of, count_by}
-use Rattle.gabc_text.specs.witness.EventsLeft.{events_left, lists_ahead, findings_there, parts_by, codes_by, codes_last}
-use Rattle.gabc_text.specs.machine.TextStage.{char_event, events_of_token, events_of_settling, events_of_settling_by, settle_stage, events_of_step, stage_past_char, events_of_reading, events_of_end, end_stage, settled_push_stage, events_of_settled_push, read_stage, push_stage, events_of_push, finish_stage, finish_stage_by, events_of_finish, events_of_finish_by, progress_after, end_by, is_cut_end}
+use Rattle.gabc_text.specs.machine.TokenState.{settled_kind, kind_at_end, is_plain}
+use Rattle.gabc_text.specs.Events.{codes_of, option_list_of}
+use Rattle.gabc_text.specs.witness.EventsLeft.{events_left, findings_there}
+use Rattle.gabc_text.specs.machine.TextStage.{char_event, events_of_token, events_of_settling, events_of_settling_by, settle_stage, events_of_step, events_of_reading, events_of_end, end_stage, settled_push_stage, events_of_settled_push, read_stage, push_stage, events_of_push, finish_stage, events_of_finish, events_of_finish_by, progress_after, end_by}
 use Rattle.gabc_text.specs.machine.TextFacts.{facts_after}
 use Rattle.gabc_text.proofs.machine.EventsLeftAreThoseAhead.{rest_by, rest_is}
 use Rattle.gabc_text.proofs.machine.EventsStepByStep.{stepwise}
@@ -44,9 +35,7 @@ use Rattle.gabc_text.proofs.events.EventsByPointAreEvents.{joined_nothing}
 -- ---- a stage that is done gives nothing
 
 pub ended_is_silent : (s : TextStage) (t : List ℕ) → s.ended ≡ true → concat_of (events_left s t) ≡ []
-ended_is_silent s t e =
-    ap concat_of (rest_by s t ∙ ap (λ (b : Bool). cond b ([] ∷ no_events_each t) (lists_ahead (stands_for s.state) s (stands_for s.state ++ t))) e)
-    ∙ joined_nothing t
+ended_is_silent s t e = grind (arith, rest_by, joined_nothing)
 
 pub done_emits_nothing : (s : TextStage) → s.ended ≡ true → EmitsNothing (λ (cs : List Char). events_left s (codes_of cs))
 done_emits_nothing s e cs = ended_is_silent s (codes_of cs) e
@@ -67,26 +56,19 @@ found_endless : (p : Place) (cs : List Code) → Endless (findings_there p cs)
 found_endless p cs = mapped_endless (λ (c : Code). out.Found (record { place = p; code = c })) (λ c. refl) cs
 
 char_endless : (p : Place) (c : Option ℕ) → Endless (option_list_of (char_event p c))
-char_endless p None = record { none = refl }
-char_endless p (Some c) = record { none = refl }
+char_endless p c = grind arith
 
 token_endless : (facts : TextFacts) (progress : Progress) (k : TokenKind) (s : TagEffect) (last : ℕ) → Endless (events_of_token facts progress k s last)
-token_endless facts progress k s last =
-    endless-append _ _ (mapped_endless (λ (p : TextPart). out.Part p) (λ p. refl) (parts_by facts progress k last progress.kept (piece_kind k s)))
-    (found_endless progress.place (codes_by facts k s))
+token_endless facts progress k s last = grind arith
 
 settle_endless : (t : TextStage) (o : Option TokenKind) → Endless (events_of_settling_by t o)
-settle_endless t None = record { none = refl }
-settle_endless t (Some k) = token_endless t.facts t.progress k Other t.progress.start
+settle_endless t o = grind arith
 
 went_endless : (t : TextStage) (w : Step) (last : ℕ) → Endless (events_of_step t w last)
-went_endless t (Stays state) last = record { none = refl }
-went_endless t (Ends k s) last = token_endless t.facts t.progress k s last
+went_endless t w last = grind arith
 
 read_endless : (t : TextStage) (c : ℕ) → Endless (events_of_reading t c)
-read_endless t c =
-    endless-append _ _ (found_endless t.progress.place (option_list_of (early_at t.facts t.state c)))
-    (endless-append _ _ (char_endless t.progress.next (keep t.facts t.state c)) (went_endless (stage_past_char t c) (next_step t.state c) t.progress.kept))
+read_endless t c = grind (arith, endless-append, found_endless, char_endless, went_endless)
 
 -- ---- the end comes last
 
@@ -106,10 +88,7 @@ after a b e l = record {
 }
 
 end_last : (facts : TextFacts) (progress : Progress) (h : TextEnd) → EndsLast (events_of_end facts progress h)
-end_last facts progress h =
-    after _ _ (found_endless progress.next (cond (is_cut_end h) [] (codes_last facts)))
-    (after _ _ (mapped_endless (λ (c : Span). out.Part (part.Centre c)) (λ c. refl) (option_list_of (centre_by (count_by progress.pieces progress.blank) progress.begin progress.end)))
-    (record { before = []; last = out.Ended h; events_are = refl; endless = record { none = refl } }))
+end_last facts progress h = grind (arith, after, found_endless, mapped_endless)
 
 last_stops : (next : TextStage) (events : List TextEvent) (old new : BoundedList TextEvent) → next.ended ≡ true → new ≡ extended_by old events → EndsLast events
     → StopsAtEnd is_end (λ (cs : List Char). events_left next (codes_of cs)) old new
@@ -141,15 +120,7 @@ push_stops t c next old new = by t.ended
     by false e o = settled (c == 40 && is_plain (settle_stage t c).state) e o
 
 pub is_done : (t : TextStage) → (finish_stage t).ended ≡ true
-is_done t = by t.ended refl
-  where
-    ended : (o : Option TokenKind) → (finish_stage_by t o).ended ≡ true
-    ended None = refl
-    ended (Some k) = refl
-
-    by : (b : Bool) → t.ended ≡ b → (cond b t (finish_stage_by t (kind_at_end t.state))).ended ≡ true
-    by true e = e
-    by false e = ended (kind_at_end t.state)
+is_done t = grind arith
 
 pub finish_is_over : (t next : TextStage) → next ≡ finish_stage t → EmitsNothing (λ (cs : List Char). events_left next (codes_of cs))
 finish_is_over t next e = done_emits_nothing next (ap (λ (x : TextStage). x.ended) e ∙ is_done t)
@@ -180,45 +151,13 @@ place_in (text_ending.Cut p) = Some p
 place_in _ = None
 
 end_cuts : (facts : TextFacts) (progress : Progress) (h : TextEnd) → cut_place (events_of_end facts progress h) ≡ place_in h
-end_cuts facts progress h =
-    cut_after _ _ (found_endless progress.next (cond (is_cut_end h) [] (codes_last facts)))
-    ∙ (cut_after _ _ (mapped_endless (λ (c : Span). out.Part (part.Centre c)) (λ c. refl) (option_list_of (centre_by (count_by progress.pieces progress.blank) progress.begin progress.end)))
-    ∙ go h)
-  where
-    go : (h : TextEnd) → cut_place (out.Ended h ∷ []) ≡ place_in h
-    go text_ending.Notes = refl
-    go _ = refl
+end_cuts facts progress h = grind arith
 
 -- the place at which the text of a stage would be cut is that of its opener
 pub opener_told : (t : TextStage) → t.ended ≡ false → opener_of t ≡ opener_in t
-opener_told t r =
-    ap (λ (l : List (List TextEvent)). cut_place (concat_of l)) (rest_is t [])
-    ∙ (ap cut_place (append-nil (events_of_finish t))
-    ∙ (ap (λ (b : Bool). cut_place (cond b [] (events_of_finish_by t (kind_at_end t.state)))) r ∙ at_state t.state t.facts t.progress))
-  where
-    ended : (k : TokenKind) (facts : TextFacts) (progress : Progress)
-        → cut_place (events_of_token facts progress k Other progress.start ++ events_of_end (facts_after facts k Other) (progress_after facts progress k Other progress.next) (end_by k progress.place))
-        ≡ place_in (end_by k progress.place)
-    ended k facts progress =
-        cut_after _ _ (token_endless facts progress k Other progress.start)
-        ∙ end_cuts (facts_after facts k Other) (progress_after facts progress k Other progress.next) (end_by k progress.place)
-
-    at_state : (s : TokenState) (facts : TextFacts) (progress : Progress)
-        → cut_place (events_of_finish_by (record { state = s; facts = facts; progress = progress; ended = t.ended }) (kind_at_end s)) ≡ cond (is_open s) (Some progress.place) None
-    at_state state.Plain facts progress = end_cuts facts progress text_ending.Finished
-    at_state state.Dollar facts progress = ended kind.Letter facts progress
-    at_state state.Comment facts progress = ended kind.Comment facts progress
-    at_state state.Translation facts progress = ended kind.OpenTranslation facts progress
-    at_state _ facts progress = ended kind.OpenTag facts progress
+opener_told t r = grind (arith, rest_is, append-nil, cut_after, token_endless, end_cuts)
 
 -- ---- where a comment is open
-
-none_last : (events : List TextEvent) → EndsLast events → events ≡ [] → ⊥
-none_last events l e = go l.before (sym l.events_are ∙ e)
-  where
-    go : (before : List TextEvent) → before ++ l.last ∷ [] ≡ [] → ⊥
-    go [] f = cc
-    go (x ∷ before) f = cc
 
 -- a stage that goes on
 abbrev running : TokenState → TextFacts → Progress → TextStage
@@ -226,22 +165,7 @@ running s facts progress = record { state = s; facts = facts; progress = progres
 
 -- at a `(` nothing is emitted in a comment, and elsewhere something is
 silent_at : (s : TokenState) (facts : TextFacts) (progress : Progress) → Decides (is_comment s) (events_of_push (running s facts progress) 40 ≡ [])
-silent_at state.Plain facts progress = (λ e. absurd (cc), λ e. absurd (none_last (events_of_end facts progress text_ending.Notes) (end_last facts progress text_ending.Notes) e))
-silent_at state.Comment facts progress = (λ e. refl, λ e. refl)
-silent_at _ facts progress = (λ e. absurd (cc), λ e. absurd (cc))
-
--- what is emitted first is not nothing
-sounds : (events : List TextEvent) (later : List (List TextEvent)) → (events ≡ [] → ⊥) → begins_silently (events ∷ later) ≡ false
-sounds [] later some = absurd (some refl)
-sounds (x ∷ events) later some = refl
-
--- a comment emits something with the end
-sounds_last : (events : List TextEvent) → EndsLast events → begins_silently ([] ∷ events ∷ []) ≡ true
-sounds_last events l = ap (λ (e : List TextEvent). begins_silently ([] ∷ e ∷ [])) l.events_are ∙ go l.before
-  where
-    go : (before : List TextEvent) → begins_silently ([] ∷ (before ++ l.last ∷ []) ∷ []) ≡ true
-    go [] = refl
-    go (x ∷ before) = refl
+silent_at s facts progress = grind arith
 
 -- a stage that goes on emits nothing with a `(` just in a comment
 pub comment_told : (t : TextStage) → t.ended ≡ false → is_in_comment t ≡ comment_in t
@@ -249,22 +173,8 @@ comment_told t r =
     ap begins_silently (rest_is t (40 ∷ []))
     ∙ (ap (λ (b : Bool). begins_silently (stepwise (record t { ended = b }) (40 ∷ []))) r ∙ at_state t.state t.facts t.progress)
   where
-    other : (s : TokenState) (facts : TextFacts) (progress : Progress) → (is_comment s ≡ true → ⊥) → begins_silently (stepwise (running s facts progress) (40 ∷ [])) ≡ false
-    other s facts progress apart =
-        sounds (events_of_push (running s facts progress) 40) (stepwise (push_stage (running s facts progress) 40) [])
-        (λ e. apart ((silent_at s facts progress).1 e))
-
     at_state : (s : TokenState) (facts : TextFacts) (progress : Progress) → begins_silently (stepwise (running s facts progress) (40 ∷ [])) ≡ is_comment s
-    at_state state.Plain facts progress = other state.Plain facts progress (λ e. cc)
-    at_state state.Dollar facts progress = other state.Dollar facts progress (λ e. cc)
-    at_state state.Comment facts progress =
-        let u : TextStage = push_stage (running state.Comment facts progress) 40 in
-        sounds_last (events_of_finish u)
-        (after _ _ (token_endless u.facts u.progress kind.Comment Other u.progress.start)
-        (end_last (facts_after u.facts kind.Comment Other) (progress_after u.facts u.progress kind.Comment Other u.progress.next) (end_by kind.Comment u.progress.place)))
-    at_state (state.Tag name) facts progress = other (state.Tag name) facts progress (λ e. cc)
-    at_state (state.Raw raw m) facts progress = other (state.Raw raw m) facts progress (λ e. cc)
-    at_state state.Translation facts progress = other state.Translation facts progress (λ e. cc)
+    at_state s facts progress = grind arith
 
 pub comment_silences : (t : TextStage) → t.ended ≡ false → Decides (is_in_comment t) ((later : List (List TextEvent)) × (events_left t (40 ∷ []) ≡ [] ∷ later))
 comment_silences t r =

@@ -1,5 +1,5 @@
 -- Bytes of letters and of runs, one after another.
-use Rattle.std.proofs.Common.{◌≡◌, ◌≢◌, ℕ, zero, suc, slice_index, ◌<◌, List, [], ◌∷◌, ◌++◌, Bool, true, false, not, ◌||◌, ◌&&◌, ◌==◌, length, refl, sym, ap, ap₂, subst, ◌∙◌, arith, ◌+◌, ◌-◌, ◌≤◌, take, drop, get_or, append-nil, take_all, length-drop, drop-cons, ◌*◌, ◌/◌, ◌%◌, nat_lt, mod-lt, Some}
+use Rattle.std.proofs.Common.{◌≡◌, ◌≢◌, ℕ, slice_index, ◌<◌, List, [], ◌∷◌, ◌++◌, Bool, true, false, not, ◌||◌, ◌&&◌, ◌==◌, length, refl, sym, ap, ap₂, subst, ◌∙◌, arith, ◌+◌, ◌-◌, ◌≤◌, take, drop, get_or, append-nil, take_all, length-drop, drop-cons, ◌*◌, ◌/◌, ◌%◌, nat_lt, mod-lt, Some}
 use Rattle.std.specs.List.{All, list_all}
 use Rattle.std.specs.Str.{chars, all_scalars}
 use Rattle.std.proofs.lemmas.List.Elements.{All-append, All-from_recursion}
@@ -49,11 +49,7 @@ one_plain c h = All-from_recursion IsPlain (c ∷ []) (h, tt)
 -- a character of one byte
 pub one_spelled : (b : ℕ) → b < 128 → (b ≡ 13 → ⊥) → IsSpelled (b ∷ []) (b ∷ [])
 unfolding encode
-one_spelled b less n = record {
-  spelled = rw (lt-ltb b 128 less) refl;
-  scalars = rw (low_scalar b (omega arith)) refl;
-  plain = one_plain b (n, (λ e. omega arith));
-}
+one_spelled b less n = grind arith
 
 -- characters of one byte
 pub ascii_spelled : (t : List ℕ) → list_all is_low t ≡ true → IsSpelled t t
@@ -83,8 +79,7 @@ blank_good = record { test = λ s. false; styles_are = refl; stable = λ u. refl
 
 -- a word is no mark
 no_mark_in : (k : PieceKind) → is_word_kind (Some k) ≡ true → is_mark k ≡ false
-no_mark_in piece.Mark e = absurd (true≢false (sym e))
-no_mark_in _ e = refl
+no_mark_in k e = grind arith
 
 no_mark_with : (bytes : List ℕ) (p : IsWord bytes) → tags_among (plain_piece bytes p ∷ []) ≡ []
 no_mark_with bytes p = rw (no_mark_in p.kind p.word) refl
@@ -232,10 +227,7 @@ triple_is a b d h g k =
     (three (a - 224) (b - 128) (d - 128) (omega (arith, x.0)) (omega (arith, x.1)) (omega (arith, y.1)) (omega (arith, z.1)))))
 
 letter_is : (a : ℕ) → is_letter_byte a ≡ true → IsWord (a ∷ [])
-letter_is a h =
-    let f = and_parts (not (is_special a)) (nat_lt 32 a && nat_lt a 127) h in
-    let x = within_bounds 32 127 a f.1 in
-    bare_word a (a ∷ []) (not-true (is_special a) f.0) (no_blank_past a x.0) (one_spelled a (omega (arith, x.1)) (λ e. omega (arith, x.0)))
+letter_is a h = grind (arith, and_parts, within_bounds, bare_word, not-true, no_blank_past, one_spelled)
 
 escaped_is : (b : ℕ) → is_special b ≡ true → IsWord (36 ∷ b ∷ [])
 escaped_is b h =
@@ -255,11 +247,7 @@ pub none_inner : (stop : ℕ) → IsInner stop []
 none_inner stop = record { text = []; spells = none_spelled; without = refl }
 
 pub beyond_inner : (stop : ℕ) (bytes : List ℕ) → stop < 128 → IsBeyond bytes → IsInner stop bytes
-beyond_inner stop bytes less b = record {
-  text = b.c ∷ [];
-  spells = b.spells;
-  without = rw (below_eqb stop b.c (let high = b.high in omega arith)) refl;
-}
+beyond_inner stop bytes less b = grind arith
 
 plain_is : (stop b : ℕ) → is_plain_byte stop b ≡ true → IsInner stop (b ∷ [])
 plain_is stop b h =
@@ -270,33 +258,19 @@ plain_is stop b h =
 -- ---- where they stand
 
 plain_at : (stop : ℕ) (l : List ℕ) → is_plain_byte stop (get_or l 0 0) ≡ true → IsInner stop (take 1 l)
-plain_at stop [] h = absurd (cc)
-plain_at stop (a ∷ l) h = plain_is stop a h
+plain_at stop l h = grind (arith, plain_is)
 
 one_at : (l : List ℕ) → is_letter_byte (get_or l 0 0) ≡ true → IsWord (take 1 l)
-one_at [] h = absurd (cc)
-one_at (a ∷ l) h = letter_is a h
+one_at l h = grind (arith, letter_is)
 
 escaped_at : (l : List ℕ) → (get_or l 0 0 == 36 && is_special (get_or l 1 0)) ≡ true → IsWord (take 2 l)
-escaped_at [] h = absurd (cc)
-escaped_at (a ∷ []) h = absurd (let f = (and_parts (a == 36) false h).1 in cc)
-escaped_at (a ∷ b ∷ l) h =
-    let f = and_parts (a == 36) (is_special b) h in
-    subst (λ (x : ℕ). IsWord (x ∷ b ∷ [])) (sym (eqb-true a 36 f.0)) (escaped_is b f.1)
+escaped_at l h = grind (arith, and_parts, eqb-true, escaped_is)
 
 two_at : (l : List ℕ) → (is_first_of_two (get_or l 0 0) && is_continuation (get_or l 1 0)) ≡ true → IsBeyond (take 2 l)
-two_at [] h = absurd (cc)
-two_at (a ∷ []) h = absurd (let f = (and_parts (is_first_of_two a) false h).1 in cc)
-two_at (a ∷ b ∷ l) h = let f = and_parts (is_first_of_two a) (is_continuation b) h in pair_is a b f.0 f.1
+two_at l h = grind (arith, and_parts, pair_is)
 
 three_at : (l : List ℕ) → (is_first_of_three (get_or l 0 0) && (is_continuation (get_or l 1 0) && is_continuation (get_or l 2 0))) ≡ true → IsBeyond (take 3 l)
-three_at [] h = absurd (cc)
-three_at (a ∷ []) h = absurd (let f = (and_parts (is_first_of_three a) false h).1 in cc)
-three_at (a ∷ b ∷ []) h = absurd (let f = (and_parts (is_continuation b) false (and_parts (is_first_of_three a) (is_continuation b && false) h).1).1 in cc)
-three_at (a ∷ b ∷ d ∷ l) h =
-    let f = and_parts (is_first_of_three a) (is_continuation b && is_continuation d) h in
-    let g = and_parts (is_continuation b) (is_continuation d) f.1 in
-    triple_is a b d f.0 g.0 g.1
+three_at l h = grind (arith, and_parts, triple_is)
 
 -- by the bytes that were read
 module _ (l : List ℕ) (a b : ℕ) (first : a ≡ get_or l 0 0) (second : b ≡ get_or l 1 0) where
@@ -313,9 +287,7 @@ module _ (l : List ℕ) (a b : ℕ) (first : a ≡ get_or l 0 0) (second : b ≡
   pair_read h = two_at l (ap₂ (λ (x y : ℕ). is_first_of_two x && is_continuation y) (sym first) (sym second) ∙ h)
 
   pub triple_read : (d : ℕ) → d ≡ get_or l 2 0 → (is_first_of_three a && (is_continuation b && is_continuation d)) ≡ true → IsBeyond (take 3 l)
-  triple_read d third h =
-      three_at l (ap₂ (λ (x y : ℕ). is_first_of_three x && (is_continuation y && is_continuation (get_or l 2 0))) (sym first) (sym second)
-      ∙ ap (λ (z : ℕ). is_first_of_three a && (is_continuation b && is_continuation z)) (sym third) ∙ h)
+  triple_read d third h = grind (arith, three_at)
 
 -- all that is after n bytes
 pub after_is : (l : List ℕ) (n : ℕ) → take (length l - n) (drop n l) ≡ drop n l
@@ -323,18 +295,13 @@ after_is l n = take_all (length l - n) (drop n l) (omega (arith, length-drop n l
 
 -- the first byte is no `<`, if that of what follows n bytes is none where n is 0
 pub first_stays : (l : List ℕ) (n : ℕ) → (0 < n → slice_index l 0 ≢ 60) → slice_index (take (length l - n) (drop n l)) 0 ≢ 60 → slice_index l 0 ≢ 60
-first_stays l zero h g = subst (λ (t : List ℕ). slice_index t 0 ≢ 60) (after_is l 0) g
-first_stays l (suc n) h g = h (omega arith)
+first_stays l n h g = grind (arith, slice_index, after_is)
 
 pub word_step : (l : List ℕ) (n r : ℕ) → IsWord (take r (take (length l - n) (drop n l))) → IsRun (take n l) → IsRun (take (n + r) l)
-word_step l n r h s =
-    subst IsRun (sym (take-add n r l))
-    (run_more (take n l) (take r (drop n l)) (subst (λ (xs : List ℕ). IsWord (take r xs)) (after_is l n) h) s)
+word_step l n r h s = grind (arith, take-add, run_more, after_is)
 
 pub inner_step : (stop : ℕ) (l : List ℕ) (n r : ℕ) → IsInner stop (take r (take (length l - n) (drop n l))) → IsInner stop (take n l) → IsInner stop (take (n + r) l)
-inner_step stop l n r h s =
-    subst (IsInner stop) (sym (take-add n r l))
-    (inner_join stop (take n l) (take r (drop n l)) s (subst (λ (xs : List ℕ). IsInner stop (take r xs)) (after_is l n) h))
+inner_step stop l n r h s = grind (arith, take-add, inner_join, after_is)
 
 -- from where a blank stands
 pub at_blank : (l : List ℕ) (n r : ℕ) → n < length l → get_or l n 0 ≡ 32 → take (r + 1) (drop n l) ≡ 32 ∷ take r (drop (n + 1) l)
@@ -342,10 +309,7 @@ at_blank l n r less e = grind (arith, common_steps, drop-cons)
 
 pub blank_step : (l : List ℕ) (n r : ℕ) → 0 < n → n < length l → get_or l n 0 ≡ 32 → IsWord (take r (take (length l - (n + 1)) (drop (n + 1) l)))
     → IsRun (take n l) → IsRun (take (n + (r + 1)) l)
-blank_step l n r some less e h s =
-    let cut : take (r + 1) (drop n l) ≡ 32 ∷ take r (drop (n + 1) l) = at_blank l n r less e in
-    subst IsRun (sym (take-add n (r + 1) l ∙ ap (λ (xs : List ℕ). take n l ++ xs) cut))
-    (run_blank (take n l) (take r (drop (n + 1) l)) (omega (arith, length-take-le n l (omega arith))) (subst (λ (xs : List ℕ). IsWord (take r xs)) (after_is l (n + 1)) h) s)
+blank_step l n r some less e h s = grind (arith, at_blank, take-add, run_blank, length-take-le, after_is)
 
 -- ---- what they are
 

@@ -9,7 +9,6 @@ use Rattle.std.proofs.lemmas.List.{length-take-le, length-map}
 use Rattle.std.specs.List.{list_all}
 use Rattle.gabc_places.specs.declared.place.Span.{Span}
 use Rattle.gabc_text.specs.declared.styles.Style.{Style}
-use Rattle.gabc_text.specs.declared.styles.Style.TheVariants.{B}
 use Rattle.gabc_text.specs.declared.span_mark.SpanMark.{SpanMark}
 use Rattle.gabc_text.specs.declared.regular.Before.{Before}
 use Rattle.gabc_text.specs.Token.{spelling}
@@ -27,13 +26,11 @@ use Rattle.gabc_text.proofs.printing.PrintedPiecesAreJoined.{in_styles, good_in,
 
 -- a style is the one that is kept of all
 listed_alone : (s : Style) → s ∷ [] ≡ filter (is_same s) all_styles
-listed_alone B = refl
-listed_alone _ = refl
+listed_alone s = grind arith
 
 -- a style that is not the last one
 pub apart_style : (last : Option Style) (s : Style) → is_style last s ≡ false → AreApart (in_style last) (s ∷ [])
-apart_style None s e = refl
-apart_style (Some r) s e = rw e refl
+apart_style last s e = grind arith
 
 -- ---- parts
 
@@ -65,8 +62,7 @@ plain_part bs r some = part_of None (λ s. false) bs bs r some refl (subst (λ (
 
 -- tags are of ASCII
 name_low : (s : Style) → list_all is_low (name_of s) ≡ true
-name_low B = refl
-name_low _ = refl
+name_low s = grind arith
 
 opening_spelled : (s : Style) → IsSpelled (spelling (opening_tag s)) (spelling (opening_tag s))
 opening_spelled s = ascii_spelled (spelling (opening_tag s)) (name_low s)
@@ -96,28 +92,18 @@ taken_first l a e = ap (take (length a)) e ∙ take-append_seam a (drop (length 
 pub between_is : (l a b : List ℕ) (n : ℕ) (x y : Bool) → x ≡ pointwise (λ u v. u == v) a (take (length a) l) → x ≡ true
     → y ≡ pointwise (λ u v. u == v) b (take (length b) (take (length l - (length a + n)) (drop (length a + n) l))) → y ≡ true
     → take (length a + n + length b) l ≡ a ++ (take n (drop (length a) l) ++ b)
-between_is l a b n x y e f g h =
-    let first = taken_first l a (starts_so l a x e f) in
-    let last = taken_first (drop (length a + n) l) b (starts_so (drop (length a + n) l) b y (g ∙ ap (λ (u : List ℕ). pointwise (λ u v. u == v) b (take (length b) u)) (after_is l (length a + n))) h) in
-    take-add (length a + n) (length b) l ∙ ap₂ (λ (u v : List ℕ). u ++ v) (take-add (length a) n l ∙ ap (λ (u : List ℕ). u ++ take n (drop (length a) l)) first) last
-    ∙ append_assoc a (take n (drop (length a) l)) b
+between_is l a b n x y e f g h = grind (arith, taken_first, starts_so, after_is, take-add, append_assoc)
 
 pub enclosed_is : (l a b : List ℕ) (n : ℕ) (x y : Bool) → x ≡ pointwise (λ u v. u == v) a (take (length a) l) → x ≡ true
     → y ≡ pointwise (λ u v. u == v) b (take (length b) (take (length l - (length a + n)) (drop (length a + n) l))) → y ≡ true
     → 0 < n → n ≤ length (take (length l - length a) (drop (length a) l)) → IsRun (take n (take (length l - length a) (drop (length a) l))) → IsEnclosed a b (take (length a + n + length b) l)
-enclosed_is l a b n x y e f g h some less r = record {
-  inner = take n (drop (length a) l);
-  run = subst (λ (u : List ℕ). IsRun (take n u)) (after_is l (length a)) r;
-  some = omega (arith, length-take-le n (drop (length a) l) (omega (arith, ap (λ (u : List ℕ). length u) (after_is l (length a)))));
-  parts = between_is l a b n x y e f g h;
-}
+enclosed_is l a b n x y e f g h some less r = grind (arith, after_is, length-take-le, between_is)
 
 -- ---- a part after others
 
 -- where a word stands among pieces, it stands among them after others
 word_up : (z : Bool) (ps : List PieceFacts) → word_after false ps ≡ true → word_after z ps ≡ true
-word_up true ps e = word_stays ps
-word_up false ps e = e
+word_up z ps e = grind (arith, word_stays)
 
 -- pieces without a mark after others
 tags_more : (ps qs : List PieceFacts) (mark : Option SpanMark) → tags_among ps ≡ tags_of mark → tags_among qs ≡ [] → tags_among (ps ++ qs) ≡ tags_of mark
@@ -223,19 +209,12 @@ centre_begun mark b bs more x h m =
 module _ (mark : Option SpanMark) (b : Before) (l : List ℕ) (n r : ℕ) where
   pub more_step : (style : Option Style) → IsPart style (take r (take (length l - n) (drop n l))) → AreApart (in_style b.style) (in_style style) → IsBegun mark b (take n l)
       → IsBegun mark (record { style = style; word = true; centre = b.centre }) (take (n + r) l)
-  more_step style h g x =
-      subst (IsBegun mark (record { style = style; word = true; centre = b.centre })) (sym (take-add n r l))
-      (more_begun mark b style (take n l) (take r (drop n l)) x (subst (λ (xs : List ℕ). IsPart style (take r xs)) (after_is l n) h) g)
+  more_step style h g x = grind (arith, take-add, more_begun, after_is)
 
   pub centre_step : IsEnclosed (123 ∷ []) (125 ∷ []) (take r (take (length l - n) (drop n l))) → b.centre ≡ false → IsBegun mark b (take n l)
       → IsBegun mark (record { style = None; word = true; centre = true }) (take (n + r) l)
-  centre_step h g x =
-      subst (IsBegun mark (record { style = None; word = true; centre = true })) (sym (take-add n r l))
-      (centre_begun mark b (take n l) (take r (drop n l)) x g (subst (λ (xs : List ℕ). IsEnclosed (123 ∷ []) (125 ∷ []) (take r xs)) (after_is l n) h))
+  centre_step h g x = grind (arith, take-add, centre_begun, after_is)
 
   pub blank_more_step : (style : Option Style) → not b.word ≡ false → n < length l → get_or l n 0 ≡ 32 → IsPart style (take r (take (length l - (n + 1)) (drop (n + 1) l)))
       → IsBegun mark b (take n l) → IsBegun mark (record { style = style; word = true; centre = b.centre }) (take (n + (r + 1)) l)
-  blank_more_step style some less e h x =
-      let cut : take (r + 1) (drop n l) ≡ 32 ∷ take r (drop (n + 1) l) = at_blank l n r less e in
-      subst (IsBegun mark (record { style = style; word = true; centre = b.centre })) (sym (take-add n (r + 1) l ∙ ap (λ (xs : List ℕ). take n l ++ xs) cut))
-      (blank_begun mark b style (take n l) (take r (drop (n + 1) l)) x (subst (λ (xs : List ℕ). IsPart style (take r xs)) (after_is l (n + 1)) h) (not-false b.word some))
+  blank_more_step style some less e h x = grind (arith, at_blank, take-add, blank_begun, after_is, not-false)

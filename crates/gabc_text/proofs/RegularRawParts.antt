@@ -3,9 +3,8 @@ use Rattle.std.proofs.Common.{◌≡◌, ◌≢◌, ℕ, ◌<◌, ◌+◌, ◌-�
 use Rattle.std.specs.Str.{chars}
 use Rattle.std.specs.List.{list_all}
 use Rattle.std.specs.Cmp.Lexicographic.{pointwise}
-use Rattle.std.proofs.lemmas.Bool.{and_parts, ne_eqb, not-true, true≢false}
+use Rattle.std.proofs.lemmas.Bool.{and_parts, not-true, true≢false}
 use Rattle.std.proofs.lemmas.Str.{encodes-append, encodes-chars}
-use Rattle.gabc_places.specs.declared.place.Span.{Span}
 use Rattle.gabc_places.specs.TextOfAnInput.{IsText}
 use Rattle.gabc_text.specs.declared.span_mark.SpanMark.{SpanMark}
 use Rattle.gabc_text.specs.declared.span_mark.SpanMark.TheVariants.{OpensEu, ClosesEu, OpensNlba, ClosesNlba}
@@ -16,9 +15,9 @@ use Rattle.gabc_text.specs.declared.token.RawKind.TheVariants.{V, Sp, Alt}
 use Rattle.gabc_text.specs.declared.view.PieceKind.TheVariants as piece
 use Rattle.gabc_text.specs.Token.{spelling, through, ended_token, ending_of}
 use Rattle.gabc_text.specs.ExampleTexts.{beginning_of}
-use Rattle.gabc_text.specs.ViewFacts.{ViewFacts, LiesAmong, view_facts, span_tags, tags_among}
+use Rattle.gabc_text.specs.ViewFacts.{ViewFacts, view_facts, span_tags, tags_among}
 use Rattle.gabc_text.specs.Printed.{print, print_from, text_of_tokens, text_tokens, printed_piece, translation_tokens}
-use Rattle.gabc_text.specs.RegularText.{IsRegularText, begins_letter, has_letter_at, begins_with, mark_at, tag_of, tags_of, text_part, translation_part}
+use Rattle.gabc_text.specs.RegularText.{IsRegularText, has_letter_at, begins_with, mark_at, tag_of, tags_of, text_part, translation_part}
 use Rattle.gabc_text.specs.machine.PrintedPieces.{Says, Stable}
 use Rattle.gabc_text.specs.machine.RegularBytes.{is_low, IsSpelled, IsWord, IsInner, IsBracketed, IsRun, IsBegun, mark_length, nothing_before}
 use Rattle.gabc_text.proofs.RegularBytes.{ascii_spelled, none_spelled, spelled_join, chars_of, is_text, after_is}
@@ -72,8 +71,7 @@ raw_spelled Alt bytes inner s = bracketed_spelled (codes "<alt>") (codes "</alt>
 
 begins_so : (raw : RawKind) → beginning_of raw ≡ 60 ∷ raw_name raw
 unfolding raw_name
-begins_so V = refl
-begins_so _ = refl
+begins_so raw = grind arith
 
 pub raw_word : (raw : RawKind) (a b bytes : List ℕ) → a ≡ beginning_of raw → b ≡ ending_of raw → IsBracketed a 60 b bytes → IsWord bytes
 raw_word raw a b bytes e f x =
@@ -107,15 +105,11 @@ begun_by x low same stable says = record {
 }
 
 mark_begun : (x : SpanMark) → IsBegun (Some x) nothing_before (tag_of x)
-mark_begun OpensEu = begun_by OpensEu refl refl (λ u. refl) (refl, refl, refl)
-mark_begun ClosesEu = begun_by ClosesEu refl refl (λ u. refl) (refl, refl, refl)
-mark_begun OpensNlba = begun_by OpensNlba refl refl (λ u. refl) (refl, refl, refl)
-mark_begun ClosesNlba = begun_by ClosesNlba refl refl (λ u. refl) (refl, refl, refl)
+mark_begun x = grind (arith, begun_by)
 
 -- a mark that bytes begin with
 pub marked : (x : SpanMark) (l : List ℕ) → mark_at (tag_of x ++ l) ≡ Some x
-marked OpensEu l = refl
-marked _ l = refl
+marked x l = grind arith
 
 starts_so : (x : SpanMark) (l : List ℕ) → begins_with x l ≡ true → l ≡ tag_of x ++ drop (length (tag_of x)) l
 starts_so x l e = (starts_is Decides-eqb l (tag_of x) (begins_with x l) refl).0 e
@@ -125,11 +119,7 @@ begun_with x l e = by (begins_with OpensEu l) (begins_with ClosesEu l) (begins_w
   where
     by : (a b c d : Bool) → begins_with OpensEu l ≡ a → begins_with ClosesEu l ≡ b → begins_with OpensNlba l ≡ c → begins_with ClosesNlba l ≡ d
         → cond a (Some OpensEu) (cond b (Some ClosesEu) (cond c (Some OpensNlba) (cond d (Some ClosesNlba) None))) ≡ Some x → l ≡ tag_of x ++ drop (length (tag_of x)) l
-    by true b c d f g h i e = let same : OpensEu ≡ x = cc in subst (λ (y : SpanMark). l ≡ tag_of y ++ drop (length (tag_of y)) l) same (starts_so OpensEu l f)
-    by false true c d f g h i e = let same : ClosesEu ≡ x = cc in subst (λ (y : SpanMark). l ≡ tag_of y ++ drop (length (tag_of y)) l) same (starts_so ClosesEu l g)
-    by false false true d f g h i e = let same : OpensNlba ≡ x = cc in subst (λ (y : SpanMark). l ≡ tag_of y ++ drop (length (tag_of y)) l) same (starts_so OpensNlba l h)
-    by false false false true f g h i e = let same : ClosesNlba ≡ x = cc in subst (λ (y : SpanMark). l ≡ tag_of y ++ drop (length (tag_of y)) l) same (starts_so ClosesNlba l i)
-    by false false false false f g h i e = absurd (cc)
+    by a b c d f g h i e = grind (arith, starts_so)
 
 -- the first bytes begin with the mark that all begin with
 pub mark_stays : (l : List ℕ) (n : ℕ) → mark_length (mark_at l) ≤ n → mark_at (take n l) ≡ mark_at l
@@ -147,43 +137,13 @@ mark_stays l n less = by (mark_at l) (mark_at (take n l)) refl refl less
         ∙ take-append-add (tag_of x) (drop (length (tag_of x)) l) (n - length (tag_of x)) in
         ap mark_at front ∙ marked x (take (n - length (tag_of x)) (drop (length (tag_of x)) l)) ∙ sym e
 
--- a mark ends before a `(`
-before_bracket : (tag text rest more : List ℕ) → list_all (λ c. not (c == 40)) tag ≡ true → text ++ 40 ∷ rest ≡ tag ++ more → (back : List ℕ) × (text ≡ tag ++ back)
-before_bracket [] text rest more h e = (text, refl)
-before_bracket (t ∷ tag) [] rest more h e =
-    let first : 40 ≡ t = cc in
-    absurd (true≢false (sym (eq-eqb t 40 (sym first)) ∙ not-true (t == 40) (and_parts (not (t == 40)) (list_all (λ c. not (c == 40)) tag) h).0))
-before_bracket (t ∷ tag) (c ∷ text) rest more h e =
-    let first : c ≡ t = cc in
-    let later : text ++ 40 ∷ rest ≡ tag ++ more = cc in
-    let back = before_bracket tag text rest more (and_parts (not (t == 40)) (list_all (λ c. not (c == 40)) tag) h).1 later in
-    (back.0, ap₂ (λ (x : ℕ) (l : List ℕ). x ∷ l) first back.1)
-
-no_bracket : (x : SpanMark) → list_all (λ c. not (c == 40)) (tag_of x) ≡ true
-no_bracket OpensEu = refl
-no_bracket _ = refl
-
 pub mark_before_notes : (t rest : List ℕ) → mark_at (t ++ 40 ∷ rest) ≡ mark_at t
-mark_before_notes t rest = by (mark_at t) (mark_at (t ++ 40 ∷ rest)) refl refl
-  where
-    by : (o p : Option SpanMark) → mark_at t ≡ o → mark_at (t ++ 40 ∷ rest) ≡ p → mark_at (t ++ 40 ∷ rest) ≡ mark_at t
-    by (Some x) p e f =
-        let back = drop (length (tag_of x)) t in
-        ap mark_at (ap (λ (l : List ℕ). l ++ 40 ∷ rest) (begun_with x t e) ∙ append_assoc (tag_of x) back (40 ∷ rest)) ∙ marked x (back ++ 40 ∷ rest) ∙ sym e
-    by None None e f = f ∙ sym e
-    by None (Some x) e f =
-        let back = before_bracket (tag_of x) t rest _ (no_bracket x) (begun_with x (t ++ 40 ∷ rest) f) in
-        absurd (let g = sym e ∙ ap mark_at back.1 ∙ marked x back.0 in cc)
+mark_before_notes t rest = grind arith
 
 -- the mark that a text begins with
 pub mark_is_begun : (l : List ℕ) (o : Option SpanMark) → mark_at l ≡ o → IsBegun o nothing_before (take (mark_length o) l)
 mark_is_begun l None e = nothing_begun
 mark_is_begun l (Some x) e = subst (IsBegun (Some x) nothing_before) (sym (ap (take (length (tag_of x))) (begun_with x l e) ∙ take-append_seam (tag_of x) (drop (length (tag_of x)) l))) (mark_begun x)
-
--- with a byte but `<` no mark begins
-unmarked : (l : List ℕ) → slice_index l 0 ≢ 60 → mark_at l ≡ None
-unmarked [] h = refl
-unmarked (b ∷ l) h = let no : (60 == b) ≡ false = ne_eqb 60 b (λ e. h (sym e)) in rw no refl
 
 -- ---- translations
 
@@ -204,11 +164,7 @@ module _ (mark : Option SpanMark) (b : Before) (bs more : List ℕ) (x : IsBegun
   v = record { word_start = false; pieces = x.pieces; centre = x.middle; translation = o }
 
   sound : Sound v
-  sound = record { good = x.good; no_last = none_taken x.pieces x.no_blank; centre_in = centre x.middle x.middle_in; translation_in = stable }
-    where
-      centre : (m : Option Span) → LiesAmong (length x.pieces) m → LiesAmong (length x.pieces) m
-      centre None h = h
-      centre (Some c) h = h
+  sound = grind (arith, none_taken)
 
   spelled : IsSpelled (print v) (bs ++ more)
   spelled = subst (λ (t : List ℕ). IsSpelled t (bs ++ more)) (sym (written_append (print_from x.middle 0 [] x.pieces) (translation_tokens o)))
@@ -235,9 +191,7 @@ letters l n within run first =
     let b = run_begun l n within run in subst (λ (o : Option SpanMark). IsTranslatedText o (take n l) (take n l) []) (sym (none n l first)) (untranslated None b.0 (take n l) b.1)
   where
     none : (n : ℕ) (l : List ℕ) → (0 < n → slice_index l 0 ≢ 60) → mark_at (take n l) ≡ None
-    none zero l first = refl
-    none (suc n) [] first = refl
-    none (suc n) (b ∷ l) first = unmarked (b ∷ take n l) (first (omega arith))
+    none n l first = grind arith
 
 bracketed_text : (mark : Option SpanMark) (b : Before) (bs more : List ℕ) → IsBegun mark b bs → IsBracketed (91 ∷ []) 93 (93 ∷ []) more → IsTranslatedText mark (bs ++ more) bs more
 bracketed_text mark b bs more x y =
@@ -250,11 +204,7 @@ bracketed_text mark b bs more x y =
 pub bracketed_is : (l a b : List ℕ) (stop n : ℕ) (x y : Bool) → x ≡ pointwise (λ u v. u == v) a (take (length a) l) → x ≡ true
     → y ≡ pointwise (λ u v. u == v) b (take (length b) (take (length l - (length a + n)) (drop (length a + n) l))) → y ≡ true
     → IsInner stop (take n (take (length l - length a) (drop (length a) l))) → IsBracketed a stop b (take (length a + n + length b) l)
-bracketed_is l a b stop n x y e f g h p = record {
-  inner = take n (drop (length a) l);
-  within = subst (λ (u : List ℕ). IsInner stop (take n u)) (after_is l (length a)) p;
-  parts = between_is l a b n x y e f g h;
-}
+bracketed_is l a b stop n x y e f g h p = grind (arith, after_is, between_is)
 
 -- a text with its translation, if it has one
 pub whole : (mark : Option SpanMark) (b : Before) (l : List ℕ) (n r : ℕ) → IsBegun mark b (take n l) → (0 < r → IsBracketed (91 ∷ []) 93 (93 ∷ []) (take r (take (length l - n) (drop n l))))
@@ -268,16 +218,12 @@ whole mark b l n r x h = subst (λ (u : List ℕ). IsTranslatedText mark u (take
 
 -- that is all of these bytes
 pub parted : (mark : Option SpanMark) (l : List ℕ) (n r : ℕ) → n + r ≡ length l → IsTranslatedText mark (take (n + r) l) (take n l) (take r (drop n l)) → IsTranslatedText mark l (take n l) (drop n l)
-parted mark l n r e x =
-    subst (λ (u : List ℕ). IsTranslatedText mark u (take n l) (drop n l)) (take_all (n + r) l (omega (arith, e)))
-    (subst (λ (u : List ℕ). IsTranslatedText mark (take (n + r) l) (take n l) u) (take_all r (drop n l) (omega (arith, length-drop n l, e))) x)
+parted mark l n r e x = grind (arith, take_all, length-drop)
 
 -- no letter comes next
 pub whole_stops : (l : List ℕ) (n r : ℕ) → (n < length l → has_letter_at l n ≡ false) → (0 < r → get_or (take (length l - n) (drop n l)) r 0 ≡ 40) → n + r < length l → has_letter_at l (n + r) ≡ false
 whole_stops l n zero h g less = let same : n ≡ n + 0 = omega arith in subst (λ (m : ℕ). has_letter_at l m ≡ false) same (h (omega arith))
-whole_stops l n (suc r) h g less =
-    let here : get_or l (n + suc r) 0 ≡ 40 = sym (get_or-drop n l (suc r) 0) ∙ ap (λ (u : List ℕ). get_or u (suc r) 0) (sym (after_is l n)) ∙ g (omega arith) in
-    ap (λ (x : ℕ). begins_letter x (get_or l (n + suc r + 1) 0) (get_or l (n + suc r + 2) 0)) here
+whole_stops l n (suc r) h g less = grind (arith, get_or-drop, after_is)
 
 -- ---- no translation
 

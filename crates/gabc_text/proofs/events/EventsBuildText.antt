@@ -22,8 +22,8 @@ use Rattle.gabc_text.specs.declared.text_event.TextEnd.TheVariants as ending
 use Rattle.gabc_text.specs.declared.text_event.TextEvent.{TextEvent}
 use Rattle.gabc_text.specs.declared.text_event.TextEvent.TheVariants as out
 use Rattle.gabc_text.specs.Token.{Token, tokens}
-use Rattle.gabc_text.specs.View.{along, effect, kind_of, piece_kind, is_space, has_word, starts_word, follows_blank, has_translation, place_of, found_at, findings_at, findings_at_end, findings, kept, kept_at, early_codes, late_codes, is_blank_piece, count_pieces, begin_of, end_of, centre_by, piece_of, PieceFacts}
-use Rattle.gabc_text.specs.Events.{events_of, events_at, end_events, token_events, finding_events, chars_at, parts_at, kept_of, piece_at, all_pieces_at, all_pieces_by, waiting_blank, waiting_by, option_list_of, is_whole_translation, translation_at, centre_of, count_by, end_after, after_tokens}
+use Rattle.gabc_text.specs.View.{along, effect, kind_of, piece_kind, is_space, has_word, starts_word, follows_blank, has_translation, place_of, found_at, findings_at, findings_at_end, findings, kept, kept_at, early_codes, late_codes, is_blank_piece, count_pieces, begin_of, end_of, centre_by, piece_of}
+use Rattle.gabc_text.specs.Events.{events_of, events_at, end_events, token_events, finding_events, chars_at, parts_at, kept_of, piece_at, all_pieces_at, all_pieces_by, waiting_blank, option_list_of, is_whole_translation, translation_at, centre_of, count_by, end_after, after_tokens}
 use Rattle.gabc_text.specs.TextRead.{but_last_blank, pieces_in, translation_of, view_in}
 use Rattle.gabc_text.specs.BuiltText.{BuiltText, with_event, with_part, with_events, empty_text, kept_in}
 use Rattle.gabc_text.proofs.machine.TokensOneAfterAnother.{onto}
@@ -76,8 +76,7 @@ along_onto at [] before = sym (append-nil (so_far at before))
 along_onto at (k ∷ ks) before = along_onto at ks (k ∷ before) ∙ append_assoc (so_far at before) (at before k) (along at (k ∷ before) ks)
 
 pub kept_so : (before : List Token) → kept_of before ≡ so_far kept_at before
-kept_so [] = refl
-kept_so (k ∷ before) = ap (λ (x : List ℕ). x ++ kept_at before k) (kept_so before)
+kept_so before = cc
 
 abbrev emitted_by : List Token → Token → Option PieceKind → List Piece → List Piece
 emitted_by before k (Some q) was = was ++ (option_list_of (waiting_blank before) ++ piece_at before k q ∷ [])
@@ -112,8 +111,7 @@ module _ (before : List Token) (k : Token) where
 
   with_piece : (p : Piece) (o : Option Piece) → parts_after (view_at before) (map (λ (r : Piece). part.Piece r) (option_list_of o) ++ part.Piece p ∷ [])
       ≡ record { word_start = starts_word before; pieces = events_pieces before ++ (option_list_of o ++ p ∷ []); centre = None; translation = translation_of before }
-  with_piece p None = refl
-  with_piece p (Some q) = ap (λ (x : List Piece). record { word_start = starts_word before; pieces = x; centre = None; translation = translation_of before }) (append_assoc (events_pieces before) (q ∷ []) (p ∷ []))
+  with_piece p o = grind (arith, append_assoc)
 
   parts_give : (d : TokenKind) (s : TagEffect) → parts_after (view_at before) (parts_here d (piece_kind d s)) ≡ view_here d (piece_kind d s)
   parts_give kind.Letter s = with_piece (piece_at before k piece.Char) (waiting_blank before)
@@ -121,19 +119,8 @@ module _ (before : List Token) (k : Token) where
   parts_give kind.Tag Mark = with_piece (piece_at before k piece.Mark) (waiting_blank before)
   parts_give kind.Tag Other = with_piece (piece_at before k piece.Tag) (waiting_blank before)
   parts_give kind.Tag _ = refl
-  parts_give kind.Blank s = by (has_word before) (starts_word before)
-    where
-      by : (a b : Bool) → parts_after (record { word_start = b; pieces = events_pieces before; centre = None; translation = translation_of before }) (cond (not a && not b) (part.WordStart ∷ []) [])
-          ≡ record { word_start = not a || b; pieces = events_pieces before; centre = None; translation = translation_of before }
-      by true b = refl
-      by false true = refl
-      by false false = refl
-  parts_give kind.Translation s = by (has_translation before)
-    where
-      by : (a : Bool) → parts_after (view_at before) (cond (not a) (part.Translation (translation_at before k) ∷ []) [])
-          ≡ record { word_start = starts_word before; pieces = events_pieces before; centre = None; translation = cond (not a) (Some (translation_at before k)) (translation_of before) }
-      by true = refl
-      by false = refl
+  parts_give kind.Blank s = grind arith
+  parts_give kind.Translation s = grind arith
   parts_give _ s = refl
 
 module _ (at : Place) where
@@ -167,19 +154,12 @@ module _ (at : Place) where
 
   events_along : (ks before : List Token) → with_events (emitted_at at before) (along (events_at at) before ks) ≡ emitted_at at (onto ks before)
   events_along [] before = refl
-  events_along (k ∷ ks) before =
-      events_append (emitted_at at before) (events_at at before k) (along (events_at at) (k ∷ before) ks)
-      ∙ ap (λ (x : BuiltText). with_events x (along (events_at at) (k ∷ before) ks)) (events_token before k)
-      ∙ events_along ks (k ∷ before)
+  events_along (k ∷ ks) before = grind (arith, events_append, events_token, events_along ks (k ∷ before))
 
 -- ---- the pieces
 
 pub piece_is : (k : TokenKind) (s : TagEffect) (q : PieceKind) → piece_kind k s ≡ Some q → is_blank_piece q ≡ false
-piece_is kind.Letter s q e = let f : piece.Char ≡ q = cc in ap is_blank_piece (sym f)
-piece_is kind.Raw s q e = let f : piece.Raw ≡ q = cc in ap is_blank_piece (sym f)
-piece_is kind.Tag Mark q e = let f : piece.Mark ≡ q = cc in ap is_blank_piece (sym f)
-piece_is kind.Tag Other q e = let f : piece.Tag ≡ q = cc in ap is_blank_piece (sym f)
-piece_is _ s q e = absurd (cc)
+piece_is k s q e = grind arith
 
 last_drops : (xs : List Piece) (p : Piece) → is_blank_piece p.kind ≡ true → but_last_blank (xs ++ p ∷ []) ≡ xs
 last_drops (x ∷ y ∷ xs) p e = ap (λ (ps : List Piece). x ∷ ps) (last_drops (y ∷ xs) p e)
@@ -205,9 +185,7 @@ waiting_space before k b None was = cond (b && (has_word before && not (follows_
 
 waits_by : (before : List Token) (k : Token) (b : Bool) (o : Option PieceKind) → (b || (not (is_some o) && follows_blank before)) ≡ false
     → (follows_blank before ≡ false → waiting_blank before ≡ None) → waiting_space before k b o (waiting_blank before) ≡ None
-waits_by before k b (Some q) f ih = refl
-waits_by before k true None f ih = absurd (cc)
-waits_by before k false None f ih = ih f
+waits_by before k b o f ih = grind arith
 
 -- nothing waits where no blank is the last piece
 none_waits : (before : List Token) → follows_blank before ≡ false → waiting_blank before ≡ None
@@ -216,54 +194,20 @@ none_waits (k ∷ before) e = waits_by before k (is_space k.kind) (kind_of k) e 
 
 all_so : (before : List Token) → so_far all_pieces_at before ≡ events_pieces before ++ option_list_of (waiting_blank before)
 all_so [] = refl
-all_so (k ∷ before) = by (kind_of k) (is_space k.kind && (has_word before && not (follows_blank before))) refl (all_so before)
-  where
-    none : (a b c : Bool) → (a && (b && not c)) ≡ true → c ≡ false
-    none a b c e = grind arith
-
-    by : (o : Option PieceKind) (b : Bool) → (is_space k.kind && (has_word before && not (follows_blank before))) ≡ b → so_far all_pieces_at before ≡ events_pieces before ++ option_list_of (waiting_blank before)
-        → so_far all_pieces_at before ++ all_pieces_by before k o ≡ emitted_by before k o (events_pieces before) ++ option_list_of (waiting_by before k o (waiting_blank before))
-    by (Some q) b e ih =
-        ap (λ (x : List Piece). x ++ piece_at before k q ∷ []) ih
-        ∙ append_assoc (events_pieces before) (option_list_of (waiting_blank before)) (piece_at before k q ∷ [])
-        ∙ sym (append-nil (events_pieces before ++ (option_list_of (waiting_blank before) ++ piece_at before k q ∷ [])))
-    by None true e ih =
-        let w : waiting_blank before ≡ None = none_waits before (none (is_space k.kind) (has_word before) (follows_blank before) e) in
-        rw e (ap (λ (x : List Piece). x ++ piece_at before k piece.Blank ∷ []) (ih ∙ ap (λ (x : Option Piece). events_pieces before ++ option_list_of x) w ∙ append-nil (events_pieces before)))
-    by None false e ih = rw e (append-nil (so_far all_pieces_at before) ∙ ih)
-
-abbrev waiting_as : List Token → Token → Bool → Option PieceKind → Option Piece → Option Piece
-waiting_as before k b (Some q) was = None
-waiting_as before k b None was = cond b (Some (piece_at before k piece.Blank)) was
+all_so (k ∷ before) = grind (arith, append_assoc, append-nil, none_waits, all_so before)
 
 waits_blank : (before : List Token) (p : Piece) → waiting_blank before ≡ Some p → is_blank_piece p.kind ≡ true
 waits_blank [] p e = absurd (cc)
-waits_blank (k ∷ before) p e = by (kind_of k) (is_space k.kind && (has_word before && not (follows_blank before))) e (waits_blank before p)
-  where
-    by : (o : Option PieceKind) (b : Bool) → waiting_as before k b o (waiting_blank before) ≡ Some p → (waiting_blank before ≡ Some p → is_blank_piece p.kind ≡ true) → is_blank_piece p.kind ≡ true
-    by (Some q) b f ih = absurd (cc)
-    by None true f ih = let g : piece_at before k piece.Blank ≡ p = cc in ap (λ (x : Piece). is_blank_piece x.kind) (sym g)
-    by None false f ih = ih f
+waits_blank (k ∷ before) p e = grind (arith, waits_blank before p)
 
 pieces_emitted : (before : List Token) → but_last_blank (so_far all_pieces_at before) ≡ events_pieces before
-pieces_emitted before = ap but_last_blank (all_so before) ∙ by (waiting_blank before) refl
-  where
-    by : (o : Option Piece) → waiting_blank before ≡ o → but_last_blank (events_pieces before ++ option_list_of o) ≡ events_pieces before
-    by None e = ap but_last_blank (append-nil (events_pieces before)) ∙ events_stays before
-    by (Some p) e = last_drops (events_pieces before) p (waits_blank before p e)
+pieces_emitted before = grind (arith, all_so, append-nil, events_stays, last_drops, waits_blank)
 
 -- ---- the whole
 
-flags : (n m : ℕ) (a b c : Bool) (p : Piece) (q : PieceFacts) → n ≡ m → n + length {A = Piece} (cond (a && (b && not c)) (p ∷ []) []) ≡ m + length {A = PieceFacts} (cond (a && b && not c) (q ∷ []) [])
-flags n m true true true p q e = ap (λ (x : ℕ). x + 0) e
-flags n m true true false p q e = ap (λ (x : ℕ). x + 1) e
-flags n m true false c p q e = ap (λ (x : ℕ). x + 0) e
-flags n m false b c p q e = ap (λ (x : ℕ). x + 0) e
-
 count_by_kind : (before : List Token) (k : Token) (o : Option PieceKind) → length (so_far all_pieces_at before) ≡ count_pieces before
     → length (so_far all_pieces_at before) + length (all_pieces_by before k o) ≡ count_pieces before + length (piece_of before k o)
-count_by_kind before k (Some q) ih = ap (λ (n : ℕ). n + 1) ih
-count_by_kind before k None ih = flags (length (so_far all_pieces_at before)) (count_pieces before) (is_space k.kind) (has_word before) (follows_blank before) (piece_at before k piece.Blank) _ ih
+count_by_kind before k o ih = grind arith
 
 count_all : (before : List Token) → length (so_far all_pieces_at before) ≡ count_pieces before
 count_all [] = refl
@@ -280,8 +224,7 @@ centre_emitted before = ap (λ (n : ℕ). centre_by n (begin_of before) (end_of 
 
 module _ (at : Place) (t : List ℕ) where
   events_centre : (s : BuiltText) (o : Option Span) → s.view.centre ≡ None → with_events s (map (λ (x : Span). out.Part (part.Centre x)) (option_list_of o)) ≡ record s { view = record s.view { centre = o } }
-  events_centre s None e = ap (λ (x : Option Span). record s { view = record s.view { centre = x } }) e
-  events_centre s (Some x) e = refl
+  events_centre s o e = grind arith
 
   -- what is emitted of a text at its end
   pub events_whole : with_events empty_text (events_of at t)
@@ -337,27 +280,11 @@ module _ (at : Place) where
       ∙ kept_chars (chars_at at before k) ∙ codes_kept at before k
     where
       quiet : kept_in (token_events at before k) ≡ []
-      quiet =
-          kept_more (map (λ (p : TextPart). out.Part p) (parts_at before k)) (finding_events at before (late_codes before k.kind (effect k)))
-          ∙ ap (λ (x : List ℕ). x ++ kept_in (finding_events at before (late_codes before k.kind (effect k)))) (none_kept (λ (p : TextPart). out.Part p) (λ p. refl) (parts_at before k))
-          ∙ none_kept (λ (c : Code). out.Found (found_at (place_of at before) c)) (λ c. refl) (late_codes before k.kind (effect k))
+      quiet = grind arith
 
   kept_along : (ks before : List Token) → kept_in (along (events_at at) before ks) ≡ along kept_at before ks
   kept_along [] before = refl
-  kept_along (k ∷ ks) before =
-      kept_more (events_at at before k) (along (events_at at) (k ∷ before) ks)
-      ∙ ap (λ (x : List ℕ). x ++ kept_in (along (events_at at) (k ∷ before) ks)) (kept_token before k)
-      ∙ ap (λ (x : List ℕ). kept_at before k ++ x) (kept_along ks (k ∷ before))
+  kept_along (k ∷ ks) before = grind (arith, kept_more, kept_token, kept_along ks (k ∷ before))
 
   pub kept_whole : (t : List ℕ) → kept_in (events_of at t) ≡ kept t
-  kept_whole t =
-      kept_more (along (events_at at) [] (tokens t)) (end_events at (reverse (tokens t)) (after_tokens t))
-      ∙ ap (λ (x : List ℕ). kept_in (along (events_at at) [] (tokens t)) ++ x) ended
-      ∙ append-nil (kept_in (along (events_at at) [] (tokens t))) ∙ kept_along (tokens t) []
-    where
-      ended : kept_in (end_events at (reverse (tokens t)) (after_tokens t)) ≡ []
-      ended =
-          kept_more (map out.Found (findings_at_end at (reverse (tokens t)))) _
-          ∙ ap (λ (x : List ℕ). x ++ kept_in (map (λ (s : Span). out.Part (part.Centre s)) (option_list_of (centre_of (reverse (tokens t)))) ++ out.Ended (end_after at (reverse (tokens t)) (after_tokens t)) ∷ [])) (none_kept out.Found (λ f. refl) (findings_at_end at (reverse (tokens t))))
-          ∙ kept_more (map (λ (s : Span). out.Part (part.Centre s)) (option_list_of (centre_of (reverse (tokens t))))) _
-          ∙ ap (λ (x : List ℕ). x ++ []) (none_kept (λ (s : Span). out.Part (part.Centre s)) (λ s. refl) (option_list_of (centre_of (reverse (tokens t)))))
+  kept_whole t = grind (arith, kept_more, append-nil, kept_along, none_kept)

@@ -1,5 +1,5 @@
 -- The lists of a text's events, joined, are its events in order.
-use Rattle.std.proofs.Common.{◌≡◌, ℕ, List, [], ◌∷◌, ◌++◌, Bool, true, false, cond, refl, sym, ap, ◌∙◌, append_assoc, append-nil, map}
+use Rattle.std.proofs.Common.{arith, ◌≡◌, ℕ, List, [], ◌∷◌, ◌++◌, Bool, cond, refl, sym, ap, ◌∙◌, append_assoc, append-nil, map}
 use Rattle.std.proofs.lemmas.List.Concat.{flat_map-append}
 use Rattle.gabc_places.specs.StageLaw.{concat_of}
 use Rattle.gabc_places.specs.Place.{next_place, placed_characters_from}
@@ -8,8 +8,8 @@ use Rattle.gabc_places.specs.declared.place.Char.{Char}
 use Rattle.gabc_text.specs.declared.text_event.TextEvent.{TextEvent}
 use Rattle.gabc_text.specs.declared.text_event.TextEvent.TheVariants as out
 use Rattle.gabc_text.specs.Token.{Token, spelling, tokens}
-use Rattle.gabc_text.specs.View.{along, is_left_out, is_space, follows_space, place_of}
-use Rattle.gabc_text.specs.Events.{events_of, events_by_point, events_at, end_events, early_events, token_events, last_char_events, owed_events, is_lone, lists_at, lists_end, with_first, with_last, kept_each, no_events_each, chars_at, after_tokens}
+use Rattle.gabc_text.specs.View.{along, follows_space, place_of}
+use Rattle.gabc_text.specs.Events.{events_of, events_by_point, events_at, end_events, owed_events, lists_at, lists_end, with_first, with_last, kept_each, no_events_each, after_tokens}
 use Rattle.gabc_text.proofs.machine.TokensOneAfterAnother.{onto}
 
 pub joined_append : (a b : List (List TextEvent)) → concat_of (a ++ b) ≡ concat_of a ++ concat_of b
@@ -32,34 +32,16 @@ module _ (at : Place) where
     -- the lists of a token are one or more
     joined_token : (zs xs : List TextEvent) (b : Bool) (d : Bool) → concat_of (with_last zs (with_first xs (cond b (no_events_each (spelling k)) (cond d (cond (follows_space before) [] (out.Kept (record { c = 32; place = place_of at before }) ∷ []) ∷ []) (kept_each (place_of at before) (spelling k))))))
         ≡ xs ++ (map (λ (c : Char). out.Kept c) (cond b [] (cond d (cond (follows_space before) [] (record { c = 32; place = place_of at before } ∷ [])) (placed_characters_from (place_of at before) (spelling k)))) ++ zs)
-    joined_token zs xs true d =
-        joined_last zs (xs ++ []) (no_events_each k.more) ∙ ap (λ (x : List TextEvent). ((xs ++ []) ++ x) ++ zs) (joined_nothing k.more)
-        ∙ ap (λ (x : List TextEvent). x ++ zs) (append-nil (xs ++ []) ∙ append-nil xs)
-    joined_token zs xs false true = by (follows_space before)
-      where
-        by : (b : Bool) → concat_of (with_last zs ((xs ++ cond b [] (out.Kept (record { c = 32; place = place_of at before }) ∷ [])) ∷ []))
-            ≡ xs ++ (map (λ (c : Char). out.Kept c) (cond b [] (record { c = 32; place = place_of at before } ∷ [])) ++ zs)
-        by true = append-nil ((xs ++ []) ++ zs) ∙ ap (λ (x : List TextEvent). x ++ zs) (append-nil xs)
-        by false = append-nil ((xs ++ out.Kept (record { c = 32; place = place_of at before }) ∷ []) ++ zs) ∙ append_assoc xs (out.Kept (record { c = 32; place = place_of at before }) ∷ []) zs
-    joined_token zs xs false false =
-        let first = out.Kept (record { c = k.first; place = place_of at before }) in
-        joined_last zs (xs ++ first ∷ []) (kept_each (next_place (place_of at before) k.first) k.more)
-        ∙ ap (λ (x : List TextEvent). x ++ zs) (append_assoc xs (first ∷ []) (concat_of (kept_each (next_place (place_of at before) k.first) k.more)))
-        ∙ ap (λ (x : List TextEvent). (xs ++ first ∷ x) ++ zs) (joined_kept (next_place (place_of at before) k.first) k.more)
-        ∙ append_assoc xs (map (λ (c : Char). out.Kept c) (placed_characters_from (place_of at before) (spelling k))) zs
+    joined_token zs xs b d = grind (arith, joined_last, joined_nothing, append-nil, append_assoc, joined_kept)
 
     parted : (b : Bool) (ws : List TextEvent) → cond b [] ws ++ cond b ws [] ≡ ws
-    parted true ws = refl
-    parted false ws = append-nil ws
+    parted b ws = grind (arith, append-nil)
 
     five : (o e c n w : List TextEvent) → ((o ++ e) ++ (c ++ n)) ++ w ≡ o ++ (e ++ (c ++ (n ++ w)))
     five o e c n w = simp append_assoc
 
     lists_joined : concat_of (lists_at at before k) ++ owed_events at (k ∷ before) ≡ owed_events at before ++ events_at at before k
-    lists_joined =
-        ap (λ (x : List TextEvent). x ++ owed_events at (k ∷ before)) (joined_token (last_char_events at before k) (owed_events at before ++ early_events at before k.kind) (is_left_out before k.kind) (is_space k.kind))
-        ∙ five (owed_events at before) (early_events at before k.kind) (map (λ (c : Char). out.Kept c) (chars_at at before k)) (last_char_events at before k) (owed_events at (k ∷ before))
-        ∙ ap (λ (x : List TextEvent). owed_events at before ++ (early_events at before k.kind ++ (map (λ (c : Char). out.Kept c) (chars_at at before k) ++ x))) (parted (is_lone k) (token_events at before k))
+    lists_joined = grind (arith, joined_token, five, parted)
 
   pub along_joined : (ks before : List Token) → concat_of (along (lists_at at) before ks) ++ owed_events at (onto ks before) ≡ owed_events at before ++ along (events_at at) before ks
   along_joined [] before = sym (append-nil (owed_events at before))

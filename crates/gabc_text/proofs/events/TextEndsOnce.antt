@@ -1,19 +1,16 @@
 -- A text ends once.
-use Rattle.std.proofs.Common.{◌≡◌, ℕ, List, [], ◌∷◌, ◌++◌, Bool, true, false, cond, refl, sym, ap, ◌∙◌, append_assoc, length, length-append, drop, map, arith, inl, inr, ◌⊎◌}
+use Rattle.std.proofs.Common.{◌≡◌, ℕ, List, [], ◌∷◌, ◌++◌, true, refl, sym, ap, ◌∙◌, append_assoc, length, length-append, drop, map, arith, ◌⊎◌}
 use Rattle.gabc_places.specs.StageLaw.{concat_of}
 use Rattle.gabc_places.specs.declared.place.Place.{Place}
-use Rattle.gabc_places.specs.declared.place.Char.{Char}
 use Rattle.gabc_places.specs.declared.place.Span.{Span}
 use Rattle.gabc_places.specs.declared.code.Code.{Code}
 use Rattle.gabc_text.specs.declared.text_event.TextEnd.{TextEnd}
-use Rattle.gabc_text.specs.declared.text_event.TextEnd.TheVariants as ending
-use Rattle.gabc_text.specs.declared.text_event.TextPart.{TextPart}
 use Rattle.gabc_text.specs.declared.text_event.TextPart.TheVariants as part
 use Rattle.gabc_text.specs.declared.text_event.TextEvent.{TextEvent}
 use Rattle.gabc_text.specs.declared.text_event.TextEvent.TheVariants as out
-use Rattle.gabc_text.specs.Token.{Token, spelling, tokens}
-use Rattle.gabc_text.specs.View.{along, effect, place_of, found_at, findings_at_end, early_codes, late_codes, is_open_kind}
-use Rattle.gabc_text.specs.Events.{lists_at, owed_events, events_at, end_events, token_events, finding_events, early_events, chars_at, parts_at, option_list_of, centre_of, end_after, end_by_rest, no_events_each}
+use Rattle.gabc_text.specs.Token.{Token, tokens}
+use Rattle.gabc_text.specs.View.{along, place_of, found_at, findings_at_end, is_open_kind}
+use Rattle.gabc_text.specs.Events.{lists_at, owed_events, events_at, end_events, token_events, finding_events, option_list_of, centre_of, end_after, end_by_rest, no_events_each}
 use Rattle.gabc_text.specs.Ends.{EndsOnce, ends_in, Leaves}
 use Rattle.gabc_text.specs.Printed.{text_of_tokens}
 use Rattle.gabc_text.proofs.machine.TokensOneAfterAnother.{onto}
@@ -47,14 +44,10 @@ module _ (at : Place) where
   none_found before cs = no_ends (λ (c : Code). out.Found (found_at (place_of at before) c)) (λ c. refl) cs
 
   none_whole : (before : List Token) (k : Token) → ends_in (token_events at before k) ≡ []
-  none_whole before k =
-      neither (map (λ (p : TextPart). out.Part p) (parts_at before k)) (finding_events at before (late_codes before k.kind (effect k)))
-      (no_ends (λ (p : TextPart). out.Part p) (λ p. refl) (parts_at before k)) (none_found before (late_codes before k.kind (effect k)))
+  none_whole before k = grind arith
 
   none_token : (before : List Token) (k : Token) → ends_in (events_at at before k) ≡ []
-  none_token before k =
-      neither (early_events at before k.kind) (map (λ (c : Char). out.Kept c) (chars_at at before k) ++ token_events at before k) (none_found before (early_codes before k.kind))
-      (neither (map (λ (c : Char). out.Kept c) (chars_at at before k)) (token_events at before k) (no_ends (λ (c : Char). out.Kept c) (λ c. refl) (chars_at at before k)) (none_whole before k))
+  none_token before k = grind (arith, neither, none_found, no_ends, none_whole)
 
   none_along : (ks before : List Token) → ends_in (along (events_at at) before ks) ≡ []
   none_along [] before = refl
@@ -66,30 +59,16 @@ module _ (at : Place) where
 
   many_along : (ks before : List Token) (rest : List ℕ) → AllGo ks rest → length (along (lists_at at) before ks) ≡ length (text_of_tokens ks)
   many_along [] before rest g = refl
-  many_along (k ∷ ks) before rest g =
-      omega (
-        arith,
-        length-append (lists_at at before k) (along (lists_at at) (k ∷ before) ks),
-        length-append (spelling k) (text_of_tokens ks),
-        many_lists at before k (text_of_tokens ks ++ rest) g.0,
-        many_along ks (k ∷ before) rest g.1,
-      )
+  many_along (k ∷ ks) before rest g = grind (arith, length-append, many_lists, many_along ks (k ∷ before) rest g.1)
 
   -- ---- what is left
 
   leaves_by : (rest : List ℕ) → (rest ≡ []) ⊎ (rest ≡ 40 ∷ drop 1 rest) → Leaves (end_by_rest rest) rest
-  leaves_by [] g = refl
-  leaves_by (c ∷ rest) (inl e) = absurd (cc)
-  leaves_by (c ∷ rest) (inr e) = e
-
-  leaves_last : (b : Bool) (p : Place) (rest : List ℕ) → (b ≡ true → rest ≡ []) → Leaves (end_by_rest rest) rest → Leaves (cond b (ending.Cut p) (end_by_rest rest)) rest
-  leaves_last true p rest h g = h refl
-  leaves_last false p rest h g = g
+  leaves_by rest h1 = grind arith
 
   -- the last token is open only if nothing follows
   leaves_end : (before : List Token) (rest : List ℕ) → ((k : Token) (bs : List Token) → before ≡ k ∷ bs → is_open_kind k.kind ≡ true → rest ≡ []) → Leaves (end_by_rest rest) rest → Leaves (end_after at before rest) rest
-  leaves_end [] rest h g = g
-  leaves_end (k ∷ before) rest h g = leaves_last (is_open_kind k.kind) (place_of at before) rest (h k before refl) g
+  leaves_end before rest h g = grind arith
 
   leaves_onto : (ks before : List Token) (rest : List ℕ) → AllGo ks rest → ((k : Token) (bs : List Token) → before ≡ k ∷ bs → is_open_kind k.kind ≡ true → text_of_tokens ks ++ rest ≡ []) → Leaves (end_after at (onto ks before) rest) rest
   leaves_onto [] before rest g h = leaves_end before rest h (leaves_by rest g)

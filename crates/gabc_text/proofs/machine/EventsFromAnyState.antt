@@ -1,28 +1,27 @@
 -- A character more, and the end: from any state on, the machine gives what the definitions say of the tokens ahead.
-use Rattle.std.proofs.Common.{◌≡◌, ℕ, ◌==◌, ◌&&◌, List, [], ◌∷◌, ◌++◌, Bool, true, false, cond, refl, sym, ap, ◌∙◌, subst, append_assoc, append-nil, length, drop, Option, Some, None, inl, inr, ◌⊎◌}
+use Rattle.std.proofs.Common.{arith, ◌≡◌, ℕ, ◌==◌, List, [], ◌∷◌, ◌++◌, Bool, true, false, cond, refl, sym, ap, ◌∙◌, subst, append_assoc, append-nil, length, drop, Option, Some, None, inl, inr, ◌⊎◌}
 use Rattle.std.proofs.lemmas.Bool.{eqb-true}
 use Rattle.std.proofs.Math.Seq.{drop-append-add, drop-append_seam}
 use Rattle.gabc_places.specs.declared.place.Place.{Place}
 use Rattle.gabc_text.specs.declared.text_facts.TextFacts.{TextFacts}
 use Rattle.gabc_text.specs.declared.token.TokenKind.{TokenKind}
-use Rattle.gabc_text.specs.declared.token.TokenKind.TheVariants as kind
 use Rattle.gabc_text.specs.declared.token.TagEffect.{TagEffect}
 use Rattle.gabc_text.specs.declared.token.TagEffect.TheVariants.{Other}
 use Rattle.gabc_text.specs.declared.token_state.TokenState.{TokenState}
-use Rattle.gabc_text.specs.declared.token_state.TokenState.TheVariants.{Plain, Dollar, Comment, Tag, Raw, Translation}
+use Rattle.gabc_text.specs.declared.token_state.TokenState.TheVariants.{Plain}
 use Rattle.gabc_text.specs.declared.token_state.Step.{Step}
 use Rattle.gabc_text.specs.declared.token_state.Step.TheVariants.{Stays, Ends}
 use Rattle.gabc_text.specs.declared.progress.Progress.{Progress}
 use Rattle.gabc_text.specs.declared.stage.TextStage.{TextStage}
 use Rattle.gabc_text.specs.declared.text_event.TextEnd.TheVariants as ending
 use Rattle.gabc_text.specs.declared.text_event.TextEvent.{TextEvent}
-use Rattle.gabc_text.specs.Token.{Token, spelling, tokens, is_special}
+use Rattle.gabc_text.specs.Token.{Token, spelling, tokens}
 use Rattle.gabc_text.specs.View.{effect, is_open_kind, is_translation}
-use Rattle.gabc_text.specs.Events.{option_list_of, is_lone, with_first, with_last, no_events_each}
-use Rattle.gabc_text.specs.machine.TextFacts.{early_at, facts_after}
-use Rattle.gabc_text.specs.machine.TokenState.{settled_kind, next_step, keep, kind_at_end, is_plain}
+use Rattle.gabc_text.specs.Events.{option_list_of, is_lone, with_first, with_last}
+use Rattle.gabc_text.specs.machine.TextFacts.{early_at}
+use Rattle.gabc_text.specs.machine.TokenState.{settled_kind, next_step, keep, kind_at_end}
 use Rattle.gabc_places.specs.Place.{saturating_next_place}
-use Rattle.gabc_text.specs.machine.TextStage.{events_of_settling_by, settle_stage_by, settled_push_stage, events_of_settled_push, events_of_reading, read_stage, events_of_step, stage_after_step, stage_past_char, progress_past, char_event, bytes_with, token_stage, events_of_token, events_of_end, end_stage, events_of_finish_by, end_by, progress_after, is_cut_end}
+use Rattle.gabc_text.specs.machine.TextStage.{events_of_settling_by, settle_stage_by, settled_push_stage, events_of_settled_push, events_of_step, stage_after_step, stage_past_char, progress_past, char_event, bytes_with, token_stage, events_of_token, events_of_end, end_stage, events_of_finish_by, end_by, is_cut_end}
 use Rattle.gabc_text.specs.witness.FactsPast.{past, bytes_past}
 use Rattle.gabc_text.specs.witness.EventsLeft.{findings_there, kept_by, lists_kept, early_events_by, last_by, token_events_by, lists_past, lists_last, owed_events_at, facts_at, progress_at}
 use Rattle.gabc_text.specs.ViewFacts.{but_end}
@@ -81,36 +80,11 @@ module _ (read : List ℕ) (s : TextStage) where
   abbrev Closing : TokenState → List ℕ → Token → TokenKind → Type 0
   Closing state more k d = (kept_held state more ≡ kept_by s.facts d more) × (in_translation state ≡ is_translation d) × (each_held read s.facts s.progress.place s.progress.next state more ≡ lists_kept s.facts s.progress.next d more) × Quiet k d
 
-  closing_letter : (held more : List ℕ) (k : Token) → held ≡ 36 ∷ [] → spelling k ≡ held → Closing Dollar more k kind.Letter
-  closing_letter held more k h f =
-      let g : k.more ≡ [] = cc in
-      let first : k.first ≡ 36 = cc in (refl, refl, refl, inl (rw (first, g) refl))
-
-  closing_comment : (more : List ℕ) (k : Token) → Closing Comment more k kind.Comment
-  closing_comment more k = (refl, refl, refl, inr (λ progress last. refl))
-
   settle_closing : (state : TokenState) (held more : List ℕ) (c : ℕ) (k : Token) → Holds state held → settled_kind state c ≡ Some k.kind → spelling k ≡ held → Closing state more k k.kind
-  settle_closing Plain held more c k h e f = absurd (cc)
-  settle_closing Dollar held more c k h e f = by (is_special c) k.kind e
-    where
-      by : (b : Bool) (d : TokenKind) → cond b None (Some kind.Letter) ≡ Some d → Closing Dollar more k d
-      by true d g = absurd (cc)
-      by false d g = let same : kind.Letter ≡ d = cc in subst (Closing Dollar more k) same (closing_letter held more k h f)
-  settle_closing Comment held more c k h e f = by (c == 10) k.kind e
-    where
-      by : (b : Bool) (d : TokenKind) → cond b (Some kind.Comment) None ≡ Some d → Closing Comment more k d
-      by true d g = let same : kind.Comment ≡ d = cc in subst (Closing Comment more k) same (closing_comment more k)
-      by false d g = absurd (cc)
-  settle_closing (Tag name) held more c k h e f = absurd (cc)
-  settle_closing _ held more c k h e f = absurd (cc)
+  settle_closing state held more c k h e f = grind arith
 
   end_closing : (state : TokenState) (held more : List ℕ) (k : Token) (d : TokenKind) → Holds state held → kind_at_end state ≡ Some d → spelling k ≡ held → Closing state more k d
-  end_closing Plain held more k d h e f = absurd (cc)
-  end_closing Dollar held more k d h e f = let same : kind.Letter ≡ d = cc in subst (Closing Dollar more k) same (closing_letter held more k h f)
-  end_closing Comment held more k d h e f = let same : kind.Comment ≡ d = cc in subst (Closing Comment more k) same (closing_comment more k)
-  end_closing (Tag name) held more k d h e f = let same : kind.OpenTag ≡ d = cc in subst (Closing (Tag name) more k) same (refl, refl, refl, inr (λ progress last. refl))
-  end_closing (Raw raw m) held more k d h e f = let same : kind.OpenTag ≡ d = cc in subst (Closing (Raw raw m) more k) same (refl, refl, refl, inr (λ progress last. refl))
-  end_closing Translation held more k d h e f = let same : kind.OpenTranslation ≡ d = cc in subst (Closing Translation more k) same (refl, refl, refl, inr (λ progress last. refl))
+  end_closing state held more k d h e f = grind arith
 
   record Closed (state : TokenState) (more : List ℕ) (k : Token) : Type 0 where
     lists : emitted_in state more ≡ lists_past read s [] k
@@ -157,10 +131,7 @@ module _ (read : List ℕ) (s : TextStage) where
 
   bytes_goes : (state : TokenState) (more : List ℕ) (c : ℕ) (kept : List ℕ) → kept_held state more ++ option_list_of (keep s.facts state c) ≡ kept
       → bytes_with (bytes_past s.progress.kept (kept_held state more)) (keep s.facts state c) ≡ bytes_past s.progress.kept kept
-  bytes_goes state more c kept e =
-      bytes_go (bytes_past s.progress.kept (kept_held state more)) (keep s.facts state c)
-      ∙ sym (bytes_past_append s.progress.kept (kept_held state more) (option_list_of (keep s.facts state c)))
-      ∙ ap (bytes_past s.progress.kept) e
+  bytes_goes state more c kept e = grind (arith, bytes_go, bytes_past_append)
 
   -- ---- what is emitted from the character c on
 
@@ -181,17 +152,11 @@ to_come : (read more : List ℕ) (k : Token) → spelling k ≡ read ++ more →
 to_come read more k e = ap (drop (length read)) e ∙ drop-append_seam read more
 
 more_kept : (state : TokenState) (c : ℕ) (d : TokenKind) (so : TagEffect) (more : List ℕ) → (state ≡ Plain → more ≡ []) → next_step state c ≡ Ends d so → kept_held state more ≡ more
-more_kept Plain c d so more h e = sym (h refl)
-more_kept Comment c d so more h e = absurd (cc)
-more_kept _ c d so more h e = refl
+more_kept state c d so more h e = grind arith
 
 -- the `(` between tokens
 notes_end : (s : TextStage) (t : List ℕ) → From [] s Plain [] [] 40 t (events_of_end s.facts (progress_in [] s Plain []) ending.Notes) (end_stage (stage_in [] s Plain []))
-notes_end s t = (
-  ap (λ (x : List (List TextEvent)). events_of_end s.facts s.progress ending.Notes ∷ x) (rest_done (end_stage (stage_in [] s Plain [])) t refl)
-      ∙ ap (λ (x : List TextEvent). x ∷ ([] ∷ no_events_each t)) (end_same s.facts s.progress ending.Notes false refl),
-  refl,
-)
+notes_end s t = grind (arith, rest_done, end_same)
 
 module _ (c : ℕ) (t : List ℕ) (read : List ℕ) (s : TextStage) (state : TokenState) (more held : List ℕ) (here : held ≡ read ++ more) (holds : Holds state held) where
   abbrev stage : TextStage
@@ -251,26 +216,16 @@ module _ (c : ℕ) (t : List ℕ) (read : List ℕ) (s : TextStage) (state : Tok
     lone = not_lone state held c k so holds e f
 
     spot_is : progress_past (progress_in read s state more) c (keep s.facts state c) ≡ after s.facts s.progress k.kind (more ++ c ∷ [])
-    spot_is =
-        let kept : kept_held state more ++ option_list_of (keep s.facts state c) ≡ kept_by s.facts k.kind (more ++ c ∷ []) =
-        subst (KeptGo s.facts (kept_held state more ++ option_list_of (keep s.facts state c)) more c) e kept_next in
-        rw (next_goes read s more c, bytes_goes read s state more c (kept_by s.facts k.kind (more ++ c ∷ [])) kept) refl
+    spot_is = grind (arith, kept_next, next_goes, bytes_goes)
 
     last_is : bytes_past s.progress.kept (kept_held state more) ≡ last_by s.progress k (more ++ c ∷ [])
     last_is = rw (lone, but_end_is more c) (ap (bytes_past s.progress.kept) (more_kept state c k.kind so more plain_none e))
 
     emitted_are : events_of_step (stage_past_char stage c) (Ends k.kind so) (bytes_past s.progress.kept (kept_held state more)) ≡ token_events_by s.facts s.progress k (more ++ c ∷ [])
-    emitted_are =
-        ap (λ (x : Progress). events_of_token s.facts x k.kind so (bytes_past s.progress.kept (kept_held state more))) spot_is
-        ∙ ap (events_of_token s.facts (after s.facts s.progress k.kind (more ++ c ∷ [])) k.kind so) last_is
-        ∙ ap (λ (x : TagEffect). events_of_token s.facts (after s.facts s.progress k.kind (more ++ c ∷ [])) k.kind x (last_by s.progress k (more ++ c ∷ []))) (sym sk)
-        ∙ whole_same s.facts s.progress k (more ++ c ∷ [])
+    emitted_are = grind (arith, spot_is, after, last_is, whole_same)
 
     state_is : stage_after_step (stage_past_char stage c) (Ends k.kind so) ≡ past_token read s k
-    state_is =
-        ap (λ (x : Progress). record { state = Plain; facts = facts_after s.facts k.kind so; progress = progress_after s.facts x k.kind so x.next; ended = false }) spot_is
-        ∙ ap (λ (x : TagEffect). record { state = Plain; facts = facts_after s.facts k.kind x; progress = progress_after s.facts (after s.facts s.progress k.kind (more ++ c ∷ [])) k.kind x (past s.progress.next (more ++ c ∷ [])); ended = false }) (sym sk)
-        ∙ ap (λ (x : List ℕ). record { state = Plain; facts = facts_after s.facts k.kind (effect k); progress = progress_after s.facts (after s.facts s.progress k.kind x) k.kind (effect k) (past s.progress.next x); ended = false }) (sym come)
+    state_is = grind (arith, spot_is, after, come)
 
     lists_are : emitted_in read s state more ++ (events_early ++ (events_kept ++ token_events_by s.facts s.progress k (more ++ c ∷ []))) ∷ [] ≡ lists_past read s [] k
     lists_are =
@@ -312,23 +267,7 @@ module _ (c : ℕ) (t : List ℕ) (read : List ℕ) (s : TextStage) (state : Tok
 
   -- a character before which no token ends
   settled_emits : Runs t → settled_kind state c ≡ None → From read s state more held c t (events_of_settled_push stage c) (settled_push_stage stage c)
-  settled_emits ih e = by (c == 40) (is_plain state) refl refl
-    where
-      plain : (m : TokenState) → is_plain m ≡ true → m ≡ Plain
-      plain Plain f = refl
-      plain _ f = absurd (cc)
-
-      notes : c ≡ 40 → state ≡ Plain → From read s state more held c t (events_of_end s.facts (progress_in read s state more) ending.Notes) (end_stage stage)
-      notes f g =
-          let none = none_held state read more g in_read in
-          let empty : held ≡ [] = subst (λ (m : TokenState). Holds m held) g holds in
-          rw (f, g, none.0, none.1, empty) (notes_end s t)
-
-      by : (b x : Bool) → c == 40 ≡ b → is_plain state ≡ x
-          → From read s state more held c t (cond (b && x) (events_of_end s.facts (progress_in read s state more) ending.Notes) (events_of_reading stage c)) (cond (b && x) (end_stage stage) (read_stage stage c))
-      by true true f g = notes (eqb-true c 40 f) (plain state g)
-      by true false f g = read_emits ih (λ h. absurd (let z : true ≡ false = sym (ap is_plain h) ∙ g in cc)) e
-      by false x f g = read_emits ih (λ h. f) e
+  settled_emits ih e = grind (arith, none_held, in_read, notes_end, eqb-true, read_emits)
 
 -- ---- a token that ends before the character
 
@@ -371,21 +310,13 @@ finish : Runs []
 finish read s state more held here holds = by (kind_at_end state) refl (ends state held holds)
   where
     plain : (m : TokenState) → kind_at_end m ≡ None → m ≡ Plain
-    plain Plain e = refl
-    plain _ e = absurd (cc)
+    plain m e = grind arith
 
     cut_is : (b : Bool) (q : Place) → is_cut_end (cond b (ending.Cut q) ending.Finished) ≡ b
-    cut_is true q = refl
-    cut_is false q = refl
-
-    at_plain : (s : TextStage) → EndingOf [] s Plain [] [] None
-    at_plain s = (ap (λ (x : List TextEvent). x ∷ []) (end_same s.facts s.progress ending.Finished false refl), refl)
+    cut_is b q = grind arith
 
     none : state ≡ Plain → EndingOf read s state more held None
-    none g =
-        let n = none_held state read more g (subst (Holds state) here holds) in
-        let empty : held ≡ [] = subst (λ (m : TokenState). Holds m held) g holds in
-        rw (g, n.0, n.1, empty) (at_plain s)
+    none g = grind arith
 
     token : (k : Token) → kind_at_end state ≡ Some k.kind → spelling k ≡ held → tokens held ≡ k ∷ [] → EndingOf read s state more held (Some k.kind)
     token k e f g =

@@ -4,7 +4,6 @@ use Rattle.gabc_places.specs.BoundedList.{BoundedList, extended_by}
 use Rattle.gabc_places.specs.StageLaw.{Pushes, Finishes}
 use Rattle.gabc_places.specs.declared.place.Char.{Char}
 use Rattle.gabc_text.specs.declared.token_state.TokenState.{TokenState}
-use Rattle.gabc_text.specs.declared.token_state.TokenState.TheVariants.{Plain}
 use Rattle.gabc_text.specs.declared.text_facts.TextFacts.{TextFacts}
 use Rattle.gabc_text.specs.declared.progress.Progress.{Progress}
 use Rattle.gabc_text.specs.declared.stage.TextStage.{TextStage}
@@ -22,12 +21,10 @@ use Rattle.gabc_text.proofs.machine.ExampleTextIsRead.{least, holds_least, least
 use Rattle.gabc_text.proofs.machine.EventsFromAnyState.{emitted_in, stage_in, runs}
 
 kept_none : (state : TokenState) → kept_held state [] ≡ []
-kept_none Plain = refl
-kept_none _ = refl
+kept_none state = grind arith
 
 events_none : (read : List ℕ) (s : TextStage) (state : TokenState) → emitted_in read s state [] ≡ []
-events_none read s Plain = refl
-events_none read s _ = refl
+events_none read s state = grind arith
 
 -- what a stage that goes on gives
 goes_on : (state : TokenState) (facts : TextFacts) (progress : Progress) (t : List ℕ)
@@ -81,21 +78,9 @@ few_emitted old new xs e few = omega (arith, few, ap (λ (r : BoundedList TextEv
 -- what a push does
 pub push_emits : (stage next : TextStage) (x : Char) (old new : BoundedList TextEvent) → next ≡ push_stage stage x.c → new ≡ extended_by old (events_of_push stage x.c) → length new.items ≤ length old.items + 8
     → Pushes (λ cs. events_left stage (codes_of cs)) (λ cs. events_left next (codes_of cs)) x 8 old new
-push_emits stage next x old new e f few = record {
-  events = events_of_push stage x.c;
-  out = f;
-  few = few_emitted old new (events_of_push stage x.c) f few;
-  law = λ cs. rest_is stage (x.c ∷ codes_of cs)
-      ∙ ap (λ (s : TextStage). events_of_push stage x.c ∷ stepwise s (codes_of cs)) (sym e)
-      ∙ ap (λ (lists : List (List TextEvent)). events_of_push stage x.c ∷ lists) (sym (rest_is next (codes_of cs)));
-}
+push_emits stage next x old new e f few = grind (arith, few_emitted, rest_is)
 
 -- what the end does
 pub finish_ends : (stage : TextStage) (old new : BoundedList TextEvent) → new ≡ extended_by old (events_of_finish stage) → length new.items ≤ length old.items + 8
     → Finishes {I = Char} (λ cs. events_left stage (codes_of cs)) 8 old new
-finish_ends stage old new f few = record {
-  events = events_of_finish stage;
-  out = f;
-  few = few_emitted old new (events_of_finish stage) f few;
-  law = rest_is stage [];
-}
+finish_ends stage old new f few = grind (arith, few_emitted, rest_is)

@@ -21,8 +21,7 @@ few_left s [] = omega arith
 few_left s (c ∷ t) = by ((push_stage s c).ended) (few_left (push_stage s c) t)
   where
     by : (b : Bool) → length (stepwise_left (push_stage s c) t) ≤ length t → length (cond b (c ∷ t) (stepwise_left (push_stage s c) t)) ≤ suc (length t)
-    by true h = omega arith
-    by false h = omega arith
+    by b h = grind arith
 
 -- the `(` ends the text
 ended_there : (s : TextStage) (u : List ℕ) → stepwise_left s (40 ∷ u) ≡ 40 ∷ u → (push_stage s 40).ended ≡ true

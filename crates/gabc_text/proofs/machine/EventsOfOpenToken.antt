@@ -1,40 +1,28 @@
 -- What the machine has given of the characters to come of a token that goes on.
-use Rattle.std.proofs.Common.{◌≡◌, ℕ, ◌==◌, ◌&&◌, nat_lt, List, [], ◌∷◌, ◌++◌, Bool, true, false, cond, refl, sym, ap, ◌∙◌, subst, Option, Some, None, codes}
-use Rattle.std.proofs.Math.Bool.{and-false}
+use Rattle.std.proofs.Common.{arith, ◌≡◌, ℕ, ◌==◌, ◌&&◌, List, [], ◌∷◌, ◌++◌, Bool, true, false, cond, refl, ap, subst, Option, Some, None}
 use Rattle.gabc_places.specs.declared.place.Place.{Place}
 use Rattle.gabc_places.specs.declared.code.Code.TheVariants.{W5}
 use Rattle.gabc_text.specs.declared.token.TokenKind.{TokenKind}
-use Rattle.gabc_text.specs.declared.token.TokenKind.TheVariants as kind
 use Rattle.gabc_text.specs.declared.token.TagEffect.{TagEffect}
-use Rattle.gabc_text.specs.declared.token.TagEffect.TheVariants.{Begins, Other}
 use Rattle.gabc_text.specs.declared.token_state.TokenState.{TokenState}
-use Rattle.gabc_text.specs.declared.token_state.TokenState.TheVariants.{Plain, Dollar, Comment, Tag, Raw, Translation}
+use Rattle.gabc_text.specs.declared.token_state.TokenState.TheVariants.{Plain, Comment, Translation}
 use Rattle.gabc_text.specs.declared.token_state.Step.{Step}
 use Rattle.gabc_text.specs.declared.token_state.Step.TheVariants.{Stays, Ends}
 use Rattle.gabc_text.specs.declared.text_facts.TextFacts.{TextFacts}
 use Rattle.gabc_text.specs.declared.text_event.TextEvent.{TextEvent}
 use Rattle.gabc_text.specs.declared.text_event.TextEvent.TheVariants as out
-use Rattle.gabc_text.specs.Token.{Token, spelling, single, is_text, effect_of}
-use Rattle.gabc_text.specs.View.{is_space, is_translation}
+use Rattle.gabc_text.specs.Token.{Token, spelling, single}
+use Rattle.gabc_text.specs.View.{is_translation}
 use Rattle.gabc_text.specs.Events.{option_list_of, no_events_each, with_first, but_last, is_lone}
 use Rattle.gabc_text.specs.machine.TextFacts.{early_at}
-use Rattle.gabc_text.specs.machine.TokenState.{is_plain, next_step, first_step, keep, keep_first, step_at_tag_end, wanted_char}
+use Rattle.gabc_text.specs.machine.TokenState.{is_plain, next_step, first_step, keep, keep_first, step_at_tag_end}
 use Rattle.gabc_text.specs.machine.TextStage.{char_event, bytes_with}
 use Rattle.gabc_places.specs.Place.{saturating_next_place}
-use Rattle.gabc_text.specs.witness.FactsPast.{leaves_out, past, bytes_past}
+use Rattle.gabc_text.specs.witness.FactsPast.{past, bytes_past}
 use Rattle.gabc_text.specs.witness.EventsLeft.{findings_there, kept_by, each_kept, lists_kept, early_events_by}
 use Rattle.gabc_text.proofs.tokens.CasesOfCharacters.{by_case, single_kind}
-use Rattle.gabc_text.proofs.machine.KeptOfOpenToken.{kept_held, is_within, is_kept_whole, IsKept, within_kept, keep_within, held_within}
+use Rattle.gabc_text.proofs.machine.KeptOfOpenToken.{kept_held, is_within, IsKept, within_kept, keep_within, held_within}
 use Rattle.gabc_text.proofs.machine.TokenStateByCharacter.{Holds}
-
--- a token of which something was read has a first character
-pub held_some : (state : TokenState) (held : List ℕ) → Holds state held → is_plain state ≡ false → (c : ℕ) × (s : List ℕ) × (held ≡ c ∷ s)
-held_some Plain held h e = absurd (cc)
-held_some Dollar held h e = (36, [], h)
-held_some Comment held h e = (37, h.s, h.held_is)
-held_some (Tag name) held h e = (60, h.s, h.held_is)
-held_some (Raw raw m) held h e = (60, (h.s ++ 62 ∷ []) ++ h.r, h.held_is)
-held_some Translation held h e = (91, h.s, h.held_is)
 
 abbrev pub in_translation : TokenState → Bool
 in_translation Translation = true
@@ -49,23 +37,13 @@ SameEmitted b (Stays next) = in_translation next ≡ b
 SameEmitted b (Ends d s) = is_translation d ≡ b
 
 either_emitted : (a b : Bool) (x y : Step) → SameEmitted a x → SameEmitted a y → SameEmitted a (cond b x y)
-either_emitted a true x y f g = f
-either_emitted a false x y f g = g
+either_emitted a b x y f g = grind arith
 
 tag_emitted : (s : TagEffect) → SameEmitted false (step_at_tag_end s)
-tag_emitted (Begins raw) = refl
-tag_emitted _ = refl
+tag_emitted s = grind arith
 
 pub events_goes : (state : TokenState) (c : ℕ) → is_plain state ≡ false → SameEmitted (in_translation state) (next_step state c)
-events_goes Plain c e = absurd (cc)
-events_goes Dollar c e = refl
-events_goes Comment c e = refl
-events_goes (Tag name) c e = either_emitted false (c == 62) _ _ (tag_emitted (effect_of (60 ∷ name ++ 62 ∷ []))) refl
-events_goes (Raw raw m) c e =
-    either_emitted false (c == wanted_char raw m) _ _
-    (either_emitted false (c == 62) _ _ refl (either_emitted false (nat_lt m 5) _ _ refl refl))
-    (either_emitted false (c == 60) _ _ refl refl)
-events_goes Translation c e = either_emitted true (c == 93) _ _ refl refl
+events_goes state c e = grind (arith, either_emitted, tag_emitted)
 
 each_more : (p : Place) (more : List ℕ) (c : ℕ) → each_kept p more ++ (out.Kept (record { c = c; place = past p more }) ∷ []) ∷ [] ≡ each_kept p (more ++ c ∷ [])
 each_more p [] c = refl
@@ -76,8 +54,7 @@ nothing_more [] c = refl
 nothing_more (x ∷ more) c = ap (λ (xs : List (List TextEvent)). [] ∷ xs) (nothing_more more c)
 
 pub bytes_go : (n : ℕ) (o : Option ℕ) → bytes_with n o ≡ bytes_past n (option_list_of o)
-bytes_go n None = refl
-bytes_go n (Some c) = refl
+bytes_go n o = grind arith
 
 module _ (facts : TextFacts) where
   -- ---- what is kept
@@ -86,28 +63,11 @@ module _ (facts : TextFacts) where
   KeptGo xs more c (Stays next) = xs ≡ kept_held next (more ++ c ∷ [])
   KeptGo xs more c (Ends d s) = xs ≡ kept_by facts d (more ++ c ∷ [])
 
-  whole_kept : (d : TokenKind) (cs : List ℕ) → is_kept_whole d ≡ true → kept_by facts d cs ≡ cs
-  whole_kept kind.Letter cs e = refl
-  whole_kept kind.Tag cs e = refl
-  whole_kept kind.Raw cs e = refl
-  whole_kept kind.Translation cs e = refl
-  whole_kept _ cs e = absurd (cc)
-
   kept_on : (w : Step) (more : List ℕ) (c : ℕ) → IsKept w → KeptGo (more ++ c ∷ []) more c w
-  kept_on (Stays next) more c i = sym (held_within next (more ++ c ∷ []) i)
-  kept_on (Ends d s) more c i = sym (whole_kept d (more ++ c ∷ []) i)
+  kept_on w more c i = grind arith
 
   first_kept : (c : ℕ) (d : TokenKind) → c == 37 ≡ false → option_list_of (keep_first facts c d) ≡ kept_by facts d (c ∷ [])
-  first_kept c d e = rw e (by (leaves_out facts d) d)
-    where
-      blank : (b : Bool) → option_list_of {X = ℕ} (cond b None (Some 32)) ≡ cond b [] (32 ∷ [])
-      blank true = refl
-      blank false = refl
-
-      by : (b : Bool) (d : TokenKind) → option_list_of {X = ℕ} (cond b None (cond (is_space d) (cond facts.space None (Some 32)) (Some c))) ≡ cond b [] (cond (is_space d) (cond facts.space [] (32 ∷ [])) (c ∷ []))
-      by true d = refl
-      by false kind.Blank = blank facts.space
-      by false _ = refl
+  first_kept c d e = grind arith
 
   abbrev KeptBegin : ℕ → Type 0
   KeptBegin c = KeptGo (option_list_of (keep_first facts c (single c))) [] c (first_step c)
@@ -123,12 +83,7 @@ module _ (facts : TextFacts) where
 
   -- what is kept with a character more
   pub kept_goes : (state : TokenState) (more : List ℕ) (c : ℕ) → (state ≡ Plain → more ≡ []) → KeptGo (kept_held state more ++ option_list_of (keep facts state c)) more c (next_step state c)
-  kept_goes Plain more c h = rw (h refl) (kept_begin c)
-  kept_goes Comment more c h = refl
-  kept_goes state more c h = within state refl
-    where
-      within : (m : TokenState) → is_within m ≡ true → KeptGo (kept_held m more ++ option_list_of (keep facts m c)) more c (next_step m c)
-      within m w = rw (keep_within facts m c w, held_within m more w) (kept_on (next_step m c) more c (within_kept m c w))
+  kept_goes state more c h = grind (arith, kept_begin, is_within, keep_within, held_within, kept_on, within_kept)
 
 -- a second translation is emitted at its `[`
 abbrev pub emitted_early : TextFacts → Place → List ℕ → Bool → List TextEvent
@@ -136,12 +91,10 @@ emitted_early facts p [] b = cond (b && facts.translated) (out.Found (record { p
 emitted_early facts p (c ∷ read) b = []
 
 pub early_is : (facts : TextFacts) (p : Place) (read : List ℕ) (k : TokenKind) → early_events_by facts p read k ≡ emitted_early facts p read (is_translation k)
-early_is facts p [] k = refl
-early_is facts p (c ∷ read) k = refl
+early_is facts p read k = grind arith
 
 pub none_first : (lists : List (List TextEvent)) → with_first [] lists ≡ lists
-none_first [] = refl
-none_first (xs ∷ lists) = refl
+none_first lists = grind arith
 
 module _ (read : List ℕ) (facts : TextFacts) (place next : Place) where
   -- ---- what is kept of each character
@@ -158,44 +111,17 @@ module _ (read : List ℕ) (facts : TextFacts) (place next : Place) where
   EachGo xs more c (Stays m) = xs ≡ each_held m (more ++ c ∷ [])
   EachGo xs more c (Ends d s) = xs ≡ lists_kept facts next d (more ++ c ∷ [])
 
-  whole_each : (d : TokenKind) (cs : List ℕ) → is_kept_whole d ≡ true → lists_kept facts next d cs ≡ each_kept next cs
-  whole_each kind.Letter cs e = refl
-  whole_each kind.Tag cs e = refl
-  whole_each kind.Raw cs e = refl
-  whole_each kind.Translation cs e = refl
-  whole_each _ cs e = absurd (cc)
-
   pub each_within : (state : TokenState) (more : List ℕ) → is_within state ≡ true → each_held state more ≡ each_kept next more
-  each_within Plain more e = absurd (cc)
-  each_within Comment more e = absurd (cc)
-  each_within _ more e = refl
+  each_within state more e = grind arith
 
   each_on : (w : Step) (xs : List (List TextEvent)) (more : List ℕ) (c : ℕ) → IsKept w → xs ≡ each_kept next (more ++ c ∷ []) → EachGo xs more c w
-  each_on (Stays m) xs more c i e = e ∙ sym (each_within m (more ++ c ∷ []) i)
-  each_on (Ends d s) xs more c i e = e ∙ sym (whole_each d (more ++ c ∷ []) i)
+  each_on w xs more c i e = grind arith
 
   first_each : (c : ℕ) (d : TokenKind) → c == 37 ≡ false → option_list_of (char_event next (keep_first facts c d)) ∷ [] ≡ lists_kept facts next d (c ∷ [])
-  first_each c d e = rw e (by (leaves_out facts d) d)
-    where
-      blank : (b : Bool) → option_list_of (char_event next (cond b None (Some 32))) ∷ [] ≡ cond b [] (out.Kept (record { c = 32; place = next }) ∷ []) ∷ []
-      blank true = refl
-      blank false = refl
-
-      by : (b : Bool) (d : TokenKind) → option_list_of (char_event next (cond b None (cond (is_space d) (cond facts.space None (Some 32)) (Some c)))) ∷ []
-          ≡ cond b ([] ∷ []) (cond (is_space d) (cond facts.space [] (out.Kept (record { c = 32; place = next }) ∷ []) ∷ []) ((out.Kept (record { c = c; place = next }) ∷ []) ∷ []))
-      by true d = refl
-      by false kind.Blank = blank facts.space
-      by false _ = refl
+  first_each c d e = grind arith
 
   each_goes : (state : TokenState) (more : List ℕ) (c : ℕ) → is_plain state ≡ false → EachGo (each_held state more ++ option_list_of (char_event (past next more) (keep facts state c)) ∷ []) more c (next_step state c)
-  each_goes Plain more c e = absurd (cc)
-  each_goes Comment more c e = nothing_more more c
-  each_goes state more c e = within state refl
-    where
-      within : (m : TokenState) → is_within m ≡ true → EachGo (each_held m more ++ option_list_of (char_event (past next more) (keep facts m c)) ∷ []) more c (next_step m c)
-      within m w =
-          rw (keep_within facts m c w, each_within m more w)
-          (each_on (next_step m c) (each_kept next more ++ (out.Kept (record { c = c; place = past next more }) ∷ []) ∷ []) more c (within_kept m c w) (each_more next more c))
+  each_goes state more c e = grind (arith, nothing_more, is_within, keep_within, each_within, each_on, within_kept, each_more)
 
   -- ---- what is emitted with each character
 
@@ -204,20 +130,12 @@ module _ (read : List ℕ) (facts : TextFacts) (place next : Place) where
   ListsGo xs more c (Ends d s) = xs ≡ with_first (early_events_by facts place read d) (lists_kept facts next d (more ++ c ∷ []))
 
   lists_both : (w : Step) (b : Bool) (xs : List (List TextEvent)) (more : List ℕ) (c : ℕ) → SameEmitted b w → EachGo xs more c w → ListsGo (with_first (emitted_early facts place read b) xs) more c w
-  lists_both (Stays m) b xs more c e f = rw (e, f) refl
-  lists_both (Ends d s) b xs more c e f = rw (early_is facts place read d, e, f) refl
+  lists_both w b xs more c e f = grind arith
 
   -- the characters so far, and one more
   lists_more : (state : TokenState) (more : List ℕ) (ks : List TextEvent) → is_plain state ≡ false → Holds state (read ++ more)
       → lists_held state more ++ ks ∷ [] ≡ with_first (emitted_early facts place read (in_translation state)) (each_held state more ++ ks ∷ [])
-  lists_more state more ks e h = by state read more e h
-    where
-      by : (m : TokenState) (r more : List ℕ) → is_plain m ≡ false → Holds m (r ++ more)
-          → with_first (emitted_early facts place r (in_translation m)) (each_held m more) ++ ks ∷ [] ≡ with_first (emitted_early facts place r (in_translation m)) (each_held m more ++ ks ∷ [])
-      by m (x ∷ r) more e h = ap (λ (l : List (List TextEvent)). l ++ ks ∷ []) (none_first (each_held m more)) ∙ sym (none_first (each_held m more ++ ks ∷ []))
-      by m [] [] e h = let (x, s, f) = held_some m [] h e in absurd (cc)
-      by Plain [] (x ∷ more) e h = absurd (cc)
-      by _ [] (x ∷ more) e h = refl
+  lists_more state more ks e h = grind arith
 
 module _ (facts : TextFacts) (place next : Place) where
   abbrev ListsBegins : ℕ → Type 0
@@ -234,8 +152,7 @@ module _ (facts : TextFacts) (place next : Place) where
       rw (e36, e37, e60, e91) (rw (single_no_translation c) (rw e37 at f))))))
     where
       second : (b : Bool) → (findings_there place (option_list_of (cond b (Some W5) None)) ++ out.Kept (record { c = 91; place = next }) ∷ []) ∷ [] ≡ (cond b (out.Found (record { place = place; code = W5 }) ∷ []) [] ++ out.Kept (record { c = 91; place = next }) ∷ []) ∷ []
-      second true = refl
-      second false = refl
+      second b = grind arith
 
 -- between tokens nothing is held
 pub none_held : (state : TokenState) (read more : List ℕ) → state ≡ Plain → Holds state (read ++ more) → (read ≡ []) × (more ≡ [])
@@ -257,8 +174,7 @@ module _ (read : List ℕ) (facts : TextFacts) (place next : Place) where
   lists_goes state more c h = other state refl h
     where
       none_early : (m : TokenState) → is_plain m ≡ false → early_at facts m c ≡ None
-      none_early Plain e = absurd (cc)
-      none_early _ e = refl
+      none_early m e = grind arith
 
       other : (m : TokenState) → is_plain m ≡ false → Holds m (read ++ more) → ListsGo read facts place next (lists_held read facts place next m more ++ events_read m more c ∷ []) more c (next_step m c)
       other m e h =
@@ -279,16 +195,4 @@ but_last_is x (y ∷ ys) (h ∷ hs) c e =
 
 -- a token that its last character ends is no `$` by itself
 pub not_lone : (state : TokenState) (held : List ℕ) (c : ℕ) (k : Token) (so : TagEffect) → Holds state held → next_step state c ≡ Ends k.kind so → spelling k ≡ held ++ c ∷ [] → is_lone k ≡ false
-not_lone Plain held c k so h e f = by (c == 36) refl e
-  where
-    by : (b : Bool) → c == 36 ≡ b → cond b (Stays Dollar) (cond (c == 37) (Stays Comment) (cond (c == 60) (Stays (Tag [])) (cond (c == 91) (Stays Translation) (Ends (single c) Other)))) ≡ Ends k.kind so → is_lone k ≡ false
-    by true g i = absurd (cc)
-    by false g i = ap (is_text (codes "$")) (f ∙ ap (λ (x : List ℕ). x ++ c ∷ []) h) ∙ rw g refl
-not_lone state held c k so h e f = other state refl h
-  where
-    longer : (x : ℕ) (s : List ℕ) → is_text (codes "$") (x ∷ (s ++ c ∷ [])) ≡ false
-    longer x [] = and-false (x == 36)
-    longer x (y ∷ s) = and-false (x == 36)
-
-    other : (m : TokenState) → is_plain m ≡ false → Holds m held → is_lone k ≡ false
-    other m g h = let (x, s, i) = held_some m held h g in ap (is_text (codes "$")) (f ∙ ap (λ (y : List ℕ). y ++ c ∷ []) i) ∙ longer x s
+not_lone state held c k so h e f = grind arith

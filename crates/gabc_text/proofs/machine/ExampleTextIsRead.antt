@@ -1,24 +1,19 @@
 -- The text that a state stands for is what was read of a token, in that state.
-use Rattle.std.proofs.Common.{◌≡◌, ℕ, ◌-◌, ◌<◌, ◌≤◌, ◌==◌, nat_lt, List, [], ◌∷◌, ◌++◌, Bool, true, false, cond, refl, ap, ◌∙◌, ne_eqb, length, min, take, Some, arith, codes}
+use Rattle.std.proofs.Common.{◌≡◌, ℕ, ◌-◌, ◌≤◌, ◌==◌, nat_lt, List, [], ◌∷◌, ◌++◌, Bool, true, false, cond, refl, ap, length, min, take, arith, codes}
 use Rattle.std.proofs.lemmas.Bool.{ltb-true, ltb-false}
-use Rattle.std.proofs.Math.Bool.{and-false}
 use Rattle.gabc_text.specs.declared.token.RawKind.{RawKind}
 use Rattle.gabc_text.specs.declared.token.RawKind.TheVariants.{V, Sp, Alt}
 use Rattle.gabc_text.specs.declared.token_state.TokenState.{TokenState}
 use Rattle.gabc_text.specs.declared.token_state.TokenState.TheVariants.{Comment, Tag, Raw, Translation}
 use Rattle.gabc_text.specs.declared.token_state.Step.{Step}
-use Rattle.gabc_text.specs.declared.token_state.Step.TheVariants.{Stays, Ends}
 use Rattle.gabc_text.specs.declared.text_facts.TextFacts.{TextFacts}
 use Rattle.gabc_text.specs.declared.progress.Progress.{Progress}
 use Rattle.gabc_text.specs.declared.stage.TextStage.{TextStage}
-use Rattle.gabc_text.specs.declared.text_event.TextEvent.{TextEvent}
 use Rattle.gabc_text.specs.Token.{ending_of, effect_of}
 use Rattle.gabc_text.specs.machine.TokenState.{wanted_char, step_in_raw}
-use Rattle.gabc_text.specs.Events.{option_list_of}
-use Rattle.gabc_text.specs.machine.TextStage.{char_event, events_of_step, stage_after_step, stage_past_char, push_stage, events_of_push}
+use Rattle.gabc_text.specs.machine.TextStage.{push_stage, events_of_push}
 use Rattle.gabc_text.specs.ExampleTexts.{name_so_far, stands_for}
 use Rattle.gabc_text.proofs.machine.EventsStepByStep.{stepwise, stepwise_left}
-use Rattle.gabc_text.proofs.tokens.RawEndingIsMatched.{prefix_none}
 use Rattle.gabc_text.proofs.machine.TagNameByCharacter.{is_name, name_lacks}
 use Rattle.gabc_text.proofs.machine.TokenStateByCharacter.{Holds, InRaw}
 use Rattle.gabc_text.proofs.tokens.TokensByCharacter.{lacks}
@@ -30,24 +25,12 @@ use Rattle.gabc_text.specs.declared.token.TagEffect.TheVariants.{Begins}
 abbrev pub within_ending : RawKind → ℕ → ℕ
 within_ending raw m = min m (length (ending_of raw) - 1)
 
-within_is_below : (raw : RawKind) (m : ℕ) → within_ending raw m < length (ending_of raw)
-within_is_below V m = omega arith
-within_is_below _ m = omega arith
-
 holds_raw : (raw : RawKind) (m : ℕ) → InRaw raw (within_ending raw m) (stands_for (Raw raw m))
 holds_raw raw m = by raw
   where
     named : (raw : RawKind) (s : List ℕ) → stands_for (Raw raw m) ≡ 60 ∷ (s ++ 62 ∷ []) ++ take (within_ending raw m) (ending_of raw) → lacks 62 s ≡ true → effect_of (60 ∷ s ++ 62 ∷ []) ≡ Begins raw
         → InRaw raw (within_ending raw m) (stands_for (Raw raw m))
-    named raw s held_is tag_lacks begins = record {
-      s = s;
-      r = take (within_ending raw m) (ending_of raw);
-      held_is = held_is;
-      tag_lacks = tag_lacks;
-      begins = begins;
-      below = within_is_below raw m;
-      matched = record { q = []; split = refl; goes = λ t. prefix_none _ };
-    }
+    named raw s held_is tag_lacks begins = grind arith
 
     by : (raw : RawKind) → InRaw raw (within_ending raw m) (stands_for (Raw raw m))
     by V = named V (codes "v") refl refl refl
@@ -68,16 +51,13 @@ holds_least _ = refl
 
 -- past its ending a raw part waits for its last character
 wanted_last : (raw : RawKind) (m : ℕ) → length (ending_of raw) - 1 ≤ m → wanted_char raw m ≡ 62
-wanted_last V m h = rw (ne_eqb m 0 (λ e. omega (arith, e, h)), ne_eqb m 1 (λ e. omega (arith, e, h)), ne_eqb m 2 (λ e. omega (arith, e, h))) refl
-wanted_last Sp m h = rw (ne_eqb m 0 (λ e. omega (arith, e, h)), ne_eqb m 1 (λ e. omega (arith, e, h)), ne_eqb m 2 (λ e. omega (arith, e, h)), ne_eqb m 3 (λ e. omega (arith, e, h))) refl
-wanted_last Alt m h = rw (ne_eqb m 0 (λ e. omega (arith, e, h)), ne_eqb m 1 (λ e. omega (arith, e, h)), ne_eqb m 2 (λ e. omega (arith, e, h)), ne_eqb m 3 (λ e. omega (arith, e, h)), ne_eqb m 4 (λ e. omega (arith, e, h))) refl
+wanted_last raw m h = grind arith
 
 raw_same : (raw : RawKind) (m c : ℕ) → step_in_raw raw m c ≡ step_in_raw raw (within_ending raw m) c
 raw_same raw m c = by (nat_lt m (length (ending_of raw) - 1)) refl
   where
     last_twice : (b : Bool) (w x y z : Step) → cond b (cond b w x) z ≡ cond b (cond b w y) z
-    last_twice true w x y z = refl
-    last_twice false w x y z = refl
+    last_twice b w x y z = grind arith
 
     by : (b : Bool) → nat_lt m (length (ending_of raw) - 1) ≡ b → step_in_raw raw m c ≡ step_in_raw raw (within_ending raw m) c
     by true e = ap (λ (n : ℕ). step_in_raw raw n c) (let f = ltb-true m (length (ending_of raw) - 1) e in omega (arith, f))
@@ -92,26 +72,14 @@ staged state facts progress = record { state = state; facts = facts; progress = 
 
 module _ (facts : TextFacts) (progress : Progress) (raw : RawKind) (m n : ℕ) (same : (c : ℕ) → step_in_raw raw m c ≡ step_in_raw raw n c) where
   same_outs : (c : ℕ) → events_of_push (staged (Raw raw m) facts progress) c ≡ events_of_push (staged (Raw raw n) facts progress) c
-  same_outs c = rw (and-false (c == 40), same c) (ap (λ (x : List TextEvent). option_list_of (char_event progress.next (Some c)) ++ x) (by (step_in_raw raw n c)))
-    where
-      by : (w : Step) → events_of_step (stage_past_char (staged (Raw raw m) facts progress) c) w progress.kept ≡ events_of_step (stage_past_char (staged (Raw raw n) facts progress) c) w progress.kept
-      by (Stays next) = refl
-      by (Ends d s) = refl
+  same_outs c = grind arith
 
   same_stage : (c : ℕ) → push_stage (staged (Raw raw m) facts progress) c ≡ push_stage (staged (Raw raw n) facts progress) c
-  same_stage c = rw (and-false (c == 40), same c) (by (step_in_raw raw n c))
-    where
-      by : (w : Step) → stage_after_step (stage_past_char (staged (Raw raw m) facts progress) c) w ≡ stage_after_step (stage_past_char (staged (Raw raw n) facts progress) c) w
-      by (Stays next) = refl
-      by (Ends d s) = refl
+  same_stage c = grind arith
 
   same_emitted : (t : List ℕ) → (stepwise (staged (Raw raw m) facts progress) t ≡ stepwise (staged (Raw raw n) facts progress) t) × (stepwise_left (staged (Raw raw m) facts progress) t ≡ stepwise_left (staged (Raw raw n) facts progress) t)
   same_emitted [] = (refl, refl)
-  same_emitted (c ∷ t) = (
-    ap (λ (x : List TextEvent). x ∷ stepwise (push_stage (staged (Raw raw m) facts progress) c) t) (same_outs c)
-        ∙ ap (λ (x : TextStage). events_of_push (staged (Raw raw n) facts progress) c ∷ stepwise x t) (same_stage c),
-    ap (λ (x : TextStage). cond x.ended (c ∷ t) (stepwise_left x t)) (same_stage c),
-  )
+  same_emitted (c ∷ t) = grind (arith, same_outs, same_stage)
 
 pub least_emitted : (state : TokenState) (facts : TextFacts) (progress : Progress) (t : List ℕ)
     → (stepwise (staged state facts progress) t ≡ stepwise (staged (least state) facts progress) t) × (stepwise_left (staged state facts progress) t ≡ stepwise_left (staged (least state) facts progress) t)

@@ -1,17 +1,13 @@
 -- What the code keeps of the tokens so far is what the definitions say of them.
-use Rattle.std.proofs.Common.{◌≡◌, ℕ, List, ◌∷◌, not, ◌||◌, ◌&&◌, refl, is_some}
-use Rattle.gabc_text.specs.declared.styles.Style.{Style}
+use Rattle.std.proofs.Common.{arith, ◌≡◌, ℕ, List, ◌∷◌, not, ◌||◌, ◌&&◌, is_some}
 use Rattle.gabc_text.specs.declared.styles.Style.TheVariants.{B, C, E, I, Sc, Tt, Ul}
 use Rattle.gabc_text.specs.declared.text_facts.TextFacts.{TextFacts}
 use Rattle.gabc_text.specs.declared.token.TokenKind.{TokenKind}
-use Rattle.gabc_text.specs.declared.token.TokenKind.TheVariants.{Tag}
 use Rattle.gabc_text.specs.declared.token.TagEffect.{TagEffect}
-use Rattle.gabc_text.specs.declared.token.TagEffect.TheVariants.{Opens, Closes}
 use Rattle.gabc_text.specs.Events.{styles_of}
-use Rattle.gabc_text.specs.Token.{Token, spelling, effect_of}
+use Rattle.gabc_text.specs.Token.{Token, spelling}
 use Rattle.gabc_text.specs.View.{effect, effect_as, is_open, is_open_after, has_word, follows_blank, follows_space, has_begin, has_end, has_translation, starts_word, is_left_out, piece_kind, is_word_kind, is_space, is_begin, is_end, is_translation}
-use Rattle.gabc_text.specs.TextFacts.{has_style}
-use Rattle.gabc_text.specs.machine.TextFacts.{facts_after, after_tag}
+use Rattle.gabc_text.specs.machine.TextFacts.{facts_after}
 
 abbrev pub facts_of : List Token → TextFacts
 facts_of before = record {
@@ -24,10 +20,6 @@ facts_of before = record {
   translated = has_translation before;
   starts = starts_word before;
 }
-
-pub has_of : (before : List Token) (s : Style) → has_style (styles_of before) s ≡ is_open s before
-has_of before B = refl
-has_of before _ = refl
 
 -- what is seen after a token of this kind and sort
 abbrev grown : List Token → TokenKind → TagEffect → TextFacts
@@ -50,14 +42,8 @@ grown before k s = record {
   starts = (is_space k && not (has_word before)) || starts_word before;
 }
 
-after_a_tag : (before : List Token) (s : TagEffect) → after_tag (facts_of before) s ≡ grown before Tag s
-after_a_tag before (Opens B) = refl
-after_a_tag before (Closes B) = refl
-after_a_tag before _ = refl
-
 after_kind : (before : List Token) (k : TokenKind) (t : List ℕ) → facts_after (facts_of before) k (effect_as k t) ≡ grown before k (effect_as k t)
-after_kind before Tag t = after_a_tag before (effect_of t)
-after_kind before _ t = refl
+after_kind before k t = grind arith
 
 -- one token more
 pub facts_more : (before : List Token) (k : Token) → facts_after (facts_of before) k.kind (effect k) ≡ facts_of (k ∷ before)

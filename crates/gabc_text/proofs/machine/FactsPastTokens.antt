@@ -1,24 +1,22 @@
 -- What was seen past some tokens, and where they leave the machine, one token at a time.
-use Rattle.std.proofs.Common.{◌≡◌, ℕ, List, [], ◌∷◌, ◌++◌, false, not, ◌||◌, ◌&&◌, refl, sym, ap, ◌∙◌, drop, length, is_some}
+use Rattle.std.proofs.Common.{arith, ◌≡◌, ℕ, List, [], ◌∷◌, ◌++◌, false, not, ◌||◌, ◌&&◌, refl, sym, ap, ◌∙◌, drop, length, is_some}
 use Rattle.std.specs.Char.{len_utf8}
 use Rattle.gabc_places.specs.declared.place.Place.{Place}
 use Rattle.gabc_text.specs.declared.styles.Style.TheVariants.{B, C, E, I, Sc, Tt, Ul}
 use Rattle.gabc_text.specs.declared.text_facts.TextFacts.{TextFacts}
 use Rattle.gabc_text.specs.declared.token.TokenKind.{TokenKind}
-use Rattle.gabc_text.specs.declared.token.TokenKind.TheVariants as kind
 use Rattle.gabc_text.specs.declared.token.TagEffect.{TagEffect}
-use Rattle.gabc_text.specs.declared.token.TagEffect.TheVariants.{Opens, Closes}
 use Rattle.gabc_text.specs.declared.token_state.TokenState.TheVariants.{Plain}
 use Rattle.gabc_text.specs.declared.progress.Progress.{Progress}
 use Rattle.gabc_text.specs.declared.stage.TextStage.{TextStage}
-use Rattle.gabc_text.specs.Token.{Token, spelling, effect_of}
+use Rattle.gabc_text.specs.Token.{Token, spelling}
 use Rattle.gabc_text.specs.View.{effect, effect_as, is_open_after, has_word, has_begin, has_translation, piece_kind, is_word_kind, is_space, is_begin, is_end, is_translation}
-use Rattle.gabc_text.specs.machine.TextFacts.{facts_after, after_tag}
+use Rattle.gabc_text.specs.machine.TextFacts.{facts_after}
 use Rattle.gabc_text.specs.TextStage.{count_plus}
 use Rattle.gabc_places.specs.Place.{saturating_next_place}
 use Rattle.gabc_text.specs.machine.TextStage.{progress_after}
 use Rattle.gabc_text.specs.witness.FactsPast.{is_open_past, blank_past, begun_past, ended_past, space_past, starts_past, facts_past, past, bytes_past, leaves_out}
-use Rattle.gabc_text.specs.witness.EventsLeft.{kept_by, kept_after, facts_at, read_at, ahead_at, text_since, kept_since, progress_at}
+use Rattle.gabc_text.specs.witness.EventsLeft.{kept_after, facts_at, read_at, ahead_at, progress_at}
 
 -- ---- what was seen
 
@@ -44,14 +42,8 @@ module _ (facts : TextFacts) (before : List Token) where
     starts = (is_space k && not (has_word before || facts.word)) || starts_past facts before;
   }
 
-  after_a_tag : (s : TagEffect) → after_tag (facts_past facts before) s ≡ grown kind.Tag s
-  after_a_tag (Opens B) = refl
-  after_a_tag (Closes B) = refl
-  after_a_tag _ = refl
-
   after_kind : (k : TokenKind) (t : List ℕ) → facts_after (facts_past facts before) k (effect_as k t) ≡ grown k (effect_as k t)
-  after_kind kind.Tag t = after_a_tag (effect_of t)
-  after_kind _ t = refl
+  after_kind k t = grind arith
 
 -- one token more
 pub facts_step : (facts : TextFacts) (before : List Token) (k : Token) → facts_past facts (k ∷ before) ≡ facts_after (facts_past facts before) k.kind (effect k)
@@ -60,10 +52,7 @@ facts_step facts before k = sym (after_kind facts before k.kind (spelling k))
 -- one token less: what it shows is seen from the beginning
 pub facts_on : (facts : TextFacts) (k : Token) (before : List Token) → facts_past facts (before ++ k ∷ []) ≡ facts_past (facts_after facts k.kind (effect k)) before
 facts_on facts k [] = facts_step facts [] k
-facts_on facts k (j ∷ before) =
-    facts_step facts (before ++ k ∷ []) j
-    ∙ ap (λ (x : TextFacts). facts_after x j.kind (effect j)) (facts_on facts k before)
-    ∙ sym (facts_step (facts_after facts k.kind (effect k)) before j)
+facts_on facts k (j ∷ before) = simp (facts_step, facts_on facts k before)
 
 -- ---- where the machine stands
 
@@ -86,10 +75,7 @@ spot_after facts progress k cs = progress_after facts (after facts progress k.ki
 module _ (read : List ℕ) (s : TextStage) where
   -- one token more
   pub progress_step : (before : List Token) (k : Token) → progress_at read s (k ∷ before) ≡ spot_after (facts_at read s before) (progress_at read s before) k (ahead_at read s before k)
-  progress_step before k =
-      let next = past_append s.progress.next (text_since read s before) (ahead_at read s before k) in
-      let kept = bytes_past_append s.progress.kept (kept_since read s before) (kept_by (facts_at read s before) k.kind (ahead_at read s before k)) in
-      rw (next, kept) refl
+  progress_step before k = grind (arith, past_append, bytes_past_append)
 
   -- the state past a token
   abbrev pub past_token : Token → TextStage
@@ -105,8 +91,7 @@ read_on read s [] k = refl
 read_on read s (j ∷ before) k = refl
 
 pub read_none : (s : TextStage) (before : List Token) → read_at [] s before ≡ []
-read_none s [] = refl
-read_none s (j ∷ before) = refl
+read_none s before = grind arith
 
 -- one token less: the machine goes on from the state past it
 pub progress_on : (read : List ℕ) (s : TextStage) (k : Token) (before : List Token) → progress_at read s (before ++ k ∷ []) ≡ progress_at [] (past_token read s k) before

@@ -1,45 +1,31 @@
 -- What a fresh stage gives, where no count of the text reaches its last value, is what the text gives.
-use Rattle.std.proofs.Common.{◌≡◌, ℕ, ◌+◌, ◌<◌, ◌≤◌, ◌^◌, ◌==◌, ◌&&◌, not, Option, Some, None, List, [], ◌∷◌, ◌++◌, Bool, true, false, cond, refl, sym, ap, ◌∙◌, append_assoc, append-nil, length, length-append, map, drop, arith, codes}
-use Rattle.std.proofs.Math.Bool.{and-false}
+use Rattle.std.proofs.Common.{◌≡◌, ℕ, ◌+◌, ◌<◌, ◌≤◌, ◌^◌, List, [], ◌∷◌, ◌++◌, true, cond, refl, sym, ap, ◌∙◌, append_assoc, append-nil, length, length-append, map, drop, arith, codes}
 use Rattle.std.specs.Char.{len_utf8}
-use Rattle.std.specs.List.{list_any}
 use Rattle.gabc_places.specs.Place.{next_place, place_past}
 use Rattle.gabc_places.specs.declared.place.Place.{Place}
-use Rattle.gabc_places.specs.declared.place.Span.{Span}
-use Rattle.gabc_places.specs.declared.code.Code.{Code}
-use Rattle.gabc_places.specs.declared.code.Code.TheVariants.{W3, W4, W5}
 use Rattle.gabc_text.specs.declared.token.TokenKind.{TokenKind}
-use Rattle.gabc_text.specs.declared.token.TokenKind.TheVariants as kind
 use Rattle.gabc_text.specs.declared.token.TagEffect.{TagEffect}
-use Rattle.gabc_text.specs.declared.token.TagEffect.TheVariants.{Opens, Closes}
-use Rattle.gabc_text.specs.declared.view.PieceKind.{PieceKind}
-use Rattle.gabc_text.specs.declared.view.PieceKind.TheVariants as piece
 use Rattle.gabc_text.specs.declared.text_facts.TextFacts.{TextFacts}
 use Rattle.gabc_text.specs.declared.progress.Progress.{Progress}
-use Rattle.gabc_text.specs.declared.text_event.TextPart.{TextPart}
-use Rattle.gabc_text.specs.declared.text_event.TextPart.TheVariants as part
-use Rattle.gabc_text.specs.declared.text_event.TextEnd.{TextEnd}
 use Rattle.gabc_text.specs.declared.text_event.TextEnd.TheVariants as ending
 use Rattle.gabc_text.specs.declared.text_event.TextEvent.{TextEvent}
 use Rattle.gabc_text.specs.declared.text_event.TextEvent.TheVariants as out
 use Rattle.gabc_text.specs.Token.{Token, spelling, tokens, is_text}
-use Rattle.gabc_text.specs.View.{along, effect, kind_of, late_codes, is_open, all_styles, has_begin, has_end, found_at, findings_at_end, text_of, place_of, bytes_of, kept_at, count_pieces, early_codes, is_cut, is_open_kind, follows_space, has_translation, is_left_out}
-use Rattle.gabc_text.specs.Events as Outs
-use Rattle.gabc_text.specs.Events.{parts_at, centre_of, kept_lists_as, option_list_of, CountsFit, events_by_point, token_events, lists_at, lists_end, owed_events, is_lone, with_first, with_last, no_events_each, kept_each, kept_lists_by, finding_events, kept_of, last_at, but_last, end_after, end_by_rest, after_tokens}
+use Rattle.gabc_text.specs.View.{along, effect, kind_of, late_codes, findings_at_end, text_of, place_of, bytes_of, kept_at, count_pieces, early_codes, is_cut, is_open_kind}
+use Rattle.gabc_text.specs.Events.{parts_at, CountsFit, events_by_point, token_events, lists_at, lists_end, owed_events, is_lone, with_first, with_last, kept_each, kept_lists_by, finding_events, kept_of, last_at, but_last, end_after, end_by_rest, after_tokens}
 use Rattle.gabc_text.specs.machine.TextFacts.{facts_after}
 use Rattle.gabc_text.specs.TextFacts.{no_facts}
-use Rattle.gabc_text.specs.TextStage.{fresh_stage, count_plus}
+use Rattle.gabc_text.specs.TextStage.{fresh_stage}
 use Rattle.gabc_text.specs.machine.TextStage.{progress_after}
 use Rattle.gabc_text.specs.witness.FactsPast.{facts_past, past, bytes_past}
-use Rattle.gabc_text.specs.witness.EventsLeft.{parts_by, codes_by, kept_after, findings_there, codes_last, kept_by, each_kept, lists_kept, last_by, token_events_by, early_events_by, end_events_by, facts_at, progress_at, read_at, ahead_at, owed_events_at, token_events_at, end_at_text, lists_past, lists_last, events_left, characters_left}
-use Rattle.gabc_text.proofs.machine.FactsOfTokens.{facts_of, facts_more, has_of}
+use Rattle.gabc_text.specs.witness.EventsLeft.{parts_by, codes_by, kept_after, findings_there, codes_last, kept_by, each_kept, lists_kept, last_by, token_events_by, early_events_by, progress_at, read_at, ahead_at, owed_events_at, token_events_at, end_at_text, lists_past, lists_last, events_left, characters_left}
+use Rattle.gabc_text.proofs.machine.FactsOfTokens.{facts_of, facts_more}
 use Rattle.gabc_places.proofs.PlacesOfAText.{place_append}
 use Rattle.gabc_text.proofs.tokens.CountsOfTexts.{bytes_append, up_is, later_is, place_small, kept_small, kept_at_small, pieces_small, some_bytes}
 use Rattle.gabc_text.proofs.machine.ProgressAfterToken.{progress_of, spot_emitted}
 use Rattle.gabc_text.proofs.machine.TokensOneAfterAnother.{onto}
 use Rattle.gabc_text.proofs.machine.FactsPastTokens.{facts_step, progress_step, spot_after, after, read_none}
 use Rattle.gabc_text.proofs.machine.TokensPastTheFirst.{lists_by, lists_from}
-use Rattle.gabc_text.specs.Printed.{text_of_tokens}
 use Rattle.gabc_text.proofs.tokens.TokensSpellPrefix.{text_onto, whole_text}
 use Rattle.gabc_text.proofs.machine.EventsStepByStep.{stepwise, stepwise_left}
 use Rattle.gabc_text.proofs.machine.EventsLeftAreThoseAhead.{rest_by, left_by, rest_is, left_is}
@@ -61,17 +47,14 @@ each_small p (c ∷ cs) a b =
 
 bytes_small : (n : ℕ) (cs : List ℕ) → n + bytes_of cs < 2 ^ 64 → bytes_past n cs ≡ n + bytes_of cs
 bytes_small n [] h = omega arith
-bytes_small n (c ∷ cs) h =
-    ap (λ (m : ℕ). bytes_past m cs) (up_is n (len_utf8 c) (omega (arith, h))) ∙ bytes_small (n + len_utf8 c) cs (omega (arith, h))
-    ∙ (let e : (n + len_utf8 c) + bytes_of cs ≡ n + (len_utf8 c + bytes_of cs) = omega arith in e)
+bytes_small n (c ∷ cs) h = grind (arith, bytes_small (n + len_utf8 c) cs (omega (arith, h)), up_is)
 
 but_last_small : (c : ℕ) (cs : List ℕ) → bytes_of (but_last c cs) ≤ bytes_of (c ∷ cs)
 but_last_small c [] = omega arith
 but_last_small c (d ∷ cs) = omega (arith, but_last_small d cs)
 
 lone_is_one : (c : ℕ) (cs : List ℕ) → is_text (codes "$") (c ∷ cs) ≡ true → cs ≡ []
-lone_is_one c [] e = refl
-lone_is_one c (d ∷ cs) e = absurd (let f : true ≡ false = sym e ∙ and-false (c == 36) in cc)
+lone_is_one c cs e = grind arith
 
 -- ---- what a fresh stage has seen past some tokens
 
@@ -101,8 +84,7 @@ module _ (at : Place) (full : List ℕ) (fits : CountsFit at full) where
   column_small before k y e = let n = place_small at (text_of before) in omega (arith, rest_long before k y e, n.1, fits.column)
 
   token_small : (before : List Token) (k : Token) (y : List ℕ) → After before (spelling k ++ y) → bytes_of (kept_of before) + bytes_of (spelling k) < 2 ^ 64
-  token_small before k y e =
-      omega (arith, kept_small before, ap bytes_of e, bytes_append (text_of before) (spelling k ++ y), bytes_append (spelling k) y, fits.bytes)
+  token_small before k y e = grind (arith, kept_small, bytes_append)
 
   count_small : (before : List Token) (k : Token) (y : List ℕ) → After before (spelling k ++ y) → count_pieces before + 1 < 2 ^ 64
   count_small before k y e = omega (arith, pieces_small before, rest_long before k y e, fits.line)
@@ -135,42 +117,20 @@ module _ (at : Place) (full : List ℕ) (fits : CountsFit at full) where
   -- ---- what a token gives
 
   last_fresh : (before : List Token) (k : Token) (y : List ℕ) → After before (spelling k ++ y) → last_by (here before) k (spelling k) ≡ last_at before k
-  last_fresh before k y e = by (is_lone k) refl
-    where
-      by : (b : Bool) → is_lone k ≡ b → cond b (bytes_of (kept_of before)) (bytes_past (bytes_of (kept_of before)) (but_last k.first k.more)) ≡ bytes_of (kept_of before ++ but_last k.first k.more)
-      by true f =
-          ap bytes_of (sym (append-nil (kept_of before)))
-          ∙ ap (λ (x : List ℕ). bytes_of (kept_of before ++ but_last k.first x)) (sym (lone_is_one k.first k.more f))
-      by false f =
-          bytes_small (bytes_of (kept_of before)) (but_last k.first k.more) (omega (arith, token_small before k y e, but_last_small k.first k.more))
-          ∙ sym (bytes_append (kept_of before) (but_last k.first k.more))
+  last_fresh before k y e = grind (arith, append-nil, lone_is_one, bytes_small, token_small, but_last_small, bytes_append)
 
   parts_fresh : (before : List Token) (k : Token) (y : List ℕ) → After before (spelling k ++ y)
       → parts_by (facts_of before) (here before) k.kind (last_at before k) (bytes_of (kept_of (k ∷ before))) (kind_of k) ≡ parts_at before k
-  parts_fresh before k y e = by (kind_of k)
-    where
-      start : count_plus (bytes_of (kept_of before)) 1 ≡ bytes_of (kept_of before) + 1
-      start = up_is (bytes_of (kept_of before)) 1 (omega (arith, token_small before k y e, some_bytes k.first))
-
-      by : (o : Option PieceKind) → parts_by (facts_of before) (here before) k.kind (last_at before k) (bytes_of (kept_of (k ∷ before))) o ≡ Outs.parts_by before k o
-      by None = rw start refl
-      by (Some piece.Char) = refl
-      by _ = refl
+  parts_fresh before k y e = grind (arith, up_is, token_small, some_bytes)
 
   codes_fresh : (before : List Token) (d : TokenKind) (so : TagEffect) → codes_by (facts_of before) d so ≡ late_codes before d so
-  codes_fresh before kind.Tag (Opens r) = rw (has_of before r) refl
-  codes_fresh before kind.Tag (Closes r) = rw (has_of before r) refl
-  codes_fresh before _ so = refl
+  codes_fresh before d so = grind arith
 
   kept_after_fresh : (before : List Token) (k : Token) (y : List ℕ) → After before (spelling k ++ y) → kept_after (facts_of before) (here before) k.kind (spelling k) ≡ bytes_of (kept_of (k ∷ before))
   kept_after_fresh before k y e = ap (λ (x : Progress). x.kept) (after_fresh before k y e)
 
   whole_fresh : (before : List Token) (k : Token) (y : List ℕ) → After before (spelling k ++ y) → token_events_by (facts_of before) (here before) k (spelling k) ≡ token_events at before k
-  whole_fresh before k y e =
-      ap (λ (n : ℕ). map (λ (p : TextPart). out.Part p) (parts_by (facts_of before) (here before) k.kind n (kept_after (facts_of before) (here before) k.kind (spelling k)) (kind_of k)) ++ findings_there (place_of at before) (codes_by (facts_of before) k.kind (effect k))) (last_fresh before k y e)
-      ∙ ap (λ (n : ℕ). map (λ (p : TextPart). out.Part p) (parts_by (facts_of before) (here before) k.kind (last_at before k) n (kind_of k)) ++ findings_there (place_of at before) (codes_by (facts_of before) k.kind (effect k))) (kept_after_fresh before k y e)
-      ∙ ap (λ (ps : List TextPart). map (λ (p : TextPart). out.Part p) ps ++ findings_there (place_of at before) (codes_by (facts_of before) k.kind (effect k))) (parts_fresh before k y e)
-      ∙ ap (λ (cs : List Code). map (λ (p : TextPart). out.Part p) (parts_at before k) ++ findings_there (place_of at before) cs) (codes_fresh before k.kind (effect k))
+  whole_fresh before k y e = grind (arith, last_fresh, kept_after_fresh, parts_fresh, codes_fresh)
 
   whole_at_fresh : (before : List Token) (k : Token) (y : List ℕ) → After before (spelling k ++ y) → token_events_at [] (fresh_stage at) before k ≡ token_events at before k
   whole_at_fresh before k y e =
@@ -183,19 +143,11 @@ module _ (at : Place) (full : List ℕ) (fits : CountsFit at full) where
   owed_fresh [] y e = refl
   owed_fresh (k ∷ before) y e = ap (λ (x : List TextEvent). cond (is_lone k) x []) (whole_at_fresh before k y (shift before k y e))
 
-  one_fresh : (before : List Token) (b : Bool) → cond b (out.Found (record { place = place_of at before; code = W5 }) ∷ []) [] ≡ finding_events at before (cond b (W5 ∷ []) [])
-  one_fresh before true = refl
-  one_fresh before false = refl
-
   early_fresh : (before : List Token) (k : TokenKind) → early_events_by (facts_of before) (place_of at before) [] k ≡ finding_events at before (early_codes before k)
-  early_fresh before kind.Translation = one_fresh before (has_translation before)
-  early_fresh before kind.OpenTranslation = one_fresh before (has_translation before)
-  early_fresh before _ = refl
+  early_fresh before k = grind arith
 
   kept_fresh : (before : List Token) (k : Token) (y : List ℕ) → After before (spelling k ++ y) → lists_kept (facts_of before) (place_of at before) k.kind (spelling k) ≡ kept_lists_by at before k.kind (spelling k)
-  kept_fresh before k y e =
-      ap (kept_lists_as (is_left_out before k.kind) (follows_space before) k.kind (place_of at before) (spelling k))
-      (each_small (place_of at before) (spelling k) (line_small before k y e) (column_small before k y e))
+  kept_fresh before k y e = grind (arith, each_small, line_small, column_small)
 
   lists_fresh : (before : List Token) (k : Token) (y : List ℕ) → After before (spelling k ++ y) → lists_past [] (fresh_stage at) before k ≡ lists_at at before k
   lists_fresh before k y e =
@@ -214,31 +166,16 @@ module _ (at : Place) (full : List ℕ) (fits : CountsFit at full) where
   how_fresh (k ∷ before) rest e = ap (λ (x : Progress). cond (is_open_kind k.kind) (ending.Cut x.place) (end_by_rest rest)) (spot_fresh before (spelling k ++ rest) (shift before k rest e))
 
   findings_fresh : (before : List Token) → findings_there (place_of at before) (cond (is_cut before) [] (codes_last (facts_of before))) ≡ map out.Found (findings_at_end at before)
-  findings_fresh before = by (is_cut before) (list_any (λ r. is_open r before) all_styles) (has_begin before && not (has_end before))
-    where
-      by : (u x y : Bool) → findings_there (place_of at before) (cond u [] (cond x (W3 ∷ []) [] ++ cond y (W4 ∷ []) [])) ≡ map out.Found (cond u [] (map (found_at (place_of at before)) (cond x (W3 ∷ []) [] ++ cond y (W4 ∷ []) [])))
-      by u x y = grind arith
+  findings_fresh before = grind arith
 
   end_fresh : (before : List Token) (rest : List ℕ) → After before rest → lists_last [] (fresh_stage at) before rest ≡ lists_end at before rest
-  end_fresh before rest e =
-      ap (λ (x : List TextEvent). (x ++ end_events_by (facts_at [] (fresh_stage at) before) (progress_at [] (fresh_stage at) before) (is_cut before) (end_at_text [] (fresh_stage at) before rest)) ∷ no_events_each rest) (owed_fresh before rest e)
-      ∙ ap (λ (x : TextFacts). (owed_events at before ++ end_events_by x (progress_at [] (fresh_stage at) before) (is_cut before) (end_at_text [] (fresh_stage at) before rest)) ∷ no_events_each rest) (facts_fresh before)
-      ∙ ap (λ (x : Progress). (owed_events at before ++ end_events_by (facts_of before) x (is_cut before) (end_at_text [] (fresh_stage at) before rest)) ∷ no_events_each rest) (spot_fresh before rest e)
-      ∙ ap (λ (x : TextEnd). (owed_events at before ++ end_events_by (facts_of before) (here before) (is_cut before) x) ∷ no_events_each rest) (how_fresh before rest e)
-      ∙ ap (λ (x : List TextEvent). (owed_events at before ++ (x ++ (map (λ (c : Span). out.Part (part.Centre c)) (option_list_of (centre_of before)) ++ out.Ended (end_after at before rest) ∷ []))) ∷ no_events_each rest) (findings_fresh before)
+  end_fresh before rest e = grind (arith, owed_fresh, facts_fresh, spot_fresh, how_fresh, findings_fresh)
 
   -- ---- the whole
 
   all_fresh : (ks before : List Token) (rest : List ℕ) → After (onto ks before) rest → lists_from [] (fresh_stage at) before ks rest ≡ along (lists_at at) before ks ++ lists_end at (onto ks before) rest
   all_fresh [] before rest e = end_fresh before rest e
-  all_fresh (k ∷ ks) before rest e =
-      let more : After before (spelling k ++ (text_of_tokens ks ++ rest)) =
-      sym (append_assoc (text_of before) (spelling k) (text_of_tokens ks ++ rest)) ∙ sym (append_assoc (text_of before ++ spelling k) (text_of_tokens ks) rest)
-      ∙ ap (λ (x : List ℕ). x ++ rest) (sym (text_onto ks (k ∷ before))) ∙ e in
-      append_assoc (lists_past [] (fresh_stage at) before k) (along (lists_past [] (fresh_stage at)) (k ∷ before) ks) (lists_last [] (fresh_stage at) (onto ks (k ∷ before)) rest)
-      ∙ ap (λ (x : List (List TextEvent)). x ++ lists_from [] (fresh_stage at) (k ∷ before) ks rest) (lists_fresh before k (text_of_tokens ks ++ rest) more)
-      ∙ ap (λ (x : List (List TextEvent)). lists_at at before k ++ x) (all_fresh ks (k ∷ before) rest e)
-      ∙ sym (append_assoc (lists_at at before k) (along (lists_at at) (k ∷ before) ks) (lists_end at (onto ks (k ∷ before)) rest))
+  all_fresh (k ∷ ks) before rest e = grind (arith, append_assoc, text_onto, lists_fresh, all_fresh ks (k ∷ before) rest e)
 
 -- what a fresh stage gives is what the text gives, and what it does not read is what follows the tokens
 pub fresh_emits : (at : Place) (t : List ℕ) → CountsFit at t → (events_left (fresh_stage at) t ≡ events_by_point at t) × (characters_left (fresh_stage at) t ≡ after_tokens t)

@@ -1,5 +1,5 @@
 -- The loop over a text's characters, and its end.
-use Rattle.std.proofs.Common.{◌≡◌, ℕ, ◌+◌, ◌<◌, ◌≤◌, ◌^◌, List, [], ◌∷◌, Bool, true, false, cond, refl, sym, ap, ◌∙◌, subst, length, length-append, take, drop, reverse, take-append-drop, arith, IsUtf8}
+use Rattle.std.proofs.Common.{◌≡◌, ℕ, ◌+◌, ◌<◌, ◌^◌, List, [], ◌∷◌, true, false, refl, sym, ap, ◌∙◌, length, length-append, take, drop, reverse, take-append-drop, arith, IsUtf8}
 use Rattle.std.specs.Str.{chars}
 use Rattle.std.proofs.lemmas.Str.{length-encode, encodes-chars, length-le-encodes}
 use lib.Utf8.{encode, encodes}
@@ -7,11 +7,9 @@ use Rattle.gabc_places.specs.StageLaw.{concat_of}
 use Rattle.gabc_places.specs.declared.place.Place.{Place}
 use Rattle.gabc_text.specs.declared.text_event.TextEvent.{TextEvent}
 use Rattle.gabc_text.specs.declared.stage.TextStage.{TextStage}
-use Rattle.gabc_text.specs.declared.text_event.TextEnd.TheVariants as ending
-use Rattle.gabc_text.specs.declared.view.TextEnding.TheVariants as ways
 use Rattle.gabc_text.specs.Token.{Token, tokens}
-use Rattle.gabc_text.specs.View.{place_of, bytes_of, kept, findings, ending_in, ending_after, ending_by, length_of, is_open_kind}
-use Rattle.gabc_text.specs.Events.{CountsFit, after_tokens, end_after, end_by_rest}
+use Rattle.gabc_text.specs.View.{bytes_of, kept, findings, ending_in, ending_after, length_of}
+use Rattle.gabc_text.specs.Events.{CountsFit, after_tokens, end_after}
 use Rattle.gabc_text.specs.TextRead.{view_in}
 use Rattle.gabc_text.specs.TextStage.{fresh_stage}
 use Rattle.gabc_text.specs.machine.TextStage.{push_stage, events_of_push}
@@ -34,49 +32,23 @@ bytes_chars bs u = bytes_encodes (chars bs) ∙ ap (length {A = ℕ}) (encodes-c
 
 -- no count of the text of some bytes reaches its last value
 pub text_fits : (at : Place) (bs : List ℕ) → IsUtf8 bs → at.line + length bs < 2 ^ 64 → at.column + length bs < 2 ^ 64 → CountsFit at (chars bs)
-text_fits at bs u line column =
-    let long : length (chars bs) ≤ length bs = subst (λ (x : List ℕ). length (chars bs) ≤ length x) (encodes-chars bs u) (length-le-encodes (chars bs)) in
-    record {
-      line = omega (arith, long);
-      column = omega (arith, long);
-      bytes = rw (bytes_chars bs u) (omega arith);
-    }
+text_fits at bs u line column = grind (arith, encodes-chars, length-le-encodes, bytes_chars)
 
 -- a character more
 pub events_goes : (events now target : BuiltText) (stage next : TextStage) (c : ℕ) (cs : List ℕ) → with_events events (concat_of (stepwise stage (c ∷ cs))) ≡ target
     → next ≡ push_stage stage c → now ≡ with_events events (events_of_push stage c) → with_events now (concat_of (stepwise next cs)) ≡ target
-events_goes events now target stage next c cs e f g =
-    ap (λ (x : TextStage). with_events now (concat_of (stepwise x cs))) f ∙ ap (λ (x : BuiltText). with_events x (concat_of (stepwise (push_stage stage c) cs))) g
-    ∙ sym (events_append events (events_of_push stage c) (concat_of (stepwise (push_stage stage c) cs))) ∙ e
+events_goes events now target stage next c cs e f g = grind (arith, events_append)
 
 pub left_goes : (stage next : TextStage) (c : ℕ) (cs left : List ℕ) → stepwise_left stage (c ∷ cs) ≡ left → next ≡ push_stage stage c → next.ended ≡ false → stepwise_left next cs ≡ left
-left_goes stage next c cs left e f g = by (next.ended) g ∙ ap (λ (x : TextStage). cond x.ended (c ∷ cs) (stepwise_left x cs)) f ∙ e
-  where
-    by : (b : Bool) → b ≡ false → stepwise_left next cs ≡ cond b (c ∷ cs) (stepwise_left next cs)
-    by false h = refl
-    by true h = absurd (cc)
+left_goes stage next c cs left e f g = cc
 
 pub left_ends : (stage next : TextStage) (c : ℕ) (cs left : List ℕ) → stepwise_left stage (c ∷ cs) ≡ left → next ≡ push_stage stage c → next.ended ≡ true → c ∷ cs ≡ left
-left_ends stage next c cs left e f g = by (next.ended) g ∙ ap (λ (x : TextStage). cond x.ended (c ∷ cs) (stepwise_left x cs)) f ∙ e
-  where
-    by : (b : Bool) → b ≡ true → c ∷ cs ≡ cond b (c ∷ cs) (stepwise_left next cs)
-    by true h = refl
-    by false h = absurd (cc)
+left_ends stage next c cs left e f g = cc
 
 -- ---- the end
 
-how_plain : (prefix rest : List ℕ) → ending_of (end_by_rest rest) (bytes_of prefix) ≡ ending_by prefix rest
-how_plain prefix [] = refl
-how_plain prefix (c ∷ rest) = refl
-
-how_open : (p : Place) (prefix : List ℕ) (b : Bool) (rest : List ℕ) → ending_of (cond b (ending.Cut p) (end_by_rest rest)) (bytes_of prefix) ≡ cond b (ways.Cut p) (ending_by prefix rest)
-how_open p prefix true rest = refl
-how_open p prefix false rest = how_plain prefix rest
-
 how_meant : (at : Place) (before : List Token) (prefix rest : List ℕ) → ending_of (end_after at before rest) (bytes_of prefix) ≡ ending_after at before prefix rest
-how_meant at [] prefix [] = refl
-how_meant at [] prefix (c ∷ rest) = refl
-how_meant at (k ∷ before) prefix rest = how_open (place_of at before) prefix (is_open_kind k.kind) rest
+how_meant at before prefix rest = grind arith
 
 -- what was emitted of a text is what it says
 pub record Meant (at : Place) (t : List ℕ) (events : BuiltText) (index : ℕ) : Type 0 where

@@ -1,14 +1,8 @@
 -- A machine in a raw part, and the characters of a text up to its first `<`.
-use Rattle.std.proofs.Common.{◌≡◌, ℕ, ◌==◌, ◌&&◌, not, List, [], ◌∷◌, ◌++◌, Bool, true, false, cond, refl, sym, ap, ◌∙◌, subst, append_assoc, append-nil, Some, Result, Ok, Err, OnOk, is_ok, IsUtf8}
+use Rattle.std.proofs.Common.{arith, ◌≡◌, ℕ, ◌==◌, not, List, [], ◌∷◌, ◌++◌, true, false, cond, refl, sym, ap, ◌∙◌, append_assoc, append-nil, Some, Result, OnOk, is_ok, IsUtf8}
 use Rattle.std.specs.Str.{chars, NonePass}
 use Rattle.std.proofs.lemmas.Str.{encodes-chars}
-use Rattle.std.proofs.lemmas.Bool.{eqb-true, not-true, and_parts}
-use Rattle.std.proofs.Math.Bool.{and-false}
-use Rattle.gabc_text.specs.declared.token_state.TokenState.{TokenState}
-use Rattle.gabc_text.specs.declared.token_state.TokenState.TheVariants.{Raw}
-use Rattle.gabc_text.specs.declared.token.RawKind.{RawKind}
-use Rattle.gabc_text.specs.declared.token.RawKind.TheVariants.{V}
-use Rattle.gabc_text.specs.declared.text_facts.TextFacts.{TextFacts}
+use Rattle.std.proofs.lemmas.Bool.{not-true, and_parts}
 use Rattle.gabc_text.specs.declared.progress.Progress.{Progress}
 use Rattle.gabc_text.specs.declared.stage.TextStage.{TextStage}
 use Rattle.gabc_text.specs.declared.text_event.TextEvent.{TextEvent}
@@ -25,23 +19,13 @@ use Rattle.gabc_text.specs.machine.RawPart.{stage_past, events_of_pushes, is_unm
 abbrev PassesOver : TextStage → ℕ → Type 0
 PassesOver s c = (push_stage s c ≡ record s { progress = progress_past s.progress c (Some c) }) × (events_of_push s c ≡ out.Kept (record { c = c; place = s.progress.next }) ∷ [])
 
-pass_at : (raw : RawKind) (facts : TextFacts) (progress : Progress) (c : ℕ) → c == 60 ≡ false → PassesOver (record { state = Raw raw 0; facts = facts; progress = progress; ended = false }) c
-pass_at V facts progress c e = (rw (and-false (c == 40), e) refl, rw (and-false (c == 40), e) refl)
-pass_at _ facts progress c e = (rw (and-false (c == 40), e) refl, rw (and-false (c == 40), e) refl)
-
 pub passes : (s : TextStage) (c : ℕ) → is_in_raw s ≡ true → c == 60 ≡ false → PassesOver s c
-passes s c h e = by s.state s.ended h
-  where
-    by : (state : TokenState) (done : Bool) → (not done && is_unmatched state) ≡ true → PassesOver (record { state = state; facts = s.facts; progress = s.progress; ended = done }) c
-    by state true h = absurd (cc)
-    by (Raw raw m) false h = subst (λ (n : ℕ). PassesOver (record { state = Raw raw n; facts = s.facts; progress = s.progress; ended = false }) c) (sym (eqb-true m 0 h)) (pass_at raw s.facts s.progress c e)
-    by _ false h = absurd (cc)
+passes s c h e = grind arith
 
 -- a character more
 pub pass_goes : (s target : TextStage) (progress : Progress) (c : ℕ) (cs : List ℕ) → is_in_raw s ≡ true → NonePass (λ x. x == 60) (c ∷ cs) → progress ≡ progress_past s.progress c (Some c) → stage_past s (c ∷ cs) ≡ target
     → stage_past (record s { progress = progress }) cs ≡ target
-pass_goes s target progress c cs h none e f =
-    ap (λ (x : Progress). stage_past (record s { progress = x }) cs) e ∙ ap (λ (x : TextStage). stage_past x cs) (sym (passes s c h none.0).0) ∙ f
+pass_goes s target progress c cs h none e f = grind arith
 
 -- ---- several characters
 
@@ -58,17 +42,12 @@ runs_on s (c ∷ cs) h none = runs_on (push_stage s c) cs (raw_step s c h none.0
 
 pub left_on : (s : TextStage) (cs ds : List ℕ) → is_in_raw s ≡ true → NonePass (λ x. x == 60) cs → stepwise_left s (cs ++ ds) ≡ stepwise_left (stage_past s cs) ds
 left_on s [] ds h none = refl
-left_on s (c ∷ cs) ds h none =
-    ap (λ (b : Bool). cond b (c ∷ (cs ++ ds)) (stepwise_left (push_stage s c) (cs ++ ds))) (running (push_stage s c) (raw_step s c h none.0))
-    ∙ left_on (push_stage s c) cs ds (raw_step s c h none.0) none.1
+left_on s (c ∷ cs) ds h none = grind (arith, running, raw_step, left_on (push_stage s c) cs ds (raw_step s c h none.0) none.1)
 
 -- what it emits for them, and then for what follows
 pub events_on : (t : BuiltText) (s : TextStage) (cs ds : List ℕ) → with_events t (concat_of (stepwise s (cs ++ ds))) ≡ with_events (with_events t (events_of_pushes s cs)) (concat_of (stepwise (stage_past s cs) ds))
 events_on t s [] ds = refl
-events_on t s (c ∷ cs) ds =
-    events_append t (events_of_push s c) (concat_of (stepwise (push_stage s c) (cs ++ ds)))
-    ∙ events_on (with_events t (events_of_push s c)) (push_stage s c) cs ds
-    ∙ ap (λ (x : BuiltText). with_events x (concat_of (stepwise (stage_past (push_stage s c) cs) ds))) (sym (events_append t (events_of_push s c) (events_of_pushes (push_stage s c) cs)))
+events_on t s (c ∷ cs) ds = grind (arith, events_on (with_events t (events_of_push s c)) (push_stage s c) cs ds, events_append)
 
 -- all are kept
 pub events_raw : (t : BuiltText) (s : TextStage) (cs : List ℕ) → is_in_raw s ≡ true → NonePass (λ x. x == 60) cs → with_events t (events_of_pushes s cs) ≡ record t { kept = t.kept ++ encodes cs }
@@ -81,19 +60,10 @@ events_raw t s (c ∷ cs) h none =
 -- a text is added after what is kept, if there is memory
 pub events_passed : {E : Type 0} (r : Result (Unit {0}) E) (t : BuiltText) (s : TextStage) (bs more : List ℕ) → IsUtf8 bs → is_in_raw s ≡ true → NonePass (λ x. x == 60) (chars bs)
     → more ≡ cond (is_ok r) (t.kept ++ bs) t.kept → OnOk r (record t { kept = more } ≡ with_events t (events_of_pushes s (chars bs)))
-events_passed (Ok x) t s bs more u h none e =
-    ap (λ (y : List ℕ). record t { kept = y }) (e ∙ ap (λ (y : List ℕ). t.kept ++ y) (sym (encodes-chars bs u))) ∙ sym (events_raw t s (chars bs) h none)
-events_passed (Err x) t s bs more u h none e = tt
+events_passed r t s bs more u h none e = grind (arith, encodes-chars, events_raw)
 
 -- the characters of a text in a raw part more
 pub raw_goes : (events now target : BuiltText) (stage next : TextStage) (t cs ds left : List ℕ) → t ≡ cs ++ ds → is_in_raw stage ≡ true → NonePass (λ x. x == 60) cs
     → next ≡ stage_past stage cs → now ≡ with_events events (events_of_pushes stage cs) → with_events events (concat_of (stepwise stage t)) ≡ target → stepwise_left stage t ≡ left
     → (next.ended ≡ false) × ((with_events now (concat_of (stepwise next ds)) ≡ target) × (stepwise_left next ds ≡ left))
-raw_goes events now target stage next t cs ds left e h none f g a b =
-    rw (f, g) (
-      runs_on stage cs h none,
-      (
-        sym (events_on events stage cs ds) ∙ ap (λ (x : List ℕ). with_events events (concat_of (stepwise stage x))) (sym e) ∙ a,
-        sym (left_on stage cs ds h none) ∙ ap (stepwise_left stage) (sym e) ∙ b,
-      ),
-    )
+raw_goes events now target stage next t cs ds left e h none f g a b = grind (arith, runs_on, events_on, left_on)

@@ -1,7 +1,7 @@
 -- A tag's name as its characters come: its first ones show what the tag does.
-use Rattle.std.proofs.Common.{◌≡◌, ℕ, List, [], ◌∷◌, ◌++◌, length, map, nat_lt, Bool, true, false, not, cond, ◌&&◌, ◌||◌, ◌==◌, refl, sym, ap, ◌∙◌, arith, append_assoc, append-nil, length-append, ne_eqb, codes}
+use Rattle.std.proofs.Common.{◌≡◌, ℕ, List, [], ◌∷◌, ◌++◌, length, map, nat_lt, Bool, true, false, not, cond, ◌&&◌, ◌||◌, ◌==◌, refl, sym, ap, ◌∙◌, arith, append_assoc, append-nil, length-append, codes}
 use Rattle.std.specs.List.{list_all, zip}
-use Rattle.std.proofs.lemmas.Bool.{eqb-true, eqb-false, ltb-false, le-ltb, and_parts, false_from_ne_true}
+use Rattle.std.proofs.lemmas.Bool.{eqb-true, ltb-false, le-ltb, and_parts, false_from_ne_true}
 use Rattle.std.proofs.Math.Bool.{and-false}
 use Rattle.gabc_text.specs.declared.token.TagEffect.{TagEffect}
 use Rattle.gabc_text.specs.declared.token.TagEffect.TheVariants.{Other}
@@ -63,8 +63,7 @@ no_row p (row ∷ rows) s h e =
     by both.0 (no_row p rows s both.1 e) (is_text row.0 s) refl
   where
     by : p row.0 ≡ true → effect_in rows s ≡ Other → (b : Bool) → is_text row.0 s ≡ b → cond b row.1 (effect_in rows s) ≡ Other
-    by g i true f = absurd (let k : p row.0 ≡ p s = ap p (text_is row.0 s f) in cc)
-    by g i false f = i
+    by g i b f = grind (arith, text_is)
 
 -- more characters than a name has
 too_long : (s : List ℕ) → nat_lt (length s) KEPT ≡ false → effect_in tag_names s ≡ Other
@@ -84,8 +83,7 @@ name_more name s c f t = ap (effect_in tag_names) (append_assoc s (c ∷ []) t) 
     longer u e = le-ltb (length (name ++ u)) KEPT (let l = ltb-false (length name) KEPT e in omega (arith, l, length-append name u))
 
     by : (b : Bool) → nat_lt (length name) KEPT ≡ b → effect_in tag_names (name ++ c ∷ t) ≡ effect_in tag_names (cond b (name ++ c ∷ []) name ++ t)
-    by true e = ap (effect_in tag_names) (sym (append_assoc name (c ∷ []) t))
-    by false e = too_long (name ++ c ∷ t) (longer (c ∷ t) e) ∙ sym (too_long (name ++ t) (longer t e))
+    by b e = grind (arith, append_assoc, too_long, longer)
 
 -- the `>`
 pub name_ends : (name s : List ℕ) → IsName name s → effect_of (60 ∷ s ++ 62 ∷ []) ≡ effect_of (60 ∷ name ++ 62 ∷ [])
@@ -96,11 +94,7 @@ name_ends name s f =
 
 one_of_append : (s t : List ℕ) → is_one_of s 62 ≡ true → is_one_of (s ++ t) 62 ≡ true
 one_of_append [] t e = absurd (cc)
-one_of_append (c ∷ s) t e = by (one_of_append s t) (c == 62) e
-  where
-    by : (is_one_of s 62 ≡ true → is_one_of (s ++ t) 62 ≡ true) → (b : Bool) → (b || is_one_of s 62) ≡ true → (b || is_one_of (s ++ t) 62) ≡ true
-    by h true f = refl
-    by h false f = h f
+one_of_append (c ∷ s) t e = grind (arith, one_of_append s t)
 
 pub is_name : (name : List ℕ) → IsName name (name_so_far name)
 is_name name t = by (is_one_of name 62) refl
@@ -117,9 +111,7 @@ name_lacks name = by (is_one_of name 62) refl
     none (c ∷ s) e = here (none s) (c == 62) refl e
       where
         here : (is_one_of s 62 ≡ false → lacks 62 s ≡ true) → (b : Bool) → c == 62 ≡ b → (b || is_one_of s 62) ≡ false → lacks 62 (c ∷ s) ≡ true
-        here h true f g = absurd (cc)
-        here h false f g = rw (ne_eqb 62 c (λ i. eqb-false c 62 f (sym i)), h g) refl
+        here h b f g = grind arith
 
     by : (b : Bool) → is_one_of name 62 ≡ b → lacks 62 (cond b (codes "x") name) ≡ true
-    by true e = refl
-    by false e = none name e
+    by b e = grind (arith, none)

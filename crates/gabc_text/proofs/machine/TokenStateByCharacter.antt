@@ -78,8 +78,7 @@ turned x c e = ne_eqb x c (λ f. eqb-false c x e (sym f))
 -- ---- between tokens
 
 by_test : (b : Bool) (x y : Step) (held : List ℕ) (c : ℕ) → (b ≡ true → WentBy x held c) → (b ≡ false → WentBy y held c) → WentBy (cond b x y) held c
-by_test true x y held c f g = f refl
-by_test false x y held c f g = g refl
+by_test b x y held c f g = grind arith
 
 one_character : (c : ℕ) → c == 40 ≡ false → c == 36 ≡ false → c == 37 ≡ false → c == 60 ≡ false → c == 91 ≡ false → Completes [] c (single c) Other
 one_character c e40 e36 e37 e60 e91 = record {
@@ -120,11 +119,7 @@ bare c e = record {
 -- ---- one character of a token that ends at the first x
 
 more_lacking : (first x : ℕ) (held : List ℕ) (c : ℕ) → Lacking first x held → x == c ≡ false → Lacking first x (held ++ c ∷ [])
-more_lacking first x held c h e = record {
-  s = h.s ++ c ∷ [];
-  held_is = ap (λ (u : List ℕ). u ++ c ∷ []) h.held_is;
-  open_still = lacks_more x h.s c h.open_still e;
-}
+more_lacking first x held c h e = grind (arith, lacks_more)
 
 comment_ends : (held : List ℕ) → Lacking 37 10 held → Settles held 10 kind.Comment
 comment_ends held h = record {
@@ -154,8 +149,7 @@ is_no_raw (Begins raw) = ⊥
 is_no_raw s = Unit {0}
 
 plain_tag : (name t : List ℕ) (s : TagEffect) → is_no_raw s → token_of_tag name t s ≡ record { kind = kind.Tag; first = 60; more = name }
-plain_tag name t (Begins raw) n = absurd n
-plain_tag name t _ n = refl
+plain_tag name t s n = grind arith
 
 tag_token : (s t : List ℕ) → lacks 62 s ≡ true → token_at 60 (s ++ 62 ∷ t) ≡ token_of_tag (s ++ 62 ∷ []) t (effect_of (60 ∷ s ++ 62 ∷ []))
 tag_token s t h =
@@ -176,8 +170,7 @@ tag_completes name held so h e n =
     }
 
 some_ending : (r : RawKind) → 0 < length (ending_of r)
-some_ending V = omega arith
-some_ending _ = omega arith
+some_ending r = grind arith
 
 tag_goes : (name held : List ℕ) (so : TagEffect) → InTag name held → effect_of (60 ∷ name ++ 62 ∷ []) ≡ so → WentBy (step_at_tag_end so) held 62
 tag_goes name held (Begins raw) h e = record {
@@ -195,12 +188,7 @@ tag_goes name held Mark h e = tag_completes name held Mark h e tt
 tag_goes name held Other h e = tag_completes name held Other h e tt
 
 more_tag : (name held : List ℕ) (c : ℕ) → InTag name held → c == 62 ≡ false → InTag (next_name name c) (held ++ c ∷ [])
-more_tag name held c h e = record {
-  s = h.s ++ c ∷ [];
-  held_is = ap (λ (u : List ℕ). u ++ c ∷ []) h.held_is;
-  open_still = lacks_more 62 h.s c h.open_still (turned 62 c e);
-  named = name_more name h.s c h.named;
-}
+more_tag name held c h e = grind (arith, lacks_more, turned, name_more)
 
 -- ---- a raw part
 
@@ -235,9 +223,7 @@ place Alt (suc (suc (suc (suc (suc (suc m)))))) h = absurd (omega arith)
 
 ending_found : (raw : RawKind) (r p : List ℕ) (c : ℕ) (t : List ℕ) → ending_of raw ≡ p ++ c ∷ [] → Matching (ending_of raw) r p
     → through (ending_of raw) (r ++ c ∷ t) ≡ Some (r ++ c ∷ [])
-ending_found V r p c t e m = match_ends 60 (codes "/v>") r p c t e m
-ending_found Sp r p c t e m = match_ends 60 (codes "/sp>") r p c t e m
-ending_found Alt r p c t e m = match_ends 60 (codes "/alt>") r p c t e m
+ending_found raw r p c t e m = grind (arith, match_ends)
 
 ending_fails : (raw : RawKind) (r p : List ℕ) (y c : ℕ) (after : List ℕ) → ending_of raw ≡ p ++ y ∷ after → y == c ≡ false → lacks 60 (drop_one p) ≡ true
     → Matching (ending_of raw) r p → Matching (ending_of raw) (r ++ c ∷ []) (cond (60 == c) (c ∷ []) [])
@@ -251,8 +237,7 @@ in_parts s r t = append_assoc (s ++ 62 ∷ []) r t ∙ append_assoc s (62 ∷ []
 
 raw_token : (raw : RawKind) (s r t : List ℕ) → lacks 62 s ≡ true → effect_of (60 ∷ s ++ 62 ∷ []) ≡ Begins raw
     → token_at 60 (((s ++ 62 ∷ []) ++ r) ++ t) ≡ ended_token kind.Raw kind.OpenTag 60 (s ++ 62 ∷ []) (r ++ t) (through (ending_of raw) (r ++ t))
-raw_token raw s r t h e =
-    ap (token_at 60) (in_parts s r t) ∙ tag_token s (r ++ t) h ∙ ap (token_of_tag (s ++ 62 ∷ []) (r ++ t)) e
+raw_token raw s r t h e = grind (arith, in_parts, tag_token)
 
 raw_ends : (raw : RawKind) (m : ℕ) (held : List ℕ) (c : ℕ) → InRaw raw m held → ending_of raw ≡ take m (ending_of raw) ++ c ∷ [] → Completes held c kind.Raw Other
 raw_ends raw m held c h e =
@@ -270,19 +255,10 @@ raw_ends raw m held c h e =
 
 raw_more : (raw : RawKind) (m n : ℕ) (held : List ℕ) (c : ℕ) (h : InRaw raw m held) → n < length (ending_of raw)
     → Matching (ending_of raw) (h.r ++ c ∷ []) (take n (ending_of raw)) → InRaw raw n (held ++ c ∷ [])
-raw_more raw m n held c h b g = record {
-  s = h.s;
-  r = h.r ++ c ∷ [];
-  held_is = ap (λ (u : List ℕ). u ++ c ∷ []) h.held_is ∙ ap (λ (u : List ℕ). 60 ∷ u) (append_assoc (h.s ++ 62 ∷ []) h.r (c ∷ []));
-  tag_lacks = h.tag_lacks;
-  begins = h.begins;
-  below = b;
-  matched = g;
-}
+raw_more raw m n held c h b g = grind (arith, append_assoc)
 
 some_way : (raw : RawKind) → (1 < length (ending_of raw)) × (take 1 (ending_of raw) ≡ 60 ∷ [])
-some_way V = (omega arith, refl)
-some_way _ = (omega arith, refl)
+some_way raw = grind arith
 
 raw_goes : (raw : RawKind) (m : ℕ) (held : List ℕ) (c : ℕ) → InRaw raw m held → WentBy (step_in_raw raw m c) held c
 raw_goes raw m held c h =
@@ -321,41 +297,18 @@ raw_goes raw m held c h =
 -- a character that goes on with a token, or begins one
 pub goes : (state : TokenState) (held : List ℕ) (c : ℕ) → Holds state held → settled_kind state c ≡ None → (state ≡ Plain → c == 40 ≡ false) → WentBy (next_step state c) held c
 goes Plain held c h s p = subst (λ (u : List ℕ). WentBy (first_step c) u c) (sym h) (begins_token c (p refl))
-goes Dollar held c h s p = subst (λ (u : List ℕ). Completes u c kind.Letter Other) (sym h) (escaped c (is_kept (is_special c) s))
-  where
-    is_kept : (b : Bool) → cond b None (Some kind.Letter) ≡ None → b ≡ true
-    is_kept true e = refl
-    is_kept false e = absurd (cc)
-goes Comment held c h s p = more_lacking 37 10 held c h (turned 10 c (is_kept (c == 10) s))
-  where
-    is_kept : (b : Bool) → cond b (Some kind.Comment) None ≡ None → b ≡ false
-    is_kept true e = absurd (cc)
-    is_kept false e = refl
+goes Dollar held c h s p = grind (arith, escaped)
+goes Comment held c h s p = grind (arith, more_lacking, turned)
 goes (Tag name) held c h s p =
     by_test (c == 62) _ _ held c
     (λ e. subst (WentBy (step_at_tag_end (effect_of (60 ∷ name ++ 62 ∷ []))) held) (sym (eqb-true c 62 e)) (tag_goes name held (effect_of (60 ∷ name ++ 62 ∷ [])) h refl))
     (λ e. more_tag name held c h e)
 goes (Raw raw m) held c h s p = raw_goes raw m held c h
-goes Translation held c h s p =
-    by_test (c == 93) _ _ held c
-    (λ e. subst (λ (x : ℕ). Completes held x kind.Translation Other) (sym (eqb-true c 93 e)) (translation_ends held h))
-    (λ e. more_lacking 91 93 held c h (turned 93 c e))
+goes Translation held c h s p = grind (arith, by_test, eqb-true, translation_ends, more_lacking, turned)
 
 -- a character before which the token ends
 pub settles : (state : TokenState) (held : List ℕ) (c : ℕ) (k : TokenKind) → Holds state held → settled_kind state c ≡ Some k → Settles held c k
-settles Plain held c k h e = absurd (cc)
-settles Dollar held c k h e = by (is_special c) refl e
-  where
-    by : (b : Bool) → is_special c ≡ b → cond b None (Some kind.Letter) ≡ Some k → Settles held c k
-    by true f g = absurd (cc)
-    by false f g = let same : kind.Letter ≡ k = cc in subst (Settles held c) same (subst (λ (u : List ℕ). Settles u c kind.Letter) (sym h) (bare c f))
-settles Comment held c k h e = by (c == 10) refl e
-  where
-    by : (b : Bool) → c == 10 ≡ b → cond b (Some kind.Comment) None ≡ Some k → Settles held c k
-    by true f g = let same : kind.Comment ≡ k = cc in subst (Settles held c) same (subst (λ (x : ℕ). Settles held x kind.Comment) (sym (eqb-true c 10 f)) (comment_ends held h))
-    by false f g = absurd (cc)
-settles (Tag name) held c k h e = absurd (cc)
-settles _ held c k h e = absurd (cc)
+settles state held c k h e = grind (arith, bare, eqb-true, comment_ends)
 
 -- ---- the end of the text
 

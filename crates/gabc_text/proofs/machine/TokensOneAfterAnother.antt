@@ -1,14 +1,12 @@
 -- Tokens one after another, lists of events, and where they end.
-use Rattle.std.proofs.Common.{◌≡◌, ℕ, ◌+◌, List, [], ◌∷◌, ◌++◌, true, refl, ap, ◌∙◌, subst, append-nil, length, length-append, drop, Some, arith}
+use Rattle.std.proofs.Common.{◌≡◌, ℕ, ◌+◌, List, [], ◌∷◌, ◌++◌, true, refl, ap, ◌∙◌, append-nil, length, length-append, drop, Some, arith}
 use Rattle.gabc_text.specs.declared.token.TokenKind.{TokenKind}
-use Rattle.gabc_text.specs.declared.token.TokenKind.TheVariants as kind
 use Rattle.gabc_text.specs.declared.token.TagEffect.TheVariants.{Other}
 use Rattle.gabc_text.specs.declared.token_state.TokenState.{TokenState}
-use Rattle.gabc_text.specs.declared.token_state.TokenState.TheVariants.{Plain, Dollar, Comment, Translation}
 use Rattle.gabc_text.specs.declared.stage.TextStage.{TextStage}
 use Rattle.gabc_text.specs.declared.text_event.TextEvent.{TextEvent}
 use Rattle.gabc_text.specs.Token.{Token, spelling, tokens}
-use Rattle.gabc_text.specs.View.{effect, effect_as, text_of}
+use Rattle.gabc_text.specs.View.{effect, text_of}
 use Rattle.gabc_text.specs.Events.{with_last, no_events_each, after_tokens}
 use Rattle.gabc_text.proofs.machine.EventsStepByStep.{stepwise}
 use Rattle.gabc_text.specs.machine.TokenState.{kind_at_end}
@@ -49,8 +47,4 @@ with_more zs _ xs = refl
 -- ---- a token that the end of the text ends
 
 pub end_other : (state : TokenState) (k : Token) (d : TokenKind) → kind_at_end state ≡ Some d → k.kind ≡ d → effect k ≡ Other
-end_other Plain k d e f = absurd (cc)
-end_other Dollar k d e f = let same : kind.Letter ≡ k.kind = cc in subst (λ (x : TokenKind). effect_as x (spelling k) ≡ Other) same refl
-end_other Comment k d e f = let same : kind.Comment ≡ k.kind = cc in subst (λ (x : TokenKind). effect_as x (spelling k) ≡ Other) same refl
-end_other Translation k d e f = let same : kind.OpenTranslation ≡ k.kind = cc in subst (λ (x : TokenKind). effect_as x (spelling k) ≡ Other) same refl
-end_other _ k d e f = let same : kind.OpenTag ≡ k.kind = cc in subst (λ (x : TokenKind). effect_as x (spelling k) ≡ Other) same refl
+end_other state k d e f = grind arith

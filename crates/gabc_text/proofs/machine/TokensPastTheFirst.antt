@@ -1,5 +1,5 @@
 -- Past a token that has ended, the tokens ahead are those of the state past it.
-use Rattle.std.proofs.Common.{◌≡◌, ℕ, List, [], ◌∷◌, ◌++◌, Bool, false, cond, refl, sym, ap, ◌∙◌, append_assoc, length, drop, arith}
+use Rattle.std.proofs.Common.{◌≡◌, ℕ, List, [], ◌∷◌, ◌++◌, false, cond, sym, ap, ◌∙◌, append_assoc, length, drop, arith}
 use Rattle.gabc_places.specs.declared.place.Place.{Place}
 use Rattle.gabc_text.specs.declared.text_facts.TextFacts.{TextFacts}
 use Rattle.gabc_text.specs.declared.token.TokenKind.{TokenKind}
@@ -7,12 +7,10 @@ use Rattle.gabc_text.specs.declared.progress.Progress.{Progress}
 use Rattle.gabc_text.specs.declared.stage.TextStage.{TextStage}
 use Rattle.gabc_text.specs.declared.text_event.TextEnd.TheVariants as ending
 use Rattle.gabc_text.specs.declared.text_event.TextEvent.{TextEvent}
-use Rattle.gabc_text.specs.declared.text_event.TextEvent.TheVariants as out
 use Rattle.gabc_text.specs.Token.{Token, spelling}
-use Rattle.gabc_text.specs.View.{along, is_open_kind, is_space}
+use Rattle.gabc_text.specs.View.{along, is_open_kind}
 use Rattle.gabc_text.specs.Events.{is_lone, with_first, with_last, no_events_each, end_by_rest}
-use Rattle.gabc_text.specs.witness.FactsPast.{leaves_out}
-use Rattle.gabc_text.specs.witness.EventsLeft.{facts_at, progress_at, read_at, ahead_at, token_events_by, early_events_by, lists_kept, each_kept, lists_past, lists_last, owed_events_at, end_at_text, end_events_by}
+use Rattle.gabc_text.specs.witness.EventsLeft.{facts_at, progress_at, read_at, ahead_at, token_events_by, early_events_by, lists_kept, lists_past, lists_last, owed_events_at, end_at_text, end_events_by}
 use Rattle.gabc_text.proofs.machine.TokensOneAfterAnother.{onto}
 use Rattle.gabc_text.proofs.machine.FactsPastTokens.{facts_on, progress_on, read_on, read_none, past_token}
 
@@ -29,42 +27,27 @@ IsSome [] = ⊥
 IsSome (xs ∷ lists) = Unit {0}
 
 some_lists : (facts : TextFacts) (p : Place) (k : TokenKind) (c : ℕ) (cs : List ℕ) → IsSome (lists_kept facts p k (c ∷ cs))
-some_lists facts p k c cs = by (leaves_out facts k) (is_space k) (cond facts.space [] (out.Kept (record { c = 32; place = p }) ∷ []))
-  where
-    by : (a b : Bool) (blank : List TextEvent) → IsSome (cond a (no_events_each (c ∷ cs)) (cond b (blank ∷ []) (each_kept p (c ∷ cs))))
-    by a b blank = grind arith
+some_lists facts p k c cs = grind arith
 
 first_again : (a b : List TextEvent) (lists : List (List TextEvent)) → with_first (a ++ b) lists ≡ with_first a (with_first b lists)
-first_again a b [] = refl
-first_again a b (xs ∷ lists) = ap (λ (x : List TextEvent). x ∷ lists) (append_assoc a b xs)
+first_again a b lists = grind (arith, append_assoc)
 
 first_last : (a n : List TextEvent) (lists : List (List TextEvent)) → with_last n (with_first a lists) ≡ with_first a (with_last n lists)
-first_last a n (xs ∷ []) = ap (λ (x : List TextEvent). x ∷ []) (append_assoc a xs n)
-first_last a n _ = refl
+first_last a n lists = grind (arith, append_assoc)
 
 first_append : (a : List TextEvent) (lists others : List (List TextEvent)) → IsSome lists → with_first a lists ++ others ≡ with_first a (lists ++ others)
-first_append a [] others h = absurd h
-first_append a (xs ∷ lists) others h = refl
+first_append a lists others h = grind arith
 
 some_first : (a : List TextEvent) (lists : List (List TextEvent)) → IsSome lists → IsSome (with_first a lists)
-some_first a [] h = h
-some_first a (xs ∷ lists) h = tt
+some_first a lists h = grind arith
 
 some_last : (n : List TextEvent) (lists : List (List TextEvent)) → IsSome lists → IsSome (with_last n lists)
-some_last n [] h = h
-some_last n (xs ∷ []) h = tt
-some_last n (xs ∷ ys ∷ lists) h = tt
+some_last n lists h = grind arith
 
 -- what is owed comes first
 owed_first : (facts : TextFacts) (progress : Progress) (owes : List TextEvent) (k : Token) (others : List (List TextEvent))
     → lists_by facts progress [] owes k ++ others ≡ with_first owes (lists_by facts progress [] [] k ++ others)
-owed_first facts progress owes k others =
-    let now = cond (is_lone k) [] (token_events_by facts progress k (spelling k)) in
-    let early = early_events_by facts progress.place [] k.kind in
-    let kept = lists_kept facts progress.next k.kind (spelling k) in
-    ap (λ (l : List (List TextEvent)). with_last now l ++ others) (first_again owes early kept)
-    ∙ ap (λ (l : List (List TextEvent)). l ++ others) (first_last owes now (with_first early kept))
-    ∙ first_append owes (with_last now (with_first early kept)) others (some_last now (with_first early kept) (some_first early kept (some_lists facts progress.next k.kind k.first k.more)))
+owed_first facts progress owes k others = grind (arith, first_again, first_last, first_append, some_last, some_first, some_lists)
 
 module _ (read : List ℕ) (s : TextStage) where
   -- what is emitted from some token on
@@ -103,10 +86,7 @@ module _ (read : List ℕ) (s : TextStage) (k : Token) where
 
   -- after the first token, which is ended: what it owes, and what is emitted from the state past it
   after_first : (ks : List Token) (rest : List ℕ) → is_open_kind k.kind ≡ false → lists_from read s (k ∷ []) ks rest ≡ with_first (owed_events_at read s (k ∷ [])) (lists_from [] next_state [] ks rest)
-  after_first [] rest e =
-      rw (e) (
-      ap (λ (x : TextFacts). (owed_events_at read s (k ∷ []) ++ end_events_by x (progress_at read s (k ∷ [])) false (end_by_rest rest)) ∷ no_events_each rest) (facts_on s.facts k [])
-      ∙ ap (λ (x : Progress). (owed_events_at read s (k ∷ []) ++ end_events_by (facts_at [] next_state []) x false (end_by_rest rest)) ∷ no_events_each rest) (progress_on read s k []))
+  after_first [] rest e = grind (arith, facts_on, progress_on)
   after_first (x ∷ ks) rest e =
       append_assoc (lists_past read s (k ∷ []) x) (along (lists_past read s) (x ∷ k ∷ []) ks) _
       ∙ ap (λ (l : List (List TextEvent)). lists_past read s (k ∷ []) x ++ l) (on_more ks x [] rest)
@@ -117,6 +97,4 @@ module _ (read : List ℕ) (s : TextStage) (k : Token) where
   -- the first token, and what is emitted after it
   pub first_token : (ks : List Token) (rest : List ℕ) → is_open_kind k.kind ≡ false
       → lists_from read s [] (k ∷ ks) rest ≡ lists_past read s [] k ++ with_first (owed_events_at read s (k ∷ [])) (lists_from [] next_state [] ks rest)
-  first_token ks rest e =
-      append_assoc (lists_past read s [] k) (along (lists_past read s) (k ∷ []) ks) _
-      ∙ ap (λ (l : List (List TextEvent)). lists_past read s [] k ++ l) (after_first ks rest e)
+  first_token ks rest e = grind (arith, append_assoc, after_first)

@@ -1,19 +1,17 @@
 -- What is emitted of a text by a point is found no later than there.
-use Rattle.std.proofs.Common.{◌≡◌, ℕ, suc, ◌+◌, List, [], ◌∷◌, ◌++◌, Bool, true, false, cond, refl, sym, ap, ◌∙◌, subst, append_assoc, append-nil, length, take, map, arith}
+use Rattle.std.proofs.Common.{◌≡◌, ℕ, suc, ◌+◌, List, [], ◌∷◌, ◌++◌, true, refl, sym, ap, subst, append_assoc, length, take, map, arith}
 use Rattle.gabc_places.specs.StageLaw.{concat_of}
 use Rattle.gabc_places.specs.Place.{next_place, place_past}
 use Rattle.gabc_places.specs.Findings.{IsUpTo, LieBetween}
 use Rattle.gabc_places.specs.declared.place.Place.{Place}
-use Rattle.gabc_places.specs.declared.place.Span.{Span}
 use Rattle.gabc_places.specs.declared.code.Code.{Code}
 use Rattle.gabc_places.specs.declared.code.Finding.{Finding}
 use Rattle.gabc_text.specs.declared.text_event.TextPart.{TextPart}
-use Rattle.gabc_text.specs.declared.text_event.TextPart.TheVariants as part
 use Rattle.gabc_text.specs.declared.text_event.TextEvent.{TextEvent}
 use Rattle.gabc_text.specs.declared.text_event.TextEvent.TheVariants as out
 use Rattle.gabc_text.specs.Token.{Token, spelling, tokens}
-use Rattle.gabc_text.specs.View.{along, effect, is_left_out, is_space, follows_space, place_of, text_of, found_at, findings_at_end, early_codes, late_codes, is_cut, codes_at_end}
-use Rattle.gabc_text.specs.Events.{events_by_point, end_events, lists_at, lists_end, with_first, with_last, no_events_each, kept_each, kept_lists_by, owed_events, last_char_events, early_events, token_events, finding_events, is_lone, parts_at, option_list_of, centre_of, end_after}
+use Rattle.gabc_text.specs.View.{along, is_space, place_of, text_of, found_at, findings_at_end, early_codes}
+use Rattle.gabc_text.specs.Events.{events_by_point, end_events, lists_at, lists_end, with_first, with_last, no_events_each, kept_each, kept_lists_by, owed_events, last_char_events, early_events, token_events, finding_events}
 use Rattle.gabc_text.specs.BuiltText.{found_in}
 use Rattle.gabc_text.specs.Printed.{text_of_tokens}
 use Rattle.gabc_places.proofs.PlacesOfAText.{place_append}
@@ -39,10 +37,6 @@ found_more (out.Ended e ∷ xs) ys = found_more xs ys
 no_parts : (ps : List TextPart) → found_in (map (λ (p : TextPart). out.Part p) ps) ≡ []
 no_parts [] = refl
 no_parts (p ∷ ps) = no_parts ps
-
-all_found : (fs : List Finding) → found_in (map out.Found fs) ≡ fs
-all_found [] = refl
-all_found (f ∷ fs) = ap (λ (x : List Finding). f ∷ x) (all_found fs)
 
 -- ---- lists by the characters of a text
 
@@ -78,9 +72,7 @@ module _ (at : Place) where
   walk_append p (c ∷ s) t (xs ∷ ls) ms e h g = (h.0, walk_append (next_place p c) s t ls ms (omega arith) h.1 g)
 
   walk_first : (p : Place) (s : List ℕ) (xs : List TextEvent) (ls : List (List TextEvent)) → LieBetween at p (found_in xs) → Walk p s ls → Walk p s (with_first xs ls)
-  walk_first p s xs [] h g = tt
-  walk_first p [] xs (ys ∷ ls) h g = (both p xs ys h g.0, g.1)
-  walk_first p (c ∷ s) xs (ys ∷ ls) h g = (both p xs ys h g.0, g.1)
+  walk_first p s xs ls h g = grind (arith, both)
 
   walk_last : (p : Place) (s : List ℕ) (xs : List TextEvent) (ls : List (List TextEvent)) → LieBetween at p (found_in xs) → Walk p s ls → Walk p s (with_last xs ls)
   walk_last p s xs [] h g = tt
@@ -96,19 +88,12 @@ module _ (at : Place) where
   walk_kept p q (c ∷ s) (d ∷ t) = (tt, walk_kept (next_place p c) (next_place q d) s t)
 
   walk_base : (before : List Token) (k : Token) → Walk (place_of at before) (spelling k) (kept_lists_by at before k.kind (spelling k))
-  walk_base before k = by (is_left_out before k.kind) (is_space k.kind) (follows_space before)
-    where
-      by : (a b f : Bool) → Walk (place_of at before) (spelling k) (cond a (no_events_each (spelling k)) (cond b (cond f [] (out.Kept (record { c = 32; place = place_of at before }) ∷ []) ∷ []) (kept_each (place_of at before) (spelling k))))
-      by true b f = walk_nothing (place_of at before) (spelling k) (spelling k)
-      by false true true = (tt, tt)
-      by false true false = (tt, tt)
-      by false false f = walk_kept (place_of at before) (place_of at before) (spelling k) (spelling k)
+  walk_base before k = grind (arith, walk_nothing, walk_kept)
 
   -- ---- how many lists a token has
 
   many_first : (xs : List TextEvent) (ls : List (List TextEvent)) → length (with_first xs ls) ≡ length ls
-  many_first xs [] = refl
-  many_first xs (ys ∷ ls) = refl
+  many_first xs ls = grind arith
 
   many_last : (xs : List TextEvent) (ls : List (List TextEvent)) → length (with_last xs ls) ≡ length ls
   many_last xs (ys ∷ zs ∷ ls) = ap suc (many_last xs (zs ∷ ls))
@@ -123,19 +108,10 @@ module _ (at : Place) where
   many_kept p (c ∷ s) = ap suc (many_kept (next_place p c) s)
 
   many_base : (before : List Token) (k : Token) → (is_space k.kind ≡ true → k.more ≡ []) → length (kept_lists_by at before k.kind (spelling k)) ≡ length (spelling k)
-  many_base before k h = by (is_left_out before k.kind) (is_space k.kind) refl
-    where
-      by : (a b : Bool) → is_space k.kind ≡ b
-          → length (cond a (no_events_each (spelling k)) (cond b (cond (follows_space before) [] (out.Kept (record { c = 32; place = place_of at before }) ∷ []) ∷ []) (kept_each (place_of at before) (spelling k)))) ≡ length (spelling k)
-      by true b e = many_nothing (spelling k)
-      by false true e = ap (λ (s : List ℕ). length (k.first ∷ s)) (sym (h e))
-      by false false e = many_kept (place_of at before) (spelling k)
+  many_base before k h = grind (arith, many_nothing, many_kept)
 
   pub many_lists : (before : List Token) (k : Token) (u : List ℕ) → Goes k u → length (lists_at at before k) ≡ length (spelling k)
-  many_lists before k u g =
-      many_last (last_char_events at before k) (with_first (owed_events at before ++ early_events at before k.kind) (kept_lists_by at before k.kind (spelling k)))
-      ∙ many_first (owed_events at before ++ early_events at before k.kind) (kept_lists_by at before k.kind (spelling k))
-      ∙ many_base before k g.blank
+  many_lists before k u g = grind (arith, many_last, many_first, many_base)
 
   -- ---- what a token emits
 
@@ -147,24 +123,13 @@ module _ (at : Place) where
   lie_codes before (c ∷ cs) = ((from_here before, up_to_self (place_of at before)), lie_codes before cs)
 
   lie_whole : (before : List Token) (k : Token) → LieBetween at (place_of at before) (found_in (token_events at before k))
-  lie_whole before k =
-      both (place_of at before) (map (λ (p : TextPart). out.Part p) (parts_at before k)) (finding_events at before (late_codes before k.kind (effect k)))
-      (rw (no_parts (parts_at before k)) tt) (lie_codes before (late_codes before k.kind (effect k)))
+  lie_whole before k = grind (arith, both, no_parts, lie_codes)
 
   lie_now : (before : List Token) (k : Token) → LieBetween at (place_of at before) (found_in (last_char_events at before k))
-  lie_now before k = by (is_lone k)
-    where
-      by : (b : Bool) → LieBetween at (place_of at before) (found_in (cond b [] (token_events at before k)))
-      by true = tt
-      by false = lie_whole before k
+  lie_now before k = grind (arith, lie_whole)
 
   lie_owed : (before : List Token) → LieBetween at (place_of at before) (found_in (owed_events at before))
-  lie_owed [] = tt
-  lie_owed (k ∷ before) = by (is_lone k)
-    where
-      by : (b : Bool) → LieBetween at (place_of at (k ∷ before)) (found_in (cond b (token_events at before k) []))
-      by true = lie_wider at (place_of at before) (place_of at (k ∷ before)) (found_in (token_events at before k)) (up_token at before k) (lie_whole before k)
-      by false = tt
+  lie_owed before = grind (arith, lie_wider, up_token, lie_whole)
 
   walk_token : (before : List Token) (k : Token) → Walk (place_of at before) (spelling k) (lists_at at before k)
   walk_token before k =
@@ -181,27 +146,13 @@ module _ (at : Place) where
   lie_map before (c ∷ cs) = ((from_here before, up_to_self (place_of at before)), lie_map before cs)
 
   lie_end : (before : List Token) → LieBetween at (place_of at before) (findings_at_end at before)
-  lie_end before = by (is_cut before)
-    where
-      by : (b : Bool) → LieBetween at (place_of at before) (cond b [] (map (found_at (place_of at before)) (codes_at_end before)))
-      by true = tt
-      by false = lie_map before (codes_at_end before)
+  lie_end before = grind (arith, lie_map)
 
   pub end_found : (before : List Token) (rest : List ℕ) → found_in (end_events at before rest) ≡ findings_at_end at before
-  end_found before rest =
-      let centre = map (λ (s : Span). out.Part (part.Centre s)) (option_list_of (centre_of before)) in
-      found_more (map out.Found (findings_at_end at before)) (centre ++ out.Ended (end_after at before rest) ∷ [])
-      ∙ ap (λ (x : List Finding). x ++ found_in (centre ++ out.Ended (end_after at before rest) ∷ [])) (all_found (findings_at_end at before))
-      ∙ ap (λ (x : List Finding). findings_at_end at before ++ x) (found_more centre (out.Ended (end_after at before rest) ∷ []) ∙ ap (λ (x : List Finding). x ++ []) (centres (option_list_of (centre_of before))))
-      ∙ append-nil (findings_at_end at before)
-    where
-      centres : (ss : List Span) → found_in (map (λ (s : Span). out.Part (part.Centre s)) ss) ≡ []
-      centres [] = refl
-      centres (s ∷ ss) = centres ss
+  end_found before rest = grind arith
 
   walk_end : (p : Place) (xs : List TextEvent) (t : List ℕ) → LieBetween at p (found_in xs) → Walk p t (xs ∷ no_events_each t)
-  walk_end p xs [] h = (h, tt)
-  walk_end p xs (c ∷ t) h = (h, walk_nothing (next_place p c) t (c ∷ t))
+  walk_end p xs t h = grind (arith, walk_nothing)
 
   walk_along : (ks before : List Token) (rest : List ℕ) → AllGo ks rest → Walk (place_of at before) (text_of_tokens ks ++ rest) (along (lists_at at) before ks ++ lists_end at (onto ks before) rest)
   walk_along [] before rest g =

@@ -1,22 +1,19 @@
 -- All that is found of a text is its findings, and their codes are low.
-use Rattle.std.proofs.Common.{◌≡◌, ℕ, ◌<◌, ◌&&◌, ◌||◌, not, refl, List, [], ◌∷◌, ◌++◌, Bool, true, false, cond, sym, ap, ◌∙◌, append_assoc, append-nil, map, reverse, arith}
-use Rattle.std.specs.List.{All, list_any}
+use Rattle.std.proofs.Common.{◌≡◌, ℕ, ◌<◌, ◌||◌, refl, List, [], ◌∷◌, ◌++◌, Bool, false, sym, ap, ◌∙◌, append_assoc, append-nil, map, reverse, arith}
+use Rattle.std.specs.List.{All}
 use Rattle.std.proofs.lemmas.List.Elements.{All-nil, All-cons}
 use Rattle.gabc_places.specs.StageLaw.{concat_of}
 use Rattle.gabc_places.specs.Code.{rank_of, severity_of}
 use Rattle.gabc_places.specs.declared.severity.Severity.TheVariants.{Warning}
 use Rattle.gabc_places.specs.declared.place.Place.{Place}
 use Rattle.gabc_places.specs.declared.code.Code.{Code}
-use Rattle.gabc_places.specs.declared.code.Code.TheVariants.{W3, W4}
 use Rattle.gabc_places.specs.declared.code.Finding.{Finding}
 use Rattle.gabc_text.specs.declared.token.TokenKind.{TokenKind}
-use Rattle.gabc_text.specs.declared.token.TokenKind.TheVariants as kind
 use Rattle.gabc_text.specs.declared.token.TagEffect.{TagEffect}
-use Rattle.gabc_text.specs.declared.token.TagEffect.TheVariants.{Opens, Closes, Other}
 use Rattle.gabc_text.specs.declared.text_event.TextEvent.{TextEvent}
 use Rattle.gabc_text.specs.declared.text_event.TextEvent.TheVariants as out
 use Rattle.gabc_text.specs.Token.{Token, tokens}
-use Rattle.gabc_text.specs.View.{along, effect, is_open, all_styles, has_begin, has_end, has_translation, is_cut, early_codes, late_codes, found_at, findings_at, findings_at_end, findings, place_of}
+use Rattle.gabc_text.specs.View.{along, early_codes, late_codes, found_at, findings_at, findings_at_end, findings}
 use Rattle.gabc_text.specs.ViewFacts.{is_error, has_error}
 use Rattle.gabc_text.specs.Events.{events_of, events_by_point}
 use Rattle.gabc_text.specs.BuiltText.{BuiltText, with_event, with_events, empty_text, found_in}
@@ -47,28 +44,11 @@ low_append : (cs ds : List Code) → AreLow cs → AreLow ds → AreLow (cs ++ d
 low_append [] ds h g = g
 low_append (c ∷ cs) ds h g = (h.0, low_append cs ds h.1 g)
 
-either : (b : Bool) (c : Code) → IsLow c → AreLow (cond b (c ∷ []) [])
-either true c h = (h, tt)
-either false c h = tt
-
-neither : (b : Bool) (c : Code) → IsLow c → AreLow (cond b [] (c ∷ []))
-neither true c h = tt
-neither false c h = (h, tt)
-
 early_low : (before : List Token) (d : TokenKind) → AreLow (early_codes before d)
-early_low before kind.Translation = either (has_translation before) _ (omega arith, λ e. refl)
-early_low before kind.OpenTranslation = either (has_translation before) _ (omega arith, λ e. refl)
-early_low before _ = tt
+early_low before d = grind arith
 
 late_low : (before : List Token) (d : TokenKind) (s : TagEffect) → AreLow (late_codes before d s)
-late_low before kind.Stray s = ((omega arith, λ e. absurd (cc)), tt)
-late_low before kind.Begin s = either (has_begin before) _ (omega arith, λ e. refl)
-late_low before kind.End s = neither (has_begin before && not (has_end before)) _ (omega arith, λ e. refl)
-late_low before kind.Tag (Opens r) = either (is_open r before) _ (omega arith, λ e. refl)
-late_low before kind.Tag (Closes r) = neither (is_open r before) _ (omega arith, λ e. refl)
-late_low before kind.Tag Other = ((omega arith, λ e. refl), tt)
-late_low before kind.Tag _ = tt
-late_low before _ s = tt
+late_low before d s = grind arith
 
 -- ---- findings
 
@@ -93,24 +73,15 @@ each_warns [] h e = All-nil (λ (f : Finding). severity_of f.code ≡ Warning)
 each_warns (f ∷ fs) h e = by (is_error f.code) refl e (λ k. each_warns fs h.1 k)
   where
     by : (b : Bool) → is_error f.code ≡ b → (b || has_error fs) ≡ false → (has_error fs ≡ false → All (λ (g : Finding). severity_of g.code ≡ Warning) fs) → All (λ (g : Finding). severity_of g.code ≡ Warning) (f ∷ fs)
-    by true g k rest = absurd (cc)
-    by false g k rest = All-cons (λ (g : Finding). severity_of g.code ≡ Warning) f fs (h.0.1 g) (rest k)
+    by b g k rest = grind arith
 
 module _ (at : Place) where
   along_low : (ks before : List Token) → AllLow (along (findings_at at) before ks)
   along_low [] before = tt
-  along_low (k ∷ ks) before =
-      more_low (findings_at at before k) (along (findings_at at) (k ∷ before) ks)
-      (found_low (place_of at before) (early_codes before k.kind ++ late_codes before k.kind (effect k))
-      (low_append (early_codes before k.kind) (late_codes before k.kind (effect k)) (early_low before k.kind) (late_low before k.kind (effect k))))
-      (along_low ks (k ∷ before))
+  along_low (k ∷ ks) before = grind (arith, more_low, found_low, low_append, early_low, late_low, along_low ks (k ∷ before))
 
   end_low : (before : List Token) → AllLow (findings_at_end at before)
-  end_low before = by (is_cut before) (list_any (λ s. is_open s before) all_styles) (has_begin before && not (has_end before))
-    where
-      by : (x y z : Bool) → AllLow (cond x [] (map (found_at (place_of at before)) (cond y (W3 ∷ []) [] ++ cond z (W4 ∷ []) [])))
-      by true y z = tt
-      by false y z = found_low (place_of at before) (cond y (W3 ∷ []) [] ++ cond z (W4 ∷ []) []) (low_append (cond y (W3 ∷ []) []) (cond z (W4 ∷ []) []) (either y W3 (omega arith, λ e. refl)) (either z W4 (omega arith, λ e. refl)))
+  end_low before = grind arith
 
   all_low : (t : List ℕ) → AllLow (findings at t)
   all_low t = more_low (along (findings_at at) [] (tokens t)) (findings_at_end at (reverse (tokens t))) (along_low (tokens t) []) (end_low (reverse (tokens t)))

@@ -1,17 +1,14 @@
 -- Blanks in front of a regular text begin a word, with comments among them or without, and all else is as without them.
-use Rattle.std.proofs.Common.{◌≡◌, ◌≢◌, ◌⊎◌, inl, inr, ℕ, ◌==◌, List, [], ◌∷◌, ◌++◌, Bool, true, false, not, ◌&&◌, cond, if◌then◌else◌, Option, Some, None, is_some, subst, refl, sym, ap, ap₂, ◌∙◌, append-nil, append_assoc, map, reverse, length, drop, encode_utf8_all}
+use Rattle.std.proofs.Common.{arith, ◌≡◌, ◌≢◌, ◌⊎◌, inl, inr, ℕ, ◌==◌, List, [], ◌∷◌, ◌++◌, Bool, true, false, not, ◌&&◌, if◌then◌else◌, Option, Some, None, is_some, refl, sym, ap, ap₂, ◌∙◌, append-nil, append_assoc, map, reverse, length, drop, encode_utf8_all}
 use Rattle.std.proofs.lemmas.Bool.{true≢false, eqb-true, and_parts}
 use Rattle.std.proofs.Math.Seq.{drop-append_seam}
 use Rattle.gabc_places.specs.declared.place.Place.{Place}
 use Rattle.gabc_places.specs.declared.code.Code.{Code}
 use Rattle.gabc_places.specs.declared.code.Finding.{Finding}
-use Rattle.gabc_text.specs.declared.styles.Style.TheVariants.{B, C, E, I, Sc, Tt, Ul}
 use Rattle.gabc_text.specs.declared.token.TokenKind.{TokenKind}
-use Rattle.gabc_text.specs.declared.token.TokenKind.TheVariants as kind
 use Rattle.gabc_text.specs.declared.token.TagEffect.{TagEffect}
-use Rattle.gabc_text.specs.declared.token.TagEffect.TheVariants.{Opens, Closes}
 use Rattle.gabc_text.specs.Token.{Token, tokens, is_blank}
-use Rattle.gabc_text.specs.View.{along, effect, findings, findings_at, findings_at_end, codes_at_end, early_codes, late_codes, found_at, place_of, is_cut, kept, kept_at, has_begin, has_end, follows_space}
+use Rattle.gabc_text.specs.View.{along, effect, findings, findings_at, findings_at_end, early_codes, late_codes, found_at, place_of, is_cut, kept, kept_at, has_begin, has_end, follows_space}
 use Rattle.gabc_text.specs.Events.{after_tokens}
 use Rattle.gabc_text.specs.ViewFacts.{ViewFacts, view_facts, view_facts_by, StandsForView}
 use Rattle.gabc_text.specs.TextRead.{view_in}
@@ -102,15 +99,11 @@ gap_after (Some u) [] l h = absurd (cc h)
 gap_after None (c ∷ g) l h = by (is_blank c) refl h (λ k. gap_after None g tt k) (λ k. gap_after (Some []) g refl k)
   where
     by : (b : Bool) → is_blank c ≡ b → (if b then is_gap_after false g else ((37 == c) && is_gap_after true g)) ≡ true → (is_gap_after false g ≡ true → Gap g) → (is_gap_after true g ≡ true → Gap (37 ∷ g)) → Gap (c ∷ g)
-    by true e h blank comment = blank_before c g e (blank h)
-    by false e h blank comment =
-        let f = and_parts (37 == c) (is_gap_after true g) h in
-        subst (λ (x : ℕ). Gap (x ∷ g)) (eqb-true 37 c f.0) (comment f.1)
+    by b e h blank comment = grind (arith, blank_before, and_parts, eqb-true)
 gap_after (Some u) (c ∷ g) l h = by (10 == c) refl h (λ k. gap_after None g tt k) (λ e k. gap_after (Some (u ++ c ∷ [])) g (lacks_more 10 u c l e) k)
   where
     by : (b : Bool) → (10 == c) ≡ b → is_gap_after (not b) g ≡ true → (is_gap_after false g ≡ true → Gap g) → ((10 == c) ≡ false → is_gap_after true g ≡ true → Gap (37 ∷ (u ++ c ∷ []) ++ g)) → Gap (37 ∷ u ++ c ∷ g)
-    by true e h ended more = subst (λ (x : ℕ). Gap (37 ∷ u ++ x ∷ g)) (eqb-true 10 c e) (remark_before u g l (ended h))
-    by false e h ended more = subst (λ (x : List ℕ). Gap (37 ∷ x)) (append_assoc u (c ∷ []) g) (more e h)
+    by b e h ended more = grind (arith, eqb-true, remark_before, append_assoc)
 
 gap_of : (g : List ℕ) → is_gap g ≡ true → Gap g
 gap_of g h = gap_after None g tt h
@@ -126,11 +119,7 @@ some b g e = cc e
 front_says : (ps : List GapToken) (ks : List Token) → view_facts_by (front ps ++ ks) ≡ (if has_blank ps then record (view_facts_by ks) { word_start = true } else view_facts_by ks)
 front_says [] ks = refl
 front_says (inr u ∷ ps) ks = remark_says_nothing u (front ps ++ ks) ∙ front_says ps ks
-front_says (inl b ∷ ps) ks = gap_begins_word b (front ps ++ ks) ∙ ap (λ (v : ViewFacts). record v { word_start = true }) (front_says ps ks) ∙ by (has_blank ps)
-  where
-    by : (w : Bool) → record (if w then record (view_facts_by ks) { word_start = true } else view_facts_by ks) { word_start = true } ≡ record (view_facts_by ks) { word_start = true }
-    by true = refl
-    by false = refl
+front_says (inl b ∷ ps) ks = grind (arith, gap_begins_word, front_says ps ks)
 
 pub says_after : (b : ℕ) (g t rest : List ℕ) → is_gap (b ∷ g) ≡ true → IsRegularText t → view_facts (b ∷ g ++ (t ++ 40 ∷ rest)) ≡ record (view_facts t) { word_start = true }
 says_after b g t rest h r =
@@ -151,14 +140,7 @@ ends_after_it g t rest h r =
 -- ---- what is found
 
 codes_alike : (b c : List Token) (d : TokenKind) (so : TagEffect) → Alike b c → early_codes b d ++ late_codes b d so ≡ early_codes c d ++ late_codes c d so
-codes_alike b c kind.Translation so h = rw (h.translated) refl
-codes_alike b c kind.OpenTranslation so h = rw (h.translated) refl
-codes_alike b c kind.Begin so h = rw (h.begun) refl
-codes_alike b c kind.End so h = rw (h.begun, h.ended) refl
-codes_alike b c kind.Tag (Opens s) h = rw (h.styles s) refl
-codes_alike b c kind.Tag (Closes s) h = rw (h.styles s) refl
-codes_alike b c kind.Tag _ h = refl
-codes_alike b c _ so h = refl
+codes_alike b c d so h = grind arith
 
 no_codes : (p : Place) (cs : List Code) → map (found_at p) cs ≡ [] → cs ≡ []
 no_codes p [] e = refl
@@ -177,15 +159,7 @@ cut_alike [] b c e = e
 cut_alike (k ∷ ks) b c e = cut_alike ks (k ∷ b) (k ∷ c) refl
 
 end_moved : (at to : Place) (b c : List Token) → Alike b c → is_cut b ≡ is_cut c → findings_at_end at c ≡ [] → findings_at_end to b ≡ []
-end_moved at to b c h e f = by (is_cut b) (is_cut c) e f
-  where
-    codes : codes_at_end b ≡ codes_at_end c
-    codes = rw (h.styles B, h.styles C, h.styles E, h.styles I, h.styles Sc, h.styles Tt, h.styles Ul, h.begun, h.ended) refl
-
-    by : (x y : Bool) → x ≡ y → cond y [] (map (found_at (place_of at c)) (codes_at_end c)) ≡ [] → cond x [] (map (found_at (place_of to b)) (codes_at_end b)) ≡ []
-    by true y e f = refl
-    by false true e f = absurd (cc)
-    by false false e f = ap (map (found_at (place_of to b))) (codes ∙ no_codes (place_of at c) (codes_at_end c) f)
+end_moved at to b c h e f = grind arith
 
 front_alike : (ps : List GapToken) (before : List Token) → Alike before [] → Alike (onto (front ps) before) []
 front_alike [] before h = h
@@ -222,9 +196,7 @@ nothing_after at g t rest h r =
 
 kept_alike : (b c ks : List Token) → has_begin b ≡ has_begin c → has_end b ≡ has_end c → follows_space b ≡ follows_space c → along kept_at b ks ≡ along kept_at c ks
 kept_alike b c [] e f g = refl
-kept_alike b c (k ∷ ks) e f g =
-    ap₂ (λ (x y : List ℕ). x ++ y) (rw (e, f, g) refl)
-    (kept_alike (k ∷ b) (k ∷ c) ks (rw e refl) (rw (e, f) refl) (rw (e, f, g) refl))
+kept_alike b c (k ∷ ks) e f g = cc (kept_alike (k ∷ b) (k ∷ c) ks (rw e refl) (rw (e, f) refl) (rw (e, f, g) refl))
 
 more_blanks : (ps : List GapToken) (before : List Token) → follows_space before ≡ true → along kept_at before (front ps) ≡ []
 more_blanks [] before h = refl
@@ -277,10 +249,7 @@ kept_after b g t rest h r =
 -- ---- what is printed
 
 printed_so : (v : ViewFacts) → v.word_start ≡ false → print (record v { word_start = true }) ≡ 10 ∷ print v
-printed_so v e = by v.word_start e
-  where
-    by : (b : Bool) → b ≡ false → 10 ∷ text_of_tokens (text_tokens v ++ translation_tokens v.translation) ≡ 10 ∷ text_of_tokens (word_break b ++ text_tokens v ++ translation_tokens v.translation)
-    by b e = rw e refl
+printed_so v e = cc
 
 pub printed_after : (whole : List ℕ) (b : ℕ) (g t rest : List ℕ) → is_gap (b ∷ g) ≡ true → IsRegularText t → StandsForView whole (view_in (b ∷ g ++ (t ++ 40 ∷ rest))) (b ∷ g ++ (t ++ 40 ∷ rest))
     → printed_view (view_in (b ∷ g ++ (t ++ 40 ∷ rest))) (encode_utf8_all whole) ≡ encode_utf8_all (10 ∷ t)

@@ -1,12 +1,11 @@
 -- The canonical text of a text's view is the printed form of what the text says.
-use Rattle.std.proofs.Common.{◌≡◌, ℕ, suc, ◌+◌, ◌==◌, ◌||◌, List, [], ◌∷◌, ◌++◌, Bool, true, false, cond, refl, sym, ap, ◌∙◌, append_assoc, map, reverse, length, Option, Some, None, codes, nat_lt, arith}
+use Rattle.std.proofs.Common.{◌≡◌, ℕ, suc, ◌+◌, ◌||◌, List, [], ◌∷◌, ◌++◌, Bool, true, false, cond, refl, sym, ap, ◌∙◌, append_assoc, map, reverse, length, Option, Some, codes, nat_lt, arith}
 use Rattle.std.specs.List.{flat_map}
 use Rattle.std.proofs.lemmas.Str.{encodes-append}
 use Rattle.std.proofs.lemmas.Bool.{lt-ltb}
 use lib.Utf8.{encode, encodes}
 use Rattle.gabc_places.specs.declared.place.Span.{Span}
 use Rattle.gabc_text.specs.declared.styles.Style.{Style}
-use Rattle.gabc_text.specs.declared.styles.Style.TheVariants.{B}
 use Rattle.gabc_text.specs.declared.view.PieceKind.{PieceKind}
 use Rattle.gabc_text.specs.declared.view.PieceKind.TheVariants as piece
 use Rattle.gabc_text.specs.declared.view.Piece.{Piece}
@@ -15,9 +14,9 @@ use Rattle.gabc_text.specs.declared.token.TokenKind.TheVariants as kind
 use Rattle.gabc_text.specs.Token.{Token, spelling, tokens, is_special}
 use Rattle.gabc_text.specs.View.{PieceFacts, kept, text_of_piece, is_word_kind, is_blank_piece, centre_by, begin_of, end_of}
 use Rattle.gabc_text.specs.TextRead.{view_in, pieces_in}
-use Rattle.gabc_text.specs.Canonical.{after_common, style_opening, style_closing, braces, boundary, span_bytes, with_dollar, piece_text, piece_text_by, text_from, canonical_text}
+use Rattle.gabc_text.specs.Canonical.{style_opening, style_closing, braces, boundary, span_bytes, with_dollar, piece_text, piece_text_by, text_from, canonical_text}
 use Rattle.gabc_text.specs.ViewFacts.{piece_facts_in, view_facts, StandsForView, IsPieceOf, ArePiecesOf, kept_of_piece}
-use Rattle.gabc_text.specs.Printed.{opening_tag, closing_tag, begin_brace, end_brace, brace_tokens, tokens_between, letter, spelled_as, printed_piece, print_from, text_tokens, text_of_tokens}
+use Rattle.gabc_text.specs.Printed.{opening_tag, closing_tag, brace_tokens, tokens_between, letter, spelled_as, printed_piece, print_from, text_tokens, text_of_tokens}
 use Rattle.gabc_text.proofs.tokens.CasesOfCharacters.{special_is_low}
 use Rattle.gabc_text.proofs.printing.PiecesPrintWell.{pieces_good}
 use Rattle.gabc_text.proofs.spans.SpansStandForView.{pieces_facts}
@@ -32,13 +31,11 @@ bytes_append ks ls = ap encodes (written_append ks ls) ∙ encodes-append (text_
 
 opening_bytes : (s : Style) → style_opening s ≡ encodes (spelling (opening_tag s))
 unfolding encode
-opening_bytes B = refl
-opening_bytes _ = refl
+opening_bytes s = grind arith
 
 closing_bytes : (s : Style) → style_closing s ≡ encodes (spelling (closing_tag s))
 unfolding encode
-closing_bytes B = refl
-closing_bytes _ = refl
+closing_bytes s = grind arith
 
 tags_bytes : (f : Style → List ℕ) (g : Style → Token) → ((s : Style) → f s ≡ encodes (spelling (g s))) → (ss : List Style) → flat_map f ss ≡ encodes (text_of_tokens (map g ss))
 tags_bytes f g h [] = refl
@@ -48,37 +45,21 @@ tags_bytes f g h (s ∷ ss) =
 
 brace_bytes : (centre : Option Span) (i : ℕ) → braces centre i ≡ encodes (text_of_tokens (brace_tokens centre i))
 unfolding encode
-brace_bytes None i = refl
-brace_bytes (Some c) i = by (c.from == i) (c.to == i)
-  where
-    by : (a b : Bool) → cond a (cond b (codes "{}") (codes "{")) (cond b (codes "}") []) ≡ encodes (text_of_tokens (cond a (cond b (begin_brace ∷ end_brace ∷ []) (begin_brace ∷ [])) (cond b (end_brace ∷ []) [])))
-    by a b = grind arith
+brace_bytes centre i = grind arith
 
 boundary_bytes : (old new : List Style) (m : List ℕ) (ms : List Token) → m ≡ encodes (text_of_tokens ms) → boundary old new m ≡ encodes (text_of_tokens (tokens_between old new ms))
-boundary_bytes old new m ms e =
-    let left = after_common old new in
-    ap (λ (x : List ℕ). x ++ (m ++ flat_map style_opening (after_common old new).1)) (tags_bytes style_closing closing_tag closing_bytes (reverse (after_common old new).0))
-    ∙ ap (λ (x : List ℕ). encodes (text_of_tokens (map closing_tag (reverse (after_common old new).0))) ++ (x ++ flat_map style_opening (after_common old new).1)) e
-    ∙ ap (λ (x : List ℕ). encodes (text_of_tokens (map closing_tag (reverse (after_common old new).0))) ++ (encodes (text_of_tokens ms) ++ x)) (tags_bytes style_opening opening_tag opening_bytes (after_common old new).1)
-    ∙ sym (append_assoc (encodes (text_of_tokens (map closing_tag (reverse (after_common old new).0)))) (encodes (text_of_tokens ms)) (encodes (text_of_tokens (map opening_tag (after_common old new).1))))
-    ∙ ap (λ (x : List ℕ). x ++ encodes (text_of_tokens (map opening_tag (after_common old new).1))) (sym (bytes_append (map closing_tag (reverse (after_common old new).0)) ms))
-    ∙ sym (bytes_append (map closing_tag (reverse (after_common old new).0) ++ ms) (map opening_tag (after_common old new).1))
+boundary_bytes old new m ms e = grind (arith, flat_map, tags_bytes, closing_bytes, opening_bytes, append_assoc, bytes_append)
 
 -- ---- a piece
 
 escaped_by : (c : ℕ) (x y z s : Bool) (a1 a2 b1 b2 b3 d1 d2 d3 d4 : ℕ) → is_special c ≡ s → (s ≡ true → x ≡ true)
     → with_dollar (cond x (c ∷ []) (cond y (a1 ∷ a2 ∷ []) (cond z (b1 ∷ b2 ∷ b3 ∷ []) (d1 ∷ d2 ∷ d3 ∷ d4 ∷ []))) ++ [])
     ≡ cond s (36 ∷ []) [] ++ (cond x (c ∷ []) (cond y (a1 ∷ a2 ∷ []) (cond z (b1 ∷ b2 ∷ b3 ∷ []) (d1 ∷ d2 ∷ d3 ∷ d4 ∷ []))) ++ [])
-escaped_by c true y z s a1 a2 b1 b2 b3 d1 d2 d3 d4 e f = rw e refl
-escaped_by c false y z true a1 a2 b1 b2 b3 d1 d2 d3 d4 e f = absurd (let g = f refl in cc)
-escaped_by c false true z false a1 a2 b1 b2 b3 d1 d2 d3 d4 e f = refl
-escaped_by c false false true false a1 a2 b1 b2 b3 d1 d2 d3 d4 e f = refl
-escaped_by c false false false false a1 a2 b1 b2 b3 d1 d2 d3 d4 e f = refl
+escaped_by c x y z s a1 a2 b1 b2 b3 d1 d2 d3 d4 e f = grind arith
 
 letter_bytes : (c : ℕ) (s : Bool) → cond s (36 ∷ []) [] ++ (encode c ++ []) ≡ encodes (spelling (cond s (record { kind = kind.Letter; first = 36; more = c ∷ [] }) (record { kind = kind.Letter; first = c; more = [] })))
 unfolding encode
-letter_bytes c true = refl
-letter_bytes c false = refl
+letter_bytes c s = grind arith
 
 escaped_bytes : (c : ℕ) → with_dollar (encodes (c ∷ [])) ≡ encodes (spelling (letter (c ∷ [])))
 unfolding encode
@@ -102,17 +83,13 @@ piece_bytes K p q w b h g =
         only f = rw f (escaped_bytes c)
 
         by : (x : Bool) → text_of_piece piece.Char (cond x (record { kind = kind.Letter; first = 36; more = c ∷ [] }) (record { kind = kind.Letter; first = c; more = [] })) ≡ c ∷ s → with_dollar (encodes (c ∷ s)) ≡ encodes (spelling (letter (c ∷ s)))
-        by true f = only (let z : s ≡ [] = cc in z)
-        by false f = only (let z : s ≡ [] = cc in z)
+        by x f = grind (arith, only)
 
     spelled : (k : TokenKind) (t : List ℕ) → spelling (spelled_as k t) ≡ t → encodes t ≡ encodes (spelling (spelled_as k t))
     spelled k t e = ap encodes (sym e)
 
     by : (k : PieceKind) (t : List ℕ) → Says k t w b → piece_text_by k (encodes (cond (is_blank_piece k) (codes " ") t)) ≡ encodes (spelling (printed_piece k t))
-    by piece.Char t s = char t s.1
-    by piece.Blank t s = blank_bytes
-    by piece.Raw t s = spelled kind.Raw t s.1
-    by _ t s = spelled kind.Tag t s.1
+    by k t s = grind (arith, char, blank_bytes, spelled)
 
 -- ---- the text
 

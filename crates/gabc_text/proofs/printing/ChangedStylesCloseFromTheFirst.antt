@@ -1,5 +1,5 @@
 -- The styles that do not stay open between two neighbours are those from the first one on in which they differ.
-use Rattle.std.proofs.Common.{◌≡◌, ℕ, ◌&&◌, not, [], ◌∷◌, Bool, true, false, cond, refl, ap, ◌∙◌, append-nil, List, ◌++◌, reverse}
+use Rattle.std.proofs.Common.{arith, ◌≡◌, ℕ, ◌&&◌, not, [], ◌∷◌, Bool, true, false, cond, refl, ap, ◌∙◌, append-nil, List, ◌++◌, reverse}
 use Rattle.std.proofs.lemmas.Bool.{and_parts, not-true}
 use Rattle.std.proofs.Math.Bool.{beq, and-true}
 use Rattle.std.specs.List.{filter, flat_map}
@@ -32,8 +32,7 @@ all_gone f g h (s ∷ ss) = rw (all_gone f g h ss, and-true (h s)) refl
 
 -- a style that the other list lacks
 after_one : (s : Style) (old new : List Style) → lacking s new ≡ true → after_common (s ∷ old) new ≡ (s ∷ old, new)
-after_one s old [] h = refl
-after_one s old (r ∷ new) h = rw (not-true (is_same s r) (and_parts _ (lacking s new) h).0) refl
+after_one s old new h = grind arith
 
 after_other : (s : Style) (old new : List Style) → lacking s old ≡ true → after_common old (s ∷ new) ≡ (old, s ∷ new)
 after_other s [] new h = refl
@@ -46,8 +45,7 @@ lacking_filter s f (r ∷ ss) h =
     by (f r) both.0 (lacking_filter s f ss both.1)
   where
     by : (b : Bool) → not (is_same s r) ≡ true → lacking s (filter f ss) ≡ true → lacking s (cond b (r ∷ filter f ss) (filter f ss)) ≡ true
-    by true n ih = rw (n, ih) refl
-    by false n ih = ih
+    by b n ih = grind arith
 
 after_by : (f g : Style → Bool) (ss : List Style) → distinct ss ≡ true → after_common (filter f ss) (filter g ss) ≡ (gone f g f false ss, gone f g g false ss)
 after_by f g [] h = refl
@@ -58,10 +56,7 @@ after_by f g (s ∷ ss) h =
     by : (a b : Bool) → lacking s ss ≡ true → after_common (filter f ss) (filter g ss) ≡ (gone f g f false ss, gone f g g false ss)
         → after_common (cond a (s ∷ filter f ss) (filter f ss)) (cond b (s ∷ filter g ss) (filter g ss))
         ≡ (cond (a && differs false a b) (s ∷ gone f g f (differs false a b) ss) (gone f g f (differs false a b) ss), cond (b && differs false a b) (s ∷ gone f g g (differs false a b) ss) (gone f g g (differs false a b) ss))
-    by true true l ih = rw (itself s) ih
-    by false false l ih = ih
-    by true false l ih = rw (all_gone f g f ss, all_gone f g g ss) (after_one s (filter f ss) (filter g ss) (lacking_filter s g ss l))
-    by false true l ih = rw (all_gone f g f ss, all_gone f g g ss) (after_other s (filter f ss) (filter g ss) (lacking_filter s f ss l))
+    by a b l ih = grind (arith, itself, all_gone, after_one, lacking_filter, after_other)
 
 -- with the flags that the code keeps
 gone_in : (old new s : Styles) → gone (λ r. has_style old r) (λ r. has_style new r) (λ r. has_style s r) false all_styles ≡ filter (λ r. has_style (common_styles s (changed_styles old new)) r) all_styles
@@ -88,23 +83,8 @@ pub boundary_of_same : (ss : List Style) (middle : List ℕ) → boundary ss ss 
 boundary_of_same ss middle = rw (none_after ss) (append-nil middle)
 
 and_same : (a b c : Bool) → (beq a b && c) ≡ true → (a ≡ b) × (c ≡ true)
-and_same true true c e = (refl, e)
-and_same false false c e = (refl, e)
-and_same true false c e = absurd (cc)
-and_same false true c e = absurd (cc)
+and_same a b c e = grind arith
 
 -- sets of styles that compare as equal are the same
 pub same_styles : (s t : Styles) → (beq s.b t.b && (beq s.c t.c && (beq s.e t.e && (beq s.i t.i && (beq s.sc t.sc && (beq s.tt t.tt && beq s.ul t.ul)))))) ≡ true → s ≡ t
-same_styles s t h =
-    let b = and_same s.b t.b _ h in
-    let c = and_same s.c t.c _ b.1 in
-    let e = and_same s.e t.e _ c.1 in
-    let i = and_same s.i t.i _ e.1 in
-    let sc = and_same s.sc t.sc _ i.1 in
-    let tt = and_same s.tt t.tt _ sc.1 in
-    let ul = and_same s.ul t.ul true (and-true (beq s.ul t.ul) ∙ tt.1) in
-    all s.b s.c s.e s.i s.sc s.tt s.ul t b.0 c.0 e.0 i.0 sc.0 tt.0 ul.0
-  where
-    all : (b c e i sc tt ul : Bool) (t : Styles) → b ≡ t.b → c ≡ t.c → e ≡ t.e → i ≡ t.i → sc ≡ t.sc → tt ≡ t.tt → ul ≡ t.ul
-        → record { b = b; c = c; e = e; i = i; sc = sc; tt = tt; ul = ul } ≡ t
-    all b c e i sc tt ul t f g h j k l m = rw (f, g, h, j, k, l, m) refl
+same_styles s t h = grind (arith, and_same, and-true)

@@ -1,12 +1,11 @@
 -- A text that begins with a blank, as an LF, begins a word, and says nothing else by it.
-use Rattle.std.proofs.Common.{◌≡◌, ℕ, ◌+◌, List, [], ◌∷◌, ◌++◌, Bool, true, false, not, ◌||◌, ◌&&◌, is_some, length, Option, Some, None, refl, ap, ap₂, ◌∙◌, arith}
+use Rattle.std.proofs.Common.{◌≡◌, ℕ, ◌+◌, List, [], ◌∷◌, ◌++◌, Bool, true, not, ◌||◌, ◌&&◌, is_some, length, Option, refl, ap, ap₂, ◌∙◌, arith}
 use Rattle.std.proofs.Math.Bool.{or-true}
 use Rattle.gabc_text.specs.declared.styles.Style.{Style}
-use Rattle.gabc_text.specs.declared.styles.Style.TheVariants.{B, C, E, I, Sc, Tt, Ul}
 use Rattle.gabc_text.specs.declared.view.PieceKind.{PieceKind}
 use Rattle.gabc_text.specs.declared.token.TokenKind.TheVariants as kind
 use Rattle.gabc_text.specs.Token.{Token, tokens, tokens_after}
-use Rattle.gabc_text.specs.View.{along, PieceFacts, effect, kind_of, piece_of, pieces_at, is_space, is_begin, is_open, is_open_after, open_styles, has_word, has_begin, has_end, has_translation, is_word_kind, follows_blank, starts_word, count_pieces, begin_of, end_of, centre_by}
+use Rattle.gabc_text.specs.View.{along, PieceFacts, effect, kind_of, pieces_at, is_space, is_begin, is_open, is_open_after, has_word, has_begin, has_end, has_translation, is_word_kind, follows_blank, starts_word, count_pieces, begin_of, end_of, centre_by}
 use Rattle.gabc_text.specs.ViewFacts.{ViewFacts, view_facts, view_facts_by, but_blank, translation_text}
 use Rattle.gabc_text.proofs.machine.TokensOneAfterAnother.{onto}
 use Rattle.gabc_text.specs.Printed.{word_break}
@@ -38,19 +37,7 @@ pub record Alike (b c : List Token) : Type 0 where
   pub translation : translation_text b ≡ translation_text c
 
 alike_pieces : (b c : List Token) (k : Token) → Alike b c → pieces_at b k ≡ pieces_at c k
-alike_pieces b c k h = by (kind_of k)
-  where
-    open_alike : open_styles b ≡ open_styles c
-    open_alike = rw (h.styles B, h.styles C, h.styles E, h.styles I, h.styles Sc, h.styles Tt, h.styles Ul) refl
-
-    follows : (space word : Bool) → has_word c ≡ word → (space && word && not (follows_blank b)) ≡ (space && word && not (follows_blank c))
-    follows true true e = ap not (h.blank e)
-    follows true false e = refl
-    follows false word e = refl
-
-    by : (o : Option PieceKind) → piece_of b k o ≡ piece_of c k o
-    by (Some q) = rw open_alike refl
-    by None = rw (open_alike, h.word, follows (is_space k.kind) (has_word c) refl) refl
+alike_pieces b c k h = grind arith
 
 -- a token that both have
 pub alike_more : (b c : List Token) (k : Token) → Alike b c → Alike (k ∷ b) (k ∷ c)
@@ -68,8 +55,7 @@ alike_more b c k h = record {
 }
   where
     by : (o : Option PieceKind) → (is_word_kind o || has_word c) ≡ true → (is_space k.kind || (not (is_some o) && follows_blank b)) ≡ (is_space k.kind || (not (is_some o) && follows_blank c))
-    by (Some q) e = refl
-    by None e = ap (λ (x : Bool). is_space k.kind || x) (h.blank e)
+    by o e = grind arith
 
 pub alike_onto : (ks b c : List Token) → Alike b c → Alike (onto ks b) (onto ks c)
 alike_onto [] b c h = h
@@ -82,26 +68,14 @@ alike_along (k ∷ ks) b c h = ap₂ (λ (xs ys : List PieceFacts). xs ++ ys) (a
 -- ---- blanks before all
 
 pub gap_alike : (b : ℕ) (before : List Token) → Alike before [] → Alike (gap b ∷ before) []
-gap_alike b before h = record {
-  styles = h.styles;
-  word = h.word;
-  blank = λ e. absurd (cc e);
-  begun = h.begun;
-  ended = h.ended;
-  translated = h.translated;
-  count = rw (h.word) (let e : count_pieces before + 0 ≡ 0 = omega (arith, h.count) in e);
-  begin = h.begin;
-  end = h.end;
-  translation = h.translation;
-}
+gap_alike b before h = grind arith
 
 pub none_alike : Alike [] []
 none_alike = record { styles = λ s. refl; word = refl; blank = λ e. refl; begun = refl; ended = refl; translated = refl; count = refl; begin = refl; end = refl; translation = refl }
 
 -- the LF before a word, if there is one
 pub break_alike : (b : Bool) → Alike (onto (word_break b) []) []
-break_alike true = gap_alike 10 [] none_alike
-break_alike false = none_alike
+break_alike b = grind arith
 
 -- a token before all that is no piece, and counts for nothing but perhaps for the beginning of a word
 pub one_before : (k : Token) (ks : List Token) (w : Bool) → pieces_at [] k ≡ [] → Alike (k ∷ []) [] → starts_word (onto ks (k ∷ [])) ≡ w → view_facts_by (k ∷ ks) ≡ record (view_facts_by ks) { word_start = w }
@@ -125,18 +99,7 @@ abbrev pub remark : List ℕ → Token
 remark u = record { kind = kind.Comment; first = 37; more = u }
 
 pub remark_alike : (u : List ℕ) (before : List Token) → Alike before [] → Alike (remark u ∷ before) []
-remark_alike u before h = record {
-  styles = h.styles;
-  word = h.word;
-  blank = λ e. absurd (cc e);
-  begun = h.begun;
-  ended = h.ended;
-  translated = h.translated;
-  count = (let e : count_pieces before + 0 ≡ 0 = omega (arith, h.count) in e);
-  begin = h.begin;
-  end = h.end;
-  translation = h.translation;
-}
+remark_alike u before h = grind arith
 
 starts_alike : (ks b c : List Token) → has_word b ≡ has_word c → starts_word b ≡ starts_word c → starts_word (onto ks b) ≡ starts_word (onto ks c)
 starts_alike [] b c g h = h

@@ -1,5 +1,5 @@
 -- Nothing is found in a printed text whose tags are all known.
-use Rattle.std.proofs.Common.{eq-eqb, ◌≡◌, ℕ, ◌+◌, ◌≤◌, ◌<◌, ◌==◌, List, [], ◌∷◌, ◌++◌, Bool, true, false, ◌||◌, ◌&&◌, not, cond, refl, sym, ap, ap₂, ◌∙◌, map, reverse, append-nil, append_assoc, Option, Some, None, length, length-append, arith}
+use Rattle.std.proofs.Common.{eq-eqb, ◌≡◌, ℕ, ◌+◌, ◌≤◌, ◌<◌, List, [], ◌∷◌, ◌++◌, Bool, true, false, ◌||◌, ◌&&◌, not, cond, refl, sym, ap, ap₂, ◌∙◌, map, reverse, append-nil, append_assoc, Option, Some, length, length-append, arith}
 use Rattle.std.proofs.lemmas.Bool.{or_parts, or_right, false_from_ne_true, true_from_ne_false}
 use Rattle.std.proofs.lemmas.List.{reverse-append}
 use borrow.Author.Clash.{clash}
@@ -8,21 +8,17 @@ use Rattle.std.proofs.lemmas.List.Folds.{list_any-append}
 use Rattle.gabc_places.specs.declared.place.Place.{Place}
 use Rattle.gabc_places.specs.declared.place.Span.{Span}
 use Rattle.gabc_places.specs.declared.code.Code.{Code}
-use Rattle.gabc_places.specs.declared.code.Code.TheVariants.{W4}
 use Rattle.gabc_places.specs.declared.code.Finding.{Finding}
 use Rattle.gabc_text.specs.declared.styles.Style.{Style}
 use Rattle.gabc_text.specs.declared.styles.Style.TheVariants.{B, C, E, I, Sc, Tt, Ul}
 use Rattle.gabc_text.specs.declared.view.PieceKind.{PieceKind}
-use Rattle.gabc_text.specs.declared.view.PieceKind.TheVariants as piece
 use Rattle.gabc_text.specs.declared.token.TokenKind.{TokenKind}
-use Rattle.gabc_text.specs.declared.token.TokenKind.TheVariants as kind
 use Rattle.gabc_text.specs.declared.token.TagEffect.{TagEffect}
-use Rattle.gabc_text.specs.declared.token.TagEffect.TheVariants.{Mark, Other}
-use Rattle.gabc_text.specs.Token.{Token, spelling, effect_of}
-use Rattle.gabc_text.specs.View.{along, effect, effect_as, tag_piece, piece_kind, PieceFacts, is_same, rank, is_open, is_open_after, is_begin, is_end, has_begin, has_end, is_translation, has_translation, is_left_out, kept_at, kept_as, is_space, follows_space, is_cut, early_codes, late_codes, found_at, findings_at, codes_at_end, findings_at_end, place_of, is_word_kind, is_blank_piece, count_pieces}
-use Rattle.gabc_text.specs.ViewFacts.{ViewFacts, LiesAmong}
+use Rattle.gabc_text.specs.Token.{Token, spelling}
+use Rattle.gabc_text.specs.View.{along, effect, effect_as, piece_kind, PieceFacts, is_same, rank, is_open, is_open_after, is_begin, is_end, has_begin, has_end, is_translation, has_translation, is_left_out, kept_at, kept_as, follows_space, early_codes, late_codes, found_at, findings_at, codes_at_end, findings_at_end, place_of, is_word_kind, is_blank_piece}
+use Rattle.gabc_text.specs.ViewFacts.{ViewFacts}
 use Rattle.gabc_text.specs.Canonical.{after_common}
-use Rattle.gabc_text.specs.Printed.{opening_tag, closing_tag, begin_brace, end_brace, brace_tokens, tokens_between, printed_piece, print_from, text_of_tokens, text_tokens, translation_tokens, word_break, print_tokens}
+use Rattle.gabc_text.specs.Printed.{opening_tag, closing_tag, brace_tokens, tokens_between, printed_piece, print_from, text_of_tokens, text_tokens, translation_tokens, word_break, print_tokens}
 use Rattle.gabc_text.proofs.printing.ViewFromFirstToken.{begin_at, end_at}
 use Rattle.gabc_text.proofs.printing.PrintedBracesGiveCentre.{at_start, centre_from, no_centre}
 use Rattle.gabc_text.proofs.printing.PrintedTextIsReadAgain.{Sound, reverse_push}
@@ -63,20 +59,12 @@ once_turned (x ∷ xs) h = rw (reverse-append (x ∷ []) xs) (once_more (reverse
 once_old : (old new : List Style) → AllOnce old → AllOnce (after_common old new).0
 once_old [] new h = tt
 once_old (x ∷ old) [] h = h
-once_old (x ∷ old) (y ∷ new) h = by (is_same x y) (once_old old new h.1)
-  where
-    by : (b : Bool) → AllOnce (after_common old new).0 → AllOnce (cond b (after_common old new) (x ∷ old, y ∷ new)).0
-    by true g = g
-    by false g = h
+once_old (x ∷ old) (y ∷ new) h = grind (arith, once_old old new h.1)
 
 once_new : (old new : List Style) → AllOnce new → AllOnce (after_common old new).1
 once_new [] new h = h
 once_new (x ∷ old) [] h = tt
-once_new (x ∷ old) (y ∷ new) h = by (is_same x y) (once_new old new h.1)
-  where
-    by : (b : Bool) → AllOnce (after_common old new).1 → AllOnce (cond b (after_common old new) (x ∷ old, y ∷ new)).1
-    by true g = g
-    by false g = h
+once_new (x ∷ old) (y ∷ new) h = grind (arith, once_new old new h.1)
 
 of_old : (s : Style) (old new : List Style) → member s (after_common old new).0 ≡ true → member s old ≡ true
 of_old s old new h = true_from_ne_false (member s old) (λ e. clash (member s (after_common old new).0) h (within s old new e))
@@ -84,11 +72,7 @@ of_old s old new h = true_from_ne_false (member s old) (λ e. clash (member s (a
 of_new : (s : Style) (old new : List Style) → member s (after_common old new).1 ≡ true → member s new ≡ true
 of_new s [] new h = h
 of_new s (x ∷ old) [] h = absurd (cc)
-of_new s (x ∷ old) (y ∷ new) h = by (is_same x y) h (of_new s old new)
-  where
-    by : (b : Bool) → member s (cond b (after_common old new) (x ∷ old, y ∷ new)).1 ≡ true → (member s (after_common old new).1 ≡ true → member s new ≡ true) → member s (y ∷ new) ≡ true
-    by true g more = or_right (is_same y s) (member s new) (more g)
-    by false g more = g
+of_new s (x ∷ old) (y ∷ new) h = grind (arith, or_right, of_new s old new)
 
 -- what is left of the new is not open once the old is closed
 abbrev IsShut : Style → List Style → List Style → Type 0
@@ -97,14 +81,7 @@ IsShut s left old = (not (member s left) && member s old) ≡ false
 shut : (s : Style) (old new : List Style) → AllOnce new → member s (after_common old new).1 ≡ true → IsShut s (after_common old new).0 old
 shut s [] new h g = refl
 shut s (x ∷ old) [] h g = absurd (cc)
-shut s (x ∷ old) (y ∷ new) h g = by (is_same x y) refl g (shut s old new h.1)
-  where
-    by : (b : Bool) → is_same x y ≡ b → member s (cond b (after_common old new) (x ∷ old, y ∷ new)).1 ≡ true
-        → (member s (after_common old new).1 ≡ true → IsShut s (after_common old new).0 old) → IsShut s (cond b (after_common old new) (x ∷ old, y ∷ new)).0 (x ∷ old)
-    by true e f more =
-        let apart : is_same x s ≡ false = ap (λ (z : Style). is_same z s) (same_style x y e) ∙ other_than y s new h.0 (of_new s old new f) in
-        rw apart (more f)
-    by false e f more = not-and_self (member s (x ∷ old))
+shut s (x ∷ old) (y ∷ new) h g = grind (arith, same_style, other_than, of_new, not-and_self, shut s old new h.1)
 
 -- ---- what is found but for braces
 
@@ -135,11 +112,7 @@ openings_aside (y ∷ ys) before o h =
     (openings_aside ys (opening_tag y ∷ before) o.1 (λ s g. open_one y s before ∙ rw (other_than y s ys o.0 g) (h s (or_right (is_same y s) (member s ys) g))))
 
 braces_aside : (centre : Option Span) (i : ℕ) (before : List Token) → NoneAside before (brace_tokens centre i)
-braces_aside None i before = refl
-braces_aside (Some c) i before = by (c.from == i) (c.to == i)
-  where
-    by : (a b : Bool) → NoneAside before (cond a (cond b (begin_brace ∷ end_brace ∷ []) (begin_brace ∷ [])) (cond b (end_brace ∷ []) []))
-    by a b = grind arith
+braces_aside centre i before = grind arith
 
 silent_translated : (ks before : List Token) → AllSilent ks → has_translation (onto ks before) ≡ has_translation before
 silent_translated [] before h = refl
@@ -182,16 +155,8 @@ piece_passed : (p : PieceFacts) (w b : Bool) → Good p w b → is_unknown p.kin
 piece_passed p w b g u =
     printed_by (λ (k : Token). Passed k.kind (effect k)) p w b (λ _ _. record { none = λ before. refl; opens = λ s was. refl; no_translation = refl }) (λ k e. kinds k.kind (spelling k) p.kind u e) g
   where
-    tags : (so : TagEffect) (q : PieceKind) → is_unknown q ≡ false → tag_piece so ≡ Some q → Passed kind.Tag so
-    tags Mark q n e = record { none = λ before. refl; opens = λ s was. refl; no_translation = refl }
-    tags Other q n e = clash (is_unknown q) (ap is_unknown (let f : q ≡ piece.Tag = cc in f)) n
-    tags _ q n e = absurd (cc)
-
     kinds : (d : TokenKind) (t : List ℕ) (q : PieceKind) → is_unknown q ≡ false → piece_kind d (effect_as d t) ≡ Some q → Passed d (effect_as d t)
-    kinds kind.Letter t q n e = record { none = λ before. refl; opens = λ s was. refl; no_translation = refl }
-    kinds kind.Raw t q n e = record { none = λ before. refl; opens = λ s was. refl; no_translation = refl }
-    kinds kind.Tag t q n e = tags (effect_of t) q n e
-    kinds _ t q n e = absurd (cc)
+    kinds d t q n e = grind arith
 
 pieces_aside : (centre : Option Span) (i : ℕ) (old : List Style) (ps : List PieceFacts) (w b : Bool) (before : List Token) → AllOnce old → ((s : Style) → is_open s before ≡ member s old)
     → AllGood w b ps → AllKnown ps → Aside before (print_from centre i old ps) []
@@ -215,36 +180,15 @@ pieces_aside centre i old (p ∷ ps) w b before o h g k =
 -- ---- no brace is left out
 
 kept_short : (out space : Bool) (d : TokenKind) (c : ℕ) (s : List ℕ) → length (kept_as out space d [] (32 ∷ []) (c ∷ s)) ≤ length (c ∷ s)
-kept_short true space d c s = omega arith
-kept_short false space d c s = by (is_space d) space
-  where
-    by : (x y : Bool) → length (cond x (cond y [] (32 ∷ [])) (c ∷ s)) ≤ length (c ∷ s)
-    by x y = grind arith
+kept_short out space d c s = grind arith
 
 all_short : (before ks : List Token) → length (along kept_at before ks) ≤ length (text_of_tokens ks)
 all_short before [] = omega arith
-all_short before (k ∷ ks) =
-    let h = kept_short (is_left_out before k.kind) (follows_space before) k.kind k.first k.more in
-    let g = all_short (k ∷ before) ks in
-    omega (arith, h, g, length-append (kept_at before k) (along kept_at (k ∷ before) ks), length-append (spelling k) (text_of_tokens ks))
+all_short before (k ∷ ks) = grind (arith, kept_short, length-append, all_short (k ∷ before) ks)
 
 -- what is kept has no brace that is found
 brace_fine : (before : List Token) (k : Token) → 0 < length (kept_at before k) → codes_aside before k ≡ [] → early_codes before k.kind ++ late_codes before k.kind (effect k) ≡ []
-brace_fine before k h e = by k.kind (effect k) h e
-  where
-    by : (d : TokenKind) (so : TagEffect) → 0 < length (kept_as (is_left_out before d) (follows_space before) d [] (32 ∷ []) (spelling k)) → codes_by before d so ≡ [] → early_codes before d ++ late_codes before d so ≡ []
-    by kind.Begin so g f = begins (has_begin before) g
-      where
-        begins : (x : Bool) → 0 < length (kept_as x (follows_space before) kind.Begin [] (32 ∷ []) (spelling k)) → cond x (W4 ∷ []) [] ≡ []
-        begins true g = absurd (omega arith)
-        begins false g = refl
-    by kind.End so g f = ends (has_begin before && not (has_end before)) g
-      where
-        ends : (x : Bool) → 0 < length (kept_as (not x) (follows_space before) kind.End [] (32 ∷ []) (spelling k)) → cond x [] (W4 ∷ []) ≡ []
-        ends true g = refl
-        ends false g = absurd (omega arith)
-    by kind.Letter so g f = f
-    by _ so g f = f
+brace_fine before k h e = grind arith
 
 pub none_along : (at : Place) (before ks : List Token) → length (along kept_at before ks) ≡ length (text_of_tokens ks) → NoneAside before ks → along (findings_at at) before ks ≡ []
 none_along at before [] h e = refl
@@ -266,21 +210,11 @@ ended_stays (k ∷ ks) before h = ended_stays ks (k ∷ before) (or_right (is_en
 
 ended_by : (ks before : List Token) (x : ℕ) (xs : List ℕ) → along end_at before ks ≡ x ∷ xs → has_end (onto ks before) ≡ true
 ended_by [] before x xs e = absurd (cc)
-ended_by (k ∷ ks) before x xs e = by (is_end k.kind && has_begin before) (has_end before) refl refl e (ended_by ks (k ∷ before) x xs)
-  where
-    by : (a b : Bool) → (is_end k.kind && has_begin before) ≡ a → has_end before ≡ b → cond (a && not b) (count_pieces before ∷ []) [] ++ along end_at (k ∷ before) ks ≡ x ∷ xs
-        → (along end_at (k ∷ before) ks ≡ x ∷ xs → has_end (onto ks (k ∷ before)) ≡ true) → has_end (onto ks (k ∷ before)) ≡ true
-    by true b f g h more = ended_stays ks (k ∷ before) (rw f refl)
-    by false b f g h more = more h
+ended_by (k ∷ ks) before x xs e = grind (arith, end_at, ended_stays, ended_by ks (k ∷ before) x xs)
 
 not_begun : (ks before : List Token) → has_begin before ≡ false → along begin_at before ks ≡ [] → has_begin (onto ks before) ≡ false
 not_begun [] before h e = h
-not_begun (k ∷ ks) before h e = by (is_begin k.kind) refl (rw h at e) (not_begun ks (k ∷ before))
-  where
-    by : (b : Bool) → is_begin k.kind ≡ b → cond (b && true) (count_pieces before ∷ []) [] ++ along begin_at (k ∷ before) ks ≡ []
-        → (has_begin (k ∷ before) ≡ false → along begin_at (k ∷ before) ks ≡ [] → has_begin (onto ks (k ∷ before)) ≡ false) → has_begin (onto ks (k ∷ before)) ≡ false
-    by true f g more = absurd (cc)
-    by false f g more = more (rw (f, h) refl) g
+not_begun (k ∷ ks) before h e = grind (arith, begin_at, not_begun ks (k ∷ before))
 
 -- ---- of a view
 
@@ -290,25 +224,12 @@ record Start (b : Bool) : Type 0 where
   kept_long : (ks : List Token) → length (word_kept b ++ text_of_tokens ks) ≡ length (text_of_tokens (word_break b ++ ks))
 
 start_of : (b : Bool) → Start b
-start_of true = record { none = refl; kept_long = λ ks. refl }
-start_of false = record { none = refl; kept_long = λ ks. refl }
+start_of b = grind arith
 
 -- the centre is not left open
 shut_centre : (v : ViewFacts) → Sound v → (before : List Token) → Alike before []
     → (has_begin (onto (text_tokens v) before) && not (has_end (onto (text_tokens v) before))) ≡ false
-shut_centre v s before a = by v.centre s.centre_in
-  where
-    by : (c : Option Span) → LiesAmong (length v.pieces) c → (has_begin (onto (print_from c 0 [] v.pieces) before) && not (has_end (onto (print_from c 0 [] v.pieces) before))) ≡ false
-    by None h =
-        let f = not_begun (print_from None 0 [] v.pieces) before a.begun
-        (no_centre 0 [] v.pieces false false before a.word (λ z. absurd (cc)) s.good) in
-        rw f refl
-    by (Some c) h =
-        let both = centre_from c 0 [] v.pieces false false before false false a.word (λ z. absurd (cc)) s.good a.count
-        (at_start c (length v.pieces) h) a.begun a.ended in
-        let ended : has_end (onto (print_from (Some c) 0 [] v.pieces) before) ≡ true =
-        ended_by (print_from (Some c) 0 [] v.pieces) before c.to [] both.1 in
-        rw ended (and-false _)
+shut_centre v s before a = grind (arith, not_begun, no_centre, centre_from, at_start, ended_by, and-false)
 
 -- a translation after the text
 record After (before : List Token) (tr : Option (List ℕ)) : Type 0 where
@@ -316,18 +237,13 @@ record After (before : List Token) (tr : Option (List ℕ)) : Type 0 where
   codes : codes_at_end (onto (translation_tokens tr) before) ≡ codes_at_end before
 
 translated_once : (before : List Token) (tr : Option (List ℕ)) → has_translation before ≡ false → After before tr
-translated_once before None h = record { none = refl; codes = refl }
-translated_once before (Some t) h = record { none = rw h refl; codes = refl }
+translated_once before tr h = grind arith
 
 no_codes : (before : List Token) → ((s : Style) → is_open s before ≡ false) → (has_begin before && not (has_end before)) ≡ false → codes_at_end before ≡ []
 no_codes before h e = rw (h B, h C, h E, h I, h Sc, h Tt, h Ul, e) refl
 
 none_last : (at : Place) (before : List Token) → codes_at_end before ≡ [] → findings_at_end at before ≡ []
-none_last at before e = by (is_cut before)
-  where
-    by : (b : Bool) → cond b [] (map (found_at (place_of at before)) (codes_at_end before)) ≡ []
-    by true = refl
-    by false = ap (map (found_at (place_of at before))) e
+none_last at before e = grind arith
 
 pub nothing_in : (v : ViewFacts) → Sound v → AllKnown v.pieces → (at : Place) → along (findings_at at) [] (print_tokens v) ++ findings_at_end at (reverse (print_tokens v)) ≡ []
 nothing_in v s known at =

@@ -1,20 +1,18 @@
 -- The pieces of a text are such that their printed form is read again.
-use Rattle.std.proofs.Common.{◌≡◌, ℕ, zero, suc, ◌==◌, List, [], ◌∷◌, ◌++◌, Bool, true, false, ◌||◌, ◌&&◌, not, cond, refl, sym, ap, subst, length, Option, Some, None, codes}
+use Rattle.std.proofs.Common.{arith, ◌≡◌, ℕ, zero, suc, ◌==◌, List, [], ◌∷◌, ◌++◌, Bool, true, false, ◌||◌, ◌&&◌, not, cond, refl, sym, ap, subst, length, Option, Some, None, codes}
 use Rattle.gabc_text.specs.declared.view.PieceKind.{PieceKind}
 use Rattle.gabc_text.specs.declared.view.PieceKind.TheVariants as piece
 use Rattle.gabc_text.specs.declared.token.TokenKind.{TokenKind}
 use Rattle.gabc_text.specs.declared.token.TokenKind.TheVariants as kind
 use Rattle.gabc_text.specs.declared.token.TagEffect.{TagEffect}
 use Rattle.gabc_text.specs.declared.token.TagEffect.TheVariants.{Mark, Other}
-use Rattle.gabc_text.specs.Token.{Token, tokens, tokens_after, token_at, dollar_at, tag_at, ended_token, through, single, is_special, is_blank, is_one_of, effect_of}
+use Rattle.gabc_text.specs.Token.{Token, tokens, tokens_after, token_at, dollar_at, tag_at, ended_token, through, single, is_special, is_blank, effect_of}
 use Rattle.gabc_text.specs.View.{along, effect, effect_as, kind_of, piece_kind, tag_piece, is_open, open_styles, is_word_kind, has_word, follows_blank, pieces_at, piece_of, PieceFacts, text_of_piece, is_space, is_blank_piece, last_of}
 use Rattle.gabc_text.proofs.printing.ViewFromFirstToken.{pieces_of}
 use Rattle.gabc_text.specs.ViewFacts.{but_blank}
 use Rattle.gabc_text.proofs.tokens.CasesOfCharacters.{by_case, tag_kind}
-use Rattle.gabc_text.proofs.machine.TokenStateByCharacter.{turned}
 use Rattle.gabc_text.proofs.printing.TokensAreReadAgain.{IsReadAgain, token_again, letter_stable}
 use Rattle.gabc_text.specs.machine.PrintedPieces.{AllGood, Good, Says}
-use Rattle.gabc_text.proofs.events.EventsBuildText.{piece_is}
 
 -- ---- letters
 
@@ -27,15 +25,8 @@ pub record IsLetter (k : Token) : Type 0 where
 abbrev LetterAt : List ℕ → ℕ → Type 0
 LetterAt t c = (token_at c t).kind ≡ kind.Letter → IsLetter (token_at c t)
 
-abbrev NoBlank : ℕ → Type 0
-NoBlank c = is_special c ≡ true → is_blank c ≡ false
-
 pub special_no_blank : (c : ℕ) → is_special c ≡ true → is_blank c ≡ false
-special_no_blank c e =
-    by_case 32 c NoBlank (λ e. absurd (cc)) (λ e32.
-    by_case 9 c NoBlank (λ e. absurd (cc)) (λ e9.
-    by_case 10 c NoBlank (λ e. absurd (cc)) (λ e10.
-    λ _. rw (turned 32 c e32, turned 9 c e9, turned 10 c e10) refl))) e
+special_no_blank c e = grind arith
 
 dollar_letter : (t : List ℕ) → IsLetter (dollar_at t)
 dollar_letter [] = record { c = 36; reads_so = refl; no_blank = refl }
@@ -49,11 +40,7 @@ tag_letter : (t : List ℕ) (o : Option (List ℕ)) → (tag_at t o).kind ≡ ki
 tag_letter t o e = absurd (tag_kind (λ k. k ≡ kind.Letter → ⊥) (λ e. absurd (cc)) (λ e. absurd (cc)) (λ e. absurd (cc)) t o e)
 
 single_letter : (c : ℕ) → single c ≡ kind.Letter → is_blank c ≡ false
-single_letter c e = by (is_blank c) e
-  where
-    by : (b : Bool) → cond b kind.Blank (cond (is_one_of (codes ")]>") c) kind.Stray (cond (c == 123) kind.Begin (cond (c == 125) kind.End kind.Letter))) ≡ kind.Letter → b ≡ false
-    by true e = absurd (cc)
-    by false e = refl
+single_letter c e = grind arith
 
 pub token_letter : (c : ℕ) (t : List ℕ) → LetterAt t c
 token_letter c t =
@@ -65,8 +52,7 @@ token_letter c t =
     rw (e36, e37, e60, e91) (record { c = c; reads_so = refl; no_blank = single_letter c f })))))
   where
     in_brackets : (o : Option (List ℕ)) → (ended_token kind.Translation kind.OpenTranslation 91 [] t o).kind ≡ kind.Letter → ⊥
-    in_brackets None e = absurd (cc)
-    in_brackets (Some y) e = absurd (cc)
+    in_brackets o e = grind arith
 
 -- ---- a piece of a text
 
@@ -84,18 +70,10 @@ tokens_fine (suc n) (c ∷ t) = tokens_fine n t
 tokens_fine zero (c ∷ t) = by (c == 40) (record { again = token_again c t; letters = token_letter c t }) (tokens_fine (length (token_at c t).more) t)
   where
     by : (b : Bool) → Fine (token_at c t) → EachFine (tokens_after (length (token_at c t).more) t) → EachFine (cond b [] (token_at c t ∷ tokens_after (length (token_at c t).more) t))
-    by true f g = tt
-    by false f g = (f, g)
-
-abbrev lettered : Bool → ℕ → Token
-lettered x c = cond x (record { kind = kind.Letter; first = 36; more = c ∷ [] }) (record { kind = kind.Letter; first = c; more = [] })
+    by b f g = grind arith
 
 pub letter_emits : (c : ℕ) (w b : Bool) → Says piece.Char (c ∷ []) w b
-letter_emits c w b = by (is_special c)
-  where
-    by : (x : Bool) → (kind_of (lettered x c) ≡ Some piece.Char) × (text_of_piece piece.Char (lettered x c) ≡ c ∷ []) × (is_space (lettered x c).kind ≡ false)
-    by true = (refl, refl, refl)
-    by false = (refl, refl, refl)
+letter_emits c w b = grind arith
 
 -- a token's piece, if it is not a blank
 abbrev GoodFrom : List Token → Token → Bool → Bool → PieceKind → Type 0
@@ -134,19 +112,13 @@ good_after x w b d (p ∷ ps) h f = (
 )
   where
     more : (a : Bool) → (a || x) ≡ true → (a || w) ≡ true
-    more true e = refl
-    more false e = (f e).0
+    more a e = grind arith
 
     by : (k : PieceKind) → Says k p.text x b → Says k p.text w d
-    by piece.Blank g = (g.0, (f g.1).0, (f g.1).1 g.2)
-    by _ g = g
+    by k g = grind arith
 
 no_space : (d : TokenKind) (so : TagEffect) (p : PieceKind) → piece_kind d so ≡ Some p → (is_space d ≡ false) × (is_blank_piece p ≡ false)
-no_space d so p e = (by d e, piece_is d so p e)
-  where
-    by : (d : TokenKind) → piece_kind d so ≡ Some p → is_space d ≡ false
-    by kind.Blank e = absurd (cc)
-    by _ e = refl
+no_space d so p e = grind arith
 
 abbrev blank_after : List Token → PieceFacts
 blank_after before = record { kind = piece.Blank; styles = open_styles before; text = [] }
@@ -178,11 +150,7 @@ good_along before (k ∷ ks) f = by (kind_of k) refl (good_along (k ∷ before) 
 
 pub good_prefix : (w b : Bool) (ps : List PieceFacts) → AllGood w b ps → AllGood w b (but_blank ps)
 good_prefix w b [] h = tt
-good_prefix w b (p ∷ []) h = by (is_blank_piece p.kind)
-  where
-    by : (x : Bool) → AllGood w b (cond x [] (p ∷ []))
-    by true = tt
-    by false = h
+good_prefix w b (p ∷ []) h = grind arith
 good_prefix w b (p ∷ q ∷ ps) h = (h.0, good_prefix (is_word_kind (Some p.kind) || w) (is_blank_piece p.kind) (q ∷ ps) h.1)
 
 -- the pieces of a text

@@ -1,17 +1,15 @@
 -- Printed braces stand where the centre begins and ends.
-use Rattle.std.proofs.Common.{◌≡◌, ℕ, suc, ◌+◌, ◌<◌, ◌≤◌, ◌==◌, List, [], ◌∷◌, ◌++◌, Bool, true, false, ◌||◌, cond, refl, sym, ap, ◌∙◌, map, reverse, append-nil, Option, Some, None, length, arith}
-use Rattle.std.proofs.lemmas.Bool.{eqb-true, eqb-false}
+use Rattle.std.proofs.Common.{◌≡◌, ℕ, suc, ◌+◌, ◌<◌, ◌≤◌, ◌==◌, List, [], ◌∷◌, ◌++◌, Bool, true, false, ◌||◌, cond, refl, ap, ◌∙◌, map, reverse, append-nil, Option, Some, None, length, arith}
 use Rattle.gabc_places.specs.declared.place.Span.{Span}
 use Rattle.gabc_text.specs.declared.styles.Style.{Style}
-use Rattle.gabc_text.specs.declared.token.TokenKind.{TokenKind}
 use Rattle.gabc_text.specs.declared.token.TokenKind.TheVariants as kind
 use Rattle.gabc_text.specs.Token.{Token}
-use Rattle.gabc_text.specs.View.{along, pieces_at, PieceFacts, is_word_kind, has_word, follows_blank, is_blank_piece, is_begin, is_end, has_begin, has_end, count_pieces}
+use Rattle.gabc_text.specs.View.{along, PieceFacts, is_word_kind, has_word, follows_blank, is_blank_piece, has_begin, has_end, count_pieces}
 use Rattle.gabc_text.proofs.printing.ViewFromFirstToken.{begin_at, end_at}
 use Rattle.gabc_text.specs.Canonical.{after_common}
 use Rattle.gabc_text.specs.Printed.{print_from, printed_piece, tokens_between, brace_tokens, opening_tag, closing_tag, begin_brace, end_brace}
 use Rattle.gabc_text.proofs.printing.PrintedTagsOpenStyles.{push_append, along_append}
-use Rattle.gabc_text.proofs.printing.PrintedPiecesAreReadAgain.{AllSilent, Does, does, no_pieces, opening_silent, closing_silent, silent_word, silent_blank, between_silent, are_braces, printed_kind}
+use Rattle.gabc_text.proofs.printing.PrintedPiecesAreReadAgain.{AllSilent, Does, does, no_pieces, opening_silent, closing_silent, silent_word, silent_blank, between_silent, are_braces}
 use Rattle.gabc_text.proofs.machine.TokensOneAfterAnother.{onto}
 use Rattle.gabc_text.specs.machine.PrintedPieces.{AllGood, Good}
 use Rattle.gabc_text.specs.ViewFacts.{LiesAmong}
@@ -26,13 +24,7 @@ pub record Marks (before ks : List Token) (begins ends : List ℕ) (begun ended 
 
 pub marks_append : (before ks ls : List Token) (b1 e1 b2 e2 : List ℕ) (x1 y1 x2 y2 : Bool) (n1 n2 : ℕ) → Marks before ks b1 e1 x1 y1 n1 → Marks (onto ks before) ls b2 e2 x2 y2 n2
     → Marks before (ks ++ ls) (b1 ++ b2) (e1 ++ e2) x2 y2 n2
-marks_append before ks ls b1 e1 b2 e2 x1 y1 x2 y2 n1 n2 m k = record {
-  begins_are = along_append begin_at before ks ls ∙ rw (m.begins_are, k.begins_are) refl;
-  ends_are = along_append end_at before ks ls ∙ rw (m.ends_are, k.ends_are) refl;
-  begun_is = ap has_begin (push_append ks ls before) ∙ k.begun_is;
-  ended_is = ap has_end (push_append ks ls before) ∙ k.ended_is;
-  count_is = ap count_pieces (push_append ks ls before) ∙ k.count_is;
-}
+marks_append before ks ls b1 e1 b2 e2 x1 y1 x2 y2 n1 n2 m k = grind (arith, along_append, begin_at, end_at, push_append)
 
 -- a token that gives nothing
 pass : (at : List Token → Token → List ℕ) (now : List Token) (k : Token) (ks : List Token) → along at now (k ∷ []) ≡ [] → along at now (k ∷ ks) ≡ along at (k ∷ now) ks
@@ -45,15 +37,7 @@ one_more before = omega arith
 tags_marks : (tag : Style → Token) → ((s : Style) → (tag s).kind ≡ kind.Tag) → (ss : List Style) (before : List Token) → AllSilent (map tag ss)
     → Marks before (map tag ss) [] [] (has_begin before) (has_end before) (count_pieces before)
 tags_marks tag e [] before h = record { begins_are = refl; ends_are = refl; begun_is = refl; ended_is = refl; count_is = refl }
-tags_marks tag e (s ∷ ss) before h =
-    let m = tags_marks tag e ss (tag s ∷ before) h.1 in
-    record {
-      begins_are = pass begin_at before (tag s) (map tag ss) (rw (e s) refl) ∙ m.begins_are;
-      ends_are = pass end_at before (tag s) (map tag ss) (rw (e s) refl) ∙ m.ends_are;
-      begun_is = m.begun_is ∙ rw (e s) refl;
-      ended_is = m.ended_is ∙ rw (e s) refl;
-      count_is = m.count_is ∙ rw (no_pieces before (tag s) h.0) (one_more before);
-    }
+tags_marks tag e (s ∷ ss) before h = grind (arith, tags_marks tag e ss (tag s ∷ before) h.1, pass, no_pieces, one_more)
 
 pub closing_marks : (ss : List Style) (before : List Token) → Marks before (map closing_tag ss) [] [] (has_begin before) (has_end before) (count_pieces before)
 closing_marks ss before = tags_marks closing_tag (λ s. refl) ss before (closing_silent ss)
@@ -91,20 +75,9 @@ Allowed false false begun ended = Unit {0}
 abbrev here : Bool → ℕ → List ℕ
 here x i = cond x (i ∷ []) []
 
-begin_marks : (at : List Token) (n : ℕ) (ended : Bool) → has_begin at ≡ false → has_end at ≡ ended → count_pieces at ≡ n → Marks at (begin_brace ∷ []) (n ∷ []) [] true ended n
-begin_marks at n ended e f g = record { begins_are = rw (e, g) refl; ends_are = refl; begun_is = refl; ended_is = f; count_is = one_more at ∙ g }
-
-end_marks : (at : List Token) (n : ℕ) → has_begin at ≡ true → has_end at ≡ false → count_pieces at ≡ n → Marks at (end_brace ∷ []) [] (n ∷ []) true true n
-end_marks at n e f g = record { begins_are = refl; ends_are = rw (e, f, g) refl; begun_is = e; ended_is = rw e refl; count_is = one_more at ∙ g }
-
 braces_marks : (x y begun ended : Bool) (at : List Token) (n : ℕ) → Allowed x y begun ended → has_begin at ≡ begun → has_end at ≡ ended → count_pieces at ≡ n
     → Marks at (braces_by x y) (here x n) (here y n) (x || begun) (y || ended) n
-braces_marks true true begun ended at n (u, v) e f g =
-    marks_append at (begin_brace ∷ []) (end_brace ∷ []) (n ∷ []) [] [] (n ∷ []) true false true true n n (begin_marks at n false (e ∙ u) (f ∙ v) g)
-    (end_marks (begin_brace ∷ at) n refl (f ∙ v) (one_more at ∙ g))
-braces_marks true false begun ended at n (u, v) e f g = begin_marks at n ended (e ∙ u) f g
-braces_marks false true begun ended at n (u, v) e f g = rw u (end_marks at n (e ∙ u) (f ∙ v) g)
-braces_marks false false begun ended at n h e f g = record { begins_are = refl; ends_are = refl; begun_is = e; ended_is = f; count_is = g }
+braces_marks x y begun ended at n h1 e f g = grind arith
 
 -- ---- what is still to come of the centre
 
@@ -121,13 +94,7 @@ pub at_start : (c : Span) (n : ℕ) → LiesAmong n (Some c) → Phase false fal
 at_start c n h = record { order = h.0; last = omega (arith, h.1); to_begin = λ _. omega arith; has_begun = λ e. absurd (cc); to_end = λ _. omega arith; has_ended = λ e. absurd (cc) }
 
 pub allowed : (x y begun ended : Bool) (a b i n : ℕ) → a == i ≡ x → b == i ≡ y → Phase begun ended a b i n → Allowed x y begun ended
-allowed true y false false a b i n e f p = (refl, refl)
-allowed true y true ended a b i n e f p = absurd (let u = p.has_begun refl in let v : a ≡ i = eqb-true a i e in omega arith)
-allowed true y false true a b i n e f p = absurd (let u = p.has_ended refl in let v : a ≡ i = eqb-true a i e in omega (arith, p.order))
-allowed false true true false a b i n e f p = (refl, refl)
-allowed false true begun true a b i n e f p = absurd (let u = p.has_ended refl in let v : b ≡ i = eqb-true b i f in omega arith)
-allowed false true false false a b i n e f p = absurd (let u = p.to_begin refl in let v : b ≡ i = eqb-true b i f in omega (arith, p.order, λ (z : a ≡ i). eqb-false a i e z))
-allowed false false begun ended a b i n e f p = tt
+allowed x y begun ended a b i n e f p = grind arith
 
 abbrev pub to_come : Bool → ℕ → List ℕ
 to_come done a = cond done [] (a ∷ [])
@@ -139,15 +106,7 @@ record Side (x done : Bool) (a i : ℕ) : Type 0 where
   past : (x || done) ≡ true → a ≤ i
 
 side : (x done : Bool) (a i : ℕ) → a == i ≡ x → (done ≡ false → i ≤ a) → (done ≡ true → a < i) → Side x done a i
-side true done a i e f g =
-    let same : a ≡ i = eqb-true a i e in
-    by done f g same
-  where
-    by : (done : Bool) → (done ≡ false → i ≤ a) → (done ≡ true → a < i) → a ≡ i → Side true done a i
-    by true f g same = absurd (let u = g refl in omega arith)
-    by false f g same = record { shown = ap (λ (n : ℕ). n ∷ []) (sym same); after = λ z. absurd (cc); past = λ _. omega arith }
-side false true a i e f g = record { shown = refl; after = λ z. absurd (cc); past = λ _. (let u = g refl in omega arith) }
-side false false a i e f g = record { shown = refl; after = λ _. (let u = f refl in omega (arith, λ (z : a ≡ i). eqb-false a i e z)); past = λ z. absurd (cc) }
+side x done a i e f g = grind arith
 
 -- what a boundary leaves
 pub record Gap (before ks : List Token) (x y begun ended : Bool) (a b i : ℕ) : Type 0 where
@@ -165,24 +124,14 @@ gap_by old new before a b i n x y begun ended e f p count g h = record {
 }
 
 pub next_phase : {before ks : List Token} {x y begun ended : Bool} {a b i n : ℕ} → Gap before ks x y begun ended a b i → Phase begun ended a b i (suc n) → Phase (x || begun) (y || ended) a b (i + 1) n
-next_phase q p = record {
-  order = p.order;
-  last = omega (arith, p.last);
-  to_begin = λ z. (let u = (q.begins).after z in omega arith);
-  has_begun = λ z. (let u = (q.begins).past z in omega arith);
-  to_end = λ z. (let u = (q.ends).after z in omega arith);
-  has_ended = λ z. (let u = (q.ends).past z in omega arith);
-}
+next_phase q p = grind arith
 
 -- ---- the whole
 
 -- a printed piece has no marks, and counts one
 pub piece_marks : (p : PieceFacts) (w b : Bool) (now : List Token) → Good p w b → Does p w b now
     → Marks now (printed_piece p.kind p.text ∷ []) [] [] (has_begin now) (has_end now) (count_pieces now + 1)
-piece_marks p w b now g d =
-    let e = printed_kind (λ (d : TokenKind). (is_begin d ≡ false) × (is_end d ≡ false)) (refl, refl) (refl, refl) (refl, refl) (refl, refl) p w b g in
-    let one : length (pieces_at now (printed_piece p.kind p.text)) ≡ 1 = ap length d.pieces_are in
-    record { begins_are = rw e.0 refl; ends_are = rw e.1 refl; begun_is = rw e.0 refl; ended_is = rw e.1 refl; count_is = ap (λ (n : ℕ). count_pieces now + n) one }
+piece_marks p w b now g d = grind arith
 
 pub gap_silent : (centre : Option Span) (i : ℕ) (old new : List Style) → AllSilent (tokens_between old new (brace_tokens centre i))
 gap_silent centre i old new = between_silent old new (brace_tokens centre i) (are_braces centre i).silent
@@ -199,8 +148,7 @@ centre_from c i old [] w b0 before begun ended e f g count p hb he =
     )
   where
     finish : (xs : List ℕ) (done was : Bool) (a : ℕ) → xs ++ to_come done a ≡ to_come was a → (done ≡ false → ⊥) → xs ≡ to_come was a
-    finish xs true was a e f = sym (append-nil xs) ∙ e
-    finish xs false was a e f = absurd (f refl)
+    finish xs done was a e f = grind (arith, append-nil)
 centre_from c i old (p ∷ ps) w b0 before begun ended e f g count ph hb he =
     let gap = tokens_between old p.styles (brace_tokens (Some c) i) in
     let k = printed_piece p.kind p.text in
@@ -224,8 +172,7 @@ no_gap old new before =
 pub no_centre : (i : ℕ) (old : List Style) (ps : List PieceFacts) (w b0 : Bool) (before : List Token)
     → has_word before ≡ w → (w ≡ true → follows_blank before ≡ b0) → AllGood w b0 ps
     → along begin_at before (print_from None i old ps) ≡ []
-no_centre i old [] w b0 before e f g =
-    (no_gap old [] before).begins_are
+no_centre i old [] w b0 before e f g = grind (arith, no_gap)
 no_centre i old (p ∷ ps) w b0 before e f g =
     let gap = tokens_between old p.styles [] in
     let k = printed_piece p.kind p.text in

@@ -2,15 +2,14 @@
 use Rattle.std.proofs.lemmas.Bool.{ne_eqb}
 use Rattle.std.proofs.lemmas.List.{map-append}
 use Rattle.std.proofs.lemmas.List.Elements.{filter-append}
-use Rattle.std.proofs.Common.{◌≡◌, ℕ, ◌+◌, ◌<◌, ◌==◌, List, [], ◌∷◌, ◌++◌, Bool, true, false, ◌||◌, cond, refl, sym, ap, ap₂, ◌∙◌, map, reverse, filter, append-nil, append_assoc, Option, Some, None, length, length-append, eq-eqb, arith}
+use Rattle.std.proofs.Common.{◌≡◌, ℕ, ◌+◌, ◌<◌, List, [], ◌∷◌, ◌++◌, Bool, true, false, ◌||◌, refl, sym, ap, ap₂, ◌∙◌, map, reverse, filter, append-nil, append_assoc, Option, Some, None, length, length-append, eq-eqb, arith}
 use Rattle.std.proofs.Math.Bool.{or-true}
-use Rattle.gabc_places.proofs.NumbersByTests.{below_eqb}
 use Rattle.gabc_places.specs.declared.place.Span.{Span}
 use Rattle.gabc_text.specs.declared.styles.Style.{Style}
 use Rattle.gabc_text.specs.declared.view.PieceKind.TheVariants as piece
 use Rattle.gabc_text.specs.Token.{Token, spelling}
 use Rattle.gabc_text.specs.View.{PieceFacts, all_styles, is_word_kind, is_blank_piece}
-use Rattle.gabc_text.specs.ViewFacts.{but_blank, is_mark, tags_among, LiesAmong}
+use Rattle.gabc_text.specs.ViewFacts.{but_blank, tags_among, LiesAmong}
 use Rattle.gabc_text.specs.Canonical.{after_common}
 use Rattle.gabc_text.specs.Printed.{opening_tag, closing_tag, begin_brace, end_brace, brace_tokens, tokens_between, print_from, text_of_tokens}
 use Rattle.gabc_text.specs.machine.PrintedPieces.{AllGood}
@@ -33,9 +32,7 @@ known_join [] qs h g = g
 known_join (p ∷ ps) qs h g = (h.0, known_join ps qs h.1 g)
 
 pub tags_join : (ps qs : List PieceFacts) → tags_among (ps ++ qs) ≡ tags_among ps ++ tags_among qs
-tags_join ps qs =
-    ap (map (λ (p : PieceFacts). p.text)) (filter-append (λ (p : PieceFacts). is_mark p.kind) ps qs)
-    ∙ map-append (λ (p : PieceFacts). p.text) (filter (λ (p : PieceFacts). is_mark p.kind) ps) (filter (λ (p : PieceFacts). is_mark p.kind) qs)
+tags_join ps qs = grind (arith, filter-append, map-append)
 
 pub word_join : (w : Bool) (ps qs : List PieceFacts) → word_after w (ps ++ qs) ≡ word_after (word_after w ps) qs
 word_join w [] qs = refl
@@ -77,8 +74,7 @@ run_after i ss (p ∷ ps) = rw (none_after ss) (ap (λ (ks : List Token). printe
 
 pub good_in : (ss : List Style) (test : Style → Bool) (w b : Bool) (ps : List PieceFacts) → ss ≡ filter test all_styles → AllGood w b ps → AllGood w b (map (in_styles ss) ps)
 good_in ss test w b [] e h = tt
-good_in ss test w b (p ∷ ps) e h =
-    (record { test = test; styles_are = e; stable = (h.0).stable; reads_so = (h.0).reads_so }, good_in ss test (is_word_kind (Some p.kind) || w) (is_blank_piece p.kind) ps e h.1)
+good_in ss test w b (p ∷ ps) e h = grind (arith, good_in ss test (is_word_kind (Some p.kind) || w) (is_blank_piece p.kind) ps e h.1)
 
 pub known_in : (ss : List Style) (ps : List PieceFacts) → AllKnown ps → AllKnown (map (in_styles ss) ps)
 known_in ss [] h = tt
@@ -86,16 +82,7 @@ known_in ss (p ∷ ps) h = (h.0, known_in ss ps h.1)
 
 pub tags_in : (ss : List Style) (ps : List PieceFacts) → tags_among (map (in_styles ss) ps) ≡ tags_among ps
 tags_in ss [] = refl
-tags_in ss (p ∷ ps) = by (is_mark p.kind) (tags_in ss ps)
-  where
-    texts : List PieceFacts → List (List ℕ)
-    texts = map (λ (q : PieceFacts). q.text)
-
-    by : (b : Bool) → tags_among (map (in_styles ss) ps) ≡ tags_among ps
-        → texts (cond b (in_styles ss p ∷ filter (λ (q : PieceFacts). is_mark q.kind) (map (in_styles ss) ps)) (filter (λ (q : PieceFacts). is_mark q.kind) (map (in_styles ss) ps)))
-        ≡ texts (cond b (p ∷ filter (λ (q : PieceFacts). is_mark q.kind) ps) (filter (λ (q : PieceFacts). is_mark q.kind) ps))
-    by true e = ap (λ (ts : List (List ℕ)). p.text ∷ ts) e
-    by false e = e
+tags_in ss (p ∷ ps) = grind (arith, tags_in ss ps)
 
 pub blank_in : (ss : List Style) (b : Bool) (ps : List PieceFacts) → blank_after b (map (in_styles ss) ps) ≡ blank_after b ps
 blank_in ss b [] = refl
@@ -117,35 +104,22 @@ IsPast None i = Unit {0}
 IsPast (Some c) i = (c.from < i) × (c.to < i)
 
 no_braces : (centre : Option Span) (i : ℕ) → IsPast centre i → brace_tokens centre i ≡ []
-no_braces None i h = refl
-no_braces (Some c) i h = rw (below_eqb c.from i h.0, below_eqb c.to i h.1) refl
+no_braces centre i h = grind arith
 
 past_more : (centre : Option Span) (i : ℕ) → IsPast centre i → IsPast centre (i + 1)
-past_more None i h = tt
-past_more (Some c) i h = (omega (arith, h.0), omega (arith, h.1))
+past_more centre i h = grind arith
 
 pub past_braces : (centre : Option Span) (i k : ℕ) (old : List Style) (ps : List PieceFacts) → IsPast centre i → print_from centre i old ps ≡ print_from None k old ps
 past_braces centre i k old [] h = ap (λ (ks : List Token). tokens_between old [] ks) (no_braces centre i h)
-past_braces centre i k old (p ∷ ps) h =
-    ap₂ (λ (ks ls : List Token). tokens_between old p.styles ks ++ printed_as p ∷ ls) (no_braces centre i h) (past_braces centre (i + 1) (k + 1) p.styles ps (past_more centre i h))
+past_braces centre i k old (p ∷ ps) h = grind (arith, past_braces centre (i + 1) (k + 1) p.styles ps (past_more centre i h), no_braces, past_more)
 
 pub after : (centre : Option Span) (i j : ℕ) (old : List Style) (ps : List PieceFacts) (q : PieceFacts) (qs : List PieceFacts) → i + length ps ≡ j → AreApart (last_styles old ps) q.styles
     → print_from centre i old (ps ++ q ∷ qs) ≡ print_from centre i old ps ++ (map opening_tag q.styles ++ printed_as q ∷ print_from centre (j + 1) q.styles qs)
-after centre i j old [] q qs e h =
-    let same : i ≡ j = omega (arith, e) in
-    let middle = brace_tokens centre i in
-    let more = printed_as q ∷ print_from centre (i + 1) q.styles qs in
-    ap (λ (left : List Style × List Style). (closings left.0 ++ middle ++ map opening_tag left.1) ++ more) h
-    ∙ append_assoc (closings old ++ middle) (map opening_tag q.styles) more
-    ∙ ap₂ (λ (ks : List Token) (n : ℕ). ks ++ (map opening_tag q.styles ++ printed_as q ∷ print_from centre (n + 1) q.styles qs)) (sym (at_end old middle)) same
-after centre i j old (p ∷ ps) q qs e h =
-    let gap = tokens_between old p.styles (brace_tokens centre i) in
-    ap (λ (ks : List Token). gap ++ printed_as p ∷ ks) (after centre (i + 1) j p.styles ps q qs (omega (arith, e)) h)
-    ∙ sym (append_assoc gap (printed_as p ∷ print_from centre (i + 1) p.styles ps) (map opening_tag q.styles ++ printed_as q ∷ print_from centre (j + 1) q.styles qs))
+after centre i j old [] q qs e h = grind (arith, append_assoc, at_end)
+after centre i j old (p ∷ ps) q qs e h = simp (append_assoc, after centre (i + 1) j p.styles ps q qs (omega (arith, e)) h)
 
 past_all : (centre : Option Span) (n : ℕ) → LiesAmong n centre → IsPast centre (n + 1)
-past_all None n h = tt
-past_all (Some c) n h = (omega (arith, h.0, h.1), omega (arith, h.1))
+past_all centre n h = grind arith
 
 -- what is printed of pieces in a row
 pub text_join : (centre : Option Span) (ps qs : List PieceFacts) → LiesAmong (length ps) centre → blank_after true qs ≡ false → AreApart (last_styles [] ps) (first_styles qs)
@@ -158,8 +132,7 @@ text_join centre ps (q ∷ qs) l e h =
     ∙ ap (λ (ks : List Token). text_of_tokens (print_from centre 0 [] ps) ++ text_of_tokens (first ++ printed_as q ∷ ks)) (past_braces centre (length ps + 1) (0 + 1) q.styles qs (past_all centre (length ps) l))
 
 pub among_more : (centre : Option Span) (ps qs : List PieceFacts) → LiesAmong (length ps) centre → LiesAmong (length (ps ++ qs)) centre
-among_more None ps qs h = tt
-among_more (Some c) ps qs h = (h.0, omega (arith, h.1, length-append ps qs))
+among_more centre ps qs h = grind (arith, length-append)
 
 pub last_join : (old : List Style) (ps qs : List PieceFacts) → blank_after true qs ≡ false → last_styles old (ps ++ qs) ≡ last_styles [] qs
 last_join old ps [] e = absurd (cc)
@@ -182,11 +155,7 @@ apart_none old = old_alone old
 pub styled_printed : (s : Style) (ps : List PieceFacts) → blank_after true ps ≡ false
     → text_of_tokens (print_from None 0 [] (map (in_styles (s ∷ [])) ps)) ≡ spelling (opening_tag s) ++ (printed_text ps ++ spelling (closing_tag s))
 styled_printed s [] e = absurd (cc)
-styled_printed s (p ∷ ps) e =
-    ap (λ (ks : List Token). spelling (opening_tag s) ++ (spelling (printed_as p) ++ text_of_tokens ks)) (run_after (0 + 1) (s ∷ []) ps)
-    ∙ ap (λ (t : List ℕ). spelling (opening_tag s) ++ (spelling (printed_as p) ++ t)) (written_append (map printed_as ps) (closing_tag s ∷ []))
-    ∙ ap (λ (t : List ℕ). spelling (opening_tag s) ++ (spelling (printed_as p) ++ (printed_text ps ++ t))) (append-nil (spelling (closing_tag s)))
-    ∙ ap (λ (t : List ℕ). spelling (opening_tag s) ++ t) (sym (append_assoc (spelling (printed_as p)) (printed_text ps) (spelling (closing_tag s))))
+styled_printed s (p ∷ ps) e = grind (arith, run_after, written_append, append-nil, append_assoc)
 
 pub first_in : (ss : List Style) (ps : List PieceFacts) → blank_after true ps ≡ false → first_styles (map (in_styles ss) ps) ≡ ss
 first_in ss [] e = absurd (cc)
@@ -205,30 +174,14 @@ last_in ss (p ∷ ps) e = by ps
 -- in front of the centre
 begun_centre : (c : Span) (i : ℕ) (old : List Style) (ps : List PieceFacts) → i + length ps ≡ c.from → c.from < c.to
     → print_from (Some c) i old ps ≡ print_from None i old ps ++ begin_brace ∷ []
-begun_centre c i old [] e h =
-    let at_from : (c.from == i) ≡ true = eq-eqb c.from i (omega (arith, e)) in
-    let no_to : (c.to == i) ≡ false = ne_eqb c.to i (λ f. omega (arith, e, h, f)) in
-    let brace : brace_tokens (Some c) i ≡ begin_brace ∷ [] = rw (at_from, no_to) refl in
-    at_end old (brace_tokens (Some c) i) ∙ ap (λ (ks : List Token). closings old ++ ks) brace ∙ ap (λ (ks : List Token). ks ++ begin_brace ∷ []) (sym (at_end old [] ∙ append-nil (closings old)))
-begun_centre c i old (p ∷ ps) e h =
-    let no_from : (c.from == i) ≡ false = ne_eqb c.from i (λ f. omega (arith, e, f)) in
-    let no_to : (c.to == i) ≡ false = ne_eqb c.to i (λ f. omega (arith, e, h, f)) in
-    let none : brace_tokens (Some c) i ≡ [] = rw (no_from, no_to) refl in
-    let gap = tokens_between old p.styles [] in
-    ap₂ (λ (ks ls : List Token). tokens_between old p.styles ks ++ printed_as p ∷ ls) none (begun_centre c (i + 1) p.styles ps (omega (arith, e)) h)
-    ∙ sym (append_assoc gap (printed_as p ∷ print_from None (i + 1) p.styles ps) (begin_brace ∷ []))
+begun_centre c i old [] e h = grind (arith, eq-eqb, ne_eqb, at_end, append-nil)
+begun_centre c i old (p ∷ ps) e h = grind (arith, ne_eqb, append_assoc, begun_centre c (i + 1) p.styles ps (omega (arith, e)) h)
 
 -- within it
 ended_centre : (c : Span) (j : ℕ) (rs : List PieceFacts) → c.from < j → j + length rs ≡ c.to
     → print_from (Some c) j [] (map (in_styles []) rs) ≡ map printed_as rs ++ end_brace ∷ []
-ended_centre c j [] h e =
-    let no_from : (c.from == j) ≡ false = ne_eqb c.from j (λ f. omega (arith, h, f)) in
-    let at_to : (c.to == j) ≡ true = eq-eqb c.to j (omega (arith, e)) in
-    rw (no_from, at_to) refl
-ended_centre c j (r ∷ rs) h e =
-    let no_from : (c.from == j) ≡ false = ne_eqb c.from j (λ f. omega (arith, h, f)) in
-    let no_to : (c.to == j) ≡ false = ne_eqb c.to j (λ f. omega (arith, e, f)) in
-    rw (no_from, no_to) (ap (λ (ks : List Token). printed_as r ∷ ks) (ended_centre c (j + 1) rs (omega (arith, h)) (omega (arith, e))))
+ended_centre c j [] h e = grind (arith, ne_eqb, eq-eqb)
+ended_centre c j (r ∷ rs) h e = grind (arith, ne_eqb, ended_centre c (j + 1) rs (omega (arith, h)) (omega (arith, e)))
 
 pub centre_text : (c : Span) (ps rs : List PieceFacts) → blank_after true rs ≡ false → c.from ≡ length ps → c.to ≡ length ps + length rs
     → text_of_tokens (print_from (Some c) 0 [] (ps ++ map (in_styles []) rs)) ≡ text_of_tokens (print_from None 0 [] ps) ++ 123 ∷ (printed_text rs ++ 125 ∷ [])

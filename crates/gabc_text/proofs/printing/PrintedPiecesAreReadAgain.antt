@@ -1,17 +1,14 @@
 -- Printed pieces are read as they were.
-use Rattle.std.proofs.Common.{◌≡◌, ℕ, ◌+◌, ◌==◌, List, [], ◌∷◌, ◌++◌, Bool, true, false, ◌||◌, cond, refl, ap, ◌∙◌, map, reverse, filter, Option, Some, None}
+use Rattle.std.proofs.Common.{arith, ◌≡◌, ℕ, ◌+◌, List, [], ◌∷◌, ◌++◌, Bool, true, false, ◌||◌, refl, ap, ◌∙◌, map, filter, Option, Some, None}
 use Rattle.gabc_places.specs.declared.place.Span.{Span}
 use Rattle.gabc_text.specs.declared.styles.Style.{Style}
 use Rattle.gabc_text.specs.declared.view.PieceKind.{PieceKind}
 use Rattle.gabc_text.specs.declared.view.PieceKind.TheVariants as piece
 use Rattle.gabc_text.specs.declared.token.TokenKind.{TokenKind}
 use Rattle.gabc_text.specs.declared.token.TokenKind.TheVariants as kind
-use Rattle.gabc_text.specs.declared.token.TagEffect.{TagEffect}
-use Rattle.gabc_text.specs.declared.token.TagEffect.TheVariants.{Opens, Closes}
-use Rattle.gabc_text.specs.Token.{Token, spelling, effect_of}
-use Rattle.gabc_text.specs.View.{along, effect, effect_as, tag_piece, piece_kind, is_open_after, is_open, all_styles, open_styles, kind_of, is_word_kind, has_word, follows_blank, starts_word, pieces_at, piece_of, PieceFacts, text_of_piece, is_space, is_blank_piece, is_translation}
-use Rattle.gabc_text.specs.Canonical.{after_common}
-use Rattle.gabc_text.specs.Printed.{opening_tag, closing_tag, begin_brace, end_brace, tokens_between, brace_tokens, printed_piece, print_from}
+use Rattle.gabc_text.specs.Token.{Token}
+use Rattle.gabc_text.specs.View.{along, tag_piece, is_open, all_styles, open_styles, kind_of, is_word_kind, has_word, follows_blank, starts_word, pieces_at, PieceFacts, is_space, is_blank_piece, is_translation}
+use Rattle.gabc_text.specs.Printed.{opening_tag, closing_tag, tokens_between, brace_tokens, printed_piece, print_from}
 use Rattle.gabc_text.proofs.printing.TokensAreReadAgain.{opening_stable, closing_stable}
 use Rattle.gabc_text.proofs.printing.PrintedTagsOpenStyles.{along_append, tag_opens, tag_closes, member, AllOnce, Quiet, across, styles_again, once}
 use Rattle.gabc_text.proofs.machine.TokensOneAfterAnother.{onto}
@@ -47,25 +44,10 @@ pub record Braces (ks : List Token) : Type 0 where
   pub quiet : Quiet ks
 
 pub are_braces : (centre : Option Span) (i : ℕ) → Braces (brace_tokens centre i)
-are_braces None i = record { silent = tt; quiet = λ s before. refl }
-are_braces (Some c) i = by (c.from == i) (c.to == i)
-  where
-    begins : Silent begin_brace
-    begins = record { none = refl; no_space = refl; no_translation = refl; stable = λ u. refl }
-
-    ends : Silent end_brace
-    ends = record { none = refl; no_space = refl; no_translation = refl; stable = λ u. refl }
-
-    by : (a b : Bool) → Braces (cond a (cond b (begin_brace ∷ end_brace ∷ []) (begin_brace ∷ [])) (cond b (end_brace ∷ []) []))
-    by true true = record { silent = (begins, (ends, tt)); quiet = λ s before. refl }
-    by true false = record { silent = (begins, tt); quiet = λ s before. refl }
-    by false true = record { silent = (ends, tt); quiet = λ s before. refl }
-    by false false = record { silent = tt; quiet = λ s before. refl }
+are_braces centre i = grind arith
 
 pub between_silent : (old new : List Style) (middle : List Token) → AllSilent middle → AllSilent (tokens_between old new middle)
-between_silent old new middle h =
-    silent_append (map closing_tag (reverse (after_common old new).0) ++ middle) (map opening_tag (after_common old new).1)
-    (silent_append (map closing_tag (reverse (after_common old new).0)) middle (closing_silent (reverse (after_common old new).0)) h) (opening_silent (after_common old new).1)
+between_silent old new middle h = grind (arith, silent_append, closing_silent, opening_silent)
 
 -- they give no pieces, and change nothing of what the pieces look at
 pub no_pieces : (before : List Token) (k : Token) → Silent k → pieces_at before k ≡ []
@@ -89,20 +71,6 @@ silent_starts before (k ∷ ks) h = silent_starts (k ∷ before) ks h.1 ∙ rw h
 
 -- ---- pieces that are read again
 
-of_kind : (before : List Token) (k : Token) (p : PieceKind) (t : List ℕ) → kind_of k ≡ Some p → text_of_piece p k ≡ t
-    → pieces_at before k ≡ record { kind = p; styles = open_styles before; text = t } ∷ []
-of_kind before k p t e f = ap (piece_of before k) e ∙ ap (λ (x : List ℕ). record { kind = p; styles = open_styles before; text = x } ∷ []) f
-
--- a piece changes no style
-same_open : (s : Style) (d : TokenKind) (t : List ℕ) (p : PieceKind) (was : Bool) → piece_kind d (effect_as d t) ≡ Some p → is_open_after s (effect_as d t) was ≡ was
-same_open s kind.Tag t p was e = by (effect_of t) e
-  where
-    by : (so : TagEffect) → tag_piece so ≡ Some p → is_open_after s so was ≡ was
-    by (Opens r) e = absurd (cc)
-    by (Closes r) e = absurd (cc)
-    by _ e = refl
-same_open s _ t p was e = refl
-
 -- what a printed piece does after such tokens
 pub record Does (p : PieceFacts) (w b : Bool) (before : List Token) : Type 0 where
   pub pieces_are : pieces_at before (printed_piece p.kind p.text) ≡ record { kind = p.kind; styles = open_styles before; text = p.text } ∷ []
@@ -111,52 +79,19 @@ pub record Does (p : PieceFacts) (w b : Bool) (before : List Token) : Type 0 whe
   pub opens : (s : Style) → is_open s (printed_piece p.kind p.text ∷ before) ≡ is_open s before
   pub starts : starts_word (printed_piece p.kind p.text ∷ before) ≡ starts_word before
 
-no_blank : (k : PieceKind) (t : List ℕ) (ss : List Style) (w b : Bool) (before : List Token) → kind_of (printed_piece k t) ≡ Some k → text_of_piece k (printed_piece k t) ≡ t → is_space (printed_piece k t).kind ≡ false
-    → is_blank_piece k ≡ false → has_word before ≡ w → Does (record { kind = k; styles = ss; text = t }) w b before
-no_blank k t ss w b before e f g n h = record {
-  pieces_are = of_kind before (printed_piece k t) k t e f;
-  word = ap (λ o. is_word_kind o || has_word before) e ∙ ap (λ x. is_word_kind (Some k) || x) h;
-  blank = rw (g, e, n) refl;
-  opens = λ s. same_open s (printed_piece k t).kind (spelling (printed_piece k t)) k (is_open s before) e;
-  starts = rw g refl;
-}
-
 pub does : (p : PieceFacts) (w b : Bool) (before : List Token) → Good p w b → has_word before ≡ w → (w ≡ true → follows_blank before ≡ b) → Does p w b before
 does p w b before h e f = by p.kind h.reads_so
   where
     by : (k : PieceKind) → Says k p.text w b → Does (record { kind = k; styles = p.styles; text = p.text }) w b before
-    by piece.Blank g = record {
-      pieces_are = rw (e, g.1, f g.1, g.2, g.0) refl;
-      word = e ∙ g.1;
-      blank = refl;
-      opens = λ s. refl;
-      starts = rw (e, g.1) refl;
-    }
-    by piece.Char g = no_blank piece.Char p.text p.styles w b before g.0 g.1 g.2 refl e
-    by piece.Raw g = no_blank piece.Raw p.text p.styles w b before g.0 g.1 g.2 refl e
-    by piece.Tag g = no_blank piece.Tag p.text p.styles w b before g.0 g.1 g.2 refl e
-    by piece.Mark g = no_blank piece.Mark p.text p.styles w b before g.0 g.1 g.2 refl e
+    by k g = grind arith
 
 -- a printed piece is a blank, or a token of its kind
 pub printed_by : (P : Token → Type 0) (p : PieceFacts) (w b : Bool) → (w ≡ true → b ≡ false → P (printed_piece piece.Blank [])) → ((k : Token) → kind_of k ≡ Some p.kind → P k) → Good p w b
     → P (printed_piece p.kind p.text)
-printed_by P p w b blank other g = by p.kind other g.reads_so
-  where
-    by : (q : PieceKind) → ((k : Token) → kind_of k ≡ Some q → P k) → Says q p.text w b → P (printed_piece q p.text)
-    by piece.Blank f h = blank h.1 h.2
-    by piece.Char f h = f (printed_piece piece.Char p.text) h.0
-    by piece.Raw f h = f (printed_piece piece.Raw p.text) h.0
-    by piece.Tag f h = f (printed_piece piece.Tag p.text) h.0
-    by piece.Mark f h = f (printed_piece piece.Mark p.text) h.0
+printed_by P p w b blank other g = grind arith
 
 pub printed_kind : (P : TokenKind → Type 0) → P kind.Blank → P kind.Letter → P kind.Raw → P kind.Tag → (p : PieceFacts) (w b : Bool) → Good p w b → P (printed_piece p.kind p.text).kind
-printed_kind P blank letter raw tag p w b g = printed_by (λ (k : Token). P k.kind) p w b (λ _ _. blank) (λ k e. by k.kind (effect k) e) g
-  where
-    by : (d : TokenKind) (so : TagEffect) → piece_kind d so ≡ Some p.kind → P d
-    by kind.Letter so e = letter
-    by kind.Raw so e = raw
-    by kind.Tag so e = tag
-    by _ so e = absurd (cc)
+printed_kind P blank letter raw tag p w b g = grind arith
 
 -- the pieces are read again
 pub pieces_again : (centre : Option Span) (i : ℕ) (old : List Style) (ps : List PieceFacts) (w b : Bool) (before : List Token)

@@ -7,7 +7,6 @@ use Rattle.std.proofs.lemmas.List.Folds.{list_any-append}
 use Rattle.std.proofs.Math.Bool.{and-false, and-true, or-false, or-true, or_comm, not-and_self}
 use Rattle.gabc_text.proofs.machine.TokensOneAfterAnother.{onto}
 use Rattle.gabc_text.specs.declared.styles.Style.{Style}
-use Rattle.gabc_text.specs.declared.styles.Style.TheVariants.{B, C, E, I, Sc, Tt, Ul}
 use Rattle.gabc_text.specs.Token.{Token}
 use Rattle.gabc_text.specs.View.{along, effect, is_open_after, is_open, is_same, all_styles, open_styles}
 use Rattle.gabc_text.specs.Canonical.{after_common}
@@ -21,8 +20,7 @@ push_append (k ∷ ks) ls before = push_append ks ls (k ∷ before)
 
 pub along_append : {X : Type 0} (at : List Token → Token → List X) (before ks ls : List Token) → along at before (ks ++ ls) ≡ along at before ks ++ along at (onto ks before) ls
 along_append at before [] ls = refl
-along_append at before (k ∷ ks) ls =
-    ap (λ x. at before k ++ x) (along_append at (k ∷ before) ks ls) ∙ sym (append_assoc (at before k) (along at (k ∷ before) ks) (along at (onto ks (k ∷ before)) ls))
+along_append at before (k ∷ ks) ls = simp (append_assoc, along_append at (k ∷ before) ks ls)
 
 abbrev pub member : Style → List Style → Bool
 member s xs = list_any (λ r. is_same r s) xs
@@ -30,12 +28,10 @@ member s xs = list_any (λ r. is_same r s) xs
 -- ---- one tag
 
 pub tag_opens : (s : Style) → effect (opening_tag s) ≡ Opens s
-tag_opens B = refl
-tag_opens _ = refl
+tag_opens s = grind arith
 
 pub tag_closes : (s : Style) → effect (closing_tag s) ≡ Closes s
-tag_closes B = refl
-tag_closes _ = refl
+tag_closes s = grind arith
 
 pub open_one : (r s : Style) (before : List Token) → is_open s (opening_tag r ∷ before) ≡ cond (is_same r s) true (is_open s before)
 open_one r s before = ap (λ (so : TagEffect). is_open_after s so (is_open s before)) (tag_opens r)
@@ -54,10 +50,7 @@ opened s (y ∷ ys) before = opened s ys (opening_tag y ∷ before) ∙ ap (λ b
 
 pub closed : (s : Style) (ys : List Style) (before : List Token) → is_open s (onto (map closing_tag ys) before) ≡ (not (member s ys) && is_open s before)
 closed s [] before = refl
-closed s (y ∷ ys) before = closed s ys (closing_tag y ∷ before) ∙ ap (λ b. not (member s ys) && b) (close_one y s before) ∙ turn (is_same y s) (member s ys) (is_open s before)
-  where
-    turn : (a m b : Bool) → (not m && cond a false b) ≡ (not (a || m) && b)
-    turn a m b = grind arith
+closed s (y ∷ ys) before = grind (arith, close_one, closed s ys (closing_tag y ∷ before))
 
 pub any_reverse : (s : Style) (xs : List Style) → member s (reverse xs) ≡ member s xs
 any_reverse s [] = refl
@@ -73,24 +66,13 @@ AllOnce [] = Unit {0}
 AllOnce (x ∷ xs) = (member x xs ≡ false) × AllOnce xs
 
 pub same_style : (r s : Style) → is_same r s ≡ true → r ≡ s
-same_style B B e = refl
-same_style C C e = refl
-same_style E E e = refl
-same_style I I e = refl
-same_style Sc Sc e = refl
-same_style Tt Tt e = refl
-same_style Ul Ul e = refl
-same_style _ _ e = absurd (cc)
+same_style r s e = grind arith
 
 -- what is left of the old are styles of the old
 pub within : (s : Style) (old new : List Style) → member s old ≡ false → member s (after_common old new).0 ≡ false
 within s [] new h = refl
 within s (x ∷ old) [] h = h
-within s (x ∷ old) (y ∷ new) h = by (is_same x y) (within s old new (or_parts (is_same x s) (member s old) h).1)
-  where
-    by : (b : Bool) → member s (after_common old new).0 ≡ false → member s (cond b (after_common old new) (x ∷ old, y ∷ new)).0 ≡ false
-    by true e = e
-    by false e = h
+within s (x ∷ old) (y ∷ new) h = grind (arith, or_parts, within s old new (or_parts (is_same x s) (member s old) h).1)
 
 -- closing what is left of the old and opening what is left of the new makes the new
 abbrev Turned : Style → List Style → List Style → List Style × List Style → Type 0
@@ -102,17 +84,7 @@ none_closed m n = ap (λ b. n || b) (not-and_self m) ∙ or-false n
 pub turned_over : (s : Style) (old new : List Style) → AllOnce old → Turned s old new (after_common old new)
 turned_over s [] new h = none_closed false (member s new)
 turned_over s (x ∷ old) [] h = none_closed (member s (x ∷ old)) false
-turned_over s (x ∷ old) (y ∷ new) h = by (is_same x y) refl (turned_over s old new h.1)
-  where
-    common : (b : Bool) → is_same x s ≡ b → x ≡ y → Turned s old new (after_common old new) → Turned s (x ∷ old) (y ∷ new) (after_common old new)
-    common true f e t =
-        let mine : member s (after_common old new).0 ≡ false = within s old new (ap (λ r. member r old) (sym (same_style x s f)) ∙ h.0) in
-        rw (← e, f, mine) (or-true (member s (after_common old new).1))
-    common false f e t = rw (← e, f) t
-
-    by : (b : Bool) → is_same x y ≡ b → Turned s old new (after_common old new) → Turned s (x ∷ old) (y ∷ new) (cond b (after_common old new) (x ∷ old, y ∷ new))
-    by true e t = common (is_same x s) refl (same_style x y e) t
-    by false e t = none_closed (member s (x ∷ old)) (member s (y ∷ new))
+turned_over s (x ∷ old) (y ∷ new) h = grind (arith, within, same_style, or-true, none_closed, turned_over s old new h.1)
 
 -- ---- a boundary
 
@@ -122,50 +94,25 @@ Quiet ks = (s : Style) (before : List Token) → is_open s (onto ks before) ≡ 
 
 pub across : (s : Style) (old new : List Style) (middle before : List Token) → AllOnce old → Quiet middle → is_open s before ≡ member s old
     → is_open s (onto (tokens_between old new middle) before) ≡ member s new
-across s old new middle before once quiet h =
-    let left = after_common old new in
-    ap (is_open s) (push_append (map closing_tag (reverse left.0) ++ middle) (map opening_tag left.1) before)
-    ∙ opened s left.1 (onto (map closing_tag (reverse left.0) ++ middle) before)
-    ∙ ap (λ b. member s left.1 || b)
-    (ap (is_open s) (push_append (map closing_tag (reverse left.0)) middle before) ∙ quiet s (onto (map closing_tag (reverse left.0)) before)
-    ∙ closed s (reverse left.0) before ∙ ap (λ b. not b && is_open s before) (any_reverse s left.0) ∙ ap (λ b. not (member s left.0) && b) h)
-    ∙ turned_over s old new once
+across s old new middle before once quiet h = grind (arith, push_append, opened, closed, any_reverse, turned_over)
 
 -- ---- sets of styles as lists
 
 congruent : (f g : Style → Bool) (xs : List Style) → ((s : Style) → f s ≡ g s) → filter f xs ≡ filter g xs
-congruent f g [] h = refl
-congruent f g (x ∷ xs) h = rw (h x, congruent f g xs h) refl
+congruent f g xs h = grind arith
 
 pub member_filter : (s : Style) (f : Style → Bool) (xs : List Style) → member s (filter f xs) ≡ (f s && member s xs)
 member_filter s f [] = sym (and-false (f s))
-member_filter s f (x ∷ xs) = by (f x) (is_same x s) refl refl (member_filter s f xs)
-  where
-    by : (b a : Bool) → f x ≡ b → is_same x s ≡ a → member s (filter f xs) ≡ (f s && member s xs) → member s (cond b (x ∷ filter f xs) (filter f xs)) ≡ (f s && (a || member s xs))
-    by true true e g h = let k : f s ≡ true = ap f (sym (same_style x s g)) ∙ e in rw (g, k) refl
-    by true false e g h = rw g h
-    by false true e g h = let k : f s ≡ false = ap f (sym (same_style x s g)) ∙ e in rw (h, k) refl
-    by false false e g h = h
+member_filter s f (x ∷ xs) = grind (arith, same_style, member_filter s f xs)
 
 all_members : (s : Style) → member s all_styles ≡ true
-all_members B = refl
-all_members _ = refl
+all_members s = grind arith
 
 -- the open styles after a boundary are the new ones
 pub styles_again : (old : List Style) (f : Style → Bool) (middle before : List Token) → AllOnce old → Quiet middle → ((s : Style) → is_open s before ≡ member s old)
     → open_styles (onto (tokens_between old (filter f all_styles) middle) before) ≡ filter f all_styles
-styles_again old f middle before once quiet h =
-    congruent (λ s. is_open s (onto (tokens_between old (filter f all_styles) middle) before)) f all_styles
-    (λ s. across s old (filter f all_styles) middle before once quiet (h s) ∙ member_filter s f all_styles ∙ ap (λ b. f s && b) (all_members s) ∙ and-true (f s))
+styles_again old f middle before once quiet h = grind (arith, congruent, across, member_filter, all_members, and-true)
 
 -- a list of open styles has none twice
 pub once : (f : Style → Bool) → AllOnce (filter f all_styles)
-once f = once_filter all_styles (refl, (refl, (refl, (refl, (refl, (refl, (refl, tt)))))))
-  where
-    once_filter : (xs : List Style) → AllOnce xs → AllOnce (filter f xs)
-    once_filter [] h = tt
-    once_filter (x ∷ xs) h = by (f x) (once_filter xs h.1)
-      where
-        by : (b : Bool) → AllOnce (filter f xs) → AllOnce (cond b (x ∷ filter f xs) (filter f xs))
-        by true g = (member_filter x f xs ∙ ap (λ c. f x && c) h.0 ∙ and-false (f x), g)
-        by false g = g
+once f = grind arith

@@ -1,13 +1,12 @@
 -- All of a printed text is kept.
-use Rattle.std.proofs.Common.{◌≡◌, ℕ, ◌+◌, ◌==◌, List, [], ◌∷◌, ◌++◌, Bool, true, false, ◌||◌, cond, refl, sym, ap, ◌∙◌, map, reverse, append_assoc, Option, Some, None, length}
+use Rattle.std.proofs.Common.{arith, ◌≡◌, ℕ, ◌+◌, ◌==◌, List, [], ◌∷◌, ◌++◌, Bool, true, ◌||◌, cond, refl, sym, ap, ◌∙◌, map, reverse, append_assoc, Some, None, length}
 use Rattle.gabc_places.specs.declared.place.Span.{Span}
 use Rattle.gabc_text.specs.declared.styles.Style.{Style}
-use Rattle.gabc_text.specs.declared.view.PieceKind.TheVariants as piece
 use Rattle.gabc_text.specs.Token.{Token, spelling}
-use Rattle.gabc_text.specs.View.{along, effect, kind_of, PieceFacts, is_word_kind, has_word, follows_blank, follows_space, is_blank_piece, has_begin, has_end, count_pieces, kept, kept_at}
+use Rattle.gabc_text.specs.View.{along, PieceFacts, is_word_kind, has_word, follows_blank, is_blank_piece, has_begin, has_end, count_pieces, kept, kept_at}
 use Rattle.gabc_text.specs.Canonical.{after_common}
-use Rattle.gabc_text.specs.ViewFacts.{ViewFacts, view_facts, LiesAmong}
-use Rattle.gabc_text.specs.Printed.{print_from, printed_piece, tokens_between, brace_tokens, opening_tag, closing_tag, text_of_tokens, text_tokens, translation_tokens, word_break, print_tokens, print}
+use Rattle.gabc_text.specs.ViewFacts.{ViewFacts, view_facts}
+use Rattle.gabc_text.specs.Printed.{print_from, printed_piece, tokens_between, brace_tokens, opening_tag, closing_tag, text_of_tokens, text_tokens, translation_tokens, print_tokens, print}
 use Rattle.gabc_text.proofs.printing.PrintedTagsOpenStyles.{along_append}
 use Rattle.gabc_text.proofs.printing.PrintedPiecesAreReadAgain.{does, printed_by, silent_word, silent_blank}
 use Rattle.gabc_text.proofs.printing.PrintedBracesGiveCentre.{Phase, Allowed, allowed, at_start, gap_by, next_phase, gap_silent, closing_marks, piece_marks, braces_by}
@@ -39,10 +38,7 @@ closings [] before = refl
 closings (s ∷ ss) before = ap (λ (x : List ℕ). spelling (closing_tag s) ++ x) (closings ss (closing_tag s ∷ before))
 
 braces_kept : (x y begun ended : Bool) (at : List Token) → Allowed x y begun ended → has_begin at ≡ begun → has_end at ≡ ended → Kept at (braces_by x y)
-braces_kept true true begun ended at (h, g) e f = rw (e, h, f, g) refl
-braces_kept true false begun ended at (h, g) e f = rw (e, h) refl
-braces_kept false true begun ended at (h, g) e f = rw (e, h, f, g) refl
-braces_kept false false begun ended at h e f = refl
+braces_kept x y begun ended at h1 e f = grind arith
 
 gap_kept : (old new : List Style) (before ms : List Token) → ((at : List Token) → has_begin at ≡ has_begin before → has_end at ≡ has_end before → Kept at ms) → Kept before (tokens_between old new ms)
 gap_kept old new before ms h =
@@ -54,13 +50,7 @@ gap_kept old new before ms h =
     (openings (after_common old new).1 (onto (map closing_tag (reverse (after_common old new).0) ++ ms) before))
 
 piece_kept : (p : PieceFacts) (w b : Bool) (now : List Token) → Good p w b → (w ≡ true → follows_blank now ≡ b) → kept_at now (printed_piece p.kind p.text) ≡ spelling (printed_piece p.kind p.text)
-piece_kept p w b now g f = printed_by (λ (k : Token). kept_at now k ≡ spelling k) p w b blank other g
-  where
-    blank : w ≡ true → b ≡ false → kept_at now (printed_piece piece.Blank []) ≡ spelling (printed_piece piece.Blank [])
-    blank e first = let s : follows_space now ≡ false = no_space now (f e ∙ first) in rw s refl
-
-    other : (k : Token) → kind_of k ≡ Some p.kind → kept_at now k ≡ spelling k
-    other k e = let h = kept_spelled now k k.kind (effect k) p.kind e in rw (h.0, h.1) refl
+piece_kept p w b now g f = grind (arith, printed_by, no_space, kept_spelled)
 
 one_kept : (now : List Token) (k : Token) (ks : List Token) → kept_at now k ≡ spelling k → Kept (k ∷ now) ks → Kept now (k ∷ ks)
 one_kept now k ks e h = ap (λ (x : List ℕ). x ++ along kept_at (k ∷ now) ks) e ∙ ap (λ (x : List ℕ). spelling k ++ x) h
@@ -69,8 +59,7 @@ one_kept now k ks e h = ap (λ (x : List ℕ). x ++ along kept_at (k ∷ now) ks
 kept_from : (c : Span) (i : ℕ) (old : List Style) (ps : List PieceFacts) (w b0 : Bool) (before : List Token) (begun ended : Bool)
     → has_word before ≡ w → (w ≡ true → follows_blank before ≡ b0) → AllGood w b0 ps → count_pieces before ≡ i
     → Phase begun ended c.from c.to i (length ps) → has_begin before ≡ begun → has_end before ≡ ended → Kept before (print_from (Some c) i old ps)
-kept_from c i old [] w b0 before begun ended e f g count ph hb he =
-    gap_kept old [] before (brace_tokens (Some c) i) (λ at u v. braces_kept (c.from == i) (c.to == i) begun ended at (allowed (c.from == i) (c.to == i) begun ended c.from c.to i 0 refl refl ph) (u ∙ hb) (v ∙ he))
+kept_from c i old [] w b0 before begun ended e f g count ph hb he = grind (arith, gap_kept, braces_kept, allowed)
 kept_from c i old (p ∷ ps) w b0 before begun ended e f g count ph hb he =
     let gap = tokens_between old p.styles (brace_tokens (Some c) i) in
     let k = printed_piece p.kind p.text in
@@ -105,27 +94,7 @@ abbrev pub word_kept : Bool → List ℕ
 word_kept b = cond b (32 ∷ []) []
 
 pub view_kept : (v : ViewFacts) → Sound v → along kept_at [] (print_tokens v) ≡ word_kept v.word_start ++ text_of_tokens (text_tokens v ++ translation_tokens v.translation)
-view_kept v s =
-    ap (along kept_at []) (append_assoc (word_break v.word_start) (text_tokens v) (translation_tokens v.translation))
-    ∙ along_append kept_at [] (word_break v.word_start) (text_tokens v ++ translation_tokens v.translation)
-    ∙ ap (λ (x : List ℕ). x ++ along kept_at (onto (word_break v.word_start) []) (text_tokens v ++ translation_tokens v.translation)) (word v.word_start)
-    ∙ ap (λ (x : List ℕ). word_kept v.word_start ++ x)
-    (both_kept (onto (word_break v.word_start) []) (text_tokens v) (translation_tokens v.translation)
-    (text v.word_start v.centre s.centre_in) (end v.translation (onto (text_tokens v) (onto (word_break v.word_start) []))))
-  where
-    word : (b : Bool) → along kept_at [] (word_break b) ≡ word_kept b
-    word true = refl
-    word false = refl
-
-    end : (tr : Option (List ℕ)) (before : List Token) → Kept before (translation_tokens tr)
-    end None before = refl
-    end (Some t) before = refl
-
-    text : (b : Bool) (c : Option Span) → LiesAmong (length v.pieces) c → Kept (onto (word_break b) []) (print_from c 0 [] v.pieces)
-    text b None h = kept_none 0 [] v.pieces false false (onto (word_break b) []) (break_alike b).word (λ e. absurd (cc)) s.good
-    text b (Some c) h =
-        kept_from c 0 [] v.pieces false false (onto (word_break b) []) false false (break_alike b).word (λ e. absurd (cc)) s.good (break_alike b).count
-        (at_start c (length v.pieces) h) (break_alike b).begun (break_alike b).ended
+view_kept v s = grind (arith, append_assoc, along_append, both_kept, kept_none, break_alike, kept_from, at_start)
 
 pub printed_kept : (t rest : List ℕ) → kept (print (view_facts t) ++ 40 ∷ rest) ≡ word_kept (view_facts t).word_start ++ text_of_tokens (text_tokens (view_facts t) ++ translation_tokens (view_facts t).translation)
 printed_kept t rest =

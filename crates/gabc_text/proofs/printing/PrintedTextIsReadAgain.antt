@@ -1,20 +1,17 @@
 -- A printed text is read as it was.
 use Rattle.std.proofs.lemmas.List.{reverse-append}
-use Rattle.std.proofs.Common.{◌≡◌, ℕ, zero, suc, ◌+◌, ◌-◌, ◌≤◌, ◌==◌, List, [], ◌∷◌, ◌++◌, Bool, true, false, ◌||◌, ◌&&◌, not, cond, refl, sym, ap, ◌∙◌, subst, reverse, append_assoc, append-nil, Option, Some, None, length, length-append, take, drop, arith, codes, option_map, min}
+use Rattle.std.proofs.Common.{◌≡◌, ℕ, zero, suc, ◌+◌, ◌-◌, ◌≤◌, ◌==◌, List, [], ◌∷◌, ◌++◌, Bool, true, false, ◌||◌, ◌&&◌, not, cond, refl, sym, ap, ◌∙◌, reverse, append_assoc, append-nil, Option, Some, None, length, length-append, take, arith, codes, option_map, min}
 use Rattle.std.proofs.Math.Bool.{and-false}
 use Rattle.gabc_places.specs.declared.place.Span.{Span}
 use Rattle.gabc_text.specs.declared.styles.Style.{Style}
-use Rattle.gabc_text.specs.declared.view.PieceKind.{PieceKind}
-use Rattle.gabc_text.specs.declared.view.PieceKind.TheVariants as piece
 use Rattle.gabc_text.specs.declared.token.TokenKind.{TokenKind}
 use Rattle.gabc_text.specs.declared.token.TokenKind.TheVariants as kind
-use Rattle.gabc_text.specs.Token.{Token, tokens, tokens_after, token_at, tag_at, token_of_tag, ended_token, through, ending_of, single, dollar_at, is_blank, is_one_of, effect_of}
-use Rattle.gabc_text.specs.View.{along, is_word_kind, has_word, follows_blank, starts_word, pieces_at, PieceFacts, is_blank_piece, is_translation, is_begin, is_end, has_begin, has_end, count_pieces}
+use Rattle.gabc_text.specs.Token.{Token, tokens, tokens_after, token_at, tag_at, token_of_tag, ended_token, through, single, dollar_at, is_blank, is_one_of}
+use Rattle.gabc_text.specs.View.{along, is_word_kind, has_word, follows_blank, starts_word, pieces_at, PieceFacts, is_blank_piece, is_translation, is_end, has_begin, has_end, count_pieces}
 use Rattle.gabc_text.proofs.printing.ViewFromFirstToken.{pieces_of, view, view_by, translation_by, translation_from, begin_at, end_at, centre_by}
 use Rattle.gabc_text.specs.ViewFacts.{ViewFacts, but_blank, LiesAmong}
-use Rattle.gabc_text.specs.Printed.{print_tokens, print_from, text_tokens, translation_tokens, word_break, printed_piece, tokens_between, brace_tokens, print}
+use Rattle.gabc_text.specs.Printed.{print_tokens, print_from, translation_tokens, word_break, printed_piece, tokens_between, brace_tokens, print}
 use Rattle.gabc_text.specs.declared.token.TagEffect.{TagEffect}
-use Rattle.gabc_text.specs.declared.token.TagEffect.TheVariants.{Begins}
 use Rattle.gabc_text.proofs.tokens.CasesOfCharacters.{by_case}
 use Rattle.gabc_text.proofs.printing.PrintedBracesGiveCentre.{at_start, centre_from, no_centre, gap_silent}
 use Rattle.gabc_text.proofs.printing.TokensAreReadAgain.{AllStable, written_stable, IsReadAgain, token_again}
@@ -22,8 +19,8 @@ use Rattle.gabc_text.proofs.printing.PrintedTagsOpenStyles.{push_append, along_a
 use Rattle.gabc_text.proofs.printing.PrintedPiecesAreReadAgain.{AllSilent, silent_word, silent_blank, silent_starts, does, printed_kind, pieces_again}
 use Rattle.gabc_text.proofs.printing.PiecesPrintWell.{pieces_good, good_along, tokens_fine}
 use Rattle.gabc_text.proofs.machine.TokensOneAfterAnother.{onto}
-use Rattle.gabc_text.specs.machine.PrintedPieces.{AllGood, Good, Says, Stable}
-use Rattle.gabc_text.proofs.printing.LineFeedBeginsWord.{Alike, break_alike}
+use Rattle.gabc_text.specs.machine.PrintedPieces.{AllGood, Good, Stable}
+use Rattle.gabc_text.proofs.printing.LineFeedBeginsWord.{Alike}
 
 -- ---- all that is printed is stable
 
@@ -45,24 +42,12 @@ stable_from centre i old (p ∷ ps) w b g =
 -- ---- no blank at the end
 
 no_blank_after : (w b : Bool) (q : PieceFacts) → Good q w b → is_blank_piece q.kind ≡ true → b ≡ false
-no_blank_after w b q g e = by q.kind g.reads_so e
-  where
-    by : (k : PieceKind) → Says k q.text w b → is_blank_piece k ≡ true → b ≡ false
-    by piece.Blank h e = h.2
-    by _ h e = absurd (cc)
+no_blank_after w b q g e = grind arith
 
 last_once : (w b : Bool) (ps : List PieceFacts) → AllGood w b ps → but_blank (but_blank ps) ≡ but_blank ps
 last_once w b [] g = refl
-last_once w b (p ∷ []) g = by (is_blank_piece p.kind) refl
-  where
-    by : (x : Bool) → is_blank_piece p.kind ≡ x → but_blank (cond x [] (p ∷ [])) ≡ cond x [] (p ∷ [])
-    by true e = refl
-    by false e = rw e refl
-last_once w b (p ∷ q ∷ []) g = by (is_blank_piece q.kind) refl
-  where
-    by : (x : Bool) → is_blank_piece q.kind ≡ x → but_blank (p ∷ cond x [] (q ∷ [])) ≡ p ∷ cond x [] (q ∷ [])
-    by true e = rw (no_blank_after (is_word_kind (Some p.kind) || w) (is_blank_piece p.kind) q (g.1).0 e) refl
-    by false e = rw e refl
+last_once w b (p ∷ []) g = grind arith
+last_once w b (p ∷ q ∷ []) g = grind (arith, no_blank_after)
 last_once w b (p ∷ q ∷ r ∷ ps) g = ap (λ (x : List PieceFacts). p ∷ x) (last_once (is_word_kind (Some p.kind) || w) (is_blank_piece p.kind) (q ∷ r ∷ ps) g.1)
 
 -- ---- the word start
@@ -81,11 +66,7 @@ starts_from centre i old (p ∷ ps) w b before e f g =
 -- ---- the translation
 
 no_translation : (k : Token) (ks : List Token) → is_translation k.kind ≡ false → translation_from (k ∷ ks) ≡ translation_from ks
-no_translation k ks e = by k.kind e
-  where
-    by : (d : TokenKind) → is_translation d ≡ false → translation_by d k.more (translation_from ks) ≡ translation_from ks
-    by kind.Translation e = absurd (cc)
-    by _ e = refl
+no_translation k ks e = grind arith
 
 silent_translation : (ks ls : List Token) → AllSilent ks → translation_from (ks ++ ls) ≡ translation_from ls
 silent_translation [] ls h = refl
@@ -139,25 +120,17 @@ token_bracket c t =
     λ e. absurd (let f : single c ≡ kind.Translation = rw (e36, e37, e60, e91) at e in one (is_blank c) (is_one_of (codes ")]>") c) (c == 123) (c == 125) f)))))
   where
     dollar : (t : List ℕ) → (dollar_at t).kind ≡ kind.Translation → ⊥
-    dollar [] e = absurd (cc)
-    dollar (d ∷ t) e = absurd (cc)
-
-    in_raw : (name v : List ℕ) (o : Option (List ℕ)) → (ended_token kind.Raw kind.OpenTag 60 name v o).kind ≡ kind.Translation → ⊥
-    in_raw name v None e = absurd (cc)
-    in_raw name v (Some y) e = absurd (cc)
+    dollar t e = grind arith
 
     tag_by : (name v : List ℕ) (s : TagEffect) → (token_of_tag name v s).kind ≡ kind.Translation → ⊥
-    tag_by name v (Begins raw) e = in_raw name v (through (ending_of raw) v) e
-    tag_by name v _ e = absurd (cc)
+    tag_by name v s e = grind arith
 
     tag : (t : List ℕ) (o : Option (List ℕ)) → (tag_at t o).kind ≡ kind.Translation → ⊥
-    tag t None e = absurd (cc)
-    tag t (Some name) e = tag_by name (drop (length name) t) (effect_of (60 ∷ name)) e
+    tag t o e = grind (arith, tag_by)
 
     bracket : (t : List ℕ) (o : Option (List ℕ)) → through (93 ∷ []) t ≡ o → (ended_token kind.Translation kind.OpenTranslation 91 [] t o).kind ≡ kind.Translation
         → Bracketed (ended_token kind.Translation kind.OpenTranslation 91 [] t o)
-    bracket t None g e = absurd (cc)
-    bracket t (Some y) g e = let r = through_ends 93 t y g in record { s = r.0; first_is = refl; more_is = r.1 }
+    bracket t o g e = grind (arith, through_ends)
 
     one : (a b d e : Bool) → cond a kind.Blank (cond b kind.Stray (cond d kind.Begin (cond e kind.End kind.Letter))) ≡ kind.Translation → ⊥
     one a b d e f = grind arith
@@ -172,16 +145,7 @@ but_last s =
     prefix (c ∷ s) = ap (λ (u : List ℕ). c ∷ u) (prefix s)
 
 translation_one : (k : Token) (others : Option (List ℕ)) → IsReadAgain k → (k.kind ≡ kind.Translation → Bracketed k) → IsTranslated others → IsTranslated (translation_by k.kind k.more others)
-translation_one k others f g h = by k.kind refl
-  where
-    by : (d : TokenKind) → k.kind ≡ d → IsTranslated (translation_by d k.more others)
-    by kind.Translation e =
-        let r = g e in
-        let same : k ≡ record { kind = kind.Translation; first = 91; more = r.s ++ 93 ∷ [] } = ap (λ d. record { kind = d; first = k.first; more = k.more }) e
-        ∙ ap (λ c. record { kind = kind.Translation; first = c; more = k.more }) r.first_is ∙ ap (λ s. record { kind = kind.Translation; first = 91; more = s }) r.more_is in
-        let reads_so : take (length k.more - 1) k.more ≡ r.s = ap (λ (u : List ℕ). take (length u - 1) u) r.more_is ∙ but_last r.s in
-        subst (λ (u : List ℕ). IsTranslated (Some u)) (sym reads_so) (subst Stable same (f (rw e refl)))
-    by _ e = h
+translation_one k others f g h = grind (arith, but_last)
 
 translation_fine : (n : ℕ) (t : List ℕ) → IsTranslated (translation_from (tokens_after n t))
 translation_fine n [] = tt
@@ -205,8 +169,7 @@ ends_later n before (k ∷ ks) h =
     by (is_end k.kind && has_begin before && not (has_end before)) (ends_later n (k ∷ before) ks (let e : count_pieces (k ∷ before) ≡ count_pieces before + length (pieces_at before k) = refl in omega arith))
   where
     by : (b : Bool) → FirstAtLeast n (along end_at (k ∷ before) ks) → FirstAtLeast n (cond b (count_pieces before ∷ []) [] ++ along end_at (k ∷ before) ks)
-    by true f = h
-    by false f = f
+    by b f = grind arith
 
 abbrev Ordered : List ℕ → List ℕ → Type 0
 Ordered [] ys = Unit {0}
@@ -214,20 +177,10 @@ Ordered (x ∷ xs) ys = FirstAtLeast x ys
 
 in_order : (before ks : List Token) → has_begin before ≡ false → Ordered (along begin_at before ks) (along end_at before ks)
 in_order before [] h = tt
-in_order before (k ∷ ks) h = by (is_begin k.kind) refl (in_order (k ∷ before) ks)
-  where
-    no_end : is_end k.kind && has_begin before && not (has_end before) ≡ false
-    no_end = rw (h, and-false (is_end k.kind)) refl
-
-    by : (b : Bool) → is_begin k.kind ≡ b → (has_begin (k ∷ before) ≡ false → Ordered (along begin_at (k ∷ before) ks) (along end_at (k ∷ before) ks))
-        → Ordered (along begin_at before (k ∷ ks)) (along end_at before (k ∷ ks))
-    by true e g = rw (no_end, e, h) (ends_later (count_pieces before) (k ∷ before) ks (let f : count_pieces (k ∷ before) ≡ count_pieces before + length (pieces_at before k) = refl in omega arith))
-    by false e g = rw (no_end, e) (g (rw (e, h) refl))
+in_order before (k ∷ ks) h = grind (arith, and-false, begin_at, end_at, ends_later, in_order (k ∷ before) ks)
 
 centre_fine : (n : ℕ) (xs ys : List ℕ) → Ordered xs ys → LiesAmong n (centre_by n xs ys)
-centre_fine n [] ys h = tt
-centre_fine n (x ∷ xs) [] h = (omega arith, omega arith)
-centre_fine n (x ∷ xs) (y ∷ ys) h = (omega arith, omega arith)
+centre_fine n xs ys h = grind arith
 
 -- ---- a view that is printed and read
 
@@ -257,24 +210,7 @@ record Opening (ks : List Token) (starts : Bool) : Type 0 where
   translation : (ls : List Token) → translation_from (ks ++ ls) ≡ translation_from ls
 
 opening_of : (b : Bool) → Opening (word_break b) b
-opening_of true = record {
-  alike = break_alike true;
-  stable = ((λ u. refl), tt);
-  pieces = refl;
-  begins = refl;
-  ends = refl;
-  starts_are = refl;
-  translation = λ ls. refl;
-}
-opening_of false = record {
-  alike = break_alike false;
-  stable = tt;
-  pieces = refl;
-  begins = refl;
-  ends = refl;
-  starts_are = refl;
-  translation = λ ls. refl;
-}
+opening_of b = grind arith
 
 -- the translation gives nothing but itself
 record Closing (ks : List Token) (tr : Option (List ℕ)) : Type 0 where
@@ -286,16 +222,11 @@ record Closing (ks : List Token) (tr : Option (List ℕ)) : Type 0 where
   translation : translation_from ks ≡ tr
 
 closing_of : (tr : Option (List ℕ)) → IsTranslated tr → Closing (translation_tokens tr) tr
-closing_of None h = record { stable = tt; pieces = λ _. refl; begins = λ _. refl; ends = λ _. refl; starts = λ _. refl; translation = refl }
-closing_of (Some s) h = record { stable = (h, tt); pieces = λ _. refl; begins = λ _. refl; ends = λ _. refl; starts = λ _. refl; translation = ap Some (but_last s) }
+closing_of tr h = grind (arith, but_last)
 
 same_view : (a b : Bool) (ps qs : List PieceFacts) (c d : Option Span) (x y : Option (List ℕ)) → a ≡ b → ps ≡ qs → c ≡ d → x ≡ y
     → ◌≡◌ {A = ViewFacts} (record { word_start = a; pieces = ps; centre = c; translation = x }) (record { word_start = b; pieces = qs; centre = d; translation = y })
-same_view a b ps qs c d x y e f g h =
-    ap (λ (z : Bool). record { word_start = z; pieces = ps; centre = c; translation = x }) e
-    ∙ ap (λ (z : List PieceFacts). record { word_start = b; pieces = z; centre = c; translation = x }) f
-    ∙ ap (λ (z : Option Span). record { word_start = b; pieces = qs; centre = z; translation = x }) g
-    ∙ ap (λ (z : Option (List ℕ)). record { word_start = b; pieces = qs; centre = d; translation = z }) h
+same_view a b ps qs c d x y e f g h = cc
 
 pub reverse_push : (ks before : List Token) → reverse ks ++ before ≡ onto ks before
 reverse_push [] before = refl
@@ -304,9 +235,7 @@ reverse_push (k ∷ ks) before = ap (λ (x : List Token). x ++ before) (reverse-
 -- what stands in the middle gives all of it
 middle : {X : Type 0} (at : List Token → Token → List X) (ks ms ls : List Token) → along at [] ks ≡ [] → along at (onto (ks ++ ms) []) ls ≡ []
     → along at [] (ks ++ ms ++ ls) ≡ along at (onto ks []) ms
-middle at ks ms ls e f =
-    along_append at [] (ks ++ ms) ls ∙ ap (λ x. along at [] (ks ++ ms) ++ x) f ∙ append-nil (along at [] (ks ++ ms))
-    ∙ along_append at [] ks ms ∙ ap (λ x. x ++ along at (onto ks []) ms) e
+middle at ks ms ls e f = grind (arith, along_append, append-nil)
 
 min_same : (a n : ℕ) → a ≤ n → min a n ≡ a
 min_same a n h = omega arith
@@ -342,26 +271,12 @@ printed_view v s =
     by : (c : Option Span) → Opening (word_break v.word_start) v.word_start → Closing (translation_tokens v.translation) v.translation → LiesAmong (length v.pieces) c
         → centre_by (length v.pieces) (along begin_at [] (word_break v.word_start ++ print_from c 0 [] v.pieces ++ translation_tokens v.translation))
         (along end_at [] (word_break v.word_start ++ print_from c 0 [] v.pieces ++ translation_tokens v.translation)) ≡ c
-    by None o z h =
-        let e = middle begin_at (word_break v.word_start) (print_from None 0 [] v.pieces) (translation_tokens v.translation) o.begins (z.begins (onto (word_break v.word_start ++ print_from None 0 [] v.pieces) []))
-        ∙ no_centre 0 [] v.pieces false false (onto (word_break v.word_start) []) o.alike.word (λ e. absurd (cc)) s.good in
-        rw e refl
-    by (Some c) o z h =
-        let both = centre_from c 0 [] v.pieces false false (onto (word_break v.word_start) []) false false o.alike.word (λ e. absurd (cc)) s.good o.alike.count
-        (at_start c (length v.pieces) h) o.alike.begun o.alike.ended in
-        centre_read (length v.pieces) c _ _
-        (middle begin_at (word_break v.word_start) (print_from (Some c) 0 [] v.pieces) (translation_tokens v.translation) o.begins (z.begins (onto (word_break v.word_start ++ print_from (Some c) 0 [] v.pieces) [])) ∙ both.0)
-        (middle end_at (word_break v.word_start) (print_from (Some c) 0 [] v.pieces) (translation_tokens v.translation) o.ends (z.ends (onto (word_break v.word_start ++ print_from (Some c) 0 [] v.pieces) [])) ∙ both.1)
-        h.0 h.1
+    by c o z h = grind (arith, middle, begin_at, no_centre, centre_from, at_start, centre_read, end_at)
 
 -- ---- the law
 
 stable_printed : (v : ViewFacts) → Sound v → AllStable (print_tokens v)
-stable_printed v s =
-    stable_append (word_break v.word_start ++ text_tokens v) (translation_tokens v.translation)
-    (stable_append (word_break v.word_start) (text_tokens v) (opening_of v.word_start).stable
-    (stable_from v.centre 0 [] v.pieces false false s.good))
-    (closing_of v.translation s.translation_in).stable
+stable_printed v s = grind (arith, stable_append, opening_of, stable_from, closing_of)
 
 -- in front of a text without tokens
 pub tokens_before : (v : ViewFacts) → Sound v → (u : List ℕ) → tokens u ≡ [] → tokens (print v ++ u) ≡ print_tokens v

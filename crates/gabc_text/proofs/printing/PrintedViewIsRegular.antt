@@ -1,7 +1,6 @@
 -- What is printed of a view that begins no word is a regular text, if its tags are known.
-use Rattle.std.proofs.Common.{◌≡◌, List, [], ◌++◌, false, refl, sym, ap, ◌∙◌, append-nil, reverse}
-use Rattle.gabc_text.specs.Token.{Token, tokens}
-use Rattle.gabc_text.specs.View.{along, findings_at, findings_at_end}
+use Rattle.std.proofs.Common.{arith, ◌≡◌, [], false, refl, sym, ap, ◌∙◌, append-nil}
+use Rattle.gabc_text.specs.Token.{tokens}
 use Rattle.gabc_text.specs.ViewFacts.{ViewFacts, view_facts}
 use Rattle.gabc_text.specs.Printed.{print, print_tokens}
 use Rattle.gabc_text.specs.RegularText.{IsRegularText}
@@ -19,8 +18,4 @@ module _ (v : ViewFacts) (s : Sound v) where
   read_again = facts_is (print v) ∙ ap view_by tokens_alone ∙ printed_view v s
 
   pub regular_is : AllKnown v.pieces → v.word_start ≡ false → IsRegularText (print v)
-  regular_is known start = record {
-    printed = ap print read_again;
-    no_start = ap (λ (u : ViewFacts). u.word_start) read_again ∙ start;
-    nothing = λ at. ap (λ (ks : List Token). along (findings_at at) [] ks ++ findings_at_end at (reverse ks)) tokens_alone ∙ nothing_in v s known at;
-  }
+  regular_is known start = grind (arith, read_again, tokens_alone, nothing_in)

@@ -1,5 +1,5 @@
 -- What a regular text says in front of a `(`.
-use Rattle.std.proofs.Common.{◌≡◌, ℕ, List, [], ◌∷◌, ◌++◌, Bool, false, Option, None, refl, sym, ap, ◌∙◌, append-nil, reverse, encode_utf8_all}
+use Rattle.std.proofs.Common.{arith, ◌≡◌, ℕ, List, [], ◌∷◌, ◌++◌, Bool, false, Option, None, refl, sym, ap, ◌∙◌, append-nil, reverse, encode_utf8_all}
 use Rattle.gabc_places.specs.declared.place.Place.{Place}
 use Rattle.gabc_text.specs.Token.{Token, tokens}
 use Rattle.gabc_text.specs.View.{along, findings, findings_at, findings_at_end, kept}
@@ -42,20 +42,15 @@ kept_so : (b : Bool) (ks ls : List Token) → b ≡ false → word_kept b ++ tex
 kept_so b ks ls e = rw e refl
 
 pub regular_kept : (t rest : List ℕ) → IsRegularText t → kept (t ++ 40 ∷ rest) ≡ t
-regular_kept t rest r =
-    ap (λ (x : List ℕ). kept (x ++ 40 ∷ rest)) (sym r.printed) ∙ printed_kept t rest
-    ∙ kept_so (view_facts t).word_start (text_tokens (view_facts t)) (translation_tokens (view_facts t).translation) r.no_start ∙ r.printed
+regular_kept t rest r = grind (arith, printed_kept, kept_so)
 
 pub regular_printed : (whole t rest : List ℕ) → IsRegularText t → StandsForView whole (view_in (t ++ 40 ∷ rest)) (t ++ 40 ∷ rest)
     → printed_view (view_in (t ++ 40 ∷ rest)) (encode_utf8_all whole) ≡ encode_utf8_all t
-regular_printed whole t rest r s =
-    printed_is whole (t ++ 40 ∷ rest) s ∙ ap (λ (v : ViewFacts). encode_utf8_all (print v)) (says_alone t rest r) ∙ ap encode_utf8_all r.printed
+regular_printed whole t rest r s = grind (arith, printed_is, encode_utf8_all, says_alone)
 
 -- it is its text and its translation
 pub parts_join : (t : List ℕ) → IsRegularText t → text_part t ++ translation_part t ≡ t
-parts_join t r =
-    sym (written_append (text_tokens (view_facts t)) (translation_tokens (view_facts t).translation))
-    ∙ ap (λ (b : Bool). text_of_tokens (word_break b ++ text_tokens (view_facts t) ++ translation_tokens (view_facts t).translation)) (sym r.no_start) ∙ r.printed
+parts_join t r = grind (arith, written_append)
 
 pub text_alone : (b : Bool) (ks : List Token) (x : Option (List ℕ)) → b ≡ false → x ≡ None → text_of_tokens ks ≡ text_of_tokens (word_break b ++ ks ++ translation_tokens x)
 text_alone b ks x e f = rw (e, f) (ap text_of_tokens (sym (append-nil ks)))

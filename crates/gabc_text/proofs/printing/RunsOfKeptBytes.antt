@@ -30,21 +30,12 @@ slices_join xs zero b c h k =
 slices_join [] (suc a) b c h k = grind (arith, common_steps)
 slices_join (x ∷ xs) (suc a) zero c h k = absurd (omega arith)
 slices_join (x ∷ xs) (suc a) (suc b) zero h k = absurd (omega arith)
-slices_join (x ∷ xs) (suc a) (suc b) (suc c) h k =
-    let first : suc b - suc a ≡ b - a = omega arith in
-    let second : suc c - suc b ≡ c - b = omega arith in
-    let both : suc c - suc a ≡ c - a = omega arith in
-    rw (first, second, both) (slices_join xs a b c (omega arith) (omega arith))
+slices_join (x ∷ xs) (suc a) (suc b) (suc c) h k = grind (arith, slices_join xs a b c (omega arith) (omega arith))
 
 -- a span that goes on where another ends
 spans_join : (kept : List ℕ) (s t u : Span) → s.from ≤ s.to → s.to ≡ t.from → t.from ≤ t.to → t.to ≤ length kept
     → u.from ≡ s.from → u.to ≡ t.to → span_bytes kept s ++ span_bytes kept t ≡ span_bytes kept u
-spans_join kept s t u o m p w f g =
-    let within : s.to ≤ length kept = omega arith in
-    let long : u.from ≤ u.to = omega arith in
-    let ends : u.to ≤ length kept = omega arith in
-    rw (bytes_within kept s o within, bytes_within kept t p w, bytes_within kept u long ends, ← m, f, g)
-    (slices_join kept s.from s.to t.to o (omega arith))
+spans_join kept s t u o m p w f g = grind (arith, bytes_within, slices_join)
 
 -- a piece that goes on where a run ends, after the same styles and no brace, with nothing but its kept bytes
 run_goes_on : (kept : List ℕ) (run longer : Span) (old : Styles) (p : Piece) (middle rest : List ℕ)
@@ -81,8 +72,7 @@ pub taken_in_turn : {D : Type 0} (taken : D → List ℕ → D) (both : (s : D) 
     (out after_boundary after_head : D) (middle text left rest : List ℕ)
     → after_boundary ≡ taken out middle → taken after_head left ≡ taken after_boundary text
     → taken after_head (left ++ rest) ≡ taken out (middle ++ (text ++ rest))
-taken_in_turn taken both out o1 o2 middle text left rest e1 e2 =
-    sym (both o2 left rest) ∙ rw (e2, e1) (both (taken out middle) text rest ∙ both out middle (text ++ rest))
+taken_in_turn taken both out o1 o2 middle text left rest e1 e2 = grind arith
 
 -- before the first piece
 pub first_after : (v : TextView) (kept : List ℕ) (old : Styles) (r : Run) → r.span.from ≡ r.span.to → r.next ≡ 0 → listed_styles old ≡ []

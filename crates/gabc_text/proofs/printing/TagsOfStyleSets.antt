@@ -1,5 +1,5 @@
 -- The tags of a set of styles: each style's, where it is in the set.
-use Rattle.std.proofs.Common.{◌≡◌, ℕ, List, [], ◌∷◌, ◌++◌, Bool, true, false, cond, refl, sym, ap, ◌∙◌, append-nil, reverse}
+use Rattle.std.proofs.Common.{arith, ◌≡◌, ℕ, List, [], ◌∷◌, ◌++◌, Bool, true, false, cond, refl, sym, ap, ◌∙◌, append-nil, reverse}
 use Rattle.std.proofs.lemmas.List.{reverse-append}
 use Rattle.std.specs.List.{filter, flat_map}
 use Rattle.std.proofs.lemmas.List.Elements.{filter-append}
@@ -15,12 +15,7 @@ tags_of f s ss = flat_map (λ r. cond (has_style s r) (f r) []) ss
 
 tagged : (f : Style → List ℕ) (s : Styles) (ss : List Style) → flat_map f (filter (λ r. has_style s r) ss) ≡ tags_of f s ss
 tagged f s [] = refl
-tagged f s (r ∷ ss) = by (tagged f s ss) (has_style s r)
-  where
-    by : flat_map f (filter (λ r. has_style s r) ss) ≡ tags_of f s ss → (b : Bool)
-        → flat_map f (cond b (r ∷ filter (λ r. has_style s r) ss) (filter (λ r. has_style s r) ss)) ≡ cond b (f r) [] ++ tags_of f s ss
-    by e true = ap (λ (x : List ℕ). f r ++ x) e
-    by e false = e
+tagged f s (r ∷ ss) = grind (arith, flat_map, tagged f s ss)
 
 reverse-filter : (p : Style → Bool) (ss : List Style) → reverse (filter p ss) ≡ filter p (reverse ss)
 reverse-filter p [] = refl

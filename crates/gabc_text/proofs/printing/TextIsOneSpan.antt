@@ -1,5 +1,5 @@
 -- A text that is one part of the kept bytes: a run that goes up to the last piece.
-use Rattle.std.proofs.Common.{◌≡◌, ℕ, ◌+◌, ◌<◌, ◌≤◌, List, [], ◌∷◌, ◌++◌, length, drop, get_or, refl, ap, ◌∙◌, append-nil, add-one, drop-cons}
+use Rattle.std.proofs.Common.{arith, ◌≡◌, ℕ, ◌+◌, ◌<◌, ◌≤◌, List, [], ◌∷◌, length, drop, get_or, refl, ◌∙◌, append-nil, add-one, drop-cons}
 use Rattle.gabc_text.specs.declared.styles.Styles.{Styles}
 use Rattle.gabc_text.specs.declared.view.Piece.{Piece}
 use Rattle.gabc_text.specs.declared.view.TextView.{TextView}
@@ -16,8 +16,7 @@ nothing_after v kept old i none after no_braces = last_text v.centre kept i (lis
 
 pub one_span : (v : TextView) (kept : List ℕ) (old : Styles) (r : Run) → listed_styles old ≡ [] → length v.pieces.items ≤ r.next → braces v.centre r.next ≡ []
     → text_after v kept old r ≡ span_bytes kept r.span
-one_span v kept old r none after no_braces =
-    ap (λ (x : List ℕ). span_bytes kept r.span ++ x) (nothing_after v kept old r.next none after no_braces) ∙ append-nil (span_bytes kept r.span)
+one_span v kept old r none after no_braces = grind (arith, nothing_after, append-nil)
 
 -- pieces that go on: the first of them, and those after it
 pub next_of_all : (kept : List ℕ) (old : Styles) (at i : ℕ) (ps : List Piece) (d : Piece) → i < length ps → GoOnAt kept old at (drop i ps)

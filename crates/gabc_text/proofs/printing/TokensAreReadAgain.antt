@@ -1,5 +1,5 @@
 -- Tokens that are read again, whatever follows.
-use Rattle.std.proofs.Common.{◌≡◌, ℕ, ◌≤◌, ◌==◌, List, [], ◌∷◌, ◌++◌, Bool, true, false, ◌&&◌, cond, refl, sym, ap, ◌∙◌, subst, append_assoc, append-nil, length, drop, Option, Some, None, option_map, arith, codes}
+use Rattle.std.proofs.Common.{◌≡◌, ℕ, ◌≤◌, ◌==◌, List, [], ◌∷◌, ◌++◌, Bool, true, false, ◌&&◌, cond, refl, sym, ap, ◌∙◌, append_assoc, append-nil, length, Option, Some, None, option_map, arith, codes}
 use Rattle.std.proofs.Common.{eq-eqb}
 use Rattle.std.proofs.lemmas.Bool.{eqb-true, and_parts}
 use Rattle.std.proofs.Math.Seq.{drop-append_seam}
@@ -11,8 +11,7 @@ use Rattle.gabc_text.specs.declared.token.TagEffect.TheVariants.{Opens, Closes, 
 use Rattle.gabc_text.specs.declared.token.RawKind.{RawKind}
 use Rattle.gabc_text.specs.declared.token.RawKind.TheVariants.{V, Sp, Alt}
 use Rattle.gabc_text.specs.declared.styles.Style.{Style}
-use Rattle.gabc_text.specs.declared.styles.Style.TheVariants.{B}
-use Rattle.gabc_text.specs.Token.{Token, spelling, tokens, token_at, through, begins_with, ended_token, tag_at, token_of_tag, single, is_special, is_blank, effect_of, ending_of}
+use Rattle.gabc_text.specs.Token.{Token, tokens, token_at, through, begins_with, ended_token, tag_at, token_of_tag, single, is_special, is_blank, effect_of, ending_of}
 use Rattle.gabc_text.specs.machine.PrintedPieces.{Stable}
 use Rattle.gabc_text.specs.Printed.{text_of_tokens, opening_tag, closing_tag, letter}
 use Rattle.gabc_text.proofs.tokens.TokensByCharacter.{tokens_first}
@@ -25,18 +24,15 @@ AllStable (k ∷ ks) = Stable k × AllStable ks
 
 pub written_stable : (ks : List Token) (u : List ℕ) → AllStable ks → tokens (text_of_tokens ks ++ u) ≡ ks ++ tokens u
 written_stable [] u h = refl
-written_stable (k ∷ ks) u h =
-    ap tokens (append_assoc (spelling k) (text_of_tokens ks) u) ∙ h.0 (text_of_tokens ks ++ u) ∙ ap (λ (x : List Token). k ∷ x) (written_stable ks u h.1)
+written_stable (k ∷ ks) u h = grind (arith, append_assoc, written_stable ks u h.1)
 
 -- ---- the tags of styles
 
 pub opening_stable : (s : Style) → Stable (opening_tag s)
-opening_stable B u = refl
-opening_stable _ u = refl
+opening_stable s u = grind arith
 
 pub closing_stable : (s : Style) → Stable (closing_tag s)
-closing_stable B u = refl
-closing_stable _ u = refl
+closing_stable s u = grind arith
 
 -- ---- what was found is found again
 
@@ -62,20 +58,10 @@ begins_parts (d ∷ e) (c ∷ t) h =
     (r.0, (let f : c ∷ t ≡ d ∷ (e ++ r.0) = cc in f))
 
 found_here : (x : ℕ) (e t : List ℕ) → begins_with (x ∷ e) t ≡ true → Found (x ∷ e) t (x ∷ e)
-found_here x e t h =
-    let r = begins_parts (x ∷ e) t h in
-    record { rest = r.0; parts = r.1; long = omega arith; again = λ u. rw (eq-eqb x x refl, begins_itself e u) refl }
+found_here x e t h = grind (arith, begins_parts, eq-eqb, begins_itself)
 
 found_later : (x : ℕ) (e : List ℕ) (c : ℕ) (t y : List ℕ) → begins_with (x ∷ e) (c ∷ t) ≡ false → Found (x ∷ e) t y → Found (x ∷ e) (c ∷ t) (c ∷ y)
-found_later x e c t y h f = record {
-  rest = f.rest;
-  parts = ap (λ (s : List ℕ). c ∷ s) f.parts;
-  long = omega (arith, f.long);
-  again = λ u.
-      let e1 : begins_with (x ∷ e) ((c ∷ y) ++ u) ≡ false =
-      begins_prefix (x ∷ e) (c ∷ y) u f.rest (omega (arith, f.long)) ∙ ap (λ (s : List ℕ). begins_with (x ∷ e) (c ∷ s)) (sym f.parts) ∙ h in
-      rw (e1, f.again u) refl;
-}
+found_later x e c t y h f = grind (arith, begins_prefix)
 
 pub found : (x : ℕ) (e t y : List ℕ) → through (x ∷ e) t ≡ Some y → Found (x ∷ e) t y
 found x e [] y h = absurd (cc)
@@ -83,9 +69,7 @@ found x e (c ∷ t) y h = by (begins_with (x ∷ e) (c ∷ t)) (through (x ∷ e
   where
     by : (b : Bool) (o : Option (List ℕ)) → begins_with (x ∷ e) (c ∷ t) ≡ b → through (x ∷ e) t ≡ o → cond b (Some (x ∷ e)) (option_map (λ s. c ∷ s) o) ≡ Some y
         → ((z : List ℕ) → through (x ∷ e) t ≡ Some z → Found (x ∷ e) t z) → Found (x ∷ e) (c ∷ t) y
-    by true o f g h more = let same : x ∷ e ≡ y = cc in subst (Found (x ∷ e) (c ∷ t)) same (found_here x e (c ∷ t) f)
-    by false None f g h more = absurd (cc)
-    by false (Some z) f g h more = let same : c ∷ z ≡ y = cc in subst (Found (x ∷ e) (c ∷ t)) same (found_later x e c t z f (more z g))
+    by b o f g h more = grind (arith, found_here, found_later)
 
 -- ---- raw parts, tags and translations
 
@@ -134,38 +118,19 @@ tag_case t name v Mark e f h = tag_only t name Mark e f (λ u. refl)
 tag_case t name v Other e f h = tag_only t name Other e f (λ u. refl)
 
 at_tag : (t : List ℕ) → IsReadAgain (token_at 60 t)
-at_tag t = by (through (62 ∷ []) t) refl
-  where
-    by : (o : Option (List ℕ)) → through (62 ∷ []) t ≡ o → IsReadAgain (tag_at t o)
-    by None e h = absurd (cc)
-    by (Some name) e h = tag_case t name (drop (length name) t) (effect_of (60 ∷ name)) e refl h
+at_tag t = grind (arith, tag_case)
 
 at_bracket : (t : List ℕ) → IsReadAgain (token_at 91 t)
-at_bracket t = by (through (93 ∷ []) t) refl
-  where
-    by : (o : Option (List ℕ)) → through (93 ∷ []) t ≡ o → IsReadAgain (ended_token kind.Translation kind.OpenTranslation 91 [] t o)
-    by None e h = absurd (cc)
-    by (Some y) e h = again_by (record { kind = kind.Translation; first = 91; more = y }) refl
-        (λ u. ap (ended_token kind.Translation kind.OpenTranslation 91 [] (y ++ u)) (one_found 93 t y e u))
+at_bracket t = grind (arith, again_by, one_found)
 
 at_dollar : (t : List ℕ) → IsReadAgain (token_at 36 t)
-at_dollar [] h = absurd (cc)
-at_dollar (c ∷ t) h = absurd (cc)
+at_dollar t h = grind arith
 
 single_plain : (c : ℕ) → is_bracketed (single c) ≡ false
 single_plain c = single_kind (λ k. is_bracketed k ≡ false) refl refl refl refl refl c
 
--- each token of a text
-abbrev IsReadAgainAt : List ℕ → ℕ → Type 0
-IsReadAgainAt t c = IsReadAgain (token_at c t)
-
 pub token_again : (c : ℕ) (t : List ℕ) → IsReadAgain (token_at c t)
-token_again c t =
-    by_case 36 c (IsReadAgainAt t) (at_dollar t) (λ e36.
-    by_case 37 c (IsReadAgainAt t) (λ h. absurd (cc)) (λ e37.
-    by_case 60 c (IsReadAgainAt t) (at_tag t) (λ e60.
-    by_case 91 c (IsReadAgainAt t) (at_bracket t) (λ e91.
-    λ h. absurd (let f : is_bracketed (single c) ≡ true = rw (e36, e37, e60, e91) at h in let g = single_plain c in cc)))))
+token_again c t = grind (arith, by_case, at_dollar, at_tag, at_bracket, single_plain)
 
 -- ---- a letter, as it is printed
 
@@ -191,8 +156,4 @@ pub escaped_stable : (c : ℕ) → is_special c ≡ true → Stable (record { ki
 escaped_stable c e = again_by (record { kind = kind.Letter; first = 36; more = c ∷ [] }) refl (λ u. rw e refl)
 
 pub letter_stable : (c : ℕ) → is_blank c ≡ false → Stable (letter (c ∷ []))
-letter_stable c b = by (is_special c) refl
-  where
-    by : (x : Bool) → is_special c ≡ x → Stable (cond x (record { kind = kind.Letter; first = 36; more = c ∷ [] }) (record { kind = kind.Letter; first = c; more = [] }))
-    by true e = escaped_stable c e
-    by false e = bare_stable c e b
+letter_stable c b = grind (arith, escaped_stable, bare_stable)

@@ -1,13 +1,12 @@
 -- The tokens of a kept text are those of the text as they are kept.
-use Rattle.std.proofs.Common.{◌≡◌, ℕ, zero, suc, ◌==◌, List, [], ◌∷◌, ◌++◌, Bool, true, false, cond, refl, sym, ap, ◌∙◌, append-nil, length, drop, reverse, Option, Some, None, inl, inr, ◌⊎◌}
+use Rattle.std.proofs.Common.{arith, ◌≡◌, ℕ, zero, suc, ◌==◌, List, [], ◌∷◌, ◌++◌, Bool, true, false, cond, refl, sym, ap, ◌∙◌, append-nil, length, drop, Option, Some, None, inl, inr, ◌⊎◌}
 use Rattle.std.proofs.Math.Seq.{drop-append_seam}
-use Rattle.gabc_text.specs.declared.text_facts.TextFacts.{TextFacts}
 use Rattle.gabc_text.specs.declared.token.TokenKind.TheVariants as kind
 use Rattle.gabc_text.specs.declared.token.TagEffect.{TagEffect}
 use Rattle.gabc_text.specs.declared.token.TagEffect.TheVariants.{Begins}
-use Rattle.gabc_text.specs.Token.{Token, spelling, tokens, tokens_after, token_at, tag_at, token_of_tag, ended_token, through, ending_of, effect_of, single, is_special, is_blank}
-use Rattle.gabc_text.specs.View.{along, PieceFacts, is_space, is_left_out, follows_space, kept, kept_at, pieces_at, starts_word, begin_of, end_of, centre_by}
-use Rattle.gabc_text.specs.ViewFacts.{ViewFacts, view_facts, but_blank, translation_text}
+use Rattle.gabc_text.specs.Token.{Token, spelling, tokens, tokens_after, token_at, tag_at, token_of_tag, ended_token, through, ending_of, single, is_special, is_blank}
+use Rattle.gabc_text.specs.View.{along, is_space, is_left_out, follows_space, kept, kept_at}
+use Rattle.gabc_text.specs.ViewFacts.{view_facts}
 use Rattle.gabc_text.specs.Printed.{text_of_tokens}
 use Rattle.gabc_text.proofs.tokens.CasesOfCharacters.{by_case}
 use Rattle.gabc_text.proofs.machine.TokenStateByCharacter.{turned}
@@ -48,13 +47,7 @@ abbrev ReadAt : List ℕ → ℕ → Type 0
 ReadAt t c = c == 40 ≡ false → IsReadBack (token_at c t) (tokens_after (length (token_at c t).more) t)
 
 last_read : (c : ℕ) (t : List ℕ) → c == 40 ≡ false → (token_at c t).first ≡ c → (token_at c t).more ≡ t → IsLast (token_at c t) (tokens_after (length (token_at c t).more) t)
-last_read c t ne f m = (
-  none,
-  ap tokens (ap (λ (x : ℕ). x ∷ (token_at c t).more) f ∙ ap (λ (x : List ℕ). c ∷ x) m) ∙ rw ne (ap (λ (x : List Token). token_at c t ∷ x) none),
-)
-  where
-    none : tokens_after (length (token_at c t).more) t ≡ []
-    none = ap (λ (u : List ℕ). tokens_after (length u) t) m ∙ none_after t
+last_read c t ne f m = grind (arith, none_after)
 
 abbrev PlainAt : List ℕ → ℕ → Type 0
 PlainAt u d = is_special d ≡ false → NextPlain (tokens (d ∷ u))
@@ -74,8 +67,7 @@ plain_next d u =
     λ s. rw (e40, e36, e37, e60, e91) (s, rw (turned 41 d e41, turned 93 d e93, turned 62 d e62, e123, e125) (by (is_blank d)))))))))))))
   where
     by : (b : Bool) → (cond b kind.Blank kind.Letter ≡ kind.Blank) ⊎ (cond b kind.Blank kind.Letter ≡ kind.Letter)
-    by true = inl refl
-    by false = inr refl
+    by b = grind arith
 
 dollar_read : (t : List ℕ) → ReadAt t 36
 dollar_read [] ne = inr (inl (refl, tt))
@@ -114,8 +106,7 @@ tag_read t ne = by (through (62 ∷ []) t) refl
     sorted name _ e f = stands (inl (ap (λ (k : Token). k.kind) f))
 
     by : (o : Option (List ℕ)) → through (62 ∷ []) t ≡ o → IsReadBack (token_at 60 t) (tokens_after (length (token_at 60 t).more) t)
-    by None e = last (ap (λ (k : Token). k.first) (here None e)) (ap (λ (k : Token). k.more) (here None e))
-    by (Some name) e = sorted name (effect_of (60 ∷ name)) e (here (Some name) e)
+    by o e = grind (arith, last, here, sorted)
 
 bracket_read : (t : List ℕ) → ReadAt t 91
 bracket_read t ne = by (through (93 ∷ []) t) refl
@@ -141,21 +132,12 @@ all_read (suc n) (c ∷ t) = all_read n t
 all_read zero (c ∷ t) = by (c == 40) refl (token_read c t) (all_read (length (token_at c t).more) t)
   where
     by : (b : Bool) → c == 40 ≡ b → ReadAt t c → AllRead (tokens_after (length (token_at c t).more) t) → AllRead (cond b [] (token_at c t ∷ tokens_after (length (token_at c t).more) t))
-    by true e f g = tt
-    by false e f g = (f e, g)
+    by b e f g = grind arith
 
 -- ---- the tokens of the kept text
 
 lone_read : (b ks : List Token) (k : Token) → Lone k ks → tokens (spelling k ++ text_of_tokens (along kept_token (k ∷ b) ks)) ≡ k ∷ tokens (text_of_tokens (along kept_token (k ∷ b) ks))
-lone_read b ks k h = by ks h.1
-  where
-    dollar : (d : ℕ) (u : List ℕ) → is_special d ≡ false → tokens (36 ∷ d ∷ u) ≡ record { kind = kind.Letter; first = 36; more = [] } ∷ tokens (d ∷ u)
-    dollar d u e = rw e refl
-
-    by : (ks : List Token) → NextPlain ks → tokens (spelling k ++ text_of_tokens (along kept_token (k ∷ b) ks)) ≡ k ∷ tokens (text_of_tokens (along kept_token (k ∷ b) ks))
-    by [] n = rw (h.0) refl
-    by (j ∷ js) (s, inl e) = rw (h.0, e) (dollar 32 (text_of_tokens (along kept_token (record { kind = kind.Blank; first = j.first; more = j.more } ∷ by_itself ∷ b) js)) refl)
-    by (j ∷ js) (s, inr e) = rw (h.0, e) (dollar j.first (j.more ++ text_of_tokens (along kept_token (record { kind = kind.Letter; first = j.first; more = j.more } ∷ by_itself ∷ b) js)) s)
+lone_read b ks k h = grind arith
 
 kept_tokens : (ks b : List Token) → AllRead ks → tokens (text_of_tokens (along kept_token b ks)) ≡ along kept_token b ks
 kept_tokens [] b h = refl
@@ -166,28 +148,15 @@ kept_tokens (k ∷ ks) b h = by (is_left_out b k.kind) (is_space k.kind) (follow
 
     whole : is_left_out b k.kind ≡ false → IsReadBack k ks → tokens (text_of_tokens (along kept_token (k ∷ b) ks)) ≡ along kept_token (k ∷ b) ks
         → tokens (spelling k ++ text_of_tokens (along kept_token (k ∷ b) ks)) ≡ k ∷ along kept_token (k ∷ b) ks
-    whole o (inl s) ih = s (text_of_tokens (along kept_token (k ∷ b) ks)) ∙ ap (λ (x : List Token). k ∷ x) ih
-    whole o (inr (inl l)) ih = lone_read b ks k l ∙ ap (λ (x : List Token). k ∷ x) ih
-    whole o (inr (inr (inl l))) ih = rw (l.0) (ap tokens (append-nil (spelling k)) ∙ l.1)
-    whole o (inr (inr (inr e))) ih = absurd (left e o)
+    whole o h ih = grind (arith, kept_token, lone_read, append-nil, left)
 
     by : (o s f : Bool) → is_left_out b k.kind ≡ o → IsReadBack k ks → tokens (text_of_tokens (along kept_token (k ∷ b) ks)) ≡ along kept_token (k ∷ b) ks
         → tokens (text_of_tokens (kept_token_by o s f k ++ along kept_token (k ∷ b) ks)) ≡ kept_token_by o s f k ++ along kept_token (k ∷ b) ks
-    by true s f e r ih = ih
-    by false true true e r ih = ih
-    by false true false e r ih = ap (λ (x : List Token). one_blank ∷ x) ih
-    by false false f e r ih = whole e r ih
+    by o s f e r ih = grind (arith, one_blank, whole)
 
 written_kept : (ks b : List Token) → text_of_tokens (along kept_token b ks) ≡ along kept_at b ks
 written_kept [] b = refl
-written_kept (k ∷ ks) b = by (is_left_out b k.kind) (is_space k.kind) (follows_space b) (written_kept ks (k ∷ b))
-  where
-    by : (o s f : Bool) → text_of_tokens (along kept_token (k ∷ b) ks) ≡ along kept_at (k ∷ b) ks
-        → text_of_tokens (kept_token_by o s f k ++ along kept_token (k ∷ b) ks) ≡ cond o [] (cond s (cond f [] (32 ∷ [])) (spelling k)) ++ along kept_at (k ∷ b) ks
-    by true s f ih = ih
-    by false true true ih = ih
-    by false true false ih = ap (λ (x : List ℕ). 32 ∷ x) ih
-    by false false f ih = ap (λ (x : List ℕ). spelling k ++ x) ih
+written_kept (k ∷ ks) b = grind (arith, kept_token, written_kept ks (k ∷ b))
 
 tokens_kept : (t : List ℕ) → tokens (kept t) ≡ along kept_token [] (tokens t)
 tokens_kept t = ap tokens (sym (written_kept (tokens t) [])) ∙ kept_tokens (tokens t) [] (all_read 0 t)
@@ -195,17 +164,5 @@ tokens_kept t = ap tokens (sym (written_kept (tokens t) [])) ∙ kept_tokens (to
 pub kept_again : (t : List ℕ) → kept (kept t) ≡ kept t
 kept_again t = ap (along kept_at []) (tokens_kept t) ∙ sym (alike (tokens t) [] [] (record { facts = refl; count = refl; begin = refl; end = refl; translation = refl })).kept
 
-abbrev with_parts : Bool → List PieceFacts → Option ℕ → Option ℕ → Option (List ℕ) → ViewFacts
-with_parts w ps x y tr = record { word_start = w; pieces = but_blank ps; centre = centre_by (length (but_blank ps)) x y; translation = tr }
-
 pub facts_again : (t : List ℕ) → view_facts (kept t) ≡ view_facts t
-facts_again t =
-    let ks = tokens t in
-    let ls = along kept_token [] ks in
-    let a = alike (tokens t) [] [] (record { facts = refl; count = refl; begin = refl; end = refl; translation = refl }) in
-    ap (λ (x : List Token). with_parts (starts_word (reverse x)) (along pieces_at [] x) (begin_of (reverse x)) (end_of (reverse x)) (translation_text (reverse x))) (tokens_kept t)
-    ∙ ap (λ (w : Bool). with_parts w (along pieces_at [] ls) (begin_of (reverse ls)) (end_of (reverse ls)) (translation_text (reverse ls))) (sym (ap (λ (s : TextFacts). s.starts) a.after.facts))
-    ∙ ap (λ (ps : List PieceFacts). with_parts (starts_word (reverse ks)) ps (begin_of (reverse ls)) (end_of (reverse ls)) (translation_text (reverse ls))) (sym a.pieces)
-    ∙ ap (λ (x : Option ℕ). with_parts (starts_word (reverse ks)) (along pieces_at [] ks) x (end_of (reverse ls)) (translation_text (reverse ls))) (sym a.after.begin)
-    ∙ ap (λ (x : Option ℕ). with_parts (starts_word (reverse ks)) (along pieces_at [] ks) (begin_of (reverse ks)) x (translation_text (reverse ls))) (sym a.after.end)
-    ∙ ap (λ (x : Option (List ℕ)). with_parts (starts_word (reverse ks)) (along pieces_at [] ks) (begin_of (reverse ks)) (end_of (reverse ks)) x) (sym a.after.translation)
+facts_again t = grind (arith, kept_token, alike, tokens_kept)

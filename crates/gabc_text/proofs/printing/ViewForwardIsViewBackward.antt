@@ -1,11 +1,11 @@
 -- What a text says is the same from its first token on and from its last one back.
-use Rattle.std.proofs.Common.{◌≡◌, ℕ, zero, suc, ◌-◌, ◌==◌, ◌||◌, ◌&&◌, not, List, [], ◌∷◌, ◌++◌, Bool, true, false, cond, refl, sym, ap, ◌∙◌, length, take, reverse, Option, Some, None, arith, subst}
+use Rattle.std.proofs.Common.{◌≡◌, ℕ, zero, suc, ◌-◌, ◌==◌, List, [], ◌∷◌, ◌++◌, Bool, true, false, cond, refl, sym, ap, ◌∙◌, length, take, reverse, Option, Some, None, arith, subst}
 use Rattle.std.proofs.Math.Bool.{or-true}
 use Rattle.gabc_places.specs.declared.place.Span.{Span}
 use Rattle.gabc_text.specs.declared.token.TokenKind.{TokenKind}
 use Rattle.gabc_text.specs.declared.token.TokenKind.TheVariants as kind
-use Rattle.gabc_text.specs.Token.{Token, tokens, tokens_after, token_at, ended_token, through}
-use Rattle.gabc_text.specs.View.{along, is_begin, is_end, has_begin, has_end, begin_of, end_of, count_pieces, centre_by, has_translation, is_translation, starts_word}
+use Rattle.gabc_text.specs.Token.{Token, tokens, tokens_after, token_at}
+use Rattle.gabc_text.specs.View.{along, has_begin, has_end, begin_of, end_of, centre_by, has_translation, is_translation, starts_word}
 use Rattle.gabc_text.specs.Events.{but_last}
 use Rattle.gabc_text.specs.ViewFacts.{ViewFacts, view_facts, translation_text, but_end}
 use Rattle.gabc_text.specs.Printed.{print}
@@ -28,52 +28,25 @@ or_else (Some x) y = Some x
 
 no_begin : (ks before : List Token) → has_begin before ≡ true → along begin_at before ks ≡ []
 no_begin [] before h = refl
-no_begin (k ∷ ks) before h = rw (h) (by (is_begin k.kind) (no_begin ks (k ∷ before)))
-  where
-    by : (b : Bool) → ((b || has_begin before) ≡ true → along begin_at (k ∷ before) ks ≡ []) → cond (b && false) (count_pieces before ∷ []) [] ++ along begin_at (k ∷ before) ks ≡ []
-    by true ih = ih refl
-    by false ih = ih h
+no_begin (k ∷ ks) before h = grind (arith, begin_at, no_begin ks (k ∷ before))
 
 begins_so : (ks before : List Token) → begin_of (onto ks before) ≡ or_else (first_in (along begin_at before ks)) (begin_of before)
 begins_so [] before = refl
-begins_so (k ∷ ks) before = begins_so ks (k ∷ before) ∙ by (is_begin k.kind) (has_begin before) refl (no_begin ks (k ∷ before))
-  where
-    by : (b h : Bool) → has_begin before ≡ h → ((b || h) ≡ true → along begin_at (k ∷ before) ks ≡ [])
-        → or_else (first_in (along begin_at (k ∷ before) ks)) (cond (b && not h) (Some (count_pieces before)) (begin_of before))
-        ≡ or_else (first_in (cond (b && not h) (count_pieces before ∷ []) [] ++ along begin_at (k ∷ before) ks)) (begin_of before)
-    by true true e n = refl
-    by true false e n = rw (n refl) refl
-    by false h e n = refl
+begins_so (k ∷ ks) before = grind (arith, no_begin, begin_at, begins_so ks (k ∷ before))
 
 no_end : (ks before : List Token) → has_end before ≡ true → along end_at before ks ≡ []
 no_end [] before h = refl
-no_end (k ∷ ks) before h = rw (h) (by (is_end k.kind) (has_begin before) (no_end ks (k ∷ before)))
-  where
-    by : (b x : Bool) → (((b && x) || has_end before) ≡ true → along end_at (k ∷ before) ks ≡ []) → cond (b && x && false) (count_pieces before ∷ []) [] ++ along end_at (k ∷ before) ks ≡ []
-    by true true ih = ih refl
-    by true false ih = ih h
-    by false x ih = ih h
+no_end (k ∷ ks) before h = grind (arith, end_at, no_end ks (k ∷ before))
 
 ends_so : (ks before : List Token) → end_of (onto ks before) ≡ or_else (first_in (along end_at before ks)) (end_of before)
 ends_so [] before = refl
-ends_so (k ∷ ks) before = ends_so ks (k ∷ before) ∙ by (is_end k.kind) (has_begin before) (has_end before) (no_end ks (k ∷ before))
-  where
-    by : (b x h : Bool) → (((b && x) || h) ≡ true → along end_at (k ∷ before) ks ≡ [])
-        → or_else (first_in (along end_at (k ∷ before) ks)) (cond (b && (x && not h)) (Some (count_pieces before)) (end_of before))
-        ≡ or_else (first_in (cond (b && x && not h) (count_pieces before ∷ []) [] ++ along end_at (k ∷ before) ks)) (end_of before)
-    by true true true n = refl
-    by true true false n = rw (n refl) refl
-    by true false h n = refl
-    by false x h n = refl
+ends_so (k ∷ ks) before = grind (arith, no_end, end_at, ends_so ks (k ∷ before))
 
 or_nothing : (o : Option ℕ) → or_else o None ≡ o
-or_nothing None = refl
-or_nothing (Some x) = refl
+or_nothing o = grind arith
 
 centre_so : (n : ℕ) (xs ys : List ℕ) → centre_by n (first_in xs) (first_in ys) ≡ forward.centre_by n xs ys
-centre_so n [] ys = refl
-centre_so n (x ∷ xs) [] = refl
-centre_so n (x ∷ xs) (y ∷ ys) = refl
+centre_so n xs ys = grind arith
 
 -- ---- the translation
 
@@ -96,45 +69,24 @@ but_end_take (c ∷ s) = prefix c s ∙ ap (λ (n : ℕ). take n (c ∷ s)) (let
 
 one_translation : (ks before : List Token) → has_translation before ≡ true → translation_text (onto ks before) ≡ translation_text before
 one_translation [] before h = refl
-one_translation (k ∷ ks) before h = one_translation ks (k ∷ before) (rw h (or-true (is_translation k.kind))) ∙ by k.kind
-  where
-    by : (d : TokenKind) → translation_text (record { kind = d; first = k.first; more = k.more } ∷ before) ≡ translation_text before
-    by kind.Translation = rw h refl
-    by _ = refl
+one_translation (k ∷ ks) before h = grind (arith, one_translation ks (k ∷ before) (rw h (or-true (is_translation k.kind))), or-true)
 
 first_translation : (ks before : List Token) → has_translation before ≡ false → translation_text before ≡ None → OpenLast ks → translation_text (onto ks before) ≡ translation_from ks
 first_translation [] before h n o = n
-first_translation (k ∷ ks) before h n o = by k.kind k.first k.more refl o (first_translation ks (k ∷ before)) (one_translation ks (k ∷ before))
-  where
-    by : (d : TokenKind) (c : ℕ) (m : List ℕ) → k ≡ record { kind = d; first = c; more = m } → OpenLast (k ∷ ks)
-        → (has_translation (k ∷ before) ≡ false → translation_text (k ∷ before) ≡ None → OpenLast ks → translation_text (onto ks (k ∷ before)) ≡ translation_from ks)
-        → (has_translation (k ∷ before) ≡ true → translation_text (onto ks (k ∷ before)) ≡ translation_text (k ∷ before))
-        → translation_text (onto ks (k ∷ before)) ≡ translation_from (record { kind = d; first = c; more = m } ∷ ks)
-    by kind.Translation c m e o ih one =
-        one (rw e refl) ∙ (rw (e, h) (ap Some (but_end_take m)))
-    by kind.OpenTranslation c m e o ih one =
-        let last : ks ≡ [] = o.0 (rw e refl) in
-        rw (last, e) n
-    by kind.Letter c m e o ih one = ih (rw e h) (rw e n) o.1
-    by _ c m e o ih one = ih (rw e h) (rw e n) o.1
+first_translation (k ∷ ks) before h n o = grind (arith, one_translation, but_end_take, first_translation ks (k ∷ before))
 
 -- a translation that is left open takes the rest of the text
 abbrev TakesAll : List ℕ → ℕ → Type 0
 TakesAll t c = is_open_one (token_at c t).kind ≡ true → (token_at c t).more ≡ t
 
 at_bracket : (t : List ℕ) → TakesAll t 91
-at_bracket t = by (through (93 ∷ []) t)
-  where
-    by : (o : Option (List ℕ)) → is_open_one (ended_token kind.Translation kind.OpenTranslation 91 [] t o).kind ≡ true → (ended_token kind.Translation kind.OpenTranslation 91 [] t o).more ≡ t
-    by None h = refl
-    by (Some y) h = absurd (cc)
+at_bracket t = grind arith
 
 takes_all : (c : ℕ) (t : List ℕ) → TakesAll t c
 takes_all c t h = subst (TakesAll t) (sym (translation_first c t (by (token_at c t).kind h))) (at_bracket t) h
   where
     by : (d : TokenKind) → is_open_one d ≡ true → is_translation d ≡ true
-    by kind.OpenTranslation h = refl
-    by _ h = absurd (cc)
+    by d h = grind arith
 
 open_last : (n : ℕ) (t : List ℕ) → OpenLast (tokens_after n t)
 open_last n [] = tt
@@ -162,5 +114,4 @@ facts_is t =
     with_parts t c tr = record { word_start = starts_word (reverse (tokens t)); pieces = pieces_of (tokens t); centre = c; translation = tr }
 
 pub facts_again : (t rest : List ℕ) → view_facts (print (view_facts t) ++ 40 ∷ rest) ≡ view_facts t
-facts_again t rest =
-    ap (λ (v : ViewFacts). view_facts (print v ++ 40 ∷ rest)) (facts_is t) ∙ facts_is (print (view t) ++ 40 ∷ rest) ∙ forward_again t rest ∙ sym (facts_is t)
+facts_again t rest = grind (arith, facts_is, view, forward_again)

@@ -1,6 +1,6 @@
 -- What is kept of a character, and whether it ends the text.
 use Rattle.std.proofs.lemmas.Bool.{and_parts, eqb-true, true≢false}
-use Rattle.std.proofs.Common.{◌≡◌, ◌==◌, ◌&&◌, ℕ, List, [], ◌∷◌, ◌++◌, map, Bool, true, false, cond, Option, Some, None, option_to_list, refl, sym, ap, ◌∙◌, append-nil}
+use Rattle.std.proofs.Common.{arith, ◌≡◌, ◌==◌, ◌&&◌, ℕ, List, [], ◌∷◌, ◌++◌, map, Bool, true, false, cond, Option, Some, None, option_to_list, refl, sym, ap, ◌∙◌, append-nil}
 use Rattle.gabc_places.specs.declared.code.Code.{Code}
 use Rattle.gabc_places.specs.declared.place.Place.{Place}
 use Rattle.gabc_places.specs.declared.place.Span.{Span}
@@ -9,9 +9,6 @@ use Rattle.gabc_text.specs.declared.text_facts.TextFacts.{TextFacts}
 use Rattle.gabc_text.specs.declared.token.TokenKind.{TokenKind}
 use Rattle.gabc_text.specs.declared.token.TagEffect.TheVariants as tag
 use Rattle.gabc_text.specs.declared.token_state.Step.{Step}
-use Rattle.gabc_text.specs.declared.token_state.Step.TheVariants.{Stays, Ends}
-use Rattle.gabc_text.specs.declared.token_state.TokenState.{TokenState}
-use Rattle.gabc_text.specs.declared.token_state.TokenState.TheVariants.{Comment}
 use Rattle.gabc_text.specs.declared.text_event.TextPart.{TextPart}
 use Rattle.gabc_text.specs.declared.text_event.TextPart.TheVariants as part
 use Rattle.gabc_text.specs.declared.text_event.TextEvent.{TextEvent}
@@ -29,7 +26,7 @@ use Rattle.gabc_text.specs.machine.Resuming.{kept_at}
 use Rattle.gabc_text.specs.machine.TokenState.{settled_kind, next_step, keep, is_plain}
 use Rattle.gabc_text.specs.machine.TextStage.{settle_stage, settle_stage_by, events_of_settling_by, stage_past_char, stage_after_step, read_stage, events_of_reading, end_stage, events_of_end, push_stage, events_of_push}
 use Rattle.std.proofs.lemmas.List.Folds.{list_any-append}
-use Rattle.gabc_text.proofs.events.EventsBuildText.{kept_more, none_kept}
+use Rattle.gabc_text.proofs.events.EventsBuildText.{kept_more}
 use Rattle.gabc_text.proofs.resuming.PlacesAside.{said_append, said_found, said_of_char, said_of_step, token_said, reading_said}
 
 -- ---- what is said has the same characters and end
@@ -44,34 +41,23 @@ ends_said [] = refl
 ends_said (out.Ended h ∷ es) = refl
 ends_said (_ ∷ es) = ends_said es
 
-pub no_kept : (ps : List TextPart) → kept_in (map (λ (x : TextPart). out.Part x) ps) ≡ []
-no_kept = none_kept (λ x. out.Part x) (λ x. refl)
-
 pub no_ends : (ps : List TextPart) → end_text (map (λ (x : TextPart). out.Part x) ps) ≡ false
 no_ends [] = refl
 no_ends (p ∷ ps) = no_ends ps
 
-no_found : (p : Place) (cs : List Code) → end_text (findings_there p cs) ≡ false
-no_found p [] = refl
-no_found p (c ∷ cs) = no_found p cs
-
 -- ---- what is kept of a character, and whether it ends the text
 
 char_kept : (o : Option ℕ) → kept_in (said_of_char o) ≡ option_to_list o
-char_kept None = refl
-char_kept (Some c) = refl
+char_kept o = grind arith
 
 char_goes : (o : Option ℕ) → end_text (said_of_char o) ≡ false
-char_goes None = refl
-char_goes (Some c) = refl
+char_goes o = grind arith
 
 step_kept : (t : TextStage) (st : Step) (last : ℕ) → kept_in (said_of_step t st last) ≡ []
-step_kept t (Stays m) last = refl
-step_kept t (Ends k e) last = no_kept (parts_by t.facts t.progress k last t.progress.kept (piece_kind k e))
+step_kept t st last = grind arith
 
 step_goes : (t : TextStage) (st : Step) (last : ℕ) → end_text (said_of_step t st last) ≡ false
-step_goes t (Stays m) last = refl
-step_goes t (Ends k e) last = no_ends (parts_by t.facts t.progress k last t.progress.kept (piece_kind k e))
+step_goes t st last = grind arith
 
 pub read_kept : (t : TextStage) (c : ℕ) → kept_in (events_of_reading t c) ≡ option_to_list (keep t.facts t.state c)
 read_kept t c =
@@ -88,78 +74,37 @@ read_goes t c =
     ∙ rw (char_goes (keep t.facts t.state c), step_goes (stage_past_char t c) (next_step t.state c) t.progress.kept) refl
 
 pub settling_kept : (s : TextStage) (o : Option TokenKind) → kept_in (events_of_settling_by s o) ≡ []
-settling_kept s None = refl
-settling_kept s (Some k) =
-    sym (kept_said (events_of_settling_by s (Some k))) ∙ ap kept_in (token_said s.facts s.progress k tag.Other s.progress.start) ∙ no_kept (parts_by s.facts s.progress k s.progress.start s.progress.kept (piece_kind k tag.Other))
+settling_kept s o = grind arith
 
 pub no_found_kept : (p : Place) (cs : List Code) → kept_in (findings_there p cs) ≡ []
 no_found_kept p [] = refl
 no_found_kept p (c ∷ cs) = no_found_kept p cs
 
-centre_kept : (o : Option Span) → kept_in (map (λ (c : Span). out.Part (part.Centre c)) (option_list_of o) ++ out.Ended text_ending.Notes ∷ []) ≡ []
-centre_kept None = refl
-centre_kept (Some s) = refl
-
 end_kept : (facts : TextFacts) (p : Progress) → kept_in (events_of_end facts p text_ending.Notes) ≡ []
-end_kept facts p =
-    kept_more (findings_there p.next (codes_last facts)) _
-    ∙ rw (no_found_kept p.next (codes_last facts)) (centre_kept (centre_by (count_by p.pieces p.blank) p.begin p.end))
+end_kept facts p = grind arith
 
 settling_goes : (s : TextStage) (o : Option TokenKind) → end_text (events_of_settling_by s o) ≡ false
-settling_goes s None = refl
-settling_goes s (Some k) =
-    sym (ends_said (events_of_settling_by s (Some k))) ∙ ap end_text (token_said s.facts s.progress k tag.Other s.progress.start) ∙ no_ends (parts_by s.facts s.progress k s.progress.start s.progress.kept (piece_kind k tag.Other))
-
-centre_ends : (o : Option Span) → end_text (map (λ (c : Span). out.Part (part.Centre c)) (option_list_of o) ++ out.Ended text_ending.Notes ∷ []) ≡ true
-centre_ends None = refl
-centre_ends (Some s) = refl
+settling_goes s o = grind arith
 
 end_ends : (facts : TextFacts) (p : Progress) → end_text (events_of_end facts p text_ending.Notes) ≡ true
-end_ends facts p =
-    list_any-append is_end (findings_there p.next (codes_last facts)) _
-    ∙ rw (no_found p.next (codes_last facts)) (centre_ends (centre_by (count_by p.pieces p.blank) p.begin p.end))
+end_ends facts p = grind arith
 
 pub settled_done : (s : TextStage) (o : Option TokenKind) → (settle_stage_by s o).ended ≡ s.ended
-settled_done s None = refl
-settled_done s (Some k) = refl
+settled_done s o = grind arith
 
 pub read_done : (u : TextStage) (c : ℕ) (st : Step) → (stage_after_step (stage_past_char u c) st).ended ≡ u.ended
-read_done u c (Stays m) = refl
-read_done u c (Ends k e) = refl
+read_done u c st = grind arith
 
 -- the text has ended exactly if the end is emitted
 pub done_is : (s : TextStage) (c : ℕ) → s.ended ≡ false → (push_stage s c).ended ≡ end_text (events_of_push s c)
-done_is s c on = by s.ended on (settled_kind s.state c) (c == 40 && is_plain (settle_stage s c).state)
-  where
-    by : (d : Bool) → d ≡ false → (o : Option TokenKind) (b : Bool)
-        → (cond d s (cond b (end_stage (settle_stage_by s o)) (read_stage (settle_stage_by s o) c))).ended
-        ≡ end_text (cond d [] (events_of_settling_by s o ++ cond b (events_of_end (settle_stage_by s o).facts (settle_stage_by s o).progress text_ending.Notes) (events_of_reading (settle_stage_by s o) c)))
-    by true e o b = absurd (true≢false e)
-    by false e o true = sym (list_any-append is_end (events_of_settling_by s o) _ ∙ rw (settling_goes s o) (end_ends (settle_stage_by s o).facts (settle_stage_by s o).progress))
-    by false e o false =
-        read_done (settle_stage_by s o) c (next_step (settle_stage_by s o).state c) ∙ settled_done s o ∙ on
-        ∙ sym (list_any-append is_end (events_of_settling_by s o) _ ∙ rw (settling_goes s o) (read_goes (settle_stage_by s o) c))
+done_is s c on = grind (arith, list_any-append, settling_goes, end_ends, read_done, settled_done, read_goes)
 
 pub kept_is : (s : TextStage) (c : ℕ) → s.ended ≡ false → (push_stage s c).ended ≡ false → kept_in (events_of_push s c) ≡ option_to_list (kept_at s c)
-kept_is s c on = by s.ended on (settled_kind s.state c) (c == 40 && is_plain (settle_stage s c).state)
-  where
-    by : (d : Bool) → d ≡ false → (o : Option TokenKind) (b : Bool) → (cond d s (cond b (end_stage (settle_stage_by s o)) (read_stage (settle_stage_by s o) c))).ended ≡ false
-        → kept_in (cond d [] (events_of_settling_by s o ++ cond b (events_of_end (settle_stage_by s o).facts (settle_stage_by s o).progress text_ending.Notes) (events_of_reading (settle_stage_by s o) c)))
-        ≡ option_to_list (keep (settle_stage_by s o).facts (settle_stage_by s o).state c)
-    by true e o b goes = absurd (true≢false e)
-    by false e o true goes = absurd (true≢false goes)
-    by false e o false goes = kept_more (events_of_settling_by s o) _ ∙ rw (settling_kept s o) (read_kept (settle_stage_by s o) c)
+kept_is s c on = grind (arith, option_to_list, kept_more, settling_kept, read_kept)
 
 -- nothing is kept of the `(` that ends the text
 pub none_kept_at_end : (s : TextStage) (c : ℕ) → s.ended ≡ false → (push_stage s c).ended ≡ true → kept_in (events_of_push s c) ≡ []
-none_kept_at_end s c on = by s.ended on (settled_kind s.state c) (c == 40 && is_plain (settle_stage s c).state)
-  where
-    by : (d : Bool) → d ≡ false → (o : Option TokenKind) (b : Bool) → (cond d s (cond b (end_stage (settle_stage_by s o)) (read_stage (settle_stage_by s o) c))).ended ≡ true
-        → kept_in (cond d [] (events_of_settling_by s o ++ cond b (events_of_end (settle_stage_by s o).facts (settle_stage_by s o).progress text_ending.Notes) (events_of_reading (settle_stage_by s o) c)))
-        ≡ []
-    by true e o b over = absurd (true≢false e)
-    by false e o true over = kept_more (events_of_settling_by s o) _ ∙ rw (settling_kept s o) (end_kept (settle_stage_by s o).facts (settle_stage_by s o).progress)
-    by false e o false over = absurd (true≢false (sym over ∙ read_done (settle_stage_by s o) c (next_step (settle_stage_by s o).state c) ∙ settled_done s o ∙ on))
+none_kept_at_end s c on = grind (arith, kept_more, settling_kept, end_kept, read_done, settled_done)
 
 -- what is said then are parts and the end
 parts_more : (ps qs : List TextPart) → map (λ (p : TextPart). out.Part p) ps ++ (map (λ (p : TextPart). out.Part p) qs ++ out.Ended text_ending.Notes ∷ [])
@@ -207,19 +152,4 @@ pub record EndsAt (s : TextStage) (c : ℕ) : Type 0 where
   pub no_comment : is_comment s.state ≡ false
 
 pub ended_at : (s : TextStage) (c : ℕ) → s.ended ≡ false → (push_stage s c).ended ≡ true → EndsAt s c
-ended_at s c on over = by s.ended on (c == 40 && is_plain (settle_stage s c).state) refl over
-  where
-    open_comment : (m : TokenState) → is_plain (settle_stage_by s (settled_kind m 40)).state ≡ true → s.state ≡ m → is_comment m ≡ false
-    open_comment Comment e f = absurd (true≢false (sym e ∙ ap is_plain f))
-    open_comment _ e f = refl
-
-    by : (d : Bool) → d ≡ false → (b : Bool) → (c == 40 && is_plain (settle_stage s c).state) ≡ b → (cond d s (cond b (end_stage (settle_stage s c)) (read_stage (settle_stage s c) c))).ended ≡ true → EndsAt s c
-    by true e b f g = absurd (true≢false e)
-    by false e false f g = absurd (true≢false (sym g ∙ read_done (settle_stage s c) c (next_step (settle_stage s c).state c) ∙ settled_done s (settled_kind s.state c) ∙ on))
-    by false e true f g = record {
-      mark = at_mark;
-      no_comment = open_comment s.state (ap (λ (x : ℕ). is_plain (settle_stage_by s (settled_kind s.state x)).state) (sym at_mark) ∙ (and_parts (c == 40) (is_plain (settle_stage s c).state) f).1) refl;
-    }
-      where
-        at_mark : c ≡ 40
-        at_mark = eqb-true c 40 (and_parts (c == 40) (is_plain (settle_stage s c).state) f).0
+ended_at s c on over = grind (arith, read_done, settled_done, and_parts, eqb-true)

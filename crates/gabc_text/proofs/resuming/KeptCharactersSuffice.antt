@@ -1,7 +1,7 @@
 -- A character that is not kept changes nothing but places and whether a comment is open; one that is kept does what its kept form does.
 use Rattle.std.proofs.Math.Bool.{and-false}
 use Rattle.std.proofs.lemmas.Bool.{eqb-true}
-use Rattle.std.proofs.Common.{◌≡◌, ◌==◌, ◌&&◌, ◌||◌, not, nat_lt, ◌+◌, ℕ, List, [], ◌∷◌, ◌++◌, Bool, true, false, cond, Option, Some, None, refl, sym, ap, ◌∙◌, subst, codes, if◌then◌else◌, arith}
+use Rattle.std.proofs.Common.{◌≡◌, ◌==◌, ◌&&◌, ◌||◌, not, ℕ, List, [], ◌++◌, Bool, true, false, cond, Option, Some, None, refl, sym, ap, ◌∙◌, subst, codes, if◌then◌else◌, arith}
 use Rattle.gabc_places.specs.declared.place.Place.{Place}
 use Rattle.gabc_places.specs.Place.{saturating_next_place}
 use Rattle.gabc_text.specs.declared.progress.Progress.{Progress}
@@ -11,24 +11,23 @@ use Rattle.gabc_text.specs.declared.token.TokenKind.TheVariants as kind
 use Rattle.gabc_text.specs.declared.token.RawKind.{RawKind}
 use Rattle.gabc_text.specs.declared.token.TagEffect.{TagEffect}
 use Rattle.gabc_text.specs.declared.token.TagEffect.TheVariants as tag
-use Rattle.gabc_text.specs.declared.token_state.Step.TheVariants.{Stays, Ends}
+use Rattle.gabc_text.specs.declared.token_state.Step.TheVariants.{Ends}
 use Rattle.gabc_text.specs.declared.token_state.TokenState.{TokenState}
 use Rattle.gabc_text.specs.declared.token_state.TokenState.TheVariants.{Plain, Dollar, Comment, Tag, Raw, Translation}
 use Rattle.gabc_text.specs.declared.text_event.TextEvent.{TextEvent}
 use Rattle.gabc_text.specs.declared.stage.TextStage.{TextStage}
-use Rattle.gabc_text.specs.Token.{is_one_of, is_blank, is_special, single, effect_of}
+use Rattle.gabc_text.specs.Token.{is_one_of, is_blank, is_special, single}
 use Rattle.gabc_text.specs.View.{piece_kind}
 use Rattle.gabc_text.specs.witness.EventsLeft.{piece_by, parts_by, begin_after, end_after}
 use Rattle.gabc_text.specs.declared.view.PieceKind.TheVariants as piece
 use Rattle.gabc_text.specs.machine.TextFacts.{facts_after}
 use Rattle.gabc_text.specs.machine.StageReports.{is_comment}
 use Rattle.gabc_text.specs.machine.Resuming.{placed, outside, uncommented, IsAlike, kept_at, IsReached}
-use Rattle.gabc_text.specs.machine.TagPrefix.{next_name}
-use Rattle.gabc_text.specs.machine.TokenState.{first_step, step_at_tag_end, wanted_char, keep}
-use Rattle.gabc_text.specs.machine.TextStage.{progress_past, token_stage, stage_past_char, stage_after_step, push_stage, events_of_push, events_of_token, events_of_settled_push}
+use Rattle.gabc_text.specs.machine.TokenState.{first_step, step_at_tag_end, keep}
+use Rattle.gabc_text.specs.machine.TextStage.{progress_past, token_stage, stage_past_char, stage_after_step, push_stage, events_of_push}
 use Rattle.gabc_text.proofs.tokens.CasesOfCharacters.{by_case}
 use Rattle.gabc_text.specs.witness.Keeps.{said}
-use Rattle.gabc_text.proofs.resuming.PlacesAside.{IsPlaced, said_append, token_said, said_of_char, said_of_token, reading_said, push_placed, push_same}
+use Rattle.gabc_text.proofs.resuming.PlacesAside.{IsPlaced, said_of_char, said_of_token, reading_said, push_placed, push_same}
 
 -- s does with a character what r does with its kept form, or nothing where it is not kept
 abbrev pub StepAlike : TextStage → ℕ → TextStage → Option ℕ → Type 0
@@ -38,8 +37,7 @@ StepAlike s c r (Some d) = IsAlike (push_stage s c) (push_stage r d) × (said (e
 -- ---- kept as it is
 
 pub stays_outside : (m : TokenState) → is_comment m ≡ false → outside m ≡ m
-stays_outside Comment e = absurd (cc)
-stays_outside _ e = refl
+stays_outside m e = grind arith
 
 same_alike : (s r : TextStage) → IsPlaced s r → is_comment s.state ≡ false → IsAlike s r
 same_alike s r p e = record { place = p.place; next = p.next; same = p.same ∙ ap (λ (m : TokenState). placed p.place p.next (record s { state = m })) (sym (stays_outside s.state e)) }
@@ -51,32 +49,20 @@ module _ (at next : Place) (s : TextStage) (c : ℕ) where
 -- ---- in a tag, a raw part or a translation
 
 after_tag : (t : TextStage) (e : TagEffect) → is_comment (stage_after_step t (step_at_tag_end e)).state ≡ false
-after_tag t (tag.Opens x) = refl
-after_tag t _ = refl
+after_tag t e = grind arith
 
 module _ (facts : TextFacts) (p : Progress) (c : ℕ) where
   abbrev in_state : TokenState → TextStage
   in_state m = record { state = m; facts = facts; progress = p; ended = false }
 
   pub tag_on : (name : List ℕ) → is_comment (push_stage (in_state (Tag name)) c).state ≡ false
-  tag_on name = rw (and-false (c == 40)) (by (c == 62))
-    where
-      by : (b : Bool) → is_comment (stage_after_step (stage_past_char (in_state (Tag name)) c) (cond b (step_at_tag_end (effect_of (60 ∷ name ++ 62 ∷ []))) (Stays (Tag (next_name name c))))).state ≡ false
-      by true = after_tag (stage_past_char (in_state (Tag name)) c) (effect_of (60 ∷ name ++ 62 ∷ []))
-      by false = refl
+  tag_on name = grind (arith, and-false, after_tag)
 
   pub raw_on : (part : RawKind) (m : ℕ) → is_comment (push_stage (in_state (Raw part m)) c).state ≡ false
-  raw_on part m = rw (and-false (c == 40)) (by (c == wanted_char part m) (c == 62) (nat_lt m 5) (c == 60))
-    where
-      by : (a b d e : Bool) → is_comment (stage_after_step (stage_past_char (in_state (Raw part m)) c) (cond a (cond b (Ends kind.Raw tag.Other) (cond d (Stays (Raw part (m + 1))) (Stays (Raw part 0)))) (cond e (Stays (Raw part 1)) (Stays (Raw part 0))))).state ≡ false
-      by a b d e = grind arith
+  raw_on part m = grind arith
 
   pub translation_on : is_comment (push_stage (in_state Translation) c).state ≡ false
-  translation_on = rw (and-false (c == 40)) (by (c == 93))
-    where
-      by : (b : Bool) → is_comment (stage_after_step (stage_past_char (in_state Translation) c) (cond b (Ends kind.Translation tag.Other) (Stays Translation))).state ≡ false
-      by true = refl
-      by false = refl
+  translation_on = grind arith
 
 -- ---- between tokens
 
@@ -100,16 +86,9 @@ record IsBlankBetween (facts : TextFacts) (w : ℕ) : Type 0 where
   pub whole : first_step w ≡ Ends kind.Blank tag.Other
   pub kept : keep facts Plain w ≡ (if facts.space then None else Some 32)
   pub no_notes : (w == 40) ≡ false
-  pub no_translation : (w == 91) ≡ false
 
 blank_cases : (P : ℕ → Type 0) → P 32 → P 9 → P 10 → (c : ℕ) → is_blank c ≡ true → P c
-blank_cases P a b d c e = by (32 == c) (9 == c) (10 == c) refl refl refl e
-  where
-    by : (x y z : Bool) → (32 == c) ≡ x → (9 == c) ≡ y → (10 == c) ≡ z → (x || (y || (z || false))) ≡ true → P c
-    by true y z f g h e = subst P (eqb-true 32 c f) a
-    by false true z f g h e = subst P (eqb-true 9 c g) b
-    by false false true f g h e = subst P (eqb-true 10 c h) d
-    by false false false f g h e = absurd (cc)
+blank_cases P a b d c e = grind arith
 
 module _ (at next : Place) (facts : TextFacts) (p : Progress) where
   abbrev here : TextStage
@@ -183,9 +162,9 @@ module _ (at next : Place) (facts : TextFacts) (p : Progress) where
 
   blank_at : (c : ℕ) → IsReached here → is_blank c ≡ true → StepAlike here c there (keep facts Plain c)
   blank_at c reached = blank_cases (λ w. StepAlike here w there (keep facts Plain w))
-      (blank_step 32 reached (record { whole = refl; kept = refl; no_notes = refl; no_translation = refl }))
-      (blank_step 9 reached (record { whole = refl; kept = refl; no_notes = refl; no_translation = refl }))
-      (blank_step 10 reached (record { whole = refl; kept = refl; no_notes = refl; no_translation = refl }))
+      (blank_step 32 reached (record { whole = refl; kept = refl; no_notes = refl }))
+      (blank_step 9 reached (record { whole = refl; kept = refl; no_notes = refl }))
+      (blank_step 10 reached (record { whole = refl; kept = refl; no_notes = refl }))
       c
 
   -- a token by itself that is kept as it is
@@ -212,31 +191,11 @@ module _ (at next : Place) (facts : TextFacts) (p : Progress) where
       by false true z f g h = begin facts.begun refl
         where
           begin : (b : Bool) → facts.begun ≡ b → StepAlike here c there (keep facts Plain c)
-          begin true e =
-              left_out_step c kind.Begin (record {
-                kept = rw (no_comment, no_blank, f, g, e) refl;
-                facts_are = ap (λ (x : Bool). record facts { begun = true; space = x && facts.space }) e ∙ ap (λ (x : Bool). record facts { begun = x }) (sym e);
-                no_piece = refl;
-                begin = rw e refl;
-                end = refl;
-                start = reached.start refl;
-                no_parts = λ last to. refl;
-              }) no_notes (single_is kind.Begin (rw (no_blank, f, g) refl))
-          begin false e = kept_token c kind.Begin no_notes (single_is kind.Begin (rw (no_blank, f, g) refl)) (rw (no_comment, no_blank, f, g, e) refl)
+          begin b e = grind (arith, left_out_step, no_blank, kept_token)
       by false false true f g h = end (not (facts.begun && not facts.ended)) refl
         where
           end : (b : Bool) → not (facts.begun && not facts.ended) ≡ b → StepAlike here c there (keep facts Plain c)
-          end true e =
-              left_out_step c kind.End (record {
-                kept = rw (no_comment, no_blank, f, g, h, e) refl;
-                facts_are = ap (λ (x : Bool). record facts { ended = facts.begun || facts.ended; space = x && facts.space }) e ∙ ap (λ (x : Bool). record facts { ended = x }) (ended_still facts.begun facts.ended e);
-                no_piece = refl;
-                begin = refl;
-                end = rw (not_new facts.begun facts.ended e) refl;
-                start = reached.start refl;
-                no_parts = λ last to. refl;
-              }) no_notes (single_is kind.End (rw (no_blank, f, g, h) refl))
-          end false e = kept_token c kind.End no_notes (single_is kind.End (rw (no_blank, f, g, h) refl)) (rw (no_comment, no_blank, f, g, h, e) refl)
+          end b e = grind (arith, left_out_step, no_blank, ended_still, not_new, kept_token)
       by false false false f g h = kept_token c kind.Letter no_notes (single_is kind.Letter (rw (no_blank, f, g, h) refl)) (rw (no_comment, no_blank, f, g, h) refl)
 
   -- a character between tokens
@@ -244,11 +203,7 @@ module _ (at next : Place) (facts : TextFacts) (p : Progress) where
   plain_step c reached = by_case 40 c (λ x. (push_stage here x).ended ≡ false → StepAlike here x there (keep facts Plain x)) (λ goes. absurd (cc)) (λ no_notes _. goes_on no_notes)
     where
       others : (c == 40) ≡ false → (c == 36) ≡ false → (c == 37) ≡ false → (c == 60) ≡ false → (c == 91) ≡ false → StepAlike here c there (keep facts Plain c)
-      others n d e t b = by (is_blank c) refl
-        where
-          by : (x : Bool) → is_blank c ≡ x → StepAlike here c there (keep facts Plain c)
-          by true f = blank_at c reached f
-          by false f = single_step c reached n e (rw (d, e, t, b) refl) f
+      others n d e t b = grind (arith, blank_at, single_step)
 
       goes_on : (c == 40) ≡ false → StepAlike here c there (keep facts Plain c)
       goes_on n =
@@ -267,7 +222,6 @@ record IsBlankAfter (w : ℕ) : Type 0 where
   pub no_notes : (w == 40) ≡ false
   pub no_comment : (w == 37) ≡ false
   pub blank : single w ≡ kind.Blank
-  pub no_translation : (w == 91) ≡ false
 
 -- a character that is a letter by itself
 record IsOrdinary (c : ℕ) : Type 0 where
@@ -276,25 +230,8 @@ record IsOrdinary (c : ℕ) : Type 0 where
   pub letter : single c ≡ kind.Letter
   pub whole : first_step c ≡ Ends kind.Letter tag.Other
 
-pub not_one : (x c : ℕ) → is_special x ≡ true → is_special c ≡ false → (c == x) ≡ false
-not_one x c y = by_case x c (λ z. is_special z ≡ false → (z == x) ≡ false) (λ e. absurd (cc)) (λ n e. n)
-
-no_stray : (c : ℕ) → is_special c ≡ false → is_one_of (codes ")]>") c ≡ false
-no_stray c e = by (40 == c) (41 == c) (91 == c) (93 == c) (123 == c) (125 == c) (60 == c) (62 == c) _ e
-  where
-    by : (a b d f g h i j r : Bool) → (a || (b || (d || (f || (g || (h || (i || (j || r)))))))) ≡ false → (b || (f || (j || false))) ≡ false
-    by a b d f g h i j r e = grind arith
-
 ordinary : (c : ℕ) → is_blank c ≡ false → is_special c ≡ false → IsOrdinary c
-ordinary c no_blank e = record {
-  no_notes = not_one 40 c refl e;
-  no_comment = not_one 37 c refl e;
-  letter = letter_is;
-  whole = rw (not_one 36 c refl e, not_one 37 c refl e, not_one 60 c refl e, not_one 91 c refl e) (ap (λ (k : TokenKind). Ends k tag.Other) letter_is);
-}
-  where
-    letter_is : single c ≡ kind.Letter
-    letter_is = rw (no_blank, no_stray c e, not_one 123 c refl e, not_one 125 c refl e) refl
+ordinary c no_blank e = grind arith
 
 module _ (facts : TextFacts) (p : Progress) where
   abbrev in_dollar : Place → Place → TextStage
@@ -303,15 +240,7 @@ module _ (facts : TextFacts) (p : Progress) where
   -- the `$` is a letter, and the blank is kept
   dollar_said : (at next : Place) (w : ℕ) → IsBlankAfter w
       → said (events_of_push (in_dollar at next) w) ≡ said_of_token facts p kind.Letter tag.Other p.start ++ said_of_char (Some 32)
-  dollar_said at next w b =
-      rw b.plain (
-      said_append (events_of_token facts (record p { place = at; next = next }) kind.Letter tag.Other p.start) _
-      ∙ ap (λ (os : List TextEvent). os ++ said (events_of_settled_push (token_stage (in_dollar at next) kind.Letter tag.Other next) w)) (token_said facts (record p { place = at; next = next }) kind.Letter tag.Other p.start)
-      ∙ ap (λ (os : List TextEvent). said_of_token facts p kind.Letter tag.Other p.start ++ os) blank_said
-      )
-    where
-      blank_said : said (events_of_settled_push (token_stage (in_dollar at next) kind.Letter tag.Other next) w) ≡ said_of_char (Some 32)
-      blank_said = rw b.no_notes (reading_said (token_stage (in_dollar at next) kind.Letter tag.Other next) w ∙ rw (b.whole, b.no_comment, b.blank) refl)
+  dollar_said at next w b = grind arith
 
   dollar_blank : (at next other more : Place) (w : ℕ) → IsBlankAfter w → StepAlike (in_dollar other more) w (in_dollar at next) (kept_at (in_dollar other more) w)
   dollar_blank at next other more w b = rw kept alike
@@ -322,7 +251,7 @@ module _ (facts : TextFacts) (p : Progress) where
       alike : StepAlike (in_dollar other more) w (in_dollar at next) (Some 32)
       alike = (
         record { place = saturating_next_place next 32; next = saturating_next_place next 32; same = rw (b.plain, b.whole, b.no_notes, b.no_comment, b.blank) refl },
-        dollar_said other more w b ∙ sym (dollar_said at next 32 (record { whole = refl; plain = refl; no_notes = refl; no_comment = refl; blank = refl; no_translation = refl })),
+        dollar_said other more w b ∙ sym (dollar_said at next 32 (record { whole = refl; plain = refl; no_notes = refl; no_comment = refl; blank = refl })),
       )
 
   -- an escape, or a letter after the `$`
@@ -348,9 +277,9 @@ module _ (facts : TextFacts) (p : Progress) where
     where
       by : (b : Bool) → is_blank c ≡ b → StepAlike (in_dollar other more) c (in_dollar at next) (kept_at (in_dollar other more) c)
       by true e = blank_cases (λ w. StepAlike (in_dollar other more) w (in_dollar at next) (kept_at (in_dollar other more) w))
-          (dollar_blank at next other more 32 (record { whole = refl; plain = refl; no_notes = refl; no_comment = refl; blank = refl; no_translation = refl }))
-          (dollar_blank at next other more 9 (record { whole = refl; plain = refl; no_notes = refl; no_comment = refl; blank = refl; no_translation = refl }))
-          (dollar_blank at next other more 10 (record { whole = refl; plain = refl; no_notes = refl; no_comment = refl; blank = refl; no_translation = refl }))
+          (dollar_blank at next other more 32 (record { whole = refl; plain = refl; no_notes = refl; no_comment = refl; blank = refl }))
+          (dollar_blank at next other more 9 (record { whole = refl; plain = refl; no_notes = refl; no_comment = refl; blank = refl }))
+          (dollar_blank at next other more 10 (record { whole = refl; plain = refl; no_notes = refl; no_comment = refl; blank = refl }))
           c e
       by false e = dollar_letter at next other more c e goes
 
@@ -369,8 +298,7 @@ comment_says : (facts : TextFacts) (p : Progress) → p.start ≡ p.kept
 comment_says facts p start = refl
 
 step_as : (s t r : TextStage) (c : ℕ) (o : Option ℕ) → push_stage s c ≡ push_stage t c → said (events_of_push s c) ≡ said (events_of_push t c) → StepAlike t c r o → StepAlike s c r o
-step_as s t r c None e f h = (subst (λ (x : TextStage). IsAlike x r) (sym e) h.0, f ∙ h.1)
-step_as s t r c (Some d) e f h = (subst (λ (x : TextStage). IsAlike x (push_stage r d)) (sym e) h.0, f ∙ h.1)
+step_as s t r c o e f h = grind arith
 
 module _ (at next : Place) (facts : TextFacts) (p : Progress) where
   abbrev in_comment : TextStage

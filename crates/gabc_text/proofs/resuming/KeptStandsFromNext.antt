@@ -1,73 +1,43 @@
 -- What is kept of the characters to come stands as in a text that begins where the next character stands.
 use Rattle.std.proofs.lemmas.List.Elements.{All-nil, All-cons, All-head}
-use Rattle.std.proofs.Common.{◌≡◌, ◌==◌, ◌&&◌, ℕ, List, [], ◌∷◌, ◌++◌, map, Bool, true, false, cond, Option, Some, None, take, append-nil, refl, sym, ap, ◌∙◌, subst}
+use Rattle.std.proofs.Common.{arith, ◌≡◌, ◌==◌, ◌&&◌, ℕ, List, [], ◌∷◌, ◌++◌, Bool, true, false, cond, Option, Some, None, take, append-nil, refl, sym, ◌∙◌, subst}
 use Rattle.std.specs.List.{All}
 use Rattle.gabc_places.specs.Place.{saturating_next_place}
 use Rattle.gabc_places.specs.StageLaw.{concat_of}
 use Rattle.gabc_places.specs.declared.place.Char.{Char}
 use Rattle.gabc_places.specs.declared.place.Place.{Place}
 use Rattle.gabc_text.specs.BuiltText.{kept_chars_in, kept_in}
-use Rattle.gabc_text.specs.Events.{count_by, option_list_of}
+use Rattle.gabc_text.specs.Events.{option_list_of}
 use Rattle.gabc_text.specs.StageReports.{IsNext, KeptIsPlaced}
 use Rattle.gabc_text.specs.witness.StageReports.{next_of}
-use Rattle.gabc_text.specs.View.{centre_by, piece_kind}
-use Rattle.gabc_places.specs.declared.place.Span.{Span}
 use Rattle.gabc_text.specs.declared.progress.Progress.{Progress}
 use Rattle.gabc_text.specs.declared.stage.TextStage.{TextStage}
 use Rattle.gabc_text.specs.declared.text_event.TextEnd.{TextEnd}
 use Rattle.gabc_text.specs.declared.text_event.TextEnd.TheVariants as text_ending
 use Rattle.gabc_text.specs.declared.text_event.TextEvent.{TextEvent}
-use Rattle.gabc_text.specs.declared.text_event.TextPart.{TextPart}
-use Rattle.gabc_text.specs.declared.text_event.TextPart.TheVariants as part
 use Rattle.gabc_text.specs.declared.text_event.TextEvent.TheVariants as out
 use Rattle.gabc_text.specs.declared.text_facts.TextFacts.{TextFacts}
-use Rattle.gabc_text.specs.declared.token.TagEffect.{TagEffect}
-use Rattle.gabc_text.specs.declared.token.TagEffect.TheVariants as tag
 use Rattle.gabc_text.specs.declared.token.TokenKind.{TokenKind}
 use Rattle.gabc_text.specs.declared.token_state.Step.{Step}
-use Rattle.gabc_text.specs.declared.token_state.Step.TheVariants.{Stays, Ends}
-use Rattle.gabc_text.specs.machine.TextFacts.{early_at, facts_after}
-use Rattle.gabc_text.specs.machine.TextStage.{char_event, end_by, events_of_end, events_of_finish, events_of_finish_by, events_of_push, events_of_reading, events_of_settling_by, events_of_step, events_of_token, is_cut_end, progress_after, push_stage, settle_stage, settle_stage_by, stage_past_char}
-use Rattle.gabc_text.specs.machine.TokenState.{is_plain, keep, kind_at_end, next_step, settled_kind}
-use Rattle.gabc_text.specs.witness.EventsLeft.{codes_by, codes_last, end_events_by, events_left, findings_there, parts_by, whole_events_by}
+use Rattle.gabc_text.specs.machine.TextStage.{char_event, events_of_end, events_of_finish, events_of_push, events_of_reading, events_of_settling_by, events_of_step, push_stage, settle_stage, settle_stage_by}
+use Rattle.gabc_text.specs.machine.TokenState.{is_plain, settled_kind}
+use Rattle.gabc_text.specs.witness.EventsLeft.{end_events_by, events_left}
 use Rattle.gabc_text.proofs.events.EventsBuildText.{kept_more}
 use Rattle.gabc_text.proofs.machine.EventsLeftAreThoseAhead.{rest_is}
 use Rattle.gabc_text.proofs.machine.EventsStepByStep.{stepwise}
-use Rattle.gabc_text.proofs.resuming.EndsAndKept.{no_found_kept, no_kept, settling_kept}
+use Rattle.gabc_text.proofs.resuming.EndsAndKept.{no_found_kept, settling_kept}
 use Rattle.gabc_text.proofs.resuming.WhatStagesTell.{next_goes}
 
 -- ---- events that keep nothing
 
-whole_kept : (facts : TextFacts) (p : Progress) (k : TokenKind) (so : TagEffect) (last to : ℕ) → kept_in (whole_events_by facts p k so last to) ≡ []
-whole_kept facts p k so last to =
-    let parts : List TextPart = parts_by facts p k last to (piece_kind k so) in
-    kept_more (map (λ (x : TextPart). out.Part x) parts) (findings_there p.place (codes_by facts k so))
-    ∙ rw (no_kept parts) (no_found_kept p.place (codes_by facts k so))
-
-centre_none : (o : Option Span) (how : TextEnd) → kept_in (map (λ (c : Span). out.Part (part.Centre c)) (option_list_of o) ++ out.Ended how ∷ []) ≡ []
-centre_none None how = refl
-centre_none (Some c) how = refl
-
 end_kept : (facts : TextFacts) (p : Progress) (cut : Bool) (how : TextEnd) → kept_in (end_events_by facts p cut how) ≡ []
-end_kept facts p cut how =
-    kept_more (findings_there p.next (cond cut [] (codes_last facts))) _
-    ∙ rw (no_found_kept p.next (cond cut [] (codes_last facts))) (centre_none (centre_by (count_by p.pieces p.blank) p.begin p.end) how)
+end_kept facts p cut how = grind arith
 
 step_kept : (s : TextStage) (step : Step) (last : ℕ) → kept_in (events_of_step s step last) ≡ []
-step_kept s (Stays state) last = refl
-step_kept s (Ends k so) last = whole_kept s.facts s.progress k so last s.progress.kept
+step_kept s step last = grind arith
 
 finish_kept : (s : TextStage) → kept_in (events_of_finish s) ≡ []
-finish_kept s = by s.ended (kind_at_end s.state)
-  where
-    by : (d : Bool) (o : Option TokenKind) → kept_in (cond d [] (events_of_finish_by s o)) ≡ []
-    by true o = refl
-    by false None = end_kept s.facts s.progress false text_ending.Finished
-    by false (Some k) =
-        kept_more (events_of_token s.facts s.progress k tag.Other s.progress.start) _
-        ∙ rw (whole_kept s.facts s.progress k tag.Other s.progress.start s.progress.kept)
-        (end_kept (facts_after s.facts k tag.Other) (progress_after s.facts s.progress k tag.Other s.progress.next)
-        (is_cut_end (end_by k s.progress.place)) (end_by k s.progress.place))
+finish_kept s = grind arith
 
 -- ---- what a character keeps stands where it stands
 
@@ -92,15 +62,10 @@ char_stands p None es e = none_stand p es e
 char_stands p (Some c) es e = All-cons (λ (x : Char). x.place ≡ p) (record { c = c; place = p }) (kept_chars_in es) refl (none_stand p es e)
 
 read_stands : (s : TextStage) (c : ℕ) → StandAt (next_of s) (events_of_reading s c)
-read_stands s c =
-    stand_after (next_of s) (findings_there s.progress.place (option_list_of (early_at s.facts s.state c))) _
-    (no_found_kept s.progress.place (option_list_of (early_at s.facts s.state c)))
-    (char_stands (next_of s) (keep s.facts s.state c)
-    (events_of_step (stage_past_char s c) (next_step s.state c) s.progress.kept) (step_kept (stage_past_char s c) (next_step s.state c) s.progress.kept))
+read_stands s c = grind (arith, stand_after, no_found_kept, char_stands, step_kept)
 
 settled_stands : (s : TextStage) (o : Option TokenKind) (c : ℕ) → StandAt (next_of s) (events_of_reading (settle_stage_by s o) c)
-settled_stands s None c = read_stands s c
-settled_stands s (Some k) c = read_stands (settle_stage_by s (Some k)) c
+settled_stands s o c = grind (arith, read_stands)
 
 push_stands : (s : TextStage) (c : ℕ) → StandAt (next_of s) (events_of_push s c)
 push_stands s c = by s.ended (settled_kind s.state c) (c == 40 && is_plain (settle_stage s c).state)
@@ -141,8 +106,7 @@ going_stands s (c ∷ t) e = (push_stands s c, by (push_stage s c).ended refl (g
     by false f later = subst (λ (p : Place). KeptIsPlaced p t (stepwise (push_stage s c) t)) (next_goes s c e f) (later f)
 
 stands : (s : TextStage) (t : List ℕ) (d : Bool) → s.ended ≡ d → KeptIsPlaced (next_of s) t (stepwise s t)
-stands s t true e = ended_stands (next_of s) s t e
-stands s t false e = going_stands s t e
+stands s t d e = grind (arith, ended_stands, going_stands)
 
 -- the next character stands where the stage says
 pub is_next : (s : TextStage) → IsNext s (next_of s)
@@ -155,13 +119,9 @@ head_stands p x xs ys e all = All-head (λ (y : Char). y.place ≡ p) x xs (subs
 
 first_stands : (p : Place) (c : ℕ) (x : Char) (xs : List Char) (lists : List (List TextEvent)) → kept_chars_in (concat_of (take 1 lists)) ≡ x ∷ xs
     → KeptIsPlaced p (c ∷ []) lists → x.place ≡ p
-first_stands p c x xs [] e stand = absurd stand
-first_stands p c x xs (events ∷ lists) e stand =
-    head_stands p x xs (kept_chars_in events) (ap kept_chars_in (sym (append-nil events)) ∙ e) stand.0
+first_stands p c x xs lists e stand = grind (arith, head_stands, append-nil)
 
 -- what is kept of a character stands at one place
 pub one_place : (s : TextStage) (p q : Place) (c : ℕ) (x : Char) (xs : List Char) → kept_chars_in (concat_of (take 1 (events_left s (c ∷ [])))) ≡ x ∷ xs
     → IsNext s p → IsNext s q → p ≡ q
-one_place s p q c x xs e there here =
-    sym (first_stands p c x xs (events_left s (c ∷ [])) e (there (c ∷ [])))
-    ∙ first_stands q c x xs (events_left s (c ∷ [])) e (here (c ∷ []))
+one_place s p q c x xs e there here = grind (arith, first_stands)

@@ -1,12 +1,12 @@
 -- A fresh stage that reads a kept text again is the stage that kept it.
-use Rattle.std.proofs.Common.{◌≡◌, ◌==◌, ◌&&◌, ◌⊎◌, inl, inr, ℕ, List, [], ◌∷◌, ◌++◌, Bool, true, false, Option, Some, None, is_some, refl, sym, ap, ◌∙◌, subst, append-nil}
+use Rattle.std.proofs.Common.{arith, ◌≡◌, ◌==◌, ◌&&◌, ◌⊎◌, inl, inr, ℕ, List, [], ◌∷◌, ◌++◌, Bool, true, false, Option, Some, None, is_some, refl, sym, ap, ◌∙◌, subst, append-nil}
 use Rattle.std.specs.Option.{unwrap_or}
 use Rattle.std.proofs.lemmas.Bool.{eqb-true}
 use Rattle.gabc_places.specs.declared.place.Place.{Place}
 use Rattle.gabc_text.specs.declared.text_event.TextEvent.{TextEvent}
 use Rattle.gabc_text.specs.declared.stage.TextStage.{TextStage}
 use Rattle.gabc_text.specs.BuiltText.{kept_in}
-use Rattle.gabc_text.specs.witness.Keeps.{Keeps, KeepsOn, GoesOn, end_text, begins_comment, kept_with}
+use Rattle.gabc_text.specs.witness.Keeps.{Keeps, KeepsOn, GoesOn, end_text, begins_comment}
 use Rattle.gabc_text.specs.StageReports.{opener_of, is_in_comment}
 use Rattle.gabc_text.specs.witness.StageReports.{moved_to}
 use Rattle.gabc_text.proofs.resuming.StagesKeep.{kept_again, comment_not_kept, comment_open, comment_alone, opener_open, moved_keeps}
@@ -37,16 +37,13 @@ module _ (place : Place) (k : List ℕ) (s : TextStage) (back : IsBack place k f
       one = on.kept k here outside ∙ kept_again whole k b c keeps
 
       still : (d : Bool) → end_text events ≡ d → d ≡ false
-      still false e = refl
-      still true e = absurd (let f = sym one ∙ (on.ends k here e).kept in cc)
+      still d e = grind (arith, one, here)
 
       goes : GoesOn (moved_to place s) k c events after
       goes = on.goes k here (still (end_text events) refl)
 
       none : (a d : Bool) → (c == 37) ≡ a → begins_comment k ≡ d → (a && d) ≡ false
-      none false d e f = refl
-      none true false e f = refl
-      none true true e f = absurd (let g = sym (kept_again whole k b c keeps) ∙ ap (kept_with k) (eqb-true c 37 e) ∙ comment_not_kept k f in cc)
+      none a d e f = grind (arith, kept_again, eqb-true, comment_not_kept)
 
       opens : (p : Place) → (opener_of (moved_to place s) ≡ Some p) ⊎ (place ≡ p) → place ≡ p
       opens p (inl e) = back.opener p (sym (opener_moved s place) ∙ e)

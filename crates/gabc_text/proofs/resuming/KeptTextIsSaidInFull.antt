@@ -1,5 +1,5 @@
 -- What was said of a text that a stage keeps is what is said of it in front of the `(` that ends it.
-use Rattle.std.proofs.Common.{◌≡◌, ℕ, List, [], ◌∷◌, ◌++◌, map, true, false, option_to_list, refl, sym, ap, subst, ◌∙◌, append_assoc, append-nil}
+use Rattle.std.proofs.Common.{arith, ◌≡◌, ℕ, List, [], ◌∷◌, ◌++◌, map, true, false, option_to_list, refl, sym, ap, subst, ◌∙◌, append_assoc, append-nil}
 use Rattle.std.proofs.lemmas.Bool.{true≢false}
 use Rattle.std.proofs.lemmas.List.Folds.{list_any-append}
 use Rattle.gabc_places.specs.StageLaw.{concat_of}
@@ -17,7 +17,7 @@ use Rattle.gabc_text.specs.TextView.{ViewContent}
 use Rattle.gabc_text.specs.witness.Keeps.{said, end_text, EndsInNotes, stage_after, Keeps, said_of, ends_after_it, said_at_end}
 use Rattle.gabc_text.specs.witness.SaidInFull.{IsSaidInFull}
 use Rattle.gabc_text.specs.machine.RawPart.{stage_past, events_of_pushes}
-use Rattle.gabc_text.specs.machine.Resuming.{nowhere, kept_at, kept_past}
+use Rattle.gabc_text.specs.machine.Resuming.{nowhere, kept_past}
 use Rattle.gabc_text.specs.machine.TextStage.{push_stage, events_of_push}
 use Rattle.gabc_text.proofs.events.EventsBuildText.{events_append, events_whole, kept_more, kept_whole, none_kept}
 use Rattle.gabc_text.proofs.events.EventsByPointAreEvents.{joined_nothing, points_joined}
@@ -32,27 +32,17 @@ use Rattle.gabc_text.proofs.resuming.StagesKeep.{ends_are, last_is, said_is}
 -- ---- the events of a text up to its `(`
 
 emitted : (s : TextStage) (k rest : List ℕ) → (push_stage (stage_past s k) 40).ended ≡ true → concat_of (stepwise s (k ++ 40 ∷ rest)) ≡ events_of_pushes s k ++ events_of_push (stage_past s k) 40
-emitted s [] rest over =
-    ap (λ (ls : List (List TextEvent)). events_of_push s 40 ++ concat_of ls) (rest_done (push_stage s 40) rest over)
-    ∙ ap (λ (es : List TextEvent). events_of_push s 40 ++ es) (joined_nothing rest)
-    ∙ append-nil (events_of_push s 40)
-emitted s (c ∷ k) rest over =
-    ap (λ (es : List TextEvent). events_of_push s c ++ es) (emitted (push_stage s c) k rest over)
-    ∙ sym (append_assoc (events_of_push s c) (events_of_pushes (push_stage s c) k) (events_of_push (stage_past (push_stage s c) k) 40))
+emitted s [] rest over = grind (arith, rest_done, joined_nothing, append-nil)
+emitted s (c ∷ k) rest over = simp (append_assoc, emitted (push_stage s c) k rest over)
 
 -- no end is among them before the `(`, and of each character what is kept is kept
 pushes_go : (s : TextStage) (k : List ℕ) → (stage_past s k).ended ≡ false → end_text (events_of_pushes s k) ≡ false
 pushes_go s [] e = refl
-pushes_go s (c ∷ k) e =
-    let here : end_text (events_of_push s c) ≡ false = sym (done_is s c (goes_on s (c ∷ k) e)) ∙ goes_on (push_stage s c) k e in
-    list_any-append is_end (events_of_push s c) (events_of_pushes (push_stage s c) k) ∙ rw (here, pushes_go (push_stage s c) k e) refl
+pushes_go s (c ∷ k) e = grind (arith, done_is, goes_on, list_any-append, pushes_go (push_stage s c) k e)
 
 pushes_keep : (s : TextStage) (k : List ℕ) → (stage_past s k).ended ≡ false → kept_in (events_of_pushes s k) ≡ kept_past s k
 pushes_keep s [] e = refl
-pushes_keep s (c ∷ k) e =
-    kept_more (events_of_push s c) (events_of_pushes (push_stage s c) k)
-    ∙ ap (λ (t : List ℕ). t ++ kept_in (events_of_pushes (push_stage s c) k)) (kept_is s c (goes_on s (c ∷ k) e) (goes_on (push_stage s c) k e))
-    ∙ ap (λ (t : List ℕ). option_to_list (kept_at s c) ++ t) (pushes_keep (push_stage s c) k e)
+pushes_keep s (c ∷ k) e = grind (arith, kept_more, kept_is, goes_on, option_to_list, pushes_keep (push_stage s c) k e)
 
 -- ---- what is said
 

@@ -1,8 +1,7 @@
 -- What a stage does depends on places in its places alone, and in where its findings stand.
-use Rattle.std.proofs.Common.{◌≡◌, ◌==◌, ◌&&◌, ℕ, List, [], ◌∷◌, ◌++◌, map, Bool, true, false, cond, Option, Some, None, refl, sym, ap, ◌∙◌, append-nil}
+use Rattle.std.proofs.Common.{arith, ◌≡◌, ◌==◌, ◌&&◌, ℕ, List, [], ◌∷◌, ◌++◌, map, Bool, true, false, cond, Option, Some, None, refl, sym, ap, ◌∙◌}
 use Rattle.gabc_places.specs.declared.code.Code.{Code}
 use Rattle.gabc_places.specs.declared.place.Place.{Place}
-use Rattle.gabc_places.specs.declared.place.Span.{Span}
 use Rattle.gabc_places.specs.Place.{saturating_next_place}
 use Rattle.gabc_text.specs.declared.progress.Progress.{Progress}
 use Rattle.gabc_text.specs.declared.text_facts.TextFacts.{TextFacts}
@@ -12,17 +11,15 @@ use Rattle.gabc_text.specs.declared.token.TagEffect.TheVariants.{Other}
 use Rattle.gabc_text.specs.declared.token_state.Step.{Step}
 use Rattle.gabc_text.specs.declared.token_state.Step.TheVariants.{Stays, Ends}
 use Rattle.gabc_text.specs.declared.text_event.TextPart.{TextPart}
-use Rattle.gabc_text.specs.declared.text_event.TextPart.TheVariants as part
 use Rattle.gabc_text.specs.declared.text_event.TextEvent.{TextEvent}
 use Rattle.gabc_text.specs.declared.text_event.TextEvent.TheVariants as out
 use Rattle.gabc_text.specs.declared.text_event.TextEnd.TheVariants as text_ending
 use Rattle.gabc_text.specs.declared.stage.TextStage.{TextStage}
-use Rattle.gabc_text.specs.Events.{option_list_of, count_by}
-use Rattle.gabc_text.specs.witness.EventsLeft.{findings_there, parts_by, codes_by, codes_last}
-use Rattle.gabc_text.specs.View.{piece_kind, centre_by}
+use Rattle.gabc_text.specs.Events.{option_list_of}
+use Rattle.gabc_text.specs.witness.EventsLeft.{findings_there, parts_by}
+use Rattle.gabc_text.specs.View.{piece_kind}
 use Rattle.gabc_text.specs.machine.Resuming.{nowhere, placed}
 use Rattle.gabc_text.specs.witness.Keeps.{said}
-use Rattle.gabc_text.specs.machine.TextFacts.{early_at}
 use Rattle.gabc_text.specs.machine.TokenState.{settled_kind, next_step, keep, is_plain}
 use Rattle.gabc_text.specs.machine.TextStage.{char_event, token_stage, events_of_token, settle_stage_by, events_of_settling_by, stage_past_char, stage_after_step, events_of_step, read_stage, events_of_reading, end_stage, events_of_end, settled_push_stage, events_of_settled_push, push_stage, events_of_push}
 
@@ -39,50 +36,30 @@ pub said_found : (p : Place) (cs : List Code) → said (findings_there p cs) ≡
 said_found p [] = refl
 said_found p (c ∷ cs) = said_found p cs
 
-said_parts : (ps : List TextPart) → said (map (λ (p : TextPart). out.Part p) ps) ≡ map (λ (p : TextPart). out.Part p) ps
-said_parts [] = refl
-said_parts (p ∷ ps) = ap (λ (os : List TextEvent). out.Part p ∷ os) (said_parts ps)
-
 -- of a token its parts
 abbrev pub said_of_token : TextFacts → Progress → TokenKind → TagEffect → ℕ → List TextEvent
 said_of_token facts p k e last = map (λ (x : TextPart). out.Part x) (parts_by facts p k last p.kept (piece_kind k e))
 
 pub token_said : (facts : TextFacts) (p : Progress) (k : TokenKind) (e : TagEffect) (last : ℕ) → said (events_of_token facts p k e last) ≡ said_of_token facts p k e last
-token_said facts p k e last =
-    said_append (said_of_token facts p k e last) (findings_there p.place (codes_by facts k e))
-    ∙ ap (λ (os : List TextEvent). said (said_of_token facts p k e last) ++ os) (said_found p.place (codes_by facts k e))
-    ∙ append-nil (said (said_of_token facts p k e last))
-    ∙ said_parts (parts_by facts p k last p.kept (piece_kind k e))
+token_said facts p k e last = grind arith
 
 abbrev pub said_of_char : Option ℕ → List TextEvent
 said_of_char None = []
 said_of_char (Some c) = out.Kept (record { c = c; place = nowhere }) ∷ []
 
 char_said : (p : Place) (o : Option ℕ) → said (option_list_of (char_event p o)) ≡ said_of_char o
-char_said p None = refl
-char_said p (Some c) = refl
+char_said p o = grind arith
 
 abbrev pub said_of_step : TextStage → Step → ℕ → List TextEvent
 said_of_step t (Stays state) last = []
 said_of_step t (Ends k e) last = said_of_token t.facts t.progress k e last
 
 step_said : (t : TextStage) (st : Step) (last : ℕ) → said (events_of_step t st last) ≡ said_of_step t st last
-step_said t (Stays state) last = refl
-step_said t (Ends k e) last = token_said t.facts t.progress k e last
+step_said t st last = grind arith
 
 pub reading_said : (t : TextStage) (c : ℕ)
     → said (events_of_reading t c) ≡ said_of_char (keep t.facts t.state c) ++ said_of_step (stage_past_char t c) (next_step t.state c) t.progress.kept
-reading_said t c =
-    said_append (findings_there t.progress.place (option_list_of (early_at t.facts t.state c))) _
-    ∙ ap (λ (os : List TextEvent). os ++ said (option_list_of (char_event t.progress.next (keep t.facts t.state c)) ++ events_of_step (stage_past_char t c) (next_step t.state c) t.progress.kept))
-    (said_found t.progress.place (option_list_of (early_at t.facts t.state c)))
-    ∙ said_append (option_list_of (char_event t.progress.next (keep t.facts t.state c))) _
-    ∙ ap (λ (os : List TextEvent). os ++ said (events_of_step (stage_past_char t c) (next_step t.state c) t.progress.kept)) (char_said t.progress.next (keep t.facts t.state c))
-    ∙ ap (λ (os : List TextEvent). said_of_char (keep t.facts t.state c) ++ os) (step_said (stage_past_char t c) (next_step t.state c) t.progress.kept)
-
--- what the end says after its findings
-abbrev ending_events : TextStage → List TextEvent
-ending_events u = map (λ (c : Span). out.Part (part.Centre c)) (option_list_of (centre_by (count_by u.progress.pieces u.progress.blank) u.progress.begin u.progress.end)) ++ out.Ended text_ending.Notes ∷ []
+reading_said t c = grind (arith, said_append, said_found, char_said, step_said)
 
 -- ---- at other places
 
@@ -97,8 +74,7 @@ module _ (at next : Place) where
   step_placed u c (Ends k e) = record { place = saturating_next_place next c; next = saturating_next_place next c; same = refl }
 
   same_step : (u : TextStage) (c : ℕ) (st : Step) → said_of_step (stage_past_char (placed at next u) c) st u.progress.kept ≡ said_of_step (stage_past_char u c) st u.progress.kept
-  same_step u c (Stays state) = refl
-  same_step u c (Ends k e) = refl
+  same_step u c st = cc
 
   read_same : (u : TextStage) (c : ℕ) → said (events_of_reading (placed at next u) c) ≡ said (events_of_reading u c)
   read_same u c =
@@ -107,10 +83,7 @@ module _ (at next : Place) where
       ∙ sym (reading_said u c)
 
   end_same : (u : TextStage) → said (events_of_end u.facts (placed at next u).progress text_ending.Notes) ≡ said (events_of_end u.facts u.progress text_ending.Notes)
-  end_same u =
-      said_append (findings_there next (codes_last u.facts)) _
-      ∙ ap (λ (os : List TextEvent). os ++ said (ending_events u)) (said_found next (codes_last u.facts) ∙ sym (said_found u.progress.next (codes_last u.facts)))
-      ∙ sym (said_append (findings_there u.progress.next (codes_last u.facts)) _)
+  end_same u = grind arith
 
   settled_placed : (u : TextStage) (c : ℕ) → IsPlaced (settled_push_stage u c) (settled_push_stage (placed at next u) c)
   settled_placed u c = by (c == 40 && is_plain u.state)
@@ -120,11 +93,7 @@ module _ (at next : Place) where
       by false = step_placed u c (next_step u.state c)
 
   settled_same : (u : TextStage) (c : ℕ) → said (events_of_settled_push (placed at next u) c) ≡ said (events_of_settled_push u c)
-  settled_same u c = by (c == 40 && is_plain u.state)
-    where
-      by : (b : Bool) → said (cond b (events_of_end u.facts (placed at next u).progress text_ending.Notes) (events_of_reading (placed at next u) c)) ≡ said (cond b (events_of_end u.facts u.progress text_ending.Notes) (events_of_reading u c))
-      by true = end_same u
-      by false = read_same u c
+  settled_same u c = grind (arith, end_same, read_same)
 
 -- a character does the same
 pub push_placed : (at next : Place) (s : TextStage) (c : ℕ) → IsPlaced (push_stage s c) (push_stage (placed at next s) c)

@@ -3,7 +3,7 @@ use Rattle.std.proofs.lemmas.Bool.{eqb-true, false≢true}
 use Rattle.std.proofs.Common.{◌≡◌, ◌==◌, ◌&&◌, ℕ, List, [], ◌∷◌, ◌++◌, Bool, true, false, cond, Option, Some, None, option_to_list, refl, sym, ap, ◌∙◌, subst, append-nil, append_assoc, if◌then◌else◌}
 use Rattle.gabc_places.specs.declared.place.Place.{Place}
 use Rattle.gabc_text.specs.declared.token_state.TokenState.{TokenState}
-use Rattle.gabc_text.specs.declared.token_state.TokenState.TheVariants.{Plain, Dollar, Comment, Tag, Raw, Translation}
+use Rattle.gabc_text.specs.declared.token_state.TokenState.TheVariants.{Comment}
 use Rattle.gabc_text.specs.declared.text_event.TextEvent.{TextEvent}
 use Rattle.gabc_text.specs.declared.text_event.TextEvent.TheVariants as out
 use Rattle.gabc_text.specs.declared.text_event.TextEnd.TheVariants as text_ending
@@ -19,13 +19,9 @@ use Rattle.gabc_text.specs.machine.RawPart.{stage_past, events_of_pushes}
 use Rattle.gabc_text.specs.machine.Resuming.{nowhere, placed, outside, IsAlike, kept_at, kept_past}
 use Rattle.gabc_text.specs.machine.TokenState.{is_plain, keep}
 use Rattle.gabc_text.specs.declared.text_facts.TextFacts.{TextFacts}
-use Rattle.gabc_text.specs.declared.token.TokenKind.{TokenKind}
-use Rattle.gabc_text.specs.Token.{single}
-use Rattle.gabc_text.specs.View.{is_space, kept_as}
-use Rattle.gabc_text.specs.witness.FactsPast.{leaves_out}
 use Rattle.std.specs.List.{All}
-use Rattle.std.proofs.lemmas.List.Elements.{All-nil, All-cons}
-use Rattle.std.proofs.Common.{◌||◌, ◌⊎◌, inl, inr}
+use Rattle.std.proofs.lemmas.List.Elements.{All-nil}
+use Rattle.std.proofs.Common.{◌⊎◌}
 use Rattle.gabc_text.specs.machine.TextStage.{settle_stage, events_of_settling, events_of_settled_push, push_stage, events_of_push}
 use Rattle.gabc_places.specs.Place.{saturating_next_place}
 use Rattle.gabc_text.proofs.machine.EventsLeftAreThoseAhead.{rest_is}
@@ -49,21 +45,14 @@ past_more s (c ∷ k) d = past_more (push_stage s c) k d
 
 kept_more : (s : TextStage) (k : List ℕ) (d : ℕ) → kept_past s (k ++ d ∷ []) ≡ kept_past s k ++ option_to_list (kept_at (stage_past s k) d)
 kept_more s [] d = append-nil (option_to_list (kept_at s d))
-kept_more s (c ∷ k) d =
-    ap (λ (t : List ℕ). option_to_list (kept_at s c) ++ t) (kept_more (push_stage s c) k d)
-    ∙ sym (append_assoc (option_to_list (kept_at s c)) (kept_past (push_stage s c) k) (option_to_list (kept_at (stage_past (push_stage s c) k) d)))
+kept_more s (c ∷ k) d = simp (option_to_list, append_assoc, kept_more (push_stage s c) k d)
 
 events_more : (s : TextStage) (k : List ℕ) (d : ℕ) → events_of_pushes s (k ++ d ∷ []) ≡ events_of_pushes s k ++ events_of_push (stage_past s k) d
 events_more s [] d = append-nil (events_of_push s d)
-events_more s (c ∷ k) d =
-    ap (λ (t : List TextEvent). events_of_push s c ++ t) (events_more (push_stage s c) k d)
-    ∙ sym (append_assoc (events_of_push s c) (events_of_pushes (push_stage s c) k) (events_of_push (stage_past (push_stage s c) k) d))
+events_more s (c ∷ k) d = simp (append_assoc, events_more (push_stage s c) k d)
 
 alike_done : (s r : TextStage) → IsAlike s r → r.ended ≡ s.ended
 alike_done s r a = ap (λ (x : TextStage). x.ended) a.same
-
-some_same : (a b : Place) → Some a ≡ Some b → a ≡ b
-some_same a b e = cc
 
 -- ---- what follows from a kept text
 
@@ -108,37 +97,19 @@ module _ (s : TextStage) (c : ℕ) (k : List ℕ) (keeps : Keeps s k) where
       ∙ sym (kept_with_is k c)
 
   ends_same : comment_in s ≡ false → c ≡ 40 → ends_after_it k ≡ (push_stage s c).ended
-  ends_same e f =
-      ends_are k
-      ∙ ap (λ (x : TextStage). (push_stage x 40).ended) (placed_alike e)
-      ∙ ap (λ (x : TextStage). x.ended) (push_placed keeps.alike.place keeps.alike.next s 40).same
-      ∙ ap (λ (x : ℕ). (push_stage s x).ended) (sym f)
+  ends_same e f = grind (arith, ends_are, placed_alike, push_placed)
 
   end_here : (d : Bool) → (push_stage s c).ended ≡ d → d ≡ (not (comment_in s) && (c == 40 && ends_after_it k))
-  end_here true f =
-      let at : EndsAt s c = ended_at s c keeps.goes_on f in
-      let mark : (c == 40) ≡ true = ap (λ (x : ℕ). x == 40) at.mark in
-      rw (at.no_comment, mark, ends_same at.no_comment at.mark ∙ f) refl
-  end_here false f = sym (by (comment_in s) (c == 40) refl refl)
-    where
-      by : (a b : Bool) → comment_in s ≡ a → (c == 40) ≡ b → (not a && (b && ends_after_it k)) ≡ false
-      by true b g h = refl
-      by false false g h = refl
-      by false true g h = ends_same g (eqb-true c 40 h) ∙ f
+  end_here d f = grind (arith, ended_at, goes_on, ends_same, eqb-true)
 
   comment_here : (push_stage s c).ended ≡ false → comment_in (push_stage s c) ≡ comment_with k (comment_in s) c
-  comment_here goes = comment_goes s c keeps.goes_on goes ∙ by (comment_in s) refl
-    where
-      by : (b : Bool) → comment_in s ≡ b → (if b then not (c == 10) else (c == 37 && is_plain s.state)) ≡ comment_with k b c
-      by true e = refl
-      by false e = ap (λ (x : Bool). c == 37 && x) (sym (begins_is k ∙ ap (λ (x : TextStage). is_plain x.state) (placed_alike e)))
+  comment_here goes = grind (arith, comment_goes, goes_on, begins_is, placed_alike)
 
   opener_here : (push_stage s c).ended ≡ false → (p : Place) → opener_of (push_stage s c) ≡ Some p → (opener_of s ≡ Some p) ⊎ (next_of s ≡ p)
   opener_here goes p e = by (opener_goes s c keeps.goes_on keeps.reached p (sym (opener_told (push_stage s c) goes) ∙ e))
     where
       by : (opener_in s ≡ Some p) ⊎ (next_of s ≡ p) → (opener_of s ≡ Some p) ⊎ (next_of s ≡ p)
-      by (inl f) = inl (opener_told s keeps.goes_on ∙ f)
-      by (inr f) = inr f
+      by h = grind (arith, opener_told, goes_on)
 
   comment_now : (push_stage s c).ended ≡ false → is_in_comment (push_stage s c) ≡ comment_with k (is_in_comment s) c
   comment_now goes = comment_told (push_stage s c) goes ∙ comment_here goes ∙ ap (λ (b : Bool). comment_with k b c) (sym (comment_told s keeps.goes_on))
@@ -210,20 +181,8 @@ module _ (s : TextStage) (c : ℕ) (k : List ℕ) (keeps : Keeps s k) where
           ∙ ap (λ (x : TextStage). said (events_of_push x 40)) (sym (placed_alike at.no_comment))
           ∙ sym (last_is k)
 
--- a character is kept as it is, or as a blank
-kept_only : (out space : Bool) (k : TokenKind) (c : ℕ) → All (IsKeptOf c) (option_to_list (kept_as out space k None (Some 32) (Some c)))
-kept_only true space k c = All-nil (IsKeptOf c)
-kept_only false space k c = by (is_space k) space
-  where
-    by : (a b : Bool) → All (IsKeptOf c) (option_to_list (if a then (if b then None else Some 32) else Some c))
-    by false b = All-cons (IsKeptOf c) c [] (inl refl) (All-nil (IsKeptOf c))
-    by true true = All-nil (IsKeptOf c)
-    by true false = All-cons (IsKeptOf c) 32 [] (inr refl) (All-nil (IsKeptOf c))
-
 keep_only : (facts : TextFacts) (m : TokenState) (c : ℕ) → All (IsKeptOf c) (option_to_list (keep facts m c))
-keep_only facts Plain c = kept_only (c == 37 || leaves_out facts (single c)) facts.space (single c) c
-keep_only facts Comment c = All-nil (IsKeptOf c)
-keep_only facts _ c = All-cons (IsKeptOf c) c [] (inl refl) (All-nil (IsKeptOf c))
+keep_only facts m c = grind arith
 
 only_kept : (s : TextStage) (c : ℕ) → s.ended ≡ false → All (IsKeptOf c) (kept_in (events_of_push s c))
 only_kept s c on = by (push_stage s c).ended refl
@@ -251,41 +210,22 @@ state_alike : (s : TextStage) (k : List ℕ) → Keeps s k → (stage_after k).s
 state_alike s k h = ap (λ (x : TextStage). x.state) h.alike.same
 
 pub opener_open : (s : TextStage) (k : List ℕ) → Keeps s k → is_some (opener_of s) ≡ is_open_after_text k
-opener_open s k h = ap (λ (o : Option Place). is_some o) (opener_told s h.goes_on) ∙ by (is_open s.state) ∙ sym (open_is k ∙ ap is_open (state_alike s k h) ∙ still s.state)
-  where
-    by : (b : Bool) → is_some (if b then Some s.progress.place else None) ≡ b
-    by true = refl
-    by false = refl
-
-    still : (m : TokenState) → is_open (outside m) ≡ is_open m
-    still Plain = refl
-    still _ = refl
+opener_open s k h = grind (arith, is_some, opener_told, goes_on, open_is, state_alike)
 
 pub comment_is : (m : TokenState) → is_comment m ≡ true → m ≡ Comment
-comment_is Comment e = refl
-comment_is _ e = absurd (false≢true e)
+comment_is m e = grind arith
 
 pub comment_open : (s : TextStage) (k : List ℕ) → Keeps s k → is_in_comment s ≡ true → begins_comment k ≡ true
 comment_open s k h e = begins_is k ∙ ap is_plain (state_alike s k h ∙ ap outside (comment_is s.state (sym (comment_told s h.goes_on) ∙ e)))
 
 pub comment_alone : (k : List ℕ) → begins_comment k ≡ true → is_open_after_text k ≡ false
-comment_alone k e = open_is k ∙ by (stage_after k).state (sym (begins_is k) ∙ e)
-  where
-    by : (m : TokenState) → is_plain m ≡ true → is_open m ≡ false
-    by (Tag name) h = absurd (false≢true h)
-    by (Raw part m) h = absurd (false≢true h)
-    by Translation h = absurd (false≢true h)
-    by _ h = refl
+comment_alone k e = grind (arith, open_is, begins_is)
 
 -- ---- a kept character is kept again
 
 length_past : (s : TextStage) (t : List ℕ) → length (kept_past s t) ≤ length t
 length_past s [] = omega arith
-length_past s (c ∷ t) = by (kept_at s c) (length_past (push_stage s c) t)
-  where
-    by : (o : Option ℕ) → length (kept_past (push_stage s c) t) ≤ length t → length (option_to_list o ++ kept_past (push_stage s c) t) ≤ suc (length t)
-    by None h = omega (arith, h)
-    by (Some d) h = omega (arith, h)
+length_past s (c ∷ t) = grind (arith, option_to_list, length_past (push_stage s c) t)
 
 first_kept : (s : TextStage) (c : ℕ) (t : List ℕ) → kept_past s (c ∷ t) ≡ c ∷ t → (kept_at s c ≡ Some c) × (kept_past (push_stage s c) t ≡ t)
 first_kept s c t = by (kept_at s c)
@@ -303,21 +243,10 @@ kept_each s [] b c e = (first_kept s c b e).0
 kept_each s (x ∷ a) b c e = kept_each (push_stage s x) a b c (first_kept s x (a ++ c ∷ b) e).1
 
 pub kept_again : (s : TextStage) (a b : List ℕ) (c : ℕ) → Keeps s (a ++ c ∷ b) → kept_with a c ≡ c ∷ []
-kept_again s a b c h =
-    kept_with_is a c
-    ∙ kept_is (stage_after a) c (goes_on (stage_after a) (c ∷ b) going) (goes_on (push_stage (stage_after a) c) b going)
-    ∙ ap option_to_list (kept_each (fresh_stage nowhere) a b c h.whole)
-  where
-    going : (stage_past (stage_after a) (c ∷ b)).ended ≡ false
-    going = ap (λ (x : TextStage). x.ended) (sym (past_joined (fresh_stage nowhere) a (c ∷ b))) ∙ alike_done s (stage_after (a ++ c ∷ b)) h.alike ∙ h.goes_on
+kept_again s a b c h = grind (arith, kept_with_is, kept_is, goes_on, option_to_list, kept_each, past_joined, alike_done)
 
 pub comment_not_kept : (k : List ℕ) → begins_comment k ≡ true → kept_with k 37 ≡ []
-comment_not_kept k e = kept_with_is k 37 ∙ by (stage_after k).state (stage_after k).ended (sym (begins_is k) ∙ e)
-  where
-    by : (m : TokenState) (d : Bool) → is_plain m ≡ true → kept_in (events_of_push (record { state = m; facts = (stage_after k).facts; progress = (stage_after k).progress; ended = d }) 37) ≡ []
-    by Plain true h = refl
-    by Plain false h = read_kept (record { state = Plain; facts = (stage_after k).facts; progress = (stage_after k).progress; ended = false }) 37
-    by _ d h = absurd (false≢true h)
+comment_not_kept k e = grind (arith, kept_with_is, begins_is, read_kept)
 
 pub end_not_kept : (k : List ℕ) → ends_after_it k ≡ true → kept_with k 40 ≡ []
 end_not_kept k e = kept_with_is k 40 ∙ by (stage_after k).ended refl
@@ -329,19 +258,12 @@ end_not_kept k e = kept_with_is k 40 ∙ by (stage_after k).ended refl
 -- ---- stages that keep and report the same
 
 state_same : (m n : TokenState) → outside m ≡ outside n → is_comment m ≡ is_comment n → m ≡ n
-state_same m n e f = by (is_comment m) refl
-  where
-    by : (b : Bool) → is_comment m ≡ b → m ≡ n
-    by true g = comment_is m g ∙ sym (comment_is n (sym f ∙ g))
-    by false g = sym (stays_outside m g) ∙ e ∙ stays_outside n (sym f ∙ g)
+state_same m n e f = grind arith
 
 -- what is reported of places
 place_same : (m : TokenState) (p q n : Place) → (is_plain m ≡ true → p ≡ n) → (is_plain m ≡ true → q ≡ n) → (if is_open m then Some p else None) ≡ (if is_open m then Some q else None)
     → place_told m p n ≡ place_told m q n
-place_same Plain p q n a b e = a refl ∙ sym (b refl)
-place_same Dollar p q n a b e = refl
-place_same Comment p q n a b e = refl
-place_same _ p q n a b e = some_same p q e
+place_same m p q n a b e = grind arith
 
 -- a stage by the one alike
 abbrev with_places : TokenState → TextStage → Place → Place → TextStage
@@ -351,17 +273,7 @@ told_is : (s x : TextStage) → IsAlike s x → told s ≡ with_places s.state x
 told_is s x a = ap (λ (y : TextStage). with_places s.state y s.progress.place s.progress.next) (sym a.same)
 
 keeps_agree : (s r : TextStage) (k : List ℕ) → Keeps s k → Keeps r k → opener_of s ≡ opener_of r → is_in_comment s ≡ is_in_comment r → next_of s ≡ next_of r → told s ≡ told r
-keeps_agree s r k hs hr opener comment next =
-    told_is s (stage_after k) hs.alike
-    ∙ ap (λ (m : TokenState). with_places m (stage_after k) s.progress.place s.progress.next) same
-    ∙ ap (λ (p : Place). record (stage_after k) { state = r.state; progress = record (stage_after k).progress { place = p; next = s.progress.next } })
-    (place_same r.state s.progress.place r.progress.place s.progress.next (λ e. hs.reached.between (ap is_plain same ∙ e)) (λ e. hr.reached.between e ∙ sym next)
-    (ap (λ (m : TokenState). if is_open m then Some s.progress.place else None) (sym same) ∙ sym (opener_told s hs.goes_on) ∙ opener ∙ opener_told r hr.goes_on))
-    ∙ ap (λ (n : Place). with_places r.state (stage_after k) r.progress.place n) next
-    ∙ sym (told_is r (stage_after k) hr.alike)
-  where
-    same : s.state ≡ r.state
-    same = state_same s.state r.state (ap (λ (x : TextStage). x.state) (sym hs.alike.same ∙ hr.alike.same)) (sym (comment_told s hs.goes_on) ∙ comment ∙ comment_told r hr.goes_on)
+keeps_agree s r k hs hr opener comment next = grind (arith, told_is, place_same, opener_told, goes_on, state_same, comment_told)
 
 pub kept_suffices : (s r : TextStage) (k : List ℕ) → Keeps s k → Keeps r k → opener_of s ≡ opener_of r → is_in_comment s ≡ is_in_comment r → next_of s ≡ next_of r → (t : List ℕ) → events_left s t ≡ events_left r t
 kept_suffices s r k hs hr opener comment next t = told_suffices s r t (keeps_agree s r k hs hr opener comment next)
@@ -378,10 +290,7 @@ before_keeps at = record { goes_on = refl; reached = record { between = λ e. ab
 module _ (s : TextStage) (keeps : Keeps s []) (comment : is_in_comment s ≡ true) where
   -- nothing is open in it but the comment
   opens_nothing : (at : Place) → opener_of s ≡ opener_of (comment_before at)
-  opens_nothing at =
-      opener_told s keeps.goes_on
-      ∙ ap (λ (m : TokenState). if is_open m then Some s.progress.place else None) (comment_is s.state (sym (comment_told s keeps.goes_on) ∙ comment))
-      ∙ sym (opener_told (comment_before at) refl)
+  opens_nothing at = grind (arith, opener_told, goes_on, comment_is, comment_told)
 
   is_alike : (at : Place) → is_in_comment s ≡ is_in_comment (comment_before at)
   is_alike at = comment ∙ sym (comment_told (comment_before at) refl)

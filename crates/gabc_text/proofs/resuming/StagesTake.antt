@@ -1,17 +1,15 @@
 -- A stage takes each character, and its opener may stand anywhere.
 use Rattle.std.proofs.Common.{◌≡◌, ◌==◌, ◌&&◌, ◌≤◌, ℕ, List, [], ◌∷◌, length, Bool, true, false, Option, Some, None, is_some, option_to_list, refl, sym, ap, ◌∙◌, subst, arith, if◌then◌else◌}
-use Rattle.std.proofs.lemmas.Bool.{eqb-true, false≢true, not-true}
+use Rattle.std.proofs.lemmas.Bool.{eqb-true, not-true}
 use Rattle.gabc_places.specs.declared.place.Place.{Place}
-use Rattle.gabc_text.specs.declared.progress.Progress.{Progress}
-use Rattle.gabc_text.specs.declared.text_facts.TextFacts.{TextFacts}
 use Rattle.gabc_text.specs.declared.token_state.TokenState.{TokenState}
-use Rattle.gabc_text.specs.declared.token_state.TokenState.TheVariants.{Plain, Comment, Tag, Raw, Translation}
+use Rattle.gabc_text.specs.declared.token_state.TokenState.TheVariants.{Comment}
 use Rattle.gabc_text.specs.declared.text_event.TextEvent.{TextEvent}
 use Rattle.gabc_text.specs.declared.stage.TextStage.{TextStage}
 use Rattle.gabc_text.specs.BuiltText.{kept_in}
 use Rattle.gabc_text.specs.StageReports.{opener_of, is_in_comment}
 use Rattle.gabc_text.specs.machine.StageReports.{is_open}
-use Rattle.gabc_text.specs.witness.Keeps.{Keeps, OpensThere, Takes, begins_comment, comment_with, kept_with, stage_after, GoesOn}
+use Rattle.gabc_text.specs.witness.Keeps.{Keeps, OpensThere, Takes, begins_comment, comment_with, kept_with, GoesOn}
 use Rattle.gabc_text.specs.machine.Resuming.{kept_at, outside}
 use Rattle.gabc_text.specs.machine.TokenState.{is_plain}
 use Rattle.gabc_text.specs.machine.TextStage.{push_stage, events_of_push}
@@ -24,8 +22,7 @@ use Rattle.gabc_text.proofs.resuming.StagesKeep.{begins_is, comment_is, comment_
 -- ---- what is kept of a character
 
 few : (o : Option ℕ) → length (option_to_list o) ≤ 1
-few None = omega arith
-few (Some c) = omega arith
+few o = grind arith
 
 one_kept : (s : TextStage) (c : ℕ) → s.ended ≡ false → length (kept_in (events_of_push s c)) ≤ 1
 one_kept s c on = by (push_stage s c).ended refl
@@ -35,38 +32,21 @@ one_kept s c on = by (push_stage s c).ended refl
     by false e = subst (λ (k : List ℕ). length k ≤ 1) (sym (kept_is s c on e)) (few (kept_at s c))
 
 never_comment : (m : TokenState) → outside m ≡ Comment → ⊥
-never_comment Plain e = cc
-never_comment _ e = cc
+never_comment m e = grind arith
 
 -- another character than a `(` ends no text
 goes_past : (r : TextStage) (c : ℕ) → r.ended ≡ false → (c ≡ 40 → ⊥) → (push_stage r c).ended ≡ false
 goes_past r c on apart = by (push_stage r c).ended refl
   where
     by : (d : Bool) → (push_stage r c).ended ≡ d → d ≡ false
-    by false e = refl
-    by true e = absurd (apart (ended_at r c on e).mark)
-
--- a `%` is kept but between tokens
-percent_at : (facts : TextFacts) (p : Progress) (done : Bool) (m : TokenState) → (m ≡ Comment → ⊥) → kept_at (record { state = m; facts = facts; progress = p; ended = done }) 37 ≡ None → is_plain m ≡ true
-percent_at facts p done Plain apart e = refl
-percent_at facts p done Comment apart e = absurd (apart refl)
-percent_at facts p done _ apart e = cc
-
-none_at : (o : Option ℕ) → option_to_list o ≡ [] → o ≡ None
-none_at None e = refl
-none_at (Some c) e = cc
+    by d e = grind (arith, ended_at)
 
 percent_between : (r : TextStage) (c : ℕ) → c ≡ 37 → r.ended ≡ false → (r.state ≡ Comment → ⊥) → kept_in (events_of_push r c) ≡ [] → is_plain r.state ≡ true
-percent_between r c is on apart none =
-    percent_at r.facts r.progress r.ended r.state apart
-    (ap (kept_at r) (sym is) ∙ none_at (kept_at r c) (sym (kept_is r c on (goes_past r c on (λ e. cc (sym is ∙ e)))) ∙ none))
+percent_between r c is on apart none = grind arith
 
 module _ (s : TextStage) (k : List ℕ) (keeps : Keeps s k) where
   percent_begins : (c : ℕ) → c ≡ 37 → kept_with k c ≡ [] → begins_comment k ≡ true
-  percent_begins c is none =
-      begins_is k
-      ∙ percent_between (stage_after k) c is (ap (λ (x : TextStage). x.ended) keeps.alike.same ∙ keeps.goes_on)
-      (λ e. never_comment s.state (sym (ap (λ (x : TextStage). x.state) keeps.alike.same) ∙ e)) (sym (kept_with_is k c) ∙ none)
+  percent_begins c is none = grind (arith, begins_is, percent_between, never_comment, kept_with_is)
 
   module _ (c : ℕ) where
     abbrev after : TextStage
@@ -90,8 +70,7 @@ module _ (s : TextStage) (k : List ℕ) (keeps : Keeps s k) where
         inside false e f g = kept_now e ∙ begun (c == 37) refl f
           where
             begun : (b : Bool) → (c == 37) ≡ b → (b && begins_comment k) ≡ true → kept_with k c ≡ []
-            begun true h i = ap (kept_with k) (eqb-true c 37 h) ∙ comment_not_kept k i
-            begun false h i = absurd (false≢true i)
+            begun b h i = grind (arith, eqb-true, comment_not_kept)
 
         by : (d : Bool) → (push_stage s c).ended ≡ d → kept_in (events_of_push s c) ≡ []
         by true e = none_kept_at_end s c keeps.goes_on e
@@ -99,14 +78,7 @@ module _ (s : TextStage) (k : List ℕ) (keeps : Keeps s k) where
 
     -- a `%` that is not kept opens a comment
     percent_opens : c ≡ 37 → kept_in (events_of_push s c) ≡ [] → is_in_comment (push_stage s c) ≡ true
-    percent_opens is none = (goes going).comment ∙ ap (comment_with k (is_in_comment s)) is ∙ by (is_in_comment s) refl
-      where
-        going : (push_stage s c).ended ≡ false
-        going = goes_past s c keeps.goes_on (λ e. cc (sym is ∙ e))
-
-        by : (b : Bool) → is_in_comment s ≡ b → comment_with k b 37 ≡ true
-        by true e = refl
-        by false e = percent_begins c is (sym (kept_now e) ∙ none)
+    percent_opens is none = grind (arith, goes, goes_past, percent_begins, kept_now)
 
 pub takes : (s : TextStage) (c : ℕ) → Takes s c
 takes s c = record {
@@ -138,14 +110,7 @@ opens_there s k at h opened = record {
     there = record s { progress = record s.progress { place = at } }
 
     is_opened : is_open s.state ≡ true
-    is_opened = by (is_open s.state) (ap (λ (o : Option Place). is_some o) (sym (opener_told s h.goes_on)) ∙ opened)
-      where
-        by : (b : Bool) → is_some (if b then Some s.progress.place else None) ≡ true → b ≡ true
-        by true e = refl
-        by false e = absurd (false≢true e)
+    is_opened = grind (arith, is_some, opener_told)
 
     apart : (m : TokenState) → is_open m ≡ true → is_plain m ≡ true → ⊥
-    apart (Tag name) e f = false≢true f
-    apart (Raw part m) e f = false≢true f
-    apart Translation e f = false≢true f
-    apart _ e f = false≢true e
+    apart m e f = grind arith

@@ -1,14 +1,13 @@
 -- The spans of a text's view stand for what the view says.
-use Rattle.std.proofs.Common.{◌≡◌, ℕ, ◌||◌, ◌&&◌, not, is_some, List, [], ◌∷◌, ◌++◌, Bool, true, false, cond, refl, sym, ap, ◌∙◌, append_assoc, Option, Some, None, arith}
+use Rattle.std.proofs.Common.{◌≡◌, ℕ, ◌||◌, ◌&&◌, not, is_some, List, [], ◌∷◌, ◌++◌, Bool, true, false, cond, refl, sym, ap, ◌∙◌, append_assoc, Option, Some, arith}
 use Rattle.std.proofs.lemmas.Bool.{or_parts}
 use Rattle.gabc_text.specs.declared.token.TokenKind.{TokenKind}
-use Rattle.gabc_text.specs.declared.token.TokenKind.TheVariants as kind
 use Rattle.gabc_text.specs.declared.token.TagEffect.{TagEffect}
 use Rattle.gabc_text.specs.declared.view.PieceKind.{PieceKind}
 use Rattle.gabc_text.specs.declared.view.PieceKind.TheVariants as piece
 use Rattle.gabc_text.specs.declared.view.Piece.{Piece}
 use Rattle.gabc_text.specs.Token.{Token, spelling, tokens}
-use Rattle.gabc_text.specs.View.{along, effect, kind_of, piece_kind, is_space, is_left_out, has_word, follows_blank, follows_space, kept, kept_at, bytes_of, PieceFacts, pieces_at, piece_of, text_of_piece, last_of, open_styles, is_blank_piece}
+use Rattle.gabc_text.specs.View.{along, kind_of, piece_kind, is_space, is_left_out, follows_blank, follows_space, kept, kept_at, bytes_of, PieceFacts, pieces_at, piece_of, text_of_piece, last_of, open_styles, is_blank_piece}
 use Rattle.gabc_text.specs.Events.{kept_of, but_last, last_at, styles_of, piece_at, all_pieces_at, all_pieces_by}
 use Rattle.gabc_text.specs.TextRead.{but_last_blank, pieces_in}
 use Rattle.gabc_text.specs.Canonical.{listed_styles}
@@ -27,23 +26,12 @@ last_facts : (K : List ℕ) (ps : List Piece) (qs : List PieceFacts) → ArePiec
 last_facts K [] [] h = tt
 last_facts K [] (q ∷ qs) h = absurd h
 last_facts K (p ∷ ps) [] h = absurd h
-last_facts K (p ∷ []) (q ∷ []) h = by (is_blank_piece p.kind) (is_blank_piece q.kind) (ap is_blank_piece h.0.kind_is)
-  where
-    by : (a b : Bool) → a ≡ b → ArePiecesOf K (cond a [] (p ∷ [])) (cond b [] (q ∷ []))
-    by a b e = grind arith
+last_facts K (p ∷ []) (q ∷ []) h = grind arith
 last_facts K (p ∷ []) (q ∷ r ∷ qs) h = absurd h.1
 last_facts K (p ∷ o ∷ ps) (q ∷ []) h = absurd h.1
 last_facts K (p ∷ o ∷ ps) (q ∷ r ∷ qs) h = (h.0, last_facts K (o ∷ ps) (r ∷ qs) h.1)
 
 -- ---- a blank piece is a blank of the kept text
-
--- what is left out is no piece
-pub left_no_piece : (before : List Token) (d : TokenKind) (s : TagEffect) → is_left_out before d ≡ true → is_some (piece_kind d s) ≡ false
-left_no_piece before kind.Comment s e = refl
-left_no_piece before kind.Stray s e = refl
-left_no_piece before kind.Begin s e = refl
-left_no_piece before kind.End s e = refl
-left_no_piece before _ s e = absurd (cc)
 
 pub no_space : (before : List Token) → follows_blank before ≡ false → follows_space before ≡ false
 no_space [] e = refl
@@ -51,11 +39,7 @@ no_space (k ∷ before) e = by (is_left_out before k.kind) refl (or_parts (is_sp
   where
     by : (b : Bool) → is_left_out before k.kind ≡ b → (is_space k.kind ≡ false) × ((not (is_some (kind_of k)) && follows_blank before) ≡ false) → (follows_blank before ≡ false → follows_space before ≡ false)
         → (is_space k.kind || (b && follows_space before)) ≡ false
-    by false f h ih = rw h.0 refl
-    by true f h ih =
-        let g : is_some (kind_of k) ≡ false = left_no_piece before k.kind (effect k) f in
-        let n : (not (is_some (kind_of k)) && follows_blank before) ≡ false = h.1 in
-        rw (h.0) (ih (rw g at n))
+    by b f h ih = grind arith
 
 -- ---- a token
 
@@ -70,20 +54,11 @@ styles_facts before = refl
 -- a piece that is no blank is kept as it is spelled
 pub kept_spelled : (before : List Token) (k : Token) (d : TokenKind) (s : TagEffect) (q : PieceKind) → piece_kind d s ≡ Some q
     → (is_left_out before d ≡ false) × (is_space d ≡ false)
-kept_spelled before k kind.Letter s q e = (refl, refl)
-kept_spelled before k kind.Raw s q e = (refl, refl)
-kept_spelled before k kind.Tag s q e = (refl, refl)
-kept_spelled before k _ s q e = absurd (cc)
+kept_spelled before k d s q e = grind arith
 
 module _ (K : List ℕ) (before : List Token) (k : Token) (rest : List ℕ) (whole : K ≡ kept_of before ++ (kept_at before k ++ rest)) where
   all_of_it : kept_at before k ≡ spelling k → StandsFor K (record { from = bytes_of (kept_of before); to = bytes_of (kept_of before ++ kept_at before k) }) (spelling k)
-  all_of_it e = record {
-    prefix = kept_of before;
-    back = rest;
-    parts = whole ∙ ap (λ (x : List ℕ). kept_of before ++ (x ++ rest)) e;
-    from_is = refl;
-    to_is = ap (λ (x : List ℕ). bytes_of (kept_of before ++ x)) e;
-  }
+  all_of_it e = grind arith
 
   last_of_it : kept_at before k ≡ spelling k → StandsFor K (record { from = last_at before k; to = bytes_of (kept_of before ++ kept_at before k) }) (last_of k.first k.more)
   last_of_it e =
@@ -97,47 +72,23 @@ module _ (K : List ℕ) (before : List Token) (k : Token) (rest : List ℕ) (who
       }
 
   piece_stands : (q : PieceKind) → is_blank_piece q ≡ false → kept_at before k ≡ spelling k → IsPieceOf K (piece_at before k q) (record { kind = q; styles = open_styles before; text = text_of_piece q k })
-  piece_stands piece.Char b e = record { kind_is = refl; styles_are = styles_facts before; stands = last_of_it e }
-  piece_stands piece.Blank b e = absurd (cc)
-  piece_stands _ b e = record { kind_is = refl; styles_are = styles_facts before; stands = all_of_it e }
+  piece_stands q b e = grind (arith, styles_facts, last_of_it, all_of_it)
 
   blank_kept : is_space k.kind ≡ true → follows_blank before ≡ false → kept_at before k ≡ 32 ∷ []
-  blank_kept e f = by k.kind e (no_space before f)
-    where
-      by : (d : TokenKind) → is_space d ≡ true → follows_space before ≡ false → cond (is_left_out before d) [] (cond (is_space d) (cond (follows_space before) [] (32 ∷ [])) (spelling k)) ≡ 32 ∷ []
-      by kind.Blank g h = rw h refl
-      by _ g h = absurd (cc)
+  blank_kept e f = grind (arith, no_space)
 
   blank_stands : is_space k.kind ≡ true → follows_blank before ≡ false → IsPieceOf K (piece_at before k piece.Blank) (record { kind = piece.Blank; styles = open_styles before; text = [] })
-  blank_stands e f =
-      let g = blank_kept e f in
-      record {
-        kind_is = refl;
-        styles_are = styles_facts before;
-        stands = record {
-          prefix = kept_of before;
-          back = rest;
-          parts = whole ∙ ap (λ (x : List ℕ). kept_of before ++ (x ++ rest)) g;
-          from_is = refl;
-          to_is = ap (λ (x : List ℕ). bytes_of (kept_of before ++ x)) g;
-        };
-      }
+  blank_stands e f = grind (arith, blank_kept, styles_facts)
 
   token_facts : ArePiecesOf K (all_pieces_at before k) (pieces_at before k)
   token_facts = by (kind_of k) refl
     where
       blank : (a b c : Bool) → is_space k.kind ≡ a → follows_blank before ≡ c
           → ArePiecesOf K (cond (a && (b && not c)) (piece_at before k piece.Blank ∷ []) []) (cond (a && b && not c) (record { kind = piece.Blank; styles = open_styles before; text = [] } ∷ []) [])
-      blank true true false e f = (blank_stands e f, tt)
-      blank true true true e f = tt
-      blank true false c e f = tt
-      blank false b c e f = tt
+      blank a b c e f = grind (arith, blank_stands)
 
       by : (o : Option PieceKind) → kind_of k ≡ o → ArePiecesOf K (all_pieces_by before k o) (piece_of before k o)
-      by (Some q) e =
-          let h = kept_spelled before k k.kind (effect k) q e in
-          (piece_stands q (piece_is k.kind (effect k) q e) (rw (h.0, h.1) refl), tt)
-      by None e = blank (is_space k.kind) (has_word before) (follows_blank before) refl refl
+      by o e = grind (arith, kept_spelled, piece_stands, piece_is, blank)
 
 along_facts : (ks before : List Token) (K : List ℕ) → K ≡ kept_of before ++ along kept_at before ks → ArePiecesOf K (along all_pieces_at before ks) (along pieces_at before ks)
 along_facts [] before K e = tt

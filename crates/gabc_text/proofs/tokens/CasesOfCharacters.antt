@@ -1,44 +1,26 @@
 -- A character is this one or another, and by itself a token of one of five kinds; tests of tests.
-use Rattle.std.proofs.Common.{◌≡◌, ℕ, ◌==◌, Bool, true, false, cond, refl, sym, subst, codes, List, [], ◌∷◌, ◌∙◌, Option, Some, None, drop, length, nat_lt, ◌<◌, ◌≤◌, arith}
-use Rattle.std.proofs.lemmas.Bool.{eqb-true, true≢false, ltb-true, ltb-false, true_from_ne_false}
+use Rattle.std.proofs.Common.{◌≡◌, ℕ, ◌==◌, true, false, refl, sym, codes, List, ◌∷◌, ◌∙◌, Option, Some, None, drop, length, nat_lt, ◌<◌, ◌≤◌, arith}
+use Rattle.std.proofs.lemmas.Bool.{true≢false, ltb-true, ltb-false, true_from_ne_false}
 use Rattle.gabc_text.specs.declared.token.TokenKind.{TokenKind}
 use Rattle.gabc_text.specs.declared.token.TokenKind.TheVariants as kind
-use Rattle.gabc_text.specs.Token.{single, is_blank, is_one_of, token_at, ended_token, token_of_tag, tag_at, through, ending_of, effect_of, is_special}
-use Rattle.gabc_places.proofs.NumbersByTests.{below_eqb}
-use Rattle.gabc_text.specs.declared.token.TagEffect.TheVariants.{Begins}
+use Rattle.gabc_text.specs.Token.{single, token_at, token_of_tag, tag_at, through, effect_of, is_special}
 use Rattle.gabc_text.specs.declared.token.TagEffect.{TagEffect}
 use Rattle.gabc_text.specs.View.{is_translation}
 
 pub by_case : (x c : ℕ) (P : ℕ → Type 0) → P x → (c == x ≡ false → P c) → P c
-by_case x c P here other = by (c == x) refl
-  where
-    by : (b : Bool) → c == x ≡ b → P c
-    by true e = subst P (sym (eqb-true c x e)) here
-    by false e = other e
+by_case x c P here other = grind arith
 
 -- what a character by itself is
 pub single_kind : (P : TokenKind → Type 0) → P kind.Blank → P kind.Stray → P kind.Begin → P kind.End → P kind.Letter → (c : ℕ) → P (single c)
-single_kind P a b d e l c = by (is_blank c) (is_one_of (codes ")]>") c) (c == 123) (c == 125)
-  where
-    by : (w x y z : Bool) → P (cond w kind.Blank (cond x kind.Stray (cond y kind.Begin (cond z kind.End kind.Letter))))
-    by true x y z = a
-    by false true y z = b
-    by false false true z = d
-    by false false false true = e
-    by false false false false = l
+single_kind P a b d e l c = grind arith
 
 -- what a token is that begins with `<`
 pub tag_kind : (P : TokenKind → Type 0) → P kind.Tag → P kind.Raw → P kind.OpenTag → (t : List ℕ) (o : Option (List ℕ)) → P (tag_at t o).kind
 tag_kind P tag raw cut t None = cut
 tag_kind P tag raw cut t (Some name) = by (effect_of (60 ∷ name))
   where
-    raws : (o : Option (List ℕ)) → P (ended_token kind.Raw kind.OpenTag 60 name (drop (length name) t) o).kind
-    raws None = cut
-    raws (Some y) = raw
-
     by : (s : TagEffect) → P (token_of_tag name (drop (length name) t) s).kind
-    by (Begins r) = raws (through (ending_of r) (drop (length name) t))
-    by _ = tag
+    by s = grind arith
 
 -- a translation begins with `[`
 pub translation_first : (c : ℕ) (t : List ℕ) → is_translation (token_at c t).kind ≡ true → c ≡ 91
@@ -53,24 +35,11 @@ translation_first c t =
     AtBracket x = is_translation (token_at x t).kind ≡ true → x ≡ 91
 
     dollar : (t : List ℕ) → is_translation (token_at 36 t).kind ≡ false
-    dollar [] = refl
-    dollar (c ∷ t) = refl
+    dollar t = grind arith
 
 -- special characters are of ASCII
 pub no_special : (c : ℕ) → 128 ≤ c → is_special c ≡ false
-no_special c h =
-    rw (
-      below_eqb 40 c (omega arith),
-      below_eqb 41 c (omega arith),
-      below_eqb 91 c (omega arith),
-      below_eqb 93 c (omega arith),
-      below_eqb 123 c (omega arith),
-      below_eqb 125 c (omega arith),
-      below_eqb 60 c (omega arith),
-      below_eqb 62 c (omega arith),
-      below_eqb 37 c (omega arith),
-      below_eqb 36 c (omega arith),
-    ) refl
+no_special c h = grind arith
 
 pub special_is_low : (c : ℕ) → is_special c ≡ true → c < 128
 special_is_low c h = ltb-true c 128 (true_from_ne_false (nat_lt c 128) (λ e. true≢false (sym h ∙ no_special c (ltb-false c 128 e))))

@@ -1,5 +1,5 @@
 -- The prefix of a text: its first character, and what stands before its first `<`.
-use Rattle.std.proofs.Common.{◌≡◌, ℕ, ◌+◌, ◌-◌, ◌<◌, ◌≤◌, ◌==◌, List, [], ◌∷◌, ◌++◌, Bool, true, false, cond, refl, sym, ap, ◌∙◌, subst, length, take, drop, slice_index, take-append-drop, arith, IsUtf8, ne_eqb}
+use Rattle.std.proofs.Common.{◌≡◌, ℕ, ◌+◌, ◌-◌, ◌<◌, ◌≤◌, ◌==◌, List, [], ◌∷◌, ◌++◌, true, refl, sym, ap, ◌∙◌, subst, length, take, drop, slice_index, take-append-drop, arith, IsUtf8, ne_eqb}
 use Rattle.std.specs.Str.{chars, NonePass, IsCharBoundary}
 use Rattle.std.specs.Char.{len_utf8}
 use Rattle.std.proofs.lemmas.Bool.Decides.{nat_tests}
@@ -21,11 +21,7 @@ lacks_none (c ∷ cs) h = rw (turned 60 c h.0, lacks_none cs h.1) refl
 -- no `<` stands before the first
 pub none_before : (cs : List ℕ) → NonePass (λ c. c == 60) (before_first 60 cs)
 none_before [] = tt
-none_before (c ∷ cs) = by (60 == c) refl (none_before cs)
-  where
-    by : (b : Bool) → (60 == c) ≡ b → NonePass (λ x. x == 60) (before_first 60 cs) → NonePass (λ x. x == 60) (cond b [] (c ∷ before_first 60 cs))
-    by true e h = tt
-    by false e h = (turned c 60 e, h)
+none_before (c ∷ cs) = grind (arith, turned, none_before cs)
 
 -- ---- what stands before the first `<`
 
@@ -60,9 +56,7 @@ prefix_chars bs prefix back v f g =
 
 -- a text that begins with another character has such a prefix
 pub some_prefix : (bs prefix cs : List ℕ) (c : ℕ) → chars bs ≡ c ∷ cs → ¬ (c ≡ 60) → chars prefix ≡ before_first 60 (chars bs) → 0 < length prefix
-some_prefix bs [] cs c e n f =
-    let g : [] ≡ c ∷ before_first 60 cs = sym chars-nil ∙ f ∙ ap (before_first 60) e ∙ rw (ne_eqb 60 c (λ h. n (sym h))) refl in
-    absurd (cc)
+some_prefix bs [] cs c e n f = grind (arith, chars-nil, ne_eqb)
 some_prefix bs (b ∷ prefix) cs c e n f = omega arith
 
 -- ---- a text that is cut after its first character

@@ -8,16 +8,13 @@ abbrev pub after_prefix : List ℕ → Option (List ℕ) → Option (List ℕ)
 after_prefix q o = option_map (λ s. q ++ s) o
 
 pub prefix_none : (o : Option (List ℕ)) → o ≡ after_prefix [] o
-prefix_none None = refl
-prefix_none (Some s) = refl
+prefix_none o = grind arith
 
 pub prefix_prefix : (q p : List ℕ) (o : Option (List ℕ)) → after_prefix q (after_prefix p o) ≡ after_prefix (q ++ p) o
-prefix_prefix q p None = refl
-prefix_prefix q p (Some s) = ap Some (sym (append_assoc q p s))
+prefix_prefix q p o = grind (arith, append_assoc)
 
 pub prefix_cons : (c : ℕ) (q : List ℕ) (o : Option (List ℕ)) → option_map (λ s. c ∷ s) (after_prefix q o) ≡ after_prefix (c ∷ q) o
-prefix_cons c q None = refl
-prefix_cons c q (Some s) = refl
+prefix_cons c q o = grind arith
 
 module _ (x : ℕ) (e : List ℕ) where
   -- no ending begins where x does not stand
@@ -55,11 +52,7 @@ match_none e = record { q = []; split = refl; goes = λ t. prefix_none (through 
 
 -- one more character of the ending
 pub match_more : (e r p : List ℕ) (c : ℕ) → Matching e r p → Matching e (r ++ c ∷ []) (p ++ c ∷ [])
-match_more e r p c m = record {
-  q = m.q;
-  split = ap (λ (s : List ℕ). s ++ c ∷ []) m.split ∙ append_assoc m.q p (c ∷ []);
-  goes = λ t. ap (through e) (append_assoc r (c ∷ []) t) ∙ m.goes (c ∷ t) ∙ ap (λ (s : List ℕ). after_prefix m.q (through e s)) (sym (append_assoc p (c ∷ []) t));
-}
+match_more e r p c m = grind (arith, append_assoc)
 
 abbrev pub drop_one : List ℕ → List ℕ
 drop_one [] = []
@@ -68,19 +61,14 @@ drop_one (c ∷ s) = s
 -- a character that is not the next one of the ending: what was matched begins none
 pub fails : (x : ℕ) (e p : List ℕ) (y c : ℕ) (rest t : List ℕ) → x ∷ e ≡ p ++ y ∷ rest → y == c ≡ false → lacks x (drop_one p) ≡ true
     → through (x ∷ e) (p ++ c ∷ t) ≡ after_prefix p (through (x ∷ e) (c ∷ t))
-fails x e [] y c rest t f ne h = prefix_none (through (x ∷ e) (c ∷ t))
-fails x e (d ∷ p) y c rest t f ne h =
-    let b : begins_with (x ∷ e) (d ∷ p ++ c ∷ t) ≡ false = ap (λ (s : List ℕ). begins_with s (d ∷ p ++ c ∷ t)) f ∙ differs (d ∷ p) y c rest t ne in
-    rw (b, skip x e p (c ∷ t) h) (prefix_cons d p (through (x ∷ e) (c ∷ t)))
+fails x e p y c rest t f ne h = grind (arith, prefix_none, differs, skip, prefix_cons)
 
 pub match_fails : (x : ℕ) (e r p : List ℕ) (y c : ℕ) (rest : List ℕ) → x ∷ e ≡ p ++ y ∷ rest → y == c ≡ false → lacks x (drop_one p) ≡ true
     → Matching (x ∷ e) r p → Matching (x ∷ e) (r ++ c ∷ []) (cond (x == c) (c ∷ []) [])
 match_fails x e r p y c rest f ne h m = begin_again (x == c) refl
   where
     moved : (t : List ℕ) → through (x ∷ e) ((r ++ c ∷ []) ++ t) ≡ after_prefix (m.q ++ p) (through (x ∷ e) (c ∷ t))
-    moved t =
-        ap (through (x ∷ e)) (append_assoc r (c ∷ []) t) ∙ m.goes (c ∷ t) ∙ ap (after_prefix m.q) (fails x e p y c rest t f ne h)
-        ∙ prefix_prefix m.q p (through (x ∷ e) (c ∷ t))
+    moved t = grind (arith, append_assoc, fails, prefix_prefix)
 
     begin_again : (b : Bool) → x == c ≡ b → Matching (x ∷ e) (r ++ c ∷ []) (cond b (c ∷ []) [])
     begin_again true g = record { q = m.q ++ p; split = ap (λ (s : List ℕ). s ++ c ∷ []) m.split; goes = moved }

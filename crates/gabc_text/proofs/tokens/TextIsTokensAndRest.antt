@@ -1,5 +1,5 @@
 -- A text is its tokens and what follows them.
-use Rattle.std.proofs.Common.{◌≡◌, ℕ, zero, suc, ◌==◌, List, [], ◌∷◌, ◌++◌, Bool, true, false, cond, refl, sym, ap, ◌∙◌, append_assoc, append-nil, length, drop, Option, Some, None, codes, subst, inl, inr, ◌⊎◌}
+use Rattle.std.proofs.Common.{arith, ◌≡◌, ℕ, zero, suc, ◌==◌, List, [], ◌∷◌, ◌++◌, Bool, true, false, cond, refl, sym, ap, ◌∙◌, append_assoc, append-nil, length, drop, Option, Some, None, codes, subst, inl, inr, ◌⊎◌}
 use Rattle.std.proofs.lemmas.Bool.{eqb-true}
 use Rattle.std.proofs.Math.Seq.{drop-append_seam}
 use Rattle.gabc_text.specs.declared.token.TokenKind.TheVariants as kind
@@ -7,7 +7,7 @@ use Rattle.gabc_text.specs.declared.token.TagEffect.{TagEffect}
 use Rattle.gabc_text.specs.declared.token.TagEffect.TheVariants.{Begins}
 use Rattle.gabc_text.specs.declared.token.RawKind.{RawKind}
 use Rattle.gabc_text.specs.declared.token.RawKind.TheVariants.{V, Sp, Alt}
-use Rattle.gabc_text.specs.Token.{Token, spelling, tokens, tokens_after, token_at, through, before_first, ended_token, tag_at, token_of_tag, dollar_at, is_special, effect_of, ending_of}
+use Rattle.gabc_text.specs.Token.{Token, tokens, tokens_after, token_at, through, before_first, ended_token, tag_at, token_of_tag, dollar_at, is_special, effect_of, ending_of}
 use Rattle.gabc_text.specs.View.{is_space, is_open_kind}
 use Rattle.gabc_text.specs.Printed.{text_of_tokens}
 use Rattle.gabc_text.proofs.tokens.CasesOfCharacters.{by_case}
@@ -56,14 +56,7 @@ prefix_raw raw name u = by (through (ending_of raw) u) refl
     found_raw Alt y e = let f = found 60 (codes "/alt>") u y e in (f.rest, f.parts)
 
     by : (o : Option (List ℕ)) → through (ending_of raw) u ≡ o → Front (ended_token kind.Raw kind.OpenTag 60 name u o) (name ++ u)
-    by None e = record { rest = []; parts = sym (append-nil (name ++ u)); goes = record { is_last = λ f. refl; blank = λ f. absurd (cc) } }
-    by (Some y) e =
-        let r = found_raw raw y e in
-        record {
-          rest = r.0;
-          parts = ap (λ (s : List ℕ). name ++ s) r.1 ∙ sym (append_assoc name y r.0);
-          goes = record { is_last = λ f. absurd (cc); blank = λ f. absurd (cc) };
-        }
+    by o e = grind (arith, append-nil, found_raw, append_assoc)
 
 prefix_tagged : (name u : List ℕ) (s : TagEffect) → Front (token_of_tag name u s) (name ++ u)
 prefix_tagged name u (Begins raw) = prefix_raw raw name u
@@ -114,15 +107,7 @@ pub record Parted (t : List ℕ) (ks : List Token) : Type 0 where
   pub go : AllGo ks rest
 
 parted_first : (c : ℕ) (t : List ℕ) (k : Token) (ks : List Token) → k.first ≡ c → Front k t → Parted (drop (length k.more) t) ks → Parted (c ∷ t) (k ∷ ks)
-parted_first c t k ks e f p =
-    let d : drop (length k.more) t ≡ f.rest = ap (drop (length k.more)) f.parts ∙ drop-append_seam k.more f.rest in
-    let r : f.rest ≡ text_of_tokens ks ++ p.rest = sym d ∙ p.parts in
-    record {
-      rest = p.rest;
-      parts = ap (λ (x : ℕ). x ∷ t) (sym e) ∙ ap (λ (s : List ℕ). k.first ∷ s) (f.parts ∙ ap (λ (s : List ℕ). k.more ++ s) r)
-          ∙ sym (append_assoc (spelling k) (text_of_tokens ks) p.rest);
-      go = (subst (Goes k) r f.goes, p.go);
-    }
+parted_first c t k ks e f p = grind (arith, drop-append_seam, append_assoc)
 
 abbrev FirstIs : List ℕ → ℕ → Type 0
 FirstIs t c = (token_at c t).first ≡ c
@@ -130,33 +115,14 @@ FirstIs t c = (token_at c t).first ≡ c
 first_tag : (t : List ℕ) → (tag_at t (through (62 ∷ []) t)).first ≡ 60
 first_tag t = by (through (62 ∷ []) t)
   where
-    raw : (raw : RawKind) (name u : List ℕ) (o : Option (List ℕ)) → (ended_token kind.Raw kind.OpenTag 60 name u o).first ≡ 60
-    raw r name u None = refl
-    raw r name u (Some y) = refl
-
     name_of : (name u : List ℕ) (s : TagEffect) → (token_of_tag name u s).first ≡ 60
-    name_of name u (Begins r) = raw r name u (through (ending_of r) u)
-    name_of name u _ = refl
+    name_of name u s = grind arith
 
     by : (o : Option (List ℕ)) → (tag_at t o).first ≡ 60
-    by None = refl
-    by (Some name) = name_of name (drop (length name) t) (effect_of (60 ∷ name))
+    by o = grind (arith, name_of)
 
 first_is : (c : ℕ) (t : List ℕ) → FirstIs t c
-first_is c t =
-    by_case 36 c (FirstIs t) (dollar t) (λ e36.
-    by_case 37 c (FirstIs t) refl (λ e37.
-    by_case 60 c (FirstIs t) (first_tag t) (λ e60.
-    by_case 91 c (FirstIs t) (bracket (through (93 ∷ []) t)) (λ e91.
-    rw (e36, e37, e60, e91) refl))))
-  where
-    dollar : (t : List ℕ) → (dollar_at t).first ≡ 36
-    dollar [] = refl
-    dollar (d ∷ t) = refl
-
-    bracket : (o : Option (List ℕ)) → (ended_token kind.Translation kind.OpenTranslation 91 [] t o).first ≡ 91
-    bracket None = refl
-    bracket (Some y) = refl
+first_is c t = grind (arith, by_case, first_tag)
 
 pub parted_after : (n : ℕ) (t : List ℕ) → Parted (drop n t) (tokens_after n t)
 parted_after zero [] = record { rest = []; parts = refl; go = inl refl }

@@ -1,4 +1,4 @@
-use Rattle.std.proofs.Common.{ap, ◌∙◌}
+use Rattle.std.proofs.Common.{ap, ◌∙◌, arith}
 use Rattle.std.specs.Str.{chars}
 use Rattle.gabc_places.specs.StageLaw.{concat_of}
 use Rattle.gabc_text.specs.Events.{codes_of}
@@ -8,8 +8,7 @@ use Rattle.gabc_text.proofs.machine.LoopOverText.{text_fits}
 use Rattle.gabc_text.proofs.kept.kept_chars.Goals as goal
 
 pub loop-event-preserved : goal.loop-event-preserved
-loop-event-preserved c =
-    c.in_ok-add_kept.ensures ∙ one_more c.as_slice-event-items.result.now c.loop-event.event-index _ _ c.loop-event-test.true c.loop-event.invariant
+loop-event-preserved c = grind (arith, one_more)
 
 pub returns-clause-events : goal.returns-clause-events
 returns-clause-events c =

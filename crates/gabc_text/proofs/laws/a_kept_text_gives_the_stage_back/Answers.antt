@@ -29,10 +29,7 @@ parted_at : (k : List ℕ) (i c : ℕ) → i < length k → c ≡ get_or k i c �
 parted_at k i c h e = sym (take-append-drop i k) ∙ ap (λ (t : List ℕ). take i k ++ t) (drop_more k i c h ∙ ap (λ (x : ℕ). x ∷ drop (i + 1) k) (sym e))
 
 pub loop-c-init : goal.loop-c-init
-loop-c-init c = record {
-  back = record { keeps = c.new-again.ensures.keeps; comment_is = ap is_in_comment c.new-again.ensures.fresh ∙ comment_fresh c.unwrap_or-place.result; opener = λ p e. absurd (let f = sym (ap opener_of c.new-again.ensures.fresh ∙ opener_fresh c.unwrap_or-place.result) ∙ e in cc) };
-  empty = c.requires.room;
-}
+loop-c-init c = grind (arith, comment_fresh, opener_fresh)
 
 pub push-requires : goal.push-requires
 push-requires c = rw c.loop-c.invariant.empty (omega arith)

@@ -1,3 +1,4 @@
+use Rattle.std.proofs.Common.{arith}
 use Rattle.gabc_text.proofs.printing.ViewForwardIsViewBackward.{facts_again}
 use Rattle.gabc_text.proofs.printing.PrintedTextHasNoErrors.{no_errors}
 use Rattle.gabc_text.proofs.printing.PrintedTextIsKept.{printed_kept}
@@ -6,11 +7,4 @@ use Rattle.gabc_text.proofs.printing.PrintedViewIsReadAgain.{printed_is, printed
 use Rattle.gabc_text.proofs.laws.view_again.Goals as goal
 
 pub returns : goal.returns
-returns c = record {
-  printed = printed_is;
-  facts = facts_again;
-  errors = no_errors;
-  ends = printed_ends;
-  kept = printed_kept;
-  same = printed_again;
-}
+returns c = grind (arith, printed_is, facts_again, no_errors, printed_ends, printed_kept, printed_again)

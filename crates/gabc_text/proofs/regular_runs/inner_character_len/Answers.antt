@@ -1,4 +1,4 @@
-use Rattle.std.proofs.Common.{refl, sym, ◌∙◌}
+use Rattle.std.proofs.Common.{refl, sym, ◌∙◌, arith}
 use Rattle.gabc_text.proofs.RegularBytes.{beyond_inner, plain_read, pair_read, triple_read}
 use Rattle.gabc_text.proofs.regular_runs.inner_character_len.Goals as goal
 
@@ -7,10 +7,7 @@ returns-then-is_plain_byte-clause-inner c = λ _.
     plain_read c.args.bytes.now _ _ c.byte_at-first.ensures refl c.args.stop (sym c.is_plain_byte.ensures ∙ c.if-is_plain_byte.true)
 
 pub returns-then-is_pair-clause-inner : goal.returns-then-is_pair-clause-inner
-returns-then-is_pair-clause-inner c = λ _.
-    beyond_inner c.args.stop _ c.requires.ascii (pair_read c.args.bytes.now _ _ c.byte_at-first.ensures c.byte_at-second.ensures (sym c.is_pair.ensures ∙ c.if-is_pair.true))
+returns-then-is_pair-clause-inner c = grind (arith, beyond_inner, pair_read)
 
 pub returns-then-is_triple-clause-inner : goal.returns-then-is_triple-clause-inner
-returns-then-is_triple-clause-inner c = λ _.
-    beyond_inner c.args.stop _ c.requires.ascii
-    (triple_read c.args.bytes.now _ _ c.byte_at-first.ensures c.byte_at-second.ensures _ c.byte_at-third.ensures (sym c.is_triple.ensures ∙ c.if-is_triple.true))
+returns-then-is_triple-clause-inner c = grind (arith, beyond_inner, triple_read)

@@ -1,5 +1,5 @@
 use Rattle.std.proofs.Common.{◌≡◌, ◌==◌, ◌+◌, [], ◌∷◌, length, drop, refl, sym, ap, ◌∙◌, subst, append-nil, arith}
-use Rattle.std.specs.Str.{chars, NonePass, IsCharBoundary}
+use Rattle.std.specs.Str.{chars, NonePass}
 use Rattle.std.specs.Str.Iter.{chars_rest}
 use Rattle.std.proofs.lemmas.Str.{chars_past_char}
 use Rattle.gabc_places.proofs.texts.CharactersOfStrings.{chars-none}
@@ -14,8 +14,7 @@ use Rattle.gabc_text.proofs.machine.RawPartIsPassed.{raw_goes}
 use Rattle.gabc_text.proofs.whole.text_whole.Goals as goal
 
 pub pass-requires-clause-no_ending : goal.pass-requires-clause-no_ending
-pass-requires-clause-no_ending c =
-    subst (NonePass (λ x. x == 60)) (sym c.before_tag-raw.ensures.prefix) (none_before (chars c.loop-c.rest.now))
+pass-requires-clause-no_ending c = grind (arith, none_before)
 
 pub range_from-rest-requires : goal.range_from-rest-requires
 range_from-rest-requires c = λ h. prefix_boundary c.loop-c.rest.now c.before_tag-raw.result.now c.loop-c.invariant.utf8 c.before_tag-raw.utf8 c.before_tag-raw.ensures.begins
@@ -44,9 +43,7 @@ loop-c-preserved-then-is_in_raw c =
     }
 
 pub range_from-rest-requires-else-c-ne60 : goal.range_from-rest-requires-else-c-ne60
-range_from-rest-requires-else-c-ne60 c = λ h.
-    subst (IsCharBoundary c.loop-c.rest.now) (sym c.len_utf8.ensures.value)
-    (first_boundary c.loop-c.rest.now (chars_rest c.next.new.self) c.in-Some.c c.loop-c.invariant.utf8 (sym c.chars.ensures.rest ∙ c.in-Some.ensures.steps.0))
+range_from-rest-requires-else-c-ne60 c = grind (arith, first_boundary, chars_rest)
 
 pub loop-c-preserved : goal.loop-c-preserved
 loop-c-preserved c =

@@ -1,4 +1,4 @@
-use Rattle.std.proofs.Common.{◌≡◌, Bool, true, false, cond, not, sym, ap, ◌∙◌, refl}
+use Rattle.std.proofs.Common.{◌≡◌, Bool, true, false, cond, not, sym, ap, ◌∙◌, arith}
 use Rattle.gabc_text.specs.declared.token_state.TokenState.{TokenState}
 use Rattle.gabc_text.specs.declared.token_state.TokenState.TheVariants.{Comment}
 use Rattle.gabc_text.specs.machine.StageReports.{is_comment}
@@ -6,16 +6,13 @@ use Rattle.gabc_text.proofs.resuming.ToldByEvents.{comment_by}
 use Rattle.gabc_text.proofs.stage.TextStage.in_comment.Goals as goal
 
 turned : (d : Bool) → cond d false true ≡ not d
-turned true = refl
-turned false = refl
+turned d = grind arith
 
 never : (d : Bool) → cond d false false ≡ false
-never true = refl
-never false = refl
+never d = grind arith
 
 other : (s : TokenState) → (s ≡ Comment → ⊥) → is_comment s ≡ false
-other Comment e = absurd (e refl)
-other _ e = refl
+other s e = grind arith
 
 pub returns-in-Comment : goal.returns-in-Comment
 returns-in-Comment c =

@@ -1,4 +1,4 @@
-use Rattle.std.proofs.Common.{Bool, Some, None, if◌then◌else◌, sym, ap, ◌∙◌}
+use Rattle.std.proofs.Common.{sym, ◌∙◌, arith}
 use Rattle.gabc_text.proofs.NothingAfterTheEnd.{opener_told}
 use Rattle.gabc_text.proofs.resuming.ToldByEvents.{opener_over}
 use Rattle.gabc_text.proofs.stage.TextStage.opener.Goals as goal
@@ -7,11 +7,7 @@ pub returns-then-is_done : goal.returns-then-is_done
 returns-then-is_done c = sym (opener_over c.args.self.now (sym c.is_done.ensures ∙ c.if-is_done.true))
 
 pub returns-then-is_open : goal.returns-then-is_open
-returns-then-is_open c =
-    let s = c.args.self.now in
-    sym (opener_told s (sym c.is_done.ensures ∙ c.if-is_done.false) ∙ ap (λ (b : Bool). if b then Some s.progress.place else None) (sym c.is_open.ensures ∙ c.if-is_open.true))
+returns-then-is_open c = grind (arith, opener_told)
 
 pub returns-else-is_open : goal.returns-else-is_open
-returns-else-is_open c =
-    let s = c.args.self.now in
-    sym (opener_told s (sym c.is_done.ensures ∙ c.if-is_done.false) ∙ ap (λ (b : Bool). if b then Some s.progress.place else None) (sym c.is_open.ensures ∙ c.if-is_open.false))
+returns-else-is_open c = grind (arith, opener_told)

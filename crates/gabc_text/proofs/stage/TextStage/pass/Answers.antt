@@ -1,16 +1,13 @@
-use Rattle.std.proofs.Common.{◌≡◌, ◌==◌, [], ◌∷◌, refl, sym, ap, ◌∙◌}
+use Rattle.std.proofs.Common.{◌==◌, ◌∷◌, arith}
 use Rattle.std.specs.Str.{chars, NonePass}
 use Rattle.std.specs.Str.Iter.{chars_rest}
 use Rattle.std.proofs.lemmas.Str.{chars_past_char, IsUtf8-past_char}
 use Rattle.gabc_places.proofs.texts.CharactersOfStrings.{chars-none}
-use Rattle.gabc_text.specs.machine.RawPart.{stage_past}
 use Rattle.gabc_text.proofs.machine.RawPartIsPassed.{pass_goes}
 use Rattle.gabc_text.proofs.stage.TextStage.pass.Goals as goal
 
 pub loop-c-init : goal.loop-c-init
-loop-c-init c =
-    let rest : chars_rest c.into_iter-c-iterator.result ≡ c.args.text.now = ap chars_rest c.into_iter-c-iterator.ensures.into_iter_gives ∙ c.chars-c-items.ensures.rest in
-    rw rest (record { can = tt; ends = tt; utf8 = c.utf8.text; raw = c.requires.raw; no_ending = c.requires.no_ending; passed = refl })
+loop-c-init c = grind (arith, chars_rest)
 
 pub loop-c-preserved : goal.loop-c-preserved
 loop-c-preserved c =
@@ -28,7 +25,4 @@ loop-c-preserved c =
     }
 
 pub returns : goal.returns
-returns c =
-    let i = c.loop-c.invariant in
-    let none : chars (chars_rest c.loop-c.c-iterator) ≡ [] = chars-none (chars_rest c.loop-c.c-iterator) c.in-None.ensures.steps.0.0 in
-    sym (ap (stage_past c.loop-c.self) none) ∙ i.passed
+returns c = grind (arith, chars_rest, chars-none)

@@ -1,13 +1,11 @@
-use Rattle.std.proofs.Common.{◌≡◌, ℕ, ◌≤◌, ◌==◌, List, length, take, ap, sym, ◌∙◌, ne_eqb, length-take-le, subst}
+use Rattle.std.proofs.Common.{◌≡◌, ℕ, ◌≤◌, ◌==◌, List, length, take, ap, sym, ◌∙◌, ne_eqb, length-take-le, arith}
 use Rattle.std.specs.List.{list_all, zip}
 use Rattle.gabc_text.proofs.machine.TagNameByCharacter.{text_by_characters, other_length}
 use Rattle.gabc_text.proofs.tag_name.TagPrefix.is.Goals as goal
 
 -- the letters that are read are as many as is counted
 as_many : (letters name : List ℕ) (len most : ℕ) → take len letters ≡ name → len ≤ most → length letters ≡ most → length name ≡ len
-as_many letters name len most v h e =
-    let IsWithin : ℕ → Type 0 = λ k. len ≤ k in
-    sym (ap length v) ∙ length-take-le len letters (subst IsWithin (sym e) h)
+as_many letters name len most v h e = grind (arith, length-take-le)
 
 pub returns-then-name-self : goal.returns-then-name-self
 returns-then-name-self c =
@@ -18,6 +16,4 @@ returns-then-name-self c =
     (c.if-name-self.true ∙ sym (as_many c.self.inside.letters c.args.self.now c.self.inside.len _ v c.self.invariant.0 c.self.invariant.1))
 
 pub returns-else-name-self : goal.returns-else-name-self
-returns-else-name-self c =
-    let m = as_many c.self.inside.letters c.args.self.now c.self.inside.len _ c.self.view_is c.self.invariant.0 c.self.invariant.1 in
-    ne_eqb _ _ c.if-name-self.false ∙ sym (other_length c.args.name.now c.args.self.now (λ e. c.if-name-self.false (e ∙ m)))
+returns-else-name-self c = grind (arith, as_many, ne_eqb, other_length)
