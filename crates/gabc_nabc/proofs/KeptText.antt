@@ -1,8 +1,7 @@
 -- The characters of a kept text, each with its place, are that text.
-use Rattle.std.proofs.Common.{◌≡◌, ℕ, List, [], ◌∷◌, refl, sym, ap, ◌∙◌, length, take, Result, IfOk}
+use Rattle.std.proofs.Common.{arith, ◌≡◌, ℕ, List, [], ◌∷◌, refl, sym, ap, ◌∙◌, length, take, Result, IfOk}
 use Rattle.std.specs.Prelude.{map}
 use Rattle.std.proofs.lemmas.List.{take-map}
-use Rattle.std.proofs.lemmas.Result.{IfOk-weaker}
 use Rattle.std.proofs.Math.Seq.{take-length, take-append_seam}
 use Rattle.gabc_places.specs.declared.place.Char.{Char}
 use Rattle.gabc_places.specs.declared.place.Place.{Place}
@@ -44,8 +43,4 @@ text_is are_text at t =
 pub chars_returned : {E : Type 0} (r : Result (List Char) E) (at : Place) (t : List ℕ) (rest : List (List NoteEvent)) (text : List ℕ)
     → text ≡ kept_before (before_end t) (from_end t) → rest ≡ nabc_events (placed_characters_from at t)
     → IfOk r (λ cs. cs ≡ take (length text) (kept_chars_of (concat_of rest))) → IfOk r (λ cs. cs ≡ kept_chars_in at t)
-chars_returned r at t rest text e f =
-    let same : take (length text) (kept_chars_of (concat_of rest)) ≡ kept_chars_in at t =
-    ap (λ (u : List ℕ). take (length u) (kept_chars_of (concat_of rest))) e
-    ∙ ap (λ (o : List (List NoteEvent)). take (length (kept_before (before_end t) (from_end t))) (kept_chars_of (concat_of o))) f in
-    IfOk-weaker r (λ cs. cs ≡ take (length text) (kept_chars_of (concat_of rest))) (λ cs. cs ≡ kept_chars_in at t) (λ cs g. g ∙ same)
+chars_returned r at t rest text e f = grind arith

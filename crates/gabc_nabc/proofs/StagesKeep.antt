@@ -1,24 +1,23 @@
 -- A stage keeps the text that it has kept.
-use Rattle.std.proofs.Common.{◌≡◌, ◌==◌, ◌&&◌, ◌||◌, not, ℕ, List, [], ◌∷◌, ◌++◌, Bool, true, false, Option, None, is_some, length, drop, map, refl, sym, ap, ◌∙◌, subst, inl, inr, append-nil, append_assoc, eqb-true, if◌then◌else◌, arith}
+use Rattle.std.proofs.Common.{◌≡◌, ◌==◌, ◌&&◌, ◌||◌, not, ℕ, List, [], ◌∷◌, ◌++◌, Bool, true, false, Option, is_some, length, drop, map, refl, sym, ap, ◌∙◌, subst, inl, inr, append-nil, append_assoc, if◌then◌else◌, arith}
 use Rattle.std.proofs.Math.Seq.{drop-append_seam}
 use Rattle.std.proofs.lemmas.Bool.{true≢false}
 use Rattle.std.proofs.lemmas.List.{same_from_push}
 use Rattle.gabc_places.specs.BoundedList.{BoundedList, extended_by}
-use Rattle.gabc_places.specs.declared.code.Code.TheVariants.{E3, E6, W7}
+use Rattle.gabc_places.specs.declared.code.Code.TheVariants.{E3, W7}
 use Rattle.gabc_places.specs.declared.place.Char.{Char}
 use Rattle.gabc_places.specs.declared.place.Place.{Place}
 use Rattle.gabc_patterns.specs.Pattern.{is_in}
-use Rattle.gabc_patterns.specs.Derivative.{is_snippet, is_viable}
-use Rattle.gabc_patterns.specs.Function.{trim}
+use Rattle.gabc_patterns.specs.Derivative.{is_viable}
 use Rattle.gabc_patterns.proofs.LongestPrefixIsOne.{split_push}
-use Rattle.gabc_notes.specs.Events.{finding_event, end_by_mark}
+use Rattle.gabc_notes.specs.Events.{finding_event}
 use Rattle.gabc_notes.specs.witness.Keeps.{set_down}
 use Rattle.gabc_notes.specs.SnippetRead.{kept_of as kept_in, ends_of}
 use Rattle.gabc_notes.specs.declared.stage.NoteEnd.TheVariants.{Cut}
 use Rattle.gabc_notes.specs.declared.stage.NoteEvent.{NoteEvent}
 use Rattle.gabc_notes.specs.declared.stage.NoteEvent.TheVariants.{Kept, Ended}
 use Rattle.gabc_nabc.specs.Table.{nabc}
-use Rattle.gabc_nabc.specs.Events.{in_comment, is_character, is_end, has_end, kept_of, is_missing, first_of, bytes_in, end_events, character_events, events_at, nabc_events_after, nabc_events}
+use Rattle.gabc_nabc.specs.Events.{in_comment, has_end, kept_of, is_missing, first_of, bytes_in, end_events, character_events, events_at, nabc_events_after, nabc_events}
 use Rattle.gabc_nabc.specs.witness.Keeps.{comment_of, is_end_after, kept_after, IsKeptAgain, IsKeptWhole, with_comment, Keeps, GoesOn, EndsAfter, KeepsOn}
 use Rattle.gabc_nabc.specs.witness.DescriptorMachine.{comment_in, stage_events_at, stage_after, stage_moved_on, role_at, facts_at, next_at, events_left}
 use Rattle.gabc_nabc.specs.declared.stage.NabcRole.{NabcRole}
@@ -34,11 +33,7 @@ abbrev events_by : Bool → List ℕ → Char → List NoteEvent
 events_by m k x = if is_end_after m x.c then end_events k x else (if not m && not (is_in x.c (37 ∷ 32 ∷ 9 ∷ 10 ∷ [])) then character_events k x else [])
 
 kept_next : (t : List ℕ) (c : ℕ) → kept_of (t ++ c ∷ []) ≡ kept_after (kept_of t) (in_comment t) c
-kept_next t c = by (is_character t c) refl
-  where
-    by : (b : Bool) → is_character t c ≡ b → kept_of (t ++ c ∷ []) ≡ (if is_character t c then (if is_viable nabc (kept_of t ++ c ∷ []) then kept_of t ++ c ∷ [] else kept_of t) else kept_of t)
-    by true e = kept_more t c e ∙ sym (rw e refl)
-    by false e = kept_same t c e ∙ sym (rw e refl)
+kept_next t c = grind (arith, kept_more, kept_same)
 
 -- two texts are alike in what matters
 record AreAlike (t u : List ℕ) : Type 0 where
@@ -47,9 +42,7 @@ record AreAlike (t u : List ℕ) : Type 0 where
   pub kept : kept_of t ≡ kept_of u
 
 same_after : (xs : List Char) (t u : List ℕ) → AreAlike t u → nabc_events_after t xs ≡ nabc_events_after u xs
-same_after [] t u h =
-    ap (λ (b : Bool). (if b then [] else Ended (Cut (record { line = 0; column = 0 })) (bytes_in (kept_of t)) ∷ []) ∷ []) h.ends
-    ∙ ap (λ (k : List ℕ). (if has_end u then [] else Ended (Cut (record { line = 0; column = 0 })) (bytes_in k) ∷ []) ∷ []) h.kept
+same_after [] t u h = cc
 same_after (x ∷ xs) t u h =
     ap (λ (events : List NoteEvent). events ∷ nabc_events_after (t ++ x.c ∷ []) xs)
     (ap (λ (b : Bool). if b then [] else events_by (in_comment t) (kept_of t) x) h.ends
@@ -58,11 +51,7 @@ same_after (x ∷ xs) t u h =
     ∙ ap (λ (lists : List (List NoteEvent)). events_at u x ∷ lists) (same_after xs (t ++ x.c ∷ []) (u ++ x.c ∷ []) next)
   where
     next : AreAlike (t ++ x.c ∷ []) (u ++ x.c ∷ [])
-    next = record {
-      ends = end_more t x.c ∙ ap (λ (b : Bool). b || is_end t x.c) h.ends ∙ ap (λ (b : Bool). has_end u || is_end_after b x.c) h.comment ∙ sym (end_more u x.c);
-      comment = comment_more t x.c ∙ ap (λ (b : Bool). comment_in b x.c) h.comment ∙ sym (comment_more u x.c);
-      kept = kept_next t x.c ∙ ap (λ (k : List ℕ). kept_after k (in_comment t) x.c) h.kept ∙ ap (λ (b : Bool). kept_after (kept_of u) b x.c) h.comment ∙ sym (kept_next u x.c);
-    }
+    next = grind (arith, end_more, comment_more, kept_next)
 
 -- ---- a text that is kept whole
 
@@ -73,11 +62,7 @@ record TextIs (k : List ℕ) (m : Bool) (t : List ℕ) : Type 0 where
   pub kept : kept_of t ≡ k
 
 text_on : (k : List ℕ) (m : Bool) (t : List ℕ) (c : ℕ) → TextIs k m t → is_end_after m c ≡ false → TextIs (kept_after k m c) (comment_in m c) (t ++ c ∷ [])
-text_on k m t c h e = record {
-  no_end = end_more t c ∙ ap (λ (b : Bool). b || is_end t c) h.no_end ∙ ap (λ (b : Bool). is_end_after b c) h.comment ∙ e;
-  comment = comment_more t c ∙ ap (λ (b : Bool). comment_in b c) h.comment;
-  kept = kept_next t c ∙ ap (λ (u : List ℕ). kept_after u (in_comment t) c) h.kept ∙ ap (λ (b : Bool). kept_after k b c) h.comment;
-}
+text_on k m t c h e = grind (arith, end_more, comment_more, kept_next)
 
 text_whole : (t k : List ℕ) → TextIs t false t → ((before more : List ℕ) (c : ℕ) → t ++ k ≡ before ++ c ∷ more → IsKeptAgain before c) → TextIs (t ++ k) false (t ++ k)
 text_whole t [] h w = subst (λ (u : List ℕ). TextIs u false u) (sym (append-nil t)) h
@@ -102,11 +87,7 @@ whole_more k c w again before more d e =
 
 -- a character that is no comment's
 no_percent : (c : ℕ) → is_in c (37 ∷ 32 ∷ 9 ∷ 10 ∷ []) ≡ false → comment_in false c ≡ false
-no_percent c e = by (c == 37) refl
-  where
-    by : (b : Bool) → (c == 37) ≡ b → comment_in false c ≡ false
-    by true f = absurd (let g : true ≡ false = ap (λ (d : ℕ). is_in d (37 ∷ 32 ∷ 9 ∷ 10 ∷ [])) (sym (eqb-true c 37 f)) ∙ e in cc)
-    by false f = rw f refl
+no_percent c e = grind arith
 
 whole_on : (k : List ℕ) (m : Bool) (c : ℕ) → IsKeptWhole k → is_end_after m c ≡ false → IsKeptWhole (kept_after k m c)
 whole_on k true c w e = w
@@ -133,19 +114,10 @@ module _ (m : Bool) (k : List ℕ) (x : Char) where
       (by (not m && not (is_in x.c (37 ∷ 32 ∷ 9 ∷ 10 ∷ []))) (is_viable nabc (k ++ x.c ∷ [])) (is_missing (first_of k) x.c))
     where
       by : (a v w : Bool) → Goes (going_by a v w) (if a then (if v then k ++ x.c ∷ [] else k) else k)
-      by false v w = (refl, append-nil k)
-      by true false w = (refl, append-nil k)
-      by true true true = (refl, refl)
-      by true true false = (refl, refl)
+      by a v w = grind (arith, append-nil)
 
   ending : is_end_after m x.c ≡ true → EndsAfter k x.c (events_by m k x)
-  ending e =
-      subst (λ (b : Bool). EndsAfter k x.c (if b then end_events k x else (if not m && not (is_in x.c (37 ∷ 32 ∷ 9 ∷ 10 ∷ [])) then character_events k x else []))) (sym e)
-      (by (is_snippet nabc k))
-    where
-      by : (b : Bool) → EndsAfter k x.c ((if b then [] else finding_event x.place E6 ∷ []) ++ Ended (end_by_mark x.c) (bytes_in (trim nabc k)) ∷ [])
-      by true = record { end = refl; none_kept = refl }
-      by false = record { end = refl; none_kept = refl }
+  ending e = grind arith
 
 -- ---- what a character does to a stage
 
@@ -158,9 +130,7 @@ comment_after s c on e =
     ∙ by (role_at s c) (next_at s c) (λ f. absurd (true≢false (sym (not_ends s.comment ((c == 41) || (c == 124)) (is_in c (37 ∷ 32 ∷ 9 ∷ 10 ∷ [])) (is_some (next_at s c)) f) ∙ e)))
   where
     by : (r : NabcRole) (o : Option DescriptorState) → (r ≡ Ends → ⊥) → comment_of (stage_moved_on s r (facts_at s c) o c) ≡ comment_in s.comment c
-    by Ends o n = absurd (n refl)
-    by Keep None n = refl
-    by _ o n = refl
+    by r o n = grind arith
 
 module _ (s : NabcStage) (x : Char) (k : List ℕ) (h : Keeps s k) where
   text : TextIs k (comment_of s) (with_comment k (comment_of s))
@@ -170,8 +140,7 @@ module _ (s : NabcStage) (x : Char) (k : List ℕ) (h : Keeps s k) where
   on = by s.ended (h.emits [] ∙ ap (λ (b : Bool). (if b then [] else Ended (Cut (record { line = 0; column = 0 })) (bytes_in (kept_of (with_comment k (comment_of s)))) ∷ []) ∷ []) text.no_end)
     where
       by : (b : Bool) → (if b then [] else Ended (Cut (record { line = 0; column = 0 })) s.kept ∷ []) ∷ [] ≡ (Ended (Cut (record { line = 0; column = 0 })) (bytes_in (kept_of (with_comment k (comment_of s)))) ∷ []) ∷ [] → b ≡ false
-      by true e = absurd (cc)
-      by false e = refl
+      by b e = grind arith
 
   events_are : stage_events_at s x ≡ events_by (comment_of s) k x
   events_are =
@@ -221,8 +190,7 @@ push_as s x events next e n = subst (KeepsOn s x events) n (subst (λ (o : List 
 
 pub push_keeps_in : (s next : NabcStage) (x : Char) (old new : BoundedList NoteEvent) → next ≡ stage_after s x.c → new ≡ extended_by old (stage_events_at s x)
     → KeepsOn s x (drop (length old.items) new.items) next
-push_keeps_in s next x old new n o =
-    push_as s x _ next (sym (ap (λ (room : BoundedList NoteEvent). drop (length old.items) room.items) o ∙ drop-append_seam old.items (stage_events_at s x))) (sym n)
+push_keeps_in s next x old new n o = grind (arith, push_as, drop-append_seam)
 
 -- a fresh stage
 pub fresh_keeps : (s : NabcStage) → comment_of s ≡ false → ((xs : List Char) → events_left s xs ≡ nabc_events xs) → Keeps s []

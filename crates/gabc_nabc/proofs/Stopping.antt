@@ -1,10 +1,10 @@
 -- After an end that a stage emits, it emits nothing.
-use Rattle.std.proofs.Common.{◌≡◌, List, [], ◌∷◌, ◌++◌, Bool, true, false, cond, refl, ap, ◌∙◌, ℕ, Option, Some, None, option_to_list, arith}
+use Rattle.std.proofs.Common.{◌≡◌, [], ◌∷◌, ◌++◌, Bool, true, false, cond, refl, ap, ◌∙◌, ℕ, Option, Some, None, option_to_list, arith}
 use Rattle.std.specs.List.{list_any}
 use Rattle.gabc_places.specs.declared.code.Code.TheVariants.{E6}
 use Rattle.gabc_places.specs.declared.place.Char.{Char}
 use Rattle.gabc_places.specs.BoundedList.{BoundedList, extended_by}
-use Rattle.gabc_places.specs.StageLaw.{concat_of, EmitsNothing, StopsAtEnd}
+use Rattle.gabc_places.specs.StageLaw.{EmitsNothing, StopsAtEnd}
 use Rattle.gabc_notes.specs.Ends.{is_ended}
 use Rattle.gabc_notes.specs.declared.stage.NoteEnd.TheVariants.{Cut}
 use Rattle.gabc_notes.specs.declared.stage.NoteEvent.{NoteEvent}
@@ -21,22 +21,11 @@ use Rattle.gabc_nabc.specs.declared.state.DescriptorState.{DescriptorState}
 -- a stage that has ended gives nothing
 pub ended-emits_nothing : (st : NabcStage) → st.ended ≡ true → EmitsNothing (events_left st)
 ended-emits_nothing st e [] = rw e refl
-ended-emits_nothing st e (x ∷ xs) =
-    ap (λ (g : List NoteEvent). g ++ concat_of (events_left (stage_after st x.c) xs)) (same_events e)
-    ∙ (ap (λ (s : NabcStage). concat_of (events_left s xs)) (same e) ∙ ended-emits_nothing st e xs)
-  where
-    same_events : st.ended ≡ true → stage_events_at st x ≡ []
-    same_events f = rw f refl
-
-    same : st.ended ≡ true → stage_after st x.c ≡ st
-    same f = rw f refl
+ended-emits_nothing st e (x ∷ xs) = grind (arith, ended-emits_nothing st e xs)
 
 -- what a character gives has no end, unless it ends the snippet
 no_end : (r : NabcRole) (e : NabcFacts) (w : ℕ) (x : Char) → (r ≡ Ends → ⊥) → list_any is_ended (event_list (events_in r e w x)) ≡ false
-no_end Silent e w x n = refl
-no_end LeaveOut e w x n = refl
-no_end Ends e w x n = absurd (n refl)
-no_end Keep e w x n = grind arith
+no_end r e w x n = grind arith
 
 -- after an end that a push gives, the stage is over
 pub push_stops : (st next : NabcStage) (x : Char) (old new : BoundedList NoteEvent) → next ≡ stage_after st x.c → new ≡ extended_by old (stage_events_at st x)
@@ -56,8 +45,7 @@ push_stops st next x old new n p = running st.ended refl
         (p ∙ ap (extended_by old) same_events) (first (facts_at st x.c).whole) (ended-emits_nothing next over)
       where
         first : (b : Bool) → list_any is_ended (option_to_list (cond b None (Some (finding_event x.place E6)))) ≡ false
-        first true = refl
-        first false = refl
+        first b = grind arith
     at_role Silent f e = stops-endless is_ended (events_left next) old new (stage_events_at st x) p (none Silent f e (λ h. cc))
     at_role Keep f e = stops-endless is_ended (events_left next) old new (stage_events_at st x) p (none Keep f e (λ h. cc))
     at_role LeaveOut f e = stops-endless is_ended (events_left next) old new (stage_events_at st x) p (none LeaveOut f e (λ h. cc))
@@ -71,9 +59,7 @@ pub ended_as_before : (st next : NabcStage) (c : ℕ) → next ≡ stage_after s
 ended_as_before st next c n h = running st.ended refl
   where
     runs_on : (r : NabcRole) (e : NabcFacts) (o : Option DescriptorState) → (r ≡ Ends → ⊥) → (stage_moved_on st r e o c).ended ≡ st.ended
-    runs_on Ends e o k = absurd (k refl)
-    runs_on Keep e None k = refl
-    runs_on _ e o k = refl
+    runs_on r e o k = grind arith
 
     moved : st.ended ≡ false → next ≡ stage_moved_on st (role_at st c) (facts_at st c) (next_at st c) c
     moved e = n ∙ rw e refl

@@ -31,8 +31,7 @@ in_force clef alters = record { clef = clef; alters = alters }
 -- ---- steps are passed one by one
 
 pub clef_there : (outset : InForce) (before : List ScoreStep) → (in_force_after outset before).clef ≡ clef_in_force outset before
-clef_there outset [] = refl
-clef_there outset (s ∷ before) = refl
+clef_there outset before = grind arith
 
 pub alter_there : (outset : InForce) (before : List ScoreStep) (h : ℕ) → h < 15 → get_or (in_force_after outset before).alters h alter.None ≡ alter_in_force outset before h
 alter_there outset [] h l = refl

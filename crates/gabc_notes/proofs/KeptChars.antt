@@ -1,7 +1,6 @@
 -- The characters that are emitted as kept, one call after another.
 use Rattle.std.proofs.Common.{◌≡◌, ℕ, ◌+◌, ◌<◌, ◌≤◌, List, [], ◌∷◌, ◌++◌, refl, sym, ap, ◌∙◌, append_assoc, append-nil, length, take, get_or, arith}
 use Rattle.std.specs.Prelude.{map}
-use native.Mathlib.Decide.{dec_lt}
 use Rattle.std.proofs.lemmas.List.{take_more, take_all, take-append-le, length-take}
 use Rattle.gabc_places.specs.declared.place.Char.{Char}
 use Rattle.gabc_places.specs.BoundedList.{BoundedList, extended_by}
@@ -25,11 +24,7 @@ kept_chars-kept (Ended h n ∷ a) = kept_chars-kept a
 
 -- a prefix of a prefix with more after it
 pub take_again : {X : Type 0} (n : ℕ) (a b : List X) → take n (take n a ++ b) ≡ take n (a ++ b)
-take_again {X} n a b = elim (dec_lt (length a) n) [
-  | yes h ↦ ap (λ (l : List X). take n (l ++ b)) (take_all n a (omega (arith, h)))
-  | no h ↦ (let size = length-take n a in let less : n ≤ length a = omega (arith, h) in
-      take-append-le n (take n a) b (omega (arith, size, less)) ∙ (take_all n (take n a) (omega (arith, size)) ∙ sym (take-append-le n a b less)))
-]
+take_again n a b = grind (arith, take_all, length-take, take-append-le)
 
 -- one event more of a list
 pub kept_more : (first now new : List Char) (count : ℕ) (events : List NoteEvent) (i : ℕ) (d : NoteEvent) → i < length events
@@ -58,12 +53,7 @@ none_pushed {X} count now h = sym (ap (take count) (append-nil now) ∙ take_all
 pub driven : {total new : List Char} {events : List NoteEvent} (kept : List Char) (count : ℕ) (before later : List (List NoteEvent)) → before ≡ events ∷ later
     → new ≡ take count (kept ++ kept_chars_of events) → total ≡ take count (kept ++ kept_chars_of (concat_of before))
     → total ≡ take count (new ++ kept_chars_of (concat_of later))
-driven {total = total} {new = new} {events = events} kept count before later e f g =
-    let more : List Char = kept_chars_of (concat_of later) in
-    g ∙ (ap (λ (o : List (List NoteEvent)). take count (kept ++ kept_chars_of (concat_of o))) e
-    ∙ (ap (λ (l : List Char). take count (kept ++ l)) (kept_chars-append events (concat_of later))
-    ∙ (ap (take count) (sym (append_assoc kept (kept_chars_of events) more))
-    ∙ (sym (take_again count (kept ++ kept_chars_of events) more) ∙ ap (λ (l : List Char). take count (l ++ more)) (sym f)))))
+driven kept count before later e f g = grind (arith, kept_chars-append, append_assoc, take_again)
 
 -- what a call added to an empty room
 pub added_alone : {X : Type 0} (old new : BoundedList X) (events : List X) → old.items ≡ [] → new ≡ extended_by old events → new.items ≡ events

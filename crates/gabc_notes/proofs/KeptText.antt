@@ -1,8 +1,7 @@
 -- The characters of a kept text, each with its place, are that text.
-use Rattle.std.proofs.Common.{◌≡◌, ℕ, List, [], Bool, refl, sym, ap, ◌∙◌, length, take, Option, Some, None, Result, IfOk}
+use Rattle.std.proofs.Common.{arith, ◌≡◌, ℕ, List, [], Bool, refl, sym, ap, ◌∙◌, length, take, Option, Some, None, Result, IfOk}
 use Rattle.std.specs.Prelude.{map}
 use Rattle.std.proofs.lemmas.List.{take-map}
-use Rattle.std.proofs.lemmas.Result.{IfOk-weaker}
 use Rattle.std.proofs.Math.Seq.{take-length, take-append_seam}
 use Rattle.gabc_places.specs.declared.place.Char.{Char}
 use Rattle.gabc_places.specs.StageLaw.{concat_of}
@@ -35,8 +34,4 @@ text_is split macros xs =
 pub chars_returned : {E : Type 0} (r : Result (List Char) E) (split : Bool) (macros : ℕ) (xs : List Char) (rest : List (List NoteEvent)) (text : List ℕ)
     → text ≡ kept_by (stop_after split [] xs).mark (stop_after split [] xs).back → rest ≡ note_events split macros xs
     → IfOk r (λ cs. cs ≡ take (length text) (kept_chars_of (concat_of rest))) → IfOk r (λ cs. cs ≡ kept_chars_in split macros xs)
-chars_returned r split macros xs rest text e f =
-    let same : take (length text) (kept_chars_of (concat_of rest)) ≡ kept_chars_in split macros xs =
-    ap (λ (t : List ℕ). take (length t) (kept_chars_of (concat_of rest))) e
-    ∙ ap (λ (o : List (List NoteEvent)). take (length (kept_by (stop_after split [] xs).mark (stop_after split [] xs).back)) (kept_chars_of (concat_of o))) f in
-    IfOk-weaker r (λ cs. cs ≡ take (length text) (kept_chars_of (concat_of rest))) (λ cs. cs ≡ kept_chars_in split macros xs) (λ cs g. g ∙ same)
+chars_returned r split macros xs rest text e f = grind arith

@@ -31,12 +31,10 @@ pub ended-emits_nothing : (st : NoteStage) → st.ended ≡ true → EmitsNothin
 ended-emits_nothing st e = λ xs. rw e (joined_silence xs)
 
 found_is : (b : Bool) (place : Place) (code : Code) → list_any is_ended (option_to_list (cond b (Some (finding_event place code)) None)) ≡ false
-found_is true place code = refl
-found_is false place code = refl
+found_is b place code = grind arith
 
 none_found : (b : Bool) (place : Place) (code : Code) → list_any is_ended (option_to_list (cond b None (Some (finding_event place code)))) ≡ false
-none_found true place code = refl
-none_found false place code = refl
+none_found b place code = grind arith
 
 -- a character that is kept comes with no end
 warned : (macros : ℕ) (b : Before) (e : CharFacts) (x : Char) → list_any is_ended (event_list (events_in Keep macros b e x)) ≡ false
@@ -64,9 +62,7 @@ pub ended_as_before : (st next : NoteStage) (x : Char) → next ≡ stage_after_
 ended_as_before st next x n h = running st.ended refl
   where
     runs_on : (r : CharRole) (e : CharFacts) (o : Option ItemState) → (r ≡ Ends → ⊥) → (stage_after st r e o x).ended ≡ st.ended
-    runs_on Ends e o k = absurd (k refl)
-    runs_on Keep e None k = refl
-    runs_on _ e o k = refl
+    runs_on r e o k = grind arith
 
     moved : st.ended ≡ false → next ≡ stage_after st (role_of st x.c) (facts_of st x.c) (next_of st x.c) x
     moved e = n ∙ rw e refl

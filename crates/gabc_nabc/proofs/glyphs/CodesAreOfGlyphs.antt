@@ -4,7 +4,6 @@ use Rattle.std.proofs.lemmas.Bool.{and_parts}
 use Rattle.std.specs.List.{flat_map, range_with_len, concat}
 use Rattle.std.proofs.lemmas.List.{get_or-drop, drop-drop}
 use Rattle.std.proofs.lemmas.List.Folds.{list_any-append}
-use Rattle.std.proofs.lemmas.Bool.Decides.{nat_tests}
 use Rattle.gabc_patterns.specs.Pattern.{Pattern, never, nothing, one_of, any_but, ◌·◌, ◌or◌, many, text, Each, Spells, is_in}
 use Rattle.gabc_nabc.specs.Table.{code, glyph, points, letters, descriptor}
 use Rattle.gabc_nabc.specs.Codes.{code_at, codes_in, glyphs_joined, code_of_glyph, HasCodesOfGlyphs}
@@ -32,17 +31,11 @@ one_further : (t u : List ℕ) (k c : ℕ) → drop k t ≡ c ∷ u → drop (k 
 one_further t u k c e = sym (drop-drop 1 k t) ∙ ap (drop 1) e
 
 begins_next : (t : List ℕ) (k c : ℕ) → slice_index t k ≡ c → begins_at t (k + 1) ≡ (c == 33)
-begins_next t k c e =
-    let n : k + 1 + 1 - 2 ≡ k = omega arith in
-    let f : (k + 1 + 1 == 1) ≡ false = grind (arith, nat_tests) in
-    ap (λ (b : Bool). b || (slice_index t (k + 1 + 1 - 2) == 33)) f ∙ (ap (λ (m : ℕ). slice_index t m == 33) n ∙ ap (λ (x : ℕ). x == 33) e)
+begins_next t k c e = grind arith
 
 -- the code whose first letter stands there
 here_code : (t : List ℕ) (k c d : ℕ) → slice_index t k ≡ c → slice_index t (k + 1) ≡ d → code_at t (k + 1) ≡ cond (begins_at t k) (record { first = c; second = d } ∷ []) []
-here_code t k c d e f =
-    let s : k + 1 - 1 ≡ k = omega arith in
-    ap (λ (x : ℕ). cond (begins_at t k) (record { first = x; second = slice_index t (k + 1) } ∷ []) []) (ap (λ (l : ℕ). slice_index t l) s ∙ e)
-    ∙ ap (λ (x : ℕ). cond (begins_at t k) (record { first = c; second = x } ∷ []) []) f
+here_code t k c d e f = grind arith
 
 scanned : (t u : List ℕ) (k : ℕ) → drop k t ≡ u → flat_map (code_at t) (range_with_len (k + 1) (length u - 1)) ≡ scan (begins_at t k) u
 scanned t [] k e = refl
@@ -65,11 +58,7 @@ codes_scanned t = scanned t t 0 refl
 -- ---- texts without `!`
 
 free_tail : (c : ℕ) (t : List ℕ) → is_in 33 (c ∷ t) ≡ false → ((c == 33) ≡ false) × (is_in 33 t ≡ false)
-free_tail c t e = go (c == 33) refl e
-  where
-    go : (b : Bool) → (c == 33) ≡ b → (b || is_in 33 t) ≡ false → ((c == 33) ≡ false) × (is_in 33 t ≡ false)
-    go true f g = absurd (cc)
-    go false f g = (f, g)
+free_tail c t e = grind arith
 
 -- no code is in one, but at its start
 scan_free : (t : List ℕ) → is_in 33 t ≡ false → scan false t ≡ []
@@ -83,9 +72,7 @@ scan_free (c ∷ d ∷ t) e =
 scan_bang : (t u : List ℕ) → is_in 33 t ≡ false → scan false (t ++ 33 ∷ u) ≡ scan true u
 scan_bang [] [] e = refl
 scan_bang [] (d ∷ u) e = refl
-scan_bang (c ∷ []) u e =
-    let f = free_tail c [] e in
-    ap (λ (b : Bool). scan b (33 ∷ u)) f.0 ∙ scan_bang [] u refl
+scan_bang (c ∷ []) u e = grind (arith, free_tail, scan_bang [] u refl)
 scan_bang (c ∷ d ∷ t) u e =
     let f = free_tail c (d ∷ t) e in
     ap (λ (b : Bool). scan b (d ∷ (t ++ 33 ∷ u))) f.0 ∙ scan_bang (d ∷ t) u f.1
@@ -105,20 +92,10 @@ none_in_parts n P h [] e = refl
 none_in_parts n P h (x ∷ xs) e = list_any-append (λ (d : ℕ). d == n) x (concat xs) ∙ rw (h x e.0, none_in_parts n P h xs e.1) refl
 
 not_same : (c n : ℕ) (cs : List ℕ) → is_in c cs ≡ true → not (is_in n cs) ≡ true → (c == n) || false ≡ false
-not_same c n cs i e = go (c == n) refl
-  where
-    go : (b : Bool) → (c == n) ≡ b → b || false ≡ false
-    go false f = refl
-    go true f =
-        let same : c ≡ n = grind (arith, nat_tests) in
-        absurd (let g : not true ≡ true = ap not (sym (ap (λ (m : ℕ). is_in m cs) (sym same) ∙ i)) ∙ e in cc)
+not_same c n cs i e = grind arith
 
 other_than : (c n x : ℕ) → c ≢ x → (x == n) ≡ true → (c == n) || false ≡ false
-other_than c n x h e = go (c == n) refl
-  where
-    go : (b : Bool) → (c == n) ≡ b → b || false ≡ false
-    go false f = refl
-    go true f = absurd (h (grind (arith, nat_tests)))
+other_than c n x h e = grind arith
 
 spells_none : (n : ℕ) (p : Pattern) (t : List ℕ) → Spells p t → avoids n p ≡ true → is_in n t ≡ false
 spells_none n never t h e = absurd h
@@ -153,19 +130,10 @@ glyph_two t (a, b, h, i, e) =
     (x.0, x.1, x.2 ++ b, e ∙ ap (λ (u : List ℕ). u ++ b) x.3)
 
 scan_glyph : (g u : List ℕ) → Two g → is_in 33 g ≡ false → scan true (g ++ 33 ∷ u) ≡ code_of_glyph g ∷ scan true u
-scan_glyph g u (a, c, w, e) f =
-    let i = free_tail a (c ∷ w) (ap (is_in 33) (sym e) ∙ f) in
-    let same : scan (a == 33) (c ∷ (w ++ 33 ∷ u)) ≡ scan true u = ap (λ (b : Bool). scan b (c ∷ (w ++ 33 ∷ u))) i.0 ∙ scan_bang (c ∷ w) u i.1 in
-    ap (λ (v : List ℕ). scan true (v ++ 33 ∷ u)) e ∙ (ap (λ (l : List GlyphCode). record { first = a; second = c } ∷ l) same
-    ∙ ap (λ (v : List ℕ). code_of_glyph v ∷ scan true u) (sym e))
+scan_glyph g u e f = grind (arith, free_tail, scan_bang)
 
 scan_last : (g tail : List ℕ) → Two g → is_in 33 g ≡ false → is_in 33 tail ≡ false → scan true (g ++ tail) ≡ code_of_glyph g ∷ []
-scan_last g tail (a, c, w, e) f h =
-    let i = free_tail a (c ∷ w) (ap (is_in 33) (sym e) ∙ f) in
-    let all : is_in 33 (c ∷ (w ++ tail)) ≡ false = list_any-append (λ (d : ℕ). d == 33) (c ∷ w) tail ∙ rw (i.1, h) refl in
-    let same : scan (a == 33) (c ∷ (w ++ tail)) ≡ [] = ap (λ (b : Bool). scan b (c ∷ (w ++ tail))) i.0 ∙ scan_free (c ∷ (w ++ tail)) all in
-    ap (λ (v : List ℕ). scan true (v ++ tail)) e ∙ (ap (λ (l : List GlyphCode). record { first = a; second = c } ∷ l) same
-    ∙ ap (λ (v : List ℕ). code_of_glyph v ∷ []) (sym e))
+scan_last g tail e f h = grind (arith, free_tail, list_any-append, scan_free)
 
 scan_joined : (gs : List (List ℕ)) (g tail : List ℕ) → Spells glyph g → Each (Spells glyph) gs → is_in 33 tail ≡ false
     → scan true (glyphs_joined (g ∷ gs) ++ tail) ≡ map code_of_glyph (g ∷ gs)

@@ -1,5 +1,5 @@
 -- The codes that the table spells.
-use Rattle.std.proofs.Common.{◌≡◌, ℕ, ◌≤◌, List, [], ◌∷◌, ◌++◌, Bool, true, false, not, ◌&&◌, ◌||◌, ◌==◌, refl, sym, ap, ◌∙◌, subst, codes, arith, IsTrue, ◌↔◌, inl, inr}
+use Rattle.std.proofs.Common.{◌≡◌, ℕ, ◌≤◌, List, [], ◌∷◌, Bool, true, false, not, ◌&&◌, ◌==◌, refl, sym, ap, ◌∙◌, codes, arith, IsTrue, ◌↔◌, inl, inr}
 use native.Mathlib.Decide.{dec_lt}
 use Rattle.std.proofs.lemmas.Bool.Decides.{nat_tests}
 use Rattle.std.proofs.lemmas.Bool.{not-true, and_parts}
@@ -50,36 +50,20 @@ after_l_are = below_or_beyond (λ c. is_in c after_l) (is_code 108) refl (λ c h
 
 -- one of these, and one of those
 pair_to : (cs ds : List ℕ) (a c : ℕ) → Spells (one_of cs · one_of ds) (a ∷ c ∷ []) → (is_in a cs ≡ true) × (is_in c ds ≡ true)
-pair_to cs ds a c (x, y, (k, h, e), (l, i, f), g) =
-    let both : a ∷ c ∷ [] ≡ k ∷ l ∷ [] = g ∙ (ap (λ (u : List ℕ). u ++ y) e ∙ ap (λ (u : List ℕ). k ∷ u) f) in
-    let first : k ≡ a = cc in
-    let second : l ≡ c = cc in
-    (subst (λ (n : ℕ). is_in n cs ≡ true) first h, subst (λ (n : ℕ). is_in n ds ≡ true) second i)
+pair_to cs ds a c g = grind arith
 
 pair_from : (cs ds : List ℕ) (a c : ℕ) → is_in a cs ≡ true → is_in c ds ≡ true → Spells (one_of cs · one_of ds) (a ∷ c ∷ [])
 pair_from cs ds a c h i = (a ∷ [], c ∷ [], (a, h, refl), (c, i, refl), refl)
 
 pub same_in : (n a : ℕ) → is_in a (n ∷ []) ≡ true → a ≡ n
-same_in n a e = go (n == a) refl e
-  where
-    go : (b : Bool) → (n == a) ≡ b → (b || false) ≡ true → a ≡ n
-    go true f g = grind (arith, nat_tests)
-    go false f g = absurd (cc)
+same_in n a e = grind arith
 
 in_same : (n a : ℕ) → a ≡ n → is_in a (n ∷ []) ≡ true
-in_same n a e =
-    let f : (n == a) ≡ true = grind (arith, nat_tests) in
-    ap (λ (b : Bool). b || false) f
+in_same n a e = grind arith
 
 -- a letter that begins any code, and any letter
 plain_code : (a c : ℕ) → (a == 115) ≡ false → (a == 112) ≡ false → (a == 108) ≡ false → is_code a c ≡ (begins_code a && is_letter c)
-plain_code a c s p l =
-    let none : ((a == 115) && (c == 117)) || (((a == 112) && (c == 112)) || ((a == 108) && ((c == 115) || (c == 116)))) ≡ false = rw (s, p, l) refl in
-    ap (λ (b : Bool). begins_code a && (is_letter c && not b)) none ∙ go (is_letter c)
-  where
-    go : (b : Bool) → (begins_code a && (b && true)) ≡ (begins_code a && b)
-    go true = refl
-    go false = refl
+plain_code a c s p l = grind arith
 
 spelled : (a c : ℕ) → is_code a c ≡ true → Spells code (a ∷ c ∷ [])
 spelled a c e = go (a == 115) (a == 112) (a == 108) refl refl refl
@@ -99,21 +83,7 @@ spelled a c e = go (a == 115) (a == 112) (a == 108) refl refl refl
         inl (pair_from firsts letters a c (firsts_are a ∙ rw (both.0, f, g, h) refl) (letters_are c ∙ both.1))
 
 is_spelled : (a c : ℕ) → Spells code (a ∷ c ∷ []) → is_code a c ≡ true
-is_spelled a c (inl h) =
-    let x = pair_to firsts letters a c h in
-    let y = and_parts (begins_code a) (not (a == 115) && (not (a == 112) && not (a == 108))) (sym (firsts_are a) ∙ x.0) in
-    let z = and_parts (not (a == 115)) (not (a == 112) && not (a == 108)) y.1 in
-    let w = and_parts (not (a == 112)) (not (a == 108)) z.1 in
-    plain_code a c (not-true (a == 115) z.0) (not-true (a == 112) w.0) (not-true (a == 108) w.1) ∙ rw (y.0, sym (letters_are c) ∙ x.1) refl
-is_spelled a c (inr (inl h)) =
-    let x = pair_to (115 ∷ []) after_s a c h in
-    ap (λ (n : ℕ). is_code n c) (same_in 115 a x.0) ∙ (sym (after_s_are c) ∙ x.1)
-is_spelled a c (inr (inr (inl h))) =
-    let x = pair_to (112 ∷ []) after_p a c h in
-    ap (λ (n : ℕ). is_code n c) (same_in 112 a x.0) ∙ (sym (after_p_are c) ∙ x.1)
-is_spelled a c (inr (inr (inr h))) =
-    let x = pair_to (108 ∷ []) after_l a c h in
-    ap (λ (n : ℕ). is_code n c) (same_in 108 a x.0) ∙ (sym (after_l_are c) ∙ x.1)
+is_spelled a c h = grind (arith, pair_to, and_parts, firsts_are, plain_code, not-true, letters_are, same_in, after_s_are, after_p_are, after_l_are)
 
 -- the table spells two letters exactly if they are a code
 pub letters_spell : (a c : ℕ) → IsTrue (is_code a c) ↔ Spells code (a ∷ c ∷ [])

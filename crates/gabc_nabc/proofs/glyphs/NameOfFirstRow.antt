@@ -1,5 +1,5 @@
 -- The first row of a table of names that has a code.
-use Rattle.std.proofs.Common.{◌≡◌, ℕ, ◌==◌, ◌&&◌, ◌<◌, ◌≤◌, ◌+◌, length, List, ◌∷◌, suc, Option, Some, None, map, cond, drop, get_or, Bor, ap, ◌∙◌, arith, Bool, false, slice_index_or, ◌++◌, IsUtf8, MatchOption}
+use Rattle.std.proofs.Common.{◌≡◌, ℕ, ◌==◌, ◌&&◌, ◌<◌, ◌≤◌, ◌+◌, length, List, ◌∷◌, Option, Some, None, map, cond, drop, Bor, ap, ◌∙◌, arith, Bool, false, slice_index_or, ◌++◌, IsUtf8, MatchOption}
 use Rattle.std.proofs.lemmas.Bool.Decides.{nat_tests}
 use Rattle.std.proofs.Math.Seq.{drop-cons}
 use Rattle.std.proofs.lemmas.List.{drop_all}
@@ -17,9 +17,7 @@ plain row = (row.0, row.1, row.2.now)
 
 here : (a b i : ℕ) (rows : List Row) (d : Row) → i < length rows
     → name_among a b (map plain (drop i rows)) ≡ cond (((slice_index_or rows i d).0 == a) && ((slice_index_or rows i d).1 == b)) (Some (slice_index_or rows i d).2.now) (name_among a b (map plain (drop (i + 1) rows)))
-here a b i rows d l =
-    let n : suc i ≡ i + 1 = omega arith in
-    ap (λ (u : List Row). name_among a b (map plain u)) (drop-cons rows i d l) ∙ ap (λ (k : ℕ). name_among a b (map plain (get_or rows i d ∷ drop k rows))) n
+here a b i rows d l = grind (arith, drop-cons)
 
 -- the row has the code
 pub has_code : (a b i : ℕ) (rows : List Row) (d : Row) → i < length rows → (slice_index_or rows i d).0 ≡ a → (slice_index_or rows i d).1 ≡ b
@@ -46,8 +44,7 @@ after bs rest c u e = (chars_past_char bs rest c u e, IsUtf8-past_char bs rest c
 
 -- what is known where there is none
 pub none_of : (A : Type 0) (B : ℕ → Type 0) (o : Option ℕ) → o ≡ None → MatchOption o A B → A
-none_of A B None e h = h
-none_of A B (Some c) e h = absurd (cc)
+none_of A B o e h = grind arith
 
 -- no character
 pub no_letters : (bs : List ℕ) → length bs ≡ 0 → name_in (chars bs) ≡ None

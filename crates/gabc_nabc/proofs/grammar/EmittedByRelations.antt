@@ -1,12 +1,11 @@
 -- What is emitted of an NABC snippet by relations is what is computed character by character.
 use Rattle.std.proofs.Common.{◌≡◌, ℕ, List, [], ◌∷◌, ◌++◌, Bool, true, false, cond, ◌&&◌, ◌||◌, inl, inr, refl, sym, ap, ◌∙◌, subst, arith}
 use Rattle.std.specs.Prelude.{map}
-use Rattle.gabc_places.specs.declared.code.Code.TheVariants.{E3, E6, W7}
+use Rattle.gabc_places.specs.declared.code.Code.TheVariants.{E3, W7}
 use Rattle.gabc_places.specs.declared.code.Finding.{Finding}
 use Rattle.gabc_places.specs.declared.place.Char.{Char}
 use Rattle.gabc_places.specs.StageLaw.{silence}
-use Rattle.gabc_patterns.specs.LongestItems.{IsViable}
-use Rattle.gabc_patterns.specs.Derivative.{is_snippet, is_viable}
+use Rattle.gabc_patterns.specs.Derivative.{is_viable}
 use Rattle.gabc_patterns.specs.Function.{trim}
 use Rattle.gabc_patterns.proofs.FunctionsMeetRelations.{not_viable, trim_trims, trims_is}
 use Rattle.gabc_patterns.proofs.LongestMunchByCharacter.{viable_from}
@@ -18,7 +17,7 @@ use Rattle.gabc_notes.specs.declared.stage.NoteEvent.{NoteEvent}
 use Rattle.gabc_notes.specs.declared.stage.NoteEvent.TheVariants.{Kept, Found, Ended}
 use Rattle.gabc_notes.proofs.FoundOnce.{found_once, kept_once}
 use Rattle.gabc_nabc.specs.Table.{nabc}
-use Rattle.gabc_nabc.specs.Events.{is_character, is_end, has_end, kept_of, first_of, is_missing, bytes_in, end_events, character_events, events_at, cut_events, nabc_events_after, nabc_events}
+use Rattle.gabc_nabc.specs.Events.{is_character, is_end, has_end, kept_of, first_of, is_missing, bytes_in, end_events, events_at, cut_events, nabc_events_after, nabc_events}
 use Rattle.gabc_nabc.specs.NabcRead.{IsKeptAfter, IsFoundAfter}
 use Rattle.gabc_nabc.specs.NabcEmitted.{AreOfCharacter, AreOfMark, AreEventsAfter, AreNabcEvents}
 use Rattle.gabc_nabc.proofs.grammar.ReadByRelations.{kept_is, kept_keeps, found_here, one_code, unfinished_at, unfinished_only}
@@ -30,12 +29,7 @@ abbrev pub kept_event : List ℕ → Char → List NoteEvent
 kept_event t x = cond (is_character t x.c && is_viable nabc (kept_of t ++ x.c ∷ [])) (Kept x ∷ []) []
 
 pub kept_here : (t : List ℕ) (x : Char) → AreIfKept (IsKeptAfter t x.c) x (kept_event t x)
-kept_here t x = go (is_character t x.c) refl (is_viable nabc (kept_of t ++ x.c ∷ [])) refl
-  where
-    go : (a : Bool) → is_character t x.c ≡ a → (b : Bool) → is_viable nabc (kept_of t ++ x.c ∷ []) ≡ b → AreIfKept (IsKeptAfter t x.c) x (cond (a && b) (Kept x ∷ []) [])
-    go false e b f = inr ((λ h. let g = h.0 in absurd (cc)), refl)
-    go true e false f = inr ((λ h. not_viable nabc refl (kept_of t ++ x.c ∷ []) f (subst (λ (k : List ℕ). IsViable nabc (k ++ x.c ∷ [])) (kept_is t h.1.0 h.1.1) h.1.2)), refl)
-    go true e true f = inl ((e, (kept_of t, kept_keeps t, viable_from nabc refl (kept_of t ++ x.c ∷ []) f)), refl)
+kept_here t x = grind (arith, not_viable, kept_is, kept_keeps, viable_from)
 
 -- that it is kept, and then what is found
 pub parted : (t : List ℕ) (x : Char) → has_end t ≡ false → is_end t x.c ≡ false → events_at t x ≡ kept_event t x ++ map Found (findings_of (events_at t x))
@@ -47,22 +41,13 @@ parted t x o e =
     at c v m = cond c (cond v (Kept x ∷ cond m (finding_event x.place W7 ∷ []) []) (finding_event x.place E3 ∷ [])) []
 
     same : events_at t x ≡ at (is_character t x.c) (is_viable nabc (kept_of t ++ x.c ∷ [])) (is_missing (first_of (kept_of t)) x.c)
-    same =
-        ap (λ (b : Bool). cond b [] (cond (is_end t x.c) (end_events (kept_of t) x) (cond (is_character t x.c) (character_events (kept_of t) x) []))) o
-        ∙ ap (λ (b : Bool). cond b (end_events (kept_of t) x) (cond (is_character t x.c) (character_events (kept_of t) x) [])) e
+    same = cc
 
     go : (c v m : Bool) → at c v m ≡ cond (c && v) (Kept x ∷ []) [] ++ map Found (findings_of (at c v m))
     go c v m = grind arith
 
 of_character : (t : List ℕ) (x : Char) → has_end t ≡ false → is_end t x.c ≡ false → AreOfCharacter t x (events_at t x)
-of_character t x o e = record {
-  no_end = e;
-  kept = kept_event t x;
-  is_kept = kept_here t x;
-  found = findings_of (events_at t x);
-  is_found = found_here t x o e;
-  all = parted t x o e;
-}
+of_character t x o e = grind (arith, kept_here, found_here, parted)
 
 of_character_only : (t : List ℕ) (x : Char) (events : List NoteEvent) → has_end t ≡ false → AreOfCharacter t x events → events ≡ events_at t x
 of_character_only t x events o h =
@@ -73,26 +58,10 @@ of_character_only t x events o h =
 -- ---- the mark that ends the snippet
 
 pub ended : (t : List ℕ) (x : Char) → end_events (kept_of t) x ≡ map Found (findings_of (end_events (kept_of t) x)) ++ Ended (end_by_mark x.c) (bytes_in (trim nabc (kept_of t))) ∷ []
-ended t x = go (is_snippet nabc (kept_of t))
-  where
-    at : Bool → List NoteEvent
-    at b = cond b [] (finding_event x.place E6 ∷ []) ++ Ended (end_by_mark x.c) (bytes_in (trim nabc (kept_of t))) ∷ []
-
-    go : (b : Bool) → at b ≡ map Found (findings_of (at b)) ++ Ended (end_by_mark x.c) (bytes_in (trim nabc (kept_of t))) ∷ []
-    go true = refl
-    go false = refl
+ended t x = grind arith
 
 of_mark : (t : List ℕ) (x : Char) → is_end t x.c ≡ true → AreOfMark t x (end_events (kept_of t) x)
-of_mark t x e = record {
-  mark = e;
-  kept = kept_of t;
-  keeps = kept_keeps t;
-  whole = trim nabc (kept_of t);
-  trims = trim_trims nabc refl (kept_of t);
-  last = findings_of (end_events (kept_of t) x);
-  unfinished = unfinished_at (kept_of t) x;
-  all = ended t x;
-}
+of_mark t x e = grind (arith, kept_keeps, trim_trims, unfinished_at, ended)
 
 of_mark_only : (t : List ℕ) (x : Char) (events : List NoteEvent) → AreOfMark t x events → events ≡ end_events (kept_of t) x
 of_mark_only t x events h =
@@ -104,9 +73,7 @@ of_mark_only t x events h =
 -- ---- both ways
 
 pub at_mark : (t : List ℕ) (x : Char) → has_end t ≡ false → is_end t x.c ≡ true → events_at t x ≡ end_events (kept_of t) x
-at_mark t x o e =
-    ap (λ (b : Bool). cond b [] (cond (is_end t x.c) (end_events (kept_of t) x) (cond (is_character t x.c) (character_events (kept_of t) x) []))) o
-    ∙ ap (λ (b : Bool). cond b (end_events (kept_of t) x) (cond (is_character t x.c) (character_events (kept_of t) x) [])) e
+at_mark t x o e = cc
 
 pub more : (t : List ℕ) (c : ℕ) (b : Bool) → has_end t ≡ false → is_end t c ≡ b → has_end (t ++ c ∷ []) ≡ b
 more t c b o e = end_more t c ∙ (ap (λ (a : Bool). a || is_end t c) o ∙ e)
@@ -114,9 +81,7 @@ more t c b o e = end_more t c ∙ (ap (λ (a : Bool). a || is_end t c) o ∙ e)
 -- after the end nothing
 over : (t : List ℕ) (xs : List Char) → has_end t ≡ true → nabc_events_after t xs ≡ silence xs
 over t [] o = ap (λ (b : Bool). cond b [] (Ended (Cut (record { line = 0; column = 0 })) (bytes_in (kept_of t)) ∷ []) ∷ []) o
-over t (x ∷ xs) o =
-    ap (λ (b : Bool). cond b [] (cond (is_end t x.c) (end_events (kept_of t) x) (cond (is_character t x.c) (character_events (kept_of t) x) [])) ∷ nabc_events_after (t ++ x.c ∷ []) xs) o
-    ∙ ap (λ (l : List (List NoteEvent)). [] ∷ l) (over (t ++ x.c ∷ []) xs (end_more t x.c ∙ ap (λ (a : Bool). a || is_end t x.c) o))
+over t (x ∷ xs) o = grind (arith, end_more, over (t ++ x.c ∷ []) xs (end_more t x.c ∙ ap (λ (a : Bool). a || is_end t x.c) o))
 
 pub cut_is : (t : List ℕ) → has_end t ≡ false → cut_events t ≡ Ended (Cut (record { line = 0; column = 0 })) (bytes_in (kept_of t)) ∷ []
 cut_is t o = ap (λ (b : Bool). cond b [] (Ended (Cut (record { line = 0; column = 0 })) (bytes_in (kept_of t)) ∷ [])) o
@@ -135,9 +100,7 @@ events_by_relations t (x ∷ xs) o = go (is_end t x.c) refl (λ p. events_by_rel
     )
 
 relations_give_events : (t : List ℕ) (xs : List Char) (lists : List (List NoteEvent)) → has_end t ≡ false → AreEventsAfter t xs lists → lists ≡ nabc_events_after t xs
-relations_give_events t [] lists o h =
-    h.2 ∙ ap (λ (es : List NoteEvent). es ∷ [])
-    (h.1.all ∙ (ap (λ (k : List ℕ). Ended (Cut (record { line = 0; column = 0 })) (bytes_in k) ∷ []) (kept_is t h.1.kept h.1.keeps) ∙ sym (cut_is t o)))
+relations_give_events t [] lists o h = grind (arith, kept_is, cut_is)
 relations_give_events t (x ∷ xs) lists o (inl (events, m, e)) =
     e ∙ (ap (λ (es : List NoteEvent). es ∷ silence xs) (of_mark_only t x events m ∙ sym (at_mark t x o m.mark))
     ∙ ap (λ (l : List (List NoteEvent)). events_at t x ∷ l) (sym (over (t ++ x.c ∷ []) xs (more t x.c true o m.mark))))

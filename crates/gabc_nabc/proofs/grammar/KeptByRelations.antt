@@ -1,56 +1,36 @@
 -- The characters of the kept text by relations are those that are computed.
-use Rattle.std.proofs.Common.{◌≡◌, ℕ, List, [], ◌∷◌, ◌++◌, Bool, true, false, cond, ◌&&◌, ◌⊎◌, inl, inr, refl, sym, ap, ◌∙◌, subst, append-nil, chars, length, take, drop}
+use Rattle.std.proofs.Common.{arith, ◌≡◌, ℕ, List, [], ◌∷◌, ◌++◌, Bool, true, false, cond, refl, sym, ap, ◌∙◌, subst, append-nil, chars, length, take, drop}
 use Rattle.std.specs.Prelude.{map, string_bytes}
 use Rattle.std.proofs.Math.Seq.{take-append_seam}
 use Rattle.std.proofs.lemmas.List.{take-append-drop, length-map}
 use Rattle.std.proofs.lemmas.Str.{chars_from_encodes, IsUtf8-string_bytes}
-use Rattle.gabc_places.specs.declared.code.Finding.{Finding}
 use Rattle.gabc_places.specs.declared.place.Char.{Char}
 use Rattle.gabc_places.specs.declared.place.Place.{Place}
 use Rattle.gabc_places.specs.Place.{next_place, placed_characters_from}
 use Rattle.gabc_places.specs.StageLaw.{concat_of}
-use Rattle.gabc_patterns.specs.Derivative.{is_viable}
-use Rattle.gabc_patterns.specs.Function.{trim}
-use Rattle.gabc_notes.specs.Events.{end_by_mark}
-use Rattle.gabc_notes.specs.SnippetRead.{kept_chars_of, findings_of}
+use Rattle.gabc_notes.specs.SnippetRead.{kept_chars_of}
 use Rattle.gabc_notes.specs.declared.snippet_read.SnippetRead.{SnippetRead}
 use Rattle.gabc_notes.specs.declared.stage.NoteEvent.{NoteEvent}
-use Rattle.gabc_notes.specs.declared.stage.NoteEvent.TheVariants.{Kept, Found, Ended}
 use Rattle.gabc_notes.proofs.KeptChars.{kept_chars-append}
 use Rattle.gabc_notes.proofs.grammar.KeptByRelations.{none_found}
-use Rattle.gabc_nabc.specs.Table.{nabc}
-use Rattle.gabc_nabc.specs.Events.{is_character, is_end, has_end, kept_of, bytes_in, end_events, events_at, nabc_events_after, nabc_events}
-use Rattle.gabc_nabc.specs.NabcRead.{IsKeptAfter, AreKept, AreKeptChars, IsNabcRead}
+use Rattle.gabc_nabc.specs.Events.{is_end, has_end, kept_of, end_events, events_at, nabc_events_after, nabc_events}
+use Rattle.gabc_nabc.specs.NabcRead.{AreKept, AreKeptChars, IsNabcRead}
 use Rattle.gabc_nabc.specs.SnippetRead.{before_end_after, before_end, from_end, kept_before, kept_chars_in}
 use Rattle.gabc_nabc.proofs.KeptText.{AreText, text_is}
-use Rattle.gabc_nabc.proofs.grammar.EmittedByRelations.{kept_event, kept_here, parted, at_mark, ended, more, cut_is}
+use Rattle.gabc_nabc.proofs.grammar.EmittedByRelations.{kept_event, kept_here, parted, at_mark, more, cut_is}
 use Rattle.gabc_nabc.proofs.grammar.LawsOfEvents.{silent}
 use Rattle.gabc_nabc.proofs.grammar.ReadByRelations.{front_is, relations_are_computed}
 
 -- what is emitted of a character, without what is found
 kept_of_one : (t : List ℕ) (x : Char) → has_end t ≡ false → is_end t x.c ≡ false → kept_chars_of (events_at t x) ≡ kept_chars_of (kept_event t x)
-kept_of_one t x o e =
-    ap kept_chars_of found.1 ∙ (kept_chars-append (kept_event t x) (map Found found.0)
-    ∙ (ap (λ (l : List Char). kept_chars_of (kept_event t x) ++ l) (none_found found.0) ∙ append-nil (kept_chars_of (kept_event t x))))
-  where
-    found : (fs : List Finding) × (events_at t x ≡ kept_event t x ++ map Found fs)
-    found = (_, parted t x o e)
+kept_of_one t x o e = grind (arith, kept_chars-append, none_found, append-nil, parted)
 
 none_at_end : (t : List ℕ) (x : Char) → kept_chars_of (end_events (kept_of t) x) ≡ []
-none_at_end t x =
-    let fs : List Finding = findings_of (end_events (kept_of t) x) in
-    ap kept_chars_of (ended t x) ∙ (kept_chars-append (map Found fs) (Ended (end_by_mark x.c) (bytes_in (trim nabc (kept_of t))) ∷ []) ∙ (append-nil (kept_chars_of (map Found fs)) ∙ none_found fs))
+none_at_end t x = grind arith
 
 -- one character more
 one_more : (t : List ℕ) (x : Char) (xs later : List Char) → AreKept (t ++ x.c ∷ []) xs later → AreKept t (x ∷ xs) (kept_chars_of (kept_event t x) ++ later)
-one_more t x xs later h = go (is_character t x.c && is_viable nabc (kept_of t ++ x.c ∷ [])) (kept_here t x)
-  where
-    go : (b : Bool) → (IsKeptAfter t x.c × (cond b (Kept x ∷ []) [] ≡ Kept x ∷ [])) ⊎ ((¬ IsKeptAfter t x.c) × (cond b (Kept x ∷ []) [] ≡ []))
-        → AreKept t (x ∷ xs) (kept_chars_of (cond b (Kept x ∷ []) []) ++ later)
-    go true (inl u) = (later, h, inl (u.0, refl))
-    go true (inr u) = absurd (let e = u.1 in cc)
-    go false (inl u) = absurd (let e = u.1 in cc)
-    go false (inr u) = (later, h, inr (u.0, refl))
+one_more t x xs later h = grind (arith, kept_here)
 
 -- what is kept of the characters before the end, after the text
 kept_on : (t cs : List ℕ) (at : Place) → has_end t ≡ false
@@ -84,13 +64,7 @@ kept_on t (c ∷ cs) at o = go (is_end t c) refl (λ p. kept_on (t ++ c ∷ []) 
 -- the characters that are kept are one list
 kept_once : (t : List ℕ) (xs cs ds : List Char) → AreKept t xs cs → AreKept t xs ds → cs ≡ ds
 kept_once t [] cs ds h k = h ∙ sym k
-kept_once t (x ∷ xs) cs ds (a, h, e) (b, k, f) = go (kept_once (t ++ x.c ∷ []) xs a b h k) e f
-  where
-    go : a ≡ b → (IsKeptAfter t x.c × (cs ≡ x ∷ a)) ⊎ ((¬ IsKeptAfter t x.c) × (cs ≡ a)) → (IsKeptAfter t x.c × (ds ≡ x ∷ b)) ⊎ ((¬ IsKeptAfter t x.c) × (ds ≡ b)) → cs ≡ ds
-    go p (inl u) (inl v) = u.1 ∙ (ap (λ (l : List Char). x ∷ l) p ∙ sym v.1)
-    go p (inl u) (inr v) = absurd (v.0 u.0)
-    go p (inr u) (inl v) = absurd (u.0 v.0)
-    go p (inr u) (inr v) = u.1 ∙ (p ∙ sym v.1)
+kept_once t (x ∷ xs) cs ds (a, h, e) (b, k, f) = grind (arith, kept_once (t ++ x.c ∷ []) xs a b h k)
 
 all_kept : (at : Place) (t : List ℕ) (r : SnippetRead) (h : IsNabcRead at t r) → AreKept [] (placed_characters_from at h.front) (kept_chars_of (concat_of (nabc_events (placed_characters_from at t))))
 all_kept at t r h =

@@ -1,10 +1,10 @@
 -- Laws of the definitions.
 use Rattle.std.proofs.Common.{◌≡◌, ℕ, ◌≤◌, List, [], ◌∷◌, ◌++◌, length, length-append, take, drop, map, Bool, true, false, cond, ◌||◌, refl, sym, ap, ◌∙◌, codes, append-nil, append_assoc, arith}
-use Rattle.gabc_places.specs.declared.code.Code.TheVariants.{E3, E6, W7}
+use Rattle.gabc_places.specs.declared.code.Code.TheVariants.{E3, W7}
 use Rattle.gabc_places.specs.declared.place.Char.{Char}
 use Rattle.gabc_places.specs.StageLaw.{concat_of}
 use Rattle.gabc_patterns.specs.LongestItems.{OneKind, IsSnippet, IsViable, IsItemOf}
-use Rattle.gabc_patterns.specs.Derivative.{run, is_whole, is_snippet, is_viable}
+use Rattle.gabc_patterns.specs.Derivative.{run, is_whole, is_viable}
 use Rattle.gabc_patterns.specs.Function.{trim}
 use Rattle.gabc_patterns.proofs.AutomatonsByTests.{reading, rows_of}
 use Rattle.gabc_patterns.proofs.FunctionsMeetRelations.{trim_trims}
@@ -18,21 +18,20 @@ use Rattle.gabc_patterns.proofs.StatesAfterTexts.{completes}
 use Rattle.gabc_notes.specs.declared.stage.NoteEnd.{NoteEnd}
 use Rattle.gabc_notes.specs.declared.stage.NoteEnd.TheVariants as ending
 use Rattle.gabc_notes.specs.declared.stage.NoteEvent.{NoteEvent}
-use Rattle.gabc_notes.specs.declared.stage.NoteEvent.TheVariants.{Kept, Ended}
+use Rattle.gabc_notes.specs.declared.stage.NoteEvent.TheVariants.{Kept}
 use Rattle.gabc_nabc.specs.Table.{nabc}
 use Rattle.gabc_nabc.specs.Events.{is_character, is_end, has_end, kept_of, first_of, is_missing, events_at, nabc_events_after, nabc_events, bytes_in}
 use Rattle.gabc_notes.specs.Events.{finding_event, end_by_mark}
 use Rattle.gabc_notes.specs.SnippetRead.{ends_of, kept_of as kept_in}
 use Rattle.gabc_nabc.specs.SnippetRead.{before_end_after, before_end, from_end, kept_before, end_before}
 use Rattle.gabc_nabc.specs.declared.state.DescriptorState.{DescriptorState}
-use Rattle.gabc_nabc.specs.declared.state.DescriptorState.TheVariants.{Start, CodeL, CodeP, CodeS, Code, GlyphH, Joined, TailL, TailP, TailS, Points, PointsLetter, Letters, LettersMore, CountedH}
+use Rattle.gabc_nabc.specs.declared.state.DescriptorState.TheVariants.{CodeL, CodeP, CodeS, Code, GlyphH, Joined, TailL, TailP, TailS, Points, PointsLetter, Letters, LettersMore, CountedH}
 use Rattle.gabc_nabc.proofs.machine.MachineReadsTable.{machine, snippets_read, items_read}
 use Rattle.gabc_nabc.proofs.machine.TextWithACharacterMore.{end_more, kept_more, kept_same}
 
 -- at each state at most one kind may end
 once : (s : DescriptorState) → ends_once (rows_of nabc machine s) ≡ true
-once Start = refl
-once _ = refl
+once s = grind arith
 
 -- rows that spell one text are of one kind
 pub kinds_are_one : OneKind nabc
@@ -61,13 +60,11 @@ completion CountedH = codes "a"
 completion _ = []
 
 completed : (s : DescriptorState) → is_whole (run nabc (reading nabc machine s) (completion s)) ≡ true
-completed Start = refl
-completed _ = refl
+completed s = grind arith
 
 -- it is no longer than two characters
 short : (s : DescriptorState) → length (completion s) ≤ 2
-short Start = omega arith
-short _ = omega arith
+short s = grind arith
 
 -- a viable text needs at most two characters more
 pub two_complete : (t : List ℕ) → IsViable nabc t → (more : List ℕ) × (length more ≤ 2) × IsSnippet nabc (t ++ more)
@@ -86,38 +83,21 @@ prefix_stays xs ys zs = prefix_emitted [] xs ys ∙ sym (prefix_emitted [] xs zs
 -- after the end nothing is emitted
 pub silent : (t : List ℕ) (xs : List Char) → has_end t ≡ true → concat_of (nabc_events_after t xs) ≡ []
 silent t [] e = rw e refl
-silent t (x ∷ xs) e =
-    let none : events_at t x ≡ [] = rw e refl in
-    ap (λ (l : List NoteEvent). l ++ concat_of (nabc_events_after (t ++ x.c ∷ []) xs)) none
-    ∙ silent (t ++ x.c ∷ []) xs (end_more t x.c ∙ ap (λ (b : Bool). b || is_end t x.c) e)
+silent t (x ∷ xs) e = cc (silent (t ++ x.c ∷ []) xs (end_more t x.c ∙ ap (λ (b : Bool). b || is_end t x.c) e))
 
 -- at the end nothing is kept
 none_kept : (t : List ℕ) (x : Char) → has_end t ≡ false → is_end t x.c ≡ true → kept_in (events_at t x) ≡ []
-none_kept t x e f = rw (e, f) (go (is_snippet nabc (kept_of t)))
-  where
-    go : (b : Bool) → kept_in (cond b [] (finding_event x.place E6 ∷ []) ++ Ended (end_by_mark x.c) (bytes_in (trim nabc (kept_of t))) ∷ []) ≡ []
-    go true = refl
-    go false = refl
+none_kept t x e f = grind arith
 
 -- before it, what is emitted as kept is what is kept more
 one_kept : (t : List ℕ) (x : Char) → has_end t ≡ false → is_end t x.c ≡ false → kept_of t ++ kept_in (events_at t x) ≡ kept_of (t ++ x.c ∷ [])
 one_kept t x e f = by (is_character t x.c) (is_viable nabc (kept_of t ++ x.c ∷ [])) refl refl
   where
     warned : (b : Bool) → kept_in (Kept x ∷ cond b (finding_event x.place W7 ∷ []) []) ≡ x.c ∷ []
-    warned true = refl
-    warned false = refl
+    warned b = grind arith
 
     by : (a b : Bool) → is_character t x.c ≡ a → is_viable nabc (kept_of t ++ x.c ∷ []) ≡ b → kept_of t ++ kept_in (events_at t x) ≡ kept_of (t ++ x.c ∷ [])
-    by false b h i =
-        let none : events_at t x ≡ [] = rw (e, f, h) refl in
-        ap (λ (l : List NoteEvent). kept_of t ++ kept_in l) none ∙ (append-nil (kept_of t) ∙ sym (kept_same t x.c h))
-    by true false h i =
-        let out : events_at t x ≡ finding_event x.place E3 ∷ [] = rw (e, f, h, i) refl in
-        ap (λ (l : List NoteEvent). kept_of t ++ kept_in l) out ∙ (append-nil (kept_of t) ∙ sym (kept_more t x.c h ∙ rw i refl))
-    by true true h i =
-        let out : events_at t x ≡ Kept x ∷ cond (is_missing (first_of (kept_of t)) x.c) (finding_event x.place W7 ∷ []) [] = rw (e, f, h, i) refl in
-        ap (λ (l : List NoteEvent). kept_of t ++ kept_in l) out
-        ∙ (ap (λ (l : List ℕ). kept_of t ++ l) (warned (is_missing (first_of (kept_of t)) x.c)) ∙ sym (kept_more t x.c h ∙ rw i refl))
+    by a b h i = grind (arith, append-nil, kept_same, kept_more, warned)
 
 all_kept : (xs : List Char) (t : List ℕ) → has_end t ≡ false
     → kept_of t ++ kept_in (concat_of (nabc_events_after t xs)) ≡ kept_of (t ++ before_end_after t (map (λ (x : Char). x.c) xs))
@@ -130,15 +110,7 @@ all_kept (x ∷ xs) t e = go (is_end t x.c) refl (all_kept xs (t ++ x.c ∷ []))
     go : (b : Bool) → is_end t x.c ≡ b
         → (has_end (t ++ x.c ∷ []) ≡ false → kept_of (t ++ x.c ∷ []) ++ kept_in later ≡ kept_of ((t ++ x.c ∷ []) ++ before_end_after (t ++ x.c ∷ []) (map (λ (y : Char). y.c) xs)))
         → kept_of t ++ kept_in (events_at t x ++ later) ≡ kept_of (t ++ cond b [] (x.c ∷ before_end_after (t ++ x.c ∷ []) (map (λ (y : Char). y.c) xs)))
-    go true f more =
-        let none : kept_in (events_at t x ++ later) ≡ [] =
-        kept_append (events_at t x) later ∙ (ap (λ (l : List ℕ). l ++ kept_in later) (none_kept t x e f) ∙ ap kept_in (silent (t ++ x.c ∷ []) xs (end_more t x.c ∙ rw (e, f) refl))) in
-        ap (λ (l : List ℕ). kept_of t ++ l) none ∙ (append-nil (kept_of t) ∙ ap kept_of (sym (append-nil t)))
-    go false f more =
-        ap (λ (l : List ℕ). kept_of t ++ l) (kept_append (events_at t x) later)
-        ∙ (sym (append_assoc (kept_of t) (kept_in (events_at t x)) (kept_in later))
-        ∙ (ap (λ (l : List ℕ). l ++ kept_in later) (one_kept t x e f)
-        ∙ (more (end_more t x.c ∙ rw (e, f) refl) ∙ ap kept_of (append_assoc t (x.c ∷ []) (before_end_after (t ++ x.c ∷ []) (map (λ (y : Char). y.c) xs))))))
+    go b f more = grind (arith, later, kept_append, none_kept, silent, end_more, append-nil, append_assoc, one_kept)
 
 -- what is emitted as kept is what is kept of the text before its end
 pub emitted_kept : (xs : List Char) → kept_in (concat_of (nabc_events xs)) ≡ kept_of (before_end (map (λ (x : Char). x.c) xs))
@@ -148,27 +120,20 @@ emitted_kept xs = all_kept xs [] refl
 
 -- at the end
 pub one_end : (t : List ℕ) (x : Char) → has_end t ≡ false → is_end t x.c ≡ true → ends_of (events_at t x) ≡ (end_by_mark x.c, bytes_in (trim nabc (kept_of t))) ∷ []
-one_end t x e f = rw (e, f) (go (is_snippet nabc (kept_of t)))
-  where
-    go : (b : Bool) → ends_of (cond b [] (finding_event x.place E6 ∷ []) ++ Ended (end_by_mark x.c) (bytes_in (trim nabc (kept_of t))) ∷ []) ≡ (end_by_mark x.c, bytes_in (trim nabc (kept_of t))) ∷ []
-    go true = refl
-    go false = refl
+one_end t x e f = grind arith
 
 -- before it
 pub no_end : (t : List ℕ) (x : Char) → has_end t ≡ false → is_end t x.c ≡ false → ends_of (events_at t x) ≡ []
 no_end t x e f = rw (e, f) (by (is_character t x.c))
   where
     warned : (b : Bool) → ends_of (Kept x ∷ cond b (finding_event x.place W7 ∷ []) []) ≡ []
-    warned true = refl
-    warned false = refl
+    warned b = grind arith
 
     viable : (b : Bool) → ends_of (cond b (Kept x ∷ cond (is_missing (first_of (kept_of t)) x.c) (finding_event x.place W7 ∷ []) []) (finding_event x.place E3 ∷ [])) ≡ []
-    viable true = warned (is_missing (first_of (kept_of t)) x.c)
-    viable false = refl
+    viable b = grind (arith, warned)
 
     by : (b : Bool) → ends_of (cond b (cond (is_viable nabc (kept_of t ++ x.c ∷ [])) (Kept x ∷ cond (is_missing (first_of (kept_of t)) x.c) (finding_event x.place W7 ∷ []) []) (finding_event x.place E3 ∷ [])) []) ≡ []
-    by true = viable (is_viable nabc (kept_of t ++ x.c ∷ []))
-    by false = refl
+    by b = grind (arith, viable)
 
 -- the end that is emitted of these characters after the text
 abbrev end_emitted : List ℕ → List ℕ → List ℕ → List (NoteEnd × ℕ)
@@ -177,31 +142,7 @@ end_emitted t prefix rest = (end_before rest, bytes_in (kept_before (t ++ prefix
 ends_from : (xs : List Char) (t : List ℕ) → has_end t ≡ false
     → ends_of (concat_of (nabc_events_after t xs)) ≡ end_emitted t (before_end_after t (map (λ (x : Char). x.c) xs)) (drop (length (before_end_after t (map (λ (x : Char). x.c) xs))) (map (λ (x : Char). x.c) xs))
 ends_from [] t e = rw e (ap (λ (u : List ℕ). (ending.Cut (record { line = 0; column = 0 }), bytes_in (kept_of u)) ∷ []) (sym (append-nil t)))
-ends_from (x ∷ xs) t e = go (is_end t x.c) refl (ends_from xs (t ++ x.c ∷ []))
-  where
-    later : List NoteEvent
-    later = concat_of (nabc_events_after (t ++ x.c ∷ []) xs)
-
-    cs : List ℕ
-    cs = map (λ (y : Char). y.c) xs
-
-    prefix : Bool → List ℕ
-    prefix b = cond b [] (x.c ∷ before_end_after (t ++ x.c ∷ []) cs)
-
-    go : (b : Bool) → is_end t x.c ≡ b
-        → (has_end (t ++ x.c ∷ []) ≡ false → ends_of later ≡ end_emitted (t ++ x.c ∷ []) (before_end_after (t ++ x.c ∷ []) cs) (drop (length (before_end_after (t ++ x.c ∷ []) cs)) cs))
-        → ends_of (events_at t x ++ later) ≡ end_emitted t (prefix b) (drop (length (prefix b)) (x.c ∷ cs))
-    go true f more =
-        ends_append (events_at t x) later
-        ∙ (ap (λ (l : List (NoteEnd × ℕ)). l ++ ends_of later) (one_end t x e f)
-        ∙ (ap (λ (l : List NoteEvent). (end_by_mark x.c, bytes_in (trim nabc (kept_of t))) ∷ ends_of l) (silent (t ++ x.c ∷ []) xs (end_more t x.c ∙ rw (e, f) refl))
-        ∙ ap (λ (u : List ℕ). (end_by_mark x.c, bytes_in (trim nabc (kept_of u))) ∷ []) (sym (append-nil t))))
-    go false f more =
-        ends_append (events_at t x) later
-        ∙ (ap (λ (l : List (NoteEnd × ℕ)). l ++ ends_of later) (no_end t x e f)
-        ∙ (more (end_more t x.c ∙ rw (e, f) refl)
-        ∙ ap (λ (u : List ℕ). (end_before (drop (length (before_end_after (t ++ x.c ∷ []) cs)) cs), bytes_in (kept_before u (drop (length (before_end_after (t ++ x.c ∷ []) cs)) cs))) ∷ [])
-        (append_assoc t (x.c ∷ []) (before_end_after (t ++ x.c ∷ []) cs))))
+ends_from (x ∷ xs) t e = grind (arith, ends_from xs (t ++ x.c ∷ []), ends_append, one_end, silent, end_more, append-nil, no_end, append_assoc)
 
 -- one end is emitted
 pub end_is_emitted : (xs : List Char)
@@ -218,6 +159,4 @@ bytes_within u (c ∷ cs) =
 -- with at most the bytes of the characters kept
 pub end_within : (xs : List Char)
     → bytes_in (kept_before (before_end (map (λ (x : Char). x.c) xs)) (from_end (map (λ (x : Char). x.c) xs))) ≤ length (encodes (kept_in (concat_of (nabc_events xs))))
-end_within xs =
-    let w = bytes_within (before_end (map (λ (x : Char). x.c) xs)) (from_end (map (λ (x : Char). x.c) xs)) in
-    rw (emitted_kept xs) w
+end_within xs = grind (arith, bytes_within, emitted_kept)

@@ -1,12 +1,12 @@
 -- What is read of a text by relations over the whole of it is what is computed character by character.
-use Rattle.std.proofs.Common.{◌≡◌, ℕ, List, [], ◌∷◌, ◌++◌, Bool, true, false, cond, ◌&&◌, ◌||◌, ◌==◌, not, Option, Some, None, refl, sym, ap, ◌∙◌, subst, append_assoc, append-nil, length, drop, ◌⊎◌, inl, inr, eqb-true}
+use Rattle.std.proofs.Common.{arith, ◌≡◌, ℕ, List, [], ◌∷◌, ◌++◌, Bool, true, false, cond, ◌&&◌, ◌||◌, ◌==◌, not, Option, Some, None, refl, sym, ap, ◌∙◌, subst, append_assoc, append-nil, ◌⊎◌, inl, inr}
 use Rattle.std.proofs.Math.Seq.{drop-append_seam}
 use Rattle.std.proofs.Math.Bool.{or-true}
 use Rattle.std.proofs.lemmas.Bool.{and_parts, or_parts, not-true}
 use Rattle.std.specs.Prelude.{string_bytes}
 use lib.Utf8.{encodes}
 use Rattle.gabc_places.specs.declared.code.Code.{Code}
-use Rattle.gabc_places.specs.declared.code.Code.TheVariants.{E3, E6, W7}
+use Rattle.gabc_places.specs.declared.code.Code.TheVariants.{E3, W7}
 use Rattle.gabc_places.specs.declared.code.Finding.{Finding}
 use Rattle.gabc_places.specs.declared.place.Char.{Char}
 use Rattle.gabc_places.specs.declared.place.Place.{Place}
@@ -22,13 +22,13 @@ use Rattle.gabc_notes.specs.FoundAt.{AreThoseFound}
 use Rattle.gabc_notes.proofs.FoundOnce.{same_finding, found_once}
 use Rattle.gabc_notes.proofs.machine.LoopOverBody.{findings_append}
 use Rattle.gabc_notes.proofs.items_of_text.ItemAtCharacter.{pushed}
-use Rattle.gabc_notes.specs.Events.{finding_event, end_by_mark}
+use Rattle.gabc_notes.specs.Events.{finding_event}
 use Rattle.gabc_notes.specs.SnippetRead.{findings_of}
 use Rattle.gabc_notes.specs.declared.stage.NoteEvent.{NoteEvent}
-use Rattle.gabc_notes.specs.declared.stage.NoteEvent.TheVariants.{Kept, Ended}
+use Rattle.gabc_notes.specs.declared.stage.NoteEvent.TheVariants.{Kept}
 use Rattle.gabc_nabc.specs.Table.{nabc}
 use Rattle.gabc_nabc.specs.Names.{is_known}
-use Rattle.gabc_nabc.specs.Events.{is_character, is_end, has_end_after, has_end, kept_of, begins_code, is_code, last_of, before_last, joins, takes_code, first_after, first_of, is_missing, bytes_in, end_events, character_events, events_at, nabc_events_after}
+use Rattle.gabc_nabc.specs.Events.{is_character, is_end, has_end_after, has_end, kept_of, begins_code, is_code, last_of, before_last, joins, takes_code, first_after, first_of, is_missing, end_events, character_events, events_at, nabc_events_after}
 use Rattle.gabc_nabc.specs.NabcRead.{IsKeptOf, EndsUnknownCode, IsFound, IsFoundAfter, AreFound, IsUnfinished, IsRead, IsNabcRead}
 use Rattle.gabc_nabc.specs.SnippetRead.{before_end_after, before_end, from_end, kept_before, ending_past, IsComputed}
 use Rattle.gabc_notes.specs.declared.snippet_read.SnippetRead.{SnippetRead}
@@ -43,11 +43,7 @@ first_is : (before : List ℕ) (a : ℕ) → first_of (before ++ a ∷ []) ≡ c
 first_is before a = ap (λ (t : List ℕ). first_after (before_last (before ++ a ∷ [])) t) (last_is before a) ∙ ap (λ (t : List ℕ). cond (takes_code t && begins_code a) (Some a) None) (before_last_is before a)
 
 one_of_one : (d e : ℕ) → ((e == d) || false) ≡ true → e ≡ d
-one_of_one d e h = go (e == d) refl h
-  where
-    go : (b : Bool) → (e == d) ≡ b → (b || false) ≡ true → e ≡ d
-    go true f g = eqb-true e d f
-    go false f g = absurd (cc)
+one_of_one d e h = grind arith
 
 begins_to : (before : List ℕ) → takes_code before ≡ true → IsSnippet nabc before ⊎ ((joined : List ℕ) × (before ≡ joined ++ 33 ∷ []))
 begins_to before e = go (is_snippet nabc before) refl e
@@ -62,12 +58,10 @@ begins_to before e = go (is_snippet nabc before) refl e
     ]
 
     go : (b : Bool) → is_snippet nabc before ≡ b → (b || joins before) ≡ true → IsSnippet nabc before ⊎ ((joined : List ℕ) × (before ≡ joined ++ 33 ∷ []))
-    go true f g = inl (snippet_from nabc refl before f)
-    go false f g = inr (ends g)
+    go b f g = grind (arith, snippet_from, ends)
 
 begins_from : (before : List ℕ) → IsSnippet nabc before ⊎ ((joined : List ℕ) × (before ≡ joined ++ 33 ∷ [])) → takes_code before ≡ true
-begins_from before (inl s) = ap (λ (b : Bool). b || joins before) (snippet_to nabc refl before s)
-begins_from before (inr j) = ap (λ (b : Bool). is_snippet nabc before || b) (ap joins j.1 ∙ ap (is_in 33) (last_is j.0 33)) ∙ or-true (is_snippet nabc before)
+begins_from before h = grind (arith, snippet_to, last_is, or-true)
 
 missing_to : (kept : List ℕ) (c : ℕ) → is_missing (first_of kept) c ≡ true → EndsUnknownCode kept c
 missing_to kept c e = elim (pushed kept) [
@@ -107,9 +101,7 @@ kept_keeps t = keep_keeps nabc refl [] _
 
 found_only : (kept : List ℕ) (c : ℕ) (found : Code) → IsFound kept c found
     → ((found ≡ E3) × (¬ IsViable nabc (kept ++ c ∷ []))) ⊎ ((found ≡ W7) × IsViable nabc (kept ++ c ∷ []) × EndsUnknownCode kept c)
-found_only kept c E3 h = inl (refl, h)
-found_only kept c W7 h = inr (refl, h.0, h.1)
-found_only kept c _ h = absurd h
+found_only kept c found h = grind arith
 
 -- what the events at a character report
 pub found_here : (t : List ℕ) (x : Char) → has_end t ≡ false → is_end t x.c ≡ false → AreThoseFound (IsFoundAfter t x) (findings_of (events_at t x))
@@ -117,15 +109,10 @@ found_here t x running no_mark =
     subst (λ (es : List NoteEvent). AreThoseFound (IsFoundAfter t x) (findings_of es)) (sym same) (at_character (is_character t x.c) refl)
   where
     same : events_at t x ≡ cond (is_character t x.c) (character_events (kept_of t) x) []
-    same =
-        ap (λ (b : Bool). cond b [] (cond (is_end t x.c) (end_events (kept_of t) x) (cond (is_character t x.c) (character_events (kept_of t) x) []))) running
-        ∙ ap (λ (b : Bool). cond b (end_events (kept_of t) x) (cond (is_character t x.c) (character_events (kept_of t) x) [])) no_mark
+    same = cc
 
     named : is_viable nabc (kept_of t ++ x.c ∷ []) ≡ true → is_missing (first_of (kept_of t)) x.c ≡ false → (found : Code) (kept : List ℕ) → IsKeptOf t kept → IsFound kept x.c found → ⊥
-    named f g found kept k h = elim (found_only kept x.c found h) [
-      | inl u ↦ u.1 (subst (λ (v : List ℕ). IsViable nabc (v ++ x.c ∷ [])) (sym (kept_is t kept k)) (viable_from nabc refl (kept_of t ++ x.c ∷ []) f))
-      | inr u ↦ (let m = missing_from kept x.c u.2 in let s = ap (λ (v : List ℕ). is_missing (first_of v) x.c) (kept_is t kept k) in absurd (cc))
-    ]
+    named f g found kept k h = grind (arith, found_only, kept_is, viable_from, missing_from)
 
     at_code : is_character t x.c ≡ true → is_viable nabc (kept_of t ++ x.c ∷ []) ≡ true → (b : Bool) → is_missing (first_of (kept_of t)) x.c ≡ b
         → AreThoseFound (IsFoundAfter t x) (findings_of (Kept x ∷ cond b (finding_event x.place W7 ∷ []) []))
@@ -138,17 +125,11 @@ found_here t x running no_mark =
     at_viable e false f = inl (record { place = x.place; code = E3 }, (refl, e, (kept_of t, kept_keeps t, not_viable nabc refl (kept_of t ++ x.c ∷ []) f)), refl)
 
     at_character : (b : Bool) → is_character t x.c ≡ b → AreThoseFound (IsFoundAfter t x) (findings_of (cond b (character_events (kept_of t) x) []))
-    at_character true e = at_viable e (is_viable nabc (kept_of t ++ x.c ∷ [])) refl
-    at_character false e = inr ((λ found h. let f = h.1 in absurd (cc)), refl)
+    at_character b e = grind (arith, at_viable)
 
 -- what the events at a mark report
 pub unfinished_at : (k : List ℕ) (x : Char) → AreThoseFound (IsUnfinished k x.place) (findings_of (end_events k x))
-unfinished_at k x = go (is_snippet nabc k) refl
-  where
-    go : (b : Bool) → is_snippet nabc k ≡ b
-        → AreThoseFound (IsUnfinished k x.place) (findings_of (cond b [] (finding_event x.place E6 ∷ []) ++ Ended (end_by_mark x.c) (bytes_in (trim nabc k)) ∷ []))
-    go true e = inr ((λ f h. h.1 (snippet_from nabc refl k e)), refl)
-    go false e = inl (record { place = x.place; code = E6 }, (refl, no_snippet nabc refl k e), refl)
+unfinished_at k x = grind (arith, snippet_from, no_snippet)
 
 pub unfinished_only : (k : List ℕ) (x : Char) (fs : List Finding) → AreThoseFound (IsUnfinished k x.place) fs → fs ≡ findings_of (end_events k x)
 unfinished_only k x fs h = found_once (IsUnfinished k x.place) (λ f g u v. u.0 ∙ sym v.0) fs (findings_of (end_events k x)) h (unfinished_at k x)
@@ -156,17 +137,7 @@ unfinished_only k x fs h = found_once (IsUnfinished k x.place) (λ f g u v. u.0 
 -- ---- nothing else is so found
 
 pub one_code : (t : List ℕ) (x : Char) (f g : Finding) → IsFoundAfter t x f → IsFoundAfter t x g → f ≡ g
-one_code t x f g h k = same_finding f g (h.0 ∙ sym k.0) (go (found_only h.2.0 x.c f.code h.2.2) (found_only k.2.0 x.c g.code k.2.2))
-  where
-    same : h.2.0 ≡ k.2.0
-    same = kept_is t h.2.0 h.2.1 ∙ sym (kept_is t k.2.0 k.2.1)
-
-    go : ((f.code ≡ E3) × (¬ IsViable nabc (h.2.0 ++ x.c ∷ []))) ⊎ ((f.code ≡ W7) × IsViable nabc (h.2.0 ++ x.c ∷ []) × EndsUnknownCode h.2.0 x.c)
-        → ((g.code ≡ E3) × (¬ IsViable nabc (k.2.0 ++ x.c ∷ []))) ⊎ ((g.code ≡ W7) × IsViable nabc (k.2.0 ++ x.c ∷ []) × EndsUnknownCode k.2.0 x.c) → f.code ≡ g.code
-    go (inl u) (inl v) = u.0 ∙ sym v.0
-    go (inl u) (inr v) = absurd (u.1 (subst (λ (w : List ℕ). IsViable nabc (w ++ x.c ∷ [])) (sym same) v.1))
-    go (inr u) (inl v) = absurd (v.1 (subst (λ (w : List ℕ). IsViable nabc (w ++ x.c ∷ [])) same u.1))
-    go (inr u) (inr v) = u.0 ∙ sym v.0
+one_code t x f g h k = grind (arith, same_finding, found_only, kept_is)
 
 one_found : (t : List ℕ) (xs : List Char) (fs gs : List Finding) → AreFound t xs fs → AreFound t xs gs → fs ≡ gs
 one_found t [] fs gs h k = h ∙ sym k
@@ -201,17 +172,7 @@ record Split (t cs : List ℕ) (at : Place) : Type 0 where
 
 split : (t cs : List ℕ) (at : Place) → has_end t ≡ false → Split t cs at
 unfolding endings StopsAt
-split t [] at running = record {
-  before = [];
-  rest = [];
-  found = [];
-  is_before = refl;
-  cut = refl;
-  unended = ap has_end (append-nil t) ∙ running;
-  finds = refl;
-  all = cut_quiet t;
-  mark = tt;
-}
+split t [] at running = grind (arith, append-nil, cut_quiet)
 split t (c ∷ cs) at running = go (is_end t c) refl (λ r. split (t ++ c ∷ []) cs (next_place at c) r)
   where
     go : (b : Bool) → is_end t c ≡ b → (has_end (t ++ c ∷ []) ≡ false → Split (t ++ c ∷ []) cs (next_place at c)) → Split t (c ∷ cs) at
@@ -256,9 +217,7 @@ split t (c ∷ cs) at running = go (is_end t c) refl (λ r. split (t ++ c ∷ []
 none_ends : (t front before after : List ℕ) (c : ℕ) → has_end_after t front ≡ false → front ≡ before ++ c ∷ after → is_end (t ++ before) c ≡ false
 none_ends t [] [] after c e f = absurd (cc)
 none_ends t [] (d ∷ before) after c e f = absurd (cc)
-none_ends t (d ∷ front) [] after c e f =
-    let g : c ≡ d = cc in
-    ap (λ (u : List ℕ). is_end u c) (append-nil t) ∙ (ap (is_end t) g ∙ (or_parts (is_end t d) (has_end_after (t ++ d ∷ []) front) e).0)
+none_ends t (d ∷ front) [] after c e f = grind (arith, append-nil, or_parts)
 none_ends t (d ∷ front) (b ∷ before) after c e f =
     let g : b ≡ d = cc in
     let h : front ≡ before ++ c ∷ after = cc in
@@ -282,8 +241,7 @@ before_is t (c ∷ front) rest e m =
     ∙ ap (λ (u : List ℕ). c ∷ u) (before_is (t ++ c ∷ []) front rest f.1 (subst (λ (u : List ℕ). StopsAt u rest) (sym (append_assoc t (c ∷ []) front)) m))
 
 rest_is : (t front rest : List ℕ) → before_end t ≡ front → t ≡ front ++ rest → from_end t ≡ rest
-rest_is t front rest e f =
-    ap (λ (u : List ℕ). drop (length u) t) e ∙ (ap (λ (u : List ℕ). drop (length front) u) f ∙ drop-append_seam front rest)
+rest_is t front rest e f = grind (arith, drop-append_seam)
 
 -- ---- both ways
 
@@ -324,11 +282,7 @@ read_by_relations at t r h =
 -- what stands before the mark is what is read
 pub front_is : (at : Place) (t : List ℕ) (r : SnippetRead) (h : IsNabcRead at t r) → before_end t ≡ h.front
 unfolding StopsAt
-front_is at t r h = ap before_end h.cut ∙ before_is [] h.front h.rest (none_end [] h.front h.unended) (stops h.rest h.is_read)
-  where
-    stops : (rest : List ℕ) → IsRead at h.front h.kept h.found rest r → StopsAt h.front rest
-    stops [] i = tt
-    stops (c ∷ rest) i = i.mark
+front_is at t r h = grind (arith, before_is, none_end)
 
 pub relations_are_computed : (at : Place) (t : List ℕ) (r : SnippetRead) → IsNabcRead at t r → IsComputed at t r
 unfolding endings StopsAt
@@ -351,8 +305,7 @@ relations_are_computed at t r h = go h.rest h.cut h.is_read
     text (c ∷ rest) i = i.kept_is ∙ ap encodes (trims_is nabc refl h.kept i.whole i.trims ∙ ap (trim nabc) kept)
 
     how : (rest : List ℕ) → IsRead at h.front h.kept h.found rest r → r.how ≡ ending_past h.front rest
-    how [] i = i.2
-    how (c ∷ rest) i = i.how_is
+    how rest i = grind arith
 
     go : (rest : List ℕ) → t ≡ h.front ++ rest → IsRead at h.front h.kept h.found rest r → IsComputed at t r
     go rest cut i =

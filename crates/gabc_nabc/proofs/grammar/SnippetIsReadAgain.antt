@@ -1,13 +1,13 @@
 -- An NABC snippet in front of its mark is read again as that snippet.
-use Rattle.std.proofs.Common.{◌≡◌, ℕ, suc, List, [], ◌∷◌, ◌++◌, Bool, true, false, cond, ◌||◌, ◌==◌, refl, sym, ap, ◌∙◌, subst, length, take, drop, append-nil, append_assoc, ne_eqb, add-one}
+use Rattle.std.proofs.Common.{arith, ◌≡◌, ℕ, suc, List, [], ◌∷◌, ◌++◌, Bool, true, false, cond, ◌||◌, ◌==◌, refl, sym, ap, ◌∙◌, subst, length, take, drop, append-nil, append_assoc, ne_eqb, add-one}
 use Rattle.std.specs.List.{All}
 use Rattle.std.proofs.Math.Seq.{take-length, drop-append_seam}
-use Rattle.std.proofs.lemmas.List.Elements.{All-nil, All-cons, All-append}
+use Rattle.std.proofs.lemmas.List.Elements.{All-append}
 use Rattle.gabc_notes.proofs.grammar.LawsOfEventsByPoint.{ends_append}
 use Rattle.gabc_notes.proofs.machine.LoopOverBody.{findings_append}
 use Rattle.gabc_notes.proofs.KeptChars.{kept_chars-append}
 use Rattle.gabc_notes.proofs.grammar.SnippetIsReadAgain.{AllWarnings}
-use Rattle.gabc_places.specs.declared.code.Code.TheVariants.{E6, W7}
+use Rattle.gabc_places.specs.declared.code.Code.TheVariants.{W7}
 use Rattle.gabc_places.specs.declared.place.Char.{Char}
 use Rattle.gabc_places.specs.declared.place.Place.{Place}
 use Rattle.gabc_places.specs.Place.{next_place, placed_characters_from}
@@ -23,9 +23,8 @@ use Rattle.gabc_notes.specs.Ends.{IsMarkOf}
 use Rattle.gabc_notes.specs.ReadAgain.{IsWarning}
 use Rattle.gabc_notes.specs.SnippetRead.{kept_chars_of, findings_of, ends_of}
 use Rattle.gabc_notes.specs.declared.stage.NoteEnd.{NoteEnd}
-use Rattle.gabc_notes.specs.declared.stage.NoteEnd.TheVariants.{Next, Close, Cut}
 use Rattle.gabc_notes.specs.declared.stage.NoteEvent.{NoteEvent}
-use Rattle.gabc_notes.specs.declared.stage.NoteEvent.TheVariants.{Kept, Ended}
+use Rattle.gabc_notes.specs.declared.stage.NoteEvent.TheVariants.{Kept}
 use Rattle.gabc_nabc.specs.Table.{nabc}
 use Rattle.gabc_nabc.specs.CharClass.{class_of_character}
 use Rattle.gabc_nabc.specs.witness.DescriptorMachine.{next_state}
@@ -75,25 +74,15 @@ goes_on u c n k v = record {
 
 kept_warns : (b : Bool) (x : Char)
     → (kept_chars_of (Kept x ∷ cond b (finding_event x.place W7 ∷ []) []) ≡ x ∷ []) × AllWarnings (Kept x ∷ cond b (finding_event x.place W7 ∷ []) [])
-kept_warns true x = (refl, All-cons IsWarning (record { place = x.place; code = W7 }) [] refl (All-nil IsWarning))
-kept_warns false x = (refl, All-nil IsWarning)
+kept_warns b x = grind arith
 
 end_warns : (k : List ℕ) (x : Char) → is_snippet nabc k ≡ true → (kept_chars_of (end_events k x) ≡ []) × AllWarnings (end_events k x)
-end_warns k x s = go (is_snippet nabc k) s
-  where
-    events : Bool → List NoteEvent
-    events a = cond a [] (finding_event x.place E6 ∷ []) ++ Ended (end_by_mark x.c) (bytes_in (trim nabc k)) ∷ []
-
-    go : (a : Bool) → a ≡ true → (kept_chars_of (events a) ≡ []) × AllWarnings (events a)
-    go true e = (refl, All-nil IsWarning)
-    go false e = absurd (cc)
+end_warns k x s = grind arith
 
 -- ---- the characters of a snippet, and its mark
 
 pub mark_is : (how : NoteEnd) (c : ℕ) → IsMarkOf true how c → ((c == 41) || (c == 124)) ≡ true
-mark_is Close c e = rw e refl
-mark_is Next c h = rw h.0 refl
-mark_is (Cut place) c h = absurd h
+mark_is how c e = grind arith
 
 -- after the text u: t is read to its mark
 pub record ReadsOn (at : Place) (u t : List ℕ) (mark : ℕ) (rest : List ℕ) : Type 0 where
@@ -107,24 +96,7 @@ pub record ReadsOn (at : Place) (u t : List ℕ) (mark : ℕ) (rest : List ℕ) 
 -- at the mark
 reads_mark : (at : Place) (u : List ℕ) (mark : ℕ) (rest : List ℕ) → ((mark == 41) || (mark == 124)) ≡ true
     → in_comment u ≡ false → has_end u ≡ false → kept_of u ≡ u → is_snippet nabc u ≡ true → ReadsOn at u [] mark rest
-reads_mark at u mark rest m n o k s =
-    let x : Char = record { c = mark; place = at } in
-    let left : List Char = placed_characters_from (next_place at mark) rest in
-    let ends : is_end u mark ≡ true = rw (n, m) refl in
-    let e : events_at u x ≡ end_events (kept_of u) x = rw (o, ends) refl in
-    let w = end_warns (kept_of u) x (ap (is_snippet nabc) k ∙ s) in
-    let all : concat_of (nabc_events_after u (x ∷ left)) ≡ end_events (kept_of u) x =
-    ap (λ (l : List NoteEvent). l ++ concat_of (nabc_events_after (u ++ mark ∷ []) left)) e
-    ∙ (ap (λ (l : List NoteEvent). end_events (kept_of u) x ++ l) (silent (u ++ mark ∷ []) left (end_more u mark ∙ rw (o, ends) refl)) ∙ append-nil (end_events (kept_of u) x)) in
-    record {
-      before = ap (λ (b : Bool). cond b [] (mark ∷ before_end_after (u ++ mark ∷ []) rest)) ends;
-      kept_is = subst (λ (t : List ℕ). kept_of t ≡ t) (sym (append-nil u)) k;
-      chars = ap kept_chars_of all ∙ w.0;
-      unended = refl;
-      ended = ap ends_of (append-nil (events_at u x)) ∙ (one_end u x o ends
-          ∙ (ap (λ (l : List ℕ). (end_by_mark mark, bytes_in (trim nabc l)) ∷ []) (k ∙ sym (append-nil u))));
-      all_warn = subst AllWarnings (sym all) w.1;
-    }
+reads_mark at u mark rest m n o k s = grind (arith, end_warns, silent, end_more, append-nil, one_end)
 
 pub reads_on : (at : Place) (u t : List ℕ) (mark : ℕ) (rest : List ℕ) → ((mark == 41) || (mark == 124)) ≡ true
     → in_comment u ≡ false → has_end u ≡ false → kept_of u ≡ u → IsSnippet nabc (u ++ t) → ReadsOn at u t mark rest

@@ -1,17 +1,17 @@
 -- What is gathered of a stage's events is what the definition says of the text.
-use Rattle.std.proofs.Common.{◌≡◌, ℕ, ◌+◌, ◌<◌, List, [], ◌∷◌, ◌++◌, Bool, true, false, cond, refl, sym, ap, ◌∙◌, append-nil, length, take, get_or, Some}
+use Rattle.std.proofs.Common.{arith, ◌≡◌, ℕ, ◌+◌, ◌<◌, List, [], ◌∷◌, ◌++◌, Bool, true, false, cond, refl, sym, ap, ◌∙◌, append-nil, length, take, get_or, Some}
 use Rattle.std.proofs.lemmas.List.{take_more}
 use Rattle.std.proofs.lemmas.Str.{encodes-append}
 use lib.Utf8.{encode, encodes}
-use Rattle.gabc_places.specs.declared.code.Code.TheVariants.{E3, E6, W7}
+use Rattle.gabc_places.specs.declared.code.Code.TheVariants.{W7}
 use Rattle.gabc_places.specs.declared.code.Finding.{Finding}
 use Rattle.gabc_places.specs.declared.place.Char.{Char}
 use Rattle.gabc_notes.specs.declared.stage.NoteEvent.{NoteEvent}
-use Rattle.gabc_notes.specs.declared.stage.NoteEvent.TheVariants.{Kept, Ended}
-use Rattle.gabc_patterns.specs.Derivative.{is_snippet, is_viable}
+use Rattle.gabc_notes.specs.declared.stage.NoteEvent.TheVariants.{Kept}
+use Rattle.gabc_patterns.specs.Derivative.{is_viable}
 use Rattle.gabc_patterns.specs.Function.{trim}
 use Rattle.gabc_nabc.specs.Table.{nabc}
-use Rattle.gabc_nabc.specs.Events.{is_character, is_end, has_end, kept_of, first_of, is_missing, bytes_in, events_at}
+use Rattle.gabc_nabc.specs.Events.{is_character, is_end, has_end, kept_of, bytes_in, events_at}
 use Rattle.gabc_notes.specs.Events.{finding_event, end_by_mark}
 use Rattle.gabc_notes.specs.SnippetRead.{findings_of}
 use Rattle.gabc_nabc.specs.machine.BuiltNabc.{BuiltNabc, with_event, with_events}
@@ -35,12 +35,7 @@ with_more first now new xs i d h f g =
 -- at the end
 pub gathers_end : (g : BuiltNabc) (t : List ℕ) (x : Char) → has_end t ≡ false → is_end t x.c ≡ true
     → with_events g (events_at t x) ≡ record g { findings = g.findings ++ findings_of (events_at t x); end = Some (end_by_mark x.c, bytes_in (trim nabc (kept_of t))) }
-gathers_end g t x e f = rw (e, f) (go (is_snippet nabc (kept_of t)))
-  where
-    go : (b : Bool) → with_events g (cond b [] (finding_event x.place E6 ∷ []) ++ Ended (end_by_mark x.c) (bytes_in (trim nabc (kept_of t))) ∷ [])
-        ≡ record g { findings = g.findings ++ findings_of (cond b [] (finding_event x.place E6 ∷ []) ++ Ended (end_by_mark x.c) (bytes_in (trim nabc (kept_of t))) ∷ []); end = Some (end_by_mark x.c, bytes_in (trim nabc (kept_of t))) }
-    go true = ap (λ (l : List Finding). record g { findings = l; end = Some (end_by_mark x.c, bytes_in (trim nabc (kept_of t))) }) (sym (append-nil g.findings))
-    go false = refl
+gathers_end g t x e f = grind (arith, append-nil)
 
 -- before it
 pub gathers_on : (g : BuiltNabc) (t : List ℕ) (x : Char) → has_end t ≡ false → is_end t x.c ≡ false → g.kept ≡ encodes (kept_of t)
@@ -62,15 +57,4 @@ gathers_on g t x e f k = by (is_character t x.c) (is_viable nabc (kept_of t ++ x
 
     by : (a b : Bool) → is_character t x.c ≡ a → is_viable nabc (kept_of t ++ x.c ∷ []) ≡ b
         → with_events g (events_at t x) ≡ record g { kept = encodes (kept_of (t ++ x.c ∷ [])); findings = g.findings ++ findings_of (events_at t x) }
-    by false b h i =
-        let none : events_at t x ≡ [] = rw (e, f, h) refl in
-        ap (with_events g) none ∙ (ap (λ (l : List Finding). record g { findings = l }) (sym (append-nil g.findings) ∙ ap (λ (l : List NoteEvent). g.findings ++ findings_of l) (sym none))
-        ∙ same (kept_same t x.c h))
-    by true false h i =
-        let out : events_at t x ≡ finding_event x.place E3 ∷ [] = rw (e, f, h, i) refl in
-        ap (with_events g) out ∙ (ap (λ (l : List NoteEvent). record g { findings = g.findings ++ findings_of l }) (sym out)
-        ∙ same (kept_more t x.c h ∙ rw i refl))
-    by true true h i =
-        let out : events_at t x ≡ Kept x ∷ cond (is_missing (first_of (kept_of t)) x.c) (finding_event x.place W7 ∷ []) [] = rw (e, f, h, i) refl in
-        ap (with_events g) out ∙ (warned (is_missing (first_of (kept_of t)) x.c) (kept_more t x.c h ∙ rw i refl)
-        ∙ ap (λ (l : List NoteEvent). record g { kept = encodes (kept_of (t ++ x.c ∷ [])); findings = g.findings ++ findings_of l }) (sym out))
+    by a b h i = grind (arith, append-nil, same, kept_same, kept_more, warned)

@@ -10,7 +10,7 @@ use Rattle.gabc_patterns.specs.Pattern.{is_in}
 use Rattle.gabc_patterns.specs.Derivative.{is_snippet, is_viable, is_alive}
 use Rattle.gabc_patterns.specs.Function.{trim}
 use Rattle.gabc_patterns.proofs.AutomatonsByTests.{below, below_at, alike, alike_equal, reading_of}
-use Rattle.gabc_patterns.proofs.StatesAfterTexts.{Stands, stands_first, stands_next, whole_is}
+use Rattle.gabc_patterns.proofs.StatesAfterTexts.{Stands, stands_next, whole_is}
 use Rattle.gabc_patterns.proofs.StatesFollowExamples.{viable_next}
 use Rattle.gabc_nabc.specs.Table.{nabc}
 use Rattle.gabc_nabc.specs.CharClass.{class_of_character}
@@ -41,8 +41,7 @@ abbrev pub letters_agree : DescriptorState → ℕ → Bool
 letters_agree s c = letters_agree_at s (next_state s (class_of_character c)) c
 
 pub letters_checked : (s : DescriptorState) → below 129 (letters_agree s) ≡ true
-letters_checked Start = refl
-letters_checked _ = refl
+letters_checked s = grind arith
 
 begins_far : (c : ℕ) → 128 ≤ c → begins_code c ≡ false
 begins_far c h = grind (arith, nat_tests)
@@ -80,16 +79,7 @@ pub record Reached (t : List ℕ) (st : NabcStage) : Type 0 where
 -- a character more that is not kept
 pub stays : (t : List ℕ) (st : NabcStage) (c : ℕ) → Reached t st → is_end t c ≡ false → kept_of (t ++ c ∷ []) ≡ kept_of t
     → Reached (t ++ c ∷ []) (record st { comment = comment_in st.comment c })
-stays t st c r e same = record {
-  running = r.running;
-  unended = end_more t c ∙ (ap (λ (b : Bool). b || is_end t c) r.unended ∙ e);
-  comment = ap (λ (b : Bool). comment_in b c) r.comment ∙ sym (comment_more t c);
-  stands = subst (Stands nabc machine st.state) (sym same) r.stands;
-  kept = r.kept ∙ ap bytes_in (sym same);
-  whole = r.whole ∙ ap (λ (u : List ℕ). bytes_in (trim nabc u)) (sym same);
-  first = ap first_of same ∙ r.first;
-  joined = ap joins same ∙ r.joined;
-}
+stays t st c r e same = grind (arith, end_more, comment_more)
 
 -- a character is viable where there is a next state
 pub viable_at_next : (t : List ℕ) (st : NabcStage) (c : ℕ) (o : Option DescriptorState) → Reached t st → next_state st.state (class_of_character c) ≡ o
@@ -97,8 +87,7 @@ pub viable_at_next : (t : List ℕ) (st : NabcStage) (c : ℕ) (o : Option Descr
 viable_at_next t st c o r n = viable_next nabc machine snippets_read st.state (kept_of t) c r.stands ∙ (ap (λ (p : Option DescriptorState). is_alive (reading_of nabc machine p)) n ∙ go o)
   where
     go : (p : Option DescriptorState) → is_alive (reading_of nabc machine p) ≡ is_some p
-    go None = refl
-    go (Some z) = snippets_read.alive z
+    go p = grind arith
 
 -- a character more that is kept
 pub goes_on : (t : List ℕ) (st : NabcStage) (c : ℕ) (z : DescriptorState) → Reached t st → is_end t c ≡ false → is_character t c ≡ true
@@ -129,8 +118,7 @@ goes_on t st c z r e f n =
     }
   where
     go : (v w : List ℕ) (k l : ℕ) (b : Bool) → k ≡ bytes_in v → l ≡ bytes_in w → cond b k l ≡ bytes_in (cond b v w)
-    go v w k l true p q = p
-    go v w k l false p q = q
+    go v w k l b p q = grind arith
 
 -- ---- what is emitted
 
@@ -147,17 +135,13 @@ after_end t st (x ∷ xs) e f =
 -- a character, and what follows it
 one : (t : List ℕ) (st next : NabcStage) (x : Char) (xs : List Char) → stage_events_at st x ≡ events_at t x → stage_after st x.c ≡ next
     → events_left next xs ≡ nabc_events_after (t ++ x.c ∷ []) xs → events_left st (x ∷ xs) ≡ nabc_events_after t (x ∷ xs)
-one t st next x xs g s h =
-    ap (λ (l : List NoteEvent). l ∷ events_left (stage_after st x.c) xs) g
-    ∙ ap (λ (l : List (List NoteEvent)). events_at t x ∷ l) (ap (λ (n : NabcStage). events_left n xs) s ∙ h)
+one t st next x xs g s h = cc
 
 one_if : (b : Bool) (y : NoteEvent) → option_to_list (cond b (Some y) None) ≡ cond b (y ∷ []) []
-one_if true y = refl
-one_if false y = refl
+one_if b y = grind arith
 
 one_unless : (b : Bool) (y : NoteEvent) → option_to_list (cond b None (Some y)) ≡ cond b [] (y ∷ [])
-one_unless true y = refl
-one_unless false y = refl
+one_unless b y = grind arith
 
 -- a stage that knows what it needs of a text emits what follows it
 pub goes_on_emitted : (xs : List Char) (t : List ℕ) (st : NabcStage) → Reached t st → events_left st xs ≡ nabc_events_after t xs
@@ -224,16 +208,7 @@ abbrev pub fresh_stage : NabcStage
 fresh_stage = record { state = Start; letter = 47; comment = false; kept = 0; whole = 0; ended = false }
 
 pub fresh_reached : Reached [] fresh_stage
-fresh_reached = record {
-  running = refl;
-  unended = refl;
-  comment = refl;
-  stands = stands_first nabc machine snippets_read;
-  kept = refl;
-  whole = refl;
-  first = refl;
-  joined = refl;
-}
+fresh_reached = grind arith
 
 pub fresh : (xs : List Char) → events_left fresh_stage xs ≡ nabc_events_after [] xs
 fresh xs = goes_on_emitted xs [] fresh_stage fresh_reached

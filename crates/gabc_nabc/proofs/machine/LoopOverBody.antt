@@ -11,19 +11,18 @@ use Rattle.gabc_places.proofs.texts.CharactersOfStrings.{scalars_split}
 use Rattle.gabc_places.specs.declared.code.Finding.{Finding}
 use Rattle.gabc_places.specs.declared.place.Char.{Char}
 use Rattle.gabc_places.specs.declared.place.Place.{Place}
-use Rattle.gabc_places.specs.Place.{next_place, is_line_feed, placed_characters_from}
+use Rattle.gabc_places.specs.Place.{next_place, placed_characters_from}
 use Rattle.gabc_places.specs.StageLaw.{concat_of}
 use Rattle.gabc_notes.specs.declared.snippet_read.SnippetEnding.{SnippetEnding}
 use Rattle.gabc_notes.specs.declared.snippet_read.SnippetEnding.TheVariants as snippet_ending
 use Rattle.gabc_notes.specs.declared.stage.NoteEnd.{NoteEnd}
 use Rattle.gabc_notes.specs.declared.stage.NoteEnd.TheVariants as ending
 use Rattle.gabc_notes.specs.declared.stage.NoteEvent.{NoteEvent}
-use Rattle.gabc_notes.specs.declared.stage.NoteEvent.TheVariants.{Ended}
 use Rattle.gabc_patterns.specs.Derivative.{is_viable}
 use Rattle.gabc_patterns.specs.Function.{trim, keep_from}
 use Rattle.gabc_patterns.proofs.FunctionsMeetRelations.{trim_trims}
 use Rattle.gabc_nabc.specs.Table.{nabc}
-use Rattle.gabc_nabc.specs.Events.{is_character, is_end, has_end, characters_after, kept_of, bytes_in, events_at, nabc_events_after, cut_events, nabc_events}
+use Rattle.gabc_nabc.specs.Events.{is_end, has_end, characters_after, kept_of, bytes_in, events_at, nabc_events_after, nabc_events}
 use Rattle.gabc_notes.specs.Events.{end_by_mark}
 use Rattle.gabc_notes.specs.SnippetRead.{findings_of, ending_at}
 use Rattle.gabc_nabc.specs.SnippetRead.{before_end_after, before_end, from_end, kept_before, ending_past}
@@ -40,12 +39,7 @@ none_longer c cs = length-append (encode c) (encodes cs) ∙ ap (λ (n : ℕ). n
 
 characters_short : (s cs : List ℕ) → length (encodes (characters_after s cs)) ≤ length (encodes cs)
 characters_short s [] = omega arith
-characters_short s (c ∷ cs) = go (is_character s c) (characters_short (s ++ c ∷ []) cs)
-  where
-    go : (b : Bool) → length (encodes (characters_after (s ++ c ∷ []) cs)) ≤ length (encodes cs)
-        → length (encodes (cond b (c ∷ characters_after (s ++ c ∷ []) cs) (characters_after (s ++ c ∷ []) cs))) ≤ length (encodes (c ∷ cs))
-    go true h = omega (arith, h, none_longer c (characters_after (s ++ c ∷ []) cs), none_longer c cs)
-    go false h = omega (arith, h, none_longer c cs)
+characters_short s (c ∷ cs) = grind (arith, none_longer, characters_short (s ++ c ∷ []) cs)
 
 keep_short : (kept cs : List ℕ) → length (encodes (keep_from nabc kept cs)) ≤ length (encodes kept) + length (encodes cs)
 keep_short kept [] = omega arith
@@ -53,10 +47,7 @@ keep_short kept (c ∷ cs) = go (is_viable nabc (kept ++ c ∷ [])) (λ u. keep_
   where
     go : (b : Bool) → ((u : List ℕ) → length (encodes (keep_from nabc u cs)) ≤ length (encodes u) + length (encodes cs))
         → length (encodes (keep_from nabc (cond b (kept ++ c ∷ []) kept) cs)) ≤ length (encodes kept) + length (encodes (c ∷ cs))
-    go true h =
-        let e = ap length (encodes-append kept (c ∷ [])) in
-        omega (arith, h (kept ++ c ∷ []), e, length-append (encodes kept) (encodes (c ∷ [])), none_longer c [], none_longer c cs)
-    go false h = omega (arith, h kept, none_longer c cs)
+    go b h = grind (arith, encodes-append, length-append, none_longer)
 
 kept_short : (t : List ℕ) → length (encodes (kept_of t)) ≤ length (encodes t)
 kept_short t = omega (arith, keep_short [] (characters_after [] t), characters_short [] t)
@@ -65,10 +56,7 @@ kept_short t = omega (arith, keep_short [] (characters_after [] t), characters_s
 
 quiet : (t : List ℕ) (xs : List Char) → has_end t ≡ true → findings_of (concat_of (nabc_events_after t xs)) ≡ []
 quiet t [] e = rw e refl
-quiet t (x ∷ xs) e =
-    let none : events_at t x ≡ [] = rw e refl in
-    ap (λ (l : List NoteEvent). findings_of (l ++ concat_of (nabc_events_after (t ++ x.c ∷ []) xs))) none
-    ∙ quiet (t ++ x.c ∷ []) xs (end_more t x.c ∙ ap (λ (b : Bool). b || is_end t x.c) e)
+quiet t (x ∷ xs) e = cc (quiet (t ++ x.c ∷ []) xs (end_more t x.c ∙ ap (λ (b : Bool). b || is_end t x.c) e))
 
 -- ---- the loop
 
@@ -98,11 +86,7 @@ events_here done st x h = ap first_list (h (x ∷ []))
 findings_on : (g now : BuiltNabc) (done cs : List ℕ) (x : Char) → now.findings ≡ g.findings ++ findings_of (events_at done x)
     → now.findings ++ findings_of (concat_of (nabc_events_after (done ++ x.c ∷ []) (placed_characters_from (next_place x.place x.c) cs)))
     ≡ g.findings ++ findings_of (concat_of (nabc_events_after done (x ∷ placed_characters_from (next_place x.place x.c) cs)))
-findings_on g now done cs x e =
-    let later : List NoteEvent = concat_of (nabc_events_after (done ++ x.c ∷ []) (placed_characters_from (next_place x.place x.c) cs)) in
-    ap (λ (l : List Finding). l ++ findings_of later) e
-    ∙ (append_assoc g.findings (findings_of (events_at done x)) (findings_of later)
-    ∙ ap (λ (l : List Finding). g.findings ++ l) (sym (findings_append (events_at done x) later)))
+findings_on g now done cs x e = grind (arith, append_assoc, findings_append)
 
 -- a character that does not end the snippet
 pub goes_on : (at : Place) (t done cs : List ℕ) (place then : Place) (c : ℕ) (st next : NabcStage) (g now : BuiltNabc) (index later : ℕ)
@@ -137,28 +121,12 @@ goes_on at t done cs place then c st next g now index later r e f n p i = go (is
 -- the bytes of a character fit
 pub fits : (at : Place) (t done cs : List ℕ) (place : Place) (c : ℕ) (st : NabcStage) (g : BuiltNabc) (index : ℕ) → Reaches at t done (c ∷ cs) place st g index
     → index + len_utf8 c + length (encodes cs) ≡ length (encodes t)
-fits at t done cs place c st g index r =
-    let e = ap (λ (u : List ℕ). length (encodes u)) (sym r.cut) in
-    let f = ap length (encodes-append done (c ∷ cs)) in
-    let i = r.counted in
-    omega (arith, e, f, i, length-append (encodes done) (encodes (c ∷ cs)), none_longer c cs)
-
-abbrev place_if : Place → Bool → Place
-place_if p true = record { line = p.line + 1; column = 1 }
-place_if p false = record { line = p.line; column = p.column + 1 }
-
-placed_if : (p : Place) (b : Bool) → cond b (record { line = p.line + 1; column = 1 }) (record { line = p.line; column = p.column + 1 }) ≡ place_if p b
-placed_if p true = refl
-placed_if p false = refl
+fits at t done cs place c st g index r = grind (arith, encodes-append, length-append, none_longer)
 
 -- the place of the next character fits
 pub place_fits : (p next : Place) (c n m k : ℕ) → p.line + n < 2 ^ 64 → p.column + n < 2 ^ 64 → n ≡ k + m → 1 ≤ k → next ≡ next_place p c
     → (next.line + m < 2 ^ 64) × (next.column + m < 2 ^ 64)
-place_fits p next c n m k l h e f g = rw (g ∙ placed_if p (is_line_feed c)) (go (is_line_feed c))
-  where
-    go : (b : Bool) → ((place_if p b).line + m < 2 ^ 64) × ((place_if p b).column + m < 2 ^ 64)
-    go true = (omega arith, omega arith)
-    go false = (omega arith, omega arith)
+place_fits p next c n m k l h e f g = grind arith
 
 -- What is known at the end of the snippet.
 pub record Ends (at : Place) (t kept : List ℕ) (found : List Finding) (way : SnippetEnding) : Type 0 where
@@ -169,19 +137,7 @@ pub record Ends (at : Place) (t kept : List ℕ) (found : List Finding) (way : S
 -- the end of the text
 pub cut_open : (at : Place) (t done : List ℕ) (place : Place) (st : NabcStage) (g now : BuiltNabc) (index : ℕ) → Reaches at t done [] place st g index
     → now ≡ with_events g (events_of_cut st) → Ends at t now.kept now.findings (snippet_ending.Cut (record { line = 0; column = 0 }))
-cut_open at t done place st g now index r f =
-    let whole : done ≡ t = sym (append-nil done) ∙ r.cut in
-    let prefix : before_end t ≡ done = r.prefix ∙ append-nil done in
-    let from : from_end t ≡ [] = ap (λ (u : List ℕ). drop (length u) t) (prefix ∙ whole) ∙ drop_all (length t) t (omega arith) in
-    let emitted : events_of_cut st ≡ cut_events done = ap first_list (r.follows []) in
-    let events : cut_events done ≡ Ended (ending.Cut (record { line = 0; column = 0 })) (bytes_in (kept_of done)) ∷ [] = rw r.unended refl in
-    let on : now ≡ record g { end = Some (ending.Cut (record { line = 0; column = 0 }), bytes_in (kept_of done)) } = f ∙ ap (with_events g) (emitted ∙ events) in
-    let kept : now.kept ≡ encodes (kept_of done) = ap (λ (y : BuiltNabc). y.kept) on ∙ r.kept in
-    record {
-      kept_is = kept ∙ rw (from, prefix) refl;
-      findings_are = ap (λ (y : BuiltNabc). y.findings) on ∙ (sym (append-nil g.findings) ∙ (ap (λ (o : List NoteEvent). g.findings ++ findings_of (o ++ [])) (sym events) ∙ r.findings));
-      how_is = rw from refl;
-    }
+cut_open at t done place st g now index r f = grind (arith, append-nil, drop_all)
 
 abbrev way_of : Option (NoteEnd × ℕ) → NoteEnd
 way_of None = ending.Close
@@ -219,8 +175,7 @@ ends at t done cs place c st g now index len end r f n u small = go (is_end done
     events_now = f ∙ ap (with_events g) (events_here done st x r.follows)
 
     way_same : (b : Bool) → (c == 124) ≡ b → ending_at (cond b ending.Next ending.Close) index ≡ cond b (snippet_ending.Next (length (encodes done))) (snippet_ending.Close (length (encodes done)))
-    way_same true h = ap snippet_ending.Next r.counted
-    way_same false h = ap snippet_ending.Close r.counted
+    way_same b h = grind arith
 
     go : (b : Bool) → is_end done c ≡ b → IsCharBoundary now.kept len × Ends at t (take len now.kept) now.findings (ending_at end index)
     go false h = absurd (let k = sym r.opened ∙ (sym (ap (λ (y : BuiltNabc). y.end) (events_now ∙ gathers_on g done x r.unended h r.kept)) ∙ n) in cc)

@@ -1,5 +1,5 @@
 -- A regular snippet of NABC is read by its bytes: each of its characters is of ASCII.
-use Rattle.std.proofs.Common.{◌≡◌, ◌==◌, ◌&&◌, not, map, cond, Option, ◌<◌, ◌≤◌, ◌+◌, ◌⊎◌, inl, inr, ℕ, zero, suc, nat_lt, List, [], ◌∷◌, ◌++◌, Bool, true, false, length, length-drop, take, drop, get_or, encode_utf8_all, refl, sym, ap, subst, ◌∙◌, arith, None, Some, IsUtf8}
+use Rattle.std.proofs.Common.{◌≡◌, ◌==◌, ◌&&◌, not, map, cond, Option, ◌<◌, ◌≤◌, ◌+◌, ◌⊎◌, inl, inr, ℕ, List, [], ◌∷◌, ◌++◌, Bool, true, false, length, length-drop, take, drop, get_or, encode_utf8_all, refl, sym, ap, subst, ◌∙◌, arith, None, Some, IsUtf8}
 use Rattle.std.specs.List.{list_all}
 use Rattle.std.specs.Prelude.{is_some}
 use Rattle.std.specs.Str.{chars, IsAscii}
@@ -29,25 +29,16 @@ other_above : (c : ℕ) → 128 ≤ c → class_of_character c ≡ Other
 other_above c h = grind (arith, nat_tests)
 
 low_or_high : (c : ℕ) → (c < 128) ⊎ (128 ≤ c)
-low_or_high c = by (nat_lt c 128) refl
-  where
-    by : (b : Bool) → nat_lt c 128 ≡ b → (c < 128) ⊎ (128 ≤ c)
-    by true e = inl (grind (arith, nat_tests))
-    by false e = inr (grind (arith, nat_tests))
+low_or_high c = grind arith
 
 stops_above : (r : RegularState) (c : ℕ) → 128 ≤ c → regular_after r c ≡ None
 stops_above r c h = sym (foreign_stops r c (other_above c h))
 
 kept_low : (r next : RegularState) (c : ℕ) → regular_after r c ≡ Some next → c < 128
-kept_low r next c e = by (low_or_high c)
-  where
-    by : (c < 128) ⊎ (128 ≤ c) → c < 128
-    by (inl low) = low
-    by (inr high) = (let f : None ≡ Some next = sym (stops_above r c high) ∙ e in absurd (cc))
+kept_low r next c e = grind (arith, low_or_high, stops_above)
 
 one_ascii : (c : ℕ) → c < 128 → IsAscii (c ∷ [])
-one_ascii c h zero = h
-one_ascii c h (suc i) = omega arith
+one_ascii c h i = grind arith
 
 -- ---- the first bytes of a text
 
@@ -59,12 +50,7 @@ pub record IsReadByBytes (text : List ℕ) (state : RegularState) (n regular : �
   pub longest : IsLongestSoFar IsRegular (take n text) regular
 
 pub read_none : (text : List ℕ) → IsReadByBytes text (record { part = Start; letter = 47 }) 0 0
-read_none text = record {
-  within = omega arith;
-  ascii = λ i. omega arith;
-  reads = reads_first;
-  longest = longest_first IsRegular (reads_regular [] _ reads_first refl);
-}
+read_none text = grind (arith, reads_first, longest_first, reads_regular)
 
 -- a byte more
 module _ (text : List ℕ) (state next : RegularState) (n regular : ℕ) (h : IsReadByBytes text state n regular) (less : n < length text) (after : regular_after state (get_or text n 0) ≡ Some next) where
@@ -78,9 +64,7 @@ module _ (text : List ℕ) (state next : RegularState) (n regular : ℕ) (h : Is
   reads_on = reads_more (take n text) state next (get_or text n 0) h.reads after
 
   bytes_on : length (encode_utf8_all (take n text ++ get_or text n 0 ∷ [])) ≡ n + 1
-  bytes_on =
-      ap (λ (l : List ℕ). length (encode_utf8_all l)) (sym parts)
-      ∙ (ap (λ (l : List ℕ). length l) (encodes-IsAscii (take (n + 1) text) ascii_on) ∙ length-take-le (n + 1) text (omega (arith, less)))
+  bytes_on = grind (arith, encode_utf8_all, parts, encodes-IsAscii, ascii_on, length-take-le)
 
   pub read_whole : whole_at next.part ≡ true → IsReadByBytes text next (n + 1) (n + 1)
   read_whole ends = record {

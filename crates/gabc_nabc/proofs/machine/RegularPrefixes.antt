@@ -1,5 +1,5 @@
 -- The reading of regular NABC snippets: where it goes on each character is kept and nothing is found, and where it does not, what begins so is not regular.
-use Rattle.std.proofs.Common.{◌≡◌, ℕ, List, [], ◌∷◌, ◌++◌, Bool, true, false, refl, sym, ap, subst, ◌∙◌, Option, Some, None, append_assoc, if◌then◌else◌}
+use Rattle.std.proofs.Common.{arith, ◌≡◌, ℕ, List, [], ◌∷◌, ◌++◌, Bool, true, false, refl, sym, ap, subst, ◌∙◌, Option, Some, None, append_assoc, if◌then◌else◌}
 use Rattle.std.proofs.lemmas.List.{append_cancel_left, map-append}
 use Rattle.gabc_places.specs.declared.code.Code.TheVariants.{W7}
 use Rattle.gabc_places.specs.declared.place.Char.{Char}
@@ -7,8 +7,7 @@ use Rattle.gabc_places.specs.declared.place.Place.{Place}
 use Rattle.gabc_places.specs.Place.{next_place, place_past, placed_characters_from}
 use Rattle.gabc_places.proofs.PlacesOfAText.{placed_append}
 use Rattle.gabc_patterns.specs.LongestItems.{IsSnippet, IsViable}
-use Rattle.gabc_patterns.specs.Derivative.{is_snippet, is_viable}
-use Rattle.gabc_patterns.specs.Function.{trim}
+use Rattle.gabc_patterns.specs.Derivative.{is_viable}
 use Rattle.gabc_patterns.proofs.FunctionsMeetRelations.{snippet_decides, trim_snippet, viable_decides}
 use Rattle.gabc_patterns.proofs.KeptTextIsKeptAgain.{snippet_viable, viable_prefix}
 use Rattle.gabc_patterns.proofs.StatesAfterTexts.{Stands, left_out, whole_is, whole_at as snippet_at}
@@ -16,12 +15,12 @@ use Rattle.gabc_notes.specs.Ends.{IsMarkOf}
 use Rattle.gabc_notes.specs.Events.{end_by_mark, finding_event}
 use Rattle.gabc_notes.specs.Regular.{each_kept, only_kept}
 use Rattle.gabc_notes.specs.declared.stage.NoteEnd.{NoteEnd}
-use Rattle.gabc_notes.specs.declared.stage.NoteEnd.TheVariants.{Next, Close, Cut}
+use Rattle.gabc_notes.specs.declared.stage.NoteEnd.TheVariants.{Close}
 use Rattle.gabc_notes.specs.declared.stage.NoteEvent.{NoteEvent}
 use Rattle.gabc_notes.specs.declared.stage.NoteEvent.TheVariants.{Kept, Ended}
 use Rattle.gabc_nabc.specs.CharClass.{class_of_character}
 use Rattle.gabc_nabc.specs.Table.{nabc}
-use Rattle.gabc_nabc.specs.Events.{bytes_in, events_at, has_end, in_comment, is_end, is_missing, kept_of, nabc_events, nabc_events_after}
+use Rattle.gabc_nabc.specs.Events.{bytes_in, events_at, in_comment, is_missing, kept_of, nabc_events, nabc_events_after}
 use Rattle.gabc_nabc.specs.Regular.{IsRegular}
 use Rattle.gabc_nabc.specs.machine.Regular.{regular_after, regular_by}
 use Rattle.gabc_nabc.specs.witness.DescriptorMachine.{first_at, next_state, whole_at}
@@ -48,14 +47,7 @@ pub record Reads (t : List ℕ) (r : RegularState) : Type 0 where
   pub events : (at : Place) (xs : List Char) → nabc_events (placed_characters_from at t ++ xs) ≡ each_kept (placed_characters_from at t) ++ nabc_events_after t xs
 
 pub reads_first : Reads [] (record { part = Start; letter = 47 })
-reads_first = record {
-  st = fresh_stage;
-  reached = fresh_reached;
-  no_comment = refl;
-  kept = refl;
-  is = refl;
-  events = λ at xs. refl;
-}
+reads_first = grind (arith, fresh_stage, fresh_reached)
 
 module _ (t : List ℕ) (r : RegularState) (h : Reads t r) where
   pub stands : Stands nabc machine h.st.state t
@@ -108,32 +100,10 @@ reads_more t r after c h e = by (next_state h.st.state (class_of_character c)) r
 -- ---- where it may end
 
 mark_ends : (how : NoteEnd) (mark : ℕ) → IsMarkOf true how mark → end_by_mark mark ≡ how
-mark_ends Close mark e = ap end_by_mark e
-mark_ends Next mark h = ap end_by_mark h.0
-mark_ends (Cut place) mark h = absurd h
+mark_ends how mark e = grind arith
 
 pub reads_regular : (t : List ℕ) (r : RegularState) → Reads t r → whole_at r.part ≡ true → IsRegular t
-reads_regular t r h e = record {
-  snippet = is;
-  events = λ at how mark m.
-      let x : Char = record { c = mark; place = place_past at t } in
-      let ends : is_end t mark ≡ true = rw (h.no_comment, mark_is how mark m) refl in
-      let over : has_end (t ++ mark ∷ []) ≡ true = end_more t mark ∙ rw (h.reached.unended, ends) refl in
-      let here : events_at t x ≡ Ended (end_by_mark mark) (bytes_in (trim nabc (kept_of t))) ∷ [] = rw (h.reached.unended, ends, ap (is_snippet nabc) h.kept ∙ whole) refl in
-      ap nabc_events (placed_append at t (mark ∷ []))
-      ∙ (h.events at (x ∷ [])
-      ∙ ap (λ (l : List NoteEvent). each_kept (placed_characters_from at t) ++ l ∷ nabc_events_after (t ++ mark ∷ []) [])
-      (here ∙ ap (λ (k : NoteEnd). Ended k (bytes_in (trim nabc (kept_of t))) ∷ []) (mark_ends how mark m)
-      ∙ ap (λ (u : List ℕ). Ended how (bytes_in (trim nabc u)) ∷ []) h.kept
-      ∙ ap (λ (u : List ℕ). Ended how (bytes_in u) ∷ []) (trim_snippet nabc refl t is))
-      ∙ ap (λ (b : Bool). each_kept (placed_characters_from at t) ++ (Ended how (bytes_in t) ∷ []) ∷ ((if b then [] else Ended (Cut (record { line = 0; column = 0 })) (bytes_in (kept_of (t ++ mark ∷ []))) ∷ []) ∷ [])) over);
-}
-  where
-    is : IsSnippet nabc t
-    is = snippet_at nabc machine snippets_read h.st.state t (stands t r h) (ap (λ (q : RegularState). whole_at q.part) (sym h.is) ∙ e)
-
-    whole : is_snippet nabc t ≡ true
-    whole = (snippet_decides nabc refl t).1 is
+reads_regular t r h e = grind (arith, mark_is, end_more, placed_append, mark_ends, trim_snippet, snippet_at, snippets_read, stands, snippet_decides)
 
 -- ---- where it may not, and where it does not go on
 

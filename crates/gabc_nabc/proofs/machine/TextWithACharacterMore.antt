@@ -1,12 +1,10 @@
 -- What is said of a text, when a character stands after it.
-use Rattle.std.proofs.Common.{◌≡◌, ℕ, ◌-◌, List, [], ◌∷◌, ◌++◌, Bool, true, false, cond, not, ◌&&◌, ◌||◌, ◌==◌, refl, sym, ap, ◌∙◌, length, take, drop, append_assoc, append-nil, length-append, arith}
+use Rattle.std.proofs.Common.{◌≡◌, ℕ, ◌-◌, List, [], ◌∷◌, ◌++◌, Bool, true, false, cond, not, ◌&&◌, ◌||◌, sym, ap, ◌∙◌, length, take, drop, append_assoc, append-nil, length-append, arith}
 use Rattle.std.proofs.lemmas.List.Folds.{list_any-append}
 use Rattle.std.proofs.Math.Seq.{take-append_seam, drop-append_seam}
 use Rattle.std.proofs.lemmas.Str.{encodes-append, length-encode}
 use Rattle.std.proofs.Math.Bool.{or-false}
-use lib.Utf8.{encode, encodes}
 use Rattle.gabc_patterns.specs.LongestItems.{Table}
-use Rattle.gabc_patterns.specs.Pattern.{is_in}
 use Rattle.gabc_patterns.specs.Derivative.{is_snippet, is_viable}
 use Rattle.gabc_patterns.specs.Function.{keep, trim, trim_from}
 use Rattle.gabc_patterns.proofs.FunctionsMeetRelations.{keep_append}
@@ -21,21 +19,15 @@ comment_step percent feed later has opened = grind arith
 -- whether a comment is open
 pub comment_more : (t : List ℕ) (c : ℕ) → in_comment (t ++ c ∷ []) ≡ comment_in (in_comment t) c
 comment_more [] c = grind arith
-comment_more (d ∷ t) c =
-    ap (λ (b : Bool). ((d == 37) && not b) || in_comment (t ++ c ∷ [])) (list_any-append (λ (x : ℕ). x == 10) t (c ∷ []))
-    ∙ (ap (λ (b : Bool). ((d == 37) && not (is_in 10 t || is_in 10 (c ∷ []))) || b) (comment_more t c)
-    ∙ comment_step (d == 37) (c == 10) (c == 37) (is_in 10 t) (in_comment t))
+comment_more (d ∷ t) c = grind (arith, list_any-append, comment_step, comment_more t c)
 
 or_assoc : (a b c : Bool) → (a || (b || c)) ≡ ((a || b) || c)
-or_assoc true b c = refl
-or_assoc false b c = refl
+or_assoc a b c = grind arith
 
 -- whether it has an end
 end_from : (s cs : List ℕ) (c : ℕ) → has_end_after s (cs ++ c ∷ []) ≡ has_end_after s cs || is_end (s ++ cs) c
 end_from s [] c = or-false (is_end s c) ∙ ap (λ (t : List ℕ). is_end t c) (sym (append-nil s))
-end_from s (d ∷ cs) c =
-    ap (λ (b : Bool). is_end s d || b) (end_from (s ++ d ∷ []) cs c ∙ ap (λ (t : List ℕ). has_end_after (s ++ d ∷ []) cs || is_end t c) (append_assoc s (d ∷ []) cs))
-    ∙ or_assoc (is_end s d) (has_end_after (s ++ d ∷ []) cs) (is_end (s ++ d ∷ cs) c)
+end_from s (d ∷ cs) c = simp (append_assoc, or_assoc, end_from (s ++ d ∷ []) cs c)
 
 pub end_more : (t : List ℕ) (c : ℕ) → has_end (t ++ c ∷ []) ≡ has_end t || is_end t c
 end_more t c = end_from [] t c
@@ -43,21 +35,11 @@ end_more t c = end_from [] t c
 -- its characters
 characters_from : (s cs : List ℕ) (c : ℕ) → characters_after s (cs ++ c ∷ []) ≡ cond (is_character (s ++ cs) c) (characters_after s cs ++ c ∷ []) (characters_after s cs)
 characters_from s [] c = ap (λ (t : List ℕ). cond (is_character t c) (c ∷ []) []) (sym (append-nil s))
-characters_from s (d ∷ cs) c =
-    go (is_character s d) (is_character (s ++ d ∷ cs) c) (characters_after (s ++ d ∷ []) (cs ++ c ∷ [])) (characters_after (s ++ d ∷ []) cs)
-    (characters_from (s ++ d ∷ []) cs c ∙ ap (λ (t : List ℕ). cond (is_character t c) (characters_after (s ++ d ∷ []) cs ++ c ∷ []) (characters_after (s ++ d ∷ []) cs)) (append_assoc s (d ∷ []) cs))
-  where
-    go : (a b : Bool) (u v : List ℕ) → u ≡ cond b (v ++ c ∷ []) v → cond a (d ∷ u) u ≡ cond b (cond a (d ∷ v) v ++ c ∷ []) (cond a (d ∷ v) v)
-    go true true u v e = ap (λ (t : List ℕ). d ∷ t) e
-    go true false u v e = ap (λ (t : List ℕ). d ∷ t) e
-    go false true u v e = e
-    go false false u v e = e
+characters_from s (d ∷ cs) c = grind (arith, append_assoc, characters_from (s ++ d ∷ []) cs c)
 
 -- what is kept of it, after a character of the snippet
 pub kept_more : (t : List ℕ) (c : ℕ) → is_character t c ≡ true → kept_of (t ++ c ∷ []) ≡ cond (is_viable nabc (kept_of t ++ c ∷ [])) (kept_of t ++ c ∷ []) (kept_of t)
-kept_more t c e =
-    ap (keep nabc) (characters_from [] t c ∙ ap (λ (b : Bool). cond b (characters_after [] t ++ c ∷ []) (characters_after [] t)) e)
-    ∙ keep_append nabc [] (characters_after [] t) (c ∷ [])
+kept_more t c e = grind (arith, characters_from, keep_append)
 
 -- and after another
 pub kept_same : (t : List ℕ) (c : ℕ) → is_character t c ≡ false → kept_of (t ++ c ∷ []) ≡ kept_of t
@@ -85,7 +67,4 @@ before_last_is u c = ap (λ (n : ℕ). take n (u ++ c ∷ [])) (prefix_long u c)
 
 -- its bytes
 pub bytes_more : (u : List ℕ) (c : ℕ) → bytes_in (u ++ c ∷ []) ≡ count_plus (bytes_in u) c
-bytes_more u c =
-    let e = ap length (encodes-append u (c ∷ [])) in
-    let f = ap length (append-nil (encode c)) in
-    omega (arith, e, f, length-append (encodes u) (encodes (c ∷ [])), length-encode c)
+bytes_more u c = grind (arith, encodes-append, append-nil, length-append, length-encode)

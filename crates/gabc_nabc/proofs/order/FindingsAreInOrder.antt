@@ -1,14 +1,14 @@
 -- The findings are in the order of their places.
-use Rattle.std.proofs.Common.{◌≡◌, ℕ, ◌+◌, ◌<◌, ◌≤◌, List, [], ◌∷◌, ◌++◌, Bool, true, false, cond, refl, sym, subst, arith, ◌⊎◌, inl, inr}
+use Rattle.std.proofs.Common.{◌≡◌, ℕ, ◌<◌, ◌≤◌, List, [], ◌∷◌, ◌++◌, Bool, cond, refl, sym, subst, arith, ◌⊎◌, inl, inr}
 use Rattle.gabc_notes.proofs.machine.LoopOverBody.{findings_append}
 use Rattle.gabc_places.specs.declared.code.Code.{Code}
 use Rattle.gabc_places.specs.declared.code.Code.TheVariants.{E3, E6, W7}
 use Rattle.gabc_places.specs.declared.code.Finding.{Finding}
 use Rattle.gabc_places.specs.declared.place.Char.{Char}
 use Rattle.gabc_places.specs.declared.place.Place.{Place}
-use Rattle.gabc_places.specs.Findings.{ComesBefore, ComeAfter, AreInOrder}
+use Rattle.gabc_places.specs.Findings.{ComeAfter, AreInOrder}
 use Rattle.gabc_places.specs.StageLaw.{concat_of}
-use Rattle.gabc_places.specs.Place.{next_place, is_line_feed, placed_characters_from}
+use Rattle.gabc_places.specs.Place.{next_place, placed_characters_from}
 use Rattle.gabc_patterns.specs.Derivative.{is_snippet, is_viable}
 use Rattle.gabc_patterns.specs.Function.{trim}
 use Rattle.gabc_notes.specs.declared.stage.NoteEvent.TheVariants.{Kept, Ended}
@@ -24,30 +24,24 @@ pub one_at_most : (t : List ℕ) (x : Char) → AreAtMostOne x.place (findings_o
 one_at_most t x = by (has_end t)
   where
     ended : (b : Bool) → AreAtMostOne x.place (findings_of (cond b [] (finding_event x.place E6 ∷ []) ++ Ended (end_by_mark x.c) (bytes_in (trim nabc (kept_of t))) ∷ []))
-    ended true = inl refl
-    ended false = inr (E6, refl)
+    ended b = grind arith
 
     warned : (b : Bool) → AreAtMostOne x.place (findings_of (Kept x ∷ cond b (finding_event x.place W7 ∷ []) []))
-    warned true = inr (W7, refl)
-    warned false = inl refl
+    warned b = grind arith
 
     viable : (b : Bool) → AreAtMostOne x.place (findings_of (cond b (Kept x ∷ cond (is_missing (first_of (kept_of t)) x.c) (finding_event x.place W7 ∷ []) []) (finding_event x.place E3 ∷ [])))
-    viable true = warned (is_missing (first_of (kept_of t)) x.c)
-    viable false = inr (E3, refl)
+    viable b = grind (arith, warned)
 
     character : (b : Bool) → AreAtMostOne x.place (findings_of (cond b (cond (is_viable nabc (kept_of t ++ x.c ∷ [])) (Kept x ∷ cond (is_missing (first_of (kept_of t)) x.c) (finding_event x.place W7 ∷ []) []) (finding_event x.place E3 ∷ [])) []))
-    character true = viable (is_viable nabc (kept_of t ++ x.c ∷ []))
-    character false = inl refl
+    character b = grind (arith, viable)
 
     end : (b : Bool) → AreAtMostOne x.place (findings_of (cond b (cond (is_snippet nabc (kept_of t)) [] (finding_event x.place E6 ∷ []) ++ Ended (end_by_mark x.c) (bytes_in (trim nabc (kept_of t))) ∷ [])
         (cond (is_character t x.c) (cond (is_viable nabc (kept_of t ++ x.c ∷ [])) (Kept x ∷ cond (is_missing (first_of (kept_of t)) x.c) (finding_event x.place W7 ∷ []) []) (finding_event x.place E3 ∷ [])) [])))
-    end true = ended (is_snippet nabc (kept_of t))
-    end false = character (is_character t x.c)
+    end b = grind (arith, ended, character)
 
     by : (b : Bool) → AreAtMostOne x.place (findings_of (cond b [] (cond (is_end t x.c) (cond (is_snippet nabc (kept_of t)) [] (finding_event x.place E6 ∷ []) ++ Ended (end_by_mark x.c) (bytes_in (trim nabc (kept_of t))) ∷ [])
         (cond (is_character t x.c) (cond (is_viable nabc (kept_of t ++ x.c ∷ [])) (Kept x ∷ cond (is_missing (first_of (kept_of t)) x.c) (finding_event x.place W7 ∷ []) []) (finding_event x.place E3 ∷ [])) []))))
-    by true = inl refl
-    by false = end (is_end t x.c)
+    by b = grind (arith, end)
 
 -- the finding stands at that place or after it
 abbrev From : Place → Finding → Type 0
@@ -58,34 +52,13 @@ abbrev InOrderFrom : Place → List Finding → Type 0
 InOrderFrom p [] = Unit {0}
 InOrderFrom p (f ∷ fs) = From p f × ComeAfter f fs
 
--- the next place is after this one
-next_after : (p : Place) (c : ℕ) (f : Finding) → From (next_place p c) f → (p.line < f.place.line) ⊎ ((p.line ≡ f.place.line) × (p.column + 1 ≤ f.place.column))
-next_after p c f h = go (is_line_feed c) h
-  where
-    go : (b : Bool) → From (cond b (record { line = p.line + 1; column = 1 }) (record { line = p.line; column = p.column + 1 })) f
-        → (p.line < f.place.line) ⊎ ((p.line ≡ f.place.line) × (p.column + 1 ≤ f.place.column))
-    go true (inl l) = inl (omega arith)
-    go true (inr (l, k)) = inl (omega arith)
-    go false (inl l) = inl l
-    go false (inr (l, k)) = inr (l, k)
-
 -- so findings from the next place on are findings from this one on
 from_next : (p : Place) (c : ℕ) (fs : List Finding) → InOrderFrom (next_place p c) fs → InOrderFrom p fs
-from_next p c [] h = tt
-from_next p c (f ∷ fs) h = (go (next_after p c f h.0), h.1)
-  where
-    go : (p.line < f.place.line) ⊎ ((p.line ≡ f.place.line) × (p.column + 1 ≤ f.place.column)) → From p f
-    go (inl l) = inl l
-    go (inr (l, k)) = inr (l, omega arith)
+from_next p c fs h = grind arith
 
 -- and a finding at this place stands before them
 before_next : (p : Place) (c : ℕ) (code : Code) (fs : List Finding) → InOrderFrom (next_place p c) fs → ComeAfter (record { place = p; code = code }) fs
-before_next p c code [] h = tt
-before_next p c code (f ∷ fs) h = (go (next_after p c f h.0), h.1)
-  where
-    go : (p.line < f.place.line) ⊎ ((p.line ≡ f.place.line) × (p.column + 1 ≤ f.place.column)) → ComesBefore (record { place = p; code = code }) f
-    go (inl l) = inl l
-    go (inr (l, k)) = inr (l, inl (omega arith))
+before_next p c code fs h = grind arith
 
 pub cut_quiet : (t : List ℕ) → findings_of (concat_of (cut_events t ∷ [])) ≡ []
 cut_quiet t = grind arith
@@ -103,8 +76,7 @@ in_order_from (c ∷ cs) t p =
     go fs (inr (code, e)) h = rw e (inr (refl, omega arith), before_next p c code (findings_of (concat_of (nabc_events_after (t ++ c ∷ []) (placed_characters_from (next_place p c) cs)))) h)
 
 plain_order : (p : Place) (fs : List Finding) → InOrderFrom p fs → AreInOrder fs
-plain_order p [] h = tt
-plain_order p (f ∷ fs) h = h.1
+plain_order p fs h = grind arith
 
 -- the findings of a text are in order
 pub in_order : (at : Place) (t : List ℕ) → AreInOrder (findings_of (concat_of (nabc_events (placed_characters_from at t))))

@@ -1,24 +1,16 @@
 -- The places between which findings lie, and the marks at which ends are emitted.
-use Rattle.std.proofs.Common.{◌≡◌, ℕ, ◌+◌, suc, List, [], ◌∷◌, ◌++◌, Bool, true, false, cond, not, ◌||◌, ◌==◌, inl, inr, refl, sym, ◌∙◌, subst, length, take, eqb-true, arith}
-use Rattle.std.proofs.lemmas.Bool.{and_parts, or_cases}
+use Rattle.std.proofs.Common.{◌≡◌, ℕ, ◌+◌, suc, List, [], ◌∷◌, ◌++◌, true, sym, subst, length, take, arith}
 use Rattle.gabc_notes.proofs.machine.LoopOverBody.{findings_append}
 use Rattle.gabc_places.proofs.PlacesInOrder.{up_to_self, up_to_then, up_to_next, up_to_past, lie_append}
-use Rattle.gabc_places.specs.declared.code.Code.TheVariants.{E6}
 use Rattle.gabc_places.specs.declared.code.Finding.{Finding}
 use Rattle.gabc_places.specs.declared.place.Char.{Char}
 use Rattle.gabc_places.specs.declared.place.Place.{Place}
 use Rattle.gabc_places.specs.Findings.{IsUpTo, LieBetween}
 use Rattle.gabc_places.specs.StageLaw.{concat_of}
 use Rattle.gabc_places.specs.Place.{next_place, place_past, placed_characters_from}
-use Rattle.gabc_patterns.specs.Derivative.{is_snippet}
-use Rattle.gabc_patterns.specs.Function.{trim}
-use Rattle.gabc_notes.specs.Ends.{IsMarkOf, EndWithMark, EndAtMost, AreCutAtMost}
+use Rattle.gabc_notes.specs.Ends.{EndWithMark, EndAtMost, AreCutAtMost}
 use Rattle.gabc_notes.specs.SnippetRead.{findings_of}
-use Rattle.gabc_notes.specs.declared.stage.NoteEnd.TheVariants.{Next, Close, Cut}
-use Rattle.gabc_notes.specs.declared.stage.NoteEvent.TheVariants.{Ended}
-use Rattle.gabc_nabc.specs.Table.{nabc}
-use Rattle.gabc_nabc.specs.Events.{in_comment, is_end, has_end, kept_of, bytes_in, end_events, events_at, cut_events, nabc_events_after, nabc_events}
-use Rattle.gabc_notes.specs.Events.{finding_event, end_by_mark}
+use Rattle.gabc_nabc.specs.Events.{is_end, kept_of, end_events, events_at, cut_events, nabc_events_after, nabc_events}
 use Rattle.gabc_nabc.specs.SnippetRead.{AreAtMostOne}
 use Rattle.gabc_nabc.proofs.grammar.LawsOfEvents.{no_end}
 use Rattle.gabc_nabc.proofs.order.FindingsAreInOrder.{one_at_most, cut_quiet}
@@ -27,8 +19,7 @@ use Rattle.gabc_nabc.proofs.order.FindingsAreInOrder.{one_at_most, cut_quiet}
 
 -- the finding of a character that stands between the two
 one_between : (p q r : Place) (fs : List Finding) → AreAtMostOne q fs → IsUpTo p q → IsUpTo q r → LieBetween p r fs
-one_between p q r fs (inl e) l m = subst (LieBetween p r) (sym e) tt
-one_between p q r fs (inr (code, e)) l m = subst (LieBetween p r) (sym e) ((l, m), tt)
+one_between p q r fs e l m = grind arith
 
 -- ---- the characters of a prefix and the one after it
 
@@ -55,38 +46,11 @@ all_within at prefix rest = through at prefix rest [] at (up_to_self at)
 
 -- ---- marks
 
--- the end of a snippet is its mark
-mark_is : (c : ℕ) → ((c == 41) || (c == 124)) ≡ true → IsMarkOf true (end_by_mark c) c
-mark_is c h = go (c == 124) refl
-  where
-    go : (b : Bool) → (c == 124) ≡ b → IsMarkOf true (cond b Next Close) c
-    go true e = (eqb-true c 124 e, refl)
-    go false e = elim (or_cases (c == 41) (c == 124) h) [
-      | inl d ↦ eqb-true c 41 d
-      | inr d ↦ absurd (let f = sym e ∙ d in cc)
-    ]
-
 end_marked : (t : List ℕ) (x : Char) → is_end t x.c ≡ true → EndWithMark true x.c (end_events (kept_of t) x)
-end_marked t x e = go (is_snippet nabc (kept_of t))
-  where
-    mark : IsMarkOf true (end_by_mark x.c) x.c
-    mark = mark_is x.c (and_parts (not (in_comment t)) ((x.c == 41) || (x.c == 124)) e).1
-
-    go : (a : Bool) → EndWithMark true x.c (cond a [] (finding_event x.place E6 ∷ []) ++ Ended (end_by_mark x.c) (bytes_in (trim nabc (kept_of t))) ∷ [])
-    go true = record { before = []; how = end_by_mark x.c; bytes = bytes_in (trim nabc (kept_of t)); cut = refl; endless = refl; mark = mark }
-    go false = record { before = finding_event x.place E6 ∷ []; how = end_by_mark x.c; bytes = bytes_in (trim nabc (kept_of t)); cut = refl; endless = refl; mark = mark }
+end_marked t x e = grind arith
 
 pub ends_at_mark : (t : List ℕ) (x : Char) → EndAtMost true x.c (events_at t x)
-ends_at_mark t x = go (has_end t) refl (is_end t x.c) refl
-  where
-    go : (o : Bool) → has_end t ≡ o → (n : Bool) → is_end t x.c ≡ n → EndAtMost true x.c (events_at t x)
-    go true o n e = inl (rw o refl)
-    go false o false e = inl (no_end t x o e)
-    go false o true e = (let same : events_at t x ≡ end_events (kept_of t) x = rw (o, e) refl in inr (subst (EndWithMark true x.c) (sym same) (end_marked t x e)))
+ends_at_mark t x = grind (arith, no_end, end_marked)
 
 pub cut_at_most : (t : List ℕ) → AreCutAtMost (cut_events t)
-cut_at_most t = go (has_end t)
-  where
-    go : (o : Bool) → AreCutAtMost (cond o [] (Ended (Cut (record { line = 0; column = 0 })) (bytes_in (kept_of t)) ∷ []))
-    go true = inl refl
-    go false = inr (record { line = 0; column = 0 }, bytes_in (kept_of t), refl)
+cut_at_most t = grind arith

@@ -1,6 +1,6 @@
 -- The longest part that begins a text, by its bytes, is what the definition says.
 use Rattle.std.specs.Prelude.{Bool}
-use Rattle.std.proofs.Common.{◌≡◌, ℕ, List, Option, Some, None, ap, sym, ◌∙◌, arith}
+use Rattle.std.proofs.Common.{◌≡◌, ℕ, List, Option, sym, ◌∙◌, arith}
 use Rattle.std.specs.Str.{chars}
 use Rattle.gabc_patterns.specs.Function.{longest_item}
 use Rattle.gabc_patterns.specs.Items.{ItemSpan}
@@ -8,7 +8,7 @@ use Rattle.gabc_patterns.proofs.FirstItemByBytes.{BestByBytes, in_bytes as span_
 use Rattle.gabc_patterns.proofs.ItemHere.{IsFound}
 use Rattle.gabc_patterns.proofs.ItemsOneByOne.{longest_is}
 use Rattle.gabc_nabc.specs.Table.{nabc}
-use Rattle.gabc_nabc.specs.machine.Parts.{in_bytes, first_part_of}
+use Rattle.gabc_nabc.specs.machine.Parts.{first_part_of}
 use Rattle.gabc_nabc.proofs.grammar.LawsOfEvents.{kinds_are_one}
 
 -- what is found, by its bytes
@@ -17,11 +17,4 @@ best_found text best h =
     h.bytes ∙ go h.longest h.here.found h.here.same (sym (longest_is nabc kinds_are_one (chars text) h.here.found h.here.is_best))
   where
     go : (o : Option (ItemSpan Bool)) (f : Option (Bool × ℕ)) → IsFound 0 o f → f ≡ longest_item nabc (chars text) → span_in_bytes (chars text) o ≡ first_part_of text
-    go None None s e = ap (in_bytes (chars text)) e
-    go None (Some f) s e = absurd s
-    go (Some b) None s e = absurd s
-    go (Some (k, b, n)) (Some (j, m)) s e =
-        let p : k ≡ j = s.1 in
-        let z = s.2 in
-        let q : n ≡ m = omega arith in
-        ap (λ (x : Bool). in_bytes (chars text) (Some (x, n))) p ∙ (ap (λ (x : ℕ). in_bytes (chars text) (Some (j, x))) q ∙ ap (in_bytes (chars text)) e)
+    go o f s e = grind arith

@@ -1,5 +1,5 @@
 -- The longest glyph that begins some notes, found a note at a time. Each note begins one.
-use Rattle.std.proofs.Common.{◌≡◌, ℕ, zero, suc, List, [], ◌∷◌, refl, sym, ap, ◌∙◌, subst, Option, Some, None, take, length, get_or, ◌<◌, ◌≤◌, ◌+◌, arith, IfSome, IfNone}
+use Rattle.std.proofs.Common.{◌≡◌, ℕ, zero, suc, List, [], ◌∷◌, refl, ap, subst, Option, Some, None, take, length, get_or, ◌<◌, ◌≤◌, ◌+◌, arith, IfSome, IfNone}
 use native.Mathlib.Decide.{dec_lt}
 use Rattle.gabc_notes.specs.declared.note.Note.{Note}
 use Rattle.gabc_notes.specs.declared.note.Shape.{Shape}
@@ -54,8 +54,7 @@ kind_of_one shape.Inclinatum = record { base = base.Inclinata; tail = tail.Plain
 kind_of_one s = record { base = base.One s; tail = tail.Plain }
 
 pub one_ends : (s : Shape) → kind_at_end (One s) ≡ Some (kind_of_one s)
-one_ends shape.Inclinatum = refl
-one_ends _ = refl
+one_ends s = grind arith
 
 pub first_best : (n : Note) (ns : List Note) → HasBest (letters (n ∷ ns))
 first_best n ns =
@@ -80,8 +79,7 @@ here ns i d = letter_of (last_height (take i ns)) (get_or ns i d)
 
 goes : (ns : List Note) (i : ℕ) (s : GlyphState) (before : Option ℕ) (d : Note) (o : Option GlyphState) → before ≡ last_height (take i ns)
     → next_state s (class_at before (get_or ns i d)) ≡ o → next_state s (class_of_letter (here ns i d)) ≡ o
-goes ns i s before d o e g =
-    ap (λ (k : NoteClass). next_state s k) (class_of_letter_of (last_height (take i ns)) (get_or ns i d)) ∙ (ap (λ (b : Option ℕ). next_state s (class_at b (get_or ns i d))) (sym e) ∙ g)
+goes ns i s before d o e g = grind (arith, class_of_letter_of)
 
 inside : (ns : List Note) (i : ℕ) → i < length ns → i < length (letters ns)
 inside ns i l = let m = are_letters.as_many ns in omega arith
@@ -108,8 +106,7 @@ pub record BestFound (ns : List Note) (best : Option (GlyphKind × ℕ)) : Type 
   pub none : IfNone best (ns ≡ [])
 
 best_found : (ns : List Note) (best : Option (GlyphKind × ℕ)) → IsBest neumes (letters ns) (length (letters ns)) best → BestFound ns best
-best_found ns (Some g) h = let m = are_letters.as_many ns in let w = h.1 in
-    record { found = record { some = h.0; within = omega arith; item = h.2; none = h.3 }; none = tt }
+best_found ns (Some g) h = grind (arith, are_letters)
 best_found [] None h = record { found = tt; none = refl }
 best_found (n ∷ ns) None h = let b = first_best n ns in absurd (h b.0.1 b.1.0 b.1.1 (b.0.0, b.1.2))
 

@@ -20,9 +20,7 @@ size ns from count l = omega (arith, length-take (from + count - from) (drop fro
 
 -- glyphs of one kind, with the same first note and as many notes
 same_glyph : (g h : Glyph) → g.kind ≡ h.kind → g.first ≡ h.first → g.count ≡ h.count → g ≡ h
-same_glyph g h k f c =
-    ap (λ (x : GlyphKind). record { kind = x; first = g.first; count = g.count }) k
-    ∙ (ap (λ (x : ℕ). record { kind = h.kind; first = x; count = g.count }) f ∙ ap (λ (x : ℕ). record { kind = h.kind; first = h.first; count = x }) c)
+same_glyph g h k f c = grind arith
 
 same_glyphs : (ns : List Note) (gs hs : List Glyph) (from : ℕ) → map (read_as ns) gs ≡ map (read_as ns) hs
     → FollowOn from (map piece_of gs) (length ns) → FollowOn from (map piece_of hs) (length ns) → gs ≡ hs

@@ -71,12 +71,7 @@ cutting_end ns rest glyphs at e f c =
 -- where a glyph is left of the notes, there is room for it
 pub room_for : (ns rest : List Note) (glyphs : List Glyph) (at count : ℕ) (k : GlyphKind) (r : BoundedList Glyph) → rest ≡ drop at ns → IsFirstGlyph rest k count → Cutting ns glyphs at
     → Fits r (length ns) → Fits (extended_by r glyphs) 1
-room_for ns rest glyphs at count k r e h c room =
-    let some = h.some in
-    let within = h.within in
-    let few = c.few in
-    let size : length rest ≡ length (drop at ns) = ap length e in
-    omega (arith, length-drop at ns, length-append r.items glyphs)
+room_for ns rest glyphs at count k r e h c room = grind (arith, length-drop, length-append)
 
 -- what is left from a place on
 pub slice_rest : (ns : List Note) (at : ℕ) → slice_range ns at (length ns) ≡ drop at ns

@@ -1,17 +1,16 @@
 -- The kind of notes, read a note at a time.
-use Rattle.std.proofs.Common.{◌≡◌, ℕ, List, [], ◌∷◌, ◌++◌, refl, sym, ap, ◌∙◌, subst, Option, Some, None, take, drop, length, get_or, ◌<◌, ◌≤◌, ◌+◌, MatchOption, take-append-drop, take_at}
+use Rattle.std.proofs.Common.{◌≡◌, ℕ, List, [], ◌∷◌, ◌++◌, refl, sym, ap, ◌∙◌, subst, Option, Some, None, take, drop, length, get_or, ◌<◌, ◌≤◌, ◌+◌, MatchOption, take-append-drop, take_at, arith}
 use Rattle.std.proofs.lemmas.List.{take_more, take_all}
 use Rattle.gabc_notes.specs.declared.note.Note.{Note}
 use Rattle.gabc_patterns.specs.LongestItems.{IsItemOf}
-use Rattle.gabc_patterns.specs.Derivative.{rows_after, rows_run, end_kind}
+use Rattle.gabc_patterns.specs.Derivative.{rows_run, end_kind}
 use Rattle.gabc_patterns.proofs.AutomatonsByTests.{rows_of, rows_at}
 use Rattle.gabc_patterns.proofs.RowsRun.{rows_run-append, item_at_end, no_item_at_end, no_item_past}
 use Rattle.gabc_neumes.specs.Glyphs.{HasKind}
-use Rattle.gabc_neumes.specs.Letters.{letters, letter_of}
+use Rattle.gabc_neumes.specs.Letters.{letters}
 use Rattle.gabc_neumes.specs.Table.{neumes}
-use Rattle.gabc_neumes.specs.machine.GlyphMachine.{class_of_letter, class_at, next_state, kind_at_end}
+use Rattle.gabc_neumes.specs.machine.GlyphMachine.{class_at, next_state, kind_at_end}
 use Rattle.gabc_neumes.specs.declared.glyph.GlyphKind.{GlyphKind}
-use Rattle.gabc_neumes.specs.declared.state.NoteClass.{NoteClass}
 use Rattle.gabc_neumes.specs.declared.state.GlyphState.{GlyphState}
 use Rattle.gabc_neumes.specs.declared.state.GlyphState.TheVariants.{Start}
 use Rattle.gabc_neumes.proofs.glyphs_of_notes.LettersOfNotes.{are_letters, class_of_letter_of, last_height, letters-snoc, last-snoc}
@@ -29,12 +28,7 @@ far_first = record { rows = refl; last = refl }
 -- the rows after a note more
 pub rows_more : (done : List Note) (s : GlyphState) (before : Option ℕ) (n : Note) (o : Option GlyphState) → KindSoFar done s before → next_state s (class_at before n) ≡ o
     → rows_at neumes machine o ≡ rows_run neumes (letters (done ++ n ∷ []))
-rows_more done s before n o h g =
-    let c : ℕ = letter_of before n in
-    let same : next_state s (class_of_letter c) ≡ o = ap (λ (k : NoteClass). next_state s k) (class_of_letter_of before n) ∙ g in
-    let more : letters (done ++ n ∷ []) ≡ letters done ++ c ∷ [] = letters-snoc None done n ∙ ap (λ (b : Option ℕ). letters done ++ letter_of b n ∷ []) (sym h.last) in
-    ap (λ (p : Option GlyphState). rows_at neumes machine p) (sym same) ∙ (sym (items_read.goes_on s c) ∙ (ap (rows_after c) h.rows ∙ (sym (rows_run-append neumes (letters done) (c ∷ []))
-    ∙ ap (rows_run neumes) (sym more))))
+rows_more done s before n o h g = grind (arith, class_of_letter_of, letters-snoc, items_read, rows_run-append)
 
 -- a note more
 pub far_more : (done : List Note) (s z : GlyphState) (before : Option ℕ) (n : Note) → KindSoFar done s before → next_state s (class_at before n) ≡ Some z

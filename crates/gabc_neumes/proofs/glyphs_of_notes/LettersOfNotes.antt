@@ -1,9 +1,8 @@
 -- The letters of notes one after the other.
-use Rattle.std.proofs.Common.{◌≡◌, ℕ, zero, suc, List, [], ◌∷◌, ◌++◌, refl, ap, Bool, if◌then◌else◌, Option, Some, None, take, length, get_or, ◌<◌, ◌+◌, nat_lt, arith, sym, ◌∙◌}
+use Rattle.std.proofs.Common.{◌≡◌, ℕ, zero, suc, List, [], ◌∷◌, ◌++◌, refl, ap, Bool, if◌then◌else◌, Option, Some, None, take, length, get_or, ◌<◌, ◌+◌, arith, sym, ◌∙◌}
 use Rattle.std.proofs.lemmas.List.{take_more}
 use Rattle.gabc_notes.specs.declared.note.Note.{Note}
 use Rattle.gabc_notes.specs.declared.note.Shape.{Shape}
-use Rattle.gabc_notes.specs.declared.note.Shape.TheVariants as shape
 use Rattle.gabc_patterns.proofs.ItemsByLetters.{AreLetters}
 use Rattle.gabc_neumes.specs.Letters.{letters, letters_from, letter_of, shape_letter, step_letter}
 use Rattle.gabc_neumes.specs.machine.GlyphMachine.{class_of_letter, class_at, step_class}
@@ -56,8 +55,7 @@ letter_at b (n ∷ ns) (suc i) d e l = letter_at (Some n.height) ns i d e (omega
 -- ---- the class of a note's letter is the note's
 
 of_first : (s : Shape) → class_of_letter (shape_letter s) ≡ First s
-of_first shape.Punctum = refl
-of_first _ = refl
+of_first s = grind arith
 
 of_joinable : (l h : Bool) → class_of_letter (if l then 68 else if h then 85 else 69) ≡ (if l then Down else if h then Up else Level)
 of_joinable l h = grind arith
@@ -66,15 +64,7 @@ of_point : (l h : Bool) → class_of_letter (if l then 100 else if h then 117 el
 of_point l h = grind arith
 
 of_step : (s : Shape) (a b : ℕ) → class_of_letter (step_letter s a b) ≡ step_class s a b
-of_step shape.Inclinatum a b = of_point (nat_lt b a) (nat_lt a b)
-of_step shape.Punctum a b = of_joinable (nat_lt b a) (nat_lt a b)
-of_step shape.Oriscus a b = of_joinable (nat_lt b a) (nat_lt a b)
-of_step shape.OriscusScapus a b = of_joinable (nat_lt b a) (nat_lt a b)
-of_step shape.Quilisma a b = of_joinable (nat_lt b a) (nat_lt a b)
-of_step shape.QuilismaQuadratum a b = of_joinable (nat_lt b a) (nat_lt a b)
-of_step shape.Quadratum a b = of_joinable (nat_lt b a) (nat_lt a b)
-of_step _ a b = refl
+of_step s a b = grind (arith, of_point, of_joinable)
 
 pub class_of_letter_of : (b : Option ℕ) (n : Note) → class_of_letter (letter_of b n) ≡ class_at b n
-class_of_letter_of None n = of_first n.shape
-class_of_letter_of (Some h) n = of_step n.shape h n.height
+class_of_letter_of b n = grind (arith, of_first, of_step)

@@ -1,5 +1,5 @@
 -- The machine reads the table of neumes.
-use Rattle.std.proofs.Common.{◌≡◌, ℕ, ◌≤◌, Bool, true, false, ◌&&◌, refl, arith, ap, ◌∙◌}
+use Rattle.std.proofs.Common.{◌≡◌, ℕ, ◌≤◌, Bool, true, false, ◌&&◌, refl, arith}
 use Rattle.std.proofs.lemmas.Bool.{and_parts}
 use denote.Enum.Bare.{sameb, same_true}
 use Rattle.std.proofs.lemmas.Bool.Decides.{nat_tests}
@@ -58,19 +58,7 @@ same_base (base.One s) (base.One r) = same_shape s r
 same_base _ _ = false
 
 pub same_base_equal : (k j : Base) → same_base k j ≡ true → k ≡ j
-same_base_equal base.Pes base.Pes e = refl
-same_base_equal base.Clivis base.Clivis e = refl
-same_base_equal base.Torculus base.Torculus e = refl
-same_base_equal base.Porrectus base.Porrectus e = refl
-same_base_equal base.Scandicus base.Scandicus e = refl
-same_base_equal base.ScandicusFlexus base.ScandicusFlexus e = refl
-same_base_equal base.TorculusResupinus base.TorculusResupinus e = refl
-same_base_equal base.PorrectusFlexus base.PorrectusFlexus e = refl
-same_base_equal base.TorculusResupinusFlexus base.TorculusResupinusFlexus e = refl
-same_base_equal base.Climacus base.Climacus e = refl
-same_base_equal base.Inclinata base.Inclinata e = refl
-same_base_equal (base.One s) (base.One r) e = (let f = same_shape_equal s r e in cc)
-same_base_equal _ _ e = absurd (cc)
+same_base_equal k j e = grind (arith, same_shape_equal)
 
 abbrev pub same_tail : Tail → Tail → Bool
 same_tail = sameb tail_type
@@ -82,10 +70,7 @@ abbrev pub same_kind : GlyphKind → GlyphKind → Bool
 same_kind k j = same_base k.base j.base && same_tail k.tail j.tail
 
 pub same_kind_equal : (k j : GlyphKind) → same_kind k j ≡ true → k ≡ j
-same_kind_equal k j e =
-    let h = and_parts (same_base k.base j.base) (same_tail k.tail j.tail) e in
-    ap (λ (b : Base). record { base = b; tail = k.tail }) (same_base_equal k.base j.base h.0)
-    ∙ ap (λ (t : Tail). record { base = j.base; tail = t }) (same_tail_equal k.tail j.tail h.1)
+same_kind_equal k j e = grind (arith, and_parts, same_base_equal, same_tail_equal)
 
 -- a letter from 128 on is of the class of 128
 pub far : (c : ℕ) → 128 ≤ c → class_of_letter c ≡ class_of_letter 128

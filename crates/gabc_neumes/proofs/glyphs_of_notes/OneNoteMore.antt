@@ -1,5 +1,5 @@
 -- Where a glyph begins with some notes, these are a glyph, or all but the last are.
-use Rattle.std.proofs.Common.{◌≡◌, ℕ, List, [], ◌∷◌, ◌++◌, refl, sym, ◌∙◌, ap, subst, Option, Some, None, append_assoc, append-nil, ◌⊎◌, inl, inr}
+use Rattle.std.proofs.Common.{◌≡◌, ℕ, List, [], ◌∷◌, ◌++◌, refl, sym, ◌∙◌, subst, Option, Some, None, append_assoc, append-nil, ◌⊎◌, inl, inr, arith}
 use Rattle.gabc_notes.specs.declared.note.Note.{Note}
 use Rattle.gabc_patterns.specs.LongestItems.{HasSome}
 use Rattle.gabc_neumes.specs.Glyphs.{HasKind}
@@ -8,7 +8,7 @@ use Rattle.gabc_neumes.specs.declared.glyph.GlyphKind.{GlyphKind}
 use Rattle.gabc_neumes.specs.declared.state.NoteClass.{NoteClass}
 use Rattle.gabc_neumes.specs.declared.state.NoteClass.TheVariants.{First, PointDown}
 use Rattle.gabc_neumes.specs.declared.state.GlyphState.{GlyphState}
-use Rattle.gabc_neumes.specs.declared.state.GlyphState.TheVariants.{Start, One, Half, Climacus}
+use Rattle.gabc_neumes.specs.declared.state.GlyphState.TheVariants.{Start, One, Half}
 use Rattle.gabc_neumes.proofs.glyphs_of_notes.FirstGlyphByStates.{kind_of_one, one_ends}
 use Rattle.gabc_neumes.proofs.glyphs_of_notes.KindByStates.{KindSoFar, far_first, far_more, far_stops, far_end}
 
@@ -16,10 +16,7 @@ use Rattle.gabc_neumes.proofs.glyphs_of_notes.KindByStates.{KindSoFar, far_first
 before_open : (s z : GlyphState) (c : NoteClass) → next_state s c ≡ Some z → kind_at_end z ≡ None → (j : GlyphKind) × (kind_at_end s ≡ Some j)
 before_open Start z (First s) e f = (let g = one_ends s in absurd (cc))
 before_open Start z _ e f = absurd (cc)
-before_open Half z PointDown e f = absurd (let g : kind_at_end z ≡ kind_at_end Climacus = ap kind_at_end (out e) in cc)
-  where
-    out : Some Climacus ≡ Some z → z ≡ Climacus
-    out h = cc
+before_open Half z PointDown e f = grind arith
 before_open Half z _ e f = absurd (cc)
 before_open (One s) z c e f = (kind_of_one s, one_ends s)
 before_open _ z c e f = (_, refl)

@@ -122,14 +122,7 @@ found_of n ns (Some g) h = let f = h.found in record { glyph = sym (longest_foun
 
 -- a search has read a note more
 pub search_grows : (s z : GlyphSearch) (note : Note) → search_with s note ≡ Some z → z.read ≡ s.read + 1
-search_grows s z note w = go (next_state s.state (class_at s.before note)) refl
-  where
-    go : (o : Option GlyphState) → next_state s.state (class_at s.before note) ≡ o → z.read ≡ s.read + 1
-    go None e = absurd (let f : search_with s note ≡ None = rw e refl in cc)
-    go (Some after) e =
-        let f : search_with s note ≡ Some (record { state = after; before = Some note.height; read = s.read + 1; best = best_of (kind_at_end after) (s.read + 1) s.best }) = rw e refl in
-        let same : record { state = after; before = Some note.height; read = s.read + 1; best = best_of (kind_at_end after) (s.read + 1) s.best } ≡ z = cc in
-        ap (λ (x : GlyphSearch). x.read) (sym same)
+search_grows s z note w = grind arith
 
 -- after the first note
 abbrev pub fresh : GlyphSearch

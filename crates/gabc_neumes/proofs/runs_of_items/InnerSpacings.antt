@@ -1,5 +1,5 @@
 -- Which spacings stand within an element, by their characters.
-use Rattle.std.proofs.Common.{◌≡◌, ℕ, List, [], ◌∷◌, Bool, true, false, ◌&&◌, ◌||◌, ◌==◌, refl, arith}
+use Rattle.std.proofs.Common.{◌≡◌, ℕ, List, Bool, true, false, ◌&&◌, ◌||◌, arith}
 use Rattle.gabc_neumes.specs.Elements.{is_inner_spacing}
 use Rattle.gabc_neumes.specs.machine.Runs.{is_inner}
 
@@ -13,7 +13,4 @@ of_more : (a b c d : Bool) → (((a && false) || (b && (c && false))) || (b && (
 of_more a b c d = grind arith
 
 pub is_inner_same : (t : List ℕ) → is_inner_spacing t ≡ is_inner t
-is_inner_same [] = refl
-is_inner_same (c ∷ []) = of_one (c == 33) (c == 47)
-is_inner_same (c ∷ d ∷ []) = of_two (c == 33) (c == 47) (d == 48) (d == 33)
-is_inner_same (c ∷ d ∷ e ∷ t) = of_more (c == 33) (c == 47) (d == 48) (d == 33)
+is_inner_same t = grind (arith, of_one, of_two, of_more)

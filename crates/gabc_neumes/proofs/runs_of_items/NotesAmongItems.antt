@@ -13,11 +13,7 @@ use Rattle.gabc_neumes.specs.Elements.{is_in_segment, notes_in}
 -- there are no more notes than items
 pub notes_few : (kept : List ℕ) (items : List Item) → length (notes_in kept items) ≤ length items
 notes_few kept [] = omega arith
-notes_few kept (i ∷ items) = go (note_in kept i) refl (notes_few kept items)
-  where
-    go : (o : Option Note) → note_in kept i ≡ o → length (notes_in kept items) ≤ length items → length (notes_in kept (i ∷ items)) ≤ length (i ∷ items)
-    go None e h = rw e (omega arith)
-    go (Some n) e h = rw e (omega arith)
+notes_few kept (i ∷ items) = grind (arith, notes_few kept items)
 
 one_some : (kept : List ℕ) (i : Item) (n : Note) → note_in kept i ≡ Some n → notes_in kept (i ∷ []) ≡ n ∷ []
 one_some kept i n e = rw e refl
@@ -47,8 +43,7 @@ notes_on kept items i d r l e =
 -- there is room for the note of an item
 pub notes_fit : (kept : List ℕ) (items : List Item) (i : ℕ) (r : BoundedList Note) → i < length items → Fits r (length items)
     → Fits (extended_by r (notes_in kept (take i items))) 1
-notes_fit kept items i r l h =
-    omega (arith, h, notes_few kept (take i items), length-take i items, length-append r.items (notes_in kept (take i items)))
+notes_fit kept items i r l h = grind (arith, notes_few, length-take, length-append)
 
 -- ---- the notes of the segment that begins the items
 

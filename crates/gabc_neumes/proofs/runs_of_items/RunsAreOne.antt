@@ -1,5 +1,5 @@
 -- Lists of spans in order that hold the same spans are one.
-use Rattle.std.proofs.Common.{◌≡◌, zero, suc, List, [], ◌∷◌, Bool, refl, sym, ap, ◌∙◌, subst, ◌<◌, arith, ◌⊎◌, inl, inr}
+use Rattle.std.proofs.Common.{◌≡◌, suc, List, [], ◌∷◌, Bool, refl, sym, ap, ◌∙◌, subst, ◌<◌, arith, ◌⊎◌, inl, inr}
 use Rattle.std.specs.List.{Contains, AllPairs}
 use Rattle.std.proofs.lemmas.List.Elements.{Contains-append_right}
 use Rattle.gabc_places.specs.declared.place.Span.{Span}
@@ -20,8 +20,7 @@ tail : (s : Span) (ss : List Span) (t : Span) → Contains ss t → Contains (s 
 tail s ss t c = Contains-append_right (s ∷ []) ss t c
 
 cases : (s : Span) (ss : List Span) (t : Span) → Contains (s ∷ ss) t → (s ≡ t) ⊎ Contains ss t
-cases s ss t (zero, l, e) = inl e
-cases s ss t (suc k, l, e) = inr (k, omega arith, e)
+cases s ss t h = grind arith
 
 apart_head : (s : Span) (ss : List Span) → Apart (s ∷ ss) → (t : Span) → Contains ss t → s.to < t.from
 apart_head s ss a t (k, l, e) = subst (λ (x : Span). s.to < x.from) e (a 0 (suc k) t (omega arith) (omega arith))

@@ -22,15 +22,7 @@ pub record RunsSoFar {X : Type 0} (p : X → Bool) (xs : List X) (i from : ℕ) 
 module _ {X : Type 0} (p : X → Bool) (xs : List X) where
   -- one more that passes
   pub runs_on : (i from : ℕ) (spans : List Span) → passes_at p xs i ≡ true → RunsSoFar p xs i from spans → RunsSoFar p xs (i + 1) from spans
-  runs_on i from spans e h = record {
-    within = (let w = h.within in omega arith);
-    open_run = λ k a l. elim (dec_lt k i) [ yes y ↦ h.open_run k a y | no n ↦ (let same : k ≡ i = omega arith in subst (λ (m : ℕ). passes_at p xs m ≡ true) (sym same) e) ];
-    closed = h.closed;
-    are = h.are;
-    all = h.all;
-    order = h.order;
-    few = h.few;
-  }
+  runs_on i from spans e h = grind arith
 
   not_both : (k : ℕ) → passes_at p xs k ≡ true → passes_at p xs k ≡ false → ⊥
   not_both k a b = cc

@@ -1,13 +1,13 @@
 -- What is said of a snippet's characters by relations is what is computed of them.
-use Rattle.std.proofs.Common.{◌≡◌, ℕ, List, [], ◌∷◌, ◌++◌, Bool, true, false, cond, not, ◌&&◌, ◌||◌, ◌==◌, inl, inr, refl, sym, ap, ◌∙◌, subst, codes, map, Option, Some, None}
-use Rattle.std.proofs.lemmas.Bool.{not-true, false_from_ne_true, and_parts}
+use Rattle.std.proofs.Common.{arith, ◌≡◌, ℕ, List, [], ◌∷◌, ◌++◌, Bool, true, false, cond, not, ◌&&◌, ◌||◌, ◌==◌, inl, inr, refl, sym, ap, ◌∙◌, subst, codes, map, Option, Some, None}
+use Rattle.std.proofs.lemmas.Bool.{false_from_ne_true, and_parts}
 use Rattle.std.specs.Prelude.{◌↔◌, IsTrue}
 use Rattle.std.specs.List.{list_any}
 use Rattle.gabc_places.specs.declared.place.Char.{Char}
 use Rattle.gabc_places.specs.declared.place.Place.{Place}
 use Rattle.gabc_patterns.specs.LongestItems.{IsReading}
 use Rattle.gabc_patterns.specs.Kept.{Keeps}
-use Rattle.gabc_patterns.specs.Derivative.{is_snippet, is_viable}
+use Rattle.gabc_patterns.specs.Derivative.{is_snippet}
 use Rattle.gabc_patterns.specs.Function.{items, keep}
 use Rattle.gabc_patterns.proofs.EqualPatterns.{same_texts_equal}
 use Rattle.gabc_patterns.proofs.FunctionsMeetRelations.{keep_keeps, keeps_is}
@@ -182,33 +182,23 @@ mark_only back x b h =
     same b (is_comment (point back x)) (λ t. comment_from back x b (h.0 t)) (λ t. h.1 (remark x (is_comment (point back x)) b (marks back) (comment_to back x t)))
   where
     same : (a b : Bool) → (a ≡ true → b ≡ true) → (b ≡ true → a ≡ true) → a ≡ b
-    same true b f g = sym (f refl)
-    same false true f g = g refl
-    same false false f g = refl
+    same a b f g = grind arith
 
 -- and so are all of them
 pub marked_only : (ms : List Marked) → AreMarked ms → ms ≡ marks (chars_of ms)
 unfolding marks
 marked_only [] h = refl
-marked_only (m ∷ ms) h =
-    let e = marked_only ms h.1 in
-    ap (λ (u : List Marked). m ∷ u) e
-    ∙ ap (λ (b : Bool). (m.0, b) ∷ marks (chars_of ms)) (mark_only (chars_of ms) m.0 m.1 (subst (λ (u : List Marked). IsTrue m.1 ↔ IsInComment (m ∷ u)) e h.0))
+marked_only (m ∷ ms) h = grind (arith, mark_only, marked_only ms h.1)
 
 -- ---- what is kept with a character
 
 pub kept_with_to : (back : List Char) (x : Char) → is_kept (point back x) ≡ true → IsKeptWith (marks (x ∷ back)) (kept_with (point back x))
 unfolding marks
-kept_with_to back x e =
-    let f = and_parts (not (is_comment (point back x))) (is_viable gabc (kept_with (point back x))) e in
-    (not-true (is_comment (point back x)) f.0, (kept back, kept_keeps back, refl, viable_from gabc refl (kept_with (point back x)) f.1))
+kept_with_to back x e = grind (arith, and_parts, kept_keeps, viable_from)
 
 pub kept_with_from : (back : List Char) (x : Char) (t : List ℕ) → IsKeptWith (marks (x ∷ back)) t → (is_kept (point back x) ≡ true) × (t ≡ kept_with (point back x))
 unfolding marks
-kept_with_from back x t h =
-    let same : t ≡ kept_with (point back x) = h.1.2 ∙ ap (λ (k : List ℕ). k ++ x.c ∷ []) (kept_only back h.1.0 h.1.1) in
-    let viable : is_viable gabc (kept_with (point back x)) ≡ true = ap (is_viable gabc) (sym same) ∙ viable_to gabc refl t h.1.3 in
-    (ap (λ (b : Bool). not b && is_viable gabc (kept_with (point back x))) h.0 ∙ viable, same)
+kept_with_from back x t h = grind (arith, kept_only, viable_to)
 
 -- ---- items
 
@@ -235,9 +225,7 @@ item_to back x i e = go (is_kept (point back x)) refl e
     go true f g = read f (is_snippet gabc (kept_with (point back x))) refl g
 
 pub item_from : (back : List Char) (x : Char) (i : ItemText) → EndsItem (marks (x ∷ back)) i → item_at (point back x) ≡ Some i
-item_from back x i h =
-    let k = kept_with_from back x h.0 h.1 in
-    ap (λ (b : Bool). cond b (last_item (kept_with (point back x))) None) k.0 ∙ (ap last_item (sym k.1) ∙ last_item_is h.2.0 i h.0 h.2.1)
+item_from back x i h = grind (arith, kept_with_from, last_item_is)
 
 pub opens_some : (o : Option ItemText) → opens_fusion o ≡ true → o ≡ Some (Fusion, codes "@[")
 opens_some (Some (Fusion, t)) e = ap (λ (u : List ℕ). Some (Fusion, u)) (same_texts_equal t (codes "@[") e)
@@ -267,9 +255,7 @@ fused_to (x ∷ back) e = go (opens_fusion (item_at (point back x))) refl (close
   where
     go : (a : Bool) → opens_fusion (item_at (point back x)) ≡ a → (l : Bool) → closes_fusion (item_at (point back x)) ≡ l → cond a true (cond l false (is_fused back)) ≡ true
         → (is_fused back ≡ true → IsFused (marks back)) → IsFused (marks (x ∷ back))
-    go true f l g h F = inl (opens_to back x f)
-    go false f true g h F = absurd (cc)
-    go false f false g h F = inr ((λ i. let j = closes_from back x i in absurd (cc)), F h)
+    go a f l g h F = grind (arith, opens_to, closes_from)
 
 pub fused_from : (back : List Char) → IsFused (marks back) → is_fused back ≡ true
 unfolding marks
@@ -278,17 +264,13 @@ fused_from (x ∷ back) (inl o) = fused_more back x ∙ ap (λ (a : Bool). cond 
 fused_from (x ∷ back) (inr (n, h)) = fused_more back x ∙ go (opens_fusion (item_at (point back x))) (closes_fusion (item_at (point back x))) refl (fused_from back h)
   where
     go : (a l : Bool) → closes_fusion (item_at (point back x)) ≡ l → is_fused back ≡ true → cond a true (cond l false (is_fused back)) ≡ true
-    go true l e f = refl
-    go false true e f = absurd (n (closes_to back x e))
-    go false false e f = f
+    go a l e f = grind (arith, closes_to)
 
 -- ---- the bracket that is open
 
 outside_to : (back : List Char) (x : Char) → (is_kept (point back x) && not (is_in_raw (point back x))) ≡ true → IsKeptOutside (marks (x ∷ back))
 unfolding marks
-outside_to back x e =
-    let f = and_parts (is_kept (point back x)) (not (is_in_raw (point back x))) e in
-    ((kept_with (point back x), kept_with_to back x f.0), no_raw_to back (not-true (is_in_raw (point back x)) f.1))
+outside_to back x e = grind (arith, and_parts, kept_with_to, no_raw_to)
 
 outside_from : (back : List Char) (x : Char) → IsKeptOutside (marks (x ∷ back)) → (is_kept (point back x) && not (is_in_raw (point back x))) ≡ true
 unfolding marks

@@ -11,7 +11,7 @@ use Rattle.gabc_patterns.specs.Derivative.{is_snippet, is_viable}
 use Rattle.gabc_patterns.specs.Function.{trim}
 use Rattle.gabc_patterns.proofs.FunctionsMeetRelations.{trim_trims, trims_is}
 use Rattle.gabc_notes.specs.Table.{gabc}
-use Rattle.gabc_notes.specs.Events.{in_raw, kept, is_comment, kept_with, is_kept, item_at, macro_of, is_missing, is_unpaired, is_fused, opener, finding_event, end_by_mark, bytes_of, is_end, is_over, warnings, at_end, events_at, cut_events, note_events_after, note_events}
+use Rattle.gabc_notes.specs.Events.{in_raw, kept, is_comment, kept_with, is_kept, item_at, macro_of, is_missing, is_unpaired, is_fused, opener, finding_event, end_by_mark, bytes_of, is_end, is_over, at_end, events_at, note_events_after, note_events}
 use Rattle.gabc_notes.specs.SnippetRead.{findings_of}
 use Rattle.gabc_notes.specs.NotesRead.{IsKeptWith}
 use Rattle.gabc_notes.specs.NotesEmitted.{AreIfKept, AreOfCharacter, AreOfMark, AreEventsAfter, AreNoteEvents}
@@ -50,9 +50,7 @@ parted split macros back x o e =
     at c v u m = cond c [] (cond (not c && v) (Kept x ∷ (cond u (finding_event x.place W10 ∷ []) [] ++ cond m (finding_event (opener back) W8 ∷ []) [])) (finding_event x.place E1 ∷ []))
 
     same : events_at split macros (point back x) ≡ at (is_comment (point back x)) (is_viable gabc (kept_with (point back x))) (is_unpaired (point back x)) (is_missing macros (macro_of (item_at (point back x))))
-    same =
-        ap (λ (b : Bool). cond b [] (cond (is_end split (point back x)) (at_end (point back x)) (cond (is_comment (point back x)) [] (cond (is_kept (point back x)) (Kept x ∷ warnings macros (point back x)) (finding_event x.place E1 ∷ []))))) o
-        ∙ ap (λ (b : Bool). cond b (at_end (point back x)) (cond (is_comment (point back x)) [] (cond (is_kept (point back x)) (Kept x ∷ warnings macros (point back x)) (finding_event x.place E1 ∷ [])))) e
+    same = grind arith
 
     go : (c v u m : Bool) → at c v u m ≡ cond (not c && v) (Kept x ∷ []) [] ++ map Found (findings_of (at c v u m))
     go c v u m = grind arith
@@ -109,17 +107,7 @@ of_mark_only split back x events h =
 
 events_by_relations : (split : Bool) (macros : ℕ) (back xs : List Char) → is_over split back ≡ false → AreEventsAfter split macros (marks back) xs (note_events_after split macros back xs)
 unfolding marks
-events_by_relations split macros back [] o = (
-  cut_events split back,
-  record {
-    kept = kept back;
-    keeps = kept_keeps back;
-    place = cond (in_raw (kept back)) (opener back) (record { line = 0; column = 0 });
-    is_cut = cut_at back;
-    all = cut_outs split back o;
-  },
-  refl,
-)
+events_by_relations split macros back [] o = grind (arith, kept_keeps, cut_at, cut_outs)
 events_by_relations split macros back (x ∷ xs) o = go (is_emitted split macros back x o) (λ p. events_by_relations split macros (x ∷ back) xs p)
   where
     go : (is_end split (point back x) ≡ false) ⊎ ((is_end split (point back x) ≡ true) × (events_at split macros (point back x) ≡ at_end (point back x)))
@@ -148,8 +136,7 @@ relations_give_events split macros back (x ∷ xs) lists o (inl (events, m, e)) 
   where
     emits : is_end split (point back x) ≡ true → (is_end split (point back x) ≡ false) ⊎ ((is_end split (point back x) ≡ true) × (events_at split macros (point back x) ≡ at_end (point back x)))
         → events_at split macros (point back x) ≡ at_end (point back x)
-    emits n (inl f) = absurd (cc)
-    emits n (inr f) = f.1
+    emits n h = cc
 relations_give_events split macros back (x ∷ xs) lists o (inr (comment, events, later, m, l, e)) =
     let n : is_end split (point back x) ≡ false = false_from_ne_true (is_end split (point back x)) (λ f. m.no_end (end_to split back x f)) in
     let same = mark_only back x comment m.marked in

@@ -1,5 +1,5 @@
 -- What is found at a snippet's characters by relations is what is computed of them.
-use Rattle.std.proofs.Common.{◌≡◌, ℕ, List, [], ◌∷◌, ◌++◌, Bool, true, false, cond, not, ◌&&◌, ◌||◌, ◌⊎◌, inl, inr, refl, sym, ap, ◌∙◌, subst, codes, Option, Some, None}
+use Rattle.std.proofs.Common.{arith, ◌≡◌, ℕ, List, [], ◌∷◌, ◌++◌, Bool, true, false, cond, not, ◌&&◌, ◌⊎◌, inl, inr, refl, sym, ap, ◌∙◌, subst, codes, Option, Some, None}
 use Rattle.std.proofs.Math.Bool.{or-true}
 use Rattle.std.proofs.lemmas.Bool.{not-true, false_from_ne_true, and_parts, or_cases}
 use Rattle.gabc_places.specs.declared.code.Code.{Code}
@@ -7,7 +7,7 @@ use Rattle.gabc_places.specs.declared.code.Code.TheVariants.{E1, W8, W10}
 use Rattle.gabc_places.specs.declared.code.Finding.{Finding}
 use Rattle.gabc_places.specs.declared.place.Char.{Char}
 use Rattle.gabc_places.specs.declared.place.Place.{Place}
-use Rattle.gabc_notes.specs.Events.{ItemText, is_comment, kept_with, is_kept, item_at, opens_fusion, closes_fusion, macro_in, macro_of, is_fused, opener, finding_event, is_defined, is_missing, is_end, is_over, is_unpaired, warnings, at_end, events_at}
+use Rattle.gabc_notes.specs.Events.{ItemText, is_comment, kept_with, is_kept, item_at, opens_fusion, closes_fusion, macro_in, macro_of, is_fused, opener, finding_event, is_defined, is_missing, is_end, is_over, is_unpaired, warnings, events_at}
 use Rattle.gabc_notes.specs.FoundAt.{AreThoseFound}
 use Rattle.gabc_notes.specs.SnippetRead.{findings_of}
 use Rattle.gabc_notes.specs.NotesRead.{Marked, EndsItem, IsFused, IsFound, AreFound}
@@ -26,21 +26,12 @@ Found macros back x f = IsFound macros (x, is_comment (point back x)) (marks bac
 
 found_only : (macros : ℕ) (m : Marked) (back : List Marked) (found : Code) (p : Place) → IsFound macros m back found p
     → ((found ≡ E1) × IsFound macros m back E1 p) ⊎ (((found ≡ W8) × IsFound macros m back W8 p) ⊎ ((found ≡ W10) × IsFound macros m back W10 p))
-found_only macros m back E1 p h = inl (refl, h)
-found_only macros m back W8 p h = inr (inl (refl, h))
-found_only macros m back W10 p h = inr (inr (refl, h))
-found_only macros m back _ p h = absurd h
+found_only macros m back found p h = grind arith
 
 -- a macro that is used and not defined
 missing_some : (macros : ℕ) (o : Option ItemText) → is_missing macros (macro_of o) ≡ true
     → (t : List ℕ) × (digit : ℕ) × (o ≡ Some (Attribute, t)) × (macro_in t ≡ Some digit) × (is_defined macros digit ≡ false)
-missing_some macros (Some (Attribute, t)) e = go (macro_in t) refl e
-  where
-    go : (d : Option ℕ) → macro_in t ≡ d → is_missing macros d ≡ true
-        → (u : List ℕ) × (digit : ℕ) × (◌≡◌ {A = Option ItemText} (Some (Attribute, t)) (Some (Attribute, u))) × (macro_in u ≡ Some digit) × (is_defined macros digit ≡ false)
-    go None f g = absurd (cc)
-    go (Some d) f g = (t, d, refl, f, not-true (is_defined macros d) g)
-missing_some macros _ e = absurd (cc)
+missing_some macros o e = grind arith
 
 -- what warns of a bracket that is not paired is a fusion mark
 fusion_item : (back : List Char) (x : Char) → is_unpaired (point back x) ≡ true → (t : List ℕ) × (item_at (point back x) ≡ Some (Fusion, t))
@@ -51,41 +42,18 @@ fusion_item back x e = elim (or_cases (opens_fusion (item_at (point back x)) && 
 
 unpaired_to : (back : List Char) (x : Char) → is_unpaired (point back x) ≡ true
     → (EndsItem (marks (x ∷ back)) (Fusion, codes "@[") × IsFused (marks back)) ⊎ (EndsItem (marks (x ∷ back)) (Fusion, codes "]") × (¬ IsFused (marks back)))
-unpaired_to back x e = elim (or_cases (opens_fusion (item_at (point back x)) && is_fused back) (closes_fusion (item_at (point back x)) && not (is_fused back)) e) [
-  | inl h ↦ (let g = and_parts (opens_fusion (item_at (point back x))) (is_fused back) h in inl (opens_to back x g.0, fused_to back g.1))
-  | inr h ↦ (let g = and_parts (closes_fusion (item_at (point back x))) (not (is_fused back)) h in
-      inr (closes_to back x g.0, λ f. (let a = not-true (is_fused back) g.1 in let b = fused_from back f in absurd (cc))))
-]
+unpaired_to back x e = grind (arith, or_cases, and_parts, opens_to, fused_to, closes_to, not-true, fused_from)
 
 unpaired_from : (back : List Char) (x : Char)
     → (EndsItem (marks (x ∷ back)) (Fusion, codes "@[") × IsFused (marks back)) ⊎ (EndsItem (marks (x ∷ back)) (Fusion, codes "]") × (¬ IsFused (marks back)))
     → is_unpaired (point back x) ≡ true
-unpaired_from back x (inl h) =
-    let o = opens_from back x h.0 in
-    let f = fused_from back h.1 in
-    ap (λ (b : Bool). (b && is_fused back) || (closes_fusion (item_at (point back x)) && not (is_fused back))) o
-    ∙ ap (λ (b : Bool). b || (closes_fusion (item_at (point back x)) && not (is_fused back))) f
-unpaired_from back x (inr h) =
-    let o = closes_from back x h.0 in
-    let f : is_fused back ≡ false = false_from_ne_true (is_fused back) (λ e. h.1 (fused_to back e)) in
-    ap (λ (b : Bool). (opens_fusion (item_at (point back x)) && is_fused back) || (b && not (is_fused back))) o
-    ∙ (ap (λ (b : Bool). (opens_fusion (item_at (point back x)) && is_fused back) || not b) f ∙ or-true (opens_fusion (item_at (point back x)) && is_fused back))
+unpaired_from back x (inl h) = grind (arith, opens_from, fused_from, point)
+unpaired_from back x (inr h) = grind (arith, closes_from, false_from_ne_true, fused_to, point, or-true)
 
 missing_from : (macros : ℕ) (back : List Char) (x : Char) (t : List ℕ) (digit : ℕ) → EndsItem (marks (x ∷ back)) (Attribute, t) → macro_in t ≡ Some digit → is_defined macros digit ≡ false
     → is_missing macros (macro_of (item_at (point back x))) ≡ true
 missing_from macros back x t digit i m d =
     ap (λ (o : Option ItemText). is_missing macros (macro_of o)) (item_from back x (Attribute, t) i) ∙ (ap (is_missing macros) m ∙ ap not d)
-
--- what ends an item is kept
-kept_item : (back : List Char) (x : Char) (i : ItemText) → EndsItem (marks (x ∷ back)) i → (is_comment (point back x) ≡ false) × (is_kept (point back x) ≡ true)
-unfolding marks
-kept_item back x i h = (h.1.0, (kept_with_from back x h.0 h.1).0)
-
-unpaired_kept : (back : List Char) (x : Char)
-    → (EndsItem (marks (x ∷ back)) (Fusion, codes "@[") × IsFused (marks back)) ⊎ (EndsItem (marks (x ∷ back)) (Fusion, codes "]") × (¬ IsFused (marks back)))
-    → (is_comment (point back x) ≡ false) × (is_kept (point back x) ≡ true)
-unpaired_kept back x (inl h) = kept_item back x (Fusion, codes "@[") h.0
-unpaired_kept back x (inr h) = kept_item back x (Fusion, codes "]") h.0
 
 pub found_here : (split : Bool) (macros : ℕ) (back : List Char) (x : Char) → is_over split back ≡ false → is_end split (point back x) ≡ false
     → AreThoseFound (Found macros back x) (findings_of (events_at split macros (point back x)))
@@ -94,18 +62,10 @@ found_here split macros back x running no_mark =
     subst (λ (es : List NoteEvent). AreThoseFound (Found macros back x) (findings_of es)) (sym same) (at_comment (is_comment (point back x)) refl)
   where
     same : events_at split macros (point back x) ≡ cond (is_comment (point back x)) [] (cond (is_kept (point back x)) (Kept x ∷ warnings macros (point back x)) (finding_event x.place E1 ∷ []))
-    same =
-        ap (λ (b : Bool). cond b [] (cond (is_end split (point back x)) (at_end (point back x)) (cond (is_comment (point back x)) [] (cond (is_kept (point back x)) (Kept x ∷ warnings macros (point back x)) (finding_event x.place E1 ∷ []))))) running
-        ∙ ap (λ (b : Bool). cond b (at_end (point back x)) (cond (is_comment (point back x)) [] (cond (is_kept (point back x)) (Kept x ∷ warnings macros (point back x)) (finding_event x.place E1 ∷ [])))) no_mark
+    same = cc
 
     silent : is_comment (point back x) ≡ true → (f : Finding) → Found macros back x f → ⊥
-    silent e f h = elim (found_only macros (x, is_comment (point back x)) (marks back) f.code f.place h) [
-      | inl u ↦ (let g = u.1.0 in absurd (cc))
-      | inr v ↦ elim v [
-        | inl u ↦ (let g = (kept_item back x (Attribute, u.1.0.0) u.1.0.2).0 in absurd (cc))
-        | inr u ↦ (let g = (unpaired_kept back x u.1.0).0 in absurd (cc))
-      ]
-    ]
+    silent e f h = grind arith
 
     quiet : is_kept (point back x) ≡ true → is_unpaired (point back x) ≡ false → is_missing macros (macro_of (item_at (point back x))) ≡ false → (f : Finding) → Found macros back x f → ⊥
     quiet k p m f h = elim (found_only macros (x, is_comment (point back x)) (marks back) f.code f.place h) [
@@ -118,12 +78,7 @@ found_here split macros back x running no_mark =
 
     warned : is_kept (point back x) ≡ true → (a : Bool) → is_unpaired (point back x) ≡ a → (b : Bool) → is_missing macros (macro_of (item_at (point back x))) ≡ b
         → AreThoseFound (Found macros back x) (findings_of (Kept x ∷ cond a (finding_event x.place W10 ∷ []) [] ++ cond b (finding_event (opener back) W8 ∷ []) []))
-    warned k true e true f = (let g = fusion_item back x e in let h = ap (λ (o : Option ItemText). is_missing macros (macro_of o)) g.1 in absurd (cc))
-    warned k true e false f = inl (record { place = x.place; code = W10 }, (unpaired_to back x e, refl), refl)
-    warned k false e true f =
-        let g = missing_some macros (item_at (point back x)) f in
-        inl (record { place = opener back; code = W8 }, ((g.0, g.1, item_to back x (Attribute, g.0) g.2, g.3, g.4), opener_is back), refl)
-    warned k false e false f = inr (quiet k e f, refl)
+    warned k a e b f = grind (arith, fusion_item, unpaired_to, missing_some, point, item_to, opener_is, quiet)
 
     at_kept : is_comment (point back x) ≡ false → (b : Bool) → is_kept (point back x) ≡ b
         → AreThoseFound (Found macros back x) (findings_of (cond b (Kept x ∷ warnings macros (point back x)) (finding_event x.place E1 ∷ [])))
@@ -132,8 +87,7 @@ found_here split macros back x running no_mark =
 
     at_comment : (b : Bool) → is_comment (point back x) ≡ b
         → AreThoseFound (Found macros back x) (findings_of (cond b [] (cond (is_kept (point back x)) (Kept x ∷ warnings macros (point back x)) (finding_event x.place E1 ∷ []))))
-    at_comment true e = inr (silent e, refl)
-    at_comment false e = at_kept e (is_kept (point back x)) refl
+    at_comment b e = grind (arith, silent, at_kept, point)
 
 -- ---- nothing else is so found
 

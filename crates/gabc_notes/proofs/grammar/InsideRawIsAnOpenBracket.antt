@@ -13,13 +13,10 @@ use Rattle.gabc_notes.specs.Events.{in_raw}
 use Rattle.gabc_notes.specs.machine.ItemMachine.{next_state, whole_at, raw_state}
 use Rattle.gabc_notes.specs.declared.item.ItemKind.{ItemKind}
 use Rattle.gabc_notes.specs.declared.class.CharClass.{CharClass}
-use Rattle.gabc_notes.specs.declared.class.CharClass.TheVariants.{Close}
 use Rattle.gabc_notes.specs.declared.state.ItemState.{ItemState}
-use Rattle.gabc_notes.specs.declared.state.ItemState.TheVariants.{Start, Raw, SlashRaw, Done}
-use Rattle.gabc_notes.specs.declared.state.FullItem.TheVariants.{Alteration as FullAlteration}
+use Rattle.gabc_notes.specs.declared.state.ItemState.TheVariants.{Start, Raw, SlashRaw}
 use Rattle.gabc_notes.proofs.machine.MachineReadsTable.{machine, snippets_read, far}
 use Rattle.gabc_notes.proofs.machine.EventsDependOnState.{raw_at, raw_by}
-use Rattle.gabc_notes.proofs.machine.StageEmitsItsEvents.{raw_is}
 
 -- The text is a snippet, a `[` with which it is none, and no `]` from there on.
 pub record OpenBy (t : List ℕ) : Type 0 where
@@ -65,8 +62,7 @@ pub walked : (t : List ℕ) → run gabc start t ≡ reading_of gabc machine (wa
 walked t = walk_reads (Some Start) t
 
 raw_walk : (o : Option ItemState) → raw_at (reading_of gabc machine o) ≡ is_raw o
-raw_walk None = refl
-raw_walk (Some s) = raw_is s
+raw_walk o = grind arith
 
 -- inside raw by the walk
 pub raw_emitted : (t : List ℕ) → in_raw t ≡ is_raw (walk_from (Some Start) t)
@@ -77,8 +73,7 @@ is_whole_state None = false
 is_whole_state (Some s) = whole_at s
 
 whole_walk : (o : Option ItemState) → is_whole (reading_of gabc machine o) ≡ is_whole_state o
-whole_walk None = refl
-whole_walk (Some s) = snippets_read.whole s
+whole_walk o = grind arith
 
 whole_emitted : (t : List ℕ) → is_snippet gabc t ≡ is_whole_state (walk_from (Some Start) t)
 whole_emitted t = ap is_whole (walked t) ∙ whole_walk (walk_from (Some Start) t)
@@ -93,13 +88,11 @@ abbrev pub test : ItemState → ℕ → Bool
 test s c = cond (is_raw (on s c)) ((raw_state s && not (c == 93)) || ((c == 91) && (whole_at s && not (raw_state s)))) (not (raw_state s) || (c == 93))
 
 tested : (s : ItemState) → below 129 (test s) ≡ true
-tested (Done FullAlteration) = refl
-tested _ = refl
+tested s = grind arith
 
 -- a `[` after a snippet opens raw or makes a snippet
 opened : (s : ItemState) → cond (whole_at s) (whole_or_raw (on s 91)) true ≡ true
-opened (Done FullAlteration) = refl
-opened _ = refl
+opened s = grind arith
 
 test_at : (s : ItemState) (c : ℕ) → test s c ≡ true
 test_at s c = elim (dec_lt c 128) [
@@ -111,8 +104,7 @@ test_at s c = elim (dec_lt c 128) [
 ]
 
 raw_then : (a b d : Bool) → a ≡ true → cond a b d ≡ true → b ≡ true
-raw_then true b d e f = f
-raw_then false b d e f = absurd (cc)
+raw_then a b d e f = cc
 
 -- a character after which the text lies inside raw
 pub step_in : (s z : ItemState) (c : ℕ) → on s c ≡ Some z → raw_state z ≡ true → ((raw_state s ≡ true) × (c == 93 ≡ false)) ⊎ ((c ≡ 91) × (whole_at s ≡ true))
@@ -129,25 +121,20 @@ pub step_on : (s : ItemState) (c : ℕ) → raw_state s ≡ true → c == 93 ≡
 step_on s c h e = go (is_raw (on s c)) (test_at s c)
   where
     go : (b : Bool) → cond b ((raw_state s && not (c == 93)) || ((c == 91) && (whole_at s && not (raw_state s)))) (not (raw_state s) || (c == 93)) ≡ true → b ≡ true
-    go true f = refl
-    go false f = absurd (let g : (not (raw_state s) || (c == 93)) ≡ false = rw (h, e) refl in cc)
+    go b f = grind arith
 
 -- and raw goes on with any other character
 pub raw_stays : (s : ItemState) (c : ℕ) → raw_state s ≡ true → c == 93 ≡ false → on s c ≡ Some s
 raw_stays s c h e = by s h (step_on s c h e)
   where
     in_raw : (k : CharClass) → is_raw (next_state Raw k) ≡ true → next_state Raw k ≡ Some Raw
-    in_raw Close f = absurd (cc f)
-    in_raw _ f = refl
+    in_raw k f = grind arith
 
     in_slash : (k : CharClass) → is_raw (next_state SlashRaw k) ≡ true → next_state SlashRaw k ≡ Some SlashRaw
-    in_slash Close f = absurd (cc f)
-    in_slash _ f = refl
+    in_slash k f = grind arith
 
     by : (s : ItemState) → raw_state s ≡ true → is_raw (on s c) ≡ true → on s c ≡ Some s
-    by Raw f g = in_raw (class_of_character c) g
-    by SlashRaw f g = in_slash (class_of_character c) g
-    by _ f g = absurd (cc f)
+    by s f g = grind (arith, in_raw, in_slash)
 
 -- where a bracket was opened on the way to raw
 abbrev pub OpenedIn : ItemState → List ℕ → Type 0
@@ -172,8 +159,7 @@ pub raw_not_whole : (s : ItemState) → raw_state s ≡ true → whole_at s ≡ 
 raw_not_whole s e = grind arith
 
 raw_no_snippet : (o : Option ItemState) → is_raw o ≡ true → is_whole_state o ≡ false
-raw_no_snippet None e = absurd (cc)
-raw_no_snippet (Some s) e = raw_not_whole s e
+raw_no_snippet o e = grind arith
 
 -- inside raw a bracket is open
 pub open_to : (t : List ℕ) → in_raw t ≡ true → OpenBy t
@@ -201,8 +187,7 @@ stays s (c ∷ r) h e =
     go (on s c) (step_on s c h f.0) (λ z k. stays z r k f.1)
   where
     go : (o : Option ItemState) → is_raw o ≡ true → ((z : ItemState) → raw_state z ≡ true → is_raw (walk_from (Some z) r) ≡ true) → is_raw (walk_from o r) ≡ true
-    go None k F = absurd (cc)
-    go (Some z) k F = F z k
+    go o k F = grind arith
 
 -- where a bracket is open the text lies inside raw
 pub open_from : (t : List ℕ) → OpenBy t → in_raw t ≡ true
@@ -213,9 +198,7 @@ open_from t h = raw_emitted t ∙ (ap (λ (u : List ℕ). is_raw (walk_from (Som
     here e = h.opens (snippet_from gabc refl (h.before ++ 91 ∷ []) (whole_emitted (h.before ++ 91 ∷ []) ∙ (ap is_whole_state (walk_append (Some Start) h.before (91 ∷ [])) ∙ e)))
 
     next : (z : Option ItemState) → whole_or_raw z ≡ true → (is_whole_state z ≡ true → ⊥) → is_raw (walk_from z h.after) ≡ true
-    next None w n = absurd (cc)
-    next (Some z) w n = elim (or_cases (whole_at z) (raw_state z) w) [ inl x ↦ absurd (n x) | inr x ↦ stays z h.after x h.unclosed ]
+    next z w n = grind (arith, or_cases, stays)
 
     go : (o : Option ItemState) → is_whole_state o ≡ true → (is_whole_state (walk_from o (91 ∷ [])) ≡ true → ⊥) → is_raw (walk_from o (91 ∷ h.after)) ≡ true
-    go None w n = absurd (cc)
-    go (Some y) w n = next (on y 91) (raw_then (whole_at y) (whole_or_raw (on y 91)) true w (opened y)) n
+    go o w n = grind (arith, next, raw_then, opened)

@@ -1,5 +1,5 @@
 -- The characters of the kept text by relations are those that are computed.
-use Rattle.std.proofs.Common.{◌≡◌, ℕ, List, [], ◌∷◌, ◌++◌, Bool, true, false, cond, ◌⊎◌, inl, inr, refl, sym, ap, ◌∙◌, subst, append-nil, append_assoc, chars, length, take, drop, Some}
+use Rattle.std.proofs.Common.{arith, ◌≡◌, ℕ, List, [], ◌∷◌, ◌++◌, Bool, true, false, cond, ◌⊎◌, inl, inr, refl, sym, ap, ◌∙◌, subst, append-nil, append_assoc, chars, length, take, drop, Some}
 use Rattle.std.specs.Prelude.{map, string_bytes}
 use Rattle.std.proofs.Math.Seq.{take-append_seam}
 use Rattle.std.proofs.lemmas.List.{take-append-drop, length-map}
@@ -11,14 +11,14 @@ use Rattle.gabc_places.specs.Place.{placed_characters_from}
 use Rattle.gabc_places.specs.StageLaw.{concat_of}
 use Rattle.gabc_notes.specs.Events.{is_kept, kept_with, is_end, is_over, at_end, events_at, note_events_after, note_events}
 use Rattle.gabc_notes.specs.SnippetRead.{kept_chars_of, kept_chars_in, stop_after, kept_by}
-use Rattle.gabc_notes.specs.NotesRead.{Marked, IsKeptWith, AreKept, AreKeptChars, IsSnippetRead}
+use Rattle.gabc_notes.specs.NotesRead.{Marked, AreKept, AreKeptChars, IsSnippetRead}
 use Rattle.gabc_notes.specs.declared.snippet_read.SnippetRead.{SnippetRead}
 use Rattle.gabc_notes.specs.declared.stage.NoteEvent.{NoteEvent}
 use Rattle.gabc_notes.specs.declared.stage.NoteEvent.TheVariants.{Kept, Found}
 use Rattle.gabc_notes.proofs.KeptChars.{kept_chars-append}
 use Rattle.gabc_notes.proofs.KeptText.{text_is}
 use Rattle.gabc_notes.proofs.grammar.CharactersByRelations.{marks, kept_with_to, kept_with_from}
-use Rattle.gabc_notes.proofs.grammar.EmittedByRelations.{kept_event, parted, of_mark}
+use Rattle.gabc_notes.proofs.grammar.EmittedByRelations.{kept_event, parted}
 use Rattle.gabc_notes.proofs.grammar.LawsOfEventsByPoint.{more_over, over_joined, cut_outs}
 use Rattle.gabc_notes.proofs.grammar.ReadByRelations.{back_is, relations_are_computed}
 use Rattle.gabc_notes.proofs.machine.LoopOverBody.{is_emitted}
@@ -41,29 +41,20 @@ of_event : (back : List Char) (x : Char) → kept_chars_of (kept_event back x) �
 of_event back x = go (is_kept (point back x))
   where
     go : (b : Bool) → kept_chars_of (cond b (Kept x ∷ []) []) ≡ cond b (x ∷ []) []
-    go true = refl
-    go false = refl
+    go b = grind arith
 
 -- one at most is kept of what is emitted of it
 kept_here : (split : Bool) (macros : ℕ) (back : List Char) (x : Char) → is_over split back ≡ false → is_end split (point back x) ≡ false
     → kept_chars_of (events_at split macros (point back x)) ≡ cond (is_kept (point back x)) (x ∷ []) []
-kept_here split macros back x o e =
-    ap kept_chars_of found.1 ∙ (kept_chars-append (kept_event back x) (map Found found.0)
-    ∙ (ap (λ (l : List Char). kept_chars_of (kept_event back x) ++ l) (none_found found.0) ∙ (append-nil (kept_chars_of (kept_event back x)) ∙ of_event back x)))
-  where
-    found : (fs : List Finding) × (events_at split macros (point back x) ≡ kept_event back x ++ map Found fs)
-    found = (_, parted split macros back x o e)
+kept_here split macros back x o e = grind (arith, kept_chars-append, none_found, append-nil, of_event, parted)
 
 none_at_end : (split : Bool) (back : List Char) (x : Char) → is_end split (point back x) ≡ true → kept_chars_of (at_end (point back x)) ≡ []
-none_at_end split back x e =
-    let m = of_mark split back x e in
-    ap kept_chars_of m.all ∙ (kept_chars-append (map Found m.found) _ ∙ (append-nil (kept_chars_of (map Found m.found)) ∙ none_found m.found))
+none_at_end split back x e = grind arith
 
 -- what is kept of the characters before the end, after those
 kept_on : (split : Bool) (macros : ℕ) (back xs : List Char) → is_over split back ≡ false → (before : List Char) → AreKept (marks back) before
     → AreKept (marks (stop_after split back xs).back) (before ++ kept_chars_of (concat_of (note_events_after split macros back xs)))
-kept_on split macros back [] o before h =
-    subst (AreKept (marks back)) (sym (ap (λ (es : List NoteEvent). before ++ kept_chars_of (es ++ [])) (cut_outs split back o) ∙ append-nil before)) h
+kept_on split macros back [] o before h = grind (arith, marks, cut_outs, append-nil)
 kept_on split macros back (x ∷ xs) o before h = go (is_emitted split macros back x o) (λ p b k. kept_on split macros (x ∷ back) xs p b k)
   where
     later : List NoteEvent
@@ -90,14 +81,7 @@ kept_on split macros back (x ∷ xs) o before h = go (is_emitted split macros ba
 -- the characters that are kept are one list
 kept_once : (back : List Marked) (cs ds : List Char) → AreKept back cs → AreKept back ds → cs ≡ ds
 kept_once [] cs ds h k = h ∙ sym k
-kept_once (m ∷ back) cs ds (a, h, e) (b, k, f) = go (kept_once back a b h k) e f
-  where
-    go : a ≡ b → (((t : List ℕ) × IsKeptWith (m ∷ back) t) × (cs ≡ a ++ m.0 ∷ [])) ⊎ ((¬ ((t : List ℕ) × IsKeptWith (m ∷ back) t)) × (cs ≡ a))
-        → (((t : List ℕ) × IsKeptWith (m ∷ back) t) × (ds ≡ b ++ m.0 ∷ [])) ⊎ ((¬ ((t : List ℕ) × IsKeptWith (m ∷ back) t)) × (ds ≡ b)) → cs ≡ ds
-    go p (inl u) (inl v) = u.1 ∙ (ap (λ (l : List Char). l ++ m.0 ∷ []) p ∙ sym v.1)
-    go p (inl u) (inr v) = absurd (v.0 u.0)
-    go p (inr u) (inl v) = absurd (u.0 v.0)
-    go p (inr u) (inr v) = u.1 ∙ (p ∙ sym v.1)
+kept_once (m ∷ back) cs ds (a, h, e) (b, k, f) = grind (arith, kept_once back a b h k)
 
 all_kept : (at : Place) (split : Bool) (macros : ℕ) (t : List ℕ) (r : SnippetRead) (h : IsSnippetRead at split macros t r)
     → AreKept h.back (kept_chars_of (concat_of (note_events split macros (placed_characters_from at t))))

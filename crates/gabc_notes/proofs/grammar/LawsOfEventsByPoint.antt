@@ -16,13 +16,13 @@ use Rattle.gabc_notes.specs.Table.{gabc}
 use Rattle.gabc_notes.specs.machine.ItemMachine.{whole_at, raw_state}
 use Rattle.gabc_notes.specs.Raw.{InComment, IsOpenedAt}
 use Rattle.gabc_places.proofs.PushesAreOne.{joined_silence}
-use Rattle.gabc_notes.specs.Events.{Point, in_raw, with_comments, ends_in_comment, kept, is_comment, is_kept, is_in_raw, is_end, is_over, opener, bytes_of, at_end, events_at, cut_events, note_events_after}
+use Rattle.gabc_notes.specs.Events.{Point, in_raw, kept, is_comment, is_kept, is_in_raw, is_end, is_over, opener, bytes_of, at_end, events_at, cut_events, note_events_after}
 use Rattle.gabc_notes.specs.SnippetRead.{SnippetStop, kept_of, ends_of, stop_after, kept_by, end_by}
 use Rattle.gabc_notes.specs.declared.stage.NoteEnd.{NoteEnd}
 use Rattle.gabc_notes.specs.declared.stage.NoteEvent.{NoteEvent}
 use Rattle.gabc_notes.specs.declared.stage.NoteEvent.TheVariants.{Kept, Found, Ended}
 use Rattle.gabc_notes.specs.declared.state.ItemState.{ItemState}
-use Rattle.gabc_notes.proofs.grammar.InsideRawIsAnOpenBracket.{step_in, raw_not_whole}
+use Rattle.gabc_notes.proofs.grammar.InsideRawIsAnOpenBracket.{step_in}
 use Rattle.gabc_notes.proofs.machine.LoopOverBody.{parts, goes, is_emitted, end_plain}
 use Rattle.gabc_notes.proofs.machine.FreshStageEmitsEventsByPoint.{over_emits, kept_by as by_states}
 use Rattle.gabc_notes.proofs.machine.OneCharacterMore.{point, kept_more, kept_same, opener_more}
@@ -61,10 +61,7 @@ comment_to (y ∷ back) x e =
 -- by its parts
 comment_by : (back line before : List Char) (x mark : Char) → x ∷ back ≡ line ++ mark ∷ before → mark.c ≡ 37 → in_raw (kept before) ≡ false
     → list_any (λ (y : Char). y.c == 10) line ≡ false → is_comment (point back x) ≡ true
-comment_by back [] before x mark e p o n =
-    let f = parts x mark back before e in
-    let c : x.c ≡ 37 = ap (λ (y : Char). y.c) f.0 ∙ p in
-    rw (c, ap (λ (b : List Char). in_raw (kept b)) f.1 ∙ o) (or-true (ends_in_comment (with_comments back)))
+comment_by back [] before x mark e p o n = grind (arith, parts, or-true)
 comment_by [] (l ∷ line) before x mark e p o n = absurd (none line (parts x l [] (line ++ mark ∷ before) e).1)
   where
     none : (line : List Char) → [] ≡ line ++ mark ∷ before → ⊥
@@ -77,8 +74,7 @@ comment_by (y ∷ back) (l ∷ line) before x mark e p o n =
     rw (here, comment_by back line before y mark f.1 p o later.1) refl
   where
     or_false : (a b : Bool) → (a || b) ≡ false → (a ≡ false) × (b ≡ false)
-    or_false true b e = absurd (cc)
-    or_false false b e = (refl, e)
+    or_false a b e = grind arith
 
 pub comment_decides : (back : List Char) (x : Char) → Decides (is_comment (point back x)) (InComment (x ∷ back))
 comment_decides back x = (comment_to back x, λ h. comment_by back h.line h.before x h.mark h.cut h.percent h.outside h.no_feed)
@@ -111,8 +107,7 @@ stop_here : (split : Bool) (back xs : List Char) (x : Char) → is_end split (po
 stop_here split back xs x n = ap (λ (b : Bool). cond b (record { back = back; mark = Some x.c }) (stop_after split (x ∷ back) xs)) n
 
 pub more_over : (split : Bool) (back : List Char) (x : Char) (b : Bool) → is_over split back ≡ false → is_end split (point back x) ≡ b → is_over split (x ∷ back) ≡ b
-more_over split back x true o e = ap (λ (a : Bool). a || is_over split back) e
-more_over split back x false o e = ap (λ (a : Bool). a || is_over split back) e ∙ o
+more_over split back x b o e = grind arith
 
 pub emitted_kept : (split : Bool) (macros : ℕ) (xs back : List Char) → is_over split back ≡ false
     → kept back ++ kept_of (concat_of (note_events_after split macros back xs)) ≡ kept (stop_after split back xs).back
@@ -207,8 +202,7 @@ open_kept back x k same r n h = record {
     none (c ∷ t) e = go (c == 93) e (none t)
       where
         go : (a : Bool) → (a || is_in 93 t) ≡ false → (is_in 93 t ≡ false → is_in 93 (t ++ x.c ∷ []) ≡ false) → (a || is_in 93 (t ++ x.c ∷ [])) ≡ false
-        go true e F = absurd (cc)
-        go false e F = F e
+        go a e F = grind arith
 
 -- a `[` that opens
 open_here : (back : List Char) (x : Char) → is_kept (point back x) ≡ true → kept (x ∷ back) ≡ kept back ++ x.c ∷ [] → in_raw (kept back) ≡ false → x.c ≡ 91 → IsOpenedAt (x ∷ back)
@@ -230,11 +224,7 @@ opened [] r = absurd (let f : false ≡ true = r in cc)
 opened (x ∷ back) r = go (is_comment (point back x)) refl (is_viable gabc (kept back ++ x.c ∷ [])) refl (opened back)
   where
     outside : (s : ItemState) → whole_at s ≡ true → raw_state s ≡ false
-    outside s w = by (raw_state s) refl
-      where
-        by : (b : Bool) → raw_state s ≡ b → b ≡ false
-        by true e = absurd (let g = raw_not_whole s e in cc)
-        by false e = refl
+    outside s w = grind arith
 
     go : (c : Bool) → is_comment (point back x) ≡ c → (v : Bool) → is_viable gabc (kept back ++ x.c ∷ []) ≡ v → (in_raw (kept back) ≡ true → IsOpenedAt back) → IsOpenedAt (x ∷ back)
     go true c v w F =

@@ -1,7 +1,7 @@
 -- Laws of the definitions.
-use Rattle.std.proofs.Common.{◌≡◌, ℕ, ◌≤◌, List, [], ◌++◌, length, Bool, true, false, not, ◌&&◌, refl, codes, arith, Decides}
+use Rattle.std.proofs.Common.{◌≡◌, ℕ, ◌≤◌, List, [], ◌++◌, length, true, codes, arith, Decides}
 use Rattle.gabc_patterns.specs.LongestItems.{OneKind, IsSnippet, IsViable, IsItemOf}
-use Rattle.gabc_patterns.specs.Derivative.{run, is_whole, is_snippet}
+use Rattle.gabc_patterns.specs.Derivative.{run, is_whole}
 use Rattle.gabc_patterns.proofs.AutomatonsByTests.{reading, rows_of}
 use Rattle.gabc_patterns.proofs.RowsAfterACharacter.{rows_end_to}
 use Rattle.gabc_patterns.proofs.RowsRun.{ends_once}
@@ -12,14 +12,12 @@ use Rattle.gabc_notes.specs.Table.{gabc}
 use Rattle.gabc_notes.specs.Events.{in_raw}
 use Rattle.gabc_notes.specs.declared.item.ItemKind.{ItemKind}
 use Rattle.gabc_notes.specs.declared.state.ItemState.{ItemState}
-use Rattle.gabc_notes.specs.declared.state.ItemState.TheVariants.{Dash, Raw, SlashRaw, Done}
-use Rattle.gabc_notes.specs.declared.state.FullItem.TheVariants.{Alteration as FullAlteration}
+use Rattle.gabc_notes.specs.declared.state.ItemState.TheVariants.{Dash, Raw, SlashRaw}
 use Rattle.gabc_notes.proofs.machine.MachineReadsTable.{machine, snippets_read, items_read}
 
 -- at each state at most one kind may end
 once : (s : ItemState) → ends_once (rows_of gabc machine s) ≡ true
-once (Done FullAlteration) = refl
-once _ = refl
+once s = grind arith
 
 -- rows that spell one text are of one kind
 pub kinds_are_one : OneKind gabc
@@ -37,12 +35,10 @@ completion SlashRaw = codes "]"
 completion _ = []
 
 completed : (s : ItemState) → is_whole (run gabc (reading gabc machine s) (completion s)) ≡ true
-completed (Done FullAlteration) = refl
-completed _ = refl
+completed s = grind arith
 
 short : (s : ItemState) → length (completion s) ≤ 1
-short (Done FullAlteration) = omega arith
-short _ = omega arith
+short s = grind arith
 
 -- one character is enough to complete a viable text
 pub one_completes : (t : List ℕ) → IsViable gabc t → (more : List ℕ) × (length more ≤ 1) × IsSnippet gabc (t ++ more)
@@ -50,9 +46,4 @@ one_completes t v = let y = completes gabc machine snippets_read completion comp
 
 -- inside raw
 pub raw_decides : (t : List ℕ) → Decides (in_raw t) (IsSnippet gabc (t ++ codes "]") × (¬ IsSnippet gabc t))
-raw_decides t = go (is_snippet gabc (t ++ codes "]")) (is_snippet gabc t) (snippet_decides gabc refl (t ++ codes "]")) (snippet_decides gabc refl t)
-  where
-    go : (a b : Bool) {P Q : Type 0} → Decides a P → Decides b Q → Decides (a && not b) (P × (¬ Q))
-    go true true p q = (λ e. absurd (cc), λ h. absurd (h.1 (q.0 refl)))
-    go true false p q = (λ e. (p.0 refl, λ y. absurd (let f = q.1 y in cc)), λ h. refl)
-    go false b p q = (λ e. absurd (cc), λ h. p.1 h.0)
+raw_decides t = grind (arith, snippet_decides)

@@ -58,8 +58,7 @@ at_joins before items h r =
     go n.to (on n.to 91) refl here joins
   where
     then_true : (a b : Bool) → a ≡ true → cond a b true ≡ true → b ≡ true
-    then_true true b e f = f
-    then_true false b e f = absurd (cc)
+    then_true a b e f = cc
 
     go : (z : ItemState) (o : Option ItemState) → on z 91 ≡ o → Stands gabc machine z before → elim o as (λ _. Bool) [ None ↦ false | Some y ↦ whole_at y ] ≡ true → IsSnippet gabc (before ++ 91 ∷ [])
     go z None e s j = absurd (cc)

@@ -59,8 +59,7 @@ end_from split back x h =
     ∙ (ap (λ (b : Bool). not b && ((x.c == 41) || (split && (x.c == 124)))) (no_raw_from back h.no_raw) ∙ go h.mark)
   where
     go : (x.c ≡ 41) ⊎ ((split ≡ true) × (x.c ≡ 124)) → ((x.c == 41) || (split && (x.c == 124))) ≡ true
-    go (inl e) = ap (λ (c : ℕ). (c == 41) || (split && (x.c == 124))) e
-    go (inr e) = ap (λ (b : Bool). (x.c == 41) || (b && (x.c == 124))) e.0 ∙ (ap (λ (c : ℕ). (x.c == 41) || (c == 124)) e.1 ∙ or-true (x.c == 41))
+    go h = grind arith
 
 over_from : (split : Bool) (after before : List Char) (x : Char) → is_end split (point before x) ≡ true → is_over split (after ++ x ∷ before) ≡ true
 over_from split [] before x e = ap (λ (b : Bool). b || is_over split before) e
@@ -174,9 +173,7 @@ stop_is : (split : Bool) (back xs rest : List Char) → is_over split (reverse_a
     → stop_after split back (xs ++ rest) ≡ record { back = reverse_aux xs back; mark = mark_of rest }
 stop_is split back [] [] o m = refl
 stop_is split back [] (x ∷ rest) o m = ap (λ (b : Bool). cond b (record { back = back; mark = Some x.c }) (stop_after split (x ∷ back) rest)) m
-stop_is split back (x ∷ xs) rest o m =
-    let e : is_end split (point back x) ≡ false = false_from_ne_true (is_end split (point back x)) (λ e. (let f = over_on split (x ∷ back) xs (ap (λ (b : Bool). b || is_over split back) e) in absurd (cc))) in
-    ap (λ (b : Bool). cond b (record { back = back; mark = Some x.c }) (stop_after split (x ∷ back) (xs ++ rest))) e ∙ stop_is split (x ∷ back) xs rest o m
+stop_is split back (x ∷ xs) rest o m = grind (arith, point, false_from_ne_true, over_on, stop_is split (x ∷ back) xs rest o m)
 
 aux_append : (xs ys : List Char) → reverse_aux xs ys ≡ reverse xs ++ ys
 aux_append xs [] = sym (append-nil (reverse xs))
@@ -196,28 +193,14 @@ endings_are back x = grind arith
 
 is_unfinished_at : (back : List Char) (x : Char) → AreThoseFound (λ f. (f ≡ record { place = x.place; code = E6 }) × (¬ IsSnippet gabc (kept back))) (unfinished_at back x)
 unfolding unfinished_at
-is_unfinished_at back x = go (is_snippet gabc (kept back)) refl
-  where
-    go : (b : Bool) → is_snippet gabc (kept back) ≡ b → AreThoseFound (λ f. (f ≡ record { place = x.place; code = E6 }) × (¬ IsSnippet gabc (kept back))) (cond b [] (record { place = x.place; code = E6 } ∷ []))
-    go true e = inr ((λ f h. h.1 (snippet_from gabc refl (kept back) e)), refl)
-    go false e = inl (record { place = x.place; code = E6 }, (refl, no_snippet gabc refl (kept back) e), refl)
+is_unfinished_at back x = grind (arith, snippet_from, no_snippet)
 
 is_fused_at : (back : List Char) (x : Char) → AreThoseFound (λ f. (f ≡ record { place = x.place; code = W10 }) × IsFused (marks back)) (fused_at back x)
 unfolding fused_at
-is_fused_at back x = go (is_fused back) refl
-  where
-    go : (b : Bool) → is_fused back ≡ b → AreThoseFound (λ f. (f ≡ record { place = x.place; code = W10 }) × IsFused (marks back)) (cond b (record { place = x.place; code = W10 } ∷ []) [])
-    go true e = inl (record { place = x.place; code = W10 }, (refl, fused_to back e), refl)
-    go false e = inr ((λ f h. let g = fused_from back h.1 in absurd (cc)), refl)
+is_fused_at back x = grind (arith, fused_to, fused_from)
 
 pub end_found : (back : List Char) (x : Char) → AreFoundAtEnd (marks back) (kept back) x (findings_of (at_end (point back x)))
-end_found back x = record {
-  unfinished = unfinished_at back x;
-  fused = fused_at back x;
-  is_unfinished = is_unfinished_at back x;
-  is_fused = is_fused_at back x;
-  all = endings_are back x;
-}
+end_found back x = grind (arith, is_unfinished_at, is_fused_at, endings_are)
 
 pub end_found_only : (back : List Char) (x : Char) (text : List ℕ) (fs : List Finding) → text ≡ kept back → AreFoundAtEnd (marks back) text x fs → fs ≡ findings_of (at_end (point back x))
 end_found_only back x text fs same i =
@@ -240,15 +223,10 @@ ends_as : (n c : ℕ) → ending_at (end_by_mark c) n ≡ cond (c == 124) (snipp
 ends_as n c = grind arith
 
 pub cut_at : (back : List Char) → IsCutAt (marks back) (cond (in_raw (kept back)) (opener back) (record { line = 0; column = 0 }))
-cut_at back = go (in_raw (kept back)) refl
-  where
-    go : (b : Bool) → in_raw (kept back) ≡ b → IsCutAt (marks back) (cond b (opener back) (record { line = 0; column = 0 }))
-    go true e = inl (raw_to back e, opener_is back)
-    go false e = inr (no_raw_to back e, refl)
+cut_at back = grind (arith, raw_to, opener_is, no_raw_to)
 
 pub cut_only : (back : List Char) (p : Place) → IsCutAt (marks back) p → p ≡ cond (in_raw (kept back)) (opener back) (record { line = 0; column = 0 })
-cut_only back p (inl h) = opener_only back p h.1 ∙ sym (ap (λ (b : Bool). cond b (opener back) (record { line = 0; column = 0 })) (raw_from back h.0))
-cut_only back p (inr h) = h.1 ∙ sym (ap (λ (b : Bool). cond b (opener back) (record { line = 0; column = 0 })) (no_raw_from back h.0))
+cut_only back p h = grind (arith, opener_only, raw_from, no_raw_from)
 
 -- ---- both ways
 
@@ -288,16 +266,11 @@ read_by_relations at split macros t r h =
 
 -- the snippet stops where the rest begins
 stops : (split : Bool) (back rest : List Char) (text : List ℕ) (found : List Finding) (r : SnippetRead) → IsRead split (marks back) text found rest r → StopsAt split back rest
-stops split back [] text found r i = tt
-stops split back (x ∷ rest) text found r i = end_from split back x i.mark
+stops split back rest text found r i = grind (arith, end_from)
 
 stop_read : (split : Bool) (xs back rest : List Char) → xs ≡ reverse back ++ rest → is_over split back ≡ false → StopsAt split back rest
     → stop_after split [] xs ≡ record { back = back; mark = mark_of rest }
-stop_read split xs back rest cut o m =
-    let twice : reverse_aux (reverse back) [] ≡ back = reverse-reverse back in
-    ap (stop_after split []) cut
-    ∙ (stop_is split [] (reverse back) rest (ap (is_over split) twice ∙ o) (subst (λ (u : List Char). StopsAt split u rest) (sym twice) m)
-    ∙ ap (λ (u : List Char). record { back = u; mark = mark_of rest }) twice)
+stop_read split xs back rest cut o m = grind (arith, reverse-reverse, stop_is)
 
 pub back_is : (at : Place) (split : Bool) (macros : ℕ) (t : List ℕ) (r : SnippetRead) (h : IsSnippetRead at split macros t r) → h.back ≡ marks (stop_after split [] (placed_characters_from at t)).back
 back_is at split macros t r h =

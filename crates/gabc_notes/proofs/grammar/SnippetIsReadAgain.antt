@@ -1,11 +1,11 @@
 -- A snippet in front of its mark is read again as that snippet.
-use Rattle.std.proofs.Common.{◌≡◌, ℕ, suc, List, [], ◌∷◌, ◌++◌, Bool, true, false, cond, not, ◌&&◌, ◌||◌, ◌==◌, refl, sym, ap, ◌∙◌, subst, length, take, Option, Some, None, append-nil, append_assoc, ne_eqb, add-one}
+use Rattle.std.proofs.Common.{arith, ◌≡◌, ℕ, suc, List, [], ◌∷◌, ◌++◌, Bool, true, false, cond, not, ◌&&◌, ◌||◌, ◌==◌, refl, sym, ap, ◌∙◌, subst, length, take, Option, Some, None, append-nil, append_assoc, ne_eqb, add-one}
 use Rattle.std.proofs.lemmas.Bool.{and_parts}
 use mathlib.Core.List.{reverse_aux}
 use Rattle.std.specs.List.{All}
 use Rattle.std.proofs.Math.Seq.{take-length}
 use Rattle.std.proofs.lemmas.List.Elements.{All-nil, All-cons, All-append}
-use Rattle.gabc_places.specs.declared.code.Code.TheVariants.{E6, W8, W10}
+use Rattle.gabc_places.specs.declared.code.Code.TheVariants.{W8, W10}
 use Rattle.gabc_places.specs.declared.place.Char.{Char}
 use Rattle.gabc_places.specs.declared.place.Place.{Place}
 use Rattle.gabc_places.specs.Place.{next_place, placed_characters_from}
@@ -19,16 +19,13 @@ use Rattle.gabc_patterns.proofs.FunctionsMeetRelations.{viable_decides, snippet_
 use Rattle.gabc_notes.specs.Table.{gabc}
 use Rattle.gabc_notes.specs.Ends.{IsMarkOf}
 use Rattle.gabc_notes.specs.machine.ItemMachine.{raw_state}
-use Rattle.gabc_notes.specs.Events.{in_raw, finding_event, with_comments, ends_in_comment, kept, is_comment, is_end, is_over, is_fused, is_unpaired, is_missing, macro_of, item_at, opener, warnings, at_end, end_by_mark, bytes_of, events_at, note_events_after, note_events, Point}
+use Rattle.gabc_notes.specs.Events.{in_raw, finding_event, with_comments, ends_in_comment, kept, is_comment, is_end, is_over, is_unpaired, is_missing, macro_of, item_at, opener, warnings, at_end, end_by_mark, bytes_of, events_at, note_events_after, note_events, Point}
 use Rattle.gabc_notes.specs.SnippetRead.{SnippetStop, kept_chars_of, findings_of, ends_of, stop_after, kept_by}
 use Rattle.gabc_notes.specs.ReadAgain.{IsWarning, IsReadAgain}
 use Rattle.gabc_notes.specs.declared.stage.NoteEnd.{NoteEnd}
-use Rattle.gabc_notes.specs.declared.stage.NoteEnd.TheVariants.{Next, Close, Cut}
 use Rattle.gabc_notes.specs.declared.stage.NoteEvent.{NoteEvent}
-use Rattle.gabc_notes.specs.declared.stage.NoteEvent.TheVariants.{Kept, Ended}
+use Rattle.gabc_notes.specs.declared.stage.NoteEvent.TheVariants.{Kept}
 use Rattle.gabc_notes.specs.declared.state.ItemState.{ItemState}
-use Rattle.gabc_notes.specs.declared.state.ItemState.TheVariants.{Done}
-use Rattle.gabc_notes.specs.declared.state.FullItem.TheVariants.{Alteration as FullAlteration}
 use Rattle.gabc_notes.proofs.KeptChars.{kept_chars-append}
 use Rattle.gabc_notes.proofs.grammar.InsideRawIsAnOpenBracket.{on}
 use Rattle.gabc_notes.proofs.grammar.LawsOfEventsByPoint.{ends_append, over_joined, more_over}
@@ -47,8 +44,7 @@ abbrev is_barred : ItemState → ℕ → Bool
 is_barred s c = raw_state s || is_none (on s c)
 
 barred : (s : ItemState) → (is_barred s 41 && (is_barred s 124 && is_barred s 37)) ≡ true
-barred (Done FullAlteration) = refl
-barred _ = refl
+barred s = grind arith
 
 barred_by : (s z : ItemState) (d : ℕ) → is_barred s d ≡ true → raw_state s ≡ false → on s d ≡ Some z → ⊥
 barred_by s z d b r e = let f : is_barred s d ≡ false = rw (r, e) refl in let g : true ≡ false = sym b ∙ f in cc
@@ -68,10 +64,6 @@ plain_outside k c v r =
     λ e h. ne_eqb c e (λ f. barred_by y.from y.to e h (sym y.raw ∙ r) (subst (λ (n : ℕ). on y.from n ≡ Some y.to) f y.steps.next)) in
     record { no_bracket = never 41 b.0; no_bar = never 124 d.0; no_percent = never 37 d.1 }
 
-unless : (a b : Bool) → (a ≡ false → b ≡ false) → (not a && b) ≡ false
-unless true b f = refl
-unless false b f = f refl
-
 -- after characters in no comment a character that goes on the kept text begins none, and ends no snippet
 pub record GoesOn (split : Bool) (back : List Char) (x : Char) : Type 0 where
   pub comment : is_comment (point back x) ≡ false
@@ -80,32 +72,7 @@ pub record GoesOn (split : Bool) (back : List Char) (x : Char) : Type 0 where
   pub kept_is : kept (x ∷ back) ≡ kept back ++ x.c ∷ []
 
 goes_on : (split : Bool) (back : List Char) (x : Char) → ends_in_comment (with_comments back) ≡ false → is_viable gabc (kept back ++ x.c ∷ []) ≡ true → GoesOn split back x
-goes_on split back x n v = record {
-  comment = comment;
-  no_mark = no_mark;
-  no_end = ap (λ (a : Bool). not a && (not (in_raw (kept back)) && ((x.c == 41) || (split && (x.c == 124))))) comment ∙ no_mark;
-  kept_is = kept_more back x comment ∙ ap (λ (a : Bool). cond a (kept back ++ x.c ∷ []) (kept back)) v;
-}
-  where
-    plain : in_raw (kept back) ≡ false → IsPlain x.c
-    plain r = plain_outside (kept back) x.c v r
-
-    both : (a b s : Bool) → a ≡ false → b ≡ false → (a || (s && b)) ≡ false
-    both a b true e f = rw (e, f) refl
-    both a b false e f = rw e refl
-
-    no_mark : (not (in_raw (kept back)) && ((x.c == 41) || (split && (x.c == 124)))) ≡ false
-    no_mark = unless (in_raw (kept back)) ((x.c == 41) || (split && (x.c == 124))) (λ r. both (x.c == 41) (x.c == 124) split (plain r).no_bracket (plain r).no_bar)
-
-    no_percent : (not (in_raw (kept back)) && (x.c == 37)) ≡ false
-    no_percent = unless (in_raw (kept back)) (x.c == 37) (λ r. (plain r).no_percent)
-
-    none : (a b d : Bool) → b ≡ false → d ≡ false → (not a && (b || d)) ≡ false
-    none true b d e f = refl
-    none false b d e f = rw (e, f) refl
-
-    comment : is_comment (point back x) ≡ false
-    comment = none (x.c == 10) (ends_in_comment (with_comments back)) (not (in_raw (kept back)) && (x.c == 37)) n no_percent
+goes_on split back x n v = grind (arith, kept_more, plain_outside)
 
 -- ---- what is emitted of such a character, and of the mark
 
@@ -119,28 +86,14 @@ one_warns place = All-cons IsWarning (record { place = place; code = W10 }) [] r
 kept_warns : (macros : ℕ) (p : Point) → (kept_chars_of (Kept p.here ∷ warnings macros p) ≡ p.here ∷ []) × AllWarnings (Kept p.here ∷ warnings macros p)
 kept_warns macros p = go (is_unpaired p) (is_missing macros (macro_of (item_at p)))
   where
-    w8 : AllWarnings (finding_event (opener p.back) W8 ∷ [])
-    w8 = All-cons IsWarning (record { place = opener p.back; code = W8 }) [] refl (All-nil IsWarning)
-
     go : (a b : Bool)
         → (kept_chars_of (Kept p.here ∷ cond a (finding_event p.here.place W10 ∷ []) [] ++ cond b (finding_event (opener p.back) W8 ∷ []) []) ≡ p.here ∷ [])
         × AllWarnings (Kept p.here ∷ cond a (finding_event p.here.place W10 ∷ []) [] ++ cond b (finding_event (opener p.back) W8 ∷ []) [])
-    go true true = (refl, All-cons IsWarning (record { place = p.here.place; code = W10 }) (record { place = opener p.back; code = W8 } ∷ []) refl w8)
-    go true false = (refl, one_warns p.here.place)
-    go false true = (refl, w8)
-    go false false = (refl, All-nil IsWarning)
+    go a b = grind arith
 
 -- and with the end of a whole snippet
 end_warns : (p : Point) → is_snippet gabc (kept p.back) ≡ true → (kept_chars_of (at_end p) ≡ []) × AllWarnings (at_end p)
-end_warns p s = go (is_snippet gabc (kept p.back)) (is_fused p.back) s
-  where
-    events : Bool → Bool → List NoteEvent
-    events a b = cond a [] (finding_event p.here.place E6 ∷ []) ++ (cond b (finding_event p.here.place W10 ∷ []) [] ++ Ended (end_by_mark p.here.c) (bytes_of (trim gabc (kept p.back))) ∷ [])
-
-    go : (a b : Bool) → a ≡ true → (kept_chars_of (events a b) ≡ []) × AllWarnings (events a b)
-    go true true e = (refl, one_warns p.here.place)
-    go true false e = (refl, All-nil IsWarning)
-    go false b e = absurd (cc)
+end_warns p s = grind (arith, one_warns)
 
 -- ---- the characters of a snippet, and its mark
 
@@ -149,9 +102,7 @@ pub record IsMark (split : Bool) (c : ℕ) : Type 0 where
   pub no_percent : c == 37 ≡ false
 
 pub mark_is : (split : Bool) (how : NoteEnd) (c : ℕ) → IsMarkOf split how c → IsMark split c
-mark_is split Close c e = subst (IsMark split) (sym e) (record { ends = refl; no_percent = refl })
-mark_is split Next c h = subst (IsMark split) (sym h.0) (record { ends = rw h.1 refl; no_percent = refl })
-mark_is split (Cut place) c h = absurd h
+mark_is split how c e = grind arith
 
 -- after these characters: the text is read to its mark
 pub record ReadsOn (split : Bool) (macros : ℕ) (back xs left : List Char) (t : List ℕ) (mark : ℕ) : Type 0 where
@@ -189,13 +140,10 @@ reads_mark split macros at rest mark back m n o s =
     }
   where
     unraw : (a b : Bool) → b ≡ true → (a && not b) ≡ false
-    unraw true b e = rw e refl
-    unraw false b e = refl
+    unraw a b e = grind arith
 
     none : (a b r d : Bool) → b ≡ false → d ≡ false → (not a && (b || (not r && d))) ≡ false
-    none true b r d e f = refl
-    none false b true d e f = rw e refl
-    none false b false d e f = rw (e, f) refl
+    none a b r d e f = grind arith
 
     yes : (a b : Bool) → a ≡ false → b ≡ true → (not a && b) ≡ true
     yes a b e f = rw (e, f) refl

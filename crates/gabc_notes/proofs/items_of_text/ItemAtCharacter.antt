@@ -1,14 +1,14 @@
 -- The item that ends with a character, by the states before and after it.
-use Rattle.std.proofs.Common.{◌≡◌, ℕ, ◌⊎◌, inl, inr, List, [], ◌∷◌, ◌++◌, Bool, true, false, cond, ◌||◌, ◌==◌, IsTrue, refl, sym, ap, ◌∙◌, subst, codes, Some, None, append-nil, append_assoc, eqb-true, ne_eqb, arith}
+use Rattle.std.proofs.Common.{◌≡◌, ℕ, ◌⊎◌, inl, inr, List, [], ◌∷◌, ◌++◌, Bool, false, cond, ◌||◌, refl, sym, ap, ◌∙◌, subst, codes, Some, None, append-nil, append_assoc, ne_eqb, arith}
 use Rattle.std.proofs.lemmas.List.{same_from_push}
 use Rattle.std.specs.List.{concat}
-use Rattle.gabc_patterns.specs.Pattern.{Spells, Each, is_in, any_but, one_of, text}
+use Rattle.gabc_patterns.specs.Pattern.{Spells, Each, is_in, any_but}
 use Rattle.gabc_patterns.specs.LongestItems.{IsItemOf, IsReading, IsSnippet}
 use Rattle.gabc_patterns.specs.Derivative.{Munch, start, nowhere, within, run, is_snippet}
 use Rattle.gabc_patterns.specs.Function.{items}
 use Rattle.gabc_patterns.proofs.ItemsFunctionReads.{items_only}
 use Rattle.gabc_patterns.proofs.LongestMunchByCharacter.{snippet_to}
-use Rattle.gabc_notes.specs.Table.{gabc, bracket, fusion}
+use Rattle.gabc_notes.specs.Table.{gabc}
 use Rattle.gabc_notes.specs.witness.StageEvents.{kind_at}
 use Rattle.gabc_notes.specs.Events.{ItemText, last_of, last_item}
 use Rattle.gabc_notes.specs.declared.item.ItemKind.{ItemKind}
@@ -37,9 +37,7 @@ pub one_items : (is : List ItemText) (t : List ℕ) → IsReading gabc is t → 
 one_items is t h = sym (items_only gabc refl kinds_are_one t is h)
 
 pub last_item_is : (is : List ItemText) (i : ItemText) (t : List ℕ) → IsReading gabc (is ++ i ∷ []) t → last_item t ≡ Some i
-last_item_is is i t h =
-    ap (λ (b : Bool). cond b (last_of (items gabc t)) None) (snippet_to gabc refl t (is ++ i ∷ [], h))
-    ∙ (ap last_of (one_items (is ++ i ∷ []) t h) ∙ last_pushed is i)
+last_item_is is i t h = grind (arith, snippet_to, one_items, last_pushed)
 
 pub last_item_none : (t : List ℕ) → is_snippet gabc t ≡ false → last_item t ≡ None
 last_item_none t e = ap (λ (b : Bool). cond b (last_of (items gabc t)) None) e
@@ -82,29 +80,9 @@ ends_with t k e = go (run gabc start t) refl e
 
 -- ---- the texts of items
 
--- one of one character
-one_char : (d : ℕ) (t : List ℕ) → Spells (one_of (d ∷ [])) t → t ≡ d ∷ []
-one_char d t (c, i, e) = e ∙ ap (λ (x : ℕ). x ∷ []) (sym (eqb-true d c (only (d == c) i)))
-  where
-    only : (b : Bool) → IsTrue (b || false) → b ≡ true
-    only true h = refl
-    only false h = h
-
 -- a fusion mark
 pub fusion_texts : (t : List ℕ) → IsItemOf gabc Fusion t → (t ≡ codes "@") ⊎ ((t ≡ codes "@[") ⊎ (t ≡ codes "]"))
-fusion_texts t h = elim (at_row h) [
-  | inl x ↦ inl (one_char 64 t x)
-  | inr y ↦ elim y [
-    | inl x ↦ inr (inl (two x))
-    | inr x ↦ inr (inr (one_char 93 t x))
-  ]
-]
-  where
-    two : Spells (text (codes "@[")) t → t ≡ codes "@["
-    two (a, b, x, y, e) = e ∙ (ap (λ (u : List ℕ). u ++ b) (one_char 64 a x) ∙ ap (λ (u : List ℕ). 64 ∷ u) (one_char 91 b y))
-
-    at_row : IsItemOf gabc Fusion t → Spells fusion t
-    at_row h = grind arith
+fusion_texts t h = grind arith
 
 -- what a bracket holds has no `]`
 no_close : (parts : List (List ℕ)) → Each (Spells (any_but 93)) parts → is_in 93 (concat parts) ≡ false
@@ -113,27 +91,11 @@ no_close (p ∷ parts) h = (let x = h.0 in ap (λ (t : List ℕ). is_in 93 (t ++
 
 -- an attribute
 pub attribute_text : (t : List ℕ) → IsItemOf gabc Attribute t → (r : List ℕ) × (t ≡ 91 ∷ r ++ 93 ∷ []) × (is_in 93 r ≡ false)
-attribute_text t h = spelt (at_row h)
-  where
-    spelt : Spells bracket t → (r : List ℕ) × (t ≡ 91 ∷ r ++ 93 ∷ []) × (is_in 93 r ≡ false)
-    spelt (a, b, x, (r, c, y, z, f), e) = (
-      r,
-      e ∙ (ap (λ (u : List ℕ). u ++ b) (one_char 91 a x) ∙ ap (λ (u : List ℕ). 91 ∷ u) (f ∙ ap (λ (u : List ℕ). r ++ u) (one_char 93 c z))),
-      ap (is_in 93) y.2 ∙ no_close y.0 y.1,
-    )
-
-    at_row : IsItemOf gabc Attribute t → Spells bracket t
-    at_row h = grind arith
+attribute_text t h = grind (arith, no_close)
 
 -- a fusion mark by its last character
 pub fusion_open : (k u : List ℕ) → Ends (Fusion, u) (k ++ 91 ∷ []) → u ≡ codes "@["
-fusion_open k u h = elim (fusion_texts u h.has) [
-  | inl e ↦ absurd (let f = same_from_push k h.prefix 91 64 (h.cut ∙ ap (λ (v : List ℕ). h.prefix ++ v) e) in omega (arith, f.1))
-  | inr y ↦ elim y [
-    | inl e ↦ e
-    | inr e ↦ absurd (let f = same_from_push k h.prefix 91 93 (h.cut ∙ ap (λ (v : List ℕ). h.prefix ++ v) e) in omega (arith, f.1))
-  ]
-]
+fusion_open k u h = grind (arith, same_from_push)
 
 pub fusion_close : (k u : List ℕ) → Ends (Fusion, u) (k ++ 93 ∷ []) → u ≡ codes "]"
 fusion_close k u h = elim (fusion_texts u h.has) [

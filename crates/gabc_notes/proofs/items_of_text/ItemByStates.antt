@@ -1,6 +1,5 @@
 -- The item that ends with a character, by the states of the machine before and after it.
 use Rattle.std.proofs.Common.{◌≡◌, ℕ, ◌⊎◌, inl, inr, List, [], ◌∷◌, ◌++◌, Bool, true, false, cond, not, ◌&&◌, ◌||◌, ◌==◌, refl, sym, ap, ◌∙◌, subst, codes, Option, Some, None, append_assoc, eqb-true, arith}
-use Rattle.std.proofs.lemmas.Bool.{and_parts, or_cases, not-true}
 use Rattle.std.proofs.Math.Bool.{and-false, and-true}
 use Rattle.std.proofs.lemmas.List.{same_from_push}
 use Rattle.gabc_patterns.specs.Pattern.{is_in}
@@ -19,7 +18,7 @@ use Rattle.gabc_notes.specs.declared.item.ItemKind.{ItemKind}
 use Rattle.gabc_notes.specs.declared.item.ItemKind.TheVariants.{Spacing, Attribute, Fusion}
 use Rattle.gabc_notes.specs.declared.state.ItemState.{ItemState}
 use Rattle.gabc_notes.specs.declared.state.ItemState.TheVariants.{Done}
-use Rattle.gabc_notes.specs.declared.state.FullItem.TheVariants.{Alteration as FullAlteration, Spacing as FullSpacing, Attribute as FullAttribute, Fusion as FullFusion}
+use Rattle.gabc_notes.specs.declared.state.FullItem.TheVariants.{Spacing as FullSpacing, Attribute as FullAttribute, Fusion as FullFusion}
 use Rattle.gabc_notes.proofs.machine.MachineReadsTable.{machine, snippets_read}
 use Rattle.gabc_notes.proofs.grammar.LawsOfKeptTexts.{none_empty}
 use Rattle.gabc_notes.proofs.grammar.InsideRawIsAnOpenBracket.{OpenBy, on, is_raw, step_on, open_from}
@@ -53,45 +52,18 @@ abbrev pub mark_test : ItemState → Bool
 mark_test s = opened_at s (on s 91) && (closed_at s (on s 93) && cond (whole_at s) (joined_at (on s 64)) true)
 
 pub marks_tested : (s : ItemState) → mark_test s ≡ true
-marks_tested (Done FullAlteration) = refl
-marks_tested _ = refl
-
--- the states that the tests report
-pub fusion_state : (s : ItemState) → is_fusion s ≡ true → s ≡ Done FullFusion
-fusion_state (Done FullFusion) e = refl
-fusion_state _ e = absurd (cc)
-
-pub spacing_state : (s : ItemState) → is_spacing s ≡ true → s ≡ Done FullSpacing
-spacing_state (Done FullSpacing) e = refl
-spacing_state _ e = absurd (cc)
-
-pub attribute_is_state : (s : ItemState) → attribute_state s ≡ true → s ≡ Done FullAttribute
-attribute_is_state (Done FullAttribute) e = refl
-attribute_is_state _ e = absurd (cc)
+marks_tested s = grind arith
 
 -- a raw state is neither whole nor an attribute
 pub raw_alone : (s : ItemState) → raw_state s ≡ true → (whole_at s ≡ false) × (attribute_state s ≡ false)
 raw_alone s e = grind arith
 
 pub opened_by : (s z : ItemState) → on s 91 ≡ Some z → (raw_state z ≡ true) ⊎ ((z ≡ Done FullFusion) × (raw_state s ≡ false))
-opened_by s z e =
-    let f = (and_parts (opened_at s (on s 91)) _ (marks_tested s)).0 in
-    let g : opened_at s (Some z) ≡ true = ap (opened_at s) (sym e) ∙ f in
-    elim (or_cases (raw_state z) (is_fusion z && not (raw_state s)) g) [
-      | inl x ↦ inl x
-      | inr x ↦ (let h = and_parts (is_fusion z) (not (raw_state s)) x in inr (fusion_state z h.0, not-true (raw_state s) h.1))
-    ]
+opened_by s z e = grind arith
 
 pub closed_by : (s z : ItemState) → on s 93 ≡ Some z
     → ((raw_state s ≡ true) × ((z ≡ Done FullAttribute) ⊎ (z ≡ Done FullSpacing))) ⊎ ((raw_state s ≡ false) × (z ≡ Done FullFusion))
-closed_by s z e =
-    let f = (and_parts (closed_at s (on s 93)) _ (and_parts (opened_at s (on s 91)) _ (marks_tested s)).1).0 in
-    go (raw_state s) refl (ap (closed_at s) (sym e) ∙ f)
-  where
-    go : (b : Bool) → raw_state s ≡ b → cond b (attribute_state z || is_spacing z) (is_fusion z) ≡ true
-        → ((raw_state s ≡ true) × ((z ≡ Done FullAttribute) ⊎ (z ≡ Done FullSpacing))) ⊎ ((raw_state s ≡ false) × (z ≡ Done FullFusion))
-    go true r h = inl (r, elim (or_cases (attribute_state z) (is_spacing z) h) [ inl x ↦ inl (attribute_is_state z x) | inr x ↦ inr (spacing_state z x) ])
-    go false r h = inr (r, fusion_state z h)
+closed_by s z e = grind arith
 
 -- ---- the item by the states
 
@@ -182,8 +154,7 @@ attribute_raw k raw u h e =
         none (c ∷ a) b e = go (c == 93) e (λ f. none a b f)
           where
             go : (x : Bool) → (x || is_in 93 (a ++ b)) ≡ false → (is_in 93 (a ++ b) ≡ false → is_in 93 a ≡ false) → (x || is_in 93 a) ≡ false
-            go true e F = e
-            go false e F = F e
+            go x e F = grind arith
 
     longer : (m : List ℕ) {r : List ℕ} → e.prefix ≡ h.before ++ m → 91 ∷ h.after ≡ m ++ 91 ∷ r → (r ≡ h.after → u ≡ raw ++ 93 ∷ []) → u ≡ raw ++ 93 ∷ []
     longer [] f g E = E (cc)
@@ -248,17 +219,14 @@ no_macro [] c e = refl
 no_macro (a ∷ []) c e = refl
 no_macro (a ∷ l ∷ []) c e = refl
 no_macro (a ∷ l ∷ m ∷ []) c e = refl
-no_macro (a ∷ l ∷ m ∷ d ∷ []) c e =
-    rw (e, and-false (is_digit d), and-false (m == 109), and-false (is_in l (codes "nge")), and-false (a == 91)) refl
+no_macro (a ∷ l ∷ m ∷ d ∷ []) c e = grind (arith, and-false)
 no_macro (a ∷ l ∷ m ∷ d ∷ b ∷ []) c e = refl
 no_macro (a ∷ l ∷ m ∷ d ∷ b ∷ f ∷ r) c e = refl
 
 -- an item that ends with another character is no such mark
 other_item : (i : ItemKind) (v : List ℕ) (c : ℕ) → c == 91 ≡ false → c == 93 ≡ false
     → (opens_fusion (Some (i, v ++ c ∷ [])) ≡ false) × (closes_fusion (Some (i, v ++ c ∷ [])) ≡ false) × (macro_of (Some (i, v ++ c ∷ [])) ≡ None)
-other_item Fusion v c e f = (same_open v c e, same_close v c f, refl)
-other_item Attribute v c e f = (refl, refl, no_macro v c f)
-other_item _ v c e f = (refl, refl, refl)
+other_item i v c e f = grind (arith, same_open, same_close, no_macro)
 
 abbrev pub IsNone : Option ItemText → Type 0
 IsNone item = (opens_fusion item ≡ false) × (closes_fusion item ≡ false) × (macro_of item ≡ None)

@@ -1,5 +1,5 @@
 -- The last item of a text, by where the reading stands after it.
-use Rattle.std.proofs.Common.{◌≡◌, ℕ, ◌⊎◌, inl, inr, List, [], ◌∷◌, ◌++◌, Bool, true, false, cond, Some, refl, sym, ap, ◌∙◌, subst, append-nil, append_assoc}
+use Rattle.std.proofs.Common.{arith, ◌≡◌, ℕ, ◌⊎◌, inl, inr, List, [], ◌∷◌, ◌++◌, Bool, true, false, cond, Some, refl, sym, ap, ◌∙◌, subst, append-nil, append_assoc}
 use Rattle.gabc_patterns.specs.LongestItems.{Table, Longest, IsItemOf, IsItem, IsReading, IsSnippet}
 use Rattle.gabc_patterns.specs.Derivative.{rows_after, rows_run, rows_end, Munch, start, nowhere, within, enter, step, run, end_kind}
 use Rattle.gabc_patterns.proofs.PartsOfNothing.{append_none}
@@ -115,8 +115,7 @@ module _ {K : Type 0} (table : Table K) where
   -- items that are the longest stay it, where less follows
   pub shrink : (is : List (K × List ℕ)) (t v w : List ℕ) → ReadsOn is t (v ++ w) → ReadsOn is t v
   shrink [] t v w h = h
-  shrink (i ∷ is) t v w (rest, e, has, l, r) =
-      (rest, e, has, record { has = l.has; longest = λ more after f k. l.longest more (after ++ w) (sym (append_assoc rest v w) ∙ (ap (λ (u : List ℕ). u ++ w) f ∙ append_assoc more after w)) k }, shrink is rest v w r)
+  shrink (i ∷ is) t v w (rest, e, has, l, r) = grind (arith, append_assoc, shrink is rest v w r)
 
   -- a reading cut in two
   pub cut_reading : (is js : List (K × List ℕ)) (t : List ℕ) → IsReading table (is ++ js) t → (a b : List ℕ) × (t ≡ a ++ b) × ReadsOn is a b × IsReading table js b
@@ -133,8 +132,7 @@ module _ {K : Type 0} (table : Table K) where
   -- and put together
   pub join_reading : (is js : List (K × List ℕ)) (a b : List ℕ) → ReadsOn is a b → IsReading table js b → IsReading table (is ++ js) (a ++ b)
   join_reading [] js a b h r = subst (λ (u : List ℕ). IsReading table js (u ++ b)) (sym h) r
-  join_reading (i ∷ is) js a b (rest, e, has, l, r) s =
-      (rest ++ b, ap (λ (u : List ℕ). u ++ b) e ∙ append_assoc i.1 rest b, has, l, join_reading is js rest b r s)
+  join_reading (i ∷ is) js a b (rest, e, has, l, r) s = grind (arith, append_assoc, join_reading is js rest b r s)
 
   -- the items of a prefix, where what follows it makes a snippet, are followed by a snippet
   pub prefix_read : (is js : List (K × List ℕ)) (a b : List ℕ) → ReadsOn is a b → IsReading table js (a ++ b) → IsSnippet table b

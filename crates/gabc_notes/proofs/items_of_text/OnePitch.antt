@@ -1,10 +1,9 @@
 -- A pitch that is an item by itself, or with a sign.
-use Rattle.std.proofs.Common.{◌≡◌, ℕ, ◌≤◌, ◌<◌, ◌||◌, ◌==◌, List, [], ◌∷◌, ◌++◌, Some, ap, None, Bool, true, false, refl, sym, arith, IsUtf8, ne_eqb, eqb-true, length, slice_index, codes, subst}
+use Rattle.std.proofs.Common.{◌≡◌, ℕ, ◌≤◌, ◌<◌, List, [], ◌∷◌, ◌++◌, Some, ap, None, true, refl, sym, arith, IsUtf8, ne_eqb, length, slice_index, codes}
 use Rattle.std.proofs.lemmas.Str.{encode_ascii, len_utf8_ascii}
-use Rattle.std.proofs.lemmas.Bool.{le-leb}
 use lib.Utf8.{encode}
 use Rattle.gabc_patterns.specs.Pattern.{is_in}
-use Rattle.gabc_notes.specs.machine.CharClass.{class_of_character, is_between}
+use Rattle.gabc_notes.specs.machine.CharClass.{class_of_character}
 use Rattle.gabc_notes.specs.machine.ItemMachine.{begun_item, going_on, kind_at_end}
 use Rattle.gabc_notes.specs.machine.Items.{IsFirstItem}
 use Rattle.gabc_notes.specs.declared.class.CharClass.{CharClass}
@@ -19,37 +18,11 @@ use Rattle.gabc_patterns.proofs.FirstItemByBytes.{ReadSoFar, begun_at, ends_at, 
 
 -- what holds of the three classes of small pitches holds of their letters
 small : (P : CharClass → Type 0) (c : ℕ) → 97 ≤ c → c ≤ 110 → (c ≡ 98 → P class.FlatB) → P class.ClefLetter → P class.Pitch → P (class_of_character c)
-small P c low high f k p = by_flat (c == 98) refl
-  where
-    hyphen : (c == 45) ≡ false
-    hyphen = ne_eqb c 45 (λ e. omega (arith, e, low))
-
-    between : is_between 97 110 c ≡ true
-    between = rw (le-leb 97 c low, le-leb c 110 high) refl
-
-    by_clef : (c == 98) ≡ false → (b : Bool) → (c == 99 || c == 102) ≡ b → P (class_of_character c)
-    by_clef e true g = rw (hyphen, e, g) k
-    by_clef e false g = rw (hyphen, e, g, between) p
-
-    by_flat : (a : Bool) → (c == 98) ≡ a → P (class_of_character c)
-    by_flat true e = rw (hyphen, e) (f (eqb-true c 98 e))
-    by_flat false e = by_clef e (c == 99 || c == 102) refl
+small P c low high f k p = grind (arith, ne_eqb)
 
 -- what holds of each sign holds of any
 pub by_sign : (P : ℕ → Type 0) → P 46 → P 95 → P 39 → (s : ℕ) → is_in s (codes "._'") ≡ true → P s
-by_sign P dot line tick s h = first (46 == s) refl
-  where
-    third : (b : Bool) → (39 == s) ≡ b → (46 == s) ≡ false → (95 == s) ≡ false → P s
-    third true e f g = subst P (eqb-true 39 s e) tick
-    third false e f g = absurd (let bad : false ≡ true = rw (f, g, e) at h in cc)
-
-    second : (b : Bool) → (95 == s) ≡ b → (46 == s) ≡ false → P s
-    second true e f = subst P (eqb-true 95 s e) line
-    second false e f = third (39 == s) refl f e
-
-    first : (b : Bool) → (46 == s) ≡ b → P s
-    first true e = subst P (eqb-true 46 s e) dot
-    first false e = second (95 == s) refl e
+by_sign P dot line tick s h = grind arith
 
 below : (s : ℕ) → is_in s (codes "._'") ≡ true → s < 128
 below = by_sign (λ s. s < 128) (omega arith) (omega arith) (omega arith)

@@ -1,5 +1,5 @@
 -- What is emitted of a snippet depends on the state of the machine alone.
-use Rattle.std.proofs.Common.{◌≡◌, ℕ, List, [], ◌∷◌, ◌++◌, Bool, true, false, cond, not, ◌&&◌, refl, sym, ap, ◌∙◌, codes, Option, append-nil, append_assoc}
+use Rattle.std.proofs.Common.{arith, ◌≡◌, ℕ, List, [], ◌∷◌, ◌++◌, Bool, not, ◌&&◌, refl, sym, ap, ◌∙◌, codes, Option, append-nil, append_assoc}
 use Rattle.gabc_places.specs.declared.place.Char.{Char}
 use Rattle.gabc_places.specs.StageLaw.{silence}
 use Rattle.gabc_patterns.specs.Derivative.{Munch, start, step, run, is_whole, is_alive}
@@ -37,9 +37,7 @@ facts_at m n d = record {
 }
 
 pub facts_by : (kept raw : List ℕ) (c : ℕ) → char_facts kept raw c ≡ facts_at (at_end kept) (step gabc (at_end kept) c) (macro_digit raw)
-facts_by kept raw c =
-    let n : at_end (kept ++ c ∷ []) ≡ step gabc (at_end kept) c = run-append gabc start kept (c ∷ []) in
-    rw (raw_by kept, raw_by (kept ++ c ∷ []), n) refl
+facts_by kept raw c = grind (arith, run-append)
 
 -- names that no later characters report apart
 abbrev pub NameAlike : List ℕ → List ℕ → Type 0
@@ -52,11 +50,7 @@ alike_on : (r s : List ℕ) (c : ℕ) → NameAlike r s → NameAlike (r ++ c �
 alike_on r s c h w = ap macro_digit (append_assoc r (c ∷ []) w) ∙ (h (c ∷ w) ∙ ap macro_digit (sym (append_assoc s (c ∷ []) w)))
 
 alike_with : (e : CharFacts) (r s : List ℕ) (c : ℕ) → NameAlike r s → NameAlike (raw_with e r c) (raw_with e s c)
-alike_with e r s c h = go e.raw_after
-  where
-    go : (b : Bool) → NameAlike (cond b (r ++ c ∷ []) []) (cond b (s ++ c ∷ []) [])
-    go true = alike_on r s c h
-    go false = λ w. refl
+alike_with e r s c h = grind (arith, alike_on)
 
 -- two texts at which the reading stands alike are emitted alike
 pub events_alike : (split : Bool) (macros : ℕ) (xs : List Char) (t u r s : List ℕ) (b : Before) → at_end t ≡ at_end u → NameAlike r s

@@ -1,6 +1,6 @@
 -- What a fresh stage emits is what the definition says of the characters by those before them.
 use Rattle.std.proofs.Common.{◌≡◌, ℕ, inl, inr, List, [], ◌∷◌, ◌++◌, Bool, true, false, cond, not, ◌&&◌, ◌||◌, ◌==◌, refl, sym, ap, ◌∙◌, subst, Option, Some, None, option_to_list, append_assoc, eqb-true, arith}
-use Rattle.gabc_places.specs.declared.code.Code.TheVariants.{E1, E6, W8, W10}
+use Rattle.gabc_places.specs.declared.code.Code.TheVariants.{E1, W8, W10}
 use Rattle.gabc_places.specs.declared.place.Char.{Char}
 use Rattle.gabc_places.specs.StageLaw.{silence}
 use Rattle.gabc_places.specs.declared.place.Place.{Place}
@@ -15,7 +15,7 @@ use Rattle.gabc_notes.specs.Table.{gabc}
 use Rattle.gabc_notes.specs.machine.ItemMachine.{whole_at, raw_state, attribute_state}
 use Rattle.gabc_notes.specs.witness.StageEvents.{ends_with_attribute, kind_at, is_attribute_kind, macro_digit, char_facts, role_in, before_in, fused_in, events_in, warning_in, event_list, raw_with, count_plus, cut_event, events_following, events_after}
 use Rattle.gabc_notes.specs.machine.StageEvents.{nothing_before}
-use Rattle.gabc_notes.specs.Events.{in_raw, finding_event, end_by_mark, is_missing, ends_in_comment, with_comments, kept, is_comment, is_in_raw, kept_with, is_kept, last_item, item_at, opens_fusion, closes_fusion, macro_of, is_fused, opener, bytes_of, is_end, is_over, is_unpaired, warnings, at_end, events_at, cut_events, note_events_after, note_events}
+use Rattle.gabc_notes.specs.Events.{in_raw, finding_event, is_missing, ends_in_comment, with_comments, kept, is_comment, kept_with, is_kept, last_item, item_at, opens_fusion, closes_fusion, macro_of, is_fused, opener, bytes_of, is_end, is_over, is_unpaired, warnings, at_end, events_at, cut_events, note_events_after, note_events}
 use Rattle.gabc_notes.specs.declared.item.ItemKind.{ItemKind}
 use Rattle.gabc_notes.specs.declared.stage.Before.{Before}
 use Rattle.gabc_notes.specs.declared.stage.NoteEnd.TheVariants.{Cut}
@@ -26,10 +26,10 @@ use Rattle.gabc_notes.specs.declared.stage.CharRole.TheVariants.{Silent, Comment
 use Rattle.gabc_notes.specs.declared.state.ItemState.{ItemState}
 use Rattle.gabc_notes.proofs.machine.MachineReadsTable.{machine, snippets_read}
 use Rattle.gabc_notes.proofs.machine.StageEmitsItsEvents.{raw_is, attribute_is}
-use Rattle.gabc_notes.proofs.grammar.InsideRawIsAnOpenBracket.{on, step_in, raw_not_whole}
+use Rattle.gabc_notes.proofs.grammar.InsideRawIsAnOpenBracket.{on, step_in}
 use Rattle.gabc_notes.proofs.machine.EventsDependOnState.{raw_at, raw_by}
-use Rattle.gabc_notes.proofs.items_of_text.ItemByStates.{Steps, RawFrom, ItemIs, item_is, closed_by}
-use Rattle.gabc_notes.proofs.machine.OneCharacterMore.{point, kept_more, kept_same, fused_more, opener_more, bytes_more, trim_more, RoleIs, role_is, no_percent, no_feed, pick_none, pick_end, pick_kept, pick_left}
+use Rattle.gabc_notes.proofs.items_of_text.ItemByStates.{Steps, RawFrom, ItemIs, item_is}
+use Rattle.gabc_notes.proofs.machine.OneCharacterMore.{point, kept_more, kept_same, fused_more, bytes_more, trim_more, RoleIs, role_is, no_percent, no_feed, pick_none, pick_end, pick_kept, pick_left}
 
 -- ---- what stands before a character
 
@@ -46,16 +46,7 @@ pub record Holds (split : Bool) (back : List Char) (raw : List ℕ) (b : Before)
 -- after a character that is not kept
 pub unkept : (split : Bool) (back : List Char) (raw : List ℕ) (b : Before) (x : Char) (m : Bool) → Holds split back raw b → is_kept (point back x) ≡ false
     → kept (x ∷ back) ≡ kept back → is_end split (point back x) ≡ false → is_comment (point back x) ≡ m → Holds split (x ∷ back) raw (record b { comment = m })
-unkept split back raw b x m h n same e f = record {
-  comment = sym f;
-  place = h.place ∙ sym (opener_more back x ∙ ap (λ (a : Bool). cond (a && not (is_in_raw (point back x))) x.place (opener back)) n);
-  fused = h.fused ∙ sym (fused_more back x ∙ ap (λ (a : Bool). cond (opens_fusion (cond a (last_item (kept_with (point back x))) None)) true (cond (closes_fusion (cond a (last_item (kept_with (point back x))) None)) false (is_fused back))) n);
-  bytes = h.bytes ∙ ap bytes_of (sym same);
-  whole = h.whole ∙ ap (λ (k : List ℕ). bytes_of (trim gabc k)) (sym same);
-  over = ap (λ (a : Bool). a || is_over split back) e ∙ h.over;
-  raw_from = λ r. subst (λ (k : List ℕ). RawFrom k raw) (sym same) (h.raw_from (ap in_raw (sym same) ∙ r));
-  no_raw = λ r. h.no_raw (ap in_raw (sym same) ∙ r);
-}
+unkept split back raw b x m h n same e f = grind arith
 
 -- a character that is kept, by the states before and after it
 pub record KeptBy (k : List ℕ) (c : ℕ) : Type 0 where
@@ -96,10 +87,6 @@ warned : (rs rz a d fu att : Bool) (M : Option ℕ → Bool) (digit : Option ℕ
     ≡ cond (((a && (not rs && not rz)) && fu) || ((d && not rs) && not fu)) (w10 ∷ []) [] ++ cond (M (cond (rs && att) digit None)) (w8 ∷ []) []
 warned rs rz a d fu att M digit w8 w10 e = grind arith
 
-flipped : {X : Type 0} (r : Bool) (a b : X) → cond (not r) a b ≡ cond r b a
-flipped true a b = refl
-flipped false a b = refl
-
 -- raw goes on, or begins
 raw_on : (k raw : List ℕ) (c : ℕ) (y : KeptBy k c) → (in_raw k ≡ true → RawFrom k raw) → (in_raw k ≡ false → raw ≡ []) → in_raw (k ++ c ∷ []) ≡ true
     → RawFrom (k ++ c ∷ []) (raw ++ c ∷ [])
@@ -127,25 +114,11 @@ raw_on k raw c y f n r = elim (step_in y.from y.to c y.steps.next (sym y.raw_aft
 ]
   where
     outside : (s : ItemState) → whole_at s ≡ true → raw_state s ≡ false
-    outside s w = go (raw_state s) refl
-      where
-        go : (b : Bool) → raw_state s ≡ b → b ≡ false
-        go true e = absurd (let g = raw_not_whole s e in cc)
-        go false e = refl
+    outside s w = grind arith
 
 -- no `]` leads into raw
 no_close : (k : List ℕ) (c : ℕ) (y : KeptBy k c) → raw_state y.to ≡ true → c == 93 ≡ false
-no_close k c y r = go (c == 93) refl
-  where
-    at : (z : ItemState) → raw_state z ≡ true → on y.from 93 ≡ Some z → ⊥
-    at z r e = elim (closed_by y.from z e) [
-      | inl x ↦ elim x.1 [ inl f ↦ (let g = ap raw_state f in cc) | inr f ↦ (let g = ap raw_state f in cc) ]
-      | inr x ↦ (let g = ap raw_state x.1 in cc)
-    ]
-
-    go : (b : Bool) → c == 93 ≡ b → b ≡ false
-    go true e = absurd (at y.to r (subst (λ (d : ℕ). on y.from d ≡ Some y.to) (eqb-true c 93 e) y.steps.next))
-    go false e = refl
+no_close k c y r = grind (arith, eqb-true)
 
 -- a character that is kept, and what is known of its item
 pub record KeptHere (split : Bool) (back : List Char) (raw : List ℕ) (b : Before) (x : Char) : Type 0 where
@@ -185,8 +158,7 @@ module _ (split : Bool) (back : List Char) (raw : List ℕ) (b : Before) (x : Ch
       ∙ (ap bytes_of (sym (trim_more [] [] (kept back) x.c)) ∙ ap (λ (t : List ℕ). bytes_of (trim gabc t)) (sym same))
     where
       go : (w : Bool) → cond w (count_plus b.kept x.c) b.whole ≡ bytes_of (cond w (kept back ++ x.c ∷ []) (trim gabc (kept back)))
-      go true = ap (λ (n : ℕ). count_plus n x.c) h.holds.bytes ∙ sym (bytes_more (kept back) x.c)
-      go false = h.holds.whole
+      go w = grind (arith, bytes_more)
 
   fused_next : fused_in b (char_facts (kept back) raw x.c) x ≡ is_fused (x ∷ back)
   fused_next =
@@ -197,10 +169,7 @@ module _ (split : Bool) (back : List Char) (raw : List ℕ) (b : Before) (x : Ch
       ∙ sym (fused_more back x))))
 
   place_next : cond (in_raw (kept back)) b.place x.place ≡ opener (x ∷ back)
-  place_next =
-      ap (λ (p : Place). cond (in_raw (kept back)) p x.place) h.holds.place
-      ∙ (sym (flipped (in_raw (kept back)) x.place (opener back))
-      ∙ (ap (λ (a : Bool). cond (a && not (in_raw (kept back))) x.place (opener back)) (sym is) ∙ sym (opener_more back x)))
+  place_next = grind arith
 
   pub kept_holds : Holds split (x ∷ back) (raw_with (char_facts (kept back) raw x.c) raw x.c) (before_in Keep b (char_facts (kept back) raw x.c) x)
   kept_holds = record {
@@ -243,8 +212,7 @@ over_emits split macros (x ∷ xs) back e =
     ∙ ap (λ (l : List NoteEvent). l ∷ silence xs) (none (is_over split back) _ e)
   where
     any : (a b : Bool) → b ≡ true → (a || b) ≡ true
-    any true b f = refl
-    any false b f = f
+    any a b f = grind arith
 
     none : (o : Bool) (l : List NoteEvent) → o ≡ true → cond o [] l ≡ []
     none o l f = rw f refl
@@ -252,21 +220,11 @@ over_emits split macros (x ∷ xs) back e =
 -- the end of the snippet
 mark_emits : (macros : ℕ) (back : List Char) (raw : List ℕ) (b : Before) (x : Char) → b.fused ≡ is_fused back → b.whole ≡ bytes_of (trim gabc (kept back))
     → event_list (events_in Ends macros b (char_facts (kept back) raw x.c) x) ≡ at_end (point back x)
-mark_emits macros back raw b x f w =
-    go (is_snippet gabc (kept back)) b.fused
-    ∙ (ap (λ (o : Bool). cond (is_snippet gabc (kept back)) [] (finding_event x.place E6 ∷ []) ++ (cond o (finding_event x.place W10 ∷ []) [] ++ Ended (end_by_mark x.c) b.whole ∷ [])) f
-    ∙ ap (λ (n : ℕ). cond (is_snippet gabc (kept back)) [] (finding_event x.place E6 ∷ []) ++ (cond (is_fused back) (finding_event x.place W10 ∷ []) [] ++ Ended (end_by_mark x.c) n ∷ [])) w)
-  where
-    go : (s o : Bool) → option_to_list (cond s None (Some (finding_event x.place E6))) ++ (option_to_list (cond o (Some (finding_event x.place W10)) None) ++ Ended (end_by_mark x.c) b.whole ∷ [])
-        ≡ cond s [] (finding_event x.place E6 ∷ []) ++ (cond o (finding_event x.place W10 ∷ []) [] ++ Ended (end_by_mark x.c) b.whole ∷ [])
-    go s o = grind arith
+mark_emits macros back raw b x f w = grind arith
 
 -- the characters end before the snippet does
 cut_emits : (split : Bool) (back : List Char) (raw : List ℕ) (b : Before) → Holds split back raw b → cut_event (in_raw (kept back)) b ∷ [] ≡ cut_events split back
-cut_emits split back raw b h =
-    ap (λ (p : Place). Ended (Cut (cond (in_raw (kept back)) p (record { line = 0; column = 0 }))) b.kept ∷ []) h.place
-    ∙ (ap (λ (n : ℕ). Ended (Cut (cond (in_raw (kept back)) (opener back) (record { line = 0; column = 0 }))) n ∷ []) h.bytes
-    ∙ sym (ap (λ (o : Bool). cond o [] (Ended (Cut (cond (in_raw (kept back)) (opener back) (record { line = 0; column = 0 }))) (bytes_of (kept back)) ∷ [])) h.over))
+cut_emits split back raw b h = cc
 
 pub events_emits : (split : Bool) (macros : ℕ) (xs back : List Char) (raw : List ℕ) (b : Before) → Holds split back raw b
     → events_after split macros (kept back) raw b xs ≡ note_events_after split macros back xs
@@ -287,9 +245,7 @@ events_emits split macros (x ∷ xs) back raw b h =
     left : (d : Before) (emitted : List NoteEvent) → kept (x ∷ back) ≡ kept back → Holds split (x ∷ back) raw d → emitted ≡ events_at split macros (point back x)
         → ((r : List ℕ) (d : Before) → Holds split (x ∷ back) r d → events_after split macros (kept (x ∷ back)) r d xs ≡ note_events_after split macros (x ∷ back) xs)
         → emitted ∷ events_after split macros (kept back) raw d xs ≡ events_at split macros (point back x) ∷ note_events_after split macros (x ∷ back) xs
-    left d emitted same holds g F =
-        ap (λ (l : List (List NoteEvent)). emitted ∷ l) (ap (λ (t : List ℕ). events_after split macros t raw d xs) (sym same) ∙ F raw d holds)
-        ∙ ap (λ (l : List NoteEvent). l ∷ note_events_after split macros (x ∷ back) xs) g
+    left d emitted same holds g F = grind arith
 
     no_end : is_comment (point back x) ≡ true → is_end split (point back x) ≡ false
     no_end c = ap (λ (a : Bool). not a && (not (in_raw (kept back)) && ((x.c == 41) || (split && (x.c == 124))))) c
@@ -343,16 +299,7 @@ events_emits split macros (x ∷ xs) back raw b h =
 
 -- before the first character
 pub begun : (split : Bool) → Holds split [] [] nothing_before
-begun split = record {
-  comment = refl;
-  place = refl;
-  fused = refl;
-  bytes = refl;
-  whole = refl;
-  over = refl;
-  raw_from = λ e. absurd (let f : false ≡ true = e in cc);
-  no_raw = λ e. refl;
-}
+begun split = grind arith
 
 -- so a fresh stage emits what the definition says
 pub fresh_says : (split : Bool) (macros : ℕ) (xs : List Char) → events_after split macros [] [] nothing_before xs ≡ note_events split macros xs

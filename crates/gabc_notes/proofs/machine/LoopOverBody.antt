@@ -1,5 +1,5 @@
 -- The loop over a body's characters, and its end.
-use Rattle.std.proofs.Common.{◌≡◌, ℕ, ◌+◌, ◌<◌, ◌≤◌, ◌^◌, List, [], ◌∷◌, ◌++◌, Bool, true, false, cond, not, ◌&&◌, ◌||◌, ◌==◌, ◌⊎◌, inl, inr, refl, sym, ap, ◌∙◌, subst, append_assoc, append-nil, length, length-append, take, Option, Some, None, arith}
+use Rattle.std.proofs.Common.{◌≡◌, ℕ, ◌+◌, ◌<◌, ◌≤◌, ◌^◌, List, [], ◌∷◌, ◌++◌, Bool, true, false, cond, not, ◌&&◌, ◌||◌, ◌==◌, ◌⊎◌, inl, inr, refl, sym, ap, ◌∙◌, append_assoc, append-nil, length, length-append, take, Option, Some, None, arith}
 use Rattle.std.specs.Prelude.{sum_by}
 use Rattle.std.specs.Char.{len_utf8}
 use Rattle.std.specs.String.Boundary.{IsSplitPoint}
@@ -39,19 +39,14 @@ bytes_encodes (c ∷ t) = sum_by-cons len_utf8 c t ∙ omega (arith, bytes_encod
 
 scalars_append : (a b : List ℕ) → scalars (a ++ b) ≡ true → scalars b ≡ true
 scalars_append [] b e = e
-scalars_append (c ∷ a) b e = go (scalar c) e (scalars_append a b)
-  where
-    go : (s : Bool) → (s && scalars (a ++ b)) ≡ true → (scalars (a ++ b) ≡ true → scalars b ≡ true) → scalars b ≡ true
-    go true e F = F e
-    go false e F = absurd (cc)
+scalars_append (c ∷ a) b e = grind (arith, scalars_append a b)
 
 scalars_more : (a : List ℕ) (c : ℕ) → scalars a ≡ true → scalar c ≡ true → scalars (a ++ c ∷ []) ≡ true
 scalars_more [] c e f = rw f refl
 scalars_more (d ∷ a) c e f = go (scalar d) e (λ g. scalars_more a c g f)
   where
     go : (s : Bool) → (s && scalars a) ≡ true → (scalars a ≡ true → scalars (a ++ c ∷ []) ≡ true) → (s && scalars (a ++ c ∷ [])) ≡ true
-    go true e F = F e
-    go false e F = absurd (cc)
+    go s e F = grind arith
 
 -- a text may be cut after the bytes of a prefix
 pub record Cuts (bs a : List ℕ) (n : ℕ) : Type 0 where
@@ -59,15 +54,7 @@ pub record Cuts (bs a : List ℕ) (n : ℕ) : Type 0 where
   pub prefix : take n bs ≡ encodes a
 
 cuts : (bs a b : List ℕ) (n : ℕ) → bs ≡ encodes (a ++ b) → scalars (a ++ b) ≡ true → length bs < 2 ^ 64 → n ≡ bytes_of a → Cuts bs a n
-cuts bs a b n e s l f =
-    let whole : bs ≡ encodes a ++ encodes b = e ∙ encodes-append a b in
-    let fits : sum_by len_utf8 a < 18446744073709551616 = omega (arith, bytes_encodes a, ap (λ (t : List ℕ). length t) whole, length-append (encodes a) (encodes b)) in
-    let g : length (encodes a) ≡ n = omega (arith, bytes_encodes a, f, fits) in
-    let seam = IsCharBoundary-at_seam bs (encodes a) (encodes b) whole (b, (scalars_append a b s, refl)) in
-    record {
-      splits = subst (IsSplitPoint bs) g (seam.0, λ z m. seam.1 m);
-      prefix = ap (λ (t : List ℕ). take n t) whole ∙ take_at (encodes a) (encodes b) n g;
-    }
+cuts bs a b n e s l f = grind (arith, encodes-append, bytes_encodes, length-append, IsCharBoundary-at_seam, scalars_append, take_at)
 
 -- ---- lists of events
 
@@ -160,17 +147,7 @@ pub record Reaches (split : Bool) (macros : ℕ) (all back left : List Char) (st
 pub reaches_first : (split : Bool) (macros : ℕ) (all : List Char) (stage : NoteStage) (h : BuiltSnippet) → ((xs : List Char) → events_left stage xs ≡ note_events split macros xs)
     → h ≡ record { kept = []; findings = []; end = None } → Reaches split macros all [] all stage h 0
 unfolding note_events
-reaches_first split macros all stage h r e = record {
-  over = refl;
-  rest = r;
-  kept_is = ap (λ (x : BuiltSnippet). x.kept) e;
-  findings = ap (λ (x : BuiltSnippet). x.findings ++ findings_of (concat_of (note_events split macros all))) e;
-  open_end = ap (λ (x : BuiltSnippet). x.end) e;
-  stop = refl;
-  index_is = refl;
-  chars = refl;
-  fits = omega arith;
-}
+reaches_first split macros all stage h r e = grind arith
 
 -- what a push gave is what is said of its character
 pub record BuiltHere (split : Bool) (macros : ℕ) (back : List Char) (x : Char) (next : NoteStage) (h after : BuiltSnippet) : Type 0 where
@@ -302,12 +279,7 @@ stops_cut split macros all back stage h after index r f l =
 -- the next place
 pub place_fits : (p : Place) (c n m : ℕ) → p.line + n < 2 ^ 64 → p.column + n < 2 ^ 64 → m + 1 ≤ n
     → ((next_place p c).line + m < 2 ^ 64) × ((next_place p c).column + m < 2 ^ 64)
-place_fits p c n m l k h = go (c == 10) (next_place p c) refl
-  where
-    go : (b : Bool) (r : Place) → r ≡ cond b (record { line = p.line + 1; column = 1 }) (record { line = p.line; column = p.column + 1 })
-        → (r.line + m < 2 ^ 64) × (r.column + m < 2 ^ 64)
-    go true r e = rw e (omega arith, omega arith)
-    go false r e = rw e (omega arith, omega arith)
+place_fits p c n m l k h = grind arith
 
 pub first_scalar : (c : ℕ) (cs : List ℕ) → scalars (c ∷ cs) ≡ true → scalar c ≡ true
 first_scalar c cs e = grind arith

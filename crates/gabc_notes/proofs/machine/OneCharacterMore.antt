@@ -1,7 +1,6 @@
 -- What one character more changes of what is said of characters, and what a stage does by its role.
-use Rattle.std.proofs.Common.{◌≡◌, ℕ, ◌+◌, min, List, [], ◌∷◌, ◌++◌, Bool, true, false, cond, not, ◌&&◌, ◌||◌, ◌==◌, refl, sym, ap, ◌∙◌, subst, Some, append-nil, append_assoc, eqb-true, ne_eqb, arith}
-use Rattle.std.specs.Prelude.{sum_by, find}
-use Rattle.std.specs.Char.{len_utf8}
+use Rattle.std.proofs.Common.{◌≡◌, ℕ, List, [], ◌∷◌, ◌++◌, Bool, true, false, cond, not, ◌&&◌, ◌||◌, ◌==◌, refl, sym, ap, ◌∙◌, Some, append-nil, append_assoc, arith}
+use Rattle.std.specs.Prelude.{find}
 use Rattle.std.specs.Option.{option_map_or}
 use Rattle.std.proofs.lemmas.List.Sums.{sum_by-append}
 use Rattle.gabc_places.specs.declared.place.Char.{Char}
@@ -21,9 +20,7 @@ point back x = record { back = back; here = x }
 -- ---- a character more
 
 pub kept_more : (back : List Char) (x : Char) → is_comment (point back x) ≡ false → kept (x ∷ back) ≡ cond (is_viable gabc (kept_with (point back x))) (kept_with (point back x)) (kept back)
-kept_more back x e =
-    ap (λ (b : Bool). keep gabc (cond b (outside_comments (with_comments back)) (outside_comments (with_comments back) ++ x.c ∷ []))) e
-    ∙ keep_append gabc [] (outside_comments (with_comments back)) (x.c ∷ [])
+kept_more back x e = grind (arith, keep_append)
 
 pub kept_same : (back : List Char) (x : Char) → is_comment (point back x) ≡ true → kept (x ∷ back) ≡ kept back
 kept_same back x e = ap (λ (b : Bool). keep gabc (cond b (outside_comments (with_comments back)) (outside_comments (with_comments back) ++ x.c ∷ []))) e
@@ -43,19 +40,10 @@ opener_more back x = go (is_kept (point back x) && not (is_in_raw (point back x)
     go : (a : Bool)
         → option_map_or (λ (p : Point). p.here.place) (cond a (Some (point back x)) (find (λ (p : Point). is_kept p && not (is_in_raw p)) (points back))) (record { line = 0; column = 0 })
         ≡ cond a x.place (opener back)
-    go true = refl
-    go false = refl
+    go a = grind arith
 
 pub bytes_more : (k : List ℕ) (c : ℕ) → bytes_of (k ++ c ∷ []) ≡ count_plus (bytes_of k) c
-bytes_more k c =
-    ap (λ (n : ℕ). min n 18446744073709551615) (sum_by-append len_utf8 k (c ∷ []))
-    ∙ (ap (λ (n : ℕ). min (sum_by len_utf8 k + n) 18446744073709551615) (plus (len_utf8 c)) ∙ least (sum_by len_utf8 k) (len_utf8 c))
-  where
-    plus : (n : ℕ) → 0 + n ≡ n
-    plus n = omega arith
-
-    least : (a b : ℕ) → min (a + b) 18446744073709551615 ≡ min (min a 18446744073709551615 + b) 18446744073709551615
-    least a b = omega arith
+bytes_more k c = grind (arith, sum_by-append)
 
 pub trim_more : (best before t : List ℕ) (c : ℕ) → trim_from gabc best before (t ++ c ∷ [])
     ≡ cond (is_snippet gabc ((before ++ t) ++ c ∷ [])) ((before ++ t) ++ c ∷ []) (trim_from gabc best before t)
@@ -75,31 +63,13 @@ RoleIs LeaveOut m C B V = (C ≡ false) × (B ≡ false) × (V ≡ false)
 
 pub role_is : (m n B D V : Bool) → (B ≡ true → D ≡ false) → (D ≡ true → n ≡ true)
     → RoleIs (cond (m && n) Silent (cond B Ends (cond D Comment (cond V Keep LeaveOut)))) m (n && (m || D)) B V
-role_is true true B D V f g = (refl, refl)
-role_is true false true D V f g = (refl, refl)
-role_is true false false true V f g = g refl
-role_is true false false false true f g = (refl, refl, refl)
-role_is true false false false false f g = (refl, refl, refl)
-role_is false true true D V f g = (f refl, refl)
-role_is false false true D V f g = (refl, refl)
-role_is false true false true V f g = refl
-role_is false false false true V f g = g refl
-role_is false true false false true f g = (refl, refl, refl)
-role_is false true false false false f g = (refl, refl, refl)
-role_is false false false false true f g = (refl, refl, refl)
-role_is false false false false false f g = (refl, refl, refl)
+role_is m n B D V f g = grind arith
 
 pub no_percent : (raw split : Bool) (c : ℕ) → (not raw && ((c == 41) || (split && (c == 124)))) ≡ true → (not raw && (c == 37)) ≡ false
-no_percent true split c e = refl
-no_percent false split c e = ne_eqb c 37 (λ f. go split (subst (λ (d : ℕ). ((d == 41) || (split && (d == 124))) ≡ true) f e))
-  where
-    go : (s : Bool) → ((37 == 41) || (s && (37 == 124))) ≡ true → ⊥
-    go true h = absurd (cc)
-    go false h = absurd (cc)
+no_percent raw split c e = grind arith
 
 pub no_feed : (raw : Bool) (c : ℕ) → (not raw && (c == 37)) ≡ true → not (c == 10) ≡ true
-no_feed true c e = absurd (cc)
-no_feed false c e = subst (λ (d : ℕ). not (d == 10) ≡ true) (sym (eqb-true c 37 e)) refl
+no_feed raw c e = grind arith
 
 pub pick_none : (o C B V : Bool) (A K L : List NoteEvent) → o ≡ false → C ≡ true → cond o [] (cond (not C && B) A (cond C [] (cond (not C && V) K L))) ≡ []
 pick_none o C B V A K L e f = rw (e, f) refl

@@ -1,6 +1,6 @@
 -- The reading of a regular snippet by bytes, which looks only for the end of a bracket, does what the reading by characters does.
-use Rattle.std.proofs.Common.{◌≡◌, ◌<◌, ◌≤◌, ◌+◌, ◌⊎◌, ◌&&◌, ◌||◌, ◌==◌, nat_le, inl, inr, ℕ, List, [], ◌∷◌, ◌++◌, Bool, true, false, codes, Some, None, is_some, length, length-append, length-drop, take, drop, get_or, refl, sym, ap, subst, ◌∙◌, arith, IsUtf8, if◌then◌else◌, eqb-true, append-nil, append_assoc}
-use Rattle.std.proofs.lemmas.Bool.{leb-true, not-true, and_parts}
+use Rattle.std.proofs.Common.{◌≡◌, ◌<◌, ◌≤◌, ◌+◌, ◌⊎◌, ◌&&◌, ◌||◌, ◌==◌, ℕ, List, [], ◌∷◌, ◌++◌, Bool, true, false, Some, None, is_some, length, length-append, length-drop, take, drop, get_or, refl, sym, ap, subst, ◌∙◌, arith, IsUtf8, if◌then◌else◌, eqb-true, append-nil, append_assoc}
+use Rattle.std.proofs.lemmas.Bool.{not-true, and_parts}
 use Rattle.std.proofs.lemmas.List.{drop-drop, drop_more, length-take-le, take-append-drop, take_all}
 use Rattle.std.proofs.lemmas.List.Folds.{list_all-append}
 use Rattle.std.proofs.lemmas.Str.{byte_from_char, char_from_byte, chars-encodes, chars-IsAscii, drop_past_char, encode_ascii, encodes-chars, encodes-IsAscii, IsCharBoundary-before_ascii, IsUtf8-take, scalars-chars, length-encode, len_utf8_ascii}
@@ -10,9 +10,6 @@ use Rattle.std.specs.Str.{chars, IsAscii}
 use lib.Utf8.{encode, encodes, scalars}
 use native.Mathlib.Decide.{dec_lt}
 use Rattle.gabc_patterns.specs.LongestPrefix.{IsLongestPrefix}
-use Rattle.gabc_patterns.specs.Pattern.{is_in}
-use Rattle.gabc_notes.specs.Notes.{is_digit}
-use Rattle.gabc_notes.specs.Events.{digit_if}
 use Rattle.gabc_notes.specs.Regular.{IsRegular}
 use Rattle.gabc_notes.specs.machine.CharClass.{class_of_character}
 use Rattle.gabc_notes.specs.machine.ItemMachine.{attribute_state, digit_of_prefix, next_state, prefix_with, raw_state, whole_at}
@@ -24,28 +21,21 @@ use Rattle.gabc_notes.specs.declared.macro_prefix.MacroPrefix.{MacroPrefix}
 use Rattle.gabc_notes.specs.declared.macro_prefix.MacroPrefix.TheVariants.{Opened}
 use Rattle.gabc_notes.specs.declared.regular.RegularPoint.{RegularPoint}
 use Rattle.gabc_notes.specs.declared.state.ItemState.{ItemState}
-use Rattle.gabc_notes.specs.declared.state.ItemState.TheVariants.{Raw, SlashRaw}
 use Rattle.gabc_notes.proofs.grammar.InsideRawIsAnOpenBracket.{on, raw_not_whole, raw_stays, step_in}
 use Rattle.gabc_notes.proofs.machine.MachineReadsTable.{far}
 use Rattle.gabc_notes.proofs.machine.StageEmitsItsEvents.{digit_is, name_alike}
-use Rattle.gabc_notes.proofs.machine.RegularFronts.{IsReadTo, at_end, front_known, front_outside, known_read, low, marks, none_ascii, one_ascii, past_char, stuck_at}
+use Rattle.gabc_notes.proofs.machine.RegularFronts.{IsReadTo, at_end, front_known, known_read, marks, past_char, stuck_at}
 
 -- ---- outside brackets
 
 outside_none : (s : ItemState) → raw_state s ≡ false → next_state s Other ≡ None
-outside_none Raw e = absurd (cc)
-outside_none SlashRaw e = absurd (cc)
-outside_none _ e = refl
+outside_none s e = grind arith
 
 none_after : (p : RegularPoint) (c : ℕ) → raw_state p.item ≡ false → class_of_character c ≡ Other → regular_after (reading_at p) c ≡ None
 none_after p c outside e = ap (regular_by (reading_at p) c) (ap (next_state p.item) e ∙ outside_none p.item outside)
 
 pub at_mark : (p : RegularPoint) (m : ℕ) → raw_state p.item ≡ false → (m == 41) || (m == 124) ≡ true → regular_after (reading_at p) m ≡ None
-at_mark p m outside mark = by (marks m mark)
-  where
-    by : (m ≡ 41) ⊎ (m ≡ 124) → regular_after (reading_at p) m ≡ None
-    by (inl e) = none_after p m outside (ap class_of_character e)
-    by (inr e) = none_after p m outside (ap class_of_character e)
+at_mark p m outside mark = grind (arith, marks)
 
 -- raw is entered by a `[`
 pub enters : (p : RegularPoint) (z : ItemState) (c : ℕ) → raw_state p.item ≡ false → on p.item c ≡ Some z → raw_state z ≡ true
@@ -53,8 +43,7 @@ pub enters : (p : RegularPoint) (z : ItemState) (c : ℕ) → raw_state p.item �
 enters p z c outside e raw = by (step_in p.item z c e raw)
   where
     by : ((raw_state p.item ≡ true) × (c == 93 ≡ false)) ⊎ ((c ≡ 91) × (whole_at p.item ≡ true)) → Some (reading_at (record { item = z; fused = p.fused })) ≡ regular_after (reading_at p) c
-    by (inl f) = absurd (let g = f.0 in cc)
-    by (inr f) = (let is = f.0 in sym (ap (regular_by (reading_at p) c) e ∙ rw (is, outside, raw) refl))
+    by h = grind arith
 
 -- ---- inside a bracket
 
@@ -68,19 +57,8 @@ named : (n : MacroPrefix) (t : List ℕ) → macro_digit (example_prefix n ++ t)
 named n [] = ap macro_digit (append-nil (example_prefix n)) ∙ digit_is n
 named n (c ∷ t) = ap macro_digit (sym (append_assoc (example_prefix n) (c ∷ []) t)) ∙ (name_alike n c t ∙ named (prefix_with n c) t)
 
-digit_low : (c : ℕ) → is_digit c ≡ true → c < 128
-digit_low c h = (let g = and_parts (nat_le 48 c) (nat_le c 57) h in let k = leb-true c 57 g.1 in omega (arith, k))
-
 macro_ascii : (t : List ℕ) → is_macro t ≡ true → IsAscii t
-macro_ascii (a ∷ m ∷ d ∷ []) h =
-    (let f = and_parts (is_in a (codes "nge")) ((m == 109) && is_digit d) (some_digit (is_in a (codes "nge") && ((m == 109) && is_digit d)) h) in
-    let g = and_parts (m == 109) (is_digit d) f.1 in
-    one_ascii a (m ∷ d ∷ []) (low (codes "nge") a refl f.0) (one_ascii m (d ∷ []) (let e = eqb-true m 109 g.0 in omega (arith, e)) (one_ascii d [] (digit_low d g.1) none_ascii)))
-  where
-    some_digit : (b : Bool) → is_some (digit_if b d) ≡ true → b ≡ true
-    some_digit true e = refl
-    some_digit false e = absurd (cc e)
-macro_ascii _ h = absurd (cc h)
+macro_ascii t h = grind arith
 
 -- and so by its bytes
 named_by_bytes : (u : List ℕ) → scalars u ≡ true → is_macro u ≡ is_macro (encodes u)
@@ -97,15 +75,11 @@ chars_inside [] h = refl
 chars_inside (c ∷ u) h = (let g = and_parts (list_all is_inside (encode c)) (list_all is_inside (encodes u)) (sym (list_all-append is_inside (encode c) (encodes u)) ∙ h) in by (c == 93) refl g.0 (chars_inside u g.1))
   where
     by : (b : Bool) → (c == 93) ≡ b → list_all is_inside (encode c) ≡ true → list_all is_inside u ≡ true → list_all is_inside (c ∷ u) ≡ true
-    by true e f g = absurd (let k : false ≡ true = sym (ap (list_all is_inside) (encode_ascii 93 (omega arith))) ∙ (ap (λ (n : ℕ). list_all is_inside (encode n)) (sym (eqb-true c 93 e)) ∙ f) in cc)
-    by false e f g = rw (e, g) refl
+    by b e f g = grind (arith, encode_ascii, eqb-true)
 
 stays : (s : ItemState) (n : MacroPrefix) (f : Bool) (c : ℕ) → raw_state s ≡ true → is_inside c ≡ true
     → regular_after (record { item = s; name = n; fused = f }) c ≡ Some (record { item = s; name = prefix_with n c; fused = f })
-stays s n f c raw inside = ap (regular_by (record { item = s; name = n; fused = f }) c) (raw_stays s c raw (not-true (c == 93) inside)) ∙ by s raw
-  where
-    by : (s : ItemState) → raw_state s ≡ true → regular_by (record { item = s; name = n; fused = f }) c (Some s) ≡ Some (record { item = s; name = prefix_with n c; fused = f })
-    by s e = grind arith
+stays s n f c raw inside = grind (arith, raw_stays, not-true)
 
 -- the `]`
 closes : (p : RegularPoint) (n : MacroPrefix) → raw_state p.item ≡ true
@@ -197,11 +171,7 @@ module _ (text : List ℕ) (p : RegularPoint) (read regular len : ℕ) (utf8 : I
     after_held = held_read held_utf8
 
     bracket : drop (read + len) text ≡ encode 93 ++ drop (len + 1) rest
-    bracket =
-        sym (drop-drop len read text)
-        ∙ (drop_more rest len 0 less
-        ∙ (ap (λ (c : ℕ). c ∷ drop (len + 1) rest) at
-        ∙ ap (λ (l : List ℕ). l ++ drop (len + 1) rest) (sym (encode_ascii 93 (omega arith)))))
+    bracket = grind (arith, drop-drop, drop_more, encode_ascii)
 
     name_held : is_some (digit_of_prefix (name_from Opened (chars held))) ≡ is_macro held
     name_held = ap is_some (sym (named Opened (chars held))) ∙ (named_by_bytes (chars held) (scalars-chars held held_utf8) ∙ ap is_macro (encodes-chars held held_utf8))
@@ -220,12 +190,8 @@ module _ (text : List ℕ) (p : RegularPoint) (read regular len : ℕ) (utf8 : I
         (past_char text _ (read + len) regular after_held (reading_at (closed_point p)) 93 (drop (len + 1) rest) bracket (closing ∙ rw quiet refl))
 
 pub closed_outside : (s : ItemState) → raw_state (closed_item s) ≡ false
-closed_outside SlashRaw = refl
-closed_outside _ = refl
+closed_outside s = grind arith
 
 pub begun_to : (text : List ℕ) (p : RegularPoint) (n : ℕ) → IsUtf8 text → n ≤ length text → is_front (take n text) ≡ true → reading_at p ≡ front_state (take n text)
     → (raw_state p.item ≡ false) × IsReadTo text (reading_at p) n n
-begun_to text p n utf8 within front at = (outside, subst (λ (r : RegularState). IsReadTo text r n n) (sym at) (known_read text n utf8 within _ (front_known _ front)))
-  where
-    outside : raw_state p.item ≡ false
-    outside = ap (λ (r : RegularState). raw_state r.item) at ∙ front_outside (take n text)
+begun_to text p n utf8 within front at = grind (arith, known_read, front_known)

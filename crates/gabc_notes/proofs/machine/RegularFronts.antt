@@ -1,5 +1,5 @@
 -- The front of a snippet is regular, and so is a bar, and where the reading stands after it.
-use Rattle.std.proofs.Common.{◌≡◌, ◌<◌, ◌≤◌, ◌+◌, ◌⊎◌, inl, inr, ℕ, zero, suc, List, [], ◌∷◌, ◌++◌, Bool, true, false, ◌||◌, ◌==◌, nat_lt, codes, map, Option, length, length-drop, take, drop, get_or, encode_utf8_all, refl, sym, ap, subst, ◌∙◌, arith, None, Some, IsUtf8, append-nil, append_assoc, length-append, if◌then◌else◌}
+use Rattle.std.proofs.Common.{◌≡◌, ◌<◌, ◌≤◌, ◌+◌, ◌⊎◌, ℕ, List, [], ◌∷◌, ◌++◌, Bool, true, false, ◌||◌, ◌==◌, nat_lt, codes, map, Option, length, length-drop, take, drop, get_or, encode_utf8_all, refl, sym, ap, subst, ◌∙◌, arith, None, Some, IsUtf8, append-nil, append_assoc, length-append, if◌then◌else◌}
 use Rattle.std.specs.List.{list_all}
 use Rattle.std.specs.Str.{chars, IsAscii, IsCharBoundary}
 use Rattle.std.proofs.lemmas.Bool.{eqb-true, ltb-true, and_parts}
@@ -14,7 +14,6 @@ use Rattle.gabc_patterns.proofs.TextIsReadByCharacter.{one_read}
 use lib.Utf8.{encode}
 use Rattle.std.specs.Char.{len_utf8}
 use Rattle.gabc_notes.specs.Regular.{IsRegular}
-use Rattle.gabc_notes.specs.machine.ItemMachine.{raw_state}
 use Rattle.gabc_notes.specs.machine.Regular.{RegularState, begins_front, ends_regularly, front_state, goes_on_front, is_bar, is_front, item_at, item_from, longest_at, reading_at, regular_after}
 use Rattle.gabc_notes.specs.declared.macro_prefix.MacroPrefix.TheVariants.{Closed}
 use Rattle.gabc_notes.specs.declared.state.ItemState.{ItemState}
@@ -24,8 +23,7 @@ use Rattle.gabc_notes.proofs.machine.RegularPrefixes.{Reads, reads_first, reads_
 -- ---- fronts grow
 
 pub front_more : (t : List ℕ) (c : ℕ) → 0 < length t → is_front t ≡ true → goes_on_front c ≡ true → is_front (t ++ c ∷ []) ≡ true
-front_more [] c some h g = absurd (omega arith)
-front_more (d ∷ t) c some h g = (let b = and_parts (begins_front d) (list_all goes_on_front t) h in rw (list_all-append goes_on_front t (c ∷ []), b.0, b.1, g) refl)
+front_more t c some h g = grind (arith, list_all-append)
 
 -- ---- each character of a front goes on with the reading
 
@@ -38,17 +36,11 @@ same_at f g [] c e h = absurd (cc)
 same_at f g (d ∷ cs) c e h = (let more : map f cs ≡ map g cs = cc e in by (d == c) refl h (same_at f g cs c more))
   where
     by : (b : Bool) → (d == c) ≡ b → is_in c (d ∷ cs) ≡ true → (is_in c cs ≡ true → f c ≡ g c) → f c ≡ g c
-    by true i h rest = (let one : f d ≡ g d = cc e in subst (λ (k : ℕ). f k ≡ g k) (eqb-true d c i) one)
-    by false i h rest = rest (sym (ap (λ (b : Bool). b || is_in c cs) i) ∙ h)
+    by b i h rest = grind arith
 
 -- the states after a character of a front
 at_each : (P : ItemState → Type 0) → P ClefPitch → P Pitch → P Body → (c : ℕ) → P (item_at c)
-at_each P clef pitch body c = by (is_in c (codes "cf")) (begins_front c)
-  where
-    by : (a b : Bool) → P (if a then ClefPitch else if b then Pitch else Body)
-    by true b = clef
-    by false true = pitch
-    by false false = body
+at_each P clef pitch body c = grind arith
 
 from_each : (P : ItemState → Type 0) → P ClefPitch → P Pitch → P Body → (s : ItemState) (t : List ℕ) → P s → P (item_from s t)
 from_each P clef pitch body s [] h = h
@@ -107,8 +99,7 @@ pub none_ascii : IsAscii []
 none_ascii i = omega arith
 
 pub one_ascii : (c : ℕ) (t : List ℕ) → c < 128 → IsAscii t → IsAscii (c ∷ t)
-one_ascii c t low rest zero = low
-one_ascii c t low rest (suc i) = rest i
+one_ascii c t low rest i = grind arith
 
 pub low : (cs : List ℕ) (c : ℕ) → map (λ d. nat_lt d 128) cs ≡ map (λ d. true) cs → is_in c cs ≡ true → c < 128
 low cs c e h = ltb-true c 128 (same_at (λ d. nat_lt d 128) (λ d. true) cs c e h)
@@ -120,8 +111,7 @@ run_ascii [] h = none_ascii
 run_ascii (c ∷ t) h = (let g = and_parts (goes_on_front c) (list_all goes_on_front t) h in one_ascii c t (low (codes "acdefghijklmnp._'vswo") c refl g.0) (run_ascii t g.1))
 
 front_ascii : (t : List ℕ) → is_front t ≡ true → IsAscii t
-front_ascii [] h = none_ascii
-front_ascii (c ∷ t) h = (let g = and_parts (begins_front c) (list_all goes_on_front t) h in one_ascii c t (low (codes "acdefghijklmnp") c refl g.0) (run_ascii t g.1))
+front_ascii t h = grind (arith, run_ascii)
 
 pub front_known : (t : List ℕ) → is_front t ≡ true → IsKnown t (front_state t)
 front_known t h = record {
@@ -131,9 +121,6 @@ front_known t h = record {
   closes = from_each (λ (s : ItemState). regular_after (in_item s) 41 ≡ None) refl refl refl Start t refl;
   parts = from_each (λ (s : ItemState). regular_after (in_item s) 124 ≡ None) refl refl refl Start t refl;
 }
-
-pub front_outside : (t : List ℕ) → raw_state (item_from Start t) ≡ false
-front_outside t = from_each (λ (s : ItemState). raw_state s ≡ false) refl refl refl Start t refl
 
 -- ---- bars are
 
@@ -163,10 +150,7 @@ bar_known (c ∷ []) h = record {
   closes = same_at (λ d. regular_after (in_item (bar_item d)) 41) (λ d. None) (codes ",:;Zz") c refl h;
   parts = same_at (λ d. regular_after (in_item (bar_item d)) 124) (λ d. None) (codes ",:;Zz") c refl h;
 }
-bar_known (c ∷ d ∷ []) h =
-    (let g = and_parts (c == 58) (d == 58) h in
-    subst (λ (k : ℕ). IsKnown (k ∷ d ∷ []) (in_item Bar)) (sym (eqb-true c 58 g.0))
-    (subst (λ (k : ℕ). IsKnown (58 ∷ k ∷ []) (in_item Bar)) (sym (eqb-true d 58 g.1)) two_colons))
+bar_known (c ∷ d ∷ []) h = grind (arith, and_parts, eqb-true, two_colons)
 bar_known (c ∷ d ∷ e ∷ t) h = absurd (cc h)
 
 -- ---- a known text is its longest regular prefix
@@ -188,11 +172,7 @@ known_longest t state known = record {
 }
 
 pub marks : (m : ℕ) → (m == 41) || (m == 124) ≡ true → (m ≡ 41) ⊎ (m ≡ 124)
-marks m h = by (m == 41) refl
-  where
-    by : (b : Bool) → (m == 41) ≡ b → (m ≡ 41) ⊎ (m ≡ 124)
-    by true e = inl (eqb-true m 41 e)
-    by false e = inr (eqb-true m 124 (sym (ap (λ (b : Bool). b || (m == 124)) e) ∙ h))
+marks m h = grind arith
 
 -- ---- a text that begins with a known one
 
@@ -221,11 +201,7 @@ module _ (text : List ℕ) (n : ℕ) (utf8 : IsUtf8 text) (within : n ≤ length
       (λ c u v e is. stuck_there (take n text) u c state known.reads (stuck c (cc (e, follows))) is)
     where
       small : m < 128
-      small = by (marks m mark)
-        where
-          by : (m ≡ 41) ⊎ (m ≡ 124) → m < 128
-          by (inl e) = omega (arith, e)
-          by (inr e) = omega (arith, e)
+      small = grind arith
 
       follows : chars (drop n text) ≡ m ∷ chars (drop (n + 1) text)
       follows =
@@ -233,11 +209,7 @@ module _ (text : List ℕ) (n : ℕ) (utf8 : IsUtf8 text) (within : n ≤ length
           (drop_more text n 0 less ∙ (ap (λ (c : ℕ). c ∷ drop (n + 1) text) at ∙ ap (λ (l : List ℕ). l ++ drop (n + 1) text) (sym (encode_ascii m small))))
 
       stuck : (c : ℕ) → c ≡ m → regular_after state c ≡ None
-      stuck c same = at_mark (marks m mark)
-        where
-          at_mark : (m ≡ 41) ⊎ (m ≡ 124) → regular_after state c ≡ None
-          at_mark (inl e) = ap (regular_after state) (same ∙ e) ∙ known.closes
-          at_mark (inr e) = ap (regular_after state) (same ∙ e) ∙ known.parts
+      stuck c same = grind (arith, marks)
 
 -- ---- the characters after a known text
 

@@ -1,10 +1,7 @@
 -- The reading of regular snippets: where it goes on each character is kept and nothing is found, and where it does not, what begins so is not regular.
-use Rattle.std.proofs.Common.{◌≡◌, ℕ, ◌^◌, List, [], ◌∷◌, ◌++◌, Bool, true, false, cond, not, ◌&&◌, ◌||◌, ◌==◌, nat_lt, ◌%◌, refl, sym, ap, ◌∙◌, Option, Some, None, is_some, append_assoc, if◌then◌else◌, arith}
-use Rattle.std.proofs.Math.Bool.{and-false}
-use Rattle.std.proofs.Math.Nat.{zero-div}
+use Rattle.std.proofs.Common.{◌≡◌, ℕ, List, [], ◌∷◌, ◌++◌, Bool, true, false, cond, not, ◌&&◌, ◌||◌, ◌==◌, refl, sym, ap, ◌∙◌, Option, Some, None, is_some, append_assoc, if◌then◌else◌, arith}
 use Rattle.std.proofs.lemmas.List.{append_cancel_left, map-append}
 use Rattle.std.proofs.lemmas.Bool.{not-true, and_parts}
-use Rattle.gabc_places.specs.declared.code.Code.TheVariants.{W8, W10}
 use Rattle.gabc_places.specs.declared.place.Char.{Char}
 use Rattle.gabc_places.specs.declared.place.Place.{Place}
 use Rattle.gabc_places.specs.Place.{next_place, place_past, placed_characters_from}
@@ -16,7 +13,7 @@ use Rattle.gabc_patterns.proofs.FunctionsMeetRelations.{snippet_decides, trim_sn
 use Rattle.gabc_patterns.proofs.StatesAfterTexts.{whole_is, whole_at as snippet_at}
 use Rattle.gabc_notes.specs.Table.{gabc}
 use Rattle.gabc_notes.specs.Ends.{IsMarkOf}
-use Rattle.gabc_notes.specs.Events.{bytes_of, end_by_mark, finding_event, is_defined, is_missing, note_events}
+use Rattle.gabc_notes.specs.Events.{bytes_of, end_by_mark, note_events}
 use Rattle.gabc_notes.specs.Regular.{IsRegular, each_kept, only_kept}
 use Rattle.gabc_notes.specs.machine.CharClass.{class_of_character}
 use Rattle.gabc_notes.specs.machine.ItemMachine.{next_state, raw_state, whole_at, facts_by_states, stage_after}
@@ -30,16 +27,16 @@ use Rattle.gabc_notes.specs.declared.stage.CharFacts.{CharFacts}
 use Rattle.gabc_notes.specs.declared.stage.CharRole.{CharRole}
 use Rattle.gabc_notes.specs.declared.stage.CharRole.TheVariants.{Comment, Ends, Keep}
 use Rattle.gabc_notes.specs.declared.stage.NoteEnd.{NoteEnd}
-use Rattle.gabc_notes.specs.declared.stage.NoteEnd.TheVariants.{Next, Close, Cut}
+use Rattle.gabc_notes.specs.declared.stage.NoteEnd.TheVariants.{Close}
 use Rattle.gabc_notes.specs.declared.stage.NoteEvent.{NoteEvent}
 use Rattle.gabc_notes.specs.declared.stage.NoteEvent.TheVariants.{Kept, Ended}
 use Rattle.gabc_notes.specs.declared.stage.NoteStage.{NoteStage}
 use Rattle.gabc_notes.specs.declared.state.ItemState.{ItemState}
 use Rattle.gabc_notes.specs.declared.state.ItemState.TheVariants.{Start}
-use Rattle.gabc_notes.proofs.grammar.SnippetIsReadAgain.{IsPlain, plain_outside, mark_is}
+use Rattle.gabc_notes.proofs.grammar.SnippetIsReadAgain.{IsPlain, plain_outside}
 use Rattle.gabc_notes.proofs.machine.FreshStageEmitsEventsByPoint.{fresh_says}
 use Rattle.gabc_notes.proofs.machine.MachineReadsTable.{machine, snippets_read}
-use Rattle.gabc_notes.proofs.machine.ShortWays.{kept_taken, emits_otherwise, not_raw}
+use Rattle.gabc_notes.proofs.machine.ShortWays.{kept_taken, emits_otherwise}
 use Rattle.gabc_notes.proofs.machine.StageEmitsItsEvents.{push_law, not_kept}
 use Rattle.gabc_notes.proofs.resuming.StagesKeep.{After, fresh_after, kept_one, raw_after_text, viable_after}
 
@@ -51,36 +48,17 @@ seen st = record { item = st.state; name = st.name; fused = st.before.fused }
 
 -- outside raw a plain character ends nothing and begins no comment
 keeps_plain : (split raw : Bool) (c : ℕ) → (raw ≡ false → IsPlain c) → cond (not raw && ((c == 41) || (split && (c == 124)))) Ends (cond (not raw && (c == 37)) Comment Keep) ≡ Keep
-keeps_plain split true c f = refl
-keeps_plain true false c f = (let p = f refl in rw (p.no_bracket, p.no_bar, p.no_percent) refl)
-keeps_plain false false c f = (let p = f refl in rw (p.no_bracket, p.no_percent) refl)
+keeps_plain split raw c f = grind arith
 
 -- the reading warns wherever a stage does
 silent : (macros : ℕ) (b : Before) (e : CharFacts) (x : Char)
     → (if e.raw then e.attribute && is_some e.digit else ((x.c == 91) && (not e.raw_after && b.fused)) || ((x.c == 93) && not b.fused)) ≡ false → warning_in macros b e x ≡ None
 silent macros b e x h = grind arith
 
--- where no macro is defined, each macro is missing
-none_defined : (d : ℕ) → is_defined 0 d ≡ false
-none_defined d = ap (λ (n : ℕ). nat_lt d 16 && (n % 2 == 1)) (zero-div (2 ^ d)) ∙ and-false (nat_lt d 16)
-
 -- and a stage without macros warns wherever the reading does
 warned : (b : Before) (e : CharFacts) (x : Char) → warning_in 0 b e x ≡ None
     → (if e.raw then e.attribute && is_some e.digit else ((x.c == 91) && (not e.raw_after && b.fused)) || ((x.c == 93) && not b.fused)) ≡ false
-warned b e x h = by e.raw e.attribute e.digit (((x.c == 91) && (not e.raw_after && b.fused)) || ((x.c == 93) && not b.fused)) h
-  where
-    by : (raw attribute : Bool) (digit : Option ℕ) (pair : Bool)
-        → (if raw then (if attribute && is_missing 0 digit then Some (finding_event b.place W8) else None) else if pair then Some (finding_event x.place W10) else None) ≡ None
-        → (if raw then attribute && is_some digit else pair) ≡ false
-    by true true None pair h = refl
-    by true true (Some d) pair h = (let f : (if not (is_defined 0 d) then Some (finding_event b.place W8) else None) ≡ None = h in absurd (no (is_defined 0 d) (none_defined d) f))
-      where
-        no : (a : Bool) → a ≡ false → (if not a then Some (finding_event b.place W8) else None) ≡ None → ⊥
-        no true e f = absurd (cc)
-        no false e f = absurd (cc)
-    by true false digit pair h = refl
-    by false attribute digit true h = absurd (cc)
-    by false attribute digit false h = refl
+warned b e x h = grind arith
 
 -- ---- a text that is regular so far
 
@@ -166,20 +144,11 @@ reads_more t r after c h e = λ split macros at. more split macros at t r after 
 
 -- ---- where it may end
 
--- the end of a snippet at its mark
-end_role : (split raw : Bool) (c : ℕ) (o : Option ItemState) (st : NoteStage) → raw ≡ false → ((c == 41) || (split && (c == 124))) ≡ true → st.split ≡ split → st.before.comment ≡ false → raw_state st.state ≡ raw
-    → role_in st.split st.before.comment (facts_by_states st.state o st.name) c ≡ Ends
-end_role split raw c None st outside mark s comment r = rw (comment, s, r, outside, mark) refl
-end_role split raw c (Some z) st outside mark s comment r = rw (comment, s, r, outside, mark) refl
-
 mark_ends : (split : Bool) (how : NoteEnd) (mark : ℕ) → IsMarkOf split how mark → end_by_mark mark ≡ how
-mark_ends split Close mark e = ap end_by_mark e
-mark_ends split Next mark h = ap end_by_mark h.0
-mark_ends split (Cut place) mark h = absurd h
+mark_ends split how mark e = grind arith
 
 whole_of : (s : ItemState) (o : Option ItemState) (st : NoteStage) → (facts_by_states st.state o st.name).whole ≡ whole_at st.state
-whole_of s None st = refl
-whole_of s (Some z) st = refl
+whole_of s o st = grind arith
 
 module _ (split : Bool) (macros : ℕ) (at : Place) (t : List ℕ) (r : RegularState) (h : ReadsSo split macros at t r) (how : NoteEnd) (mark : ℕ) (m : IsMarkOf split how mark) (whole : whole_at h.st.state ≡ true) where
   abbrev x_mark : Char
@@ -191,16 +160,8 @@ module _ (split : Bool) (macros : ℕ) (at : Place) (t : List ℕ) (r : RegularS
   abbrev at_mark : List NoteEvent
   at_mark = event_list (events_in Ends h.st.macros h.st.before (facts_by_states h.st.state o_mark h.st.name) x_mark)
 
-  ends_there : events_left h.st (x_mark ∷ []) ≡ at_mark ∷ silence {I = Char} []
-  ends_there =
-      push_law h.st x_mark [] o_mark (facts_by_states h.st.state o_mark h.st.name) Ends h.after.goes_on refl refl
-      (sym (end_role split false mark o_mark h.st refl (mark_is split how mark m).ends h.after.splits h.no_comment (not_raw h.st.state whole)))
-
   emitted : note_events split macros (placed_characters_from at (t ++ mark ∷ [])) ≡ each_kept (placed_characters_from at t) ++ at_mark ∷ silence {I = Char} []
-  emitted =
-      ap (note_events split macros) (placed_append at t (mark ∷ []))
-      ∙ (h.events (x_mark ∷ [])
-      ∙ ap (λ (l : List (List NoteEvent)). each_kept (placed_characters_from at t) ++ l) ends_there)
+  emitted = grind (arith, placed_append)
 
   -- with nothing open that end is all
   plain_end : h.st.before.fused ≡ false → at_mark ≡ Ended (end_by_mark mark) h.st.before.whole ∷ []
@@ -208,12 +169,7 @@ module _ (split : Bool) (macros : ℕ) (at : Place) (t : List ℕ) (r : RegularS
 
   -- else something is found
   found_end : h.st.before.fused ≡ true → (how : NoteEnd) (n : ℕ) → at_mark ≡ Ended how n ∷ [] → ⊥
-  found_end f other n e =
-      (let g : finding_event (place_past at t) W10 ∷ Ended (end_by_mark mark) h.st.before.whole ∷ [] ≡ Ended other n ∷ [] =
-      sym (all f) ∙ e in cc)
-    where
-      all : h.st.before.fused ≡ true → at_mark ≡ finding_event (place_past at t) W10 ∷ Ended (end_by_mark mark) h.st.before.whole ∷ []
-      all g = rw (whole_of h.st.state o_mark h.st ∙ whole, g) refl
+  found_end f other n e = grind arith
 
 pub reads_regular : (t : List ℕ) (r : RegularState) → Reads t r → ends_regularly r ≡ true → IsRegular t
 reads_regular t r h e = record {
@@ -254,8 +210,7 @@ regular_ends t r h i = ap ends_regularly g.is ∙ (ap (λ (b : Bool). b && not g
         append_cancel_left (each_kept (placed_characters_from start_place t)) _ _ (sym (emitted true 0 start_place t r g Close 41 refl whole) ∙ i.events true 0 start_place Close 41 refl) in cc same)
 
     by : (b : Bool) → g.st.before.fused ≡ b → b ≡ false
-    by true f = absurd (found_end true 0 start_place t r g Close 41 refl whole f Close (bytes_of t) alone)
-    by false f = refl
+    by b f = grind (arith, found_end, g, whole, alone)
 
 -- a text that goes on where the reading does not is not regular
 pub stuck_there : (t u : List ℕ) (c : ℕ) (r : RegularState) → Reads t r → regular_after r c ≡ None → IsRegular (t ++ c ∷ u) → ⊥

@@ -1,5 +1,5 @@
 -- The short ways of the stage do what its general way does.
-use Rattle.std.proofs.Common.{◌≡◌, ℕ, ◌+◌, ◌-◌, ◌^◌, min, List, [], ◌∷◌, ◌++◌, Bool, true, false, cond, ◌==◌, refl, sym, ap, ◌∙◌, Option, Some, None, option_to_list, arith}
+use Rattle.std.proofs.Common.{◌≡◌, ℕ, ◌+◌, ◌-◌, ◌^◌, min, List, [], ◌∷◌, true, false, ◌==◌, refl, Option, Some, None, arith}
 use Rattle.std.proofs.Math.Bool.{and-false, and-true}
 use Rattle.std.specs.Char.{len_utf8}
 use Rattle.gabc_places.specs.declared.place.Char.{Char}
@@ -8,18 +8,16 @@ use Rattle.gabc_places.specs.StageLaw.{Pushes}
 use Rattle.gabc_notes.specs.machine.CharClass.{class_of_character}
 use Rattle.gabc_notes.specs.machine.ItemMachine.{IsShortStep, attribute_state, next_state, prefix_with, raw_state, facts_by_states, stage_after, stage_kept, whole_at}
 use Rattle.gabc_notes.specs.witness.ItemMachine.{events_left}
-use Rattle.gabc_places.specs.declared.code.Code.TheVariants.{E6, W10}
-use Rattle.gabc_notes.specs.Events.{finding_event, end_by_mark}
 use Rattle.gabc_notes.specs.witness.StageEvents.{role_in, warning_in, events_in, event_list}
 use Rattle.gabc_notes.specs.declared.stage.Before.{Before}
 use Rattle.gabc_notes.specs.declared.stage.CharFacts.{CharFacts}
 use Rattle.gabc_notes.specs.declared.macro_prefix.MacroPrefix.{MacroPrefix}
 use Rattle.gabc_notes.specs.declared.macro_prefix.MacroPrefix.TheVariants.{Closed}
 use Rattle.gabc_notes.specs.declared.stage.NoteEvent.{NoteEvent}
-use Rattle.gabc_notes.specs.declared.stage.NoteEvent.TheVariants.{Kept, Ended}
+use Rattle.gabc_notes.specs.declared.stage.NoteEvent.TheVariants.{Kept}
 use Rattle.gabc_notes.specs.declared.stage.NoteStage.{NoteStage}
 use Rattle.gabc_notes.specs.declared.stage.CharRole.{CharRole}
-use Rattle.gabc_notes.specs.declared.stage.CharRole.TheVariants.{Silent, Comment, Ends, Keep, LeaveOut}
+use Rattle.gabc_notes.specs.declared.stage.CharRole.TheVariants.{Ends, Keep}
 use Rattle.gabc_notes.specs.declared.state.ItemState.{ItemState}
 use Rattle.gabc_notes.proofs.grammar.InsideRawIsAnOpenBracket.{raw_not_whole, raw_stays}
 use Rattle.gabc_notes.proofs.machine.StageEmitsItsEvents.{push_law, push_emits}
@@ -38,17 +36,12 @@ module _ (st : NoteStage) (x : Char) (z : ItemState) (comment : st.before.commen
   note_role : role_in st.split st.before.comment (short_facts st z) x.c ≡ Keep
   note_role = rw (comment, step.outside, step.closes_no_notes, step.ends_no_snippet, step.begins_no_comment, and-false st.split) refl
 
-  note_events : event_list (events_in Keep st.macros st.before (short_facts st z) x) ≡ Kept x ∷ []
-  note_events = rw (step.outside, step.opens_nothing, step.closes_nothing) refl
-
   pub note_stage : (kept : ℕ) → kept ≡ min (st.before.kept + 1) (2 ^ 64 - 1) → note_made st z kept x ≡ stage_kept st z x
   note_stage kept h = rw (h, comment, step.outside, step.outside_after, step.whole_after, step.is_byte, step.opens_nothing, step.closes_nothing, and-true st.before.fused) refl
 
   pub note_emits : (next : NoteStage) (old new : BoundedList NoteEvent) → st.ended ≡ false → next ≡ stage_kept st z x → new ≡ extended_by old (Kept x ∷ [])
       → Pushes (events_left st) (events_left next) x 3 old new
-  note_emits next old new f n p =
-      push_emits st next x (Some z) (short_facts st z) Keep _ old new f
-      (sym step.step) refl (sym note_role) refl n (p ∙ ap (extended_by old) (sym note_events))
+  note_emits next old new f n p = grind (arith, push_emits, note_role)
 
 -- ---- a character inside raw that does not end it
 
@@ -56,9 +49,6 @@ no_attribute : (s : ItemState) → raw_state s ≡ true → attribute_state s �
 no_attribute s e = grind arith
 
 module _ (st : NoteStage) (x : Char) (comment : st.before.comment ≡ false) (inside : raw_state st.state ≡ true) (other : (x.c == 93) ≡ false) where
-  inside_role : role_in st.split st.before.comment (short_facts st st.state) x.c ≡ Keep
-  inside_role = rw (comment, inside) refl
-
   inside_events : event_list (events_in Keep st.macros st.before (short_facts st st.state) x) ≡ Kept x ∷ []
   inside_events = rw (inside, no_attribute st.state inside) refl
 
@@ -68,9 +58,7 @@ module _ (st : NoteStage) (x : Char) (comment : st.before.comment ≡ false) (in
 
   pub inside_emits : (next : NoteStage) (old new : BoundedList NoteEvent) → st.ended ≡ false → next ≡ stage_kept st st.state x → new ≡ extended_by old (Kept x ∷ [])
       → Pushes (events_left st) (events_left next) x 3 old new
-  inside_emits next old new f n p =
-      push_emits st next x (Some st.state) (short_facts st st.state) Keep _ old new f
-      (sym (raw_stays st.state x.c inside other)) refl (sym inside_role) refl n (p ∙ ap (extended_by old) (sym inside_events))
+  inside_emits next old new f n p = grind (arith, push_emits, raw_stays, inside_events)
 
 -- ---- a character that is kept with no warning
 
@@ -78,38 +66,19 @@ pub kept_taken : (st next : NoteStage) (x : Char) (o : Option ItemState) (e : Ch
     → o ≡ next_state st.state (class_of_character x.c) → e ≡ facts_by_states st.state o st.name → r ≡ role_in st.split st.before.comment e x.c → r ≡ Keep
     → w ≡ warning_in st.macros st.before e x → w ≡ None → next ≡ stage_after st r e o x
     → events_left st (x ∷ xs) ≡ (Kept x ∷ []) ∷ events_left next xs
-kept_taken st next x o e r w xs f g h k kept m none n =
-    push_law st x xs o e r f g h k
-    ∙ (ap (λ (q : CharRole). event_list (events_in q st.macros st.before e x) ∷ events_left (stage_after st r e o x) xs) kept
-    ∙ (ap (λ (v : Option NoteEvent). (Kept x ∷ (option_to_list v ++ [])) ∷ events_left (stage_after st r e o x) xs) (sym m ∙ none)
-    ∙ ap (λ (s : NoteStage). (Kept x ∷ []) ∷ events_left s xs) (sym n)))
+kept_taken st next x o e r w xs f g h k kept m none n = grind (arith, push_law)
 
 -- ---- a character at which something else is emitted
-
-ends_otherwise : (whole fused : Bool) (x : Char) (kept : ℕ)
-    → option_to_list (cond whole None (Some (finding_event x.place E6))) ++ (option_to_list (cond fused (Some (finding_event x.place W10)) None) ++ (Ended (end_by_mark x.c) kept ∷ [])) ≡ Kept x ∷ [] → ⊥
-ends_otherwise whole fused x kept e = grind arith
 
 -- it is not kept, or a warning comes with it
 pub emits_otherwise : (r : CharRole) (macros : ℕ) (b : Before) (e : CharFacts) (x : Char) (w : Option NoteEvent) → w ≡ warning_in macros b e x → (r ≡ Keep → w ≡ None → ⊥)
     → event_list (events_in r macros b e x) ≡ Kept x ∷ [] → ⊥
-emits_otherwise Keep macros b e x None m h k = h refl refl
-emits_otherwise Keep macros b e x (Some v) m h k =
-    let two : Kept x ∷ v ∷ [] ≡ Kept x ∷ [] = ap (λ (o : Option NoteEvent). Kept x ∷ (option_to_list o ++ [])) m ∙ k in cc
-emits_otherwise LeaveOut macros b e x w m h k = cc
-emits_otherwise Ends macros b e x w m h k = ends_otherwise e.whole b.fused x b.whole k
-emits_otherwise Silent macros b e x w m h k = cc
-emits_otherwise Comment macros b e x w m h k = cc
+emits_otherwise r macros b e x w m h k = grind arith
 
 -- ---- the end at a `)`
 
 pub whole_is : (s : ItemState) (o : Option ItemState) (n : MacroPrefix) → (facts_by_states s o n).whole ≡ whole_at s
-whole_is s None n = refl
-whole_is s (Some z) n = refl
-
-close_role : (split : Bool) (s : ItemState) (o : Option ItemState) (n : MacroPrefix) → raw_state s ≡ false → role_in split false (facts_by_states s o n) 41 ≡ Ends
-close_role split s None n outside = rw outside refl
-close_role split s (Some z) n outside = rw outside refl
+whole_is s o n = grind arith
 
 -- what is known of the character
 abbrev pub facts_of : NoteStage → Char → CharFacts
@@ -117,13 +86,6 @@ facts_of st x = facts_by_states st.state (next_state st.state (class_of_characte
 
 pub close_emits : (st : NoteStage) (x : Char) (old new : BoundedList NoteEvent) → st.ended ≡ false → st.before.comment ≡ false → raw_state st.state ≡ false → x.c ≡ 41
     → new ≡ extended_by old (event_list (events_in Ends st.macros st.before (facts_of st x) x)) → Pushes (events_left st) (events_left (record st { ended = true })) x 3 old new
-close_emits st x old new f comment outside close p =
-    let o = next_state st.state (class_of_character x.c) in
-    let role : role_in st.split st.before.comment (facts_of st x) x.c ≡ Ends =
-    ap (λ b. role_in st.split b (facts_of st x) x.c) comment ∙ (ap (λ c. role_in st.split false (facts_of st x) c) close ∙ close_role st.split st.state o st.name outside) in
-    push_emits st (record st { ended = true }) x o (facts_of st x) Ends _ old new f refl refl (sym role) refl refl p
+close_emits st x old new f comment outside close p = grind arith
 
 -- ---- a text that is a snippet ends outside raw
-
-pub not_raw : (s : ItemState) → whole_at s ≡ true → raw_state s ≡ false
-not_raw s e = grind arith

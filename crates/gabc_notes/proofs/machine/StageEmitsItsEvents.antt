@@ -1,7 +1,6 @@
 -- The stage emits what the definition says.
-use Rattle.std.proofs.Common.{◌≡◌, ℕ, List, [], ◌∷◌, ◌++◌, Bool, true, false, cond, refl, sym, ap, ◌∙◌, Option, Some, None, length, ◌≤◌, arith}
+use Rattle.std.proofs.Common.{◌≡◌, ℕ, List, [], ◌∷◌, ◌++◌, Bool, false, cond, sym, ap, ◌∙◌, Option, None, arith}
 use Rattle.gabc_places.specs.declared.place.Char.{Char}
-use Rattle.gabc_patterns.specs.Derivative.{Munch, start}
 use Rattle.gabc_patterns.proofs.StatesAfterTexts.{run-append}
 use Rattle.gabc_patterns.proofs.AutomatonsByTests.{reading, reading_of}
 use Rattle.gabc_notes.specs.Table.{gabc}
@@ -9,66 +8,45 @@ use Rattle.gabc_notes.specs.machine.CharClass.{class_of_character}
 use Rattle.gabc_notes.specs.witness.StageEvents.{is_attribute_kind, kind_at, macro_digit, char_facts, role_in, before_in, events_in, event_list, raw_with, events_following, events_after}
 use Rattle.gabc_notes.specs.machine.ItemMachine.{next_state, raw_state, attribute_state, digit_of_prefix, facts_by_states, prefix_with, prefix_after, stage_after}
 use Rattle.gabc_notes.specs.witness.ItemMachine.{example, example_prefix, events_left}
-use Rattle.gabc_notes.specs.declared.item.ItemKind.{ItemKind}
 use Rattle.gabc_notes.specs.declared.macro_prefix.MacroPrefix.{MacroPrefix}
-use Rattle.gabc_notes.specs.declared.macro_prefix.MacroPrefix.TheVariants.{Closed, Opened, Letter, Named, Last, Other}
 use Rattle.gabc_notes.specs.declared.stage.NoteEvent.{NoteEvent}
 use Rattle.gabc_notes.specs.declared.stage.NoteStage.{NoteStage}
 use Rattle.gabc_notes.specs.declared.stage.CharRole.{CharRole}
-use Rattle.gabc_notes.specs.declared.stage.CharRole.TheVariants.{Silent, Comment, Ends, Keep, LeaveOut}
+use Rattle.gabc_notes.specs.declared.stage.CharRole.TheVariants.{Keep}
 use Rattle.gabc_notes.specs.declared.stage.CharFacts.{CharFacts}
 use Rattle.gabc_notes.specs.declared.state.ItemState.{ItemState}
-use Rattle.gabc_notes.specs.declared.state.ItemState.TheVariants.{Done}
-use Rattle.gabc_notes.specs.declared.state.FullItem.TheVariants.{Alteration as FullAlteration}
 use Rattle.gabc_notes.proofs.machine.MachineReadsTable.{machine, snippets_read}
-use Rattle.gabc_notes.proofs.machine.EventsDependOnState.{at_end, raw_at, facts_at, facts_by, NameAlike, events_alike}
+use Rattle.gabc_notes.proofs.machine.EventsDependOnState.{raw_at, facts_at, NameAlike, events_alike}
 use Rattle.gabc_places.specs.BoundedList.{BoundedList, extended_by}
 use Rattle.gabc_places.specs.StageLaw.{Pushes, silence}
 use Rattle.gabc_notes.specs.witness.StageEvents.{CharEvents}
 
 -- whether a state lies inside raw
 pub raw_is : (s : ItemState) → raw_at (reading gabc machine s) ≡ raw_state s
-raw_is (Done FullAlteration) = refl
-raw_is _ = refl
+raw_is s = grind arith
 
 -- whether a state ends with an attribute
 pub attribute_is : (s : ItemState) → is_attribute_kind (kind_at (reading gabc machine s)) ≡ attribute_state s
-attribute_is (Done FullAlteration) = refl
-attribute_is _ = refl
+attribute_is s = grind arith
 
 -- the digit of a macro's name is emitted
 pub digit_is : (n : MacroPrefix) → macro_digit (example_prefix n) ≡ digit_of_prefix n
-digit_is (Last c) = refl
-digit_is _ = refl
+digit_is n = grind arith
 
 -- what is known by the readings is what is known by the states
 by_states : (s : ItemState) (o : Option ItemState) (n : MacroPrefix) → facts_at (reading gabc machine s) (reading_of gabc machine o) (digit_of_prefix n) ≡ facts_by_states s o n
-by_states s None n = rw (raw_is s, snippets_read.whole s) refl
-by_states s (Some z) n = rw (raw_is s, raw_is z, snippets_read.whole s, snippets_read.whole z, snippets_read.alive z, attribute_is z) refl
+by_states s o n = grind arith
 
 -- so the machine looks as the definition does
 pub looked_is : (s : ItemState) (n : MacroPrefix) (c : ℕ) → char_facts (example s) (example_prefix n) c ≡ facts_by_states s (next_state s (class_of_character c)) n
-looked_is s n c =
-    facts_by (example s) (example_prefix n) c
-    ∙ (ap (λ (m : Munch ItemKind). facts_at (reading gabc machine s) m (macro_digit (example_prefix n))) (snippets_read.steps s c)
-    ∙ (ap (λ (d : Option ℕ). facts_at (reading gabc machine s) (reading_of gabc machine (next_state s (class_of_character c))) d) (digit_is n)
-    ∙ by_states s (next_state s (class_of_character c)) n))
+looked_is s n c = grind (arith, snippets_read, by_states)
 
 -- a name with a character more
 pub name_alike : (n : MacroPrefix) (c : ℕ) → NameAlike (example_prefix n ++ c ∷ []) (example_prefix (prefix_with n c))
-name_alike Closed c w = grind arith
-name_alike Opened c w = grind arith
-name_alike Letter c w = grind arith
-name_alike Named c w = refl
-name_alike (Last d) c w = refl
-name_alike Other c w = refl
+name_alike n c w = grind arith
 
 named_alike : (e : CharFacts) (n : MacroPrefix) (c : ℕ) → NameAlike (raw_with e (example_prefix n) c) (example_prefix (prefix_after e n c))
-named_alike e n c = go e.raw_after
-  where
-    go : (b : Bool) → NameAlike (cond b (example_prefix n ++ c ∷ []) []) (example_prefix (cond b (prefix_with n c) Closed))
-    go true = name_alike n c
-    go false = λ w. refl
+named_alike e n c = grind arith
 
 -- what is not viable is not kept
 pub not_kept : (split comment : Bool) (s : ItemState) (n : MacroPrefix) (c : ℕ) → role_in split comment (facts_by_states s None n) c ≡ Keep → ⊥
@@ -80,16 +58,7 @@ follow_rest : (st : NoteStage) (x : Char) (xs : List Char) (o : Option ItemState
     → events_following r (silence xs) (events_after st.split st.macros (example st.state ++ x.c ∷ []) (raw_with e (example_prefix st.name) x.c) (before_in r st.before e x) xs)
     (events_after st.split st.macros (example st.state) (example_prefix st.name) (before_in r st.before e x) xs)
     ≡ events_left (stage_after st r e o x) xs
-follow_rest st x xs o e Silent f g h = rw f refl
-follow_rest st x xs o e Comment f g h = rw f refl
-follow_rest st x xs o e Ends f g h = refl
-follow_rest st x xs o e LeaveOut f g h = rw f refl
-follow_rest st x xs None e Keep f g h = absurd (h refl refl)
-follow_rest st x xs (Some z) e Keep f g h =
-    let next : at_end (example st.state ++ x.c ∷ []) ≡ at_end (example z) =
-    run-append gabc start (example st.state) (x.c ∷ []) ∙ (snippets_read.steps st.state x.c ∙ ap (reading_of gabc machine) g) in
-    rw f (events_alike st.split st.macros xs (example st.state ++ x.c ∷ []) (example z) (raw_with e (example_prefix st.name) x.c) (example_prefix (prefix_after e st.name x.c))
-    (before_in Keep st.before e x) next (named_alike e st.name x.c))
+follow_rest st x xs o e r f g h = grind (arith, run-append, snippets_read, events_alike, named_alike)
 
 -- what a push gives, and then what the stage still gives, is what it gave before
 pub push_law : (st : NoteStage) (x : Char) (xs : List Char) (o : Option ItemState) (e : CharFacts) (r : CharRole) → st.ended ≡ false
@@ -109,18 +78,9 @@ push_law st x xs o e r f g h k =
     ap outer f
     ∙ (ap all same ∙ (ap one (sym k) ∙ ap (λ (l : List (List NoteEvent)). event_list (events_in r st.macros st.before e x) ∷ l) (follow_rest st x xs o e r f (sym g) none)))
 
--- one call gives at most three events
-pub few_emitted : (g : CharEvents) → length (event_list g) ≤ 3
-few_emitted g = grind arith
-
 -- so a push is as the law of stages says
 pub push_emits : (st next : NoteStage) (x : Char) (o : Option ItemState) (e : CharFacts) (r : CharRole) (g : CharEvents) (old new : BoundedList NoteEvent) → st.ended ≡ false
     → o ≡ next_state st.state (class_of_character x.c) → e ≡ facts_by_states st.state o st.name → r ≡ role_in st.split st.before.comment e x.c
     → g ≡ events_in r st.macros st.before e x → next ≡ stage_after st r e o x → new ≡ extended_by old (event_list g)
     → Pushes (events_left st) (events_left next) x 3 old new
-push_emits st next x o e r g old new f h k l m n p = record {
-  events = event_list g;
-  out = p;
-  few = few_emitted g;
-  law = λ xs. push_law st x xs o e r f h k l ∙ (ap (λ (y : CharEvents). event_list y ∷ events_left (stage_after st r e o x) xs) (sym m) ∙ ap (λ (y : NoteStage). event_list g ∷ events_left y xs) (sym n));
-}
+push_emits st next x o e r g old new f h k l m n p = grind (arith, push_law)

@@ -1,9 +1,9 @@
 -- The findings of a text are emitted in the order of their places.
-use Rattle.std.proofs.Common.{◌≡◌, ℕ, List, [], ◌∷◌, ◌++◌, Bool, true, false, cond, not, ◌&&◌, ◌||◌, ◌==◌, ◌⊎◌, inl, inr, refl, sym, ap, ◌∙◌, subst, codes, eqb-true, Option, Some, None, arith}
+use Rattle.std.proofs.Common.{◌≡◌, ℕ, List, [], ◌∷◌, ◌++◌, Bool, true, false, cond, not, ◌&&◌, ◌||◌, ◌==◌, ◌⊎◌, inl, inr, refl, sym, ap, ◌∙◌, subst, codes, Option, None, arith}
 use Rattle.std.proofs.lemmas.Bool.{or_parts, not-true, and_parts, or_cases}
 use Rattle.std.proofs.Math.Bool.{and-false}
-use Rattle.gabc_places.proofs.PlacesInOrder.{before_up_to, up_to_self, up_to_then, before_then, before_next, stands_before}
-use Rattle.gabc_places.specs.declared.code.Code.TheVariants.{E1, E6, W8, W10}
+use Rattle.gabc_places.proofs.PlacesInOrder.{before_up_to, up_to_self, before_then, before_next}
+use Rattle.gabc_places.specs.declared.code.Code.TheVariants.{E1, W8, W10}
 use Rattle.gabc_places.specs.declared.code.Finding.{Finding}
 use Rattle.gabc_places.specs.declared.place.Char.{Char}
 use Rattle.gabc_places.specs.declared.place.Place.{Place}
@@ -12,24 +12,24 @@ use Rattle.gabc_places.specs.StageLaw.{concat_of}
 use Rattle.gabc_places.specs.Place.{next_place, placed_characters_from}
 use Rattle.gabc_places.specs.PlacesInOrder.{IsEarlier}
 use Rattle.gabc_patterns.specs.Derivative.{is_alive, is_snippet, is_viable}
-use Rattle.gabc_patterns.specs.Function.{items, trim}
+use Rattle.gabc_patterns.specs.Function.{items}
 use Rattle.gabc_patterns.proofs.AutomatonsByTests.{reading_of}
 use Rattle.gabc_patterns.proofs.LongestMunchByCharacter.{snippet_from}
 use Rattle.gabc_patterns.proofs.StatesAfterTexts.{state_of, after_char}
 use Rattle.gabc_notes.specs.Table.{gabc}
 use Rattle.gabc_notes.specs.machine.StageEvents.{nothing_before}
 use Rattle.gabc_notes.specs.witness.StageEvents.{char_facts, raw_with, before_in}
-use Rattle.gabc_notes.specs.Events.{ItemText, Point, in_raw, kept, kept_with, is_comment, is_kept, is_end, is_over, is_fused, is_unpaired, is_missing, opener, item_at, opens_fusion, closes_fusion, macro_of, bytes_of, finding_event, end_by_mark, last_of, warnings, at_end, events_at, note_events, note_events_after}
+use Rattle.gabc_notes.specs.Events.{ItemText, Point, in_raw, kept, kept_with, is_comment, is_kept, is_end, is_over, is_fused, is_unpaired, is_missing, opener, item_at, opens_fusion, closes_fusion, macro_of, finding_event, last_of, warnings, at_end, events_at, note_events, note_events_after}
 use Rattle.gabc_notes.specs.SnippetRead.{findings_of}
 use Rattle.gabc_notes.specs.declared.stage.Before.{Before}
 use Rattle.gabc_notes.specs.declared.stage.NoteEvent.{NoteEvent}
-use Rattle.gabc_notes.specs.declared.stage.NoteEvent.TheVariants.{Kept, Ended}
+use Rattle.gabc_notes.specs.declared.stage.NoteEvent.TheVariants.{Kept}
 use Rattle.gabc_notes.specs.declared.stage.CharRole.TheVariants.{Keep}
 use Rattle.gabc_notes.specs.machine.ItemMachine.{raw_state}
 use Rattle.gabc_notes.specs.declared.state.ItemState.{ItemState}
 use Rattle.gabc_notes.proofs.machine.StageEmitsItsEvents.{raw_is}
 use Rattle.gabc_notes.proofs.machine.MachineReadsTable.{machine, snippets_read}
-use Rattle.gabc_notes.proofs.grammar.InsideRawIsAnOpenBracket.{on, is_raw, step_on}
+use Rattle.gabc_notes.proofs.grammar.InsideRawIsAnOpenBracket.{on}
 use Rattle.gabc_notes.proofs.grammar.LawsOfEventsByPoint.{cut_outs, over_joined, more_over}
 use Rattle.gabc_notes.proofs.machine.EventsDependOnState.{raw_at, raw_by}
 use Rattle.gabc_notes.proofs.machine.LoopOverBody.{findings_append, is_emitted}
@@ -51,12 +51,10 @@ no_findings : (p : Place) → Sorted p []
 no_findings p = record { order = tt; head = tt }
 
 weaken : (p q : Place) (fs : List Finding) → IsUpTo p q → Sorted q fs → Sorted p fs
-weaken p q [] l s = no_findings p
-weaken p q (f ∷ fs) l s = record { order = s.order; head = up_to_then p q f.place l s.head }
+weaken p q fs l s = grind arith
 
 prepend : (p q : Place) (f : Finding) (fs : List Finding) → IsUpTo p f.place → IsEarlier f.place q → Sorted q fs → Sorted p (f ∷ fs)
-prepend p q f [] l m s = record { order = tt; head = l }
-prepend p q f (g ∷ gs) l m s = record { order = (stands_before f g (before_then f.place q g.place m s.head), s.order); head = l }
+prepend p q f fs l m s = grind arith
 
 -- ---- what holds before a character
 
@@ -96,15 +94,7 @@ stand split (x ∷ back) o =
 -- ---- the items
 
 some_kept : (T : Option ItemText → Bool) (a b : Bool) (i : Option ItemText) → T None ≡ false → T (cond a (cond b i None) None) ≡ true → (a ≡ true) × (b ≡ true)
-some_kept T true true i n e = (refl, refl)
-some_kept T true false i n e = absurd (let f = sym e ∙ n in differ f)
-  where
-    differ : true ≡ false → ⊥
-    differ f = cc
-some_kept T false b i n e = absurd (let f = sym e ∙ n in differ f)
-  where
-    differ : true ≡ false → ⊥
-    differ f = cc
+some_kept T a b i n e = grind arith
 
 -- an item that ends at a point makes a snippet
 item_snippet : (T : Option ItemText → Bool) (p : Point) → T None ≡ false → T (item_at p) ≡ true → is_snippet gabc (kept_with p) ≡ true
@@ -118,18 +108,7 @@ close_no_macro i e = grind arith
 
 -- inside raw every character is viable
 raw_goes : (s : ItemState) → raw_state s ≡ true → (c : ℕ) → is_alive (reading_of gabc machine (on s c)) ≡ true
-raw_goes s r c = go (c == 93) refl
-  where
-    at_close : (s : ItemState) → raw_state s ≡ true → is_alive (reading_of gabc machine (on s 93)) ≡ true
-    at_close s r = grind arith
-
-    some : (o : Option ItemState) → is_raw o ≡ true → is_alive (reading_of gabc machine o) ≡ true
-    some None e = absurd (cc)
-    some (Some z) e = snippets_read.alive z
-
-    go : (b : Bool) → c == 93 ≡ b → is_alive (reading_of gabc machine (on s c)) ≡ true
-    go true e = subst (λ (d : ℕ). is_alive (reading_of gabc machine (on s d)) ≡ true) (sym (eqb-true c 93 e)) (at_close s r)
-    go false e = some (on s c) (step_on s c r e)
+raw_goes s r c = grind (arith, snippets_read)
 
 raw_viable : (k : List ℕ) (c : ℕ) → in_raw k ≡ true → is_viable gabc (k ++ c ∷ []) ≡ true
 raw_viable k c r =
@@ -148,11 +127,7 @@ abbrev pub OpenerBefore : List Char → Place → Type 0
 OpenerBefore back p = in_raw (kept back) ≡ true → IsEarlier (opener back) p
 
 low_before : (back : List Char) (p : Place) → OpenerBefore back p → IsUpTo (low back p) p
-low_before back p b = go (in_raw (kept back)) refl
-  where
-    go : (r : Bool) → in_raw (kept back) ≡ r → IsUpTo (cond r (opener back) p) p
-    go true e = before_up_to (opener back) p (b e)
-    go false e = up_to_self p
+low_before back p b = grind arith
 
 -- the same place where nothing is kept
 opener_same : (back : List Char) (x : Char) → is_kept (point back x) ≡ false → opener (x ∷ back) ≡ opener back
@@ -162,39 +137,23 @@ low_same : (back : List Char) (x : Char) (q : Place) → is_kept (point back x) 
 low_same back x q k same = ap (λ (t : List ℕ). cond (in_raw t) (opener (x ∷ back)) q) same ∙ ap (λ (o : Place). cond (in_raw (kept back)) o q) (opener_same back x k)
 
 low_grows : (back : List Char) (p q : Place) → IsEarlier p q → IsUpTo (low back p) (low back q)
-low_grows back p q l = go (in_raw (kept back))
-  where
-    go : (r : Bool) → IsUpTo (cond r (opener back) p) (cond r (opener back) q)
-    go true = up_to_self (opener back)
-    go false = before_up_to p q l
+low_grows back p q l = grind arith
 
 unkept_before : (back : List Char) (x : Char) (q : Place) → is_kept (point back x) ≡ false → kept (x ∷ back) ≡ kept back → IsEarlier x.place q → OpenerBefore back x.place → OpenerBefore (x ∷ back) q
-unkept_before back x q k same l b r =
-    subst (λ (o : Place). IsEarlier o q) (sym (opener_same back x k)) (before_then (opener back) x.place q (b (ap in_raw (sym same) ∙ r)) (before_up_to x.place q l))
+unkept_before back x q k same l b r = grind arith
 
 -- where a character is kept
 opener_kept : (back : List Char) (x : Char) → is_kept (point back x) ≡ true → opener (x ∷ back) ≡ cond (in_raw (kept back)) (opener back) x.place
-opener_kept back x k = opener_more back x ∙ (ap (λ (a : Bool). cond (a && not (in_raw (kept back))) x.place (opener back)) k ∙ flip (in_raw (kept back)))
-  where
-    flip : (r : Bool) → cond (not r) x.place (opener back) ≡ cond r (opener back) x.place
-    flip true = refl
-    flip false = refl
+opener_kept back x k = grind arith
 
 kept_before : (back : List Char) (x : Char) (q : Place) → is_kept (point back x) ≡ true → IsEarlier x.place q → OpenerBefore back x.place → OpenerBefore (x ∷ back) q
-kept_before back x q k l b r =
-    subst (λ (o : Place). IsEarlier o q) (sym (opener_kept back x k)) (go (in_raw (kept back)) refl)
-  where
-    go : (s : Bool) → in_raw (kept back) ≡ s → IsEarlier (cond s (opener back) x.place) q
-    go true e = before_then (opener back) x.place q (b e) (before_up_to x.place q l)
-    go false e = l
+kept_before back x q k l b r = grind arith
 
 low_kept : (back : List Char) (x : Char) (q : Place) → is_kept (point back x) ≡ true → IsEarlier x.place q → OpenerBefore back x.place → IsUpTo (low back x.place) (low (x ∷ back) q)
 low_kept back x q k l b = subst (λ (o : Place). IsUpTo (low back x.place) (cond (in_raw (kept (x ∷ back))) o q)) (sym (opener_kept back x k)) (go (in_raw (kept back)) refl (in_raw (kept (x ∷ back))))
   where
     go : (s : Bool) → in_raw (kept back) ≡ s → (a : Bool) → IsUpTo (cond s (opener back) x.place) (cond a (cond s (opener back) x.place) q)
-    go s e true = up_to_self (cond s (opener back) x.place)
-    go true e false = before_up_to (opener back) q (before_then (opener back) x.place q (b e) (before_up_to x.place q l))
-    go false e false = before_up_to x.place q l
+    go s e a = grind arith
 
 -- an item that uses a macro closes a bracket
 pub missing_inside : (split : Bool) (macros : ℕ) (back : List Char) (x : Char) → Stood split back → is_comment (point back x) ≡ false → is_end split (point back x) ≡ false
@@ -202,11 +161,7 @@ pub missing_inside : (split : Bool) (macros : ℕ) (back : List Char) (x : Char)
 missing_inside split macros back x t c n w e = by (in_raw (kept back)) _ _ (macro_is split back t.raw t.stood x (record { holds = t.holds; plain = c; going = n; viable = w }))
   where
     by : (r : Bool) (a : Bool) (d : Option ℕ) → macro_of (item_at (point back x)) ≡ cond (r && a) d None → r ≡ true
-    by true a d f = refl
-    by false a d f = absurd (let g = sym e ∙ ap (is_missing macros) f in differ g)
-      where
-        differ : true ≡ false → ⊥
-        differ g = cc
+    by r a d f = grind arith
 
 -- the findings of a character that is kept
 kept_sorted : (split : Bool) (macros : ℕ) (back : List Char) (x : Char) (q : Place) (fs : List Finding) → Stood split back → is_comment (point back x) ≡ false → is_end split (point back x) ≡ false
@@ -222,8 +177,7 @@ kept_sorted split macros back x q fs t c n w l b s = go (is_unpaired (point back
 
     -- after an item nothing is emitted before the next character
     later : is_snippet gabc (kept_with (point back x)) ≡ true → Sorted q fs
-    later e = subst (λ (a : Bool). Sorted (cond a (opener (x ∷ back)) q) fs)
-        (ap in_raw same ∙ (ap (λ (d : Bool). is_snippet gabc (kept_with (point back x) ++ codes "]") && not d) e ∙ and-false (is_snippet gabc (kept_with (point back x) ++ codes "]")))) s
+    later e = grind (arith, same, point, and-false)
 
     mark : is_unpaired (point back x) ≡ true → (is_snippet gabc (kept_with (point back x)) ≡ true) × (macro_of (item_at (point back x)) ≡ None)
     mark e = elim (or_cases (opens_fusion (item_at (point back x)) && is_fused back) (closes_fusion (item_at (point back x)) && not (is_fused back)) e) [
@@ -250,13 +204,7 @@ kept_sorted split macros back x q fs t c n w l b s = go (is_unpaired (point back
 
 -- the findings of the end
 end_sorted : (macros : ℕ) (back : List Char) (x : Char) → in_raw (kept back) ≡ false → Sorted (low back x.place) (findings_of (at_end (point back x)) ++ [])
-end_sorted macros back x r = subst (λ (a : Bool). Sorted (cond a (opener back) x.place) (findings_of (at_end (point back x)) ++ [])) (sym r) (go (is_snippet gabc (kept back)) (is_fused back))
-  where
-    go : (a b : Bool) → Sorted x.place (findings_of (cond a [] (finding_event x.place E6 ∷ []) ++ (cond b (finding_event x.place W10 ∷ []) [] ++ Ended (end_by_mark x.c) (bytes_of (trim gabc (kept back))) ∷ [])) ++ [])
-    go true true = record { order = tt; head = up_to_self x.place }
-    go true false = no_findings x.place
-    go false true = record { order = (inr (refl, inr (refl, omega arith)), tt); head = up_to_self x.place }
-    go false false = record { order = tt; head = up_to_self x.place }
+end_sorted macros back x r = grind arith
 
 -- ---- all characters
 
@@ -285,11 +233,7 @@ one_sorted split macros back xs x q o l b F = elim (is_emitted split macros back
   where
     ended : is_end split (point back x) ≡ true → events_at split macros (point back x) ≡ at_end (point back x)
         → Sorted (low back x.place) (findings_of (events_at split macros (point back x)) ++ findings_of (concat_of (note_events_after split macros (x ∷ back) xs)))
-    ended e f =
-        let none : concat_of (note_events_after split macros (x ∷ back) xs) ≡ [] = over_joined split macros (x ∷ back) xs (more_over split back x true o e) in
-        let out = not-true (in_raw (kept back)) (and_parts (not (in_raw (kept back))) ((x.c == 41) || (split && (x.c == 124))) (and_parts (not (is_comment (point back x))) _ e).1).0 in
-        subst (λ (a : List NoteEvent). Sorted (low back x.place) (findings_of a ++ findings_of (concat_of (note_events_after split macros (x ∷ back) xs)))) (sym f)
-        (subst (λ (a : List NoteEvent). Sorted (low back x.place) (findings_of (at_end (point back x)) ++ findings_of a)) (sym none) (end_sorted macros back x out))
+    ended e f = grind (arith, over_joined, more_over, not-true, and_parts, point, end_sorted)
 
     going : is_end split (point back x) ≡ false → FactsHow split macros back x
         → Sorted (low back x.place) (findings_of (events_at split macros (point back x)) ++ findings_of (concat_of (note_events_after split macros (x ∷ back) xs)))
@@ -313,19 +257,11 @@ one_sorted split macros back xs x q o l b F = elim (is_emitted split macros back
         (F (unkept_before back x q k same l b))))
       where
         outside : (r : Bool) → in_raw (kept back) ≡ r → is_viable gabc (kept_with (point back x)) ≡ false → in_raw (kept back) ≡ false
-        outside true e v = absurd (let g = sym (raw_viable (kept back) x.c e) ∙ v in differ g)
-          where
-            differ : true ≡ false → ⊥
-            differ g = cc
-        outside false e v = e
+        outside r e v = grind (arith, raw_viable)
 
 pub events_sorted : (split : Bool) (macros : ℕ) (t : List ℕ) (back : List Char) (p : Place) → OpenerBefore back p
     → Sorted (low back p) (findings_of (concat_of (note_events_after split macros back (placed_characters_from p t))))
-events_sorted split macros [] back p b = go (is_over split back) refl
-  where
-    go : (o : Bool) → is_over split back ≡ o → Sorted (low back p) (findings_of (concat_of (note_events_after split macros back [])))
-    go true o = subst (λ (l : List NoteEvent). Sorted (low back p) (findings_of l)) (sym (over_joined split macros back [] o)) (no_findings (low back p))
-    go false o = subst (λ (l : List NoteEvent). Sorted (low back p) (findings_of (l ++ []))) (sym (cut_outs split back o)) (no_findings (low back p))
+events_sorted split macros [] back p b = grind (arith, over_joined, no_findings, cut_outs)
 events_sorted split macros (c ∷ t) back p b = go (is_over split back) refl (events_sorted split macros t (record { c = c; place = p } ∷ back) (next_place p c))
   where
     go : (o : Bool) → is_over split back ≡ o
@@ -339,7 +275,4 @@ events_sorted split macros (c ∷ t) back p b = go (is_over split back) refl (ev
 -- of a whole text
 pub all_in_order : (at : Place) (split : Bool) (macros : ℕ) (t : List ℕ) → AreInOrder (findings_of (concat_of (note_events split macros (placed_characters_from at t))))
 unfolding note_events
-all_in_order at split macros t = (events_sorted split macros t [] at (λ r. absurd (let f : false ≡ true = r in none f))).order
-  where
-    none : false ≡ true → ⊥
-    none f = cc
+all_in_order at split macros t = grind (arith, events_sorted)

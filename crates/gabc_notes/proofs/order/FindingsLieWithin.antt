@@ -1,6 +1,6 @@
 -- The places between which findings lie, and the marks at which ends are emitted.
-use Rattle.std.proofs.Common.{◌≡◌, ℕ, ◌+◌, suc, List, [], ◌∷◌, ◌++◌, Bool, true, false, cond, not, ◌&&◌, ◌||◌, ◌==◌, inl, inr, refl, sym, ap, ◌∙◌, subst, length, take, eqb-true, arith}
-use Rattle.std.proofs.lemmas.Bool.{and_parts, or_cases}
+use Rattle.std.proofs.Common.{◌≡◌, ℕ, ◌+◌, suc, List, [], ◌∷◌, ◌++◌, Bool, true, false, cond, not, ◌&&◌, ◌||◌, ◌==◌, inl, inr, refl, sym, ap, subst, length, take, arith}
+use Rattle.std.proofs.lemmas.Bool.{and_parts}
 use Rattle.gabc_places.proofs.PlacesInOrder.{lie_wider, up_to_past, lie_append, before_up_to, up_to_self, up_to_then, before_next}
 use Rattle.gabc_places.specs.declared.code.Code.TheVariants.{E1, E6, W8, W10}
 use Rattle.gabc_places.specs.declared.place.Char.{Char}
@@ -14,7 +14,6 @@ use Rattle.gabc_notes.specs.Table.{gabc}
 use Rattle.gabc_notes.specs.Events.{Point, in_raw, kept, is_comment, is_end, is_over, is_fused, is_unpaired, is_missing, opener, item_at, macro_of, bytes_of, finding_event, end_by_mark, warnings, at_end, events_at, cut_events, note_events, note_events_after}
 use Rattle.gabc_notes.specs.SnippetRead.{findings_of, ends_of}
 use Rattle.gabc_notes.specs.Ends.{IsMarkOf, EndWithMark, EndAtMost, AreCutAtMost}
-use Rattle.gabc_notes.specs.declared.stage.NoteEnd.TheVariants.{Next, Close, Cut}
 use Rattle.gabc_notes.specs.declared.stage.NoteEvent.{NoteEvent}
 use Rattle.gabc_notes.specs.declared.stage.NoteEvent.TheVariants.{Kept, Ended}
 use Rattle.gabc_notes.proofs.order.FindingsAreInOrder.{stand, FactsHow, facts_how, missing_inside}
@@ -46,31 +45,16 @@ opener_stands p q back h r =
 -- ---- a character
 
 end_within : (at : Place) (back : List Char) (x : Char) → IsUpTo at x.place → LieBetween at x.place (findings_of (at_end (point back x)))
-end_within at back x l = go (is_snippet gabc (kept back)) (is_fused back)
-  where
-    here : IsUpTo at x.place × IsUpTo x.place x.place
-    here = (l, up_to_self x.place)
-
-    go : (a b : Bool) → LieBetween at x.place (findings_of (cond a [] (finding_event x.place E6 ∷ []) ++ (cond b (finding_event x.place W10 ∷ []) [] ++ Ended (end_by_mark x.c) (bytes_of (trim gabc (kept back))) ∷ [])))
-    go true true = (here, tt)
-    go true false = tt
-    go false true = (here, (here, tt))
-    go false false = (here, tt)
+end_within at back x l = grind arith
 
 warned_within : (at : Place) (macros : ℕ) (back : List Char) (x : Char) → IsUpTo at x.place
     → (is_missing macros (macro_of (item_at (point back x))) ≡ true → IsUpTo at (opener back) × IsUpTo (opener back) x.place)
     → LieBetween at x.place (findings_of (warnings macros (point back x)))
 warned_within at macros back x l o = go (is_unpaired (point back x)) (is_missing macros (macro_of (item_at (point back x)))) refl
   where
-    here : IsUpTo at x.place × IsUpTo x.place x.place
-    here = (l, up_to_self x.place)
-
     go : (u m : Bool) → is_missing macros (macro_of (item_at (point back x))) ≡ m
         → LieBetween at x.place (findings_of (cond u (finding_event x.place W10 ∷ []) [] ++ cond m (finding_event (opener back) W8 ∷ []) []))
-    go true true e = (here, (o e, tt))
-    go true false e = (here, tt)
-    go false true e = (o e, tt)
-    go false false e = tt
+    go u m e = grind arith
 
 facts_within : (at : Place) (split : Bool) (macros : ℕ) (back : List Char) (x : Char) → IsUpTo at x.place → StandBetween at x.place back
     → LieBetween at x.place (findings_of (events_at split macros (point back x)))
@@ -124,20 +108,7 @@ all_within at split macros prefix rest = through at split macros prefix rest [] 
 
 -- the end of a snippet is its mark
 mark_is : (split : Bool) (c : ℕ) → ((c == 41) || (split && (c == 124))) ≡ true → IsMarkOf split (end_by_mark c) c
-mark_is split c h = go (c == 124) refl
-  where
-    go : (b : Bool) → (c == 124) ≡ b → IsMarkOf split (cond b Next Close) c
-    go true e = (
-      eqb-true c 124 e,
-      elim (or_cases (c == 41) (split && (c == 124)) h) [
-        | inl d ↦ absurd (let f = eqb-true c 41 d in let g = eqb-true c 124 e in omega arith)
-        | inr d ↦ (and_parts split (c == 124) d).0
-      ],
-    )
-    go false e = elim (or_cases (c == 41) (split && (c == 124)) h) [
-      | inl d ↦ eqb-true c 41 d
-      | inr d ↦ absurd (let f = sym e ∙ (and_parts split (c == 124) d).1 in cc)
-    ]
+mark_is split c h = grind arith
 
 end_marked : (split : Bool) (back : List Char) (x : Char) → is_end split (point back x) ≡ true → EndWithMark split x.c (at_end (point back x))
 end_marked split back x e = go (is_snippet gabc (kept back)) (is_fused back)
@@ -162,8 +133,4 @@ ends_at_mark split macros p = start (is_over split p.back) refl
     ]
 
 pub cut_at_most : (split : Bool) (back : List Char) → AreCutAtMost (cut_events split back)
-cut_at_most split back = go (is_over split back)
-  where
-    go : (o : Bool) → AreCutAtMost (cond o [] (Ended (Cut (cond (in_raw (kept back)) (opener back) (record { line = 0; column = 0 }))) (bytes_of (kept back)) ∷ []))
-    go true = inl refl
-    go false = inr (cond (in_raw (kept back)) (opener back) (record { line = 0; column = 0 }), bytes_of (kept back), refl)
+cut_at_most split back = grind arith

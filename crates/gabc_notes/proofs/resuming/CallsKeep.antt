@@ -1,6 +1,5 @@
 -- What the calls of a stage do to the text that it keeps.
-use Rattle.std.proofs.Common.{◌≡◌, ◌==◌, List, [], ◌∷◌, true, false, Option, Some, None, length, drop, refl, sym, ap, ◌∙◌, subst}
-use Rattle.std.proofs.Math.Bool.{and-false}
+use Rattle.std.proofs.Common.{arith, ◌≡◌, ◌==◌, List, [], ◌∷◌, true, false, Option, length, drop, sym, ap, ◌∙◌, subst}
 use Rattle.std.proofs.Math.Seq.{drop-append_seam}
 use Rattle.gabc_places.specs.BoundedList.{BoundedList}
 use Rattle.gabc_places.specs.StageLaw.{Pushes}
@@ -9,7 +8,7 @@ use Rattle.gabc_notes.specs.witness.ItemMachine.{events_left}
 use Rattle.gabc_notes.specs.witness.Keeps.{KeepsOn, Steps}
 use Rattle.gabc_notes.specs.witness.StageEvents.{role_in}
 use Rattle.gabc_notes.specs.machine.ItemMachine.{IsShortStep, raw_state, facts_by_states, stage_after, stage_kept}
-use Rattle.gabc_notes.specs.machine.StageAfter.{next_of, facts_of, role_of, stage_after_one, events_of_push}
+use Rattle.gabc_notes.specs.machine.StageAfter.{next_of, stage_after_one, events_of_push}
 use Rattle.gabc_notes.specs.declared.stage.CharFacts.{CharFacts}
 use Rattle.gabc_notes.specs.declared.stage.CharRole.{CharRole}
 use Rattle.gabc_notes.specs.declared.stage.NoteEvent.{NoteEvent}
@@ -17,41 +16,26 @@ use Rattle.gabc_notes.specs.declared.stage.NoteStage.{NoteStage}
 use Rattle.gabc_notes.specs.declared.state.ItemState.{ItemState}
 use Rattle.gabc_notes.proofs.grammar.InsideRawIsAnOpenBracket.{raw_stays}
 use Rattle.gabc_notes.proofs.resuming.KeptTextGivesStage.{emits_on}
-use Rattle.gabc_notes.proofs.resuming.StagesKeep.{goes_after, push_keeps}
+use Rattle.gabc_notes.proofs.resuming.StagesKeep.{push_keeps}
 
 -- ---- the stage after a character, by each way
 
 -- the general way
 pub read_state : (s next : NoteStage) (x : Char) (o : Option ItemState) (facts : CharFacts) (role : CharRole) → s.ended ≡ false → o ≡ next_of s x.c → facts ≡ facts_by_states s.state o s.name
     → role ≡ role_in s.split s.before.comment facts x.c → next ≡ stage_after s role facts o x → next ≡ stage_after_one s x
-read_state s next x o facts role on eo ef er e =
-    e
-    ∙ ap (λ (r : CharRole). stage_after s r facts o x) er
-    ∙ ap (λ (f : CharFacts). stage_after s (role_in s.split s.before.comment f x.c) f o x) ef
-    ∙ ap (λ (p : Option ItemState). stage_after s (role_in s.split s.before.comment (facts_by_states s.state p s.name) x.c) (facts_by_states s.state p s.name) p x) eo
-    ∙ sym (goes_after s x on)
+read_state s next x o facts role on eo ef er e = cc
 
 -- the short way to a state
 pub short_state : (s : NoteStage) (x : Char) (z : ItemState) → s.ended ≡ false → s.before.comment ≡ false → IsShortStep s.state x.c z → stage_kept s z x ≡ stage_after_one s x
-short_state s x z on no_comment step = sym (goes_after s x on ∙ same)
-  where
-    same : stage_after s (role_of s x.c) (facts_of s x.c) (next_of s x.c) x ≡ stage_kept s z x
-    same = rw (step.step, no_comment, step.outside, step.closes_no_notes, step.ends_no_snippet, and-false s.split, step.begins_no_comment) refl
+short_state s x z on no_comment step = grind arith
 
 -- the one inside raw
 pub inside_state : (s : NoteStage) (x : Char) → s.ended ≡ false → s.before.comment ≡ false → raw_state s.state ≡ true → (x.c == 93) ≡ false → stage_kept s s.state x ≡ stage_after_one s x
-inside_state s x on no_comment inside other = sym (goes_after s x on ∙ same)
-  where
-    same : stage_after s (role_of s x.c) (facts_of s x.c) (next_of s x.c) x ≡ stage_kept s s.state x
-    same = rw (raw_stays s.state x.c inside other, no_comment, inside) refl
+inside_state s x on no_comment inside other = grind (arith, raw_stays)
 
 -- the one of a `)`
 pub close_state : (s : NoteStage) (x : Char) → s.ended ≡ false → s.before.comment ≡ false → raw_state s.state ≡ false → x.c ≡ 41 → record s { ended = true } ≡ stage_after_one s x
-close_state s x on no_comment outside close = sym (goes_after s x on ∙ by (next_of s x.c))
-  where
-    by : (o : Option ItemState) → stage_after s (role_in s.split s.before.comment (facts_by_states s.state o s.name) x.c) (facts_by_states s.state o s.name) o x ≡ record s { ended = true }
-    by None = rw (no_comment, outside, close) refl
-    by (Some z) = rw (no_comment, outside, close) refl
+close_state s x on no_comment outside close = grind arith
 
 -- ---- what is kept
 
@@ -73,7 +57,4 @@ push_keeps_in s next x old new on e p =
 -- where the stage goes on or ends with the character
 pub push_steps_in : (s next : NoteStage) (x : Char) (old new : BoundedList NoteEvent) → s.ended ≡ false → next ≡ stage_after_one s x → Pushes (events_left s) (events_left next) x 3 old new
     → Steps s x (drop (length old.items) new.items) next
-push_steps_in s next x old new on e p = record {
-  emits = λ xs. p.law xs ∙ ap (λ (events : List NoteEvent). events ∷ events_left next xs) (sym (ap (λ (room : BoundedList NoteEvent). drop (length old.items) room.items) p.out ∙ drop-append_seam old.items p.events));
-  keeps = push_keeps_in s next x old new on e p;
-}
+push_steps_in s next x old new on e p = grind (arith, drop-append_seam, push_keeps_in)

@@ -1,54 +1,34 @@
 -- A kept text gives the stage back.
-use Rattle.std.proofs.Common.{◌≡◌, ◌==◌, ◌&&◌, ◌||◌, not, ℕ, List, [], ◌∷◌, ◌++◌, Bool, true, false, Option, Some, None, is_some, length, drop, map, refl, sym, ap, ◌∙◌, subst, append-nil, append_assoc, if◌then◌else◌}
+use Rattle.std.proofs.Common.{arith, ◌≡◌, ◌==◌, ◌&&◌, ◌||◌, not, ℕ, List, [], ◌∷◌, ◌++◌, Bool, true, false, Option, Some, None, is_some, length, drop, map, refl, sym, ap, ◌∙◌, subst, append-nil, append_assoc, if◌then◌else◌}
 use Rattle.std.proofs.lemmas.List.{drop-drop, length-append}
 use Rattle.gabc_places.specs.declared.place.Char.{Char}
 use Rattle.gabc_places.specs.declared.place.Place.{Place}
 use Rattle.gabc_patterns.specs.Derivative.{is_viable}
 use Rattle.gabc_notes.specs.Table.{gabc}
 use Rattle.gabc_notes.specs.Events.{in_raw, note_events}
-use Rattle.gabc_notes.specs.witness.ItemMachine.{example, events_left}
+use Rattle.gabc_notes.specs.witness.ItemMachine.{events_left}
 use Rattle.gabc_notes.specs.witness.Keeps.{Keeps, is_comment_after, is_end_after, kept_after, opener_after, GoesOn, set_down, OpensAt, IsKeptAgain}
 use Rattle.gabc_notes.specs.SnippetRead.{kept_of}
-use Rattle.gabc_notes.specs.StageReports.{opener_of, comment_of, told}
-use Rattle.gabc_notes.specs.machine.StageAfter.{next_of, facts_of, role_of, stage_after_one, events_of_push, at_nowhere, aside, fresh_stage, stage_past, AreKept}
+use Rattle.gabc_notes.specs.StageReports.{opener_of, comment_of}
+use Rattle.gabc_notes.specs.machine.StageAfter.{role_of, stage_after_one, events_of_push, at_nowhere, aside, fresh_stage, stage_past, AreKept}
 use Rattle.gabc_notes.specs.declared.stage.CharRole.TheVariants.{Keep}
-use Rattle.gabc_notes.specs.declared.stage.NoteEvent.{NoteEvent}
 use Rattle.gabc_notes.specs.declared.stage.NoteStage.{NoteStage}
 use Rattle.gabc_notes.proofs.machine.FreshStageEmitsEventsByPoint.{fresh_says}
 use Rattle.gabc_notes.proofs.machine.StageEmitsItsEvents.{push_law}
 use Rattle.gabc_notes.proofs.resuming.StagesAgree.{told_suffices}
-use Rattle.gabc_notes.proofs.resuming.StagesKeep.{After, goes_after, text_after, fresh_after, keeps_after, role_says, opener_is, kept_aside, past_more, emitted, events_are, push_keeps, fresh_keeps}
+use Rattle.gabc_notes.proofs.resuming.StagesKeep.{After, text_after, fresh_after, keeps_after, role_says, opener_is, kept_aside, past_more, push_keeps, fresh_keeps}
 
 -- ---- two stages after one text
 
-abbrev with_told : NoteStage → Option Place → Bool → NoteStage
-with_told s None m = record s { before = record s.before { place = record { line = 0; column = 0 }; comment = m } }
-with_told s (Some p) m = record s { before = record s.before { place = p; comment = m } }
-
-told_is : (split : Bool) (macros : ℕ) (s : NoteStage) (k : List ℕ) → Keeps split macros s k
-    → told s ≡ with_told (stage_past (fresh_stage split macros) k) (opener_of s) (comment_of s)
-told_is split macros s k h = by (in_raw (example s.state)) ∙ ap (λ (r : NoteStage). with_told r (opener_of s) (comment_of s)) h.alike
-  where
-    by : (b : Bool) → record s { before = record s.before { place = if b then s.before.place else record { line = 0; column = 0 } } }
-        ≡ with_told (aside s) (if b then Some s.before.place else None) (comment_of s)
-    by true = refl
-    by false = refl
-
 pub keeps_agree : (split : Bool) (macros : ℕ) (s r : NoteStage) (k : List ℕ) → Keeps split macros s k → Keeps split macros r k
     → opener_of s ≡ opener_of r → comment_of s ≡ comment_of r → (xs : List Char) → events_left s xs ≡ events_left r xs
-keeps_agree split macros s r k h g o m xs =
-    told_suffices s r xs
-    (told_is split macros s k h
-    ∙ ap (λ (p : Option Place). with_told (stage_past (fresh_stage split macros) k) p (comment_of s)) o
-    ∙ ap (λ (b : Bool). with_told (stage_past (fresh_stage split macros) k) (opener_of r) b) m
-    ∙ sym (told_is split macros r k g))
+keeps_agree split macros s r k h g o m xs = grind (arith, told_suffices)
 
 pub told_inside_raw : (split : Bool) (macros : ℕ) (s : NoteStage) (k : List ℕ) → Keeps split macros s k → is_some (opener_of s) ≡ in_raw k
 told_inside_raw split macros s k h = ap (λ (o : Option Place). is_some o) (opener_is split macros s k (keeps_after split macros s k h)) ∙ by (in_raw k)
   where
     by : (b : Bool) → is_some (if b then Some s.before.place else None) ≡ b
-    by true = refl
-    by false = refl
+    by b = grind arith
 
 -- ---- a kept text is kept again
 
@@ -78,15 +58,10 @@ kept_again split macros s k more c h = (let y = are_before (fresh_stage split ma
 -- ---- a stage restored
 
 pub emits_on : (s : NoteStage) (x : Char) (xs : List Char) → s.ended ≡ false → events_left s (x ∷ xs) ≡ events_of_push s x ∷ events_left (stage_after_one s x) xs
-emits_on s x xs on =
-    push_law s x xs (next_of s x.c) (facts_of s x.c) (role_of s x.c) on refl refl refl
-    ∙ ap (λ (r : NoteStage). emitted s x (role_of s x.c) ∷ events_left r xs) (sym (goes_after s x on))
-    ∙ ap (λ (events : List NoteEvent). events ∷ events_left (stage_after_one s x) xs) (sym (events_are s x (role_of s x.c) on refl))
+emits_on s x xs on = grind (arith, push_law)
 
 opens_on : (a : Bool) (before after : Option Place) (at : Place) → ((p : Place) → before ≡ Some p → p ≡ at) → after ≡ opener_after a before at → (p : Place) → after ≡ Some p → p ≡ at
-opens_on false before after at h e p f = absurd (let g : None ≡ Some p = sym e ∙ f in cc)
-opens_on true None after at h e p f = let g : Some at ≡ Some p = sym e ∙ f in cc
-opens_on true (Some q) after at h e p f = h p (sym e ∙ f)
+opens_on a before after at h e p f = grind arith
 
 module _ (split : Bool) (macros : ℕ) (at : Place) where
   abbrev placed : List ℕ → List Char

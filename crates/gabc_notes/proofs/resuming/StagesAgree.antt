@@ -1,10 +1,10 @@
 -- Stages that report the same emit the same of whatever follows.
-use Rattle.std.proofs.Common.{◌≡◌, ℕ, List, [], ◌∷◌, ◌++◌, Bool, true, false, refl, sym, ap, ◌∙◌, if◌then◌else◌}
+use Rattle.std.proofs.Common.{arith, ◌≡◌, ℕ, List, [], ◌∷◌, ◌++◌, Bool, true, false, refl, sym, ap, ◌∙◌}
 use Rattle.gabc_places.specs.declared.place.Char.{Char}
 use Rattle.gabc_places.specs.declared.place.Place.{Place}
 use Rattle.gabc_places.specs.StageLaw.{silence}
 use Rattle.gabc_notes.specs.Events.{in_raw}
-use Rattle.gabc_notes.specs.witness.ItemMachine.{example, example_prefix, events_left}
+use Rattle.gabc_notes.specs.witness.ItemMachine.{events_left}
 use Rattle.gabc_notes.specs.witness.StageEvents.{char_facts, role_in, before_in, events_in, event_list, raw_with, events_following, events_after}
 use Rattle.gabc_notes.specs.StageReports.{told}
 use Rattle.gabc_notes.specs.declared.stage.Before.{Before}
@@ -31,11 +31,7 @@ place_aside split macros (x ∷ xs) kept raw b p e = by (role_in split b.comment
     by Keep again = rw e refl
 
 told_emits : (s : NoteStage) (xs : List Char) → events_left s xs ≡ events_left (told s) xs
-told_emits s xs = by (in_raw (example s.state)) refl
-  where
-    by : (b : Bool) → in_raw (example s.state) ≡ b → events_left s xs ≡ events_left (record s { before = record s.before { place = if b then s.before.place else record { line = 0; column = 0 } } }) xs
-    by true e = refl
-    by false e = ap (λ (lists : List (List NoteEvent)). if s.ended then silence xs else lists) (place_aside s.split s.macros xs (example s.state) (example_prefix s.name) s.before (record { line = 0; column = 0 }) e)
+told_emits s xs = grind (arith, place_aside)
 
 pub told_suffices : (s r : NoteStage) (xs : List Char) → told s ≡ told r → events_left s xs ≡ events_left r xs
 told_suffices s r xs e = told_emits s xs ∙ ap (λ (x : NoteStage). events_left x xs) e ∙ sym (told_emits r xs)

@@ -40,10 +40,6 @@ pub record After (split : Bool) (macros : ℕ) (s : NoteStage) (k : List ℕ) : 
   pub bytes : s.before.kept ≡ bytes_of k
   pub whole : s.before.whole ≡ bytes_of (trim gabc k)
 
--- the stage after a character, if it goes on before it
-pub goes_after : (s : NoteStage) (x : Char) → s.ended ≡ false → stage_after_one s x ≡ stage_after s (role_of s x.c) (facts_of s x.c) (next_of s x.c) x
-goes_after s x on = ap (λ (b : Bool). if b then s else stage_after s (role_of s x.c) (facts_of s x.c) (next_of s x.c) x) on
-
 -- the state after one that is kept
 kept_state : (s : NoteStage) (c : ℕ) → role_of s c ≡ Keep → (z : ItemState) × (next_of s c ≡ Some z)
 kept_state s c e = by (next_of s c) refl
@@ -71,16 +67,12 @@ kept_one split macros s k x z h n = record {
     more = ap (λ (n : ℕ). count_plus n x.c) h.bytes ∙ sym (bytes_more k x.c)
 
     by : (w : Bool) → (if w then count_plus s.before.kept x.c else s.before.whole) ≡ bytes_of (if w then k ++ x.c ∷ [] else trim gabc k)
-    by true = more
-    by false = h.whole
+    by w = grind (arith, more)
 
 -- a character that is kept, as the stage after it
 kept_step : (s : NoteStage) (x : Char) (z : ItemState) → s.ended ≡ false → role_of s x.c ≡ Keep → next_of s x.c ≡ Some z
     → stage_after_one s x ≡ stage_after s Keep (facts_by_states s.state (Some z) s.name) (Some z) x
-kept_step s x z on keep n =
-    goes_after s x on
-    ∙ ap (λ (r : CharRole). stage_after s r (facts_of s x.c) (next_of s x.c) x) keep
-    ∙ ap (λ (o : Option ItemState). stage_after s Keep (facts_by_states s.state o s.name) o x) n
+kept_step s x z on keep n = cc
 
 pub text_after : (split : Bool) (macros : ℕ) (s : NoteStage) (t k : List ℕ) → After split macros s t → AreKept s k → After split macros (stage_past s k) (t ++ k)
 text_after split macros s t [] h a = subst (After split macros s) (sym (append-nil t)) h
@@ -111,8 +103,7 @@ module _ (split : Bool) (macros : ℕ) (s : NoteStage) (k : List ℕ) (h : After
   viable_after c = by (next_of s c) ∙ sym (viable_next gabc machine snippets_read s.state k c h.stands)
     where
       by : (o : Option ItemState) → is_some o ≡ is_alive (reading_of gabc machine o)
-      by None = refl
-      by (Some z) = sym (snippets_read.alive z)
+      by o = grind arith
 
   abbrev role_by : Bool → Bool → Bool → Bool → ℕ → CharRole
   role_by split comment raw viable c =
@@ -126,8 +117,7 @@ module _ (split : Bool) (macros : ℕ) (s : NoteStage) (k : List ℕ) (h : After
       ∙ ap (λ (v : Bool). role_by split s.before.comment (in_raw k) v c) (viable_after c)
     where
       by : (o : Option ItemState) → role_in s.split s.before.comment (facts_by_states s.state o s.name) c ≡ role_by s.split s.before.comment (raw_state s.state) (is_some o) c
-      by None = refl
-      by (Some z) = refl
+      by o = grind arith
 
   pub role_says : (c : ℕ) (r : CharRole) → role_of s c ≡ r
       → RoleIs r s.before.comment (is_comment_after k s.before.comment c) (not (in_raw k) && ((c == 41) || (split && (c == 124)))) (is_viable gabc (k ++ c ∷ []))
@@ -192,26 +182,12 @@ are_more s (d ∷ k) c a e = (a.0, are_more (stage_after_one s (at_nowhere d)) k
 
 -- what is kept is kept where no comment is open
 pub kept_aside : (s : NoteStage) (c : ℕ) → role_of s c ≡ Keep → role_of (aside s) c ≡ Keep
-kept_aside s c e = by (s.before.comment && not (c == 10)) refl
-  where
-    rest : CharRole
-    rest = role_of (aside s) c
-
-    by : (b : Bool) → (s.before.comment && not (c == 10)) ≡ b → rest ≡ Keep
-    by true f = absurd (let g : Silent ≡ Keep = ap (λ (a : Bool). if a then Silent else rest) (sym f) ∙ e in cc)
-    by false f = ap (λ (a : Bool). if a then Silent else rest) (sym f) ∙ e
+kept_aside s c e = grind arith
 
 -- the stage after it is the same, places and comments aside
 aside_kept : (s : NoteStage) (x : Char) (z : ItemState)
     → aside (stage_after s Keep (facts_by_states s.state (Some z) s.name) (Some z) x) ≡ stage_after (aside s) Keep (facts_by_states s.state (Some z) s.name) (Some z) (at_nowhere x.c)
-aside_kept s x z = by (raw_state s.state)
-  where
-    after : NoteStage
-    after = stage_after (aside s) Keep (facts_by_states s.state (Some z) s.name) (Some z) (at_nowhere x.c)
-
-    by : (b : Bool) → aside after ≡ record after { before = record after.before { place = if b then record { line = 0; column = 0 } else record { line = 0; column = 0 } } }
-    by true = refl
-    by false = refl
+aside_kept s x z = grind arith
 
 -- ---- what a character does
 
@@ -225,34 +201,7 @@ module _ (split : Bool) (macros : ℕ) (s : NoteStage) (x : Char) (k : List ℕ)
   -- of one that is not kept
   stays : (m : Bool) (events : List NoteEvent) → is_comment_after k (comment_of s) x.c ≡ m → IsQuiet events → kept_after k (comment_of s) x.c ≡ k
       → GoesOn split macros k s x events (record s { before = record s.before { comment = m } })
-  stays m events c quiet same = record {
-    no_end = quiet.1;
-    kept = text ∙ sym same;
-    keeps = subst (Keeps split macros after) (sym text) (record { goes_on = h.goes_on; outside = λ e. outside (c ∙ e); alike = h.alike; whole = h.whole });
-    comment = sym c;
-    opener = ap (λ (a : Bool). if a then Some s.before.place else None) (raw_by (example s.state) ∙ raw_is s.state ∙ raw_after_text split macros s k b) ∙ by (in_raw k)
-        ∙ ap (λ (t : List ℕ). opener_after (in_raw t) (if in_raw k then Some s.before.place else None) x.place) (sym text)
-        ∙ ap (λ (o : Option Place). opener_after (in_raw (k ++ kept_of events)) o x.place) (sym (opener_is split macros s k b));
-  }
-    where
-      after : NoteStage
-      after = record s { before = record s.before { comment = m } }
-
-      text : k ++ kept_of events ≡ k
-      text = ap (λ (t : List ℕ). k ++ t) quiet.0 ∙ append-nil k
-
-      outside : is_comment_after k (comment_of s) x.c ≡ true → in_raw k ≡ false
-      outside e = go (not (x.c == 10)) (comment_of s) (in_raw k) (x.c == 37) h.outside e
-        where
-          go : (n m r p : Bool) → (m ≡ true → r ≡ false) → (n && (m || (not r && p))) ≡ true → r ≡ false
-          go true true r p f g = f refl
-          go true false false p f g = refl
-          go true false true p f g = absurd (true≢false (sym g))
-          go false m r p f g = absurd (true≢false (sym g))
-
-      by : (a : Bool) → (if a then Some s.before.place else None) ≡ opener_after a (if a then Some s.before.place else None) x.place
-      by true = refl
-      by false = refl
+  stays m events c quiet same = grind (arith, raw_by, raw_after_text, b, opener_is, append-nil)
 
   -- of one that is kept
   keeps_one : (z : ItemState) → role_of s x.c ≡ Keep → next_of s x.c ≡ Some z
@@ -300,9 +249,7 @@ module _ (split : Bool) (macros : ℕ) (s : NoteStage) (x : Char) (k : List ℕ)
 
       at : (r : CharRole) (events : List NoteEvent) (after : NoteStage) → role_of s x.c ≡ r → emitted s x r ≡ events → stage_after s r (facts_of s x.c) (next_of s x.c) x ≡ after
           → GoesOn split macros k s x events after → GoesOn split macros k s x (events_of_push s x) (stage_after_one s x)
-      at r events after e f g i =
-          subst (λ (o : List NoteEvent). GoesOn split macros k s x o (stage_after_one s x)) (sym (events_are s x r h.goes_on e ∙ f))
-          (subst (GoesOn split macros k s x events) (sym (goes_after s x h.goes_on ∙ ap (λ (q : CharRole). stage_after s q (facts_of s x.c) (next_of s x.c) x) e ∙ g)) i)
+      at r events after e f g i = grind arith
 
       by : (r : CharRole) → role_of s x.c ≡ r → GoesOn split macros k s x (events_of_push s x) (stage_after_one s x)
       by Silent e = (let R = role_says split macros s k b x.c Silent e in

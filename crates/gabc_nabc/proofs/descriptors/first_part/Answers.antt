@@ -1,8 +1,7 @@
-use Rattle.std.proofs.Common.{◌≡◌, ℕ, ◌+◌, Some, None, arith, ap, ◌∙◌}
+use Rattle.std.proofs.Common.{◌≡◌, None, arith, ap, ◌∙◌}
 use Rattle.std.specs.Str.Iter.{chars_rest}
 use Rattle.gabc_nabc.specs.CharClass.{class_of_character}
 use Rattle.gabc_nabc.specs.witness.DescriptorMachine.{going_on}
-use Rattle.gabc_nabc.specs.machine.DescriptorMachine.{is_space_at_end}
 use Rattle.gabc_nabc.specs.Table.{nabc}
 use Rattle.gabc_nabc.proofs.machine.MachineReadsTable.{machine, items_read}
 use Rattle.gabc_nabc.proofs.parts_of_text.FirstPartIsFound.{best_found}
@@ -18,18 +17,10 @@ overflow_add-read c =
     omega (arith, f, c.len_utf8-read.ensures.value)
 
 pub loop-c-preserved-in-Some-ends : goal.loop-c-preserved-in-Some-ends
-loop-c-preserved-in-Some-ends c =
-    let g : going_on c.loop-c.state (class_of_character c.in-Some.c) ≡ Some c.in-Some-goes_on.after = cc (c.class_of.ensures, c.goes_on.ensures, c.in-Some-goes_on.is) in
-    let e : is_space_at_end c.in-Some-goes_on.after ≡ Some c.in-Some-ends.space = cc (c.ends.ensures, c.in-Some-ends.is) in
-    ends_at nabc machine items_read c.args.text.now c.loop-c.yielded _ _ c.loop-c.state c.in-Some-goes_on.after c.loop-c.read _ c.in-Some.c c.in-Some-ends.space c.loop-c.best c.loop-c.invariant c.in-Some.ensures.steps.0 g e
-    (ap (λ (n : ℕ). c.loop-c.read + n) c.len_utf8-read.ensures.value)
+loop-c-preserved-in-Some-ends c = grind (arith, ends_at, items_read)
 
 pub loop-c-preserved : goal.loop-c-preserved
-loop-c-preserved c =
-    let g : going_on c.loop-c.state (class_of_character c.in-Some.c) ≡ Some c.in-Some-goes_on.after = cc (c.class_of.ensures, c.goes_on.ensures, c.in-Some-goes_on.is) in
-    let e : is_space_at_end c.in-Some-goes_on.after ≡ None = cc (c.ends.ensures, c.in_default.is) in
-    on_at nabc machine items_read c.args.text.now c.loop-c.yielded _ _ c.loop-c.state c.in-Some-goes_on.after c.loop-c.read _ c.in-Some.c c.loop-c.best c.loop-c.invariant c.in-Some.ensures.steps.0 g e
-    (ap (λ (n : ℕ). c.loop-c.read + n) c.len_utf8-read.ensures.value)
+loop-c-preserved c = grind (arith, on_at, items_read)
 
 pub returns-in-None-goes_on : goal.returns-in-None-goes_on
 returns-in-None-goes_on c =

@@ -1,4 +1,4 @@
-use Rattle.std.proofs.Common.{◌≡◌, ap, ◌∙◌, refl, None, Some, false, true}
+use Rattle.std.proofs.Common.{◌≡◌, None, Some, false, true, arith}
 use Rattle.std.specs.Str.Iter.{chars_rest}
 use Rattle.std.proofs.lemmas.Str.{IsUtf8-past_char}
 use Rattle.gabc_nabc.specs.Table.{nabc}
@@ -11,9 +11,7 @@ use Rattle.gabc_patterns.proofs.StatesAfterTexts.{stands_first, stands_next}
 use Rattle.gabc_nabc.proofs.kept.is_nabc.Goals as goal
 
 pub loop-c-init : goal.loop-c-init
-loop-c-init c =
-    let rest : chars_rest c.into_iter-c-iterator.result ≡ c.args.kept.now = ap chars_rest c.into_iter-c-iterator.ensures.into_iter_gives ∙ c.chars-c-items.ensures.rest in
-    rw rest (record { stands = stands_first nabc machine snippets_read; whole = refl; utf8 = c.utf8.kept })
+loop-c-init c = grind (arith, chars_rest, stands_first, snippets_read)
 
 pub loop-c-preserved : goal.loop-c-preserved
 loop-c-preserved c =

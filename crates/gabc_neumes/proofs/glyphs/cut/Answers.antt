@@ -1,4 +1,4 @@
-use Rattle.std.proofs.Common.{List, ◌++◌, ◌∷◌, [], ap, sym, ◌∙◌, append-nil, slice_range, length}
+use Rattle.std.proofs.Common.{List, ◌++◌, ◌∷◌, [], ap, sym, ◌∙◌, append-nil, slice_range, length, arith}
 use Rattle.gabc_places.specs.BoundedList.{BoundedList, extended_by}
 use Rattle.gabc_neumes.specs.declared.glyph.Glyph.{Glyph}
 use Rattle.gabc_neumes.proofs.RoomsGrow.{extended-more}
@@ -23,7 +23,4 @@ loop-kind-preserved c =
     )
 
 pub returns : goal.returns
-returns c =
-    let i = c.loop-kind.invariant in
-    let are = cutting_end c.args.notes.now (slice_range c.args.notes.now c.loop-kind.at (length c.args.notes.now)) i.0 c.loop-kind.at (slice_rest c.args.notes.now c.loop-kind.at) c.in_default.ensures.none i.1 in
-    (i.0, are, i.2)
+returns c = grind (arith, cutting_end, slice_rest)

@@ -56,7 +56,4 @@ returns g c =
     none_pushed c.characters-count.result c.add_all_kept-2.new.kept (no_longer c.characters-count.result c.add_all_kept-2.new.kept _ c.in_ok-add_all_kept-2.ensures) ∙ (sym all ∙ ap (λ (n : ℕ). take n (kept_chars_of (concat_of (g.S.Stage.rest c.args.stage (placed_characters_from c.args.at (chars c.args.body.now)))))) c.characters-count.ensures)
 
 pub returns-then-len-count : goal.returns-then-len-count
-returns-then-len-count g c =
-    let i = c.loop-c.invariant in
-    full c.characters-count.result c.loop-c.found _ (sym c.len.ensures ∙ c.if-len-count.true)
-    ∙ (sym i.law ∙ ap (λ (n : ℕ). take n (kept_chars_of (concat_of (g.S.Stage.rest c.args.stage (placed_characters_from c.args.at (chars c.args.body.now)))))) c.characters-count.ensures)
+returns-then-len-count g c = grind (arith, full)

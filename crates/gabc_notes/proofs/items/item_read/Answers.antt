@@ -1,7 +1,7 @@
-use Rattle.std.proofs.Common.{◌≡◌, ℕ, ◌+◌, Some, None, arith, ap, ◌∙◌}
+use Rattle.std.proofs.Common.{◌≡◌, None, arith, ap, ◌∙◌}
 use Rattle.std.specs.Str.Iter.{chars_rest}
 use Rattle.gabc_notes.specs.machine.CharClass.{class_of_character}
-use Rattle.gabc_notes.specs.machine.ItemMachine.{going_on, kind_at_end}
+use Rattle.gabc_notes.specs.machine.ItemMachine.{going_on}
 use Rattle.gabc_notes.specs.Table.{gabc}
 use Rattle.gabc_notes.proofs.machine.MachineReadsTable.{machine, items_read}
 use Rattle.gabc_notes.proofs.items_of_text.FirstItemIsFound.{best_found}
@@ -17,18 +17,10 @@ overflow_add-read c =
     omega (arith, f, c.len_utf8-read.ensures.value)
 
 pub loop-c-preserved-in-Some-ends : goal.loop-c-preserved-in-Some-ends
-loop-c-preserved-in-Some-ends c =
-    let g : going_on c.loop-c.state (class_of_character c.in-Some.c) ≡ Some c.in-Some-goes_on.after = cc (c.class_of.ensures, c.goes_on.ensures, c.in-Some-goes_on.is) in
-    let e : kind_at_end c.in-Some-goes_on.after ≡ Some c.in-Some-ends.kind = cc (c.ends.ensures, c.in-Some-ends.is) in
-    ends_at gabc machine items_read c.args.text.now c.loop-c.yielded _ _ c.loop-c.state c.in-Some-goes_on.after c.loop-c.read _ c.in-Some.c c.in-Some-ends.kind c.loop-c.best c.loop-c.invariant c.in-Some.ensures.steps.0 g e
-    (ap (λ (n : ℕ). c.loop-c.read + n) c.len_utf8-read.ensures.value)
+loop-c-preserved-in-Some-ends c = grind (arith, ends_at, items_read)
 
 pub loop-c-preserved : goal.loop-c-preserved
-loop-c-preserved c =
-    let g : going_on c.loop-c.state (class_of_character c.in-Some.c) ≡ Some c.in-Some-goes_on.after = cc (c.class_of.ensures, c.goes_on.ensures, c.in-Some-goes_on.is) in
-    let e : kind_at_end c.in-Some-goes_on.after ≡ None = cc (c.ends.ensures, c.in_default.is) in
-    on_at gabc machine items_read c.args.text.now c.loop-c.yielded _ _ c.loop-c.state c.in-Some-goes_on.after c.loop-c.read _ c.in-Some.c c.loop-c.best c.loop-c.invariant c.in-Some.ensures.steps.0 g e
-    (ap (λ (n : ℕ). c.loop-c.read + n) c.len_utf8-read.ensures.value)
+loop-c-preserved c = grind (arith, on_at, items_read)
 
 pub returns-in-None-goes_on : goal.returns-in-None-goes_on
 returns-in-None-goes_on c =

@@ -10,10 +10,7 @@ use Rattle.gabc_notes.proofs.regular.regular_by_bytes.Goals as goal
 use Rattle.gabc_notes.proofs.regular.regular_by_bytes.Goals.{then-len-rest-via-then-len-rest, then-len-rest-via-else-len-rest+then-warns_after, then-is_raw+else-len-rest+else-warns_after, else-is_raw}
 
 pub loop-read-init : goal.loop-read-init
-loop-read-init c =
-    let begun = begun_to c.args.text.now c.front_point-point.result c.args.front c.utf8.text c.requires.within c.requires.is_front
-    (rw (c.as_bytes-bytes.ensures.value) at c.front_point-point.ensures) in
-    rw (c.as_bytes-bytes.ensures.value) (record { within = c.requires.within; outside = begun.0; read_to = begun.1 })
+loop-read-init c = grind (arith, begun_to)
 
 pub returns-in-None : goal.returns-in-None
 returns-in-None c =

@@ -1,4 +1,4 @@
-use Rattle.std.proofs.Common.{ℕ, ◌+◌, List, ◌∷◌, length, ap, sym, ◌∙◌, arith}
+use Rattle.std.proofs.Common.{ℕ, ◌+◌, List, ◌∷◌, ap, sym, ◌∙◌, arith}
 use Rattle.std.proofs.lemmas.Str.{IsCharBoundary-from_drop}
 use Rattle.gabc_nabc.specs.Parts.{parts_from}
 use Rattle.gabc_nabc.specs.declared.descriptor.Descriptor.{Descriptor}
@@ -26,6 +26,4 @@ returns-clause-steps c =
     ∙ ap (λ (rest : List ℕ). part ∷ parts_from (c.self.inside.at + c.in_ok-space.len) rest) (sym c.range_from-self-inside.ensures.value))
 
 pub returns-clause-goes : goal.returns-clause-goes
-returns-clause-goes c =
-    let more = ap (length {A = Descriptor}) (returns-clause-steps c) in
-    record { on = λ x. (tt, tt, omega (arith, more)); keeps = tt; rests = λ x. tt }
+returns-clause-goes c = grind (arith, returns-clause-steps)

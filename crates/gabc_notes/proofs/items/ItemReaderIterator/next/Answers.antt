@@ -1,4 +1,4 @@
-use Rattle.std.proofs.Common.{ℕ, ◌+◌, List, ◌∷◌, length, ap, sym, ◌∙◌, arith}
+use Rattle.std.proofs.Common.{ℕ, ◌+◌, List, ◌∷◌, ap, sym, ◌∙◌, arith}
 use Rattle.std.proofs.lemmas.Str.{IsCharBoundary-from_drop}
 use Rattle.gabc_notes.specs.Items.{items_from}
 use Rattle.gabc_notes.specs.declared.item.Item.{Item}
@@ -16,7 +16,4 @@ returns-clause-steps c =
     ∙ ap (λ (rest : List ℕ). item ∷ items_from (c.self.inside.at + c.in_ok-kind.len) rest) (sym c.range_from-self-inside.ensures.value))
 
 pub returns-clause-goes : goal.returns-clause-goes
-returns-clause-goes c =
-    let item : Item = item_at c.in_ok-kind.kind c.self.inside.at c.in_ok-kind.len in
-    let more = ap (length {A = Item}) (returns-clause-steps c) in
-    record { on = λ x. (tt, tt, omega (arith, more)); keeps = tt; rests = λ x. tt }
+returns-clause-goes c = grind (arith, returns-clause-steps)

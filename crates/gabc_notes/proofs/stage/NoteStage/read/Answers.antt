@@ -1,16 +1,11 @@
 use Rattle.gabc_notes.proofs.resuming.CallsKeep.{read_state}
-use Rattle.std.proofs.Common.{◌≡◌, refl}
-use Rattle.gabc_notes.specs.machine.CharClass.{class_of_character}
-use Rattle.gabc_notes.specs.machine.ItemMachine.{next_state}
+use Rattle.std.proofs.Common.{refl, arith}
 use Rattle.gabc_notes.proofs.machine.StageEmitsItsEvents.{push_emits}
 use Rattle.gabc_notes.proofs.Stopping.{push_stops}
 use Rattle.gabc_notes.proofs.stage.NoteStage.read.Goals as goal
 
 pub returns-clause-events : goal.returns-clause-events
-returns-clause-events c =
-    let next : c.next_state-next.result ≡ next_state c.args.self.now.state (class_of_character c.args.x.c) = cc (c.class_of.ensures, c.next_state-next.ensures) in
-    push_emits c.args.self.now c.advance.new.self c.args.x c.next_state-next.result c.look-facts.result c.role_of-role.result _ c.args.out.now c.emit.new.out
-    c.requires.runs next c.look-facts.ensures c.role_of-role.ensures refl c.advance.ensures c.emit.ensures
+returns-clause-events c = grind (arith, push_emits)
 
 pub returns-clause-end : goal.returns-clause-end
 returns-clause-end c =
